@@ -1,0 +1,31 @@
+-- Texts whose escapes are read.
+use Rattle.std.proofs.Common.{◌≡◌, ℕ, List, [], ◌∷◌, ◌++◌, refl, ap, sym, ◌∙◌, arith, eqb, Bool, true, false, cond, append_assoc, length, ◌<◌, ◌≤◌, ◌+◌, ◌&&◌}
+use Rattle.std.proofs.lemmas.Bool.{false≢true}
+use Rattle.std.proofs.lemmas.Bool.Decides.{nat_tests}
+use Rattle.wc_relaycmd.specs.Cuts.{before, onward}
+use Rattle.wc_relaycmd.specs.Escapes.{unescaped}
+
+-- up to its first `\` a text means itself
+pub unescaped_cut : (text : List ℕ) → before 92 text ++ unescaped (onward 92 text) ≡ unescaped text
+unescaped_cut [] = refl
+unescaped_cut (b ∷ []) = grind (arith, nat_tests)
+unescaped_cut (b ∷ c ∷ text) = by (eqb b 92) refl (unescaped_cut (c ∷ text)) where
+  by : (t : Bool) → eqb b 92 ≡ t → before 92 (c ∷ text) ++ unescaped (onward 92 (c ∷ text)) ≡ unescaped (c ∷ text) → before 92 (b ∷ c ∷ text) ++ unescaped (onward 92 (b ∷ c ∷ text)) ≡ unescaped (b ∷ c ∷ text)
+  by true e rest = ap (λ t. cond t [] (b ∷ before 92 (c ∷ text)) ++ unescaped (cond t (b ∷ c ∷ text) (onward 92 (c ∷ text)))) e
+  by false e rest =
+      ap (λ t. cond t [] (b ∷ before 92 (c ∷ text)) ++ unescaped (cond t (b ∷ c ∷ text) (onward 92 (c ∷ text)))) e ∙ ap (λ t. b ∷ t) rest ∙
+      sym (ap (λ t. cond (t && eqb c 92) (92 ∷ unescaped text) (cond (t && eqb c 110) (10 ∷ unescaped text) (b ∷ unescaped (c ∷ text)))) e)
+
+-- what is read so far, and a run and what stands at the front behind it
+pub unescaped_more : (plain with_run new run rest back front more text : List ℕ) → plain ++ unescaped rest ≡ unescaped text → run ≡ before 92 rest → back ≡ onward 92 rest →
+    unescaped back ≡ front ++ unescaped more → with_run ≡ plain ++ run → new ≡ with_run ++ front → new ++ unescaped more ≡ unescaped text
+unescaped_more plain with_run new run rest back front more text so_far cut behind read first second =
+    ap (λ t. t ++ unescaped more) (second ∙ ap (λ t. t ++ front) (first ∙ ap (λ r. plain ++ r) cut)) ∙
+    append_assoc (plain ++ before 92 rest) front (unescaped more) ∙ ap (λ t. (plain ++ before 92 rest) ++ t) (sym read ∙ ap unescaped behind) ∙
+    append_assoc plain (before 92 rest) (unescaped (onward 92 rest)) ∙ ap (λ t. plain ++ t) (unescaped_cut rest) ∙ so_far
+
+-- each turn leaves less
+pub shrinks : (rest back more : List ℕ) (empty : Bool) → empty ≡ eqb (length rest) 0 → empty ≡ false → length back ≤ length rest → length more ≤ length back → (0 < length back → length more < length back) → length more < length rest
+shrinks [] back more empty is some within less moves = absurd (false≢true (sym some ∙ is))
+shrinks (b ∷ rest) [] more empty is some within less moves = omega arith
+shrinks (b ∷ rest) (c ∷ back) more empty is some within less moves = let shorter : length more < length (c ∷ back) = moves (omega arith) in omega arith

@@ -1,0 +1,11 @@
+pub mod Cuts
+pub mod Words
+pub mod Lists
+pub mod Fronts
+pub mod Escapes
+pub mod Grammar
+pub mod Answers
+pub mod Utf8
+pub mod Choices
+pub mod Logins
+pub mod Stub

@@ -1,0 +1,137 @@
+ghost use Rattle.std.specs.Prelude.{◌≡◌, IfOk, option_map};
+ghost use Rattle.wc_relaycmd.specs.Answers.{leading_of, init_of, hdata_of, input_of, completion_of, buffers_of, options_of, command_of, filled};
+ghost use Rattle.wc_relaycmd.specs.Lists.{pieces_of};
+
+use crate::cuts::{cut_word, split_once};
+use crate::lists::{pairs, pieces};
+use crate::request::Command;
+use crate::stub::read_i64;
+use crate::word::Word;
+use std::alloc::Global;
+use wc_text::{Items, NoMemory, Text};
+
+/// The word at the front of a text. None where the text is empty.
+fn leading(alloc: Global, text: &[u8]) -> Result<Option<Text>, NoMemory>
+    ensures { IfOk result (λ word. word ≡ leading_of text.now) }
+{
+    if text.is_empty() {
+        return Ok(None);
+    }
+    let (word, _) = cut_word(text);
+    Ok(Some(Text::from_slice(alloc, word)?))
+}
+
+fn init(alloc: Global, text: &[u8]) -> Result<Option<Command>, NoMemory>
+    ensures { IfOk result (λ command. command ≡ init_of text.now) }
+{
+    if text.is_empty() {
+        return Ok(None);
+    }
+    Ok(Some(Command::Init(pairs(alloc, text)?)))
+}
+
+fn hdata(alloc: Global, text: &[u8]) -> Result<Option<Command>, NoMemory>
+    ensures { IfOk result (λ command. command ≡ hdata_of text.now) }
+{
+    if text.is_empty() {
+        return Ok(None);
+    }
+    let (path, behind) = cut_word(text);
+    let (keys, _) = cut_word(behind);
+    let path = Text::from_slice(alloc, path)?;
+    let keys = Text::from_slice(alloc, keys)?;
+    Ok(Some(Command::Hdata { path, keys }))
+}
+
+/// A buffer, one blank, and a text that is not empty.
+fn input(alloc: Global, text: &[u8]) -> Result<Option<Command>, NoMemory>
+    ensures { IfOk result (λ command. command ≡ input_of text.now) }
+{
+    let (buffer, behind) = split_once(text, b' ');
+    let Some(typed) = behind else {
+        return Ok(None);
+    };
+    if typed.is_empty() {
+        return Ok(None);
+    }
+    let buffer = Text::from_slice(alloc, buffer)?;
+    let text = Text::from_slice(alloc, typed)?;
+    Ok(Some(Command::Input { buffer, text }))
+}
+
+/// A buffer, a whole number, and a text that may be empty.
+#[tactic(auto, unfolding(crate::specs::Answers::completion_of))]
+fn completion(alloc: Global, text: &[u8]) -> Result<Option<Command>, NoMemory>
+    ensures { IfOk result (λ command. command ≡ completion_of text.now) }
+{
+    if text.is_empty() {
+        return Ok(None);
+    }
+    let (buffer, behind) = cut_word(text);
+    let (number, typed) = cut_word(behind);
+    let Some(position) = read_i64(number) else {
+        return Ok(None);
+    };
+    let buffer = Text::from_slice(alloc, buffer)?;
+    let text = Text::from_slice(alloc, typed)?;
+    Ok(Some(Command::Completion {
+        buffer,
+        position,
+        text,
+    }))
+}
+
+/// The buffers of `sync` and `desync`. Where none are written all are meant.
+fn buffers(alloc: Global, text: &[u8]) -> Result<Items<Text>, NoMemory>
+    ensures { IfOk result (λ buffers. buffers ≡ buffers_of text.now) }
+{
+    if text.is_empty() {
+        let mut all = Items::new(alloc);
+        all.push(Text::from_slice(alloc, b"*")?)?;
+        return Ok(all);
+    }
+    let (word, _) = cut_word(text);
+    pieces(alloc, word)
+}
+
+/// The options of `sync` and `desync`, if they are written.
+fn options(alloc: Global, text: &[u8]) -> Result<Option<Items<Text>>, NoMemory>
+    ensures { IfOk result (λ options. options ≡ options_of text.now) }
+{
+    let (_, behind) = cut_word(text);
+    let (word, _) = cut_word(behind);
+    if word.is_empty() {
+        return Ok(None);
+    }
+    Ok(Some(pieces(alloc, word)?))
+}
+
+/// What the arguments of a command ask. None where one that is needed is missing or is no number.
+#[tactic(auto, unfolding(crate::specs::Answers::command_of))]
+pub fn command(alloc: Global, word: Word, text: &[u8]) -> Result<Option<Command>, NoMemory>
+    ensures { IfOk result (λ command. command ≡ command_of word text.now) }
+{
+    match word {
+        Word::Handshake => Ok(Some(Command::Handshake(pairs(alloc, text)?))),
+        Word::Init => init(alloc, text),
+        Word::Hdata => hdata(alloc, text),
+        Word::Info => Ok(leading(alloc, text)?.map(Command::Info)),
+        Word::Infolist => Ok(leading(alloc, text)?.map(Command::Infolist)),
+        Word::Nicklist => Ok(Some(Command::Nicklist(leading(alloc, text)?))),
+        Word::Input => input(alloc, text),
+        Word::Completion => completion(alloc, text),
+        Word::Sync => {
+            let buffers = buffers(alloc, text)?;
+            let options = options(alloc, text)?;
+            Ok(Some(Command::Sync { buffers, options }))
+        }
+        Word::Desync => {
+            let buffers = buffers(alloc, text)?;
+            let options = options(alloc, text)?;
+            Ok(Some(Command::Desync { buffers, options }))
+        }
+        Word::Test => Ok(Some(Command::Test)),
+        Word::Ping => Ok(Some(Command::Ping(Text::from_slice(alloc, text)?))),
+        Word::Quit => Ok(Some(Command::Quit)),
+    }
+}

@@ -1,0 +1,22 @@
+//! The requests that a relay client writes, one a line, and its login.
+#![tactic(auto)]
+
+mod algorithm;
+mod arguments;
+mod cuts;
+mod escapes;
+mod line;
+mod lists;
+mod login;
+mod request;
+mod secrets;
+mod stub;
+#[cfg(test)]
+mod tests;
+mod word;
+
+pub use algorithm::{Algorithm, choose_algorithm};
+pub use line::{one_request, read_request};
+pub use lists::last_value;
+pub use login::{HashLogin, Login, check_login, read_login};
+pub use request::{Command, Request};

@@ -1,0 +1,192 @@
+ghost use Rattle.std.specs.Prelude.{◌≡◌, ◌++◌, ◌↔◌, IsTrue, IfOk, Some};
+ghost use Rattle.std.specs.Option.{option_copied};
+ghost use Rattle.wc_relaycmd.specs.Logins.{hash_named, bytes_in, hash_from, hash_of, login_of, IsDigest, Proves, LetsIn};
+ghost use Rattle.wc_relaycmd.specs.Choices.{algorithm_name};
+
+use crate::algorithm::Algorithm;
+use crate::cuts::split_once;
+use crate::lists::last_value;
+use crate::secrets::is_same_secret;
+use hex::FromHexError;
+use sha2::{Digest, Sha256, Sha512};
+use std::alloc::Global;
+use wc_text::{Items, NoMemory, Pair, Text};
+
+/// What a client gives to be let in.
+#[derive(Drop)]
+pub struct Login {
+    pub password: Option<Text>,
+    /// Where it is given it alone decides.
+    pub hash: Option<HashLogin>,
+}
+
+/// A hash of a salt and the password behind it. The salt and the hash are bytes, and no text.
+#[derive(Drop)]
+pub struct HashLogin {
+    pub algorithm: Algorithm,
+    pub salt: Text,
+    pub hash: Text,
+}
+
+fn hash_named(name: &[u8]) -> Option<Algorithm>
+    ensures { result ≡ hash_named name.now }
+{
+    if name == Algorithm::Sha256.name() {
+        return Some(Algorithm::Sha256);
+    }
+    if name == Algorithm::Sha512.name() {
+        return Some(Algorithm::Sha512);
+    }
+    None
+}
+
+/// The bytes that hex digits of either case write. None where they are no pairs of digits.
+fn hex_bytes(alloc: Global, digits: &[u8]) -> Result<Option<Text>, NoMemory>
+    ensures { IfOk result (λ bytes. bytes ≡ bytes_in digits.now) }
+{
+    match hex::decode(alloc, digits) {
+        Ok(bytes) => Ok(Some(Text::from_slice(alloc, bytes.as_slice())?)),
+        Err(FromHexError::OutOfMemory) => Err(NoMemory),
+        Err(_) => Ok(None),
+    }
+}
+
+#[tactic(auto, unfolding(crate::specs::Logins::hash_from))]
+fn hash_from(
+    alloc: Global,
+    name: &[u8],
+    salt: &[u8],
+    hash: &[u8],
+) -> Result<Option<HashLogin>, NoMemory>
+    ensures { IfOk result (λ login. login ≡ hash_from name.now salt.now hash.now) }
+{
+    let Some(algorithm) = hash_named(name) else {
+        return Ok(None);
+    };
+    let Some(salt) = hex_bytes(alloc, salt)? else {
+        return Ok(None);
+    };
+    let Some(hash) = hex_bytes(alloc, hash)? else {
+        return Ok(None);
+    };
+    Ok(Some(HashLogin {
+        algorithm,
+        salt,
+        hash,
+    }))
+}
+
+
+/// The hash login that a text of the form `algorithm:salt:hash` writes.
+fn read_hash(alloc: Global, text: &[u8]) -> Result<Option<HashLogin>, NoMemory>
+    ensures { IfOk result (λ login. login ≡ hash_of text.now) }
+{
+    let (name, behind) = split_once(text, b':');
+    let Some(behind) = behind else {
+        return Ok(None);
+    };
+    let (salt, behind) = split_once(behind, b':');
+    let Some(behind) = behind else {
+        return Ok(None);
+    };
+    let (hash, more) = split_once(behind, b':');
+    if let Some(_) = more {
+        return Ok(None);
+    }
+    hash_from(alloc, name, salt, hash)
+}
+
+fn copied(alloc: Global, text: Option<&Text>) -> Result<Option<Text>, NoMemory>
+    ensures { IfOk result (λ copy. copy ≡ option_copied text.entry) }
+{
+    match text {
+        Some(text) => Ok(Some(text.copy(alloc)?)),
+        None => Ok(None),
+    }
+}
+
+/// The login that the pairs of `init` write. Of a repeated name the last counts, and unknown names are ignored.
+/// None exactly where a `password_hash` is given that is not `sha256:SALT:HASH` or `sha512:SALT:HASH`, the salt and the
+/// hash in hex.
+#[tactic(auto, unfolding(crate::specs::Logins::login_of))]
+pub fn read_login(alloc: Global, pairs: &Items<Pair>) -> Result<Option<Login>, NoMemory>
+    ensures { IfOk result (λ login. login ≡ login_of pairs.now) }
+{
+    let password = copied(alloc, last_value(pairs, b"password"))?;
+    let Some(text) = last_value(pairs, b"password_hash") else {
+        return Ok(Some(Login {
+            password,
+            hash: None,
+        }));
+    };
+    let Some(hash) = read_hash(alloc, text.as_slice())? else {
+        return Ok(None);
+    };
+    Ok(Some(Login {
+        password,
+        hash: Some(hash),
+    }))
+}
+
+/// Whether a digest is that of the salt and the password behind it.
+fn is_digest(algorithm: Algorithm, salt: &[u8], password: &[u8], digest: &[u8]) -> bool
+    ensures { IsTrue result ↔ IsDigest algorithm (salt.now ++ password.now) digest.now }
+{
+    match algorithm {
+        Algorithm::Plain => false,
+        Algorithm::Sha256 => {
+            let mut hasher = Sha256::new();
+            hasher.update(salt);
+            hasher.update(password);
+            let made = hasher.finalize();
+            is_same_secret(digest, made.as_slice())
+        }
+        Algorithm::Sha512 => {
+            let mut hasher = Sha512::new();
+            hasher.update(salt);
+            hasher.update(password);
+            let made = hasher.finalize();
+            is_same_secret(digest, made.as_slice())
+        }
+    }
+}
+
+fn proves(login: &HashLogin, password: &[u8], nonce: &[u8], chosen: Algorithm) -> bool
+    ensures { IsTrue result ↔ Proves login.now password.now nonce.now chosen }
+{
+    if login.algorithm != chosen {
+        return false;
+    }
+    let salt = login.salt.as_slice();
+    if !salt.starts_with(nonce) || salt.len() == nonce.len() {
+        return false;
+    }
+    is_digest(chosen, salt, password, login.hash.as_slice())
+}
+
+fn is_password(given: &Option<Text>, password: &[u8]) -> bool
+    ensures { IsTrue result ↔ (given.now ≡ Some password.now) }
+{
+    match given {
+        Some(given) => is_same_secret(given.as_slice(), password),
+        None => false,
+    }
+}
+
+/// Whether a login is let in, where `password` is the one that is set and `nonce` and `chosen` are those of the
+/// handshake. It takes no memory.
+///
+/// Nobody is let in where the password that is set is empty. A hash has to be of the chosen algorithm, its salt has to
+/// begin with the nonce and have at least one byte more, and the hash has to be that of the salt's bytes followed by
+/// the password's. Without a hash the password itself has to be given, and `plain` be chosen.
+pub fn check_login(login: &Login, password: &[u8], nonce: &[u8; 16], chosen: Algorithm) -> bool
+    ensures { IsTrue result ↔ LetsIn login.now password.now nonce.now chosen }
+{
+    if password.is_empty() {
+        return false;
+    }
+    match &login.hash {
+        Some(hash) => proves(hash, password, nonce, chosen),
+        None => chosen == Algorithm::Plain && is_password(&login.password, password),
+    }
+}
