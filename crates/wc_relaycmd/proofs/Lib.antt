@@ -4,3 +4,4 @@ pub mod ListLemmas
 pub mod LoginLemmas
 pub mod EscapeLemmas
 pub mod SecretLemmas
+pub mod SaltLemmas

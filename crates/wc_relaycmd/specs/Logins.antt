@@ -57,13 +57,15 @@ IsDigest Plain message digest = ⊥
 IsDigest Sha256 message digest = digest ≡ sha256 message
 IsDigest Sha512 message digest = digest ≡ sha512 message
 
--- A hash login is made with the chosen algorithm. Its salt begins with the nonce and has more behind it, and its hash
--- is that of the salt and the password behind it.
+-- a salt begins with the nonce and has more behind it
+abbrev pub IsSalted : List ℕ → List ℕ → Type 0
+IsSalted salt nonce = (more : List ℕ) × (salt ≡ nonce ++ more) × (more ≢ [])
+
+-- A hash login is made with the chosen algorithm and a salt for this nonce, and its hash is that of the salt and the
+-- password behind it.
 pub record Proves (login : HashLogin) (password nonce : List ℕ) (chosen : Algorithm) : Type 0 where
   pub algorithm : login.algorithm ≡ chosen
-  pub more : List ℕ
-  pub salted : login.salt ≡ nonce ++ more
-  pub longer : more ≢ []
+  pub salted : IsSalted login.salt nonce
   pub hashed : IsDigest chosen (login.salt ++ password) login.hash
 
 -- Where the password is empty nobody is let in. Where a hash is given it alone decides; else the plain password does,

@@ -1,6 +1,6 @@
 ghost use Rattle.std.specs.Prelude.{◌≡◌, ◌++◌, ◌↔◌, IsTrue, IfOk, Some};
 ghost use Rattle.std.specs.Option.{option_copied};
-ghost use Rattle.wc_relaycmd.specs.Logins.{hash_named, bytes_in, hash_from, hash_of, login_of, IsDigest, Proves, LetsIn};
+ghost use Rattle.wc_relaycmd.specs.Logins.{hash_named, bytes_in, hash_from, hash_of, login_of, IsDigest, IsSalted, Proves, LetsIn};
 ghost use Rattle.wc_relaycmd.specs.Choices.{algorithm_name};
 
 use crate::algorithm::Algorithm;
@@ -151,6 +151,16 @@ fn is_digest(algorithm: Algorithm, salt: &[u8], password: &[u8], digest: &[u8]) 
     }
 }
 
+/// Whether a salt begins with the nonce and has at least one byte more.
+fn is_salted(salt: &[u8], nonce: &[u8]) -> bool
+    ensures { IsTrue result ↔ IsSalted salt.now nonce.now }
+{
+    match salt.strip_prefix(nonce) {
+        Some(more) => !more.is_empty(),
+        None => false,
+    }
+}
+
 fn proves(login: &HashLogin, password: &[u8], nonce: &[u8], chosen: Algorithm) -> bool
     ensures { IsTrue result ↔ Proves login.now password.now nonce.now chosen }
 {
@@ -158,7 +168,7 @@ fn proves(login: &HashLogin, password: &[u8], nonce: &[u8], chosen: Algorithm) -
         return false;
     }
     let salt = login.salt.as_slice();
-    if !salt.starts_with(nonce) || salt.len() == nonce.len() {
+    if !is_salted(salt, nonce) {
         return false;
     }
     is_digest(chosen, salt, password, login.hash.as_slice())
