@@ -5,3 +5,5 @@ pub mod LoginLemmas
 pub mod EscapeLemmas
 pub mod SecretLemmas
 pub mod SaltLemmas
+pub mod WordLemmas
+pub mod TagLemmas

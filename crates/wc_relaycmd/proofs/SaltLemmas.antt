@@ -1,16 +1,13 @@
 -- Salts that begin with a nonce.
 use Rattle.std.proofs.Common.{◌≡◌, ◌≢◌, ℕ, List, [], ◌∷◌, ◌++◌, length, drop, refl, ap, sym, ◌∙◌, arith, eqb, Bool, true, false, not, IsTrue}
 use Rattle.std.proofs.lemmas.Bool.{false≢true}
-use Rattle.std.proofs.Math.Seq.{drop-append_seam}
+use Rattle.std.proofs.lemmas.List.{append_cancel_left}
 use Rattle.wc_relaycmd.specs.Logins.{IsSalted}
-
-pub append_same : (front xs ys : List ℕ) → front ++ xs ≡ front ++ ys → xs ≡ ys
-append_same front xs ys e = sym (drop-append_seam front xs) ∙ ap (drop (length front)) e ∙ drop-append_seam front ys
 
 pub salted_some : (salt nonce more : List ℕ) (empty : Bool) → salt ≡ nonce ++ more → empty ≡ eqb (length more) 0 → (not empty ≡ true → IsSalted salt nonce) × (IsSalted salt nonce → not empty ≡ true)
 salted_some salt nonce [] empty begins is = (
   λ some. absurd (false≢true (sym (ap not is) ∙ some)),
-  λ salted. absurd (salted.2 (append_same nonce salted.0 [] (sym salted.1 ∙ begins))),
+  λ salted. absurd (salted.2 (append_cancel_left nonce salted.0 [] (sym salted.1 ∙ begins))),
 )
 salted_some salt nonce (b ∷ more) empty begins is = (
   λ some. (b ∷ more, begins, λ e. cc),

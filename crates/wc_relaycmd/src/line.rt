@@ -47,5 +47,6 @@ fn read_call(line: &[u8]) -> Option<Call<'_>>
     })
 }
 
+#[tactic(auto, using(crate::proofs::TagLemmas::name_of_named))]
 pub fn one_request() {}
 pub fn read_request() {}
