@@ -3,6 +3,7 @@ use Rattle.std.proofs.Common.{◌≡◌, ℕ, List, [], ◌∷◌, ◌++◌, ref
 use Rattle.std.proofs.lemmas.Bool.{false≢true}
 use Rattle.std.proofs.lemmas.Bool.Decides.{nat_tests}
 use Rattle.wc_relaycmd.specs.Cuts.{before, onward}
+use Rattle.wc_relaycmd.proofs.CutLemmas.{before-onward}
 use Rattle.wc_relaycmd.specs.Escapes.{unescaped}
 
 -- up to its first `\` a text means itself
@@ -29,3 +30,10 @@ pub shrinks : (rest back more : List ℕ) (empty : Bool) → empty ≡ eqb (leng
 shrinks [] back more empty is some within less moves = absurd (false≢true (sym some ∙ is))
 shrinks (b ∷ rest) [] more empty is some within less moves = omega arith
 shrinks (b ∷ rest) (c ∷ back) more empty is some within less moves = let shorter : length more < length (c ∷ back) = moves (omega arith) in omega arith
+
+-- a text without a `\` means itself
+pub unescaped-plain : (text : List ℕ) → onward 92 text ≡ [] → unescaped text ≡ text
+unescaped-plain text none =
+    sym (unescaped_cut text) ∙ ap (λ t. before 92 text ++ unescaped t) none ∙ ap (λ t. before 92 text ++ t) (sym none) ∙ before-onward 92 text
+
+pub ruleset escapes = (unescaped-plain)

@@ -7,3 +7,5 @@ pub mod SecretLemmas
 pub mod SaltLemmas
 pub mod WordLemmas
 pub mod TagLemmas
+pub mod AskLemmas
+pub mod ReadLemmas

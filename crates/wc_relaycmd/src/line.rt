@@ -1,8 +1,12 @@
-ghost use Rattle.std.specs.Prelude.{◌≡◌, Option, Some, None, IfOk, option_map};
-ghost use Rattle.wc_relaycmd.specs.Answers.{tag_of, tag_seen, called, call_of, asked_by, request_of};
+ghost use Rattle.std.specs.Prelude.{◌≡◌, ◌↔◌, ℕ, Bool, List, Option, Some, None, IfOk, IfSome, OnErr, option_map};
+ghost use Rattle.wc_relaycmd.specs.Answers.{tag_of, tag_seen, called, call_of, command_of, asked_by, request_of};
+ghost use Rattle.wc_relaycmd.specs.Escapes.{unescaped, meant};
+ghost use Rattle.wc_relaycmd.specs.Grammar.{HasCommand, Reads};
+ghost use Rattle.wc_relaycmd.specs.Utf8.{HasUtf8};
+ghost use Rattle.wc_relaycmd.specs.declared.request.Request.{Request};
 
 use crate::arguments::command;
-use crate::cuts::{cut_word, past_blanks, split_once};
+use crate::cuts::{cut_at, cut_word, past_blanks, split_once};
 use crate::escapes::unescape;
 use crate::request::{Command, Request};
 use crate::word::Word;
@@ -47,6 +51,98 @@ fn read_call(line: &[u8]) -> Option<Call<'_>>
     })
 }
 
-#[tactic(auto, using(crate::proofs::TagLemmas::name_of_named))]
-pub fn one_request() {}
-pub fn read_request() {}
+/// What the arguments ask once their escapes are read. A text without a `\` is not copied for it, and one that is
+/// asked for as it stands is moved into the command.
+#[tactic(auto, using(crate::proofs::EscapeLemmas::escapes), unfolding(crate::specs::Answers::command_of))]
+fn escaped_command(
+    alloc: Global,
+    word: Word,
+    arguments: &[u8],
+) -> Result<Option<Command>, NoMemory>
+    ensures { IfOk result (λ asked. asked ≡ command_of word (unescaped arguments.now)) }
+{
+    let (_, behind) = cut_at(arguments, b'\\');
+    if behind.is_empty() {
+        return command(alloc, word, arguments);
+    }
+    let text = unescape(alloc, arguments)?;
+    match word {
+        Word::Ping => Ok(Some(Command::Ping(text))),
+        _ => command(alloc, word, text.as_slice()),
+    }
+}
+
+fn meant_command(
+    alloc: Global,
+    word: Word,
+    arguments: &[u8],
+    escaped: bool,
+) -> Result<Option<Command>, NoMemory>
+    ensures { IfOk result (λ asked. asked ≡ command_of word (meant escaped arguments.now)) }
+{
+    if escaped {
+        escaped_command(alloc, word, arguments)
+    } else {
+        command(alloc, word, arguments)
+    }
+}
+
+#[tactic(auto, unfolding(crate::specs::Answers::asked_by))]
+fn request_by(
+    alloc: Global,
+    call: Call<'_>,
+    escaped: bool,
+) -> Result<Option<Request>, NoMemory>
+    ensures { IfOk result (λ asked. asked ≡ asked_by escaped (called call.entry)) }
+{
+    let Some(command) = meant_command(alloc, call.word, call.arguments, escaped)? else {
+        return Ok(None);
+    };
+    let id = Text::from_slice(alloc, call.id)?;
+    Ok(Some(Request { id, command }))
+}
+
+fn request_in(
+    alloc: Global,
+    line: &[u8],
+    escaped: bool,
+) -> Result<Option<Request>, NoMemory>
+    ensures computed { IfOk result (λ asked. asked ≡ request_of escaped line.now) }
+    ensures refused { OnErr result (HasCommand line.now) }
+{
+    if std::str::from_utf8(line).is_err() {
+        return Ok(None);
+    }
+    let Some(call) = read_call(line) else {
+        return Ok(None);
+    };
+    request_by(alloc, call, escaped)
+}
+
+/// The request that a line of the WeeChat relay protocol spells, where `escaped` says whether the client asked for
+/// `escape_commands`. None exactly where the line is outside the grammar.
+///
+/// A line that is not UTF-8, or has no command's word behind its optional id, takes no memory.
+pub fn read_request(
+    alloc: Global,
+    line: &[u8],
+    escaped: bool,
+) -> Result<Option<Request>, NoMemory>
+    // What is read is in the grammar, and nothing in it is refused.
+    ensures read { IfOk result (λ asked. IfSome asked (Reads line.now escaped)) }
+    ensures unread { result ≡ Ok None → (request : Request) → ¬ (Reads line.now escaped request) }
+    ensures computed { IfOk result (λ asked. asked ≡ request_of escaped line.now) }
+
+    // Each text of the request is UTF-8.
+    ensures texts { IfOk result (λ asked. IfSome asked HasUtf8) }
+    ensures without_memory { ¬ (HasCommand line.now) → result ≡ Ok None }
+{
+    request_in(alloc, line, escaped)
+}
+
+/// A line has at most one request, and it is the one that is computed.
+pub fn one_request()
+    ensures one { (line : List ℕ) (escaped : Bool) (a b : Request) → Reads line escaped a → Reads line escaped b → a ≡ b }
+    ensures computed { (line : List ℕ) (escaped : Bool) (request : Request) → Reads line escaped request ↔ (request_of escaped line ≡ Some request) }
+{
+}
