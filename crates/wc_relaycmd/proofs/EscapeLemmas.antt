@@ -35,5 +35,3 @@ shrinks (b ∷ rest) (c ∷ back) more empty is some within less moves = let sho
 pub unescaped-plain : (text : List ℕ) → onward 92 text ≡ [] → unescaped text ≡ text
 unescaped-plain text none =
     sym (unescaped_cut text) ∙ ap (λ t. before 92 text ++ unescaped t) none ∙ ap (λ t. before 92 text ++ t) (sym none) ∙ before-onward 92 text
-
-pub ruleset escapes = (unescaped-plain)

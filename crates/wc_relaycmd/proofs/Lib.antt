@@ -9,3 +9,5 @@ pub mod WordLemmas
 pub mod TagLemmas
 pub mod AskLemmas
 pub mod ReadLemmas
+pub mod Utf8Lemmas
+pub mod RequestTexts

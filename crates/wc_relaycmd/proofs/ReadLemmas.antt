@@ -1,15 +1,17 @@
 -- A line's request is the one that is computed.
-use Rattle.std.proofs.Common.{◌≡◌, ◌≢◌, ℕ, List, [], ◌∷◌, ◌++◌, refl, ap, sym, ◌∙◌, arith, eqb, Bool, true, false, cond, ◌&&◌, Option, Some, None, option_map, option_and_then, subst, Result, Ok, Err, IfOk, IfSome, OnErr}
+use Rattle.std.proofs.Common.{◌≡◌, ◌≢◌, ℕ, List, [], ◌∷◌, ◌++◌, refl, ap, sym, ◌∙◌, arith, eqb, Bool, true, false, cond, ◌&&◌, Option, Some, None, option_map, option_and_then, subst, Result, Ok, Err, IfOk, IfSome, OnErr, length}
 use Rattle.std.proofs.lemmas.Bool.{false≢true}
 use Rattle.std.proofs.lemmas.Str.{IsUtf8-from_is_utf8, is_utf8-from_IsUtf8}
 use Rattle.std.specs.Str.{IsUtf8, is_utf8}
 use Rattle.wc_text.specs.declared.no_memory.NoMemory.{NoMemory}
 use Rattle.wc_relaycmd.specs.declared.request.Command.{Command}
 use Rattle.wc_relaycmd.specs.declared.request.Request.{Request}
-use Rattle.wc_relaycmd.specs.Cuts.{BeginsWithout}
+use Rattle.wc_relaycmd.specs.declared.word.Word.{Word}
+use Rattle.wc_relaycmd.specs.Cuts.{BeginsWithout, onward}
 use Rattle.wc_relaycmd.specs.Escapes.{unescaped, meant}
 use Rattle.wc_relaycmd.specs.Grammar.{Calls, HasCommand, Asks, Reads}
 use Rattle.wc_relaycmd.specs.Answers.{Called, call_of, command_of, asked_by, request_of}
+use Rattle.wc_relaycmd.proofs.EscapeLemmas.{unescaped-plain}
 use Rattle.wc_relaycmd.proofs.WordLemmas.{byte_differs}
 use Rattle.wc_relaycmd.proofs.TagLemmas.{call_of-calls, calls-call_of}
 use Rattle.wc_relaycmd.proofs.AskLemmas.{command_of-asks, asks-command_of}
@@ -92,3 +94,34 @@ pub without_memory_from : (result : Result (Option Request) NoMemory) (line : Li
 without_memory_from (Ok None) line escaped is refused none = refl
 without_memory_from (Ok (Some request)) line escaped is refused none = absurd (none (Reads-HasCommand line escaped request (reads-request_of line escaped request (sym is))))
 without_memory_from (Err e) line escaped is refused none = absurd (none refused)
+
+-- a line that is no text has no request
+pub request_of-no_text : (line : List ℕ) (escaped : Bool) → (IsUtf8 line → ⊥) → None ≡ request_of escaped line
+unfolding request_of
+request_of-no_text line escaped none = by (is_utf8 line) refl where
+  by : (t : Bool) → is_utf8 line ≡ t → None ≡ cond t (option_and_then (asked_by escaped) (call_of line)) None
+  by true e = absurd (none (IsUtf8-from_is_utf8 line e))
+  by false e = refl
+
+-- a line that is text has the request of its call
+pub request_of-called : (line : List ℕ) (escaped : Bool) (call : Option Called) → IsUtf8 line → call ≡ call_of line → option_and_then (asked_by escaped) call ≡ request_of escaped line
+unfolding request_of
+request_of-called line escaped call utf8 is =
+    ap (option_and_then (asked_by escaped)) is ∙ ap (λ t. cond t (option_and_then (asked_by escaped) (call_of line)) None) (sym (is_utf8-from_IsUtf8 line utf8))
+
+pub request_from_call : (result : Result (Option Request) NoMemory) (line : List ℕ) (escaped : Bool) (call : Called) → IsUtf8 line → Some call ≡ call_of line → IfOk result (λ asked. asked ≡ asked_by escaped call) → IfOk result (λ asked. asked ≡ request_of escaped line)
+request_from_call (Ok asked) line escaped call utf8 is computed = computed ∙ request_of-called line escaped (Some call) utf8 is
+request_from_call (Err e) line escaped call utf8 is computed = tt
+
+pub refused_by : (result : Result (Option Request) NoMemory) (line : List ℕ) (call : Called) → IsUtf8 line → Some call ≡ call_of line → OnErr result (HasCommand line)
+refused_by (Ok asked) line call utf8 is = tt
+refused_by (Err e) line call utf8 is = called-HasCommand line call utf8 (sym is)
+
+-- a command of a text without a `\`
+pub command_plain : (result : Result (Option Command) NoMemory) (word : Word) (text behind : List ℕ) (empty : Bool) → empty ≡ true → empty ≡ eqb (length behind) 0 → behind ≡ onward 92 text →
+    IfOk result (λ asked. asked ≡ command_of word text) → IfOk result (λ asked. asked ≡ command_of word (unescaped text))
+command_plain result word text [] empty is test cut computed =
+    subst (λ t. IfOk result (λ asked. asked ≡ command_of word t)) (sym (unescaped-plain text (sym cut))) computed
+command_plain result word text (b ∷ behind) empty is test cut computed = absurd (false≢true (sym longer ∙ (sym test ∙ is))) where
+  longer : eqb (length (b ∷ behind)) 0 ≡ false
+  longer = grind arith

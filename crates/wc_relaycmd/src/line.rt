@@ -1,4 +1,5 @@
-ghost use Rattle.std.specs.Prelude.{◌≡◌, ◌↔◌, ℕ, Bool, List, Option, Some, None, IfOk, IfSome, OnErr, option_map};
+ghost use Rattle.std.specs.Prelude.{◌≡◌, ◌↔◌, ℕ, Bool, List, Option, Some, None, IfOk, IfSome, OnErr, IsTrue, option_map};
+ghost use Rattle.std.specs.Str.{IsUtf8};
 ghost use Rattle.wc_relaycmd.specs.Answers.{tag_of, tag_seen, called, call_of, command_of, asked_by, request_of};
 ghost use Rattle.wc_relaycmd.specs.Escapes.{unescaped, meant};
 ghost use Rattle.wc_relaycmd.specs.Grammar.{HasCommand, Reads};
@@ -53,7 +54,7 @@ fn read_call(line: &[u8]) -> Option<Call<'_>>
 
 /// What the arguments ask once their escapes are read. A text without a `\` is not copied for it, and one that is
 /// asked for as it stands is moved into the command.
-#[tactic(auto, using(crate::proofs::EscapeLemmas::escapes), unfolding(crate::specs::Answers::command_of))]
+#[tactic(auto, unfolding(crate::specs::Answers::command_of))]
 fn escaped_command(
     alloc: Global,
     word: Word,
@@ -102,6 +103,15 @@ fn request_by(
     Ok(Some(Request { id, command }))
 }
 
+fn is_text(line: &[u8]) -> bool
+    ensures { IsTrue result ↔ IsUtf8 line.now }
+{
+    match std::str::from_utf8(line) {
+        Ok(_) => true,
+        Err(_) => false,
+    }
+}
+
 fn request_in(
     alloc: Global,
     line: &[u8],
@@ -110,7 +120,7 @@ fn request_in(
     ensures computed { IfOk result (λ asked. asked ≡ request_of escaped line.now) }
     ensures refused { OnErr result (HasCommand line.now) }
 {
-    if std::str::from_utf8(line).is_err() {
+    if !is_text(line) {
         return Ok(None);
     }
     let Some(call) = read_call(line) else {
