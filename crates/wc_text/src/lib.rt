@@ -4,9 +4,17 @@
 mod items;
 mod names;
 mod no_memory;
+mod numbers;
+mod order;
 mod text;
+mod utf8;
+mod word_iter;
 
 pub use items::{Duplicate, Items};
 pub use names::{Address, Arrival, Cause, Handle, LinkId, Pair};
 pub use no_memory::NoMemory;
+pub use numbers::read_i64;
+pub use order::fold_cmp;
 pub use text::Text;
+pub use utf8::lossy;
+pub use word_iter::{WordIter, words};
