@@ -1,3 +1,4 @@
 pub mod IntegerLemmas
+pub mod LossyLemmas
 pub mod OrderLemmas
 pub mod WordsLemmas

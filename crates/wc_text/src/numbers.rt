@@ -3,12 +3,15 @@ ghost use Rattle.wc_text.specs.Integer.{integer_of, magnitude_of, negative_of, p
 
 /// The number that an optional `-` and one or more decimal digits write.
 /// None where the bytes are anything else, or the number is out of the range of 64 bits.
+#[tactic(auto, unfolding(crate::specs::Integer::integer_of))]
 pub fn read_i64(bytes: &[u8]) -> Option<i64>
     ensures { result ≡ integer_of bytes.now }
 {
-    match bytes {
-        [b'-', digits @ ..] => read_negative(digits),
-        _ => read_positive(bytes),
+    let (first, behind) = bytes.split_first()?;
+    if *first == b'-' {
+        read_negative(behind)
+    } else {
+        read_positive(bytes)
     }
 }
 

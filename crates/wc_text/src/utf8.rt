@@ -1,6 +1,6 @@
-ghost use Rattle.std.specs.Prelude.{◌≡◌, IfOk};
-ghost use Rattle.std.specs.Str.Lossy.{utf8_valid_len};
-ghost use Rattle.wc_text.specs.Lossy.{lossy_of};
+ghost use Rattle.std.specs.Prelude.{◌≡◌, ◌++◌, IfOk};
+ghost use Rattle.std.specs.Str.{IsUtf8};
+ghost use Rattle.wc_text.specs.Lossy.{lossy_of, char_len};
 
 use crate::no_memory::NoMemory;
 use crate::text::Text;
@@ -14,27 +14,32 @@ const REPLACEMENT: [u8; 3] = [0xEF, 0xBF, 0xBD];
 pub fn lossy(alloc: Global, bytes: &[u8]) -> Result<Text, NoMemory>
     ensures { IfOk result (λ text. text ≡ lossy_of bytes.now) }
 {
-    if valid_len(bytes) == bytes.len() {
+    let (front, behind) = split_valid(bytes);
+    if behind.is_empty() {
         return Text::from_slice(alloc, bytes);
     }
     let mut text = Text::new(alloc);
-    let mut rest = bytes;
-    while valid_len(rest) < rest.len() {
-        let (valid, others) = rest.split_at(valid_len(rest));
+    let mut valid = front;
+    let mut others = behind;
+    while let [_, rest @ ..] = others {
         text.append(valid)?;
         text.append(&REPLACEMENT)?;
-        rest = &others[1..];
+        let parts = split_valid(rest);
+        valid = parts.0;
+        others = parts.1;
     }
-    text.append(rest)?;
+    text.append(valid)?;
     Ok(text)
 }
 
-/// The length of the longest front that is UTF-8.
-fn valid_len(bytes: &[u8]) -> usize
-    ensures { result ≡ utf8_valid_len bytes.now }
+/// The longest front that is UTF-8, and what stands behind it, which begins with no character.
+fn split_valid(bytes: &[u8]) -> (&[u8], &[u8])
+    ensures whole { bytes.now ≡ result.0.now ++ result.1.now }
+    ensures valid { IsUtf8 result.0.now }
+    ensures no_char { char_len result.1.now ≡ 0 }
 {
     match std::str::from_utf8(bytes) {
-        Ok(text) => text.len(),
-        Err(error) => error.valid_up_to(),
+        Ok(_) => bytes.split_at(bytes.len()),
+        Err(error) => bytes.split_at(error.valid_up_to()),
     }
 }

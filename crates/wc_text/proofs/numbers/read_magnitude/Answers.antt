@@ -25,6 +25,7 @@ loop-b-preserved c =
     let digit : digit_value (get_or c.args.digits.now c.loop-b.b-index 0) ≡ c.from.result = grind (arith, nat_tests) in (
       omega (arith, digits_value_more 10 c.args.digits.now _ c.loop-b-test.true, c.in_ok-value.ensures.1, c.in_ok-checked_mul.ensures.1, c.loop-b.invariant.0),
       list_all_more is_ascii_digit _ _ c.loop-b-test.true c.loop-b.invariant.1 (sym c.if-not-is_ascii_digit.ensures.value),
+      omega (arith, c.in_ok-value.ensures.0, c.in_ok-value.ensures.1),
     )
 
 pub returns : goal.returns
