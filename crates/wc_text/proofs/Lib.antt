@@ -1,4 +1,5 @@
 pub mod IntegerLemmas
 pub mod LossyLemmas
 pub mod OrderLemmas
+pub mod Utf8Lemmas
 pub mod WordsLemmas

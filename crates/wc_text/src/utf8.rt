@@ -14,22 +14,21 @@ const REPLACEMENT: [u8; 3] = [0xEF, 0xBF, 0xBD];
 pub fn lossy(alloc: Global, bytes: &[u8]) -> Result<Text, NoMemory>
     ensures { IfOk result (λ text. text ≡ lossy_of bytes.now) }
 {
-    let (front, behind) = split_valid(bytes);
-    if behind.is_empty() {
+    let (_, others) = split_valid(bytes);
+    if others.is_empty() {
         return Text::from_slice(alloc, bytes);
     }
     let mut text = Text::new(alloc);
-    let mut valid = front;
-    let mut others = behind;
-    while let [_, rest @ ..] = others {
+    let mut rest = bytes;
+    loop {
+        let (valid, others) = split_valid(rest);
         text.append(valid)?;
+        let Some((_, behind)) = others.split_first() else {
+            return Ok(text);
+        };
         text.append(&REPLACEMENT)?;
-        let parts = split_valid(rest);
-        valid = parts.0;
-        others = parts.1;
+        rest = behind;
     }
-    text.append(valid)?;
-    Ok(text)
 }
 
 /// The longest front that is UTF-8, and what stands behind it, which begins with no character.

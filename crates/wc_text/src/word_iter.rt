@@ -51,8 +51,5 @@ fn word_len(bytes: &[u8]) -> usize
     ensures place { result ≡ position_or_len is_space bytes.now }
     ensures within { result ≤ length bytes.now }
 {
-    bytes
-        .iter()
-        .position(|b| *b == b' ')
-        .unwrap_or(bytes.len())
+    bytes.iter().position(|b| *b == b' ').unwrap_or(bytes.len())
 }
