@@ -92,7 +92,7 @@ starts_word [] = λ h. absurd (omega arith)
 starts_word (b ∷ bytes) = starts_by b bytes (is_space b) refl (starts_word bytes)
 
 -- behind the spaces stands the first word, up to the next space or the end
-pub next_word : (bytes rest : List ℕ) (e : ℕ) → rest ≡ behind_spaces bytes → 0 < length rest → e ≡ position_or_len is_space rest → words_of bytes ≡ take e rest ∷ words_of (drop e rest)
+pub next_word : (bytes rest : List ℕ) (e : ℕ) → rest ≡ behind_spaces bytes → 0 < length rest → e ≡ position_or_len (λ b. b == 32) rest → words_of bytes ≡ take e rest ∷ words_of (drop e rest)
 next_word bytes rest e behind some is =
     let P : List ℕ → Type 0 = StartsWord in
     let starts : is_filled (take (end_of rest) rest) ≡ true = subst P (sym behind) (starts_word bytes) some in

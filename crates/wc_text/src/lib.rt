@@ -2,15 +2,18 @@
 #![tactic(auto)]
 
 mod items;
+mod masks;
 mod names;
 mod no_memory;
 mod numbers;
 mod order;
+mod places;
 mod text;
 mod utf8;
 mod word_iter;
 
 pub use items::{Duplicate, Items};
+pub use masks::mask_matches;
 pub use names::{Address, Arrival, Cause, Handle, LinkId, Pair};
 pub use no_memory::NoMemory;
 pub use numbers::read_i64;

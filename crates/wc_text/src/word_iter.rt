@@ -1,7 +1,8 @@
-ghost use Rattle.std.specs.Prelude.{◌≡◌, ◌≤◌, length};
+ghost use Rattle.std.specs.Prelude.{◌≡◌};
 ghost use Rattle.std.specs.Iterator.{YieldsFirstRef, item_count};
-ghost use Rattle.std.specs.List.{position_or_len};
-ghost use Rattle.wc_text.specs.Words.{words_of, words_left, is_space, behind_spaces};
+ghost use Rattle.wc_text.specs.Words.{words_of, words_left, behind_spaces};
+
+use crate::places::place_of;
 
 /// The words of some bytes that are still to come.
 #[derive(Drop)]
@@ -29,7 +30,7 @@ impl<'a> Iterator for WordIter<'a> {
         if self.rest.is_empty() {
             return None;
         }
-        let (word, rest) = self.rest.split_at(word_len(self.rest));
+        let (word, rest) = self.rest.split_at(place_of(b' ', self.rest));
         self.rest = rest;
         Some(word)
     }
@@ -44,12 +45,4 @@ fn behind_spaces(bytes: &[u8]) -> &[u8]
         rest = behind;
     }
     rest
-}
-
-/// How many bytes stand before the first space, or in all.
-fn word_len(bytes: &[u8]) -> usize
-    ensures place { result ≡ position_or_len is_space bytes.now }
-    ensures within { result ≤ length bytes.now }
-{
-    bytes.iter().position(|b| *b == b' ').unwrap_or(bytes.len())
 }
