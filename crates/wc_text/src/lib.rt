@@ -2,11 +2,22 @@
 #![tactic(auto)]
 
 mod items;
+mod masks;
 mod names;
 mod no_memory;
+mod numbers;
+mod order;
+mod places;
 mod text;
+mod utf8;
+mod word_iter;
 
 pub use items::{Duplicate, Items};
+pub use masks::mask_matches;
 pub use names::{Address, Arrival, Cause, Handle, LinkId, Pair};
 pub use no_memory::NoMemory;
+pub use numbers::read_i64;
+pub use order::fold_cmp;
 pub use text::Text;
+pub use utf8::lossy;
+pub use word_iter::{WordIter, words};

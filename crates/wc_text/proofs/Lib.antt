@@ -1,0 +1,6 @@
+pub mod IntegerLemmas
+pub mod LossyLemmas
+pub mod MaskLemmas
+pub mod OrderLemmas
+pub mod Utf8Lemmas
+pub mod WordsLemmas
