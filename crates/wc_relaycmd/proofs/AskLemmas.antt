@@ -5,7 +5,7 @@ use Rattle.wc_relaycmd.specs.declared.word.Word.{Word}
 use Rattle.wc_relaycmd.specs.declared.word.Word.TheVariants as Words
 use Rattle.wc_relaycmd.specs.declared.request.Command.{Command}
 use Rattle.wc_relaycmd.specs.declared.request.Command.TheVariants as Commands
-use Rattle.wc_relaycmd.specs.Stub.{integer_of}
+use Rattle.wc_text.specs.Integer.{integer_of}
 use Rattle.wc_relaycmd.specs.Cuts.{before, behind, past, onward, Lacks, BeginsWithout}
 use Rattle.wc_relaycmd.specs.Words.{Parts, word_of, rest_of}
 use Rattle.wc_relaycmd.specs.Lists.{pieces_of, pairs_of}

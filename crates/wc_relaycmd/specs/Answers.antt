@@ -8,7 +8,7 @@ use Rattle.wc_relaycmd.specs.declared.line.Call.{Call}
 use Rattle.wc_relaycmd.specs.declared.request.Command.{Command}
 use Rattle.wc_relaycmd.specs.declared.request.Command.TheVariants as Commands
 use Rattle.wc_relaycmd.specs.declared.request.Request.{Request}
-use Rattle.wc_relaycmd.specs.Stub.{integer_of}
+use Rattle.wc_text.specs.Integer.{integer_of}
 use Rattle.wc_relaycmd.specs.Cuts.{before, behind, past}
 use Rattle.wc_relaycmd.specs.Words.{word_of, rest_of}
 use Rattle.wc_relaycmd.specs.Lists.{pieces_of, pairs_of}

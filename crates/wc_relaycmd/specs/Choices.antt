@@ -4,7 +4,7 @@ use Rattle.std.specs.List.{slice_split, list_any}
 use Rattle.std.specs.Str.{bytes_eq}
 use Rattle.wc_relaycmd.specs.declared.algorithm.Algorithm.{Algorithm}
 use Rattle.wc_relaycmd.specs.declared.algorithm.Algorithm.TheVariants.{Plain, Sha256, Sha512}
-use Rattle.wc_relaycmd.specs.Stub.{matches_of}
+use Rattle.wc_text.specs.Mask.{matches_of}
 use Rattle.wc_relaycmd.specs.Lists.{pieces_of}
 
 -- how an algorithm is written

@@ -8,4 +8,3 @@ pub mod Answers
 pub mod Utf8
 pub mod Choices
 pub mod Logins
-pub mod Stub

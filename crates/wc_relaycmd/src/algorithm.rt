@@ -1,7 +1,7 @@
 ghost use Rattle.std.specs.Prelude.{◌≡◌};
 ghost use Rattle.wc_relaycmd.specs.Choices.{algorithm_name, is_offered, is_allowed, is_common, choice_of};
 
-use crate::stub::mask_matches;
+use wc_text::mask_matches;
 
 /// How a client proves that it knows the password.
 #[derive(Clone, Copy, Debug, PartialEq, Eq)]

@@ -5,10 +5,9 @@ ghost use Rattle.wc_relaycmd.specs.Lists.{pieces_of};
 use crate::cuts::{cut_word, split_once};
 use crate::lists::{pairs, pieces};
 use crate::request::Command;
-use crate::stub::read_i64;
 use crate::word::Word;
 use std::alloc::Global;
-use wc_text::{Items, NoMemory, Text};
+use wc_text::{Items, NoMemory, Text, read_i64};
 
 /// The word at the front of a text. None where the text is empty.
 fn leading(alloc: Global, text: &[u8]) -> Result<Option<Text>, NoMemory>

@@ -10,7 +10,6 @@ mod lists;
 mod login;
 mod request;
 mod secrets;
-mod stub;
 #[cfg(test)]
 mod tests;
 mod word;

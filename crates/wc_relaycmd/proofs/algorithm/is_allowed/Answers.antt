@@ -1,7 +1,7 @@
 use Rattle.std.proofs.Common.{eqb, false, rules, tests}
 use Rattle.std.proofs.lemmas.Iterator.Search.{any_from_yields_List}
 use Rattle.std.proofs.lemmas.Iterator.Splits.{YieldsList-from_slice_split}
-use Rattle.wc_relaycmd.specs.Stub.{matches_of}
+use Rattle.wc_text.specs.Mask.{matches_of}
 use Rattle.wc_relaycmd.proofs.algorithm.is_allowed.Goals as goal
 
 pub returns : goal.returns
