@@ -60,6 +60,7 @@ reads-request_of line escaped request is = by (is_utf8 line) refl is where
   called : (o : Option Called) → call_of line ≡ o → IsUtf8 line → option_and_then (asked_by escaped) o ≡ Some request → Reads line escaped request
   called None e utf8 here = absurd (cc)
   called (Some call) e utf8 here = asked_reads line escaped request call utf8 (calls-call_of line call e) here
+
   by : (t : Bool) → is_utf8 line ≡ t → cond t (option_and_then (asked_by escaped) (call_of line)) None ≡ Some request → Reads line escaped request
   by true e here = called (call_of line) refl (IsUtf8-from_is_utf8 line e) here
   by false e here = absurd (cc)

@@ -139,6 +139,7 @@ named_reads (b ∷ text) tag found = by (eqb b 95) refl found where
   id_of : (t : Bool) → eqb b 41 ≡ t → b ≢ 95 → IsId (cond t [] (b ∷ before 41 text))
   id_of true e other = tt
   id_of false e other = (other, (byte_differs b 41 e, Lacks-before 41 text))
+
   opened : (o : Option (List ℕ)) → behind 41 (b ∷ text) ≡ o → b ≢ 95 → option_map (λ rest. (before 41 (b ∷ text), rest)) o ≡ Some tag → (b ∷ text ≡ tag.0 ++ 41 ∷ tag.1) × IsId tag.0
   opened None e other here = absurd (cc)
   opened (Some rest) e other here =
@@ -146,6 +147,7 @@ named_reads (b ∷ text) tag found = by (eqb b 95) refl found where
       let id_is : before 41 (b ∷ text) ≡ tag.0 = ap (λ (p : List ℕ × List ℕ). p.0) same in
       let rest_is : rest ≡ tag.1 = ap (λ (p : List ℕ × List ℕ). p.1) same in
       (cut_behind 41 (b ∷ text) rest e ∙ ap (λ i. i ++ 41 ∷ rest) id_is ∙ ap (λ r. tag.0 ++ 41 ∷ r) rest_is, subst IsId id_is (id_of (eqb b 41) refl other))
+
   by : (t : Bool) → eqb b 95 ≡ t → cond t None (option_map (λ rest. (before 41 (b ∷ text), rest)) (behind 41 (b ∷ text))) ≡ Some tag → (b ∷ text ≡ tag.0 ++ 41 ∷ tag.1) × IsId tag.0
   by true e here = absurd (cc)
   by false e here = opened (behind 41 (b ∷ text)) refl (byte_differs b 95 e) here
@@ -173,21 +175,21 @@ unfolding call_of
 calls-call_of line call found =
     option_and_then_some (λ (tag : List ℕ × List ℕ). called_by tag.0 (past 32 tag.1)) (tag_of (past 32 line)) call found
     (λ tag tagged here. named tag (tag_reads (past 32 line) tag tagged) (word_named (word_of (past 32 tag.1))) refl here) where
-  named : (tag : List ℕ × List ℕ) → HasTag (past 32 line) tag → (o : Option Word) → word_named (word_of (past 32 tag.1)) ≡ o →
-      option_map (λ word. record { id = tag.0; word = word; arguments = rest_of (past 32 tag.1) }) o ≡ Some call → Calls line call.id call.word call.arguments
-  named tag has None e here = absurd (cc)
-  named tag has (Some word) e here =
-      let same : record { id = tag.0; word = word; arguments = rest_of (past 32 tag.1) } ≡ call = cc in
-      let before_tag = margin line in
-      let behind_tag = margin tag.1 in
-      let parts : Parts (past 32 tag.1) (name_of word) (rest_of (past 32 tag.1)) =
+      named : (tag : List ℕ × List ℕ) → HasTag (past 32 line) tag → (o : Option Word) → word_named (word_of (past 32 tag.1)) ≡ o →
+          option_map (λ word. record { id = tag.0; word = word; arguments = rest_of (past 32 tag.1) }) o ≡ Some call → Calls line call.id call.word call.arguments
+      named tag has None e here = absurd (cc)
+      named tag has (Some word) e here =
+          let same : record { id = tag.0; word = word; arguments = rest_of (past 32 tag.1) } ≡ call = cc in
+          let before_tag = margin line in
+          let behind_tag = margin tag.1 in
+          let parts : Parts (past 32 tag.1) (name_of word) (rest_of (past 32 tag.1)) =
           subst (λ w. Parts (past 32 tag.1) w (rest_of (past 32 tag.1))) (name_of_named (word_of (past 32 tag.1)) word e) (Parts-made (past 32 tag.1)) in
-      subst (λ (c : Called). Calls line c.id c.word c.arguments) same (record {
-        margin = before_tag.0;
-        tag = has.written;
-        gap = behind_tag.0;
-        call = past 32 tag.1;
-        spelled = before_tag.1 ∙ ap (λ t. blanks before_tag.0 ++ t) (has.spelled ∙ ap (λ t. has.written ++ t) behind_tag.1);
-        tagged = has.is_tag;
-        called = parts;
-      })
+          subst (λ (c : Called). Calls line c.id c.word c.arguments) same (record {
+            margin = before_tag.0;
+            tag = has.written;
+            gap = behind_tag.0;
+            call = past 32 tag.1;
+            spelled = before_tag.1 ∙ ap (λ t. blanks before_tag.0 ++ t) (has.spelled ∙ ap (λ t. has.written ++ t) behind_tag.1);
+            tagged = has.is_tag;
+            called = parts;
+          })

@@ -26,8 +26,7 @@ cut_text front b rest ascii utf8 =
     let text = front ++ b ∷ rest in
     let n = length-append front (b ∷ rest) in
     let inside : length front < length (front ++ b ∷ rest) = omega (arith, n) in
-    let small : get_or (front ++ b ∷ rest) (length front) 0 < 128 = omega (arith, get_or-seam front rest b) in
-    (
+    let small : get_or (front ++ b ∷ rest) (length front) 0 < 128 = omega (arith, get_or-seam front rest b) in (
       subst IsUtf8 (take_at front (b ∷ rest) (length front) refl) (IsUtf8-take (front ++ b ∷ rest) (length front) utf8 (IsCharBoundary-before_ascii (front ++ b ∷ rest) (length front) inside small)),
       subst IsUtf8 (drop-append-add front (b ∷ rest) 1) (IsUtf8-drop (front ++ b ∷ rest) (length front + 1) utf8 (IsCharBoundary-after_ascii (front ++ b ∷ rest) (length front) utf8 inside small)),
     )
@@ -75,19 +74,21 @@ unescaped_text front [] utf8 = utf8
 unescaped_text front (b ∷ []) utf8 = utf8
 unescaped_text front (b ∷ c ∷ text) utf8 =
     by (eqb b 92) (eqb c 92) (eqb c 110) refl refl refl (λ u. unescaped_text [] text u) (unescaped_text (front ++ b ∷ []) (c ∷ text) (subst IsUtf8 (sym (append_assoc front (b ∷ []) (c ∷ text))) utf8)) where
-  behind_two : b < 128 → c < 128 → IsUtf8 front × IsUtf8 text
-  behind_two small_b small_c = let cut = cut_text front b (c ∷ text) small_b utf8 in (cut.0, (cut_text [] c text small_c cut.1).1)
-  read : (byte : ℕ) → byte < 128 → eqb b 92 ≡ true → c < 128 → (IsUtf8 text → IsUtf8 (unescaped text)) → IsUtf8 (front ++ byte ∷ unescaped text)
-  read byte ascii e small more =
-      let is_slash : b ≡ 92 = (Decides-eqb b 92).0 e in
-      let cut = behind_two (omega arith) small in
-      IsUtf8-append front (byte ∷ unescaped text) cut.0 (put_byte byte (unescaped text) ascii (more cut.1))
-  by : (s t u : Bool) → eqb b 92 ≡ s → eqb c 92 ≡ t → eqb c 110 ≡ u → (IsUtf8 text → IsUtf8 (unescaped text)) → IsUtf8 ((front ++ b ∷ []) ++ unescaped (c ∷ text)) →
-      IsUtf8 (front ++ cond (s && t) (92 ∷ unescaped text) (cond (s && u) (10 ∷ unescaped text) (b ∷ unescaped (c ∷ text))))
-  by true true u e f g more other = let is_slash : c ≡ 92 = (Decides-eqb c 92).0 f in read 92 (lit< tt) e (omega arith) more
-  by true false true e f g more other = let is_n : c ≡ 110 = (Decides-eqb c 110).0 g in read 10 (lit< tt) e (omega arith) more
-  by true false false e f g more other = subst IsUtf8 (append_assoc front (b ∷ []) (unescaped (c ∷ text))) other
-  by false t u e f g more other = subst IsUtf8 (append_assoc front (b ∷ []) (unescaped (c ∷ text))) other
+      behind_two : b < 128 → c < 128 → IsUtf8 front × IsUtf8 text
+      behind_two small_b small_c = let cut = cut_text front b (c ∷ text) small_b utf8 in (cut.0, (cut_text [] c text small_c cut.1).1)
+
+      read : (byte : ℕ) → byte < 128 → eqb b 92 ≡ true → c < 128 → (IsUtf8 text → IsUtf8 (unescaped text)) → IsUtf8 (front ++ byte ∷ unescaped text)
+      read byte ascii e small more =
+          let is_slash : b ≡ 92 = (Decides-eqb b 92).0 e in
+          let cut = behind_two (omega arith) small in
+          IsUtf8-append front (byte ∷ unescaped text) cut.0 (put_byte byte (unescaped text) ascii (more cut.1))
+
+      by : (s t u : Bool) → eqb b 92 ≡ s → eqb c 92 ≡ t → eqb c 110 ≡ u → (IsUtf8 text → IsUtf8 (unescaped text)) → IsUtf8 ((front ++ b ∷ []) ++ unescaped (c ∷ text)) →
+          IsUtf8 (front ++ cond (s && t) (92 ∷ unescaped text) (cond (s && u) (10 ∷ unescaped text) (b ∷ unescaped (c ∷ text))))
+      by true true u e f g more other = let is_slash : c ≡ 92 = (Decides-eqb c 92).0 f in read 92 (lit< tt) e (omega arith) more
+      by true false true e f g more other = let is_n : c ≡ 110 = (Decides-eqb c 110).0 g in read 10 (lit< tt) e (omega arith) more
+      by true false false e f g more other = subst IsUtf8 (append_assoc front (b ∷ []) (unescaped (c ∷ text))) other
+      by false t u e f g more other = subst IsUtf8 (append_assoc front (b ∷ []) (unescaped (c ∷ text))) other
 
 pub meant_text : (escaped : Bool) (text : List ℕ) → IsUtf8 text → IsUtf8 (meant escaped text)
 meant_text true text utf8 = unescaped_text [] text utf8
@@ -109,23 +110,24 @@ items_text front (b ∷ []) utf8 = by (eqb b 44) refl where
 items_text front (b ∷ c ∷ text) utf8 =
     by (eqb b 92) (eqb c 44) (eqb b 44) refl refl refl (λ u. items_text (front ++ c ∷ []) text u) (λ u. items_text [] (c ∷ text) u)
     (items_text (front ++ b ∷ []) (c ∷ text) (subst IsUtf8 (sym (append_assoc front (b ∷ []) (c ∷ text))) utf8)) where
-  ends : (u : Bool) → eqb b 44 ≡ u → (IsUtf8 (c ∷ text) → AllUtf8 (items_behind [] (items_of (c ∷ text)))) → AllUtf8 (items_behind (front ++ b ∷ []) (items_of (c ∷ text))) →
-      AllUtf8 (items_behind front (cond u ([] ∷ items_of (c ∷ text)) (onto_first b (items_of (c ∷ text)))))
-  ends true e next other =
-      let is_comma : b ≡ 44 = (Decides-eqb b 44).0 e in
-      let cut = cut_text front b (c ∷ text) (omega arith) utf8 in
-      (subst IsUtf8 (sym (append-nil front)) cut.0, subst AllUtf8 (items_behind-front (items_of (c ∷ text)) (items_of-filled (c ∷ text))) (next cut.1))
-  ends false e next other = subst AllUtf8 (sym (items_behind-onto_first front b (items_of (c ∷ text)))) other
-  by : (s t u : Bool) → eqb b 92 ≡ s → eqb c 44 ≡ t → eqb b 44 ≡ u → (IsUtf8 ((front ++ c ∷ []) ++ text) → AllUtf8 (items_behind (front ++ c ∷ []) (items_of text))) →
-      (IsUtf8 (c ∷ text) → AllUtf8 (items_behind [] (items_of (c ∷ text)))) → AllUtf8 (items_behind (front ++ b ∷ []) (items_of (c ∷ text))) →
-      AllUtf8 (items_behind front (cond (s && t) (onto_first c (items_of text)) (cond u ([] ∷ items_of (c ∷ text)) (onto_first b (items_of (c ∷ text))))))
-  by true true u e f g more next other =
-      let is_slash : b ≡ 92 = (Decides-eqb b 92).0 e in
-      let cut = cut_text front b (c ∷ text) (omega arith) utf8 in
-      subst AllUtf8 (sym (items_behind-onto_first front c (items_of text)))
-      (more (subst IsUtf8 (sym (append_assoc front (c ∷ []) text)) (IsUtf8-append front (c ∷ text) cut.0 cut.1)))
-  by true false u e f g more next other = ends u g next other
-  by false t u e f g more next other = ends u g next other
+      ends : (u : Bool) → eqb b 44 ≡ u → (IsUtf8 (c ∷ text) → AllUtf8 (items_behind [] (items_of (c ∷ text)))) → AllUtf8 (items_behind (front ++ b ∷ []) (items_of (c ∷ text))) →
+          AllUtf8 (items_behind front (cond u ([] ∷ items_of (c ∷ text)) (onto_first b (items_of (c ∷ text)))))
+      ends true e next other =
+          let is_comma : b ≡ 44 = (Decides-eqb b 44).0 e in
+          let cut = cut_text front b (c ∷ text) (omega arith) utf8 in
+          (subst IsUtf8 (sym (append-nil front)) cut.0, subst AllUtf8 (items_behind-front (items_of (c ∷ text)) (items_of-filled (c ∷ text))) (next cut.1))
+      ends false e next other = subst AllUtf8 (sym (items_behind-onto_first front b (items_of (c ∷ text)))) other
+
+      by : (s t u : Bool) → eqb b 92 ≡ s → eqb c 44 ≡ t → eqb b 44 ≡ u → (IsUtf8 ((front ++ c ∷ []) ++ text) → AllUtf8 (items_behind (front ++ c ∷ []) (items_of text))) →
+          (IsUtf8 (c ∷ text) → AllUtf8 (items_behind [] (items_of (c ∷ text)))) → AllUtf8 (items_behind (front ++ b ∷ []) (items_of (c ∷ text))) →
+          AllUtf8 (items_behind front (cond (s && t) (onto_first c (items_of text)) (cond u ([] ∷ items_of (c ∷ text)) (onto_first b (items_of (c ∷ text))))))
+      by true true u e f g more next other =
+          let is_slash : b ≡ 92 = (Decides-eqb b 92).0 e in
+          let cut = cut_text front b (c ∷ text) (omega arith) utf8 in
+          subst AllUtf8 (sym (items_behind-onto_first front c (items_of text)))
+          (more (subst IsUtf8 (sym (append_assoc front (c ∷ []) text)) (IsUtf8-append front (c ∷ text) cut.0 cut.1)))
+      by true false u e f g more next other = ends u g next other
+      by false t u e f g more next other = ends u g next other
 
 pair_text : (item : List ℕ) (pair : Pair) → IsUtf8 item → pair_in item ≡ Some pair → IsUtf8 pair.name × IsUtf8 pair.value
 pair_text item pair utf8 is = by (behind 61 item) refl is where
@@ -159,13 +161,13 @@ pub pieces_text : (front text : List ℕ) → IsUtf8 (front ++ text) → AllUtf8
 pieces_text front [] utf8 = (utf8, tt)
 pieces_text front (b ∷ text) utf8 =
     by (eqb b 44) refl (λ u. pieces_text [] text u) (pieces_text (front ++ b ∷ []) text (subst IsUtf8 (sym (append_assoc front (b ∷ []) text)) utf8)) where
-  by : (t : Bool) → eqb b 44 ≡ t → (IsUtf8 text → AllUtf8 (items_behind [] (pieces_of text))) → AllUtf8 (items_behind (front ++ b ∷ []) (pieces_of text)) →
-      AllUtf8 (items_behind front (cond t ([] ∷ pieces_of text) (onto_first b (pieces_of text))))
-  by true e next other =
-      let is_comma : b ≡ 44 = (Decides-eqb b 44).0 e in
-      let cut = cut_text front b text (omega arith) utf8 in
-      (subst IsUtf8 (sym (append-nil front)) cut.0, subst AllUtf8 (items_behind-front (pieces_of text) (pieces_filled text)) (next cut.1))
-  by false e next other = subst AllUtf8 (sym (items_behind-onto_first front b (pieces_of text))) other
+      by : (t : Bool) → eqb b 44 ≡ t → (IsUtf8 text → AllUtf8 (items_behind [] (pieces_of text))) → AllUtf8 (items_behind (front ++ b ∷ []) (pieces_of text)) →
+          AllUtf8 (items_behind front (cond t ([] ∷ pieces_of text) (onto_first b (pieces_of text))))
+      by true e next other =
+          let is_comma : b ≡ 44 = (Decides-eqb b 44).0 e in
+          let cut = cut_text front b text (omega arith) utf8 in
+          (subst IsUtf8 (sym (append-nil front)) cut.0, subst AllUtf8 (items_behind-front (pieces_of text) (pieces_filled text)) (next cut.1))
+      by false e next other = subst AllUtf8 (sym (items_behind-onto_first front b (pieces_of text))) other
 
 pub all_pieces_text : (text : List ℕ) → IsUtf8 text → AllUtf8 (pieces_of text)
 all_pieces_text text utf8 = subst AllUtf8 (items_behind-front (pieces_of text) (pieces_filled text)) (pieces_text [] text utf8)

@@ -115,6 +115,7 @@ Parts-made text = record {
 } where
   gap : (n : ℕ) × (onward 32 text ≡ blanks n ++ rest_of text)
   gap = margin (onward 32 text)
+
   parted : (n : ℕ) → onward 32 text ≡ blanks n ++ rest_of text → rest_of text ≢ [] → 0 < n
   parted zero same some = absurd (some (onward-past 32 text same))
   parted (suc n) same some = omega arith

@@ -30,7 +30,7 @@ hash_from name salt hash =
     option_and_then (λ algorithm.
     option_and_then (λ salt_bytes.
     option_map (λ hash_bytes. record { algorithm = algorithm; salt = salt_bytes; hash = hash_bytes })
-        (bytes_in hash)) (bytes_in salt)) (hash_named name)
+    (bytes_in hash)) (bytes_in salt)) (hash_named name)
 
 abbrev pub hash_of_parts : List (List ℕ) → Option HashLogin
 hash_of_parts [] = None

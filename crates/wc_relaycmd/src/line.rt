@@ -55,11 +55,7 @@ fn read_call(line: &[u8]) -> Option<Call<'_>>
 /// What the arguments ask once their escapes are read. A text without a `\` is not copied for it, and one that is
 /// asked for as it stands is moved into the command.
 #[tactic(auto, unfolding(crate::specs::Answers::command_of))]
-fn escaped_command(
-    alloc: Global,
-    word: Word,
-    arguments: &[u8],
-) -> Result<Option<Command>, NoMemory>
+fn escaped_command(alloc: Global, word: Word, arguments: &[u8]) -> Result<Option<Command>, NoMemory>
     ensures { IfOk result (λ asked. asked ≡ command_of word (unescaped arguments.now)) }
 {
     let (_, behind) = cut_at(arguments, b'\\');
@@ -89,11 +85,7 @@ fn meant_command(
 }
 
 #[tactic(auto, unfolding(crate::specs::Answers::asked_by))]
-fn request_by(
-    alloc: Global,
-    call: Call<'_>,
-    escaped: bool,
-) -> Result<Option<Request>, NoMemory>
+fn request_by(alloc: Global, call: Call<'_>, escaped: bool) -> Result<Option<Request>, NoMemory>
     ensures { IfOk result (λ asked. asked ≡ asked_by escaped (called call.entry)) }
 {
     let Some(command) = meant_command(alloc, call.word, call.arguments, escaped)? else {
@@ -112,11 +104,7 @@ fn is_text(line: &[u8]) -> bool
     }
 }
 
-fn request_in(
-    alloc: Global,
-    line: &[u8],
-    escaped: bool,
-) -> Result<Option<Request>, NoMemory>
+fn request_in(alloc: Global, line: &[u8], escaped: bool) -> Result<Option<Request>, NoMemory>
     ensures computed { IfOk result (λ asked. asked ≡ request_of escaped line.now) }
     ensures refused { OnErr result (HasCommand line.now) }
 {
@@ -133,11 +121,7 @@ fn request_in(
 /// `escape_commands`. None exactly where the line is outside the grammar.
 ///
 /// A line that is not UTF-8, or has no command's word behind its optional id, takes no memory.
-pub fn read_request(
-    alloc: Global,
-    line: &[u8],
-    escaped: bool,
-) -> Result<Option<Request>, NoMemory>
+pub fn read_request(alloc: Global, line: &[u8], escaped: bool) -> Result<Option<Request>, NoMemory>
     // What is read is in the grammar, and nothing in it is refused.
     ensures read { IfOk result (λ asked. IfSome asked (Reads line.now escaped)) }
     ensures unread { result ≡ Ok None → (request : Request) → ¬ (Reads line.now escaped request) }
@@ -154,5 +138,4 @@ pub fn read_request(
 pub fn one_request()
     ensures one { (line : List ℕ) (escaped : Bool) (a b : Request) → Reads line escaped a → Reads line escaped b → a ≡ b }
     ensures computed { (line : List ℕ) (escaped : Bool) (request : Request) → Reads line escaped request ↔ (request_of escaped line ≡ Some request) }
-{
-}
+{}

@@ -105,6 +105,9 @@ pub fn last_value<'a>(pairs: &'a Items<Pair>, name: &[u8]) -> Option<&'a Text>
     ensures { option_copied result ≡ last_value name.now pairs.now }
 {
     let pairs = pairs.as_slice();
-    let pair = pairs.iter().rev().find(|pair| pair.name.as_slice() == name)?;
+    let pair = pairs
+        .iter()
+        .rev()
+        .find(|pair| pair.name.as_slice() == name)?;
     Some(&pair.value)
 }

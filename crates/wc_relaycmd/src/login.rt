@@ -76,7 +76,6 @@ fn hash_from(
     }))
 }
 
-
 /// The hash login that a text of the form `algorithm:salt:hash` writes.
 fn read_hash(alloc: Global, text: &[u8]) -> Result<Option<HashLogin>, NoMemory>
     ensures { IfOk result (λ login. login ≡ hash_of text.now) }

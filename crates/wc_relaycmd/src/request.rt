@@ -16,7 +16,10 @@ pub enum Command {
     /// The login, as a list of names and values.
     Init(Items<Pair>),
     /// The objects at a path. Where the keys are empty all are asked for.
-    Hdata { path: Text, keys: Text },
+    Hdata {
+        path: Text,
+        keys: Text,
+    },
     /// The information of that name.
     Info(Text),
     /// The list of that name.
@@ -24,7 +27,10 @@ pub enum Command {
     /// The nicks of that buffer, or of all buffers.
     Nicklist(Option<Text>),
     /// A text that is typed into a buffer.
-    Input { buffer: Text, text: Text },
+    Input {
+        buffer: Text,
+        text: Text,
+    },
     /// The completions of a text at a place in it.
     Completion {
         buffer: Text,
