@@ -1,16 +1,16 @@
 -- What the arguments of a command ask.
-use Rattle.std.proofs.Common.{◌≡◌, ◌≢◌, ℕ, ◌<◌, List, [], ◌∷◌, ◌++◌, refl, ap, sym, ◌∙◌, arith, eqb, Bool, true, false, cond, Option, Some, None, option_map, option_and_then, ℤ, codes, subst}
+use Rattle.std.proofs.Common.{◌≡◌, ◌≢◌, ℕ, List, [], ◌∷◌, ◌++◌, refl, ap, sym, ◌∙◌, eqb, Bool, true, false, cond, Option, Some, None, option_map, option_and_then, ℤ, subst}
 use Rattle.std.proofs.lemmas.Bool.{false≢true}
 use Rattle.wc_relaycmd.specs.declared.word.Word.{Word}
 use Rattle.wc_relaycmd.specs.declared.word.Word.TheVariants as Words
 use Rattle.wc_relaycmd.specs.declared.request.Command.{Command}
 use Rattle.wc_relaycmd.specs.declared.request.Command.TheVariants as Commands
 use Rattle.wc_text.specs.Integer.{integer_of}
-use Rattle.wc_relaycmd.specs.Cuts.{before, behind, past, onward, Lacks, BeginsWithout}
+use Rattle.wc_relaycmd.specs.Cuts.{before, behind, Lacks, BeginsWithout}
 use Rattle.wc_relaycmd.specs.Words.{Parts, word_of, rest_of}
 use Rattle.wc_relaycmd.specs.Lists.{pieces_of, pairs_of}
 use Rattle.wc_relaycmd.specs.Grammar.{TwoParts, AreOptions, Selects, AsksNicks, Asks}
-use Rattle.wc_relaycmd.specs.Answers.{filled, leading_of, second_of, init_of, hdata_of, input_of, completion_of, buffers_of, options_of, command_of}
+use Rattle.wc_relaycmd.specs.Answers.{filled, leading_of, second_of, hdata_of, input_of, completion_of, buffers_of, options_of, command_of}
 use Rattle.wc_relaycmd.proofs.WordLemmas.{other_byte, before-at, behind-at, Lacks-before, cut_behind, Parts-same, Parts-made}
 
 -- a value of a text that is not empty

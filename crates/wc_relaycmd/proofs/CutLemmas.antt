@@ -1,9 +1,8 @@
 -- What cutting a text at a byte gives.
-use Rattle.std.proofs.Common.{◌≡◌, ◌≢◌, ℕ, ◌+◌, ◌-◌, ◌≤◌, ◌<◌, List, [], ◌∷◌, ◌++◌, length, take, drop, refl, ap, sym, ◌∙◌, arith, eqb, Bool, true, false, cond, length-append, subst, Option, Some, None}
+use Rattle.std.proofs.Common.{◌≡◌, ℕ, ◌+◌, ◌-◌, ◌≤◌, ◌<◌, List, [], ◌∷◌, ◌++◌, length, take, refl, ap, sym, ◌∙◌, arith, length-append, subst, Some}
 use Rattle.std.proofs.lemmas.Bool.Decides.{nat_tests}
 use Rattle.std.proofs.lemmas.List.{take_at}
-use Rattle.std.proofs.lemmas.Grind.{common_steps}
-use Rattle.wc_relaycmd.specs.Cuts.{before, onward, behind, past, Lacks}
+use Rattle.wc_relaycmd.specs.Cuts.{before, onward, behind}
 
 -- the two parts are the text
 pub before-onward : (c : ℕ) (text : List ℕ) → before c text ++ onward c text ≡ text

@@ -1,12 +1,10 @@
 -- The items of a list, and the pairs that they write.
-use Rattle.std.proofs.Common.{◌≡◌, ◌≢◌, ℕ, List, [], ◌∷◌, ◌++◌, refl, ap, sym, ◌∙◌, arith, eqb, Bool, true, false, cond, append_assoc, append-nil, Option, Some, None, ◌&&◌}
-use Rattle.std.proofs.lemmas.Bool.Decides.{nat_tests}
-use Rattle.std.proofs.lemmas.Grind.{common_steps}
-use Rattle.std.specs.List.{slice_split, onto_first, filter_map, cons_option}
+use Rattle.std.proofs.Common.{◌≡◌, ◌≢◌, ℕ, List, [], ◌∷◌, ◌++◌, refl, ap, sym, ◌∙◌, eqb, Bool, true, false, cond, append_assoc, append-nil, Option, Some, None, ◌&&◌}
+use Rattle.std.specs.List.{onto_first, filter_map, cons_option}
 use Rattle.wc_text.specs.declared.names.Pair.{Pair}
 use Rattle.std.specs.Option.{option_to_list}
 use Rattle.wc_relaycmd.specs.Cuts.{before, behind}
-use Rattle.wc_relaycmd.specs.Lists.{pieces_of, items_of, taken_from, pair_in, pairs_of}
+use Rattle.wc_relaycmd.specs.Lists.{pieces_of, items_of, pair_in, pairs_of}
 use Rattle.wc_relaycmd.proofs.SplitLemmas.{slice_split_last, slice_split_more}
 
 -- items, the first with more bytes at its front

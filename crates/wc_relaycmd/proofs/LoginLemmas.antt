@@ -1,10 +1,10 @@
 -- Hash logins by their parts.
-use Rattle.std.proofs.Common.{◌≡◌, ℕ, List, [], ◌∷◌, refl, ap, sym, ◌∙◌, Option, Some, None, Result, Ok, Err, IfOk}
+use Rattle.std.proofs.Common.{◌≡◌, ℕ, List, ◌∷◌, ap, sym, ◌∙◌, Option, Some, None, Result, Ok, Err, IfOk}
 use Rattle.wc_text.specs.declared.no_memory.NoMemory.{NoMemory}
 use Rattle.wc_relaycmd.specs.declared.login.HashLogin.{HashLogin}
 use Rattle.wc_relaycmd.specs.Cuts.{before, behind}
 use Rattle.wc_relaycmd.specs.Logins.{hash_of, hash_of_parts, hash_from}
-use Rattle.wc_relaycmd.proofs.SplitLemmas.{slice_split_last, slice_split_more, slice_split_cut, split_behind}
+use Rattle.wc_relaycmd.proofs.SplitLemmas.{slice_split_last, slice_split_more, slice_split_cut}
 
 pub hash_of-one : (text : List ℕ) → None ≡ behind 58 text → None ≡ hash_of text
 unfolding hash_of

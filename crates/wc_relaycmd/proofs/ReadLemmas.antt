@@ -1,5 +1,5 @@
 -- A line's request is the one that is computed.
-use Rattle.std.proofs.Common.{◌≡◌, ◌≢◌, ℕ, List, [], ◌∷◌, ◌++◌, refl, ap, sym, ◌∙◌, arith, eqb, Bool, true, false, cond, ◌&&◌, Option, Some, None, option_map, option_and_then, subst, Result, Ok, Err, IfOk, IfSome, OnErr, length}
+use Rattle.std.proofs.Common.{◌≡◌, ℕ, List, [], ◌∷◌, refl, ap, sym, ◌∙◌, arith, eqb, Bool, true, false, cond, ◌&&◌, Option, Some, None, option_map, option_and_then, subst, Result, Ok, Err, IfOk, IfSome, OnErr, length}
 use Rattle.std.proofs.lemmas.Bool.{false≢true}
 use Rattle.std.proofs.lemmas.Str.{IsUtf8-from_is_utf8, is_utf8-from_IsUtf8}
 use Rattle.std.specs.Str.{IsUtf8, is_utf8}
@@ -9,7 +9,7 @@ use Rattle.wc_relaycmd.specs.declared.request.Request.{Request}
 use Rattle.wc_relaycmd.specs.declared.word.Word.{Word}
 use Rattle.wc_relaycmd.specs.Cuts.{BeginsWithout, onward}
 use Rattle.wc_relaycmd.specs.Escapes.{unescaped, meant}
-use Rattle.wc_relaycmd.specs.Grammar.{Calls, HasCommand, Asks, Reads}
+use Rattle.wc_relaycmd.specs.Grammar.{Calls, HasCommand, Reads}
 use Rattle.wc_relaycmd.specs.Answers.{Called, call_of, command_of, asked_by, request_of}
 use Rattle.wc_relaycmd.proofs.EscapeLemmas.{unescaped-plain}
 use Rattle.wc_relaycmd.proofs.WordLemmas.{byte_differs}

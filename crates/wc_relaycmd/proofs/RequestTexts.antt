@@ -1,15 +1,13 @@
 -- The texts of a request that a line spells are UTF-8.
-use Rattle.std.proofs.Common.{◌≡◌, ◌≢◌, ℕ, List, [], ◌∷◌, ◌++◌, refl, ap, sym, ◌∙◌, arith, Bool, Option, Some, None, subst, append_assoc, lit<, Result, Ok, Err, IfOk, IfSome, codes}
+use Rattle.std.proofs.Common.{◌≡◌, ℕ, List, [], ◌∷◌, ◌++◌, ap, sym, ◌∙◌, arith, Bool, Option, Some, None, subst, append_assoc, lit<, Result, Ok, Err, IfOk, IfSome, codes}
 use Rattle.std.proofs.lemmas.Str.{IsUtf8-nil}
 use Rattle.std.specs.Str.{IsUtf8}
 use Rattle.wc_text.specs.declared.no_memory.NoMemory.{NoMemory}
 use Rattle.wc_relaycmd.specs.declared.word.Word.{Word}
 use Rattle.wc_relaycmd.specs.declared.word.Word.TheVariants as Words
 use Rattle.wc_relaycmd.specs.declared.request.Command.{Command}
-use Rattle.wc_relaycmd.specs.declared.request.Command.TheVariants as Commands
 use Rattle.wc_relaycmd.specs.declared.request.Request.{Request}
 use Rattle.wc_relaycmd.specs.Words.{blanks}
-use Rattle.wc_relaycmd.specs.Lists.{pieces_of}
 use Rattle.wc_relaycmd.specs.Escapes.{meant}
 use Rattle.wc_relaycmd.specs.Grammar.{name_of, IsTag, Calls, TwoParts, AreOptions, Selects, AsksNicks, Asks, Reads}
 use Rattle.wc_relaycmd.specs.Utf8.{AllUtf8, OptionsUtf8, CommandUtf8, HasUtf8}

@@ -1,5 +1,5 @@
 -- What a line calls.
-use Rattle.std.proofs.Common.{◌≡◌, ◌≢◌, ℕ, List, [], ◌∷◌, ◌++◌, refl, ap, sym, ◌∙◌, arith, eqb, Bool, true, false, cond, not, ◌&&◌, Option, Some, None, option_map, option_and_then, append_assoc, subst}
+use Rattle.std.proofs.Common.{◌≡◌, ◌≢◌, ℕ, List, [], ◌∷◌, ◌++◌, refl, ap, sym, ◌∙◌, eqb, Bool, true, false, cond, not, ◌&&◌, Option, Some, None, option_map, option_and_then, append_assoc, subst}
 use Rattle.std.proofs.lemmas.Bool.{false≢true}
 use Rattle.std.proofs.lemmas.Bool.Decides.{Decides-eqb}
 use Rattle.std.proofs.lemmas.Option.{option_and_then_some}
@@ -8,11 +8,11 @@ use Rattle.std.specs.List.{find}
 use Rattle.std.specs.Str.{bytes_eq}
 use Rattle.wc_relaycmd.specs.declared.word.Word.{Word}
 use Rattle.wc_relaycmd.specs.declared.word.Word.TheVariants as Words
-use Rattle.wc_relaycmd.specs.Cuts.{before, behind, past, Lacks, BeginsWithout}
+use Rattle.wc_relaycmd.specs.Cuts.{before, behind, past, BeginsWithout}
 use Rattle.wc_relaycmd.specs.Words.{blanks, Parts, word_of, rest_of}
 use Rattle.wc_relaycmd.specs.Grammar.{name_of, word_named, all_words, IsId, IsTag, Calls}
 use Rattle.wc_relaycmd.specs.Answers.{Called, tag_of, named_tag, called_by, call_of}
-use Rattle.wc_relaycmd.proofs.WordLemmas.{other_byte, same_byte, byte_differs, before-at, behind-at, Lacks-before, cut_behind, past-blanks, past-bare, BeginsWithout-past, margin, Parts-same, Parts-made}
+use Rattle.wc_relaycmd.proofs.WordLemmas.{other_byte, byte_differs, before-at, behind-at, Lacks-before, cut_behind, past-blanks, past-bare, margin, Parts-same, Parts-made}
 
 -- each command is found by its name
 pub word_named-name_of : (word : Word) → word_named (name_of word) ≡ Some word

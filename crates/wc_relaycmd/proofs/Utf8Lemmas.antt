@@ -1,14 +1,13 @@
 -- What is cut out of a text is text.
-use Rattle.std.proofs.Common.{◌≡◌, ◌≢◌, ℕ, zero, suc, ◌+◌, ◌<◌, List, [], ◌∷◌, ◌++◌, length, take, drop, get_or, refl, ap, sym, ◌∙◌, arith, eqb, Bool, true, false, cond, ◌&&◌, Option, Some, None, option_map, subst, append_assoc, append-nil, length-append, lit<}
-use Rattle.std.proofs.lemmas.Bool.{false≢true}
+use Rattle.std.proofs.Common.{◌≡◌, ◌≢◌, ℕ, zero, suc, ◌+◌, ◌<◌, List, [], ◌∷◌, ◌++◌, length, get_or, refl, ap, sym, arith, eqb, Bool, true, false, cond, ◌&&◌, Option, Some, None, option_map, subst, append_assoc, append-nil, length-append, lit<}
 use Rattle.std.proofs.lemmas.Bool.Decides.{Decides-eqb}
 use Rattle.std.proofs.lemmas.List.{take_at}
 use Rattle.std.proofs.Math.Seq.{drop-append-add}
 use Rattle.std.proofs.lemmas.Str.{IsUtf8-append, IsUtf8-nil, IsUtf8-take, IsUtf8-drop, IsUtf8-from_ascii, IsCharBoundary-before_ascii, IsCharBoundary-after_ascii}
-use Rattle.std.specs.List.{slice_split, onto_first, filter_map, cons_option}
+use Rattle.std.specs.List.{onto_first, filter_map, cons_option}
 use Rattle.std.specs.Str.{IsUtf8}
 use Rattle.wc_text.specs.declared.names.Pair.{Pair}
-use Rattle.wc_relaycmd.specs.Cuts.{before, onward, behind, past}
+use Rattle.wc_relaycmd.specs.Cuts.{before, behind, past}
 use Rattle.wc_relaycmd.specs.Words.{blanks, Parts}
 use Rattle.wc_relaycmd.specs.Lists.{items_of, pieces_of, pair_in, pairs_of}
 use Rattle.wc_relaycmd.specs.Escapes.{unescaped, meant}

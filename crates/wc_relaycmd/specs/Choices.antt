@@ -1,5 +1,5 @@
 -- The algorithm of a login.
-use Rattle.std.specs.Prelude.{ℕ, List, [], ◌∷◌, Bool, true, false, ◌&&◌, Option, Some, None, codes, if◌then◌else◌, ◌==◌, find}
+use Rattle.std.specs.Prelude.{ℕ, List, [], ◌∷◌, Bool, false, ◌&&◌, Option, codes, ◌==◌, find}
 use Rattle.std.specs.List.{slice_split, list_any}
 use Rattle.std.specs.Str.{bytes_eq}
 use Rattle.wc_relaycmd.specs.declared.algorithm.Algorithm.{Algorithm}

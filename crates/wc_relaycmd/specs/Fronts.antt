@@ -1,7 +1,6 @@
 -- The front of a list that commas join.
-use Rattle.std.specs.Prelude.{◌≡◌, ℕ, ◌<◌, List, [], ◌∷◌, length, Option, Some, None}
+use Rattle.std.specs.Prelude.{◌≡◌, ℕ, ◌<◌, List, [], ◌∷◌, length, Some, None}
 use Rattle.std.specs.List.{onto_first}
-use Rattle.std.specs.Borrow.{Bor}
 use Rattle.wc_relaycmd.specs.declared.lists.Front.{Front}
 use Rattle.wc_relaycmd.specs.declared.lists.Front.TheVariants.{Ends, Goes}
 use Rattle.wc_relaycmd.specs.Lists.{items_of}

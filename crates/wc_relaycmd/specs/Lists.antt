@@ -1,5 +1,5 @@
 -- Lists that commas join.
-use Rattle.std.specs.Prelude.{ℕ, ◌&&◌, List, [], ◌∷◌, ◌++◌, reverse, find, if◌then◌else◌, ◌==◌, Option, Some, None, option_map}
+use Rattle.std.specs.Prelude.{ℕ, ◌&&◌, List, [], ◌∷◌, reverse, find, if◌then◌else◌, ◌==◌, Option, Some, None, option_map}
 use Rattle.std.specs.List.{slice_split, onto_first, filter_map}
 use Rattle.std.specs.Str.{bytes_eq}
 use Rattle.wc_text.specs.declared.names.Pair.{Pair}

@@ -1,5 +1,5 @@
 -- Words, and the blanks between them.
-use Rattle.std.specs.Prelude.{◌≡◌, ◌≢◌, ℕ, ◌<◌, List, [], ◌∷◌, ◌++◌, replicate}
+use Rattle.std.specs.Prelude.{◌≡◌, ◌≢◌, ℕ, ◌<◌, List, [], ◌++◌, replicate}
 use Rattle.wc_relaycmd.specs.Cuts.{before, onward, past, Lacks, BeginsWithout}
 
 -- so many spaces

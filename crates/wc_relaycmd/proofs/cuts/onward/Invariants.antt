@@ -1,4 +1,4 @@
-use Rattle.std.proofs.Common.{◌≡◌, ◌≤◌, length}
+use Rattle.std.proofs.Common.{◌≡◌, length}
 use Rattle.wc_relaycmd.specs.Cuts.{onward}
 use Rattle.wc_relaycmd.proofs.cuts.onward.Given as goal
 

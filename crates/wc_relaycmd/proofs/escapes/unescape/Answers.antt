@@ -1,4 +1,3 @@
-use Rattle.std.proofs.Common.{arith, rules, sym, ◌∙◌, ap}
 use Rattle.wc_relaycmd.proofs.EscapeLemmas.{unescaped_more, shrinks}
 use Rattle.wc_relaycmd.proofs.escapes.unescape.Goals as goal
 

@@ -1,4 +1,3 @@
-use Rattle.std.proofs.Common.{sym, ◌∙◌, ap, rules}
 use Rattle.wc_relaycmd.proofs.ListLemmas.{pairs_end, pairs_more}
 use Rattle.wc_relaycmd.proofs.lists.pairs.Goals as goal
 

@@ -1,6 +1,5 @@
 use Rattle.std.proofs.Common.{◌≡◌, ◌++◌, length}
-use Rattle.std.specs.List.{filter_map}
-use Rattle.wc_relaycmd.specs.Lists.{items_of, pair_in, pairs_of}
+use Rattle.wc_relaycmd.specs.Lists.{pairs_of}
 use Rattle.wc_relaycmd.proofs.lists.pairs.Given as goal
 
 abbrev pub invariant-loop-pairs : goal.invariant-loop-pairs

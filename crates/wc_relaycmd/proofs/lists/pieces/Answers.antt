@@ -1,4 +1,4 @@
-use Rattle.std.proofs.Common.{sym, ◌∙◌, ap, rules}
+use Rattle.std.proofs.Common.{◌∙◌}
 use Rattle.wc_relaycmd.proofs.ListLemmas.{pieces_end, pieces_more}
 use Rattle.wc_relaycmd.proofs.lists.pieces.Goals as goal
 

@@ -1,5 +1,5 @@
-use Rattle.std.proofs.Common.{arith, sym, ◌∙◌, ap, rules}
-use Rattle.wc_relaycmd.proofs.ListLemmas.{items_behind-nil, items_of-filled, item_more, item_end}
+use Rattle.std.proofs.Common.{arith}
+use Rattle.wc_relaycmd.proofs.ListLemmas.{items_behind-nil, items_of-filled, item_more}
 use Rattle.wc_relaycmd.proofs.lists.take_item.Goals as goal
 
 pub loop-behind-init : goal.loop-behind-init

@@ -1,4 +1,3 @@
-use Rattle.std.proofs.Common.{rules, sym, ◌∙◌, ap}
 use Rattle.wc_relaycmd.proofs.LoginLemmas.{hash_of-one, hash_of-two, hash_of-four, hash_read}
 use Rattle.wc_relaycmd.proofs.login.read_hash.Goals as goal
 

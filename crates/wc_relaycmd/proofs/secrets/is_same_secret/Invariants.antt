@@ -1,4 +1,4 @@
-use Rattle.std.proofs.Common.{◌≡◌, length}
+use Rattle.std.proofs.Common.{◌≡◌}
 use Rattle.wc_relaycmd.proofs.SecretLemmas.{difference}
 use Rattle.wc_relaycmd.proofs.secrets.is_same_secret.Given as goal
 
