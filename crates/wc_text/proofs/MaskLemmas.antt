@@ -1,7 +1,7 @@
 -- A mask is matched part by part.
-use Rattle.std.proofs.Common.{◌≡◌, ℕ, zero, suc, ◌+◌, ◌-◌, ◌<◌, ◌≤◌, Bool, true, false, cond, not, ◌&&◌, ◌||◌, List, [], ◌∷◌, ◌++◌, length, take, drop, Option, Some, None, is_some, ◌⊎◌, inl, inr, refl, sym, ap, subst, ◌∙◌, arith}
+use Rattle.std.proofs.Common.{◌≡◌, ℕ, zero, suc, ◌+◌, ◌<◌, Bool, true, false, cond, not, ◌&&◌, ◌||◌, List, [], ◌∷◌, ◌++◌, length, take, drop, Option, Some, None, is_some, ◌⊎◌, inl, inr, refl, sym, ap, subst, ◌∙◌, arith}
 use Rattle.std.specs.Prelude.{◌==◌}
-use Rattle.std.specs.List.{list_all, position_or_len}
+use Rattle.std.specs.List.{position_or_len}
 use Rattle.std.proofs.lemmas.List.{take_all, take-append-drop, length-append, length-drop, append-nil}
 use Rattle.std.proofs.lemmas.Bool.{and_parts}
 use Rattle.std.proofs.lemmas.Bool.Decides.{nat_tests}
@@ -209,9 +209,6 @@ pub no_end : (fold : Bool) (mask text : List ℕ) → is_plain mask ≡ true →
 no_end = ends_short
 
 -- ---- masks with a star
-star_matches : (fold : Bool) (mask text : List ℕ) → matches_of fold (42 ∷ mask) text ≡ ends_with fold mask text
-star_matches fold mask text = refl
-
 some_end_same : (f g : List ℕ → Bool) → ((text : List ℕ) → f text ≡ g text) → (text : List ℕ) → some_end f text ≡ some_end g text
 some_end_same f g same [] = same []
 some_end_same f g same (b ∷ text) = λ k. same (b ∷ text) k || some_end_same f g same text k

@@ -1,6 +1,5 @@
 -- Where UTF-8 may be parted: at an ASCII byte, before it and behind it.
-use Rattle.std.proofs.Common.{◌≡◌, ℕ, suc, ◌+◌, ◌<◌, ◌≤◌, List, [], ◌∷◌, ◌++◌, length, get_or, take, drop, IsUtf8, refl, sym, ap, subst, ◌∙◌, arith}
-use Rattle.std.specs.Str.{IsCharBoundary}
+use Rattle.std.proofs.Common.{◌≡◌, ℕ, suc, ◌+◌, ◌<◌, List, [], ◌∷◌, ◌++◌, length, get_or, take, drop, IsUtf8, refl, sym, ap, subst, ◌∙◌, arith}
 use Rattle.std.proofs.lemmas.Str.{IsUtf8-append, IsUtf8-take, IsUtf8-drop, IsUtf8-from_ascii, IsCharBoundary-before_ascii, IsCharBoundary-after_ascii}
 use Rattle.std.proofs.lemmas.Str.Ascii.{IsAscii-cons, IsAscii-nil}
 use Rattle.std.proofs.lemmas.List.{length-append}
@@ -52,6 +51,7 @@ utf8_parts front b rest a u =
     let bytes = front ++ b ∷ rest in
     let inside : n < length bytes = omega (arith, length-append front (b ∷ rest)) in
     let low : get_or bytes n 0 < 128 = let P : ℕ → Type 0 = λ x. x < 128 in subst P (sym (byte_at front b rest)) a in
-    let next : n + 1 ≡ suc n = omega arith in
-    (subst IsUtf8 (front_of front (b ∷ rest)) (utf8_before_ascii bytes n u inside low),
-      subst IsUtf8 (ap (λ k. drop k bytes) next ∙ rest_of front b rest) (utf8_behind_ascii bytes n u inside low))
+    let next : n + 1 ≡ suc n = omega arith in (
+      subst IsUtf8 (front_of front (b ∷ rest)) (utf8_before_ascii bytes n u inside low),
+      subst IsUtf8 (ap (λ k. drop k bytes) next ∙ rest_of front b rest) (utf8_behind_ascii bytes n u inside low),
+    )
