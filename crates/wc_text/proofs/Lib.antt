@@ -1,3 +1,4 @@
+pub mod CutLemmas
 pub mod IntegerLemmas
 pub mod LossyLemmas
 pub mod MaskLemmas

@@ -52,6 +52,7 @@ utf8_parts front b rest a u =
     let bytes = front ++ b ∷ rest in
     let inside : n < length bytes = omega (arith, length-append front (b ∷ rest)) in
     let low : get_or bytes n 0 < 128 = let P : ℕ → Type 0 = λ x. x < 128 in subst P (sym (byte_at front b rest)) a in
-    let next : n + 1 ≡ suc n = omega arith in
-    (subst IsUtf8 (front_of front (b ∷ rest)) (utf8_before_ascii bytes n u inside low),
-      subst IsUtf8 (ap (λ k. drop k bytes) next ∙ rest_of front b rest) (utf8_behind_ascii bytes n u inside low))
+    let next : n + 1 ≡ suc n = omega arith in (
+      subst IsUtf8 (front_of front (b ∷ rest)) (utf8_before_ascii bytes n u inside low),
+      subst IsUtf8 (ap (λ k. drop k bytes) next ∙ rest_of front b rest) (utf8_behind_ascii bytes n u inside low),
+    )

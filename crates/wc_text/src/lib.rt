@@ -1,6 +1,7 @@
 //! Texts, lists and small names that every other crate speaks of.
 #![tactic(auto)]
 
+mod cuts;
 mod items;
 mod masks;
 mod names;
@@ -12,6 +13,7 @@ mod text;
 mod utf8;
 mod word_iter;
 
+pub use cuts::cut;
 pub use items::{Duplicate, Items};
 pub use masks::mask_matches;
 pub use names::{Address, Arrival, Cause, Handle, LinkId, Pair};

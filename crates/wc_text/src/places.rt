@@ -6,8 +6,5 @@ pub(crate) fn place_of(byte: u8, bytes: &[u8]) -> usize
     ensures place { result ≡ position_or_len (λ b. b == byte) bytes.now }
     ensures within { result ≤ length bytes.now }
 {
-    bytes
-        .iter()
-        .position(|b| *b == byte)
-        .unwrap_or(bytes.len())
+    bytes.iter().position(|b| *b == byte).unwrap_or(bytes.len())
 }
