@@ -1,0 +1,4 @@
+pub mod Held
+pub mod Inside
+pub mod LineText
+pub mod Ring
