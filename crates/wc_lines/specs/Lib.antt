@@ -1,4 +1,5 @@
 pub mod Held
 pub mod Inside
 pub mod LineText
+pub mod LinesLeft
 pub mod Ring

@@ -1,6 +1,6 @@
 -- What the calls do to the lines.
 use Rattle.std.specs.Prelude.{ℕ, ◌-◌, Bool, ◌==◌, List, [], ◌∷◌, ◌++◌, length, drop, Option, None, if◌then◌else◌}
-use Rattle.std.specs.List.{list_any, slice_get}
+use Rattle.std.specs.List.{list_any, position, slice_get}
 use Rattle.wc_text.specs.declared.names.Handle.{Handle}
 use Rattle.wc_lines.specs.declared.line.Line.{Line}
 use Rattle.wc_lines.specs.Held.{Held}
@@ -19,6 +19,10 @@ pushed_out held = if length held.lines == held.limit then slice_get held.lines 0
 
 abbrev pub without_lines : Held → Held
 without_lines held = record held { lines = [] }
+
+-- the place of the first line with this content handle
+abbrev pub place_of : Handle → List Line → Option ℕ
+place_of content lines = position (λ line. line.content.0 == content.0) lines
 
 -- whether a line has this content handle
 abbrev pub has_content : Handle → List Line → Bool

@@ -5,4 +5,4 @@ mod line;
 mod lines;
 
 pub use line::Line;
-pub use lines::Lines;
+pub use lines::{LineIter, Lines};

@@ -1,7 +1,8 @@
-ghost use Rattle.std.specs.Prelude.{◌≡◌, ◌≤◌, ◌++◌, ◌∷◌, [], length, IfOk, IfSome, All, IsTrue};
+ghost use Rattle.std.specs.Prelude.{◌≡◌, ◌≤◌, ◌++◌, ◌∷◌, [], length, IfOk, IfSome, All, IsTrue, ◌↔◌};
 ghost use Rattle.std.specs.Iterator.{YieldsFirstRef, item_count};
 ghost use Rattle.wc_lines.specs.Held.{no_lines};
-ghost use Rattle.wc_lines.specs.Ring.{with_line, pushed_out, without_lines, with_displayed, has_content};
+ghost use Rattle.wc_lines.specs.Ring.{with_line, pushed_out, without_lines, with_displayed, has_content, place_of};
+ghost use Rattle.wc_lines.specs.LinesLeft.{lines_left};
 ghost use Rattle.wc_lines.specs.LineText.{HasText};
 
 use crate::line::Line;
@@ -50,11 +51,11 @@ impl Lines {
         ensures oldest { result ≡ pushed_out self.old }
         ensures text { IfSome result HasText }
     {
-        let oldest = if self.queue.len() == self.limit as usize {
-            self.queue.pop_front()
-        } else {
-            None
-        };
+        if self.queue.len() < self.limit as usize {
+            self.queue.push_back_reserved(line);
+            return None;
+        }
+        let oldest = self.queue.pop_front();
         self.queue.push_back_reserved(line);
         oldest
     }
@@ -81,5 +82,53 @@ impl Lines {
         ensures { IsTrue result ↔ (self.now.lines ≡ []) }
     {
         self.queue.is_empty()
+    }
+
+    /// The lines, from the oldest.
+    pub fn iter(&self) -> LineIter<'_>
+        ensures lines { lines_left result ≡ self.now.lines }
+        ensures text { All HasText self.now.lines }
+    {
+        LineIter {
+            lines: self.queue.iter(),
+        }
+    }
+
+    /// Sets whether the line with this content handle is displayed, the oldest such line where there are several.
+    /// False where there is none; then nothing changes.
+    pub fn set_displayed(&mut self, content: Handle, on: bool) -> bool
+        ensures lines { self.new ≡ with_displayed content on self.old }
+        ensures found { result ≡ has_content content self.old.lines }
+    {
+        let Some(place) = place_of(&self.queue, content) else {
+            return false;
+        };
+        self.queue[place].displayed = on;
+        true
+    }
+}
+
+/// The place of the oldest line with this content handle.
+fn place_of(lines: &VecDeque<Line>, content: Handle) -> Option<usize>
+    ensures { result ≡ place_of content lines.now.items }
+{
+    lines.iter().position(|line| line.content == content)
+}
+
+/// The lines that are still to come, from the oldest.
+#[derive(Drop)]
+pub struct LineIter<'a> {
+    lines: vec_deque::Iter<'a, Line>,
+}
+
+impl<'a> Iterator for LineIter<'a> {
+    type Item = &'a Line;
+
+    ghost next_gives = { YieldsFirstRef lines_left };
+
+    ghost remaining = { item_count lines_left };
+
+    fn next(&mut self) -> Option<&'a Line> {
+        self.lines.next()
     }
 }

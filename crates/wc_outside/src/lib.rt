@@ -1,0 +1,16 @@
+//! What the program meets outside itself: sockets, the keeper of a file, and a sink of printed text.
+#![tactic(auto)]
+
+mod asked;
+mod failed;
+mod happening;
+mod keeper;
+mod sink;
+mod sockets;
+
+pub use asked::Asked;
+pub use failed::Failed;
+pub use happening::Happening;
+pub use keeper::{KeepFault, Keeper};
+pub use sink::Sink;
+pub use sockets::{Got, Put, READY_LIMIT, Ready, Sockets, Token};
