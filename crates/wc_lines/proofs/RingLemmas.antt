@@ -49,9 +49,10 @@ is_at_by content on line lines true e h =
     subst P (sym (here content line lines e)) (λ inside. (rw e refl, λ d. rw e refl), λ outside. absurd (omega arith))
 is_at_by content on line lines false e h =
     let P : ℕ → Type 0 = IsAt content on (line ∷ lines) in
-    subst P (sym (later content line lines e))
-    (λ inside. let g = h.0 (omega arith) in (rw e g.0, λ d. rw e (ap (λ ls. line ∷ ls) (g.1 d))),
-      λ outside. let g = h.1 (omega arith) in (rw e g.0, rw e (ap (λ ls. line ∷ ls) g.1)))
+    subst P (sym (later content line lines e)) (
+      λ inside. let g = h.0 (omega arith) in (rw e g.0, λ d. rw e (ap (λ ls. line ∷ ls) (g.1 d))),
+      λ outside. let g = h.1 (omega arith) in (rw e g.0, rw e (ap (λ ls. line ∷ ls) g.1)),
+    )
 
 is_at : (content : Handle) (on : Bool) (lines : List Line) → IsAt content on lines (place content lines)
 is_at content on [] = (λ inside. absurd (omega arith), λ outside. (refl, refl))

@@ -1,4 +1,5 @@
 pub mod Held
+pub mod History
 pub mod Inside
 pub mod LineText
 pub mod LinesLeft

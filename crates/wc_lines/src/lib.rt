@@ -6,3 +6,6 @@ mod lines;
 
 pub use line::Line;
 pub use lines::{LineIter, Lines};
+
+#[cfg(test)]
+mod tests;

@@ -7,8 +7,7 @@ ghost use Rattle.wc_lines.specs.LineText.{HasText};
 
 use crate::line::Line;
 use std::alloc::Global;
-use std::collections::VecDeque;
-use std::collections::vec_deque;
+use std::collections::{VecDeque, vec_deque};
 use std::marker::Model;
 use wc_text::{Handle, NoMemory};
 

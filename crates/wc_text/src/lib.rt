@@ -23,3 +23,6 @@ pub use order::fold_cmp;
 pub use text::Text;
 pub use utf8::lossy;
 pub use word_iter::{WordIter, words};
+
+#[cfg(test)]
+mod tests;

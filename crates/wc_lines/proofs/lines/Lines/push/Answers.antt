@@ -28,7 +28,7 @@ invariant_of-self-2 c =
       within = omega (arith, now.len, popped_len c.pop_front-oldest.result _ _ popped.cases (omega (arith, was.some)));
       room = omega (arith, now.capacity, popped.capacity, was.room);
       text = subst (All HasText) (sym (now.items ∙ ap (λ lines. lines ++ c.args.line ∷ []) popped.rest))
-        (all_with_line (drop 1 c.self.inside.queue.items) c.args.line (All-drop HasText 1 c.self.inside.queue.items was.text) c.requires);
+          (all_with_line (drop 1 c.self.inside.queue.items) c.args.line (All-drop HasText 1 c.self.inside.queue.items was.text) c.requires);
     }
 
 pub returns-clause-text : goal.returns-clause-text
