@@ -4,4 +4,5 @@ pub mod LossyLemmas
 pub mod MaskLemmas
 pub mod OrderLemmas
 pub mod Utf8Lemmas
+pub mod WordsLaws
 pub mod WordsLemmas

@@ -209,9 +209,6 @@ pub no_end : (fold : Bool) (mask text : List ℕ) → is_plain mask ≡ true →
 no_end = ends_short
 
 -- ---- masks with a star
-star_matches : (fold : Bool) (mask text : List ℕ) → matches_of fold (42 ∷ mask) text ≡ ends_with fold mask text
-star_matches fold mask text = refl
-
 some_end_same : (f g : List ℕ → Bool) → ((text : List ℕ) → f text ≡ g text) → (text : List ℕ) → some_end f text ≡ some_end g text
 some_end_same f g same [] = same []
 some_end_same f g same (b ∷ text) = λ k. same (b ∷ text) k || some_end_same f g same text k

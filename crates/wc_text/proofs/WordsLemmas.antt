@@ -10,7 +10,7 @@ behind_first [] = []
 behind_first (part ∷ parts) = parts
 
 -- where the first word ends
-abbrev end_of : List ℕ → ℕ
+abbrev pub end_of : List ℕ → ℕ
 end_of bytes = position_or_len is_space bytes
 
 end_at_space : (b : ℕ) (bytes : List ℕ) → is_space b ≡ true → end_of (b ∷ bytes) ≡ 0
@@ -57,7 +57,7 @@ other_parts : (bytes : List ℕ) → filter is_filled (slice_split is_space (dro
 other_parts [] = refl
 other_parts (b ∷ bytes) = others_by b bytes (is_space b) refl (other_parts bytes)
 
-filter_first : (word : List ℕ) (parts : List (List ℕ)) → is_filled word ≡ true → filter is_filled (word ∷ parts) ≡ word ∷ filter is_filled parts
+pub filter_first : (word : List ℕ) (parts : List (List ℕ)) → is_filled word ≡ true → filter is_filled (word ∷ parts) ≡ word ∷ filter is_filled parts
 filter_first word parts e = rw e refl
 
 -- a word at the front is the first one
@@ -78,7 +78,7 @@ pub words_behind_spaces : (bytes : List ℕ) → words_of (behind_spaces bytes) 
 words_behind_spaces [] = refl
 words_behind_spaces (b ∷ bytes) = skip_by b bytes (is_space b) refl (words_behind_spaces bytes)
 
-abbrev StartsWord : List ℕ → Type 0
+abbrev pub StartsWord : List ℕ → Type 0
 StartsWord rest = 0 < length rest → is_filled (take (end_of rest) rest) ≡ true
 
 starts_by : (b : ℕ) (bytes : List ℕ) (test : Bool) → is_space b ≡ test → StartsWord (behind_spaces bytes) → StartsWord (behind_spaces (b ∷ bytes))
@@ -87,7 +87,7 @@ starts_by b bytes false e h =
     let P : List ℕ → Type 0 = StartsWord in
     subst P (sym (keeps b bytes e)) (λ _. ap (λ n. is_filled (take n (b ∷ bytes))) (end_later b bytes e))
 
-starts_word : (bytes : List ℕ) → StartsWord (behind_spaces bytes)
+pub starts_word : (bytes : List ℕ) → StartsWord (behind_spaces bytes)
 starts_word [] = λ h. absurd (omega arith)
 starts_word (b ∷ bytes) = starts_by b bytes (is_space b) refl (starts_word bytes)
 
