@@ -1,6 +1,6 @@
 -- Where a text is cut: within the limit, between characters, and no earlier than needed.
-use Rattle.std.proofs.Common.{◌≡◌, ℕ, zero, suc, ◌+◌, ◌-◌, ◌<◌, ◌≤◌, min, Bool, true, false, cond, List, [], ◌∷◌, length, get_or, take, drop, IsUtf8, inl, inr, refl, sym, ap, subst, ◌∙◌, arith}
-use Rattle.std.specs.Str.{is_utf8, IsCharBoundary}
+use Rattle.std.proofs.Common.{◌≡◌, ℕ, zero, suc, ◌-◌, ◌<◌, ◌≤◌, min, Bool, true, false, List, length, get_or, take, IsUtf8, inl, inr, refl, sym, ap, subst, ◌∙◌, arith}
+use Rattle.std.specs.Str.{is_utf8}
 use Rattle.std.specs.Str.Lossy.{valid_len_up_to}
 use Rattle.std.proofs.lemmas.Str.{IsUtf8-nil, IsUtf8-take, IsUtf8-from_is_utf8, is_utf8-from_IsUtf8, IsCharBoundary-from_take}
 use Rattle.std.proofs.lemmas.List.{take_all}

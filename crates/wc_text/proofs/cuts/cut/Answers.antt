@@ -1,6 +1,4 @@
-use Rattle.std.proofs.Common.{◌≡◌, ◌-◌, ◌<◌, ◌≤◌, length, get_or, refl, sym, ap, ◌∙◌, arith}
-use Rattle.std.specs.Str.Lossy.{valid_len_up_to}
-use Rattle.wc_text.specs.Cut.{cut_of}
+use Rattle.std.proofs.Common.{refl, sym, ◌∙◌, arith}
 use Rattle.wc_text.proofs.CutLemmas.{cut_whole, begin_cut, next_cut, end_cut}
 use Rattle.wc_text.proofs.cuts.cut.Goals as goal
 

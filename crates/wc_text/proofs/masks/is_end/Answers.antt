@@ -1,4 +1,4 @@
-use Rattle.std.proofs.Common.{◌≡◌, ◌+◌, ◌-◌, length, drop, Option, Some, None, is_some, Bor, List, ℕ, refl, sym, ap, ◌∙◌, arith}
+use Rattle.std.proofs.Common.{◌≡◌, ◌-◌, length, Option, Some, None, is_some, Bor, List, ℕ, refl, sym, ap, ◌∙◌, arith}
 use Rattle.std.specs.Option.{option_copied}
 use Rattle.wc_text.specs.Mask.{behind_front}
 use Rattle.wc_text.proofs.MaskLemmas.{no_end, ends_long}

@@ -1,4 +1,4 @@
-use Rattle.std.proofs.Common.{◌≡◌, Some, None, sym, ◌∙◌}
+use Rattle.std.proofs.Common.{Some, None, sym, ◌∙◌}
 use Rattle.wc_text.proofs.MaskLemmas.{front_and_star}
 use Rattle.wc_text.proofs.masks.mask_matches.Goals as goal
 

@@ -1,4 +1,4 @@
-use Rattle.std.proofs.Common.{◌≡◌, Some, None, sym, ◌∙◌}
+use Rattle.std.proofs.Common.{Some, None, sym, ◌∙◌}
 use Rattle.wc_text.proofs.MaskLemmas.{part_and_star}
 use Rattle.wc_text.proofs.masks.matches_some_end.Goals as goal
 

@@ -1,5 +1,4 @@
 use Rattle.std.proofs.Common.{◌≡◌, ◌<◌, ◌++◌, ◌∷◌, true, length, sym, ap, ◌∙◌, arith}
-use Rattle.std.specs.Prelude.{IsTrue}
 use Rattle.wc_text.specs.Mask.{is_plain}
 use Rattle.wc_text.proofs.MaskLemmas.{no_star, star_at}
 use Rattle.wc_text.proofs.masks.split_at_star.Goals as goal

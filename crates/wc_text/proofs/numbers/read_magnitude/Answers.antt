@@ -1,12 +1,11 @@
-use Rattle.std.proofs.Common.{◌≡◌, ℕ, ◌+◌, ◌-◌, ◌*◌, ◌^◌, ◌<◌, ◌≤◌, true, false, List, length, get_or, take, Some, None, sym, ap, ◌∙◌, arith}
+use Rattle.std.proofs.Common.{◌≡◌, ◌+◌, ◌<◌, true, length, get_or, Some, sym, ap, ◌∙◌, arith}
 use Rattle.std.specs.List.{list_all}
 use Rattle.std.specs.Char.{is_ascii_digit, digit_value}
 use Rattle.std.specs.Str.Parse.{digits_value}
 use Rattle.std.proofs.lemmas.List.{take_all}
 use Rattle.std.proofs.lemmas.Bool.Decides.{nat_tests}
 use Rattle.std.proofs.lemmas.Int.Digits.{digits_value_more}
-use Rattle.wc_text.specs.Integer.{magnitude_of}
-use Rattle.wc_text.proofs.IntegerLemmas.{list_all_more, no_magnitude, too_large, magnitude}
+use Rattle.wc_text.proofs.IntegerLemmas.{list_all_more, too_large, magnitude}
 use Rattle.wc_text.proofs.numbers.read_magnitude.Goals as goal
 
 pub returns-in_err-checked_mul : goal.returns-in_err-checked_mul

@@ -1,4 +1,4 @@
-use Rattle.std.proofs.Common.{◌≡◌, drop, ap, ◌∙◌}
+use Rattle.std.proofs.Common.{drop, ap, ◌∙◌}
 use Rattle.std.specs.Str.{valid_up_to}
 use Rattle.wc_text.specs.Lossy.{char_len}
 use Rattle.wc_text.proofs.LossyLemmas.{no_char_behind}
