@@ -2,8 +2,8 @@
 use Rattle.std.proofs.Common.{◌≡◌, ℕ, zero, suc, ◌+◌, ◌-◌, ◌≤◌, List, [], ◌∷◌, ◌++◌, length, drop, refl, sym, ap, ◌∙◌, arith}
 use Rattle.std.proofs.lemmas.List.{length-append, length-drop, drop-append-le, drop-drop}
 use Rattle.wc_lines.specs.declared.line.Line.{Line}
-use Rattle.wc_lines.specs.Held.{Held, no_lines}
-use Rattle.wc_lines.specs.Ring.{last_of, with_line, without_lines}
+use Rattle.wc_lines.specs.Held.{no_lines}
+use Rattle.wc_lines.specs.Ring.{last_of}
 use Rattle.wc_lines.specs.History.{Act, pushes, clears, held_after, pushed_since}
 
 -- a line behind the last n, and of these the last n

@@ -1,5 +1,5 @@
-use Rattle.std.proofs.Common.{◌≡◌, ◌≤◌, ◌∷◌, ◌++◌, [], drop, length, get_or, sym, subst, ◌∙◌, ap, arith}
-use Rattle.std.specs.Prelude.{All, IfSome}
+use Rattle.std.proofs.Common.{◌∷◌, ◌++◌, [], drop, sym, subst, ◌∙◌, ap, arith}
+use Rattle.std.specs.Prelude.{All}
 use Rattle.std.proofs.lemmas.List.Elements.{All-drop}
 use Rattle.wc_lines.specs.LineText.{HasText}
 use Rattle.wc_lines.proofs.RingLemmas.{all_with_line, popped_len, oldest_text}

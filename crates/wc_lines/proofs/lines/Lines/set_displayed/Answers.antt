@@ -1,6 +1,4 @@
-use Rattle.std.proofs.Common.{◌≡◌, ◌≤◌, ℕ, List, Some, None, get_or, set, true, false, sym, subst, ◌∙◌, ap, arith}
-use Rattle.std.specs.Prelude.{All}
-use Rattle.wc_lines.specs.LineText.{HasText}
+use Rattle.std.proofs.Common.{◌≡◌, ℕ, List, set, sym, subst, ◌∙◌, ap}
 use Rattle.wc_lines.specs.declared.line.Line.{Line}
 use Rattle.wc_lines.specs.Held.{Held}
 use Rattle.wc_lines.specs.Ring.{has_content, with_displayed}
