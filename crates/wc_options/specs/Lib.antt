@@ -1,0 +1,4 @@
+pub mod Address
+pub mod File
+pub mod Number
+pub mod Values

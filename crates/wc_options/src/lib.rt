@@ -1,0 +1,11 @@
+//! The options of the program, the rules that their values keep, and the file that they are kept in.
+#![tactic(auto)]
+
+mod address;
+mod file;
+mod kind;
+mod number;
+
+pub use address::read_address;
+pub use file::{first_line, part_line};
+pub use kind::{Kind, LONGEST_VALUE};
