@@ -1,3 +1,4 @@
 pub mod FileLemmas
 pub mod NumberLemmas
 pub mod PartLemmas
+pub mod TableLemmas

@@ -1,4 +1,9 @@
 pub mod Address
 pub mod File
+pub mod Kept
+pub mod Names
 pub mod Number
+pub mod Options
+pub mod Place
+pub mod Table
 pub mod Values

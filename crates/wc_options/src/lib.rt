@@ -5,7 +5,12 @@ mod address;
 mod file;
 mod kind;
 mod number;
+mod place;
+mod refusal;
+mod server;
+mod table;
 
 pub use address::read_address;
 pub use file::{first_line, part_line};
 pub use kind::{Kind, LONGEST_VALUE};
+pub use refusal::{ConfigRefused, SetRefused};
