@@ -1,4 +1,6 @@
 pub mod FileLemmas
+pub mod KeptLemmas
 pub mod NumberLemmas
 pub mod PartLemmas
+pub mod ServersLemmas
 pub mod TableLemmas

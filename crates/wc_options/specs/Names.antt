@@ -1,5 +1,5 @@
 -- Which option a name names.
-use Rattle.std.specs.Prelude.{ℕ, Bool, ◌==◌, ◌&&◌, ◌||◌, ◌<◌, nat_le, bytes_eq, length, take, drop, List, [], ◌∷◌, Option, Some, None, option_map, codes, if◌then◌else◌}
+use Rattle.std.specs.Prelude.{ℕ, Bool, ◌==◌, ◌&&◌, ◌||◌, ◌<◌, ◌≡◌, ⊤, true, nat_le, bytes_eq, length, take, drop, List, [], ◌∷◌, Option, Some, None, option_map, codes, if◌then◌else◌}
 use Rattle.std.specs.List.{list_all}
 use Rattle.wc_options.specs.Address.{before_dot, behind_dot}
 use Rattle.wc_options.specs.Table.{OptionRow, globals, of_server, place_in, row_at}
@@ -40,3 +40,8 @@ row_of_located (AtServer server place) = row_at of_server place
 abbrev pub IsInTable : Located → Type 0
 IsInTable (AtGlobal place) = place < 12
 IsInTable (AtServer server place) = place < 8
+
+-- the server that it names may have that name
+abbrev pub IsNamed : Located → Type 0
+IsNamed (AtGlobal place) = ⊤
+IsNamed (AtServer server place) = is_server_name server ≡ true

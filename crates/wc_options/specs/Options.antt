@@ -30,6 +30,9 @@ own_at_first row = if is_some (stands_for row) then None else Some row.default
 abbrev pub fresh_server : List ℕ → ServerOptions
 fresh_server name = record { name = name; own = map own_at_first of_server }
 
+abbrev pub no_server : ServerOptions
+no_server = record { name = []; own = [] }
+
 unfoldable pub fresh : OptionsValue
 fresh = record { set = map (λ (row : OptionRow). None) globals; servers = [] }
 

@@ -1,6 +1,6 @@
 ghost use Rattle.std.specs.Prelude.{◌≡◌, ◌<◌, ◌==◌, option_map, IfSome};
 ghost use Rattle.std.specs.List.{list_all};
-ghost use Rattle.wc_options.specs.Names.{is_server_byte, is_server_name, located, located_of_server, row_of_located, IsInTable};
+ghost use Rattle.wc_options.specs.Names.{is_server_byte, is_server_name, located, located_of_server, row_of_located, IsInTable, IsNamed};
 ghost use Rattle.wc_options.specs.Place.{located_of};
 ghost use Rattle.wc_options.specs.Table.{row_of};
 
@@ -24,6 +24,7 @@ pub(crate) const SERVER_PREFIX: &[u8] = b"irc.server.";
 pub(crate) fn locate(name: &[u8]) -> Option<Place<'_>>
     ensures place { option_map located_of result ≡ located name.now }
     ensures within { IfSome result (λ place. IsInTable (located_of place)) }
+    ensures named { IfSome result (λ place. IsNamed (located_of place)) }
 {
     match name.strip_prefix(SERVER_PREFIX) {
         Some(rest) => locate_of_server(rest),
@@ -39,6 +40,7 @@ pub(crate) fn locate(name: &[u8]) -> Option<Place<'_>>
 fn locate_of_server(rest: &[u8]) -> Option<Place<'_>>
     ensures place { option_map located_of result ≡ located_of_server rest.now }
     ensures within { IfSome result (λ place. IsInTable (located_of place)) }
+    ensures named { IfSome result (λ place. IsNamed (located_of place)) }
 {
     let (server, option) = part_at(rest, b'.');
     if !is_server_name(server) {

@@ -28,6 +28,9 @@ const PORT: Kind = Kind::Number {
     highest: 65535,
 };
 
+/// How many options the program has.
+pub(crate) const GLOBAL_COUNT: usize = 12;
+
 /// The options of the program, in the order in which the file has them.
 pub(crate) const GLOBALS: [Row; 12] = [
     Row {
