@@ -95,3 +95,13 @@ put_own_none name option value (server ∷ servers) h = put_own_none-by name opt
 pub reset_own_none : (name : List ℕ) (option : ℕ) (servers : List ServerOptions) → find (is_named name) servers ≡ None → reset_own name option servers ≡ servers
 reset_own_none name option [] h = refl
 reset_own_none name option (server ∷ servers) h = reset_own_none-by name option server servers (is_named name server) refl h (reset_own_none name option servers)
+
+without_none-by : (name : List ℕ) (server : ServerOptions) (servers : List ServerOptions) (b : Bool) → is_named name server ≡ b → find (is_named name) (server ∷ servers) ≡ None
+    → (find (is_named name) servers ≡ None → without name servers ≡ servers)
+    → without name (server ∷ servers) ≡ server ∷ servers
+without_none-by name server servers true e h more = absurd (find_none-hit name server servers e h)
+without_none-by name server servers false e h more = rw e (ap (λ others. server ∷ others) (more (find_none-miss name server servers e h)))
+
+pub without_none : (name : List ℕ) (servers : List ServerOptions) → find (is_named name) servers ≡ None → without name servers ≡ servers
+without_none name [] h = refl
+without_none name (server ∷ servers) h = without_none-by name server servers (is_named name server) refl h (without_none name servers)

@@ -59,6 +59,7 @@ fn server_place(servers: &[Server], name: &[u8]) -> Option<usize>
 
 impl Options {
     /// The options with each at its default, and no server.
+    #[tactic(auto, using(crate::proofs::ReadLemmas::first_options))]
     pub fn new(alloc: Global) -> Result<Options, NoMemory>
         ensures { IfOk result (λ options. options ≡ fresh) }
     {
@@ -94,6 +95,13 @@ impl Options {
         }
     }
 
+    /// The place of the server with a name.
+    fn place_of(&self, name: &[u8]) -> Option<usize>
+        ensures { result ≡ position (is_named name.now) self.now.servers }
+    {
+        server_place(&self.servers, name)
+    }
+
     fn value_at(&self, place: Place<'_>) -> Option<&Text>
         requires { IsInTable (located_of place) }
         ensures { option_copied result ≡ value_at self.now (located_of place.entry) }
@@ -108,7 +116,7 @@ impl Options {
         requires { place < 8 }
         ensures { option_copied result ≡ value_at self.now (AtServer name.now place) }
     {
-        match server_place(&self.servers, name) {
+        match self.place_of(name) {
             Some(found) => Some(self.server_value(&self.servers[found], place)),
             None => None,
         }
@@ -128,12 +136,12 @@ impl Options {
         requires { place < 8 }
         ensures { result.now ≡ server_value self.now server.now place }
     {
-        if let Some(value) = server.own(place) {
-            return value;
-        }
-        match stands_for(place) {
-            Some(default) => self.global_value(default),
-            None => &self.no_address,
+        match server.own(place) {
+            Some(value) => value,
+            None => match stands_for(place) {
+                Some(default) => self.global_value(default),
+                None => &self.no_address,
+            },
         }
     }
 
@@ -242,16 +250,20 @@ impl Options {
         ensures refused { IfErr result (λ refused. refused ≢ SetRefused.NoMemory → refusal_at self.old value (AtServer name.now place) ≡ Some refused) }
         ensures unchanged { OnErr result (self.new ≡ self.old) }
     {
-        if let Some(found) = server_place(&self.servers, name) {
-            self.put_own(found, place, Some(value));
-            return Ok(Changed { made_server: false });
-        }
-        if self.servers.len() >= MOST_SERVERS {
-            return Err(SetRefused::TooManyServers { limit: 64 });
-        }
-        match self.make_server(alloc, name, place, value) {
-            Ok(()) => Ok(Changed { made_server: true }),
-            Err(NoMemory) => Err(SetRefused::NoMemory),
+        match self.place_of(name) {
+            Some(found) => {
+                self.put_own(found, place, Some(value));
+                Ok(Changed { made_server: false })
+            }
+            None => {
+                if self.servers.len() >= MOST_SERVERS {
+                    return Err(SetRefused::TooManyServers { limit: 64 });
+                }
+                match self.make_server(alloc, name, place, value) {
+                    Ok(()) => Ok(Changed { made_server: true }),
+                    Err(NoMemory) => Err(SetRefused::NoMemory),
+                }
+            }
         }
     }
 
