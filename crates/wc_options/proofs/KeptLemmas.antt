@@ -116,40 +116,24 @@ AreServers-push (first ∷ servers) server are named fit h =
     let other : is_named server.name first ≡ false = not_head server.name first servers h in
     (are.0, are.1, has_server-push first.name servers server are.2 (bytes_eq-sym server.name first.name ∙ other), AreServers-push servers server are.3 named fit (not_tail server.name first servers h))
 
-without-hit : (name : List ℕ) (server : ServerOptions) (servers : List ServerOptions) → is_named name server ≡ true → without name (server ∷ servers) ≡ servers
-without-hit name server servers e = rw e
+has_server-remove : (name : List ℕ) (servers : List ServerOptions) (place : ℕ) → has_server name servers ≡ false → has_server name (remove servers place) ≡ false
+has_server-remove name [] zero h = refl
+has_server-remove name [] (suc place) h = refl
+has_server-remove name (server ∷ servers) zero h = not_tail name server servers h
+has_server-remove name (server ∷ servers) (suc place) h =
+    not_there name server (remove servers place) (not_head name server servers h) (has_server-remove name servers place (not_tail name server servers h))
 
-without-miss : (name : List ℕ) (server : ServerOptions) (servers : List ServerOptions) → is_named name server ≡ false → without name (server ∷ servers) ≡ server ∷ without name servers
-without-miss name server servers e = rw e
+pub AreServers-remove : (servers : List ServerOptions) (place : ℕ) → AreServers servers → AreServers (remove servers place)
+AreServers-remove [] zero are = tt
+AreServers-remove [] (suc place) are = tt
+AreServers-remove (server ∷ servers) zero are = are.3
+AreServers-remove (server ∷ servers) (suc place) are = (are.0, are.1, has_server-remove server.name servers place are.2, AreServers-remove servers place are.3)
 
-has_server-without-by : (name other : List ℕ) (server : ServerOptions) (servers : List ServerOptions) (b : Bool) → is_named other server ≡ b → has_server name (server ∷ servers) ≡ false
-    → (has_server name servers ≡ false → has_server name (without other servers) ≡ false) → has_server name (without other (server ∷ servers)) ≡ false
-has_server-without-by name other server servers true e h more = ap (has_server name) (without-hit other server servers e) ∙ not_tail name server servers h
-has_server-without-by name other server servers false e h more =
-    ap (has_server name) (without-miss other server servers e) ∙ not_there name server (without other servers) (not_head name server servers h) (more (not_tail name server servers h))
-
-has_server-without : (name other : List ℕ) (servers : List ServerOptions) → has_server name servers ≡ false → has_server name (without other servers) ≡ false
-has_server-without name other [] h = refl
-has_server-without name other (server ∷ servers) h = has_server-without-by name other server servers (is_named other server) refl h (has_server-without name other servers)
-
-AreServers-without-by : (name : List ℕ) (server : ServerOptions) (servers : List ServerOptions) (b : Bool) → is_named name server ≡ b → AreServers (server ∷ servers)
-    → AreServers (without name servers) → AreServers (without name (server ∷ servers))
-AreServers-without-by name server servers true e are more = subst AreServers (sym (without-hit name server servers e)) are.3
-AreServers-without-by name server servers false e are more =
-    subst AreServers (sym (without-miss name server servers e)) (are.0, are.1, has_server-without server.name name servers are.2, more)
-
-pub AreServers-without : (name : List ℕ) (servers : List ServerOptions) → AreServers servers → AreServers (without name servers)
-AreServers-without name [] are = are
-AreServers-without name (server ∷ servers) are = AreServers-without-by name server servers (is_named name server) refl are (AreServers-without name servers are.3)
-
-length-without-by : (name : List ℕ) (server : ServerOptions) (servers : List ServerOptions) (b : Bool) → is_named name server ≡ b → length (without name servers) ≤ length servers
-    → length (without name (server ∷ servers)) ≤ length (server ∷ servers)
-length-without-by name server servers true e more = rw (without-hit name server servers e) (omega arith)
-length-without-by name server servers false e more = rw (without-miss name server servers e) (omega arith)
-
-length-without : (name : List ℕ) (servers : List ServerOptions) → length (without name servers) ≤ length servers
-length-without name [] = omega arith
-length-without name (server ∷ servers) = length-without-by name server servers (is_named name server) refl (length-without name servers)
+length-remove : (servers : List ServerOptions) (place : ℕ) → length (remove servers place) ≤ length servers
+length-remove [] zero = omega arith
+length-remove [] (suc place) = omega arith
+length-remove (server ∷ servers) zero = omega arith
+length-remove (server ∷ servers) (suc place) = omega (arith, length-remove servers place)
 
 -- ---- all that is stored
 
@@ -227,14 +211,13 @@ stored-made options defaults no_address names name place value stored named abse
       names_are = ap (λ ns. ns ++ name ∷ []) stored.names_are ∙ sym (names-push options.servers server);
     }
 
-pub stored-without : (options : OptionsValue) (defaults : List (List ℕ)) (no_address : List ℕ) (names : List (List ℕ)) (name : List ℕ) (place : ℕ)
-    → IsStored options defaults no_address names → without name options.servers ≡ remove options.servers place
-    → IsStored (with_servers options (remove options.servers place)) defaults no_address (remove names place)
-stored-without options defaults no_address names name place stored e = record {
+pub stored-remove : (options : OptionsValue) (defaults : List (List ℕ)) (no_address : List ℕ) (names : List (List ℕ)) (place : ℕ)
+    → IsStored options defaults no_address names → IsStored (with_servers options (remove options.servers place)) defaults no_address (remove names place)
+stored-remove options defaults no_address names place stored = record {
   kept = record {
     set_fit = stored.kept.set_fit;
-    servers_fit = subst AreServers e (AreServers-without name options.servers stored.kept.servers_fit);
-    few = rw (← e) (omega (arith, length-without name options.servers, stored.kept.few));
+    servers_fit = AreServers-remove options.servers place stored.kept.servers_fit;
+    few = omega (arith, length-remove options.servers place, stored.kept.few);
   };
   defaults_are = stored.defaults_are;
   no_address_is = stored.no_address_is;

@@ -152,6 +152,12 @@ reset_there options name found place at =
     ap (λ (servers : List ServerOptions). let o : OptionsValue = record options { servers = servers } in o)
     (sym (reset_own_at name place options.servers found no_server (IsAt-position name options.servers found no_server (sym at))))
 
+pub put_reset : (options : OptionsValue) (name : List ℕ) (found place : ℕ) (value : Option (List ℕ)) → value ≡ own_at_first (row_at of_server place) → Some found ≡ position (is_named name) options.servers
+    → (let changed : OptionsValue = record options { servers = set options.servers found (with_own place value (get_or options.servers found no_server)) } in changed ≡ reset_at options (AtServer name place))
+put_reset options name found place value e at =
+    ap (λ (v : Option (List ℕ)). let o : OptionsValue = record options { servers = set options.servers found (with_own place v (get_or options.servers found no_server)) } in o) e
+    ∙ reset_there options name found place at
+
 pub value_there : (options : OptionsValue) (name : List ℕ) (found place : ℕ) → Some found ≡ position (is_named name) options.servers → value_at options (AtServer name place) ≢ None
 value_there options name found place at none =
     let here : find (is_named name) options.servers ≡ Some (get_or options.servers found no_server) = find_at name options.servers found no_server (IsAt-position name options.servers found no_server (sym at)) in

@@ -2,6 +2,7 @@
 #![tactic(auto)]
 
 mod address;
+mod config;
 mod file;
 mod kind;
 mod number;
@@ -12,6 +13,7 @@ mod server;
 mod table;
 
 pub use address::read_address;
+pub use config::read_config;
 pub use file::{first_line, part_line};
 pub use kind::{Kind, LONGEST_VALUE};
 pub use options::{Changed, MOST_SERVERS, Options};

@@ -1,4 +1,4 @@
-ghost use Rattle.std.specs.Prelude.{◌≡◌, ◌≢◌, ◌<◌, ◌∷◌, [], map, length, find, IfOk, IfErr, IfSome, IfNone, OnOk, OnErr, Some, None, IsTrue, position, option_map, true, false, slice_set, slice_index_or, ◌++◌};
+ghost use Rattle.std.specs.Prelude.{◌≡◌, ◌≢◌, ◌<◌, ◌∷◌, [], map, length, find, IfOk, IfErr, IfSome, IfNone, OnOk, OnErr, Some, None, IsTrue, position, option_map, true, false, slice_set, slice_index_or, ◌++◌, remove};
 ghost use Rattle.std.specs.Option.{option_copied};
 ghost use Rattle.std.specs.Str.{IsUtf8};
 ghost use Rattle.wc_options.specs.Options.{fresh, value_of, global_value, server_value, refusal_of, with_value, makes, without_value, has_server, without, is_named, value_at, refusal_at, with_value_at, makes_server, reset_at, ServerOptions, own_at_first, with_own, fresh_server, no_server};
@@ -184,6 +184,83 @@ impl Options {
             Some(place) => self.set_at(alloc, place, value),
             None => Err(SetRefused::UnknownOption),
         }
+    }
+
+    /// Sets an option to its default. Refused, and nothing is changed, where there is no option with
+    /// this name; the options of a server are there where the server is.
+    pub fn unset(&mut self, alloc: Global, name: &Text) -> Result<(), SetRefused>
+        ensures after { OnOk result (self.new ≡ without_value self.old name.now) }
+        ensures known { OnOk result (value_of self.old name.now ≢ None) }
+        ensures refused { IfErr result (λ refused. refused ≡ SetRefused.UnknownOption) }
+        ensures unknown { OnErr result (value_of self.old name.now ≡ None) }
+        ensures unchanged { OnErr result (self.new ≡ self.old) }
+    {
+        match locate(name.as_slice()) {
+            Some(place) => self.reset(alloc, place),
+            None => Err(SetRefused::UnknownOption),
+        }
+    }
+
+    fn reset(&mut self, alloc: Global, place: Place<'_>) -> Result<(), SetRefused>
+        requires { IsInTable (located_of place) }
+        ensures after { OnOk result (self.new ≡ reset_at self.old (located_of place.entry)) }
+        ensures known { OnOk result (value_at self.old (located_of place.entry) ≢ None) }
+        ensures refused { IfErr result (λ refused. refused ≡ SetRefused.UnknownOption) }
+        ensures unknown { OnErr result (value_at self.old (located_of place.entry) ≡ None) }
+        ensures unchanged { OnErr result (self.new ≡ self.old) }
+    {
+        match place {
+            Place::Global(place) => {
+                self.put_global(place, None);
+                Ok(())
+            }
+            Place::OfServer(name, place) => self.reset_of_server(alloc, name, place),
+        }
+    }
+
+    fn reset_of_server(
+        &mut self,
+        alloc: Global,
+        name: &[u8],
+        place: usize,
+    ) -> Result<(), SetRefused>
+        requires { place < 8 }
+        ensures after { OnOk result (self.new ≡ reset_at self.old (AtServer name.now place)) }
+        ensures known { OnOk result (value_at self.old (AtServer name.now place) ≢ None) }
+        ensures refused { IfErr result (λ refused. refused ≡ SetRefused.UnknownOption) }
+        ensures unknown { OnErr result (value_at self.old (AtServer name.now place) ≡ None) }
+        ensures unchanged { OnErr result (self.new ≡ self.old) }
+    {
+        match self.place_of(name) {
+            Some(found) => {
+                self.put_own(found, place, own_at_first(alloc, place));
+                Ok(())
+            }
+            None => Err(SetRefused::UnknownOption),
+        }
+    }
+
+    /// Takes a server and its options away. False exactly where there is no server with this name,
+    /// and then nothing is changed.
+    pub fn del_server(&mut self, name: &[u8]) -> bool
+        ensures found { result ≡ has_server name.now self.old.servers }
+        ensures after { self.new ≡ record self.old { servers = without name.now self.old.servers } }
+    {
+        match self.place_of(name) {
+            Some(found) => {
+                self.remove_server(found);
+                true
+            }
+            None => false,
+        }
+    }
+
+    fn remove_server(&mut self, found: usize)
+        requires { found < length self.old.servers }
+        ensures { self.new ≡ record self.old { servers = remove self.old.servers found } }
+    {
+        let _server = self.servers.remove(found);
+        let _name = self.names.remove(found);
     }
 
     fn set_at(
