@@ -15,11 +15,11 @@ unfolding lines_of
 lines_of-nil [] h = refl
 lines_of-nil (byte ∷ bytes) h = absurd (omega arith)
 
-lines_of-hit : (byte : ℕ) (bytes : List ℕ) → (byte == 10) ≡ true → lines_of (byte ∷ bytes) ≡ [] ∷ lines_of bytes
+pub lines_of-hit : (byte : ℕ) (bytes : List ℕ) → (byte == 10) ≡ true → lines_of (byte ∷ bytes) ≡ [] ∷ lines_of bytes
 unfolding lines_of
 lines_of-hit byte bytes e = rw e
 
-lines_of-miss : (byte : ℕ) (bytes : List ℕ) → (byte == 10) ≡ false → lines_of (byte ∷ bytes) ≡ onto_first byte (lines_of bytes)
+pub lines_of-miss : (byte : ℕ) (bytes : List ℕ) → (byte == 10) ≡ false → lines_of (byte ∷ bytes) ≡ onto_first byte (lines_of bytes)
 unfolding lines_of
 lines_of-miss byte bytes e = rw e
 
@@ -52,12 +52,12 @@ pub ruleset first_lines = (lines_of-nil, lines_of-first)
 
 -- ---- parting
 
-parted-here : (rest : List ℕ) → bytes_eq (take 3 rest) equals_sign ≡ true → parted rest ≡ Some ([], drop 3 rest)
+pub parted-here : (rest : List ℕ) → bytes_eq (take 3 rest) equals_sign ≡ true → parted rest ≡ Some ([], drop 3 rest)
 unfolding parted
 parted-here [] e = cc
 parted-here (byte ∷ bytes) e = rw e
 
-parted-next : (byte : ℕ) (bytes : List ℕ) → bytes_eq (take 3 (byte ∷ bytes)) equals_sign ≡ false → parted (byte ∷ bytes) ≡ option_map (λ parts. (byte ∷ parts.0, parts.1)) (parted bytes)
+pub parted-next : (byte : ℕ) (bytes : List ℕ) → bytes_eq (take 3 (byte ∷ bytes)) equals_sign ≡ false → parted (byte ∷ bytes) ≡ option_map (λ parts. (byte ∷ parts.0, parts.1)) (parted bytes)
 unfolding parted
 parted-next byte bytes e = rw e
 

@@ -49,7 +49,7 @@ fits-first first (row ∷ rows) (suc place) h fit = fits-first first rows place 
 
 -- ---- names
 
-bytes_eq-sym : (a b : List ℕ) → bytes_eq a b ≡ bytes_eq b a
+pub bytes_eq-sym : (a b : List ℕ) → bytes_eq a b ≡ bytes_eq b a
 bytes_eq-sym a b = same_from_decides {P = a ≡ b} (bytes_eq a b) (bytes_eq b a) (bytes_eq-Decides a b) (Decides-like (bytes_eq b a) sym sym (bytes_eq-Decides b a))
 
 abbrev name_of : ServerOptions → List ℕ
@@ -105,7 +105,7 @@ not_tail name server servers h = not_tail-by (is_named name server) (has_server 
 not_there : (name : List ℕ) (server : ServerOptions) (servers : List ServerOptions) → is_named name server ≡ false → has_server name servers ≡ false → has_server name (server ∷ servers) ≡ false
 not_there name server servers e h = has_server-cons name server servers ∙ rw e h
 
-has_server-push : (name : List ℕ) (servers : List ServerOptions) (server : ServerOptions) → has_server name servers ≡ false → is_named name server ≡ false → has_server name (servers ++ server ∷ []) ≡ false
+pub has_server-push : (name : List ℕ) (servers : List ServerOptions) (server : ServerOptions) → has_server name servers ≡ false → is_named name server ≡ false → has_server name (servers ++ server ∷ []) ≡ false
 has_server-push name [] server h e = has_server-cons name server [] ∙ rw e refl
 has_server-push name (first ∷ servers) server h e =
     not_there name first (servers ++ server ∷ []) (not_head name first servers h) (has_server-push name servers server (not_tail name first servers h) e)
@@ -272,3 +272,6 @@ makes_some options name place e = ap (λ o. option_map_or (makes_server options)
 pub without_value_some : (options : OptionsValue) (name : List ℕ) (place : Located) → Some place ≡ located name → without_value options name ≡ reset_at options place
 unfolding without_value
 without_value_some options name place e = ap (λ o. option_map_or (reset_at options) o options) (sym e)
+
+pub bytes_eq-same : (a : List ℕ) → bytes_eq a a ≡ true
+bytes_eq-same a = (bytes_eq-Decides a a).1 refl

@@ -1,7 +1,7 @@
-ghost use Rattle.std.specs.Prelude.{◌≡◌, ◌≢◌, ◌≤◌, ◌+◌, ◌∷◌, ◌++◌, [], Ok, Err, Some, None, IfOk, IfErr, OnOk, OnErr, bytes_eq, take, codes, drop, length, slice_index_or};
+ghost use Rattle.std.specs.Prelude.{◌≡◌, ◌≢◌, ◌<◌, ◌^◌, ◌+◌, ◌∷◌, ◌++◌, [], Ok, Err, Some, None, IfOk, IfErr, OnOk, OnErr, bytes_eq, take, codes, drop, length, slice_index_or};
 ghost use Rattle.std.specs.Str.{is_utf8, IsUtf8};
 ghost use Rattle.wc_options.specs.Config.{config_of, behind_line, behind_lines, is_passed_over, version_line, taken};
-ghost use Rattle.wc_options.specs.File.{lines_of};
+ghost use Rattle.wc_options.specs.File.{lines_of, parted};
 ghost use Rattle.wc_options.specs.ReadConfig.{IsBadLine};
 
 use crate::file::{first_line, part_line};
@@ -26,6 +26,7 @@ pub(crate) enum LineRefused {
 /// parted at the first ` = `, and a repeated name takes the last value. Where a line is not UTF-8,
 /// has no ` = `, names no option, has a value that its option does not take, or would make a 65th
 /// server, the answer is the number of the first such line, and nothing is taken from the file.
+#[tactic(auto, using(crate::proofs::ConfigLemmas::config_read))]
 pub fn read_config(alloc: Global, bytes: &[u8]) -> Result<Options, ConfigRefused>
     ensures read { IfOk result (λ options. config_of bytes.now ≡ Ok options) }
     ensures bad_line { IfErr result (λ refused. refused ≢ ConfigRefused.NoMemory → IsBadLine refused (config_of bytes.now)) }
@@ -46,13 +47,14 @@ pub fn read_config(alloc: Global, bytes: &[u8]) -> Result<Options, ConfigRefused
 
 impl Options {
     /// Takes the lines of a file, of which the first has a number.
+    #[tactic(auto, using(crate::proofs::ConfigLemmas::lines_read))]
     fn read_lines(
         mut self,
         alloc: Global,
         first: u64,
         bytes: &[u8],
     ) -> Result<Options, ConfigRefused>
-        requires { first ≤ 2 }
+        requires { first + length bytes.now < 2 ^ 64 }
         ensures read { IfOk result (λ options. behind_lines first self (lines_of bytes.now) ≡ Ok options) }
         ensures bad_line { IfErr result (λ refused. refused ≢ ConfigRefused.NoMemory → IsBadLine refused (behind_lines first self (lines_of bytes.now))) }
     {
@@ -71,6 +73,7 @@ impl Options {
     }
 
     /// Takes one line of a file.
+    #[tactic(auto, using(crate::proofs::ConfigLemmas::lines_taken))]
     fn take_line(&mut self, alloc: Global, line: &[u8]) -> Result<(), LineRefused>
         ensures taken { OnOk result (behind_line self.old line.now ≡ Some self.new) }
         ensures refused { IfErr result (λ refused. refused ≢ LineRefused.NoMemory → behind_line self.old line.now ≡ None) }
@@ -78,9 +81,17 @@ impl Options {
         if is_passed_over(line) {
             return Ok(());
         }
-        if !is_utf8(line) {
-            return Err(LineRefused::Unreadable);
+        if is_utf8(line) {
+            return self.take_text(alloc, line);
         }
+        Err(LineRefused::Unreadable)
+    }
+
+    fn take_text(&mut self, alloc: Global, line: &[u8]) -> Result<(), LineRefused>
+        requires { IsUtf8 line.now }
+        ensures taken { OnOk result (taken self.old (parted line.now) ≡ Some self.new) }
+        ensures refused { IfErr result (λ refused. refused ≢ LineRefused.NoMemory → taken self.old (parted line.now) ≡ None) }
+    {
         match part_line(line) {
             Some((name, value)) => self.take_value(alloc, name, value),
             None => Err(LineRefused::Unreadable),
@@ -112,6 +123,7 @@ fn is_passed_over(line: &[u8]) -> bool
     }
 }
 
+#[tactic(auto, using(crate::proofs::ConfigLemmas::utf8_tests))]
 fn is_utf8(line: &[u8]) -> bool
     ensures { result ≡ is_utf8 line.now }
 {
