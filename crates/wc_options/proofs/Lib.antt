@@ -9,3 +9,4 @@ pub mod RoundTrip
 pub mod ServersLemmas
 pub mod TableLaw
 pub mod TableLemmas
+pub mod WriteLemmas

@@ -48,6 +48,11 @@ config_of bytes = of_lines (lines_of bytes)
 abbrev pub set_line : List ℕ → OptionRow → List ℕ → List ℕ
 set_line prefix row value = prefix ++ row.name ++ equals_sign ++ value
 
+-- the line of an option, where it is set
+abbrev pub lines_of_value : List ℕ → OptionRow → Option (List ℕ) → List (List ℕ)
+lines_of_value prefix row None = []
+lines_of_value prefix row (Some value) = set_line prefix row value ∷ []
+
 -- a line for each option of a table that is set
 abbrev pub set_lines : List ℕ → List OptionRow → List (Option (List ℕ)) → List (List ℕ)
 set_lines prefix [] values = []

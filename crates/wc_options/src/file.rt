@@ -35,7 +35,7 @@ pub fn first_line(bytes: &[u8]) -> Option<(&[u8], &[u8])>
 }
 
 /// What parts a name from its value.
-const EQUALS_SIGN: &[u8] = b" = ";
+pub(crate) const EQUALS_SIGN: &[u8] = b" = ";
 
 /// The name and the value of a line, parted at the first ` = `. None exactly where there is none.
 #[tactic(auto, using(crate::proofs::FileLemmas::parting))]

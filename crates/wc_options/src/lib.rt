@@ -11,6 +11,7 @@ mod place;
 mod refusal;
 mod server;
 mod table;
+mod write;
 
 pub use address::read_address;
 pub use config::read_config;
@@ -18,3 +19,6 @@ pub use file::{first_line, part_line};
 pub use kind::{Kind, LONGEST_VALUE};
 pub use options::{Changed, MOST_SERVERS, Options};
 pub use refusal::{ConfigRefused, SetRefused};
+
+#[cfg(test)]
+mod tests;

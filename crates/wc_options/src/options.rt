@@ -33,8 +33,8 @@ pub struct Options {
     /// The default of the addresses of a server.
     no_address: Text,
     /// The values of the options of the program, where one is set, in the order of the table.
-    set: Vec<Option<Text>>,
-    servers: Vec<Server>,
+    pub(crate) set: Vec<Option<Text>>,
+    pub(crate) servers: Vec<Server>,
     /// The names of the servers again, for callers.
     names: Vec<Text>,
 }

@@ -90,6 +90,13 @@ impl Server {
         self.own.get(place)?.as_ref()
     }
 
+    /// The values of all its options, where they have one of their own.
+    pub(crate) fn all_own(&self) -> &[Option<Text>]
+        ensures { result.now ≡ self.now.own }
+    {
+        self.own.as_slice()
+    }
+
     pub(crate) fn put(&mut self, place: usize, value: Option<Text>)
         requires { place < length self.old.own }
         ensures { self.new ≡ with_own place value self.old }
