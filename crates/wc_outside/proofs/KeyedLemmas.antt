@@ -4,10 +4,10 @@ use Rattle.std.specs.List.{position_or_len}
 use Rattle.std.proofs.lemmas.Bool.Decides.{nat_tests}
 use Rattle.wc_outside.specs.Keyed.{at_key, put_at, without, IsPlace, PlaceOf}
 
-here : {X : Type 0} (key : X → ℕ) (k : ℕ) (x : X) (xs : List X) → eqb (key x) k ≡ true → IsPlace key k (x ∷ xs) 0
+pub here : {X : Type 0} (key : X → ℕ) (k : ℕ) (x : X) (xs : List X) → eqb (key x) k ≡ true → IsPlace key k (x ∷ xs) 0
 here key k x xs e = record { inside = omega arith; found = λ d. rw e refl; put = λ y. rw e refl }
 
-behind : {X : Type 0} (key : X → ℕ) (k : ℕ) (x : X) (xs : List X) (i : ℕ) → eqb (key x) k ≡ false → IsPlace key k xs i → IsPlace key k (x ∷ xs) (suc i)
+pub behind : {X : Type 0} (key : X → ℕ) (k : ℕ) (x : X) (xs : List X) (i : ℕ) → eqb (key x) k ≡ false → IsPlace key k xs i → IsPlace key k (x ∷ xs) (suc i)
 behind key k x xs i e p = record {
   inside = (let h = p.inside in omega arith);
   found = λ d. rw e (p.found d);

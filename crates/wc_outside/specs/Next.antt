@@ -1,5 +1,5 @@
 -- What the next read of a link finds.
-use Rattle.std.specs.Prelude.{ℕ, ◌<◌, length}
+use Rattle.std.specs.Prelude.{◌<◌, length}
 use Rattle.wc_outside.specs.declared.play.Next.{Next}
 use Rattle.wc_outside.specs.declared.play.Next.TheVariants.{Bytes, End, Nothing}
 

@@ -1,5 +1,5 @@
 -- The rows of links by number, where a link that was never made has an empty row.
-use Rattle.std.specs.Prelude.{ℕ, ◌≡◌, ◌+◌, ◌≤◌, ◌&&◌, ◌||◌, not, ◌==◌, Bool, true, false, List, [], ◌∷◌, ◌++◌, length, if◌then◌else◌, All}
+use Rattle.std.specs.Prelude.{ℕ, ◌≡◌, ◌||◌, Bool, false, List, [], length, All}
 use Rattle.std.specs.List.{list_any, slice_index_or}
 use Rattle.wc_outside.specs.declared.rows.Row.{Row}
 use Rattle.wc_outside.specs.declared.sockets.Token.{Token}

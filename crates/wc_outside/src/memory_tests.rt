@@ -5,7 +5,7 @@ use crate::memory_sink::MemorySink;
 use crate::memory_sockets::MemorySockets;
 use crate::scripted::Scripted;
 use crate::sink::Sink;
-use crate::sockets::{Ready, Sockets};
+use crate::sockets::{Ready, Sockets, Token};
 use std::alloc::{AllocError, Global};
 use std::test::Fail;
 use wc_text::{Items, LinkId, NoMemory, Text};
@@ -51,7 +51,10 @@ fn answer(alloc: Global, sockets: &mut MemorySockets, call: &Call) -> Result<Str
     match call {
         Call::Wait => wait(alloc, sockets),
         Call::Accept => match sockets.accept() {
-            Ok(Some(arrival)) => format!(in alloc; "{:?} {}", arrival.link, arrival.nonce[0]),
+            Ok(Some(arrival)) => {
+                let first = arrival.nonce[0];
+                format!(in alloc; "{:?} {first}", arrival.link)
+            }
             Ok(None) => format!(in alloc; "none"),
             Err(failed) => format!(in alloc; "{failed}"),
         },
@@ -73,8 +76,10 @@ fn sockets_play_their_script(rt: HostRuntime) -> Result<(), Fail> {
     let mut script = Items::new(alloc);
     script.push(Scripted::Wake(5))?;
     script.push(Scripted::Arrive([1; 16]))?;
-    script.push(gives(alloc, 1, b"abc")?)?;
-    script.push(gives(alloc, 2, b"x")?)?;
+    let first = gives(alloc, 1, b"abc")?;
+    script.push(first)?;
+    let second = gives(alloc, 2, b"x")?;
+    script.push(second)?;
     script.push(Scripted::Arrive([2; 16]))?;
     script.push(Scripted::Wake(7))?;
     script.push(Scripted::Ends(LinkId(1)))?;
@@ -120,7 +125,8 @@ fn sources_that_waited_longest_come_first(rt: HostRuntime) -> Result<(), Fail> {
         script.push(Scripted::Arrive([0; 16]))?;
     }
     for link in 1..71u64 {
-        script.push(gives(alloc, link, b"a")?)?;
+        let step = gives(alloc, link, b"a")?;
+        script.push(step)?;
     }
     let mut sockets = MemorySockets::new(alloc, script, numbers(alloc, &[])?, 0)?;
     let mut ready = Ready::new();
@@ -131,8 +137,9 @@ fn sources_that_waited_longest_come_first(rt: HostRuntime) -> Result<(), Fail> {
     }
     for (count, first) in [(64, 1), (64, 65), (64, 59)] {
         sockets.wait(0, &mut ready)?;
+        let oldest = ready.tokens[0];
         assert_eq!(rt; ready.count, count);
-        assert_eq!(rt; ready.tokens[0], crate::Token::Link(LinkId(first)));
+        assert_eq!(rt; oldest, Token::Link(LinkId(first)));
     }
     Ok(())
 }

@@ -1,5 +1,3 @@
-use Rattle.std.proofs.Common.{rules, ap, subst, sym}
-use Rattle.wc_outside.specs.Rows.{Reported}
 use Rattle.wc_outside.proofs.RowLemmas.{Reported-trans}
 use Rattle.wc_outside.proofs.report.report_ready.Goals as goal
 
