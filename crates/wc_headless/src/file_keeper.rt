@@ -1,7 +1,7 @@
 ghost use Rattle.std.specs.Prelude.{◌≡◌, IfOk};
 
 use std::alloc::{AllocError, Global};
-use std::fs;
+use std::fs::{self, OpenFile};
 use std::io::{self, ErrorKind, Read, Write};
 use std::rt::Files;
 use wc_outside::{Failed, KeepFault, Keeper};
@@ -27,9 +27,11 @@ pub struct FileKeeper<'a, R: Files> {
 }
 
 impl<'a, R: Files> FileKeeper<'a, R> {
+    /// The file in this folder; an empty name is the current folder.
     pub fn new(rt: &'a R, alloc: Global, folder: &str) -> Result<FileKeeper<'a, R>, AllocError>
         ensures { IfOk result (λ keeper. ⟦<FileKeeper<'a, R> as Keeper>⟧.faults keeper ≡ 0) }
     {
+        let folder = if folder.is_empty() { "." } else { folder };
         let path = format!(in alloc; "{folder}/{NAME}")?;
         let beside = format!(in alloc; "{folder}/{NAME}.new")?;
         Ok(FileKeeper {
@@ -71,7 +73,7 @@ fn read_file<R: Files>(rt: &R, alloc: Global, path: &str) -> Result<Text, KeepFa
 fn write_file<R: Files>(rt: &R, path: &str, bytes: &[u8]) -> io::Result<()> {
     let mut file = fs::create(rt, path)?;
     file.write_all(bytes)?;
-    file.flush()
+    file.sync_all()
 }
 
 fn replace_file<R: Files>(rt: &R, beside: &str, path: &str, bytes: &[u8]) -> io::Result<()> {

@@ -91,6 +91,9 @@ impl<'a, R: Net + Clock + RandomSource> Sockets for MioSockets<'a, R> {
 
     fn accept(&mut self) -> Result<Option<Arrival>, Failed> {
         if self.links.used >= LINK_LIMIT || self.links.rows.len() >= SLOTS {
+            if self.streams.refuse().is_err() {
+                return Err(fail(&mut self.listen_faults));
+            }
             self.listening = false;
             return Ok(None);
         }

@@ -157,18 +157,14 @@ impl<'a, R: Net + Clock + RandomSource> Streams<'a, R> {
         }
     }
 
-    /// The next connection, where one waits and has a slot. One without a slot is closed at once.
+    /// The next connection, where one waits. One that was given up meanwhile is passed over.
     fn next_stream(&mut self) -> io::Result<Option<TcpStream>> {
         let Some(listener) = &self.listener else {
             return Ok(None);
         };
         for _ in 0..SLOTS {
             match listener.accept() {
-                Ok((stream, _)) => {
-                    if self.peers.len() < SLOTS {
-                        return Ok(Some(stream));
-                    }
-                }
+                Ok((stream, _)) => return Ok(Some(stream)),
                 Err(error) if error.kind() == ErrorKind::WouldBlock => {
                     self.arriving = false;
                     return Ok(None);
@@ -178,6 +174,16 @@ impl<'a, R: Net + Clock + RandomSource> Streams<'a, R> {
             }
         }
         Ok(None)
+    }
+
+    /// Closes the connections that wait.
+    pub(crate) fn refuse(&mut self) -> io::Result<()> {
+        for _ in 0..SLOTS {
+            if self.next_stream()?.is_none() {
+                break;
+            }
+        }
+        Ok(())
     }
 
     /// Keeps the next connection under this link, and gives its nonce.
