@@ -1,0 +1,117 @@
+ghost use Rattle.std.specs.Prelude.{◌≡◌, IfOk};
+
+use std::alloc::{AllocError, Global};
+use std::fs::{self, OpenFile};
+use std::io::{self, ErrorKind, Read, Write};
+use std::rt::Files;
+use wc_outside::{Failed, KeepFault, Keeper};
+use wc_text::Text;
+
+/// The name of the file that is kept.
+const NAME: &str = "weechat.conf";
+
+/// A longer file is not read.
+const SIZE_LIMIT: usize = 16_777_216;
+
+/// The file `weechat.conf` of a folder. A missing file reads as empty, and one of more than
+/// 16,777,216 bytes is not read.
+///
+/// The bytes that take its place are first written to a file beside it, which then gets its name,
+/// so that a failure loses nothing.
+#[derive(Drop)]
+pub struct FileKeeper<'a, R: Files> {
+    rt: &'a R,
+    path: String,
+    beside: String,
+    faults: u64,
+}
+
+impl<'a, R: Files> FileKeeper<'a, R> {
+    /// The file in this folder; an empty name is the current folder.
+    pub fn new(rt: &'a R, alloc: Global, folder: &str) -> Result<FileKeeper<'a, R>, AllocError>
+        ensures { IfOk result (λ keeper. ⟦<FileKeeper<'a, R> as Keeper>⟧.faults keeper ≡ 0) }
+    {
+        let folder = if folder.is_empty() { "." } else { folder };
+        let path = format!(in alloc; "{folder}/{NAME}")?;
+        let beside = format!(in alloc; "{folder}/{NAME}.new")?;
+        Ok(FileKeeper {
+            rt,
+            path,
+            beside,
+            faults: 0,
+        })
+    }
+}
+
+/// The bytes of a file.
+fn read_file<R: Files>(rt: &R, alloc: Global, path: &str) -> Result<Text, KeepFault> {
+    let mut text = Text::new(alloc);
+    let mut file = match fs::open(rt, path) {
+        Ok(file) => file,
+        Err(error) if error.kind() == ErrorKind::NotFound => return Ok(text),
+        Err(_) => return Err(KeepFault::Failed),
+    };
+    let mut buffer = [0u8; 8192];
+    for _ in 0..SIZE_LIMIT + 2 {
+        let Ok(count) = file.read(&mut buffer) else {
+            return Err(KeepFault::Failed);
+        };
+        if count == 0 {
+            return Ok(text);
+        }
+        if text.as_slice().len() > SIZE_LIMIT - count {
+            return Err(KeepFault::Failed);
+        }
+        if text.append(&buffer[..count]).is_err() {
+            return Err(KeepFault::NoMemory);
+        }
+    }
+    Err(KeepFault::Failed)
+}
+
+/// Writes a file and its bytes to the disk.
+fn write_file<R: Files>(rt: &R, path: &str, bytes: &[u8]) -> io::Result<()> {
+    let mut file = fs::create(rt, path)?;
+    file.write_all(bytes)?;
+    file.sync_all()
+}
+
+fn replace_file<R: Files>(rt: &R, beside: &str, path: &str, bytes: &[u8]) -> io::Result<()> {
+    let written = write_file(rt, beside, bytes);
+    let replaced = match written {
+        Ok(()) => fs::rename(rt, beside, path),
+        Err(error) => Err(error),
+    };
+    if replaced.is_err() {
+        let _ = fs::remove_file(rt, beside);
+    }
+    replaced
+}
+
+impl<'a, R: Files> Keeper for FileKeeper<'a, R> {
+    ghost use Rattle.std.specs.Prelude.{None};
+
+    ghost contents = { λ keeper. None };
+
+    ghost faults = { λ keeper. keeper.faults };
+
+    fn read_all(&mut self, alloc: Global) -> Result<Text, KeepFault> {
+        match read_file(self.rt, alloc, self.path.as_str()) {
+            Ok(text) => Ok(text),
+            Err(KeepFault::NoMemory) => Err(KeepFault::NoMemory),
+            Err(KeepFault::Failed) => {
+                self.faults = self.faults.saturating_add(1);
+                Err(KeepFault::Failed)
+            }
+        }
+    }
+
+    fn replace(&mut self, bytes: &[u8]) -> Result<(), Failed> {
+        let replaced = replace_file(self.rt, self.beside.as_str(), self.path.as_str(), bytes);
+        if replaced.is_err() {
+            self.faults = self.faults.saturating_add(1);
+            return Err(Failed);
+        }
+        Ok(())
+    }
+}

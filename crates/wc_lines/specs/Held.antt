@@ -1,0 +1,11 @@
+-- What contracts see of a buffer's lines.
+use Rattle.std.specs.Prelude.{ℕ, List, []}
+use Rattle.wc_lines.specs.declared.line.Line.{Line}
+
+-- how many lines are held at most, and the lines, from the oldest
+pub record Held : Type 0 where
+  pub limit : ℕ
+  pub lines : List Line
+
+abbrev pub no_lines : ℕ → Held
+no_lines limit = record { limit = limit; lines = [] }

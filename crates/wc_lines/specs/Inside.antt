@@ -1,0 +1,17 @@
+-- What the fields mean, and what always holds of them.
+use Rattle.std.specs.Prelude.{◌≤◌, All}
+use Rattle.std.specs.VecDeque.{deque_len, deque_capacity}
+use Rattle.wc_lines.specs.declared.lines.Lines.TheInside.{Inside}
+use Rattle.wc_lines.specs.Held.{Held}
+use Rattle.wc_lines.specs.LineText.{HasText}
+
+abbrev pub held_of : Inside → Held
+held_of a = record { limit = a.limit; lines = a.queue.items }
+
+-- there is room for all lines, and each of them is text
+pub record IsRing (a : Inside) : Type 0 where
+  pub some : 1 ≤ a.limit
+  pub most : a.limit ≤ 4096
+  pub within : deque_len a.queue ≤ a.limit
+  pub room : a.limit ≤ deque_capacity a.queue
+  pub text : All HasText a.queue.items

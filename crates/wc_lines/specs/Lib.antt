@@ -1,0 +1,6 @@
+pub mod Held
+pub mod History
+pub mod Inside
+pub mod LineText
+pub mod LinesLeft
+pub mod Ring

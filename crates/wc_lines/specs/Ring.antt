@@ -1,0 +1,38 @@
+-- What the calls do to the lines.
+use Rattle.std.specs.Prelude.{ℕ, ◌-◌, Bool, ◌==◌, List, [], ◌∷◌, ◌++◌, length, drop, Option, None, if◌then◌else◌}
+use Rattle.std.specs.List.{list_any, position, slice_get}
+use Rattle.wc_text.specs.declared.names.Handle.{Handle}
+use Rattle.wc_lines.specs.declared.line.Line.{Line}
+use Rattle.wc_lines.specs.Held.{Held}
+
+-- the last n of a list, or all where it has fewer
+abbrev pub last_of : {A : Type 0} → ℕ → List A → List A
+last_of n xs = drop (length xs - n) xs
+
+-- the line behind the others, as far as the limit allows
+abbrev pub with_line : Held → Line → Held
+with_line held line = record held { lines = last_of held.limit (held.lines ++ line ∷ []) }
+
+-- the oldest line, where as many as the limit are held
+abbrev pub pushed_out : Held → Option Line
+pushed_out held = if length held.lines == held.limit then slice_get held.lines 0 else None
+
+abbrev pub without_lines : Held → Held
+without_lines held = record held { lines = [] }
+
+-- the place of the first line with this content handle
+abbrev pub place_of : Handle → List Line → Option ℕ
+place_of content lines = position (λ line. line.content.0 == content.0) lines
+
+-- whether a line has this content handle
+abbrev pub has_content : Handle → List Line → Bool
+has_content content lines = list_any (λ line. line.content.0 == content.0) lines
+
+-- the lines, with the flag set in the first that has this content handle
+abbrev pub set_displayed : Handle → Bool → List Line → List Line
+set_displayed content on [] = []
+set_displayed content on (line ∷ lines) =
+    if line.content.0 == content.0 then record line { displayed = on } ∷ lines else line ∷ set_displayed content on lines
+
+abbrev pub with_displayed : Handle → Bool → Held → Held
+with_displayed content on held = record held { lines = set_displayed content on held.lines }

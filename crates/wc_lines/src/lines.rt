@@ -1,0 +1,133 @@
+ghost use Rattle.std.specs.Prelude.{◌≡◌, ◌≤◌, ◌++◌, ◌∷◌, [], length, IfOk, IfSome, All, IsTrue, ◌↔◌};
+ghost use Rattle.std.specs.Iterator.{YieldsFirstRef, item_count};
+ghost use Rattle.wc_lines.specs.Held.{no_lines};
+ghost use Rattle.wc_lines.specs.Ring.{with_line, pushed_out, without_lines, with_displayed, has_content, place_of};
+ghost use Rattle.wc_lines.specs.LinesLeft.{lines_left};
+ghost use Rattle.wc_lines.specs.LineText.{HasText};
+
+use crate::line::Line;
+use std::alloc::Global;
+use std::collections::{VecDeque, vec_deque};
+use std::marker::Model;
+use wc_text::{Handle, NoMemory};
+
+/// The newest lines of a buffer, up to a limit. Contracts see the limit and the list, from the oldest.
+///
+/// The room for all of them is taken at the making, so that no later call takes memory.
+#[derive(Drop)]
+pub struct Lines {
+    limit: u32,
+    queue: VecDeque<Line>,
+}
+
+impl Model for Lines {
+    ghost use Rattle.wc_lines.specs.Held.{Held};
+
+    ghost Value = { Held };
+
+    ghost use Rattle.wc_lines.specs.Inside.{held_of, IsRing};
+
+    ghost view = { held_of };
+
+    ghost invariant = { IsRing };
+}
+
+impl Lines {
+    /// No lines, and room for as many as the limit.
+    pub fn new(alloc: Global, limit: u32) -> Result<Lines, NoMemory>
+        requires some { 1 ≤ limit }
+        requires most { limit ≤ 4096 }
+        ensures { IfOk result (λ lines. lines ≡ no_lines limit) }
+    {
+        let queue = VecDeque::with_capacity(alloc, limit as usize)?;
+        Ok(Lines { limit, queue })
+    }
+
+    /// Puts a line behind the others. Where as many as the limit are held, the oldest is first taken out and given back.
+    pub fn push(&mut self, line: Line) -> Option<Line>
+        requires { HasText line }
+        ensures held { self.new ≡ with_line self.old line }
+        ensures oldest { result ≡ pushed_out self.old }
+        ensures text { IfSome result HasText }
+    {
+        if self.queue.len() < self.limit as usize {
+            self.queue.push_back_reserved(line);
+            return None;
+        }
+        let oldest = self.queue.pop_front();
+        self.queue.push_back_reserved(line);
+        oldest
+    }
+
+    /// Takes all lines out.
+    pub fn clear(&mut self)
+        ensures { self.new ≡ without_lines self.old }
+    {
+        self.queue.clear();
+    }
+
+    /// How many lines are held.
+    pub fn len(&self) -> u32
+        ensures lines { result ≡ length self.now.lines }
+        ensures within { result ≤ self.now.limit }
+        ensures some { 1 ≤ self.now.limit }
+        ensures most { self.now.limit ≤ 4096 }
+    {
+        self.queue.len() as u32
+    }
+
+    /// Whether no lines are held.
+    pub fn is_empty(&self) -> bool
+        ensures { IsTrue result ↔ (self.now.lines ≡ []) }
+    {
+        self.queue.is_empty()
+    }
+
+    /// The lines, from the oldest.
+    pub fn iter(&self) -> LineIter<'_>
+        ensures lines { lines_left result ≡ self.now.lines }
+        ensures text { All HasText self.now.lines }
+    {
+        LineIter {
+            lines: self.queue.iter(),
+        }
+    }
+
+    /// Sets whether the line with this content handle is displayed, the oldest such line where there are several.
+    /// False where there is none; then nothing changes.
+    pub fn set_displayed(&mut self, content: Handle, on: bool) -> bool
+        ensures lines { self.new ≡ with_displayed content on self.old }
+        ensures found { result ≡ has_content content self.old.lines }
+    {
+        let Some(place) = place_of(&self.queue, content) else {
+            return false;
+        };
+        self.queue[place].displayed = on;
+        true
+    }
+}
+
+/// The place of the oldest line with this content handle.
+fn place_of(lines: &VecDeque<Line>, content: Handle) -> Option<usize>
+    ensures { result ≡ place_of content lines.now.items }
+{
+    lines.iter().position(|line| line.content == content)
+}
+
+/// The lines that are still to come, from the oldest.
+#[derive(Drop)]
+pub struct LineIter<'a> {
+    lines: vec_deque::Iter<'a, Line>,
+}
+
+impl<'a> Iterator for LineIter<'a> {
+    type Item = &'a Line;
+
+    ghost next_gives = { YieldsFirstRef lines_left };
+
+    ghost remaining = { item_count lines_left };
+
+    fn next(&mut self) -> Option<&'a Line> {
+        self.lines.next()
+    }
+}

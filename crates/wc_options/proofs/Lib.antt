@@ -1,0 +1,12 @@
+pub mod ConfigLemmas
+pub mod FileLemmas
+pub mod KeptLemmas
+pub mod LawLemmas
+pub mod NumberLemmas
+pub mod PartLemmas
+pub mod ReadLemmas
+pub mod RoundTrip
+pub mod ServersLemmas
+pub mod TableLaw
+pub mod TableLemmas
+pub mod WriteLemmas

@@ -1,0 +1,79 @@
+-- The file of options: what its lines make of the options, and how options are written.
+use Rattle.std.specs.Prelude.{ℕ, Bool, true, false, ◌+◌, ◌==◌, ◌||◌, bytes_eq, length, List, [], ◌∷◌, ◌++◌, Option, Some, None, Result, Ok, Err, is_none, codes, take, if◌then◌else◌}
+use Rattle.std.specs.List.{flat_map}
+use Rattle.std.specs.Option.{option_map_or}
+use Rattle.std.specs.Str.{is_utf8}
+use Rattle.wc_options.specs.File.{lines_of, parted, equals_sign}
+use Rattle.wc_options.specs.Names.{server_prefix}
+use Rattle.wc_options.specs.Options.{ServerOptions, OptionsValue, fresh, refusal_of, with_value}
+use Rattle.wc_options.specs.Table.{OptionRow, globals, of_server}
+
+abbrev pub version_line : List ℕ
+version_line = codes "config_version = 1"
+
+-- ---- reading
+
+-- an empty line, or one that begins with `#`
+abbrev pub is_passed_over : List ℕ → Bool
+is_passed_over line = bytes_eq line [] || bytes_eq (take 1 line) (codes "#")
+
+-- a name and a value that an option takes
+abbrev pub taken : OptionsValue → Option (List ℕ × List ℕ) → Option OptionsValue
+taken options None = None
+taken options (Some parts) = if is_none (refusal_of options parts.0 parts.1) then Some (with_value options parts.0 parts.1) else None
+
+-- the options behind a line, or none where it is unreadable
+unfoldable pub behind_line : OptionsValue → List ℕ → Option OptionsValue
+behind_line options line =
+    if is_passed_over line then Some options
+    else if is_utf8 line then taken options (parted line)
+    else None
+
+-- the options behind all lines, of which the first has a number, or the number of the first line that is unreadable
+abbrev pub behind_lines : ℕ → OptionsValue → List (List ℕ) → Result OptionsValue ℕ
+behind_lines number options [] = Ok options
+behind_lines number options (line ∷ lines) =
+    option_map_or (λ behind. behind_lines (number + 1) behind lines) (behind_line options line) (Err number)
+
+-- the options that a file holds; its first line may tell the version, which is 1 without it
+abbrev pub of_lines : List (List ℕ) → Result OptionsValue ℕ
+of_lines [] = Ok fresh
+of_lines (line ∷ lines) = if bytes_eq line version_line then behind_lines 2 fresh lines else behind_lines 1 fresh (line ∷ lines)
+
+unfoldable pub config_of : List ℕ → Result OptionsValue ℕ
+config_of bytes = of_lines (lines_of bytes)
+
+-- ---- writing
+
+abbrev pub set_line : List ℕ → OptionRow → List ℕ → List ℕ
+set_line prefix row value = prefix ++ row.name ++ equals_sign ++ value
+
+-- the line of an option, where it is set
+abbrev pub lines_of_value : List ℕ → OptionRow → Option (List ℕ) → List (List ℕ)
+lines_of_value prefix row None = []
+lines_of_value prefix row (Some value) = set_line prefix row value ∷ []
+
+-- a line for each option of a table that is set
+abbrev pub set_lines : List ℕ → List OptionRow → List (Option (List ℕ)) → List (List ℕ)
+set_lines prefix [] values = []
+set_lines prefix (row ∷ rows) [] = []
+set_lines prefix (row ∷ rows) (None ∷ values) = set_lines prefix rows values
+set_lines prefix (row ∷ rows) (Some value ∷ values) = set_line prefix row value ∷ set_lines prefix rows values
+
+-- what the names of a server's options begin with
+abbrev pub prefix_of : List ℕ → List ℕ
+prefix_of name = server_prefix ++ name ++ codes "."
+
+abbrev pub server_lines : ServerOptions → List (List ℕ)
+server_lines server = set_lines (prefix_of server.name) of_server server.own
+
+-- the version, the options that are set in the order of the table, and those of each server in the order of their making
+abbrev pub config_lines : OptionsValue → List (List ℕ)
+config_lines options = version_line ∷ (set_lines [] globals options.set ++ flat_map server_lines options.servers)
+
+-- each line ended by LF
+abbrev pub ended : List (List ℕ) → List ℕ
+ended lines = flat_map (λ line. line ++ 10 ∷ []) lines
+
+unfoldable pub config_text : OptionsValue → List ℕ
+config_text options = ended (config_lines options)

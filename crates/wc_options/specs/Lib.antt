@@ -1,0 +1,11 @@
+pub mod Address
+pub mod Config
+pub mod File
+pub mod Kept
+pub mod Names
+pub mod Number
+pub mod Options
+pub mod Place
+pub mod ReadConfig
+pub mod Table
+pub mod Values

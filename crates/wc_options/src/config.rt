@@ -1,0 +1,134 @@
+ghost use Rattle.std.specs.Prelude.{◌≡◌, ◌≢◌, ◌<◌, ◌^◌, ◌+◌, ◌∷◌, ◌++◌, [], Ok, Err, Some, None, IfOk, IfErr, OnOk, OnErr, bytes_eq, take, codes, drop, length, slice_index_or};
+ghost use Rattle.std.specs.Str.{is_utf8, IsUtf8};
+ghost use Rattle.wc_options.specs.Config.{config_of, behind_line, behind_lines, is_passed_over, version_line, taken};
+ghost use Rattle.wc_options.specs.File.{lines_of, parted};
+ghost use Rattle.wc_options.specs.ReadConfig.{IsBadLine};
+
+use crate::file::{first_line, part_line};
+use crate::options::Options;
+use crate::refusal::{ConfigRefused, SetRefused};
+use std::alloc::Global;
+use wc_text::NoMemory;
+
+/// The line that tells the version of the file.
+pub(crate) const VERSION_LINE: &[u8] = b"config_version = 1";
+
+/// Why a line is not taken.
+pub(crate) enum LineRefused {
+    Unreadable,
+    NoMemory,
+}
+
+/// The options that a file holds.
+///
+/// Lines are ended by LF, which the last may lack. Empty lines and lines that begin with `#` are
+/// passed over; the first line may tell the version, which is 1. Another line is `name = value`,
+/// parted at the first ` = `, and a repeated name takes the last value. Where a line is not UTF-8,
+/// has no ` = `, names no option, has a value that its option does not take, or would make a 65th
+/// server, the answer is the number of the first such line, and nothing is taken from the file.
+#[tactic(auto, using(crate::proofs::ConfigLemmas::config_read))]
+pub fn read_config(alloc: Global, bytes: &[u8]) -> Result<Options, ConfigRefused>
+    ensures read { IfOk result (λ options. config_of bytes.now ≡ Ok options) }
+    ensures bad_line { IfErr result (λ refused. refused ≢ ConfigRefused.NoMemory → IsBadLine refused (config_of bytes.now)) }
+{
+    let Ok(options) = Options::new(alloc) else {
+        return Err(ConfigRefused::NoMemory);
+    };
+    match first_line(bytes) {
+        Some((line, rest)) => {
+            if line == VERSION_LINE {
+                return options.read_lines(alloc, 2, rest);
+            }
+            options.read_lines(alloc, 1, bytes)
+        }
+        None => Ok(options),
+    }
+}
+
+impl Options {
+    /// Takes the lines of a file, of which the first has a number.
+    #[tactic(auto, using(crate::proofs::ConfigLemmas::lines_read))]
+    fn read_lines(
+        mut self,
+        alloc: Global,
+        first: u64,
+        bytes: &[u8],
+    ) -> Result<Options, ConfigRefused>
+        requires { first + length bytes.now < 2 ^ 64 }
+        ensures read { IfOk result (λ options. behind_lines first self (lines_of bytes.now) ≡ Ok options) }
+        ensures bad_line { IfErr result (λ refused. refused ≢ ConfigRefused.NoMemory → IsBadLine refused (behind_lines first self (lines_of bytes.now))) }
+    {
+        let mut number = first;
+        let mut rest = bytes;
+        while let Some((line, others)) = first_line(rest) {
+            match self.take_line(alloc, line) {
+                Ok(()) => {}
+                Err(LineRefused::Unreadable) => return Err(ConfigRefused::BadLine { line: number }),
+                Err(LineRefused::NoMemory) => return Err(ConfigRefused::NoMemory),
+            }
+            number += 1;
+            rest = others;
+        }
+        Ok(self)
+    }
+
+    /// Takes one line of a file.
+    #[tactic(auto, using(crate::proofs::ConfigLemmas::lines_taken))]
+    fn take_line(&mut self, alloc: Global, line: &[u8]) -> Result<(), LineRefused>
+        ensures taken { OnOk result (behind_line self.old line.now ≡ Some self.new) }
+        ensures refused { IfErr result (λ refused. refused ≢ LineRefused.NoMemory → behind_line self.old line.now ≡ None) }
+    {
+        if is_passed_over(line) {
+            return Ok(());
+        }
+        if is_utf8(line) {
+            return self.take_text(alloc, line);
+        }
+        Err(LineRefused::Unreadable)
+    }
+
+    fn take_text(&mut self, alloc: Global, line: &[u8]) -> Result<(), LineRefused>
+        requires { IsUtf8 line.now }
+        ensures taken { OnOk result (taken self.old (parted line.now) ≡ Some self.new) }
+        ensures refused { IfErr result (λ refused. refused ≢ LineRefused.NoMemory → taken self.old (parted line.now) ≡ None) }
+    {
+        match part_line(line) {
+            Some((name, value)) => self.take_value(alloc, name, value),
+            None => Err(LineRefused::Unreadable),
+        }
+    }
+
+    fn take_value(&mut self, alloc: Global, name: &[u8], value: &[u8]) -> Result<(), LineRefused>
+        requires { IsUtf8 value.now }
+        ensures taken { OnOk result (taken self.old (Some (name.now, value.now)) ≡ Some self.new) }
+        ensures refused { IfErr result (λ refused. refused ≢ LineRefused.NoMemory → taken self.old (Some (name.now, value.now)) ≡ None) }
+    {
+        match self.set_bytes(alloc, name, value) {
+            Ok(_) => Ok(()),
+            Err(SetRefused::NoMemory) => Err(LineRefused::NoMemory),
+            Err(SetRefused::UnknownOption) => Err(LineRefused::Unreadable),
+            Err(SetRefused::BadValue { range: _ }) => Err(LineRefused::Unreadable),
+            Err(SetRefused::TooManyServers { limit: _ }) => Err(LineRefused::Unreadable),
+        }
+    }
+}
+
+/// Whether a line is empty or a comment.
+fn is_passed_over(line: &[u8]) -> bool
+    ensures { result ≡ is_passed_over line.now }
+{
+    match line {
+        [] => true,
+        [first, ..] => *first == b'#',
+    }
+}
+
+#[tactic(auto, using(crate::proofs::ConfigLemmas::utf8_tests))]
+fn is_utf8(line: &[u8]) -> bool
+    ensures { result ≡ is_utf8 line.now }
+{
+    match std::str::from_utf8(line) {
+        Ok(_) => true,
+        Err(_) => false,
+    }
+}

@@ -1,0 +1,18 @@
+use wc_text::{LinkId, Text};
+
+/// One thing that the sockets gave.
+#[derive(Drop)]
+pub enum Happening {
+    /// A wait came back at this moment, in milliseconds since 1970.
+    Woke(u64),
+    /// A link was accepted, with its nonce.
+    Accepted(LinkId, [u8; 16]),
+    /// Bytes came on a link.
+    Read(LinkId, Text),
+    /// A link's bytes came to their end.
+    Ended(LinkId),
+    /// A read of a link or a write to it failed.
+    Failed(LinkId),
+    /// The listener failed.
+    ListenFailed,
+}
