@@ -1,5 +1,5 @@
 -- The rows of the links that are there, which ascend by number.
-use Rattle.std.specs.Prelude.{ℕ, ◌≡◌, ◌<◌, ◌≤◌, ◌||◌, Bool, true, false, List, length, map, All, Option, Some, None, slice_index}
+use Rattle.std.specs.Prelude.{ℕ, ◌≡◌, ◌<◌, ◌||◌, Bool, true, false, List, length, map, All, Option, Some, None, slice_index}
 use Rattle.std.specs.List.{list_any}
 use Rattle.wc_outside.specs.declared.sockets.Token.{Token}
 use Rattle.wc_outside.specs.Happenings.{is_link, is_listener, IsThere}

@@ -1,5 +1,5 @@
-use Rattle.std.proofs.Common.{◌≡◌, ◌<◌, ◌+◌, ◌-◌, ◌/◌, ◌≤◌, length, get_or, arith}
-use Rattle.wc_headless.specs.Rows.{number_of, no_row}
+use Rattle.std.proofs.Common.{◌+◌, ◌-◌, ◌/◌, arith}
+use Rattle.wc_headless.specs.Rows.{no_row}
 use Rattle.wc_headless.proofs.RowLemmas.{placed_at, missing_between, below_middle, above_middle}
 use Rattle.wc_headless.proofs.rows.place_of.Goals as goal
 
