@@ -1,0 +1,4 @@
+pub mod Kinds
+pub mod Hex
+pub mod Spelling
+pub mod Forms

@@ -1,0 +1,11 @@
+//! Objects and messages of the relay.
+#![tactic(auto)]
+
+mod hex;
+mod kind;
+mod object;
+mod size;
+mod write;
+
+pub use kind::Kind;
+pub use object::{Hda, HdaItem, InlVar, Object, WireMessage};
