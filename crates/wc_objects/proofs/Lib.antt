@@ -1,2 +1,4 @@
 pub mod Digits
 pub mod Rooms
+pub mod Pieces
+pub mod Texts

@@ -4,6 +4,7 @@ use Rattle.std.specs.List.{flat_map}
 use Rattle.std.specs.Fmt.{signed_decimal}
 use Rattle.std.specs.Int.{w8, w32, to_be_bytes, cast_unsigned}
 use Rattle.wc_objects.specs.declared.kind.Kind.{Kind}
+use Rattle.wc_objects.specs.declared.kind.Kind.TheVariants.{Str}
 use Rattle.wc_objects.specs.declared.object.Object.{Object, out-Object}
 use Rattle.wc_objects.specs.declared.object.Object.TheOpen.{Object-F}
 use Rattle.wc_objects.specs.declared.object.Hda.{Hda, out-Hda}
@@ -98,6 +99,10 @@ body_bytes id objects = 0 ∷ (text_bytes (Some id) ++ flat_map object_bytes obj
 -- a message, whose length counts itself
 unfoldable pub message_bytes : List ℕ → List Object → List ℕ
 message_bytes id objects = be32 (4 + length (body_bytes id objects)) ++ body_bytes id objects
+
+-- what stands behind the length of a message of one str
+abbrev pub text_body_bytes : List ℕ → List ℕ → List ℕ
+text_body_bytes id text = 0 ∷ (text_bytes (Some id) ++ (letters Str ++ text_bytes (Some text)))
 
 -- what is left of a room behind the bytes, or None where they are longer
 abbrev pub FitsIn : Option ℕ → ℕ → List ℕ → Type 0

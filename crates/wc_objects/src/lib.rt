@@ -1,7 +1,9 @@
 //! Objects and messages of the relay.
 #![tactic(auto)]
 
+mod forms;
 mod hex;
+mod keys;
 mod kind;
 mod object;
 mod size;

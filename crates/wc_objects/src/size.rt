@@ -1,11 +1,11 @@
 //! How long a message is, found before it is written: each function tells what is left of a room
 //! behind what it looks at, and None where that is longer than the room.
 
-ghost use Rattle.std.specs.Prelude.{◌≡◌, ◌+◌, ◌-◌, ◌^◌, ◌<◌, ◌≤◌, ◌++◌, ◌∷◌, List, length, MatchOption, Some};
+ghost use Rattle.std.specs.Prelude.{◌≡◌, ◌+◌, ◌-◌, ◌^◌, ◌<◌, ◌≤◌, ◌++◌, ◌∷◌, [], List, length, MatchOption, Some};
 ghost use Rattle.std.specs.List.{flat_map};
 ghost use Rattle.std.specs.Fmt.{signed_decimal};
 ghost use Rattle.wc_objects.specs.Hex.{hex};
-ghost use Rattle.wc_objects.specs.Spelling.{short_bytes, pointer_bytes, text_bytes, counted, simple_bytes, pair_bytes, value_bytes, item_bytes, hda_bytes, variable_bytes, object_bytes, message_bytes, FitsIn};
+ghost use Rattle.wc_objects.specs.Spelling.{short_bytes, pointer_bytes, text_bytes, counted, simple_bytes, pair_bytes, value_bytes, item_bytes, hda_bytes, variable_bytes, object_bytes, message_bytes, text_body_bytes, FitsIn};
 
 use crate::hex::HexBuffer;
 use crate::object::{Hda, HdaItem, InlVar, Object};
@@ -223,5 +223,15 @@ pub fn message_length(id: &[u8], objects: &[Object]) -> Option<usize>
 {
     let room = behind_bytes(MAX_MESSAGE - 5, id)?;
     let room = behind_objects(room, objects)?;
+    Some(MAX_MESSAGE - room)
+}
+
+/// The same for a message of one `str`.
+pub fn text_message_length(id: &[u8], text: &[u8]) -> Option<usize>
+    ensures { MatchOption result (2 ^ 31 - 1 < 4 + length (text_body_bytes id.now text.now))
+        (λ n. (n ≡ 4 + length (text_body_bytes id.now text.now)) × (n ≤ 2 ^ 31 - 1)) }
+{
+    let room = behind_bytes(MAX_MESSAGE - 5, id)?;
+    let room = behind_bytes(room.checked_sub(3)?, text)?;
     Some(MAX_MESSAGE - room)
 }

@@ -1,17 +1,21 @@
 //! Messages as bytes.
 
-ghost use Rattle.std.specs.Prelude.{◌≡◌, ◌+◌, ◌-◌, ◌^◌, ◌<◌, ◌≤◌, ◌++◌, ◌∷◌, List, length, Some, IsTrue, true, IfOk, IsOk, OnOk, OnErr, IsErrOf};
+ghost use Rattle.std.specs.Prelude.{◌≡◌, ◌+◌, ◌-◌, ◌^◌, ◌<◌, ◌≤◌, ◌++◌, ◌∷◌, [], List, length, Some, IsTrue, true, IfOk, IsOk, OnOk, OnErr, IsErrOf};
 ghost use Rattle.std.specs.List.{flat_map};
 ghost use Rattle.std.specs.Fmt.{signed_decimal};
+ghost use Rattle.std.specs.Str.{IsUtf8};
+ghost use Rattle.wc_objects.specs.Forms.{well_formed};
 ghost use Rattle.wc_objects.specs.Hex.{hex};
-ghost use Rattle.wc_objects.specs.Spelling.{be32, short_bytes, pointer_bytes, text_bytes, counted, simple_bytes, pair_bytes, value_bytes, item_bytes, hda_bytes, variable_bytes, table_bytes, array_bytes, whole_bytes, object_bytes, message_bytes, HasRoom, Puts};
+ghost use Rattle.wc_objects.specs.Spelling.{be32, short_bytes, pointer_bytes, text_bytes, counted, simple_bytes, pair_bytes, value_bytes, item_bytes, hda_bytes, variable_bytes, table_bytes, array_bytes, whole_bytes, object_bytes, body_bytes, message_bytes, text_body_bytes, HasRoom, Puts};
 ghost use Rattle.wc_objects.specs.Kinds.{letters};
 
 use crate::hex::HexBuffer;
 use crate::kind::Kind;
 use crate::object::{Hda, HdaItem, InlVar, Object};
 use bytes::BytesMut;
-use wc_text::{Items, Text};
+use crate::size::{message_length, text_message_length};
+use std::alloc::Global;
+use wc_text::{Items, NoMemory, Text};
 
 /// Puts the low four bytes of a count. A count that needs more is that of no message.
 #[tactic(auto, unfolding(crate::specs::Spelling::be32))]
@@ -280,4 +284,128 @@ fn put_objects(out: &mut BytesMut, objects: &[Object])
     for object in objects {
         put_object(out, object);
     }
+}
+
+/// Puts what stands behind the length of a message.
+fn put_body(out: &mut BytesMut, id: &[u8], objects: &[Object])
+    requires { HasRoom out.old (body_bytes id.now objects.now) }
+    ensures { Puts out.old out.new (body_bytes id.now objects.now) }
+{
+    out.extend_reserved(&[0]);
+    put_bytes(out, id);
+    put_objects(out, objects);
+}
+
+/// Puts a message whose length is known.
+fn put_message(out: &mut BytesMut, size: usize, id: &[u8], objects: &[Object])
+    requires size { size ≡ length (message_bytes id.now objects.now) }
+    requires room { HasRoom out.old (message_bytes id.now objects.now) }
+    ensures { Puts out.old out.new (message_bytes id.now objects.now) }
+{
+    put_count(out, size);
+    put_body(out, id, objects);
+}
+
+/// Puts what stands behind the length of a message of one `str`.
+fn put_text_body(out: &mut BytesMut, id: &[u8], text: &[u8])
+    requires { HasRoom out.old (text_body_bytes id.now text.now) }
+    ensures { Puts out.old out.new (text_body_bytes id.now text.now) }
+{
+    out.extend_reserved(&[0]);
+    put_bytes(out, id);
+    put_kind(out, Kind::Str);
+    put_bytes(out, text);
+}
+
+/// Puts a message of one `str` whose length is known.
+fn put_text_message(out: &mut BytesMut, size: usize, id: &[u8], text: &[u8])
+    requires size { size ≡ length (message_bytes id.now (Object.Str (Some text.now) ∷ [])) }
+    requires room { HasRoom out.old (message_bytes id.now (Object.Str (Some text.now) ∷ [])) }
+    ensures { Puts out.old out.new (message_bytes id.now (Object.Str (Some text.now) ∷ [])) }
+{
+    put_count(out, size);
+    put_text_body(out, id, text);
+}
+
+/// Why a message was not written.
+#[derive(Clone, Copy, Debug, PartialEq, Eq, thiserror::Error)]
+pub enum WriteRefused {
+    #[error("the message is longer than 2147483647 bytes")]
+    TooLong,
+    #[error("out of memory")]
+    NoMemory,
+}
+
+/// Puts a message of well-formed objects behind the bytes that stand in a buffer, in WeeChat's relay
+/// protocol without compression. Where it is refused the bytes stay as they were.
+///
+/// `TooLong` where the message would be longer than 2^31 - 1 bytes, which is found before memory is
+/// asked for; `NoMemory` where the buffer can't grow by its length.
+pub fn append_message(
+    out: &mut BytesMut,
+    id: &[u8],
+    objects: &[Object],
+) -> Result<(), WriteRefused>
+    requires formed { well_formed objects.now ≡ true }
+    requires text { IsUtf8 id.now }
+    ensures ok { OnOk result (out.new.items ≡ out.old.items ++ message_bytes id.now objects.now) }
+    ensures fits { OnOk result (length (message_bytes id.now objects.now) ≤ 2 ^ 31 - 1) }
+    ensures too_long { IsErrOf result WriteRefused.TooLong → 2 ^ 31 - 1 < length (message_bytes id.now objects.now) }
+    ensures err { OnErr result (out.new.items ≡ out.old.items) }
+{
+    let Some(size) = message_length(id, objects) else {
+        return Err(WriteRefused::TooLong);
+    };
+    let Ok(()) = out.reserve(size) else {
+        return Err(WriteRefused::NoMemory);
+    };
+    put_message(out, size, id, objects);
+    Ok(())
+}
+
+/// A message of well-formed objects, in WeeChat's relay protocol without compression.
+///
+/// `TooLong` where it would be longer than 2^31 - 1 bytes, which is found before memory is asked for.
+pub fn write_message(
+    alloc: Global,
+    id: &Text,
+    objects: &Items<Object>,
+) -> Result<Text, WriteRefused>
+    requires formed { well_formed objects.now ≡ true }
+    requires text { IsUtf8 id.now }
+    ensures ok { IfOk result (λ text. text ≡ message_bytes id.now objects.now) }
+    ensures fits { OnOk result (length (message_bytes id.now objects.now) ≤ 2 ^ 31 - 1) }
+    ensures too_long { IsErrOf result WriteRefused.TooLong → 2 ^ 31 - 1 < length (message_bytes id.now objects.now) }
+{
+    let Some(size) = message_length(id.as_slice(), objects.as_slice()) else {
+        return Err(WriteRefused::TooLong);
+    };
+    let Ok(mut out) = BytesMut::with_capacity(alloc, size) else {
+        return Err(WriteRefused::NoMemory);
+    };
+    put_message(&mut out, size, id.as_slice(), objects.as_slice());
+    match Text::from_slice(alloc, out.as_slice()) {
+        Ok(text) => Ok(text),
+        Err(NoMemory) => Err(WriteRefused::NoMemory),
+    }
+}
+
+/// Puts the message of one `str` behind the bytes that stand in a buffer, as `append_message` does.
+#[tactic(auto, using(crate::proofs::Rooms::text_sizes))]
+pub fn append_text(out: &mut BytesMut, id: &[u8], text: &[u8]) -> Result<(), WriteRefused>
+    requires id { IsUtf8 id.now }
+    requires text { IsUtf8 text.now }
+    ensures ok { OnOk result (out.new.items ≡ out.old.items ++ message_bytes id.now (Object.Str (Some text.now) ∷ [])) }
+    ensures fits { OnOk result (length (message_bytes id.now (Object.Str (Some text.now) ∷ [])) ≤ 2 ^ 31 - 1) }
+    ensures too_long { IsErrOf result WriteRefused.TooLong → 2 ^ 31 - 1 < length (message_bytes id.now (Object.Str (Some text.now) ∷ [])) }
+    ensures err { OnErr result (out.new.items ≡ out.old.items) }
+{
+    let Some(size) = text_message_length(id, text) else {
+        return Err(WriteRefused::TooLong);
+    };
+    let Ok(()) = out.reserve(size) else {
+        return Err(WriteRefused::NoMemory);
+    };
+    put_text_message(out, size, id, text);
+    Ok(())
 }
