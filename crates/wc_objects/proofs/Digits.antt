@@ -21,7 +21,7 @@ writes_digit n at digits whole positive room long so_far =
     let before : at - 1 < length digits = omega arith in
     let next : at - 1 + 1 ≡ at = omega arith in
     rw (drop-set digits (at - 1) (glyph (n % 16)) before, next)
-        (rw (step, map-append, append_assoc) at so_far)
+    (rw (step, map-append, append_assoc) at so_far)
 
 -- null is one zero
 pub hex_null : (n : ℕ) (digits : List ℕ) → n ≡ 0 → length digits ≡ 16 → drop 15 (set digits 15 48) ≡ hex n

@@ -2,3 +2,4 @@ pub mod Digits
 pub mod Rooms
 pub mod Pieces
 pub mod Texts
+pub mod KeyLemmas

@@ -55,3 +55,21 @@ pub finds_end : (mark : ℕ) (text : List ℕ) (i : ℕ) → i ≡ length text �
 finds_end mark text i ended so_far =
     so_far ∙ ap (λ (t : List ℕ). onto_all (take i text) (pieces_of mark t)) (drop_all i text (omega arith))
     ∙ ap (λ (p : List ℕ). p ∷ []) (append-nil (take i text) ∙ take_all i text (omega arith))
+
+-- there is at least one piece
+pub record Begins (pieces : List (List ℕ)) : Type 0 where
+  pub piece : List ℕ
+  pub others : List (List ℕ)
+  pub are : pieces ≡ piece ∷ others
+
+begins_onto : (b : ℕ) (pieces : List (List ℕ)) → Begins (onto_first b pieces)
+begins_onto b [] = record { piece = b ∷ []; others = []; are = refl }
+begins_onto b (piece ∷ pieces) = record { piece = b ∷ piece; others = pieces; are = refl }
+
+pub begins : (mark : ℕ) (text : List ℕ) → Begins (pieces_of mark text)
+begins mark [] = record { piece = []; others = []; are = refl }
+begins mark (b ∷ text) = by_test (eqb b mark) refl
+  where
+    by_test : (t : Bool) → eqb b mark ≡ t → Begins (pieces_of mark (b ∷ text))
+    by_test true e = record { piece = []; others = pieces_of mark text; are = rw e refl }
+    by_test false e = let P : List (List ℕ) → Type 0 = λ ps. Begins ps in subst P (rw e refl) (begins_onto b (pieces_of mark text))

@@ -10,7 +10,6 @@ use Rattle.wc_objects.specs.declared.object.Object.{Object}
 use Rattle.wc_objects.specs.declared.object.Object.TheViews.{out-Object}
 use Rattle.wc_objects.specs.declared.object.Object.TheVariants as Object
 
-
 pub length-be32 : (n : ℕ) → length (be32 n) ≡ 4
 unfolding be32
 length-be32 n = refl

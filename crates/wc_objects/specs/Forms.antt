@@ -1,5 +1,5 @@
 -- Which objects a message may hold.
-use Rattle.std.specs.Prelude.{ℕ, ◌-◌, Bool, true, false, not, ◌&&◌, ◌==◌, nat_lt, nat_le, List, [], ◌∷◌, length, drop, Option, Some, None, map, if◌then◌else◌, bytes_eq, slice_index}
+use Rattle.std.specs.Prelude.{ℕ, ◌-◌, Bool, true, false, not, ◌&&◌, ◌==◌, nat_lt, nat_le, List, [], ◌∷◌, length, drop, Option, Some, None, map, if◌then◌else◌, bytes_eq, slice_index, is_some}
 use Rattle.std.specs.List.{list_all}
 use Rattle.std.specs.Str.{is_utf8}
 use Rattle.wc_objects.specs.declared.kind.Kind.{Kind}
@@ -104,18 +104,18 @@ values_are [] [] = true
 values_are (kind ∷ kinds) (value ∷ values) = value_is kind value && values_are kinds values
 values_are _ _ = false
 
--- an item has a pointer for each name of the path, and a value for each key
-unfoldable pub item_is : ℕ → List Kind → HdaItem → Bool
-item_is depth kinds item = length (out-HdaItem item).pointers == depth && values_are kinds (out-HdaItem item).values
+abbrev pub values_of : Option (List Kind) → List Object → Bool
+values_of None values = false
+values_of (Some kinds) values = values_are kinds values
 
-abbrev pub items_are : ℕ → Option (List Kind) → List HdaItem → Bool
-items_are depth None items = false
-items_are depth (Some kinds) items = list_all (λ item. item_is depth kinds item) items
+-- an item has a pointer for each name of the path, and a value for each key
+unfoldable pub item_of : ℕ → Option (List Kind) → HdaItem → Bool
+item_of depth kinds item = length (out-HdaItem item).pointers == depth && values_of kinds (out-HdaItem item).values
 
 -- the null hdata has neither path nor keys nor items
 abbrev pub hda_parts_are : Option (List ℕ) → Option (List ℕ) → List HdaItem → Bool
 hda_parts_are None None items = length items == 0
-hda_parts_are (Some path) (Some keys) items = is_utf8 path && is_path path && is_utf8 keys && items_are (length (names_of path)) (kinds_of keys) items
+hda_parts_are (Some path) (Some keys) items = is_utf8 path && is_path path && is_utf8 keys && is_some (kinds_of keys) && list_all (λ item. item_of (length (names_of path)) (kinds_of keys) item) items
 hda_parts_are _ _ items = false
 
 unfoldable pub hda_is : HdaValue → Bool

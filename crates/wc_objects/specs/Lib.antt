@@ -2,3 +2,4 @@ pub mod Kinds
 pub mod Hex
 pub mod Spelling
 pub mod Forms
+pub mod Left

@@ -9,5 +9,7 @@ mod object;
 mod size;
 mod write;
 
+pub use forms::well_formed;
 pub use kind::Kind;
 pub use object::{Hda, HdaItem, InlVar, Object, WireMessage};
+pub use write::{WriteRefused, append_message, append_text, write_message};

@@ -12,8 +12,8 @@ ghost use Rattle.wc_objects.specs.Kinds.{letters};
 use crate::hex::HexBuffer;
 use crate::kind::Kind;
 use crate::object::{Hda, HdaItem, InlVar, Object};
-use bytes::BytesMut;
 use crate::size::{message_length, text_message_length};
+use bytes::BytesMut;
 use std::alloc::Global;
 use wc_text::{Items, NoMemory, Text};
 
@@ -341,11 +341,7 @@ pub enum WriteRefused {
 ///
 /// `TooLong` where the message would be longer than 2^31 - 1 bytes, which is found before memory is
 /// asked for; `NoMemory` where the buffer can't grow by its length.
-pub fn append_message(
-    out: &mut BytesMut,
-    id: &[u8],
-    objects: &[Object],
-) -> Result<(), WriteRefused>
+pub fn append_message(out: &mut BytesMut, id: &[u8], objects: &[Object]) -> Result<(), WriteRefused>
     requires formed { well_formed objects.now ≡ true }
     requires text { IsUtf8 id.now }
     ensures ok { OnOk result (out.new.items ≡ out.old.items ++ message_bytes id.now objects.now) }
