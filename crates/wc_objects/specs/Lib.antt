@@ -3,3 +3,4 @@ pub mod Hex
 pub mod Spelling
 pub mod Forms
 pub mod Left
+pub mod Reading

@@ -141,7 +141,7 @@ fn items_are(depth: usize, keys: &[u8], items: &[HdaItem]) -> bool
 
 /// Whether the bytes are keys.
 #[tactic(auto, unfolding(crate::specs::Forms::kinds_of))]
-fn are_keys(keys: &[u8]) -> bool
+pub fn are_keys(keys: &[u8]) -> bool
     ensures { result ≡ is_some (spec.kinds_of keys.now) }
 {
     let mut left = all_keys(keys);

@@ -1,11 +1,14 @@
 //! Objects and messages of the relay.
 #![tactic(auto)]
 
+mod fault;
 mod forms;
 mod hex;
 mod keys;
 mod kind;
 mod object;
+mod reader;
+mod rule;
 mod size;
 mod write;
 
