@@ -1,5 +1,5 @@
 -- Values that are passed with their keys.
-use Rattle.std.proofs.Common.{◌≡◌, ℕ, ◌≤◌, Bool, true, false, not, List, [], ◌∷◌, length, drop, Option, Some, None, refl, sym, ap, ◌∙◌, subst}
+use Rattle.std.proofs.Common.{◌≡◌, ℕ, ◌≤◌, Bool, true, false, not, List, [], ◌∷◌, ◌++◌, append_assoc, length, drop, Option, Some, None, refl, sym, ap, ◌∙◌, subst}
 use Rattle.std.specs.Prelude.{is_some}
 use Rattle.std.specs.Borrow.{Bor}
 use Rattle.std.proofs.lemmas.List.{drop_all}
@@ -34,3 +34,20 @@ pub all_passed : (keys : List ℕ) (left : Option (Bor (List ℕ))) (values : Li
 all_passed keys left values i none ended tested so_far =
     no_more (is_some left) none tested
     ∙ sym (so_far ∙ ap (λ (vs : List Object). values_of (kinds_of_keys (keys_left left)) vs) (drop_all i values ended) ∙ ends_keys left)
+
+-- the types of some keys, and of those behind them
+abbrev pub behind_kinds : List Kind → Option (List Kind) → Option (List Kind)
+behind_kinds front None = None
+behind_kinds front (Some kinds) = Some (front ++ kinds)
+
+pub kinds_more : (front : List Kind) (kind : Kind) (others : Option (List Kind)) → behind_kinds front (with_kind (Some kind) others) ≡ behind_kinds (front ++ kind ∷ []) others
+kinds_more front kind None = refl
+kinds_more front kind (Some kinds) = ap Some (sym (append_assoc front (kind ∷ []) kinds))
+
+pub kinds_start : (keys : List ℕ) (left : Option (Bor (List ℕ))) → keys_left left ≡ keys_of keys → behind_kinds [] (kinds_of_keys (keys_left left)) ≡ kinds_of keys
+unfolding kinds_of
+kinds_start keys left e = none_before (kinds_of_keys (keys_left left)) ∙ ap kinds_of_keys e
+  where
+    none_before : (kinds : Option (List Kind)) → behind_kinds [] kinds ≡ kinds
+    none_before None = refl
+    none_before (Some kinds) = refl

@@ -3,3 +3,6 @@ pub mod Rooms
 pub mod Pieces
 pub mod Texts
 pub mod KeyLemmas
+pub mod Decimals
+pub mod Hexes
+pub mod Loops

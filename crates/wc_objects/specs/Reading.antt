@@ -45,6 +45,9 @@ Gives view (Err e) rest read = Fails e read
 abbrev pub same_value : {A : Type 0} → A → A
 same_value x = x
 
+abbrev pub no_text : {A : Type 0} → A → Option (List ℕ)
+no_text x = None
+
 -- ---- fields
 
 abbrev pub bytes_at : ℕ → List ℕ → Read (List ℕ)
@@ -53,6 +56,14 @@ bytes_at n bytes = if nat_lt (length bytes) n then broken bytes else Ok (take n 
 -- a number of four bytes
 unfoldable pub number_at : List ℕ → Read ℕ
 number_at bytes = bytes_at 4 bytes >>= λ x. Ok (from_be_bytes w32 x.0, x.1)
+
+-- a signed byte
+unfoldable pub byte_at : List ℕ → Read ℤ
+byte_at bytes = bytes_at 1 bytes >>= λ b. Ok (cast_signed w8 (slice_index b.0 0), b.1)
+
+-- a signed number of four bytes
+unfoldable pub int_at : List ℕ → Read ℤ
+int_at bytes = number_at bytes >>= λ n. Ok (cast_signed w32 n.0, n.1)
 
 -- a count is not negative
 unfoldable pub count_at : List ℕ → Read ℕ
@@ -66,12 +77,13 @@ tested_at test n bytes = bytes_at n bytes >>= λ text. if test text.0 then Ok te
 unfoldable pub name_by : (List ℕ → Bool) → List ℕ → Read (List ℕ)
 name_by test bytes = count_at bytes >>= λ n. tested_at test n.0 n.1
 
-abbrev pub some_text : List ℕ × List ℕ → Read (Option (List ℕ))
-some_text text = Ok (Some text.0, text.1)
+-- the same, as a text that may be null
+unfoldable pub some_text_at : (List ℕ → Bool) → ℕ → List ℕ → Read (Option (List ℕ))
+some_text_at test n bytes = tested_at test n bytes >>= λ text. Ok (Some text.0, text.1)
 
 -- a text, or null
 unfoldable pub text_by : (List ℕ → Bool) → List ℕ → Read (Option (List ℕ))
-text_by test bytes = number_at bytes >>= λ n. if n.0 == 4294967295 then Ok (None, n.1) else (name_by test bytes >>= some_text)
+text_by test bytes = number_at bytes >>= λ n. if n.0 == 4294967295 then Ok (None, n.1) else (if nat_lt n.0 (2 ^ 31) then some_text_at test n.0 n.1 else broken bytes)
 
 unfoldable pub null_at : List ℕ → Read (Option (List ℕ))
 null_at bytes = number_at bytes >>= λ n. if n.0 == 4294967295 then Ok (None, n.1) else broken bytes
@@ -92,10 +104,11 @@ abbrev pub fits_i64 : ℤ → Bool
 fits_i64 (pos n) = nat_lt n (2 ^ 63)
 fits_i64 (negsuc n) = nat_lt n (2 ^ 63)
 
+abbrev pub if_spelt : ℤ → List ℕ → Option ℤ
+if_spelt z text = if fits_i64 z && bytes_eq (signed_decimal z) text then Some z else None
+
 unfoldable pub decimal_number : List ℕ → Option ℤ
-decimal_number text =
-    let z = signed_digits_value 10 text in
-    if fits_i64 z && bytes_eq (signed_decimal z) text then Some z else None
+decimal_number text = if_spelt (signed_digits_value 10 text) text
 
 unfoldable pub decimal_at : List ℕ → Read ℤ
 decimal_at bytes = short_at 20 bytes >>= λ text. spelt (drop 1 bytes) text.1 (decimal_number text.0)
@@ -135,8 +148,8 @@ counted_at read bytes = count_at bytes >>= λ n. times n.0 read n.1
 
 -- a value of a type that holds no others
 unfoldable pub simple_at : Kind → List ℕ → Read Object
-simple_at Chr bytes = bytes_at 1 bytes >>= λ b. Ok (o.Chr (cast_signed w8 (slice_index b.0 0)), b.1)
-simple_at Int bytes = number_at bytes >>= λ n. Ok (o.Int (cast_signed w32 n.0), n.1)
+simple_at Chr bytes = byte_at bytes >>= made o.Chr
+simple_at Int bytes = int_at bytes >>= made o.Int
 simple_at Lon bytes = decimal_at bytes >>= made o.Lon
 simple_at Str bytes = text_at bytes >>= made o.Str
 simple_at Buf bytes = text_at bytes >>= made o.Buf

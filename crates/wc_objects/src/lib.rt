@@ -1,6 +1,7 @@
 //! Objects and messages of the relay.
 #![tactic(auto)]
 
+mod decimal;
 mod fault;
 mod forms;
 mod hex;
@@ -10,6 +11,7 @@ mod object;
 mod reader;
 mod rule;
 mod size;
+mod values;
 mod write;
 
 pub use forms::well_formed;
