@@ -1,6 +1,6 @@
 -- Reading from left to right. Where a field breaks a rule, the answer is how many bytes were left where
 -- the first such field begins.
-use Rattle.std.specs.Prelude.{◌≡◌, ℕ, zero, suc, ◌^◌, ℤ, pos, negsuc, Bool, true, ◌&&◌, ◌==◌, nat_lt, nat_le, List, [], ◌∷◌, length, take, drop, slice_index, Option, Some, None, is_some, Result, Ok, Err, if◌then◌else◌, bytes_eq}
+use Rattle.std.specs.Prelude.{◌≡◌, ℕ, zero, suc, ◌^◌, ℤ, pos, negsuc, Bool, true, ◌&&◌, ◌||◌, ◌-◌, ◌==◌, nat_lt, nat_le, List, [], ◌∷◌, length, take, drop, slice_index, Option, Some, None, is_some, Result, Ok, Err, if◌then◌else◌, bytes_eq}
 use Rattle.std.specs.Int.{w8, w32, from_be_bytes, cast_signed}
 use Rattle.std.specs.Fmt.{signed_decimal}
 use Rattle.std.specs.Str.{is_utf8}
@@ -15,6 +15,8 @@ use Rattle.wc_objects.specs.declared.object.InlVar.{InlVar, roll-InlVar}
 use Rattle.wc_objects.specs.declared.object.WireMessage.{WireMessage}
 use Rattle.wc_objects.specs.declared.rule.Rule.{Rule}
 use Rattle.wc_objects.specs.declared.rule.Rule.TheVariants.{Plain, Path, Keys}
+use Rattle.wc_objects.specs.declared.read.MessageRefused.{MessageRefused}
+use Rattle.wc_objects.specs.declared.read.MessageRefused.TheVariants as refused
 use Rattle.wc_objects.specs.declared.fault.ReadError.{ReadError}
 use Rattle.wc_objects.specs.declared.fault.ReadError.TheVariants as errors
 use Rattle.wc_objects.specs.Hex.{hex_number}
@@ -243,3 +245,30 @@ plain_at bytes = bytes_at 1 bytes >>= λ b. if slice_index b.0 0 == 0 then Ok (0
 -- all bytes of a message of a length that messages have
 unfoldable pub message_of : List ℕ → Result WireMessage ℕ
 message_of bytes = number_at bytes >>= λ size. plain_at size.1 >>= λ plain. name_at plain.1 >>= λ id. objects_of id.1 >>= λ objects. Ok (record { id = id.0; objects = objects })
+
+-- what a function returned is what reading gives, unless memory was refused
+abbrev pub GivesWhole : {X : Type 0} → Result X ReadError → Result X ℕ → Type 0
+GivesWhole (Ok x) read = read ≡ Ok x
+GivesWhole (Err e) read = Fails e read
+
+abbrev pub sized : ℕ → Result WireMessage ℕ → Result (Option (WireMessage × ℕ)) ℕ
+sized size (Ok message) = Ok (Some (message, size))
+sized size (Err left) = Err (size - left)
+
+abbrev pub of_size : ℕ → List ℕ → Result (Option (WireMessage × ℕ)) ℕ
+of_size size bytes =
+    if nat_lt size 9 || nat_lt 2147483647 size then Err 0
+    else (if nat_lt (length bytes) size then Ok None else sized size (message_of (take size bytes)))
+
+-- The message at the front of the bytes and its length, or None where bytes are missing, or the place of the
+-- first field that breaks a rule.
+unfoldable pub first_message : List ℕ → Result (Option (WireMessage × ℕ)) ℕ
+first_message bytes = if nat_lt (length bytes) 4 then Ok None else of_size (from_be_bytes w32 (take 4 bytes)) bytes
+
+abbrev pub Refuses : {A : Type 0} → MessageRefused → Result A ℕ → Type 0
+Refuses refused.NoMemory read = Unit {0}
+Refuses (refused.BadAt place) read = read ≡ Err place
+
+abbrev pub GivesFirst : Result (Option (WireMessage × ℕ)) MessageRefused → Result (Option (WireMessage × ℕ)) ℕ → Type 0
+GivesFirst (Ok x) read = read ≡ Ok x
+GivesFirst (Err e) read = Refuses e read

@@ -38,7 +38,7 @@ impl<'a> Reader<'a> {
 
     /// A number of four bytes.
     #[tactic(auto, unfolding(crate::specs::Reading::number_at))]
-    fn number(&mut self) -> Result<u32, ReadError>
+    pub fn number(&mut self) -> Result<u32, ReadError>
         ensures { Gives same_value result self.new.bytes.now (number_at self.old.bytes.now) }
     {
         if self.bytes.len() < 4 {
