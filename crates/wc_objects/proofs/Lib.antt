@@ -6,3 +6,4 @@ pub mod KeyLemmas
 pub mod Decimals
 pub mod Hexes
 pub mod Loops
+pub mod Spellings

@@ -1,5 +1,6 @@
 -- Values that are read one after the other, as a loop does.
-use Rattle.std.proofs.Common.{◌≡◌, ℕ, suc, ◌-◌, ◌+◌, ◌≤◌, ◌<◌, List, [], ◌∷◌, ◌++◌, Result, Ok, Err, refl, sym, ap, ◌∙◌, append_assoc, append-nil, arith, add-one, length, drop, get_or}
+use Rattle.std.proofs.lemmas.Bool.{eqb-true}
+use Rattle.std.proofs.Common.{true, false, eqb, zero, ◌≡◌, ℕ, suc, ◌-◌, ◌+◌, ◌≤◌, ◌<◌, List, [], ◌∷◌, ◌++◌, Result, Ok, Err, refl, sym, ap, ◌∙◌, append_assoc, append-nil, arith, add-one, length, drop, get_or}
 use Rattle.wc_objects.specs.declared.fault.ReadError.{ReadError}
 use Rattle.wc_objects.specs.declared.fault.ReadError.TheVariants as errors
 use Rattle.std.proofs.Math.Seq.{drop-cons}
@@ -114,3 +115,10 @@ pub objects_left : (front : List Object) (fuel : ℕ) (bytes : List ℕ) (total 
 unfolding objects_within
 objects_left front fuel [] total spent some so_far = absurd (omega arith)
 objects_left front fuel (b ∷ bytes) total spent some so_far = sym so_far ∙ ap (λ k. whole_behind front (objects_within k (b ∷ bytes))) spent
+
+pub is_nothing : (n : ℕ) → true ≡ eqb n 0 → n ≡ 0
+is_nothing n t = eqb-true n 0 (sym t)
+
+pub is_something : (n : ℕ) → false ≡ eqb n 0 → 0 < n
+is_something zero t = absurd cc
+is_something (suc n) t = omega arith

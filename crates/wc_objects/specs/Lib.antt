@@ -4,3 +4,4 @@ pub mod Spelling
 pub mod Forms
 pub mod Left
 pub mod Reading
+pub mod Spells

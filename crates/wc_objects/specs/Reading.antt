@@ -272,3 +272,16 @@ Refuses (refused.BadAt place) read = read ≡ Err place
 abbrev pub GivesFirst : Result (Option (WireMessage × ℕ)) MessageRefused → Result (Option (WireMessage × ℕ)) ℕ → Type 0
 GivesFirst (Ok x) read = read ≡ Ok x
 GivesFirst (Err e) read = Refuses e read
+
+-- the value that reading gives, and how many of the bytes it takes; None where reading gives none
+abbrev pub IsRead : {A : Type 0} → A × ℕ → ℕ → Read A → Type 0
+IsRead found size (Ok x) = (found.0 ≡ x.0) × (found.1 ≡ size - length x.1)
+IsRead found size (Err left) = ⊥
+
+abbrev pub IsBroken : {A : Type 0} → Read A → Type 0
+IsBroken (Ok x) = ⊥
+IsBroken (Err left) = Unit {0}
+
+abbrev pub GivesFront : {A : Type 0} → Option (A × ℕ) → ℕ → Read A → Type 0
+GivesFront (Some found) size read = IsRead found size read
+GivesFront None size read = IsBroken read

@@ -1,15 +1,15 @@
 //! Messages read from bytes.
 
-ghost use Rattle.std.specs.Prelude.{◌≡◌, ◌<◌, ◌≤◌, Some, None, Ok, Err, length, take, drop, MatchOption, MatchResult};
+ghost use Rattle.std.specs.Prelude.{◌≡◌, ◌<◌, ◌≤◌, Some, None, Ok, Err, length, take, drop, MatchOption, IfOk};
 ghost use Rattle.std.specs.Int.{w32, cast_signed, from_be_bytes};
-ghost use Rattle.wc_objects.specs.Reading.{GivesWhole, GivesFirst, objects_of, message_of, first_message};
+ghost use Rattle.wc_objects.specs.Reading.{GivesWhole, GivesFirst, GivesFront, pointer_at, text_at, objects_of, message_of, first_message};
 
 use crate::fault::ReadError;
 use crate::object::{Object, WireMessage};
 use crate::reader::Reader;
 use crate::rule::Rule;
 use std::alloc::Global;
-use wc_text::{Items, Text};
+use wc_text::{Items, NoMemory, Text};
 
 /// Why bytes were not read as a message.
 #[derive(Clone, Copy, Debug, PartialEq, Eq, thiserror::Error)]
@@ -104,4 +104,32 @@ pub fn read_i32(bytes: &[u8]) -> Option<i32>
         return None;
     }
     Some(i32::from_be_bytes([bytes[0], bytes[1], bytes[2], bytes[3]]))
+}
+
+/// The pointer at the front of the bytes, without the letters of its type, and how many bytes it takes. None
+/// where no prefix of the bytes is a pointer in its one form.
+pub fn read_ptr(bytes: &[u8]) -> Option<(u64, usize)>
+    ensures { GivesFront result (length bytes.now) (pointer_at bytes.now) }
+{
+    let mut reader = Reader { bytes };
+    match reader.pointer() {
+        Ok(pointer) => Some((pointer, bytes.len().saturating_sub(reader.bytes.len()))),
+        Err(_) => None,
+    }
+}
+
+/// The text or null at the front of the bytes, without the letters of its type, and how many bytes it takes.
+/// None where no prefix of the bytes is such a text.
+pub fn read_str(
+    alloc: Global,
+    bytes: &[u8],
+) -> Result<Option<(Option<Text>, usize)>, NoMemory>
+    ensures { IfOk result (λ found. GivesFront found (length bytes.now) (text_at bytes.now)) }
+{
+    let mut reader = Reader { bytes };
+    match reader.text(alloc, Rule::Plain) {
+        Ok(text) => Ok(Some((text, bytes.len().saturating_sub(reader.bytes.len())))),
+        Err(ReadError::NoMemory) => Err(NoMemory),
+        Err(ReadError::Broken(_)) => Ok(None),
+    }
 }

@@ -5,6 +5,7 @@ ghost use Rattle.std.specs.List.{flat_map};
 ghost use Rattle.std.specs.Fmt.{signed_decimal};
 ghost use Rattle.std.specs.Str.{IsUtf8};
 ghost use Rattle.wc_objects.specs.Forms.{well_formed};
+ghost use Rattle.wc_objects.specs.Spells.{Spells};
 ghost use Rattle.wc_objects.specs.Hex.{hex};
 ghost use Rattle.wc_objects.specs.Spelling.{be32, short_bytes, pointer_bytes, text_bytes, counted, simple_bytes, pair_bytes, value_bytes, item_bytes, hda_bytes, variable_bytes, table_bytes, array_bytes, whole_bytes, object_bytes, body_bytes, message_bytes, text_body_bytes, HasRoom, Puts};
 ghost use Rattle.wc_objects.specs.Kinds.{letters};
@@ -370,6 +371,7 @@ pub fn write_message(
     requires formed { well_formed objects.now ≡ true }
     requires text { IsUtf8 id.now }
     ensures ok { IfOk result (λ text. text ≡ message_bytes id.now objects.now) }
+    ensures spells { IfOk result (λ text. Spells (record { id = id.now; objects = objects.now }) text) }
     ensures fits { OnOk result (length (message_bytes id.now objects.now) ≤ 2 ^ 31 - 1) }
     ensures too_long { IsErrOf result WriteRefused.TooLong → 2 ^ 31 - 1 < length (message_bytes id.now objects.now) }
 {
