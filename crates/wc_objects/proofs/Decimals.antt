@@ -89,10 +89,10 @@ pub not_spelt : (text digits written : List ℕ) (n : ℤ) → digits ≡ text �
     → None ≡ decimal_number text
 not_spelt text digits written n same fits value formatted other =
     is_no_number text (λ z f e.
-        let equal : n ≡ z = value ∙ ap (signed_digits_value 10) (same ∙ e) ∙ decimal_value z f in
-        let whole : written ≡ text = formatted ∙ ap signed_decimal (to_z-of_z w64 n (subst (λ (y : ℤ). FitsSigned w64 y) (sym value) fits) ∙ equal) ∙ sym e in
-        let tested : bytes_eq written text ≡ true = (bytes_eq-Decides written text).1 whole in
-        absurd cc)
+    let equal : n ≡ z = value ∙ ap (signed_digits_value 10) (same ∙ e) ∙ decimal_value z f in
+    let whole : written ≡ text = formatted ∙ ap signed_decimal (to_z-of_z w64 n (subst (λ (y : ℤ). FitsSigned w64 y) (sym value) fits) ∙ equal) ∙ sym e in
+    let tested : bytes_eq written text ≡ true = (bytes_eq-Decides written text).1 whole in
+    absurd cc)
 
 pub is_number : (text digits written : List ℕ) (n : ℤ) → FitsSigned w64 (signed_digits_value 10 digits) → n ≡ signed_digits_value 10 digits → written ≡ signed_decimal (to_z w64 (of_z w64 n)) → true ≡ bytes_eq written text
     → Some (to_z w64 (of_z w64 n)) ≡ decimal_number text

@@ -51,7 +51,7 @@ pub values_go_on : (front : List Object) (kinds : List Kind) (i : ℕ) (d : Kind
 unfolding values_at
 values_go_on front kinds i d bytes x after total lt h so_far =
     let one : behind front (values_at (drop i kinds) bytes) ≡ behind (front ++ x ∷ []) (values_at (drop (i + 1) kinds) after) =
-        rw (rest_is kinds i d lt, h) (regroup front x (values_at (drop (i + 1) kinds) after)) in
+    rw (rest_is kinds i d lt, h) (regroup front x (values_at (drop (i + 1) kinds) after)) in
     sym one ∙ so_far
 
 pub values_end : (e : ReadError) (front : List Object) (kinds : List Kind) (i : ℕ) (d : Kind) (bytes : List ℕ) (total : Read (List Object)) → i < length kinds → Fails e (value_at (get_or kinds i d) bytes)
@@ -83,7 +83,7 @@ unfolding objects_within
 objects_go_on front count i b bytes x after total lt h so_far =
     let k : count - i ≡ suc (count - (i + 1)) = omega arith in
     let one : whole_behind front (objects_within (count - i) (b ∷ bytes)) ≡ whole_behind (front ++ x ∷ []) (objects_within (count - (i + 1)) after) =
-        rw (k, h) (regroup_whole front x (objects_within (count - (i + 1)) after)) in
+    rw (k, h) (regroup_whole front x (objects_within (count - (i + 1)) after)) in
     sym one ∙ so_far
 
 pub objects_end : (e : ReadError) (front : List Object) (count i : ℕ) (b : ℕ) (bytes : List ℕ) (total : Result (List Object) ℕ) → i < count → Fails e (object_at (b ∷ bytes))

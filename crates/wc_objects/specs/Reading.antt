@@ -44,6 +44,11 @@ abbrev pub Gives : {X A : Type 0} → (X → A) → Result X ReadError → List 
 Gives view (Ok x) rest read = read ≡ Ok (view x, rest)
 Gives view (Err e) rest read = Fails e read
 
+abbrev pub TakesNoMemory : {X : Type 0} → Result X ReadError → Type 0
+TakesNoMemory (Ok x) = Unit {0}
+TakesNoMemory (Err errors.NoMemory) = ⊥
+TakesNoMemory (Err (errors.Broken left)) = Unit {0}
+
 abbrev pub same_value : {A : Type 0} → A → A
 same_value x = x
 
@@ -93,8 +98,8 @@ null_at bytes = number_at bytes >>= λ n. if n.0 == 4294967295 then Ok (None, n.
 -- a text of one byte of length, which is not 0 and not above most
 unfoldable pub short_at : ℕ → List ℕ → Read (List ℕ)
 short_at most bytes = bytes_at 1 bytes >>= λ n.
-  let size = slice_index n.0 0 in
-  if nat_lt 0 size && nat_le size most then bytes_at size n.1 else broken bytes
+    let size = slice_index n.0 0 in
+    if nat_lt 0 size && nat_le size most then bytes_at size n.1 else broken bytes
 
 -- what the text at the front of bytes spells, if it spells something
 abbrev pub spelt : {A : Type 0} → List ℕ → List ℕ → Option A → Read A

@@ -22,3 +22,6 @@ pub use laws::{no_spelling_begins_another, one_spelling};
 pub use object::{Hda, HdaItem, InlVar, Object, WireMessage};
 pub use read::{MessageRefused, read_i32, read_message, read_ptr, read_str};
 pub use write::{WriteRefused, append_message, append_text, write_message};
+
+#[cfg(test)]
+mod tests;

@@ -114,16 +114,14 @@ pub fn read_ptr(bytes: &[u8]) -> Option<(u64, usize)>
     let mut reader = Reader { bytes };
     match reader.pointer() {
         Ok(pointer) => Some((pointer, bytes.len().saturating_sub(reader.bytes.len()))),
-        Err(_) => None,
+        Err(ReadError::Broken(_)) => None,
+        Err(ReadError::NoMemory) => unreachable!(),
     }
 }
 
 /// The text or null at the front of the bytes, without the letters of its type, and how many bytes it takes.
 /// None where no prefix of the bytes is such a text.
-pub fn read_str(
-    alloc: Global,
-    bytes: &[u8],
-) -> Result<Option<(Option<Text>, usize)>, NoMemory>
+pub fn read_str(alloc: Global, bytes: &[u8]) -> Result<Option<(Option<Text>, usize)>, NoMemory>
     ensures { IfOk result (λ found. GivesFront found (length bytes.now) (text_at bytes.now)) }
 {
     let mut reader = Reader { bytes };

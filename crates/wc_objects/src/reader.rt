@@ -2,7 +2,7 @@
 
 ghost use Rattle.std.specs.Prelude.{◌≡◌, Some, None, length};
 ghost use Rattle.std.specs.Int.{w32, cast_signed};
-ghost use Rattle.wc_objects.specs.Reading.{Gives, byte_at, int_at, some_text_at, same_value, keeps, bytes_at, number_at, count_at, tested_at, name_by, text_by, null_at, short_at, decimal_number, decimal_at, pointer_at, kind_by, any_kind, no_text, plain_at};
+ghost use Rattle.wc_objects.specs.Reading.{Gives, TakesNoMemory, byte_at, int_at, some_text_at, same_value, keeps, bytes_at, number_at, count_at, tested_at, name_by, text_by, null_at, short_at, decimal_number, decimal_at, pointer_at, kind_by, any_kind, no_text, plain_at};
 ghost use Rattle.wc_objects.specs.Kinds.{is_simple};
 
 use crate::decimal::decimal_number;
@@ -26,7 +26,8 @@ pub struct Reader<'a> {
 impl<'a> Reader<'a> {
     /// The next bytes, as many as are asked for.
     fn take(&mut self, count: usize) -> Result<&'a [u8], ReadError>
-        ensures { Gives (λ x. x.now) result self.new.bytes.now (bytes_at count self.old.bytes.now) }
+        ensures gives { Gives (λ x. x.now) result self.new.bytes.now (bytes_at count self.old.bytes.now) }
+        ensures no_memory { TakesNoMemory result }
     {
         if self.bytes.len() < count {
             return Err(ReadError::Broken(self.bytes.len()));
@@ -147,7 +148,8 @@ impl<'a> Reader<'a> {
     /// A text of one byte of length, which is not 0 and not above a limit.
     #[tactic(auto, unfolding(crate::specs::Reading::short_at))]
     fn short(&mut self, most: u8) -> Result<&'a [u8], ReadError>
-        ensures { Gives (λ x. x.now) result self.new.bytes.now (short_at most self.old.bytes.now) }
+        ensures gives { Gives (λ x. x.now) result self.new.bytes.now (short_at most self.old.bytes.now) }
+        ensures no_memory { TakesNoMemory result }
     {
         let before = self.bytes.len();
         let front = self.take(1)?;
@@ -174,7 +176,8 @@ impl<'a> Reader<'a> {
     /// A pointer in hex.
     #[tactic(auto, unfolding(crate::specs::Reading::pointer_at))]
     pub fn pointer(&mut self) -> Result<u64, ReadError>
-        ensures { Gives same_value result self.new.bytes.now (pointer_at self.old.bytes.now) }
+        ensures gives { Gives same_value result self.new.bytes.now (pointer_at self.old.bytes.now) }
+        ensures no_memory { TakesNoMemory result }
     {
         let before = self.bytes.len();
         let text = self.short(16)?;

@@ -34,12 +34,7 @@ impl Reader<'_> {
     }
 
     #[tactic(auto, unfolding(crate::specs::Reading::pair_at))]
-    fn pair(
-        &mut self,
-        alloc: Global,
-        key: Kind,
-        value: Kind,
-    ) -> Result<(Object, Object), ReadError>
+    fn pair(&mut self, alloc: Global, key: Kind, value: Kind) -> Result<(Object, Object), ReadError>
         ensures { Gives same_value result self.new.bytes.now (pair_at key value self.old.bytes.now) }
     {
         let first = self.simple(alloc, key)?;
@@ -176,7 +171,12 @@ impl Reader<'_> {
 
     /// The count and the items of an `hda` with a path and keys.
     #[tactic(auto, unfolding(crate::specs::Reading::counted_at))]
-    fn listed(&mut self, alloc: Global, path: &[u8], keys: &[u8]) -> Result<Items<HdaItem>, ReadError>
+    fn listed(
+        &mut self,
+        alloc: Global,
+        path: &[u8],
+        keys: &[u8],
+    ) -> Result<Items<HdaItem>, ReadError>
         ensures { Gives same_value result self.new.bytes.now (items_by (depth_of path.now) (kinds_of keys.now) self.old.bytes.now) }
     {
         let Some(depth) = path_depth(path) else {

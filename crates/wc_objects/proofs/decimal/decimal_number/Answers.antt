@@ -13,10 +13,10 @@ pub returns-then-eq : goal.returns-then-eq
 returns-then-eq c =
     let parsed = c.in-Ok-from_str_radix.ensures.value in
     is_number c.args.text.now c.in-Ok.digits.now c.as_bytes.result.now c.in-Ok-from_str_radix.number parsed.0.1 parsed.1
-        (c.as_bytes.ensures.value ∙ c.format.ensures.text) c.if-eq.ensures
+    (c.as_bytes.ensures.value ∙ c.format.ensures.text) c.if-eq.ensures
 
 pub returns-else-eq : goal.returns-else-eq
 returns-else-eq c =
     let parsed = c.in-Ok-from_str_radix.ensures.value in
     not_spelt c.args.text.now c.in-Ok.digits.now c.as_bytes.result.now c.in-Ok-from_str_radix.number c.in-Ok.ensures.cases.0 parsed.0.1 parsed.1
-        (c.as_bytes.ensures.value ∙ c.format.ensures.text) c.if-eq.ensures
+    (c.as_bytes.ensures.value ∙ c.format.ensures.text) c.if-eq.ensures

@@ -11,12 +11,12 @@ pub returns-in_err-item : goal.returns-in_err-item
 returns-in_err-item c =
     let p = err_from_is_err_and c.from_residual.result c.from_residual.ensures.1 in
     rw (p.1, p.2)
-        (some_end c.in_err-item.field-0.0 c.loop.items (length c.args.self.now.bytes.now) c.loop.counter c.loop.self.bytes.now (objects_of c.args.self.now.bytes.now) (is_something (length c.loop.self.bytes.now) c.if-is_empty.ensures) c.loop-test.true c.in_err-item.ensures c.loop.invariant)
+    (some_end c.in_err-item.field-0.0 c.loop.items (length c.args.self.now.bytes.now) c.loop.counter c.loop.self.bytes.now (objects_of c.args.self.now.bytes.now) (is_something (length c.loop.self.bytes.now) c.if-is_empty.ensures) c.loop-test.true c.in_err-item.ensures c.loop.invariant)
 
 pub loop-preserved : goal.loop-preserved
 loop-preserved c =
     rw c.in_ok-push.ensures.ok
-        (some_go_on c.loop.items (length c.args.self.now.bytes.now) c.loop.counter c.loop.self.bytes.now c.in_ok-item.item c.object.new.self.bytes.now (objects_of c.args.self.now.bytes.now) (is_something (length c.loop.self.bytes.now) c.if-is_empty.ensures) c.loop-test.true c.in_ok-item.ensures c.loop.invariant)
+    (some_go_on c.loop.items (length c.args.self.now.bytes.now) c.loop.counter c.loop.self.bytes.now c.in_ok-item.item c.object.new.self.bytes.now (objects_of c.args.self.now.bytes.now) (is_something (length c.loop.self.bytes.now) c.if-is_empty.ensures) c.loop-test.true c.in_ok-item.ensures c.loop.invariant)
 
 pub returns-then-is_empty-2 : goal.returns-then-is_empty-2
 returns-then-is_empty-2 c = objects_done c.loop.items ((length c.args.self.now.bytes.now) - c.loop.counter) c.loop.self.bytes.now (objects_of c.args.self.now.bytes.now) (is_nothing (length c.loop.self.bytes.now) c.if-is_empty-2.ensures) c.loop.invariant
