@@ -1,0 +1,16 @@
+use Rattle.std.proofs.lemmas.Result.{err_from_is_err_and}
+use Rattle.wc_objects.specs.Reading.{times, simple_at}
+use Rattle.wc_objects.proofs.Loops.{goes_on, ends, is_done}
+use Rattle.wc_objects.proofs.reader.Reader.simple_values.Goals as goal
+
+pub returns-in_err-item : goal.returns-in_err-item
+returns-in_err-item c =
+    let p = err_from_is_err_and c.from_residual.result c.from_residual.ensures.1 in
+    rw (p.1, p.2) (ends (simple_at c.args.kind) c.in_err-item.field-0.0 c.loop.items c.args.count c.loop.counter c.loop.self.bytes.now (times c.args.count (simple_at c.args.kind) c.args.self.now.bytes.now) c.loop-test.true c.in_err-item.ensures c.loop.invariant)
+
+pub loop-preserved : goal.loop-preserved
+loop-preserved c =
+    rw c.in_ok-push.ensures.ok (goes_on (simple_at c.args.kind) c.loop.items c.args.count c.loop.counter c.loop.self.bytes.now c.in_ok-item.item c.simple.new.self.bytes.now (times c.args.count (simple_at c.args.kind) c.args.self.now.bytes.now) c.loop-test.true c.in_ok-item.ensures c.loop.invariant)
+
+pub returns : goal.returns
+returns c = is_done (simple_at c.args.kind) c.loop.items c.args.count c.loop.counter c.loop.self.bytes.now (times c.args.count (simple_at c.args.kind) c.args.self.now.bytes.now) c.loop-test.false c.loop.invariant

@@ -1,0 +1,15 @@
+//! What holds of every spelling.
+
+ghost use Rattle.std.specs.Prelude.{◌≡◌, ℕ, List, [], ◌++◌};
+ghost use Rattle.wc_objects.specs.declared.object.WireMessage.{WireMessage};
+ghost use Rattle.wc_objects.specs.Spells.{Spells};
+
+/// A message has one spelling.
+pub fn one_spelling()
+    ensures { (message : WireMessage) (a b : List ℕ) → Spells message a → Spells message b → a ≡ b }
+{}
+
+/// No spelling of a message begins another, so a stream of messages falls apart in one way.
+pub fn no_spelling_begins_another()
+    ensures { (m n : WireMessage) (a b rest : List ℕ) → Spells m a → Spells n b → b ≡ a ++ rest → rest ≡ [] }
+{}

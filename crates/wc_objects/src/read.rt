@@ -1,0 +1,133 @@
+//! Messages read from bytes.
+
+ghost use Rattle.std.specs.Prelude.{◌≡◌, ◌<◌, ◌≤◌, Some, None, Ok, Err, length, take, drop, MatchOption, IfOk};
+ghost use Rattle.std.specs.Int.{w32, cast_signed, from_be_bytes};
+ghost use Rattle.wc_objects.specs.Reading.{GivesWhole, GivesFirst, GivesFront, pointer_at, text_at, objects_of, message_of, first_message};
+
+use crate::fault::ReadError;
+use crate::object::{Object, WireMessage};
+use crate::reader::Reader;
+use crate::rule::Rule;
+use std::alloc::Global;
+use wc_text::{Items, NoMemory, Text};
+
+/// Why bytes were not read as a message.
+#[derive(Clone, Copy, Debug, PartialEq, Eq, thiserror::Error)]
+pub enum MessageRefused {
+    /// The first field that breaks a rule begins at this place. It is 0 for a length that no message has.
+    #[error("a field breaks a rule at byte {place}")]
+    BadAt { place: usize },
+    #[error("out of memory")]
+    NoMemory,
+}
+
+impl Reader<'_> {
+    /// Objects to the end of the bytes.
+    fn objects(&mut self, alloc: Global) -> Result<Items<Object>, ReadError>
+        ensures { GivesWhole result (objects_of self.old.bytes.now) }
+    {
+        let mut items = Items::new(alloc);
+        for _ in 0..self.bytes.len() {
+            if self.bytes.is_empty() {
+                return Ok(items);
+            }
+            let item = self.object(alloc)?;
+            items.push(item)?;
+        }
+        if self.bytes.is_empty() {
+            Ok(items)
+        } else {
+            Err(ReadError::Broken(self.bytes.len()))
+        }
+    }
+}
+
+/// A message of a length that messages have, of which these are all bytes.
+#[tactic(auto, unfolding(crate::specs::Reading::message_of))]
+fn message(alloc: Global, bytes: &[u8]) -> Result<WireMessage, ReadError>
+    ensures { GivesWhole result (message_of bytes.now) }
+{
+    let mut reader = Reader { bytes };
+    let _size = reader.number()?;
+    reader.no_compression()?;
+    let id = reader.name(alloc, Rule::Plain)?;
+    let objects = reader.objects(alloc)?;
+    Ok(WireMessage { id, objects })
+}
+
+/// The length that the first four bytes state.
+fn stated_length(bytes: &[u8]) -> Option<usize>
+    ensures { MatchOption result (length bytes.now < 4) (λ size. (4 ≤ length bytes.now) × (size ≡ from_be_bytes w32 (take 4 bytes.now))) }
+{
+    if bytes.len() < 4 {
+        return None;
+    }
+    let size = u32::from_be_bytes([bytes[0], bytes[1], bytes[2], bytes[3]]);
+    Some(size as usize)
+}
+
+/// The message at the front of the bytes and how many bytes it takes, in WeeChat's relay protocol without
+/// compression. Other bytes may follow it.
+///
+/// None where fewer than four bytes are there, or the first four state a length from 9 to 2^31 - 1 and fewer
+/// bytes than that are there. `BadAt` where neither holds and the bytes of that length spell no message.
+#[tactic(auto, unfolding(crate::specs::Reading::first_message))]
+pub fn read_message(
+    alloc: Global,
+    bytes: &[u8],
+) -> Result<Option<(WireMessage, usize)>, MessageRefused>
+    ensures exact { GivesFirst result (first_message bytes.now) }
+{
+    let Some(size) = stated_length(bytes) else {
+        return Ok(None);
+    };
+    if size < 9 || size > 0x7fff_ffff {
+        return Err(MessageRefused::BadAt { place: 0 });
+    }
+    if bytes.len() < size {
+        return Ok(None);
+    }
+    match message(alloc, &bytes[..size]) {
+        Ok(message) => Ok(Some((message, size))),
+        Err(ReadError::NoMemory) => Err(MessageRefused::NoMemory),
+        Err(ReadError::Broken(left)) => Err(MessageRefused::BadAt {
+            place: size.saturating_sub(left),
+        }),
+    }
+}
+
+/// The signed number that the first four bytes are, the highest first. None where fewer are there.
+pub fn read_i32(bytes: &[u8]) -> Option<i32>
+    ensures { MatchOption result (length bytes.now < 4) (λ n. (4 ≤ length bytes.now) × (n ≡ cast_signed w32 (from_be_bytes w32 (take 4 bytes.now)))) }
+{
+    if bytes.len() < 4 {
+        return None;
+    }
+    Some(i32::from_be_bytes([bytes[0], bytes[1], bytes[2], bytes[3]]))
+}
+
+/// The pointer at the front of the bytes, without the letters of its type, and how many bytes it takes. None
+/// where no prefix of the bytes is a pointer in its one form.
+pub fn read_ptr(bytes: &[u8]) -> Option<(u64, usize)>
+    ensures { GivesFront result (length bytes.now) (pointer_at bytes.now) }
+{
+    let mut reader = Reader { bytes };
+    match reader.pointer() {
+        Ok(pointer) => Some((pointer, bytes.len().saturating_sub(reader.bytes.len()))),
+        Err(ReadError::Broken(_)) => None,
+        Err(ReadError::NoMemory) => unreachable!(),
+    }
+}
+
+/// The text or null at the front of the bytes, without the letters of its type, and how many bytes it takes.
+/// None where no prefix of the bytes is such a text.
+pub fn read_str(alloc: Global, bytes: &[u8]) -> Result<Option<(Option<Text>, usize)>, NoMemory>
+    ensures { IfOk result (λ found. GivesFront found (length bytes.now) (text_at bytes.now)) }
+{
+    let mut reader = Reader { bytes };
+    match reader.text(alloc, Rule::Plain) {
+        Ok(text) => Ok(Some((text, bytes.len().saturating_sub(reader.bytes.len())))),
+        Err(ReadError::NoMemory) => Err(NoMemory),
+        Err(ReadError::Broken(_)) => Ok(None),
+    }
+}
