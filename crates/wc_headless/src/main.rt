@@ -17,7 +17,7 @@ use mio_sockets::MioSockets;
 use std::process::ExitCode;
 use std::{env, io};
 use std_sink::StdSink;
-use wc_outside::Sink;
+use wc_loop::{config_dir, run_program};
 
 fn main(rt: HostRuntime) -> io::Result<ExitCode> {
     let alloc = rt.alloc();
@@ -25,11 +25,10 @@ fn main(rt: HostRuntime) -> io::Result<ExitCode> {
     for word in env::args(&rt)?.skip(1) {
         words.push(word)?;
     }
-    let _sockets = MioSockets::new(&rt, alloc)?;
-    let _keeper = FileKeeper::new(&rt, alloc, ".")?;
+    let folder = config_dir(&words).unwrap_or(".");
+    let mut sockets = MioSockets::new(&rt, alloc)?;
+    let mut keeper = FileKeeper::new(&rt, alloc, folder)?;
     let mut out = StdSink::new(&rt);
-    match out.write(b"wc-headless 1\n") {
-        Ok(()) => Ok(ExitCode::from(0)),
-        Err(_) => Ok(ExitCode::from(7)),
-    }
+    let ended = run_program(alloc, &words, &mut sockets, &mut keeper, &mut out);
+    Ok(ExitCode::from(ended.status))
 }

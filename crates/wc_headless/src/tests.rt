@@ -8,6 +8,7 @@ use std::net::{Ipv4Addr, Net, SocketAddr, TcpStream};
 use std::random::RandomSource;
 use std::rt::Clock;
 use std::test::Fail;
+use std::time::{SystemTime, UNIX_EPOCH};
 use wc_outside::{Keeper, Ready, Sink, Sockets};
 use wc_text::LinkId;
 
@@ -81,14 +82,17 @@ fn sockets_serve_a_client(rt: HostRuntime) -> Result<(), Fail> {
 #[test]
 fn keeper_replaces_its_file(rt: HostRuntime) -> Result<(), Fail> {
     let alloc = rt.alloc();
-    let folder = "/tmp/wc_headless_keeper_test";
-    fs::create_dir_all(&rt, folder)?;
-    let mut keeper = FileKeeper::new(&rt, alloc, folder)?;
-    let _ = fs::remove_file(&rt, "/tmp/wc_headless_keeper_test/weechat.conf");
+    let moment = SystemTime::now(&rt)?
+        .duration_since(UNIX_EPOCH)
+        .map_or(0, |since| since.as_nanos());
+    let folder = format!(in alloc; "/tmp/wc_headless_keeper_{moment}")?;
+    fs::create_dir_all(&rt, folder.as_str())?;
+    let mut keeper = FileKeeper::new(&rt, alloc, folder.as_str())?;
     assert_eq!(rt; keeper.read_all(alloc)?.as_slice(), b"".as_slice());
     keeper.replace(b"[look]\n")?;
     keeper.replace(b"[relay]\n")?;
     assert_eq!(rt; keeper.read_all(alloc)?.as_slice(), b"[relay]\n".as_slice());
+    fs::remove_dir_all(&rt, folder.as_str())?;
     let mut missing = FileKeeper::new(&rt, alloc, "/tmp/wc_headless_no_such_folder")?;
     assert!(rt; missing.replace(b"x").is_err());
     Ok(())

@@ -1,0 +1,83 @@
+-- Further laws of lists whose elements go by a key.
+use Rattle.std.proofs.Common.{◌≡◌, ℕ, ◌+◌, ◌≤◌, Bool, true, false, cond, eqb, List, [], ◌∷◌, ◌++◌, length, map, Option, Some, None, IsSome, is_some, ◌||◌, refl, arith}
+use Rattle.std.proofs.lemmas.Bool.{false≢true}
+use Rattle.std.proofs.lemmas.Bool.Decides.{nat_tests}
+use Rattle.wc_outside.specs.Keyed.{at_key, put_at, without}
+pub use Rattle.wc_outside.proofs.KeyedLemmas.{PlaceOf-position, at_key-key, put_at-same, at_key-put_other, at_key-put_same, at_key-push_other, at_key-filter_other, at_key-filter_same}
+
+-- what is missing stays missing
+pub at_key-without_none : {X : Type 0} (key : X → ℕ) (k j : ℕ) (xs : List X) → at_key key j xs ≡ None → at_key key j (without key k xs) ≡ None
+at_key-without_none key k j [] h = refl
+at_key-without_none key k j (x ∷ xs) h = missing-without-by key k j x xs (eqb (key x) j) refl (eqb (key x) k) refl (at_key-without_none key k j xs) h
+  where
+    missing-without-by : {X : Type 0} (key : X → ℕ) (k j : ℕ) (x : X) (xs : List X) (b : Bool) → eqb (key x) j ≡ b → (d : Bool) → eqb (key x) k ≡ d
+        → (at_key key j xs ≡ None → at_key key j (without key k xs) ≡ None) → at_key key j (x ∷ xs) ≡ None → at_key key j (without key k (x ∷ xs)) ≡ None
+    missing-without-by key k j x xs true e d f ih h = let q = rw e at h in cc
+    missing-without-by key k j x xs false e true f ih h = rw f (ih (rw e at h))
+    missing-without-by key k j x xs false e false f ih h = rw (f, e) (ih (rw e at h))
+
+pub at_key-put_none : {X : Type 0} (key : X → ℕ) (k j : ℕ) (y : X) (xs : List X) → key y ≡ k → at_key key j xs ≡ None → at_key key j (put_at key k y xs) ≡ None
+at_key-put_none key k j y [] e h = refl
+at_key-put_none key k j y (x ∷ xs) e h = grind (arith, nat_tests, at_key-put_none key k j y xs e)
+
+-- an element that is put in the place of one that is taken out
+pub without-put_at : {X : Type 0} (key : X → ℕ) (k : ℕ) (y : X) (xs : List X) → key y ≡ k → without key k (put_at key k y xs) ≡ without key k xs
+without-put_at key k y [] e = refl
+without-put_at key k y (x ∷ xs) e = grind (arith, nat_tests, without-put_at key k y xs e)
+
+pub without-missing : {X : Type 0} (key : X → ℕ) (k : ℕ) (xs : List X) → at_key key k xs ≡ None → without key k xs ≡ xs
+without-missing key k [] h = refl
+without-missing key k (x ∷ xs) h = grind (arith, nat_tests, without-missing key k xs)
+
+pub length-without_le : {X : Type 0} (key : X → ℕ) (k : ℕ) (xs : List X) → length (without key k xs) ≤ length xs
+length-without_le key k [] = omega arith
+length-without_le key k (x ∷ xs) = grind (arith, nat_tests, length-without_le key k xs)
+
+fewer-by : {X : Type 0} (key : X → ℕ) (k : ℕ) (x : X) (xs : List X) (b : Bool) → eqb (key x) k ≡ b → (IsSome (at_key key k xs) → length (without key k xs) + 1 ≤ length xs)
+    → IsSome (cond b (Some x) (at_key key k xs)) → length (without key k (x ∷ xs)) + 1 ≤ length (x ∷ xs)
+fewer-by key k x xs true e f s = rw e (let most = length-without_le key k xs in omega arith)
+fewer-by key k x xs false e f s = rw e (let most = f s in omega arith)
+
+pub some_of : {X : Type 0} (o : Option X) → is_some o ≡ true → IsSome o
+some_of (Some x) e = e
+some_of None e = absurd (false≢true e)
+
+-- taking an element out leaves fewer
+pub length-without : {X : Type 0} (key : X → ℕ) (k : ℕ) (xs : List X) → IsSome (at_key key k xs) → length (without key k xs) + 1 ≤ length xs
+length-without key k [] h = absurd (false≢true h)
+length-without key k (x ∷ xs) h = fewer-by key k x xs (eqb (key x) k) refl (length-without key k xs) h
+
+pub at_key-push_same : {X : Type 0} (key : X → ℕ) (y : X) (xs : List X) → at_key key (key y) xs ≡ None → at_key key (key y) (xs ++ y ∷ []) ≡ Some y
+at_key-push_same key y [] h = grind (arith, nat_tests)
+at_key-push_same key y (x ∷ xs) h = grind (arith, nat_tests, at_key-push_same key y xs)
+
+-- the keys of what is left
+pub map-without : {X Y : Type 0} (key : X → ℕ) (other : Y → ℕ) (k : ℕ) (xs : List X) (ys : List Y) → map key xs ≡ map other ys → map key (without key k xs) ≡ map other (without other k ys)
+map-without key other k [] [] e = refl
+map-without key other k [] (y ∷ ys) e = cc
+map-without key other k (x ∷ xs) [] e = cc
+map-without key other k (x ∷ xs) (y ∷ ys) e =
+    let head : key x ≡ other y = cc in
+    let tail : map key xs ≡ map other ys = cc in
+    grind (arith, nat_tests, map-without key other k xs ys tail)
+
+pub map-put_at : {X : Type 0} (key : X → ℕ) (k : ℕ) (y : X) (xs : List X) → key y ≡ k → map key (put_at key k y xs) ≡ map key xs
+map-put_at key k y [] e = refl
+map-put_at key k y (x ∷ xs) e = grind (arith, nat_tests, map-put_at key k y xs e)
+
+pub or-false : (b : Bool) → (b || false) ≡ b
+or-false true = refl
+or-false false = refl
+
+pub or-true : (b : Bool) → (b || true) ≡ true
+or-true true = refl
+or-true false = refl
+
+-- what is put in a place is there where something was
+pub is_some-put_at : {X : Type 0} (key : X → ℕ) (k j : ℕ) (y : X) (xs : List X) → key y ≡ k → is_some (at_key key j (put_at key k y xs)) ≡ is_some (at_key key j xs)
+is_some-put_at key k j y [] e = refl
+is_some-put_at key k j y (x ∷ xs) e = grind (arith, nat_tests, is_some-put_at key k j y xs e)
+
+pub is_some-push : {X : Type 0} (key : X → ℕ) (j : ℕ) (y : X) (xs : List X) → is_some (at_key key j (xs ++ y ∷ [])) ≡ (is_some (at_key key j xs) || eqb (key y) j)
+is_some-push key j y [] = grind (arith, nat_tests)
+is_some-push key j y (x ∷ xs) = grind (arith, nat_tests, is_some-push key j y xs)

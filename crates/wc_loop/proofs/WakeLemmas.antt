@@ -1,0 +1,173 @@
+-- Waits return.
+use Rattle.std.proofs.Common.{◌≡◌, ◌≢◌, ℕ, ◌+◌, ◌-◌, ◌^◌, ◌<◌, min, Bool, true, false, cond, eqb, ◌&&◌, ◌||◌, IsTrue, List, [], ◌∷◌, ◌++◌, take, length, slice_index_or, Option, Some, None, is_some, All, refl, sym, ap, ◌∙◌, subst, arith}
+use Rattle.std.specs.List.{list_any}
+use Rattle.std.proofs.lemmas.Bool.{false≢true}
+use Rattle.std.proofs.lemmas.Bool.Decides.{nat_tests}
+use Rattle.std.proofs.lemmas.List.{append-nil}
+use Rattle.std.proofs.lemmas.List.Elements.{All-nil, All-head, All-tail}
+use Rattle.std.proofs.lemmas.List.Folds.{list_any_more}
+use Rattle.wc_outside.specs.Seen.{Seen}
+use Rattle.wc_outside.specs.Happenings.{is_link, is_listener, IsThere}
+use Rattle.wc_outside.specs.declared.sockets.Token.{Token}
+use Rattle.wc_outside.specs.declared.sockets.Token.TheVariants.{Listener, Link}
+use Rattle.wc_outside.specs.declared.happening.Happening.TheVariants.{Woke}
+use Rattle.wc_loop.specs.declared.link_state.LinkState.{LinkState}
+use Rattle.wc_loop.specs.declared.headless.Headless.{Headless}
+use Rattle.wc_outside.specs.Keyed.{at_key, put_at}
+use Rattle.wc_loop.specs.Events.{Tick, is_tick, wake_events, events_of}
+use Rattle.wc_loop.specs.Links.{link_number, is_undrained, marked_at}
+use Rattle.wc_loop.specs.Run.{Seat, run, stays}
+use Rattle.wc_loop.specs.Served.{seats_of, session_link}
+use Rattle.wc_loop.specs.Steps.{Marks, Reports, Begins}
+use Rattle.wc_loop.specs.Turns.{Continues, moment}
+use Rattle.wc_loop.proofs.KeyedLemmas.{or-false, at_key-key, at_key-put_same, at_key-put_other}
+use Rattle.wc_loop.proofs.ServedLemmas.{none_of}
+use Rattle.wc_loop.proofs.StandsLemmas.{For-states, For-woke, SameTails-marked}
+use Rattle.wc_loop.proofs.StepLemmas.{links-marked}
+use Rattle.wc_loop.proofs.TurnLemmas.{Call, Continues-step, Advances-same}
+
+pub Reports-none : (x : Headless) → Reports x x []
+Reports-none x = record {
+  core = refl;
+  clock = refl;
+  used = refl;
+  turns = refl;
+  ran = refl;
+  closed = refl;
+  listening = sym (or-false x.listening);
+  links = λ k. refl;
+  undrained = λ k. sym (or-false _);
+  tails = λ k line h. h;
+}
+
+or-assoc : (a b c : Bool) → ((a || b) || c) ≡ (a || (b || c))
+or-assoc true b c = refl
+or-assoc false b c = refl
+
+or-both : (a b c d : Bool) → ((a || (b && d)) || (c && d)) ≡ (a || ((b || c) && d))
+or-both true b c d = refl
+or-both false true true true = refl
+or-both false true true false = refl
+or-both false true false true = refl
+or-both false true false false = refl
+or-both false false c d = refl
+
+marked-on : (j k : ℕ) (t : Bool) → eqb j k ≡ t → (states : List LinkState) (o : Option LinkState) → at_key link_number j states ≡ o → is_undrained (at_key link_number k (marked_at j true states o)) ≡ (is_undrained (at_key link_number k states) || (t && is_some (at_key link_number k states)))
+marked-on j k true e states None h =
+    let same : j ≡ k = grind (arith, nat_tests) in
+    let none : at_key link_number k states ≡ None = ap (λ i. at_key link_number i states) (sym same) ∙ h in
+    rw none refl
+marked-on j k true e states (Some state) h =
+    let same : j ≡ k = grind (arith, nat_tests) in
+    let before : at_key link_number k states ≡ Some state = ap (λ i. at_key link_number i states) (sym same) ∙ h in
+    let after : at_key link_number k (put_at link_number j (record state { undrained = true }) states) ≡ Some (record state { undrained = true }) = ap (λ i. at_key link_number i (put_at link_number j (record state { undrained = true }) states)) (sym same) ∙ at_key-put_same link_number j state (record state { undrained = true }) states (at_key-key link_number j states state h) h in
+    rw (after, before) (or-one state.undrained)
+  where
+    or-one : (b : Bool) → true ≡ (b || true)
+    or-one true = refl
+    or-one false = refl
+marked-on j k false e states None h = sym (or-false _)
+marked-on j k false e states (Some state) h =
+    let other : k ≢ j = λ q. grind (arith, nat_tests) in
+    ap is_undrained (at_key-put_other link_number j k (record state { undrained = true }) states (at_key-key link_number j states state h) other) ∙ sym (or-false _)
+
+or-true-right : (b : Bool) → true ≡ (b || true)
+or-true-right true = refl
+or-true-right false = refl
+
+pub Marks-listener : (x y : Headless) (token : Token) → token ≡ Listener → y ≡ record x { listening = true } → Marks x y token
+Marks-listener x y token e f = rw (e, f) (record {
+  core = refl;
+  clock = refl;
+  used = refl;
+  turns = refl;
+  ran = refl;
+  closed = refl;
+  listening = or-true-right x.listening;
+  links = λ k. refl;
+  undrained = λ k. sym (or-false _);
+  tails = λ k line h. h;
+})
+
+pub Marks-link : (x y : Headless) (token : Token) (j : ℕ) → ((k : ℕ) → is_link k token ≡ eqb j k) → is_listener token ≡ false → y.core ≡ x.core → y.clock ≡ x.clock → y.used ≡ x.used → y.turns ≡ x.turns → y.ran ≡ x.ran → y.listening ≡ x.listening
+    → y.links.closed.items ≡ x.links.closed.items → y.links.opened.items ≡ marked_at j true x.links.opened.items (at_key link_number j x.links.opened.items) → Marks x y token
+Marks-link x y token j link none core clock used turns ran listening closed opened = record {
+  core = core;
+  clock = clock;
+  used = used;
+  turns = turns;
+  ran = ran;
+  closed = closed;
+  listening = listening ∙ sym (or-false x.listening) ∙ ap (λ b. x.listening || b) (sym none);
+  links = λ k. rw opened (links-marked j k true x.links.opened.items);
+  undrained = λ k. rw (opened, link k) (marked-on j k (eqb j k) refl x.links.opened.items (at_key link_number j x.links.opened.items) refl);
+  tails = rw opened (SameTails-marked j true x.links.opened.items);
+}
+
+pub Reports-more : (x y z : Headless) (tokens : List Token) (i : ℕ) (d : Token) → i < length tokens → Reports x y (take i tokens) → Marks y z (slice_index_or tokens i d) → Reports x z (take (i + 1) tokens)
+Reports-more x y z tokens i d below r m = record {
+  core = m.core ∙ r.core;
+  clock = m.clock ∙ r.clock;
+  used = m.used ∙ r.used;
+  turns = m.turns ∙ r.turns;
+  ran = m.ran ∙ r.ran;
+  closed = m.closed ∙ r.closed;
+  listening = m.listening ∙ ap (λ b. b || is_listener (slice_index_or tokens i d)) r.listening ∙ or-assoc x.listening _ _ ∙ ap (λ b. x.listening || b) (sym (list_any_more is_listener tokens i d below));
+  links = λ k. m.links k ∙ r.links k;
+  undrained = λ k. m.undrained k ∙ ap (λ b. b || (is_link k (slice_index_or tokens i d) && is_some (at_key link_number k y.links.opened.items))) (r.undrained k)
+      ∙ ap (λ q. (is_undrained (at_key link_number k x.links.opened.items) || (list_any (is_link k) (take i tokens) && is_some (at_key link_number k x.links.opened.items))) || (is_link k (slice_index_or tokens i d) && q)) (r.links k)
+      ∙ or-both (is_undrained (at_key link_number k x.links.opened.items)) (list_any (is_link k) (take i tokens)) (is_link k (slice_index_or tokens i d)) (is_some (at_key link_number k x.links.opened.items))
+      ∙ ap (λ b. is_undrained (at_key link_number k x.links.opened.items) || (b && is_some (at_key link_number k x.links.opened.items))) (sym (list_any_more (is_link k) tokens i d below));
+  tails = λ k line h. m.tails k line (r.tails k line h);
+}
+
+there_one : (there : ℕ → Bool) (k : ℕ) (token : Token) → IsThere there token → is_link k token ≡ true → there k ≡ true
+there_one there k Listener h e = absurd (false≢true e)
+there_one there k (Link link) h e = let same : link.0 ≡ k = grind (arith, nat_tests) in subst (λ i. there i ≡ true) same h
+
+pub there_any : (there : ℕ → Bool) (k : ℕ) (tokens : List Token) → All (IsThere there) tokens → list_any (is_link k) tokens ≡ true → there k ≡ true
+there_any there k [] h e = absurd (false≢true e)
+there_any there k (t ∷ ts) h e = any_by (is_link k t) refl e (there_any there k ts (All-tail (IsThere there) t ts h)) (there_one there k t (All-head (IsThere there) t ts h))
+  where
+    any_by : (b : Bool) → is_link k t ≡ b → (b || list_any (is_link k) ts) ≡ true → (list_any (is_link k) ts ≡ true → there k ≡ true) → (is_link k t ≡ true → there k ≡ true) → there k ≡ true
+    any_by true f g later now = now f
+    any_by false f g later now = later g
+
+pub and-if : (a b : Bool) → (a ≡ true → b ≡ true) → a ≡ (a && b)
+and-if true b h = sym (h refl)
+and-if false b h = refl
+
+pub wake-stays : (password : List ℕ) (seats : List Seat) (last : Option ℕ) (moment : ℕ) → run password seats (wake_events last moment) ≡ stays seats
+wake-stays password seats None moment = refl
+wake-stays password seats (Some last) moment = tick-stays (is_tick last moment)
+  where
+    tick-stays : (b : Bool) → run password seats (cond b (Tick moment ∷ []) []) ≡ stays seats
+    tick-stays true = refl
+    tick-stays false = refl
+
+-- a wait returned
+unfoldable pub Continues-woke : (x y z : Headless) (a b : Seen) (moment' : ℕ) (tokens : List Token) → Call a b (Woke moment' ∷ []) → (IsTrue b.tells → (k : ℕ) → b.sent k ≡ a.sent k) → (IsTrue b.tells → (k : ℕ) → b.choked k ≡ a.choked k)
+    → b.used ≡ a.used → ((k : ℕ) → b.there k ≡ a.there k) → ((k : ℕ) → b.undrained k ≡ (a.undrained k || list_any (is_link k) tokens)) → b.listening ≡ (a.listening || list_any is_listener tokens) → All (IsThere a.there) tokens
+    → Begins x y moment' → Reports y z tokens → Continues false 1 0 x None z None a b
+Continues-woke x y z a b m tokens call sent choked used there undrained listening tokens_there begins reports =
+    let core = reports.core ∙ begins.core in
+    Continues-step false 1 0 x None z None a b (Woke m ∷ []) [] call (ap (λ c. c.password) core) (λ below. (let t = begins.turns in let r = reports.turns in omega arith)) refl refl
+    (λ t. absurd (false≢true t)) (All-nil _) (let s = ap (λ c. c.starved) core in omega arith)
+    (λ s. record {
+      counted = reports.used ∙ begins.used ∙ s.counted ∙ sym used;
+      there = λ k. there k ∙ s.there k ∙ ap (λ o. is_some (at_key link_number k o)) (sym begins.opened) ∙ sym (reports.links k);
+      undrained = λ k.
+          let some : a.there k ≡ is_some (at_key link_number k y.links.opened.items) = s.there k ∙ ap (λ o. is_some (at_key link_number k o)) (sym begins.opened) in
+          undrained k ∙ ap (λ q. q || list_any (is_link k) tokens) (s.undrained k ∙ ap (λ o. is_undrained (at_key link_number k o)) (sym begins.opened))
+          ∙ ap (λ q. is_undrained (at_key link_number k y.links.opened.items) || q) (and-if _ _ (λ e. sym some ∙ there_any a.there k tokens tokens_there e)) ∙ sym (reports.undrained k);
+      listens = listening ∙ ap (λ q. q || list_any is_listener tokens) (s.listens ∙ sym begins.listening) ∙ sym reports.listening;
+      clients = λ k. ap (λ c. is_some (at_key session_link k c.sessions.items) || false) core ∙ s.clients k ∙ ap (λ o. is_some (at_key link_number k o)) (sym begins.opened) ∙ sym (reports.links k);
+      apart = λ k e. absurd (false≢true e);
+      unknown = λ k below. none_of _ (reports.links k ∙ ap (λ o. is_some (at_key link_number k o)) begins.opened ∙ ap is_some (s.unknown k (rw (reports.used, begins.used) at below)));
+    })
+    (λ t s.
+    let told = s.told (call.told t) in
+    let count : z.ran ≡ min (x.ran + length (events_of a.taken (Woke m))) (2 ^ 64 - 1) = reports.ran ∙ begins.ran ∙ ap (λ c. min (x.ran + length (wake_events c m)) (2 ^ 64 - 1)) told.clock in
+    rw (reports.clock, begins.clock, reports.used, begins.used) (For-states _ x.links.opened.items z.links.opened.items x.used z.ran (a.taken ++ Woke m ∷ []) (rw begins.opened at reports.tails) (For-woke x.clock x.links.opened.items x.used x.ran z.ran m a.taken count told)))
+    (λ t s same below.
+    rw (append-nil (events_of a.taken (Woke m))) (Advances-same x.core.password (moment x None a) (moment z None b) (ap (λ c. c.sessions.items) core) refl (reports.used ∙ begins.used) (sent t) (choked t) (Woke m ∷ []) (call.taken t) (events_of a.taken (Woke m)) (wake-stays x.core.password (seats_of x.core.sessions.items) _ m)))

@@ -1,0 +1,12 @@
+use Rattle.std.proofs.Common.{◌≡◌, None, false, All}
+use Rattle.wc_loop.specs.Turns.{Continues, Stands, IsCaused}
+use Rattle.wc_loop.proofs.program.take_turns.Given as goal
+
+abbrev pub invariant-loop : goal.invariant-loop
+invariant-loop g l = record {
+  continues : Continues false l.counter 0 l.fn.headless None l.headless None (g.S.Sockets.seen l.fn.sockets) (g.S.Sockets.seen l.sockets);
+  stands : Stands l.headless None (g.S.Sockets.seen l.sockets);
+  causes : All (IsCaused (g.S.Sockets.seen l.fn.sockets) (g.S.Sockets.seen l.sockets)) l.headless.links.closed.items;
+  kept : g.K.Keeper.contents l.keeper ≡ g.K.Keeper.contents l.fn.keeper;
+  count : l.headless.turns ≡ l.counter;
+}

@@ -1,0 +1,154 @@
+-- How a run ends, and what it prints.
+use Rattle.std.specs.Prelude.{ℕ, ◌≡◌, ◌≢◌, ◌≤◌, ◌⊎◌, Bool, true, false, List, [], ◌∷◌, ◌++◌, All, ◌||◌, ◌&&◌, nat_le, Option, Some, None, Result, Ok, Err, IfSome, IsTrue, IsSomeAnd, if◌then◌else◌, ◌==◌, codes, decimal}
+use Rattle.std.specs.Io.KnownBytes.{append_known}
+use Rattle.wc_outside.specs.Faults.{Faults, Rose}
+use Rattle.wc_outside.specs.Seen.{Seen}
+use Rattle.wc_outside.specs.declared.asked.Asked.{Asked}
+use Rattle.wc_outside.specs.declared.asked.Asked.TheVariants.{Listen}
+use Rattle.wc_loop.specs.declared.ending.Ending.{Ending}
+use Rattle.wc_loop.specs.declared.ending.Ending.TheVariants.{Version, BadWord, WaitFailed, NoConfiguration, BadLine, NoMemory, ListenFailed, TurnsTaken}
+use Rattle.wc_loop.specs.declared.headless.Headless.{Headless}
+use Rattle.wc_loop.specs.declared.words.Wish.{Wish}
+use Rattle.wc_loop.specs.Configuration.{password_in}
+use Rattle.wc_loop.specs.Headline.{Headline}
+use Rattle.wc_loop.specs.Turns.{Stands, IsCaused, wakes, listen_faults}
+
+-- the state at the end is there where a wait returned
+abbrev pub kept_of : Headless → Option Headless
+kept_of headless = if headless.turns == 0 then None else Some headless
+
+-- the last state is there exactly where a wait returned, and tells how many did
+abbrev pub LastOf : Seen → Option Headless → Type 0
+LastOf seen None = IsTrue seen.tells → wakes seen.taken ≡ 0
+LastOf seen (Some last) = (1 ≤ last.turns) × (IsTrue seen.tells → wakes seen.taken ≡ last.turns)
+
+-- the status of a run with readable words that ask for this number of waits
+pub record Ends (turns : ℕ) (contents : Option (List ℕ)) (seen : Seen) (status : ℕ) (last : Option Headless) : Type 0 where
+  -- no word decided it
+  pub later : (status ≢ 0) × (status ≢ 1)
+  pub known : status ≤ 8
+  -- a line of the configuration is unreadable, and where one is, it was read
+  pub line : status ≡ 4 → IfSome contents (λ configuration. (password : List ℕ) → password_in configuration ≢ Ok password)
+  pub unreadable : IfSome contents (λ configuration. (n : ℕ) → password_in configuration ≡ Err n → status ≢ 3 → status ≢ 5 → status ≡ 4)
+  -- all waits returned, and the listener did not fail
+  pub all : status ≡ 8 → IsSomeAnd last (λ last. last.turns ≡ turns)
+  pub told : status ≡ 8 → IsTrue seen.tells → (wakes seen.taken ≡ turns) × (listen_faults seen.taken ≡ 0)
+  pub due : IsTrue seen.tells → wakes seen.taken ≡ turns → listen_faults seen.taken ≡ 0 → status ≡ 8
+  pub failed : status ≡ 2 → IsTrue seen.tells → listen_faults seen.taken ≡ 0
+  pub listened : status ≡ 6 → IsTrue seen.tells → 1 ≤ listen_faults seen.taken
+  -- what comes before the first wait
+  pub early : (status ≡ 3) ⊎ ((status ≡ 4) ⊎ (status ≡ 5)) → last ≡ None
+
+-- the status of a run with readable words
+abbrev pub StatusFor : Bool → ℕ → Option (List ℕ) → Seen → ℕ → Option Headless → Type 0
+StatusFor true turns contents seen status last = (status ≡ 0) × (last ≡ None)
+StatusFor false turns contents seen status last = Ends turns contents seen status last
+
+-- the status of a run
+abbrev pub StatusOf : Result Wish ℕ → Option (List ℕ) → Seen → ℕ → Option Headless → Type 0
+StatusOf (Err n) contents seen status last = (status ≡ 1) × (last ≡ None)
+StatusOf (Ok wish) contents seen status last = StatusFor wish.version wish.turns contents seen status last
+
+-- a text and an LF
+abbrev pub line_of : List ℕ → List ℕ
+line_of text = text ++ 10 ∷ []
+
+-- what is printed for a status, with the number of a word or a line
+abbrev pub printed : ℕ → ℕ → List ℕ
+printed status number =
+    if status == 0 then line_of (codes "wc-headless 1") else (
+    if status == 1 then line_of (codes "bad word " ++ decimal number) else (
+    if status == 2 then line_of (codes "wait failed") else (
+    if status == 3 then line_of (codes "cannot read configuration") else (
+    if status == 4 then line_of (codes "configuration line " ++ decimal number) else (
+    if status == 5 then line_of (codes "out of memory") else (
+    if status == 6 then line_of (codes "listen failed") else []))))))
+
+-- the number that is printed is that of the word with a fault, or of the unreadable line
+pub record IsNumber (wish : Result Wish ℕ) (contents : Option (List ℕ)) (status number : ℕ) : Type 0 where
+  pub word : status ≡ 1 → wish ≡ Err number
+  pub line : status ≡ 4 → IfSome contents (λ configuration. password_in configuration ≡ Err number)
+
+-- what the sink holds is what it held, and what is printed behind it
+pub record Prints (wish : Result Wish ℕ) (contents : Option (List ℕ)) (status : ℕ) (before after : Option (List ℕ)) : Type 0 where
+  pub number : ℕ
+  pub is : IsNumber wish contents status number
+  pub holds : after ≡ append_known before (printed status number)
+
+-- words that ask for no turn: one of them is bad, or they ask for the version
+abbrev pub AsksNoTurn : Result Wish ℕ → Type 0
+AsksNoTurn (Err n) = Unit {0}
+AsksNoTurn (Ok wish) = wish.version ≡ true
+
+-- what the sockets are asked for in a run with this status: the listener, unless it ended before
+abbrev pub asked_by : ℕ → List Asked
+asked_by status = if nat_le status 1 || (nat_le 3 status && nat_le status 5) then [] else Listen 9000 ∷ []
+
+-- each status that tells a fault comes only where that count rose
+pub record HasCause (before after : Faults) (kept kept' : ℕ) (status : ℕ) : Type 0 where
+  pub wait : status ≡ 2 → Rose before.waits after.waits
+  pub keeper : status ≡ 3 → Rose kept kept'
+  pub listener : status ≡ 6 → Rose before.listens after.listens
+
+-- the status of an end, and the number in its text
+abbrev pub status_of : Ending → ℕ
+status_of Version = 0
+status_of (BadWord n) = 1
+status_of WaitFailed = 2
+status_of NoConfiguration = 3
+status_of (BadLine n) = 4
+status_of NoMemory = 5
+status_of ListenFailed = 6
+status_of TurnsTaken = 8
+
+abbrev pub number_of : Ending → ℕ
+number_of Version = 0
+number_of (BadWord n) = n
+number_of WaitFailed = 0
+number_of NoConfiguration = 0
+number_of (BadLine n) = n
+number_of NoMemory = 0
+number_of ListenFailed = 0
+number_of TurnsTaken = 0
+
+-- an end before the listener is asked for
+abbrev pub IsEarly : Option (List ℕ) → ℕ → ℕ → Ending → Type 0
+IsEarly contents kept kept' NoConfiguration = Rose kept kept'
+IsEarly contents kept kept' (BadLine n) = IfSome contents (λ configuration. password_in configuration ≡ Err n)
+IsEarly contents kept kept' NoMemory = Unit {0}
+IsEarly contents kept kept' Version = ⊥
+IsEarly contents kept kept' (BadWord n) = ⊥
+IsEarly contents kept kept' WaitFailed = ⊥
+IsEarly contents kept kept' ListenFailed = ⊥
+IsEarly contents kept kept' TurnsTaken = ⊥
+
+-- the state behind the last turn
+pub record IsLast (contents : Option (List ℕ)) (before after : Seen) (last : Headless) : Type 0 where
+  pub headline : Headline contents after last
+  pub stands : Stands last None after
+  pub causes : All (IsCaused before after) last.links.closed.items
+
+-- a run that was asked for this number of waits ends
+pub record Runs (turns : ℕ) (contents : Option (List ℕ)) (kept kept' : ℕ) (before after : Seen) (ending : Ending) (last : Option Headless) : Type 0 where
+  pub ends : Ends turns contents after (status_of ending) last
+  pub line : status_of ending ≡ 4 → IfSome contents (λ configuration. password_in configuration ≡ Err (number_of ending))
+  pub counted : LastOf after last
+  pub left : IfSome last (IsLast contents before after)
+  pub faults : HasCause before.faults after.faults kept kept' (status_of ending)
+  pub asked : IsTrue after.tells → after.asked ≡ asked_by (status_of ending)
+
+-- nothing is asked of the outside
+pub record AsksNothing (kept kept' : ℕ) (before after : Seen) (wanted ending : Ending) (last : Option Headless) : Type 0 where
+  pub ends : ending ≡ wanted
+  pub none : last ≡ None
+  pub seen : after ≡ before
+  pub faults : kept' ≡ kept
+
+abbrev pub RunsFor : Bool → ℕ → Option (List ℕ) → ℕ → ℕ → Seen → Seen → Ending → Option Headless → Type 0
+RunsFor true turns contents kept kept' before after ending last = AsksNothing kept kept' before after Version ending last
+RunsFor false turns contents kept kept' before after ending last = Runs turns contents kept kept' before after ending last
+
+-- the program ends, by its words
+abbrev pub RunsBy : Result Wish ℕ → Option (List ℕ) → ℕ → ℕ → Seen → Seen → Ending → Option Headless → Type 0
+RunsBy (Err n) contents kept kept' before after ending last = AsksNothing kept kept' before after (BadWord n) ending last
+RunsBy (Ok wish) contents kept kept' before after ending last = RunsFor wish.version wish.turns contents kept kept' before after ending last

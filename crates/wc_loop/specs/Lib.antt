@@ -1,0 +1,15 @@
+pub mod Asking
+pub mod Configuration
+pub mod Endings
+pub mod Events
+pub mod Hands
+pub mod Headline
+pub mod Lines
+pub mod Links
+pub mod Requests
+pub mod Run
+pub mod Served
+pub mod Steps
+pub mod Tails
+pub mod Turns
+pub mod Words

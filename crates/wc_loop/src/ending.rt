@@ -1,0 +1,56 @@
+ghost use Rattle.std.specs.Prelude.{◌≡◌, codes};
+ghost use Rattle.wc_loop.specs.Endings.{status_of, number_of, line_of, printed};
+
+use crate::print::{line, numbered};
+use arrayvec::ArrayVec;
+
+/// Why a run ends.
+#[derive(Clone, Copy)]
+pub enum Ending {
+    /// Words asked for the version.
+    Version,
+    /// The word of this number is unknown, lacks its value, or has an unreadable one.
+    BadWord(u64),
+    WaitFailed,
+    NoConfiguration,
+    /// The line of this number is unreadable.
+    BadLine(u64),
+    NoMemory,
+    ListenFailed,
+    /// As many waits returned as were asked for.
+    TurnsTaken,
+}
+
+impl Ending {
+    /// The exit status.
+    pub fn status(self) -> u8
+        ensures { result ≡ status_of self }
+    {
+        match self {
+            Ending::Version => 0,
+            Ending::BadWord(_) => 1,
+            Ending::WaitFailed => 2,
+            Ending::NoConfiguration => 3,
+            Ending::BadLine(_) => 4,
+            Ending::NoMemory => 5,
+            Ending::ListenFailed => 6,
+            Ending::TurnsTaken => 8,
+        }
+    }
+
+    /// What is printed.
+    pub fn text(self) -> ArrayVec<u8, 64>
+        ensures { result.items ≡ printed (status_of self) (number_of self) }
+    {
+        match self {
+            Ending::Version => line(b"wc-headless 1"),
+            Ending::BadWord(number) => numbered(b"bad word ", number),
+            Ending::WaitFailed => line(b"wait failed"),
+            Ending::NoConfiguration => line(b"cannot read configuration"),
+            Ending::BadLine(number) => numbered(b"configuration line ", number),
+            Ending::NoMemory => line(b"out of memory"),
+            Ending::ListenFailed => line(b"listen failed"),
+            Ending::TurnsTaken => ArrayVec::new(),
+        }
+    }
+}

@@ -1,0 +1,32 @@
+//! The loop: turns of waits, reads and writes over the clients that are open.
+#![tactic(auto)]
+
+mod configuration;
+mod ending;
+mod feed;
+mod headless;
+mod line_buffer;
+mod link_state;
+mod links;
+mod login;
+mod print;
+mod program;
+#[cfg(test)]
+mod program_tests;
+mod request;
+mod serve;
+mod serving;
+mod session;
+mod tail;
+#[cfg(test)]
+mod tests;
+mod then;
+mod turns;
+mod unsent;
+mod words;
+
+pub use headless::Headless;
+pub use link_state::{Closed, LinkState};
+pub use program::{Ended, run_program};
+pub use then::Then;
+pub use words::config_dir;

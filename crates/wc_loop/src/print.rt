@@ -1,0 +1,56 @@
+ghost use Rattle.std.specs.Prelude.{◌≡◌, ◌+◌, ◌≤◌, ◌++◌, ◌∷◌, [], length, decimal, OnOk, OnErr};
+ghost use Rattle.std.specs.Io.KnownBytes.{append_known};
+ghost use Rattle.arrayvec.specs.ArrayVec.{array_vec_len};
+ghost use Rattle.wc_outside.specs.Faults.{Rose};
+ghost use Rattle.wc_loop.specs.Endings.{line_of};
+
+use arrayvec::ArrayVec;
+use itoa::Buffer;
+use wc_outside::{Failed, Sink};
+
+/// Prints a text, unless it is empty. It takes no memory of its own.
+pub fn print<O: Sink>(out: &mut O, text: &[u8]) -> Result<(), Failed>
+    ensures ok { OnOk result (O.contents out.new ≡ append_known (O.contents out.old) text.now) }
+    ensures count { OnOk result (O.faults out.new ≡ O.faults out.old) }
+    ensures failed { OnErr result (Rose (O.faults out.old) (O.faults out.new)) }
+{
+    if text.is_empty() {
+        return Ok(());
+    }
+    out.write(text)
+}
+
+/// A line of some words. It takes no memory.
+pub fn line(words: &[u8]) -> ArrayVec<u8, 64>
+    requires { length words.now ≤ 63 }
+    ensures { result.items ≡ line_of words.now }
+{
+    let mut line = ArrayVec::new();
+    put(&mut line, words);
+    put(&mut line, b"\n");
+    line
+}
+
+/// A line of some words and a number. It takes no memory.
+pub fn numbered(words: &[u8], number: u64) -> ArrayVec<u8, 64>
+    requires { length words.now ≤ 23 }
+    ensures { result.items ≡ line_of (words.now ++ decimal number) }
+{
+    let mut digits = Buffer::new();
+    let mut line = ArrayVec::new();
+    put(&mut line, words);
+    put(&mut line, digits.format(number).as_bytes());
+    put(&mut line, b"\n");
+    line
+}
+
+/// Adds bytes for which there is room.
+fn put(line: &mut ArrayVec<u8, 64>, bytes: &[u8])
+    requires { array_vec_len line.old + length bytes.now ≤ 64 }
+    ensures items { line.new.items ≡ line.old.items ++ bytes.now }
+    ensures len { array_vec_len line.new ≡ array_vec_len line.old + length bytes.now }
+{
+    if line.try_extend_from_slice(bytes).is_err() {
+        unreachable!()
+    }
+}

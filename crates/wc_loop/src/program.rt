@@ -1,0 +1,220 @@
+ghost use Rattle.std.specs.Prelude.{◌≡◌, ◌≢◌, ◌≤◌, ◌⊎◌, ◌∷◌, [], Bool, true, false, None, Some, Ok, IfOk, IfErr, IfSome, IsSome, IsTrue, All, map, string_bytes};
+ghost use Rattle.std.specs.Io.KnownBytes.{append_known};
+ghost use Rattle.wc_outside.specs.Faults.{Rose};
+ghost use Rattle.wc_outside.specs.Seen.{IsNew};
+ghost use Rattle.wc_loop.specs.Configuration.{password_in};
+ghost use Rattle.wc_loop.specs.Endings.{LastOf, StatusOf, Prints, IsEarly, HasCause, AsksNoTurn, Runs, RunsBy, asked_by, kept_of, number_of, printed, status_of};
+ghost use Rattle.wc_loop.specs.Headline.{Headline, IsFirst};
+ghost use Rattle.wc_loop.specs.Words.{wish_of};
+ghost use Rattle.wc_loop.specs.Turns.{Continues, Stands, IsCaused, faults_then};
+
+use crate::configuration::{ConfigurationRefused, read_password};
+use crate::ending::Ending;
+use crate::headless::Headless;
+use crate::print::print;
+use crate::then::Then;
+use crate::words::read_words;
+use std::alloc::Global;
+use wc_outside::{KeepFault, Keeper, Sink, Sockets};
+
+/// Where clients are listened for.
+const PORT: u16 = 9000;
+
+/// How a run ended.
+#[derive(Drop)]
+pub struct Ended {
+    /// 0 where words asked for the version; 1 for a bad word; 2 where a wait failed; 3 where the
+    /// configuration could not be read; 4 where a line of it is unreadable; 5 for want of memory
+    /// before the first wait; 6 where the listener failed; 7 where printing failed; and 8 where as
+    /// many waits returned as were asked for.
+    pub status: u8,
+    /// The state behind the last turn, where a wait returned.
+    pub last: Option<Headless>,
+}
+
+/// Makes the state of a run, by the configuration.
+fn configured<K: Keeper>(alloc: Global, keeper: &mut K) -> Result<Headless, Ending>
+    ensures first { IfOk result IsFirst }
+    ensures password { IfOk result (λ headless. IfSome (K.contents keeper.old) (λ kept. password_in kept ≡ Ok headless.core.password)) }
+    ensures early { IfErr result (IsEarly (K.contents keeper.old) (K.faults keeper.old) (K.faults keeper.new)) }
+    ensures kept { K.contents keeper.new ≡ K.contents keeper.old }
+{
+    let text = match keeper.read_all(alloc) {
+        Ok(text) => text,
+        Err(KeepFault::Failed) => return Err(Ending::NoConfiguration),
+        Err(KeepFault::NoMemory) => return Err(Ending::NoMemory),
+    };
+    let password = match read_password(alloc, text.as_slice()) {
+        Ok(password) => password,
+        Err(ConfigurationRefused::BadLine { line }) => return Err(Ending::BadLine(line)),
+        Err(ConfigurationRefused::NoMemory) => return Err(Ending::NoMemory),
+    };
+    match Headless::new(alloc, password) {
+        Ok(headless) => Ok(headless),
+        Err(_) => Err(Ending::NoMemory),
+    }
+}
+
+/// Takes so many turns, unless a wait or the listener fails before. `headless` is a state that took no
+/// turn yet, and the sockets are those that it was made with.
+fn take_turns<S: Sockets, K: Keeper>(
+    headless: &mut Headless,
+    sockets: &mut S,
+    keeper: &mut K,
+    turns: u64,
+) -> Then
+    requires none { headless.old.turns ≡ 0 }
+    requires open { headless.old.links.closed.items ≡ [] }
+    requires stands { Stands headless.old None (S.seen sockets.old) }
+    ensures continues { Continues false headless.new.turns (faults_then result) headless.old None headless.new None (S.seen sockets.old) (S.seen sockets.new) }
+    ensures stands { Stands headless.new None (S.seen sockets.new) }
+    ensures causes { All (IsCaused (S.seen sockets.old) (S.seen sockets.new)) headless.new.links.closed.items }
+    ensures never { (result ≢ Then.Quit) × (result ≢ Then.KeeperFault) }
+    ensures all { result ≡ Then.GoOn → headless.new.turns ≡ turns }
+    ensures fewer { result ≡ Then.WaitFault → headless.new.turns ≢ turns }
+    ensures some { result ≡ Then.ListenFault → 1 ≤ headless.new.turns }
+    ensures wait_fault { result ≡ Then.WaitFault → Rose (S.seen sockets.old).faults.waits (S.seen sockets.new).faults.waits }
+    ensures listen_fault { result ≡ Then.ListenFault → Rose (S.seen sockets.old).faults.listens (S.seen sockets.new).faults.listens }
+    ensures kept { K.contents keeper.new ≡ K.contents keeper.old }
+{
+    for _ in 0..turns {
+        match headless.turn(sockets, keeper) {
+            Then::GoOn => {}
+            then => return then,
+        }
+    }
+    Then::GoOn
+}
+
+/// Why the run ends behind its last turn.
+fn ending_of(then: Then) -> Ending
+    requires { (then ≢ Then.Quit) × (then ≢ Then.KeeperFault) }
+    ensures all { then ≡ Then.GoOn → result ≡ Ending.TurnsTaken }
+    ensures wait_fault { then ≡ Then.WaitFault → result ≡ Ending.WaitFailed }
+    ensures listen_fault { then ≡ Then.ListenFault → result ≡ Ending.ListenFailed }
+{
+    match then {
+        Then::GoOn => Ending::TurnsTaken,
+        Then::WaitFault => Ending::WaitFailed,
+        Then::ListenFault => Ending::ListenFailed,
+        Then::Quit | Then::KeeperFault => unreachable!(),
+    }
+}
+
+/// The state at the end, where a wait returned.
+fn kept(headless: Headless) -> Option<Headless>
+    ensures { result ≡ kept_of headless }
+{
+    if headless.turns == 0 {
+        return None;
+    }
+    Some(headless)
+}
+
+/// How a run ended, before its text is printed.
+#[derive(Drop)]
+struct Outcome {
+    ending: Ending,
+    last: Option<Headless>,
+}
+
+/// Runs the program where words ask for turns.
+fn run<S: Sockets, K: Keeper>(alloc: Global, turns: u64, sockets: &mut S, keeper: &mut K) -> Outcome
+    requires above { 1 ≤ turns }
+    requires new { IsNew (S.seen sockets.old) }
+    ensures runs { Runs turns (K.contents keeper.old) (K.faults keeper.old) (K.faults keeper.new) (S.seen sockets.old) (S.seen sockets.new) result.ending result.last }
+    ensures kept { K.contents keeper.new ≡ K.contents keeper.old }
+{
+    let mut headless = match configured(alloc, keeper) {
+        Ok(headless) => headless,
+        Err(ending) => return Outcome { ending, last: None },
+    };
+    let Ok(()) = sockets.listen(PORT) else {
+        return Outcome {
+            ending: Ending::ListenFailed,
+            last: None,
+        };
+    };
+    let then = take_turns(&mut headless, sockets, keeper, turns);
+    Outcome {
+        ending: ending_of(then),
+        last: kept(headless),
+    }
+}
+
+/// Runs the program, and prints nothing.
+fn run_words<S: Sockets, K: Keeper>(
+    alloc: Global,
+    words: &[String],
+    sockets: &mut S,
+    keeper: &mut K,
+) -> Outcome
+    requires { IsNew (S.seen sockets.old) }
+    ensures runs { RunsBy (wish_of (map string_bytes words.now)) (K.contents keeper.old) (K.faults keeper.old) (K.faults keeper.new) (S.seen sockets.old) (S.seen sockets.new) result.ending result.last }
+    ensures kept { K.contents keeper.new ≡ K.contents keeper.old }
+{
+    let wish = match read_words(words) {
+        Ok(wish) => wish,
+        Err(number) => {
+            return Outcome {
+                ending: Ending::BadWord(number),
+                last: None,
+            };
+        }
+    };
+    if wish.version {
+        return Outcome {
+            ending: Ending::Version,
+            last: None,
+        };
+    }
+    run(alloc, wish.turns, sockets, keeper)
+}
+
+/// Prints what is to be told of an outcome.
+fn end<O: Sink>(out: &mut O, outcome: Outcome) -> Ended
+    ensures last { result.last ≡ outcome.last }
+    ensures status { result.status ≢ 7 → result.status ≡ status_of outcome.ending }
+    ensures printed { result.status ≢ 7 → O.contents out.new ≡ append_known (O.contents out.old) (printed (status_of outcome.ending) (number_of outcome.ending)) }
+    ensures count { result.status ≢ 7 → O.faults out.new ≡ O.faults out.old }
+    ensures sink { result.status ≡ 7 → Rose (O.faults out.old) (O.faults out.new) }
+{
+    let status = match print(out, outcome.ending.text().as_slice()) {
+        Ok(()) => outcome.ending.status(),
+        Err(_) => 7,
+    };
+    Ended {
+        status,
+        last: outcome.last,
+    }
+}
+
+/// Runs the program for these words: it reads the configuration, listens at 127.0.0.1:9000, and serves
+/// clients of the relay protocol `weechat` until as many waits returned as `--turns` asks for. The
+/// sockets are new. At its end it prints what is to be told.
+///
+/// A sink that fails gives the status 7 in place of the one that was to come.
+pub fn run_program<S: Sockets, K: Keeper, O: Sink>(
+    alloc: Global,
+    words: &Vec<String>,
+    sockets: &mut S,
+    keeper: &mut K,
+    out: &mut O,
+) -> Ended
+    requires { IsNew (S.seen sockets.old) }
+    ensures headline { IfSome result.last (Headline (K.contents keeper.old) (S.seen sockets.new)) }
+    ensures status { result.status ≢ 7 → StatusOf (wish_of (map string_bytes words.now.items)) (K.contents keeper.old) (S.seen sockets.new) result.status result.last }
+    ensures printed { result.status ≢ 7 → Prints (wish_of (map string_bytes words.now.items)) (K.contents keeper.old) result.status (O.contents out.old) (O.contents out.new) }
+    ensures last { LastOf (S.seen sockets.new) result.last }
+    ensures stands { IfSome result.last (λ last. Stands last None (S.seen sockets.new)) }
+    ensures causes { IfSome result.last (λ last. All (IsCaused (S.seen sockets.old) (S.seen sockets.new)) last.links.closed.items) }
+    ensures faults { HasCause (S.seen sockets.old).faults (S.seen sockets.new).faults (K.faults keeper.old) (K.faults keeper.new) result.status }
+    ensures sink { result.status ≡ 7 → Rose (O.faults out.old) (O.faults out.new) }
+    ensures sink_count { result.status ≢ 7 → O.faults out.new ≡ O.faults out.old }
+    ensures asked { result.status ≢ 7 → IsTrue (S.seen sockets.new).tells → (S.seen sockets.new).asked ≡ asked_by result.status }
+    ensures untouched { AsksNoTurn (wish_of (map string_bytes words.now.items)) → S.seen sockets.new ≡ S.seen sockets.old }
+    ensures kept { K.contents keeper.new ≡ K.contents keeper.old }
+{
+    let outcome = run_words(alloc, words.as_slice(), sockets, keeper);
+    end(out, outcome)
+}
