@@ -1,8 +1,9 @@
 //! Messages read from bytes.
 
-ghost use Rattle.std.specs.Prelude.{◌≡◌, ◌<◌, ◌≤◌, Some, None, Ok, Err, length, take, drop, MatchOption, IfOk};
+ghost use Rattle.std.specs.Prelude.{◌≡◌, ℕ, ◌<◌, ◌≤◌, Some, None, Ok, Err, length, take, drop, IsTrue, MatchOption, IfOk, IfSome, IfNone};
 ghost use Rattle.std.specs.Int.{w32, cast_signed, from_be_bytes};
 ghost use Rattle.wc_objects.specs.Reading.{GivesWhole, GivesFirst, GivesFront, pointer_at, text_at, objects_of, message_of, first_message};
+ghost use Rattle.wc_objects.specs.Spells.{FrontSpells, misses_bytes};
 
 use crate::fault::ReadError;
 use crate::object::{Object, WireMessage};
@@ -66,17 +67,13 @@ fn stated_length(bytes: &[u8]) -> Option<usize>
     Some(size as usize)
 }
 
-/// The message at the front of the bytes and how many bytes it takes, in WeeChat's relay protocol without
-/// compression. Other bytes may follow it.
-///
-/// None where fewer than four bytes are there, or the first four state a length from 9 to 2^31 - 1 and fewer
-/// bytes than that are there. `BadAt` where neither holds and the bytes of that length spell no message.
+/// The message at the front of the bytes, or where its first field that breaks a rule begins.
 #[tactic(auto, unfolding(crate::specs::Reading::first_message))]
-pub fn read_message(
+fn first_message(
     alloc: Global,
     bytes: &[u8],
 ) -> Result<Option<(WireMessage, usize)>, MessageRefused>
-    ensures exact { GivesFirst result (first_message bytes.now) }
+    ensures { GivesFirst result (first_message bytes.now) }
 {
     let Some(size) = stated_length(bytes) else {
         return Ok(None);
@@ -94,6 +91,29 @@ pub fn read_message(
             place: size.saturating_sub(left),
         }),
     }
+}
+
+/// The message at the front of the bytes and how many bytes it takes, in WeeChat's relay protocol without
+/// compression. Other bytes may follow it. A message is given exactly where so many of the first bytes are its
+/// one spelling.
+///
+/// None where fewer than four bytes are there, or the first four state a length from 9 to 2^31 - 1 and fewer
+/// bytes than that are there. `BadAt` where neither holds and the bytes of that length spell no message.
+pub fn read_message(
+    alloc: Global,
+    bytes: &[u8],
+) -> Result<Option<(WireMessage, usize)>, MessageRefused>
+    // What is read is spelt so.
+    ensures found { IfOk result (λ front. IfSome front (λ found. FrontSpells found.0 found.1 bytes.now)) }
+    // What is spelt so is read, unless memory is refused.
+    ensures only { (message : WireMessage) (size : ℕ) → FrontSpells message size bytes.now → GivesFirst result (Ok (Some (message, size))) }
+    // None is given exactly where bytes are missing.
+    ensures none { IfOk result (λ front. IfNone front (IsTrue (misses_bytes bytes.now))) }
+    ensures missing { IsTrue (misses_bytes bytes.now) → GivesFirst result (Ok None) }
+    // Which field is the first that breaks a rule.
+    ensures exact { GivesFirst result (first_message bytes.now) }
+{
+    first_message(alloc, bytes)
 }
 
 /// The signed number that the first four bytes are, the highest first. None where fewer are there.
