@@ -147,15 +147,15 @@ name_codec test =
     (chain count_at be32 IsCount (λ whole n rest. tested_at test n rest) same_bytes (Passes test) length count_codec (λ whole n h. tested_codec test n))
 
 -- a text that may be null is told by its length, and null by a length of its own
-abbrev text_first : Option (List ℕ) → ℕ
+abbrev pub text_first : Option (List ℕ) → ℕ
 text_first None = 4294967295
 text_first (Some text) = length text
 
-abbrev text_body : Option (List ℕ) → List ℕ
+abbrev pub text_body : Option (List ℕ) → List ℕ
 text_body None = []
 text_body (Some text) = text
 
-abbrev IsShort : (List ℕ → Bool) → Option (List ℕ) → Type 0
+abbrev pub IsShort : (List ℕ → Bool) → Option (List ℕ) → Type 0
 IsShort test None = Unit {0}
 IsShort test (Some text) = (length text < 2 ^ 31) × Passes test text
 
@@ -171,7 +171,7 @@ some_codec test n = mapped (tested_at test n) same_bytes (λ text. (length text 
 abbrev Told : (List ℕ → Bool) → ℕ → Option (List ℕ) → Type 0
 Told test n b = (text_first b ≡ n) × IsShort test b
 
-abbrev behind_length : (List ℕ → Bool) → List ℕ → ℕ → List ℕ → Read (Option (List ℕ))
+abbrev pub behind_length : (List ℕ → Bool) → List ℕ → ℕ → List ℕ → Read (Option (List ℕ))
 behind_length test whole n rest = cond (eqb n 4294967295) (Ok (None, rest)) (cond (ltb n (2 ^ 31)) (some_text_at test n rest) (broken whole))
 
 told_takes : (test : List ℕ → Bool) (whole : List ℕ) (n : ℕ) (bytes : List ℕ) (y : Option (List ℕ)) (rest : List ℕ) → IsBytes bytes → behind_length test whole n bytes ≡ done y rest
@@ -194,14 +194,14 @@ told_takes test whole n bytes y rest fits e =
           ]
     ]
 
-told_again : (test : List ℕ → Bool) (whole : List ℕ) (n : ℕ) (y : Option (List ℕ)) (rest : List ℕ) → Told test n y → length (text_body y) < 2 ^ 31 → behind_length test whole n (text_body y ++ rest) ≡ done y rest
+pub told_again : (test : List ℕ → Bool) (whole : List ℕ) (n : ℕ) (y : Option (List ℕ)) (rest : List ℕ) → Told test n y → length (text_body y) < 2 ^ 31 → behind_length test whole n (text_body y ++ rest) ≡ done y rest
 told_again test whole n None rest fits short = rw (eq-eqb n 4294967295 (sym fits.0)) refl
 told_again test whole n (Some text) rest fits short =
     let small : ltb n (2 ^ 31) ≡ true = lt-ltb n (2 ^ 31) (omega (arith, fits.0, short)) in
     let other : eqb n 4294967295 ≡ false = ne_eqb n 4294967295 (λ e. omega (arith, fits.0, short)) in
     rw (other, small) ((some_codec test n).again (Some text) rest (text, refl, (fits.0, fits.1.1)) short)
 
-text_spelt : (b : Option (List ℕ)) → be32 (text_first b) ++ text_body b ≡ text_bytes b
+pub text_spelt : (b : Option (List ℕ)) → be32 (text_first b) ++ text_body b ≡ text_bytes b
 unfolding text_bytes be32
 text_spelt None = refl
 text_spelt (Some text) = refl
@@ -214,6 +214,12 @@ text_fits : (test : List ℕ → Bool) (b : Option (List ℕ)) → IsShort test 
 text_fits test None fits = tt
 text_fits test (Some text) fits = fits.1
 
+-- the length, and what stands behind it
+pub told_codec : (test : List ℕ → Bool) → Codec (λ bytes. number_at bytes >>= λ n. behind_length test bytes n.0 n.1) (λ b. be32 (text_first b) ++ text_body b) (λ b. IsNumber (text_first b) × IsShort test b)
+told_codec test =
+    chain number_at be32 IsNumber (λ whole n rest. behind_length test whole n rest) text_body (IsShort test) text_first number_codec
+    (λ whole n h. record { takes = told_takes test whole n; again = told_again test whole n })
+
 pub text_codec : (test : List ℕ → Bool) → Codec (text_by test) text_bytes (IsText test)
 unfolding text_by
 text_codec test =
@@ -221,5 +227,4 @@ text_codec test =
     (refit_short (λ bytes. number_at bytes >>= λ n. behind_length test bytes n.0 n.1) (λ b. be32 (text_first b) ++ text_body b) (λ b. IsNumber (text_first b) × IsShort test b) (IsText test)
     (λ b f. text_fits test b f.1)
     (λ b f short. text_short test b f short)
-    (chain number_at be32 IsNumber (λ whole n rest. behind_length test whole n rest) text_body (IsShort test) text_first number_codec
-    (λ whole n h. record { takes = told_takes test whole n; again = told_again test whole n })))
+    (told_codec test))

@@ -24,4 +24,5 @@ pub mod WholeCodecs
 pub mod ObjectCodecs
 pub mod Messages
 pub mod Fronts
+pub mod FieldFronts
 pub mod Pointers

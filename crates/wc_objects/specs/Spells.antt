@@ -1,5 +1,5 @@
 -- Which bytes spell a message, and which are too few.
-use Rattle.std.specs.Prelude.{◌≡◌, ℕ, ◌≤◌, ◌^◌, ◌-◌, Bool, true, ◌&&◌, ◌||◌, nat_lt, nat_le, List, length, take}
+use Rattle.std.specs.Prelude.{◌≡◌, ℕ, ◌<◌, ◌≤◌, ◌^◌, ◌-◌, Bool, true, ◌&&◌, ◌||◌, nat_lt, nat_le, List, length, take, Option, Some, None}
 use Rattle.std.specs.Int.{w32, from_be_bytes}
 use Rattle.std.specs.Str.{IsUtf8}
 use Rattle.wc_objects.specs.declared.object.WireMessage.{WireMessage}
@@ -26,3 +26,13 @@ misses_of size there = nat_le 9 size && (nat_le size (2 ^ 31 - 1) && nat_lt ther
 
 abbrev pub misses_bytes : List ℕ → Bool
 misses_bytes bytes = nat_lt (length bytes) 4 || misses_of (from_be_bytes w32 (take 4 bytes)) (length bytes)
+
+-- the front of the bytes, so many of them, is the spelling
+pub record IsFront (spelling : List ℕ) (size : ℕ) (bytes : List ℕ) : Type 0 where
+  pub reaches : size ≤ length bytes
+  pub spelt : take size bytes ≡ spelling
+
+-- null, or a text in UTF-8 that a length can state
+abbrev pub IsStr : Option (List ℕ) → Type 0
+IsStr None = Unit {0}
+IsStr (Some text) = IsUtf8 text × (length text < 2 ^ 31)

@@ -1,9 +1,10 @@
 //! Messages read from bytes.
 
-ghost use Rattle.std.specs.Prelude.{◌≡◌, ℕ, ◌<◌, ◌≤◌, Some, None, Ok, Err, length, take, drop, IsTrue, MatchOption, IfOk, IfSome, IfNone};
+ghost use Rattle.std.specs.Prelude.{◌≡◌, ℕ, ◌<◌, ◌≤◌, ◌^◌, List, Option, Some, None, Ok, Err, length, take, drop, IsTrue, MatchOption, IfOk, IfSome, IfNone};
 ghost use Rattle.std.specs.Int.{w32, cast_signed, from_be_bytes};
 ghost use Rattle.wc_objects.specs.Reading.{GivesWhole, GivesFirst, GivesFront, pointer_at, text_at, objects_of, message_of, first_message};
-ghost use Rattle.wc_objects.specs.Spells.{FrontSpells, misses_bytes};
+ghost use Rattle.wc_objects.specs.Spelling.{pointer_bytes, text_bytes};
+ghost use Rattle.wc_objects.specs.Spells.{FrontSpells, IsFront, IsStr, misses_bytes};
 
 use crate::fault::ReadError;
 use crate::object::{Object, WireMessage};
@@ -126,9 +127,7 @@ pub fn read_i32(bytes: &[u8]) -> Option<i32>
     Some(i32::from_be_bytes([bytes[0], bytes[1], bytes[2], bytes[3]]))
 }
 
-/// The pointer at the front of the bytes, without the letters of its type, and how many bytes it takes. None
-/// where no prefix of the bytes is a pointer in its one form.
-pub fn read_ptr(bytes: &[u8]) -> Option<(u64, usize)>
+fn front_pointer(bytes: &[u8]) -> Option<(u64, usize)>
     ensures { GivesFront result (length bytes.now) (pointer_at bytes.now) }
 {
     let mut reader = Reader { bytes };
@@ -139,9 +138,18 @@ pub fn read_ptr(bytes: &[u8]) -> Option<(u64, usize)>
     }
 }
 
-/// The text or null at the front of the bytes, without the letters of its type, and how many bytes it takes.
-/// None where no prefix of the bytes is such a text.
-pub fn read_str(alloc: Global, bytes: &[u8]) -> Result<Option<(Option<Text>, usize)>, NoMemory>
+/// The pointer at the front of the bytes, without the letters of its type, and how many bytes it takes. None
+/// where no prefix of the bytes is a pointer in its one form.
+pub fn read_ptr(bytes: &[u8]) -> Option<(u64, usize)>
+    // What is read is spelt so.
+    ensures found { IfSome result (λ found. IsFront (pointer_bytes found.0) found.1 bytes.now) }
+    // What is spelt so is read.
+    ensures only { (pointer size : ℕ) → pointer < 2 ^ 64 → IsFront (pointer_bytes pointer) size bytes.now → result ≡ Some (pointer, size) }
+{
+    front_pointer(bytes)
+}
+
+fn front_text(alloc: Global, bytes: &[u8]) -> Result<Option<(Option<Text>, usize)>, NoMemory>
     ensures { IfOk result (λ found. GivesFront found (length bytes.now) (text_at bytes.now)) }
 {
     let mut reader = Reader { bytes };
@@ -150,4 +158,16 @@ pub fn read_str(alloc: Global, bytes: &[u8]) -> Result<Option<(Option<Text>, usi
         Err(ReadError::NoMemory) => Err(NoMemory),
         Err(ReadError::Broken(_)) => Ok(None),
     }
+}
+
+/// The text or null at the front of the bytes, without the letters of its type, and how many bytes it takes.
+/// None where no prefix of the bytes is such a text.
+pub fn read_str(alloc: Global, bytes: &[u8]) -> Result<Option<(Option<Text>, usize)>, NoMemory>
+    // What is read is spelt so.
+    ensures found { IfOk result (λ front. IfSome front (λ found. IsFront (text_bytes found.0) found.1 bytes.now)) }
+    ensures text { IfOk result (λ front. IfSome front (λ found. IsStr found.0)) }
+    // What is spelt so is read, unless memory is refused.
+    ensures only { (text : Option (List ℕ)) (size : ℕ) → IsStr text → IsFront (text_bytes text) size bytes.now → IfOk result (λ front. front ≡ Some (text, size)) }
+{
+    front_text(alloc, bytes)
 }
