@@ -1,5 +1,5 @@
 -- The text of a number in decimal is read as that number, and only that text is.
-use Rattle.std.proofs.Common.{◌≡◌, ℕ, zero, suc, ◌+◌, ◌<◌, ◌≤◌, ◌^◌, Bool, true, false, cond, ◌&&◌, eqb, List, [], ◌∷◌, get_or, Option, Some, None, Result, Ok, Err, refl, sym, ap, subst, ◌∙◌, arith}
+use Rattle.std.proofs.Common.{◌≡◌, ℕ, zero, suc, ◌<◌, ◌≤◌, ◌^◌, Bool, true, false, ◌&&◌, eqb, List, [], ◌∷◌, get_or, Option, Some, None, Result, Ok, Err, refl, sym, ap, subst, ◌∙◌, arith}
 use Rattle.std.specs.Prelude.{ℤ, pos, negsuc, IsUtf8}
 use Rattle.std.specs.Int.{w64}
 use mir.Val.{to_z, of_z}
@@ -9,7 +9,7 @@ use Rattle.std.specs.Fmt.{decimal, signed_decimal}
 use Rattle.std.specs.Str.{bytes_eq}
 use Rattle.std.specs.Str.Parse.{digits_value, signed_digits_value, ParsesSigned}
 use Rattle.std.proofs.lemmas.Fmt.{decimal_is_IsNumeral, decimal_digit, first_decimal, parse-signed_decimal, IsAscii-signed}
-use Rattle.std.proofs.lemmas.Bool.{and_parts, and_from, lt-ltb, ltb-true, ne_eqb}
+use Rattle.std.proofs.lemmas.Bool.{and_parts, lt-ltb, ltb-true, ne_eqb}
 use Rattle.std.proofs.lemmas.Slice.Eq.{bytes_eq-Decides}
 use Rattle.std.proofs.lemmas.Str.{IsUtf8-from_ascii}
 use Rattle.wc_objects.specs.Reading.{fits_i64, if_spelt, decimal_number}
@@ -29,7 +29,7 @@ abbrev failed : (E : Type 0) → E → Result ℤ E
 failed E error = Err error
 
 -- a text begins with a digit
-begins_digit : (n : ℕ) → n < 2 ^ 64 → 48 ≤ get_or (decimal n) 0 0
+pub begins_digit : (n : ℕ) → n < 2 ^ 64 → 48 ≤ get_or (decimal n) 0 0
 begins_digit zero h = let one : decimal 0 ≡ 48 ∷ [] = decimal_digit 0 (omega arith) in omega (arith, ap (λ (t : List ℕ). get_or t 0 0) one)
 begins_digit (suc n) h = omega (arith, first_decimal (suc n) (omega arith) h)
 

@@ -1,10 +1,9 @@
 -- The digits of a pointer as they are written, from the last to the first.
-use Rattle.std.proofs.Common.{◌≡◌, ℕ, ◌+◌, ◌-◌, ◌/◌, ◌%◌, ◌<◌, ◌≤◌, ◌^◌, List, [], ◌∷◌, ◌++◌, map, length, drop, set, refl, subst, sym, ap, ◌∙◌, arith, append_assoc, append-nil}
+use Rattle.std.proofs.Common.{◌≡◌, ℕ, ◌+◌, ◌-◌, ◌/◌, ◌%◌, ◌<◌, ◌≤◌, ◌^◌, List, ◌++◌, map, length, drop, set, refl, arith, append_assoc, append-nil}
 use Rattle.std.specs.Int.Digits.{digits_of}
 use Rattle.std.proofs.lemmas.Int.Digits.{digits_of_step, length-digits_of_step, length-digits_of-le}
-use Rattle.std.proofs.lemmas.List.{drop-set, length-set, map-append, drop_all}
-use Rattle.std.proofs.lemmas.Bool.Decides.{nat_tests}
-use Rattle.std.proofs.lemmas.Bool.{eq-eqb, ne_eqb}
+use Rattle.std.proofs.lemmas.List.{drop-set, map-append, drop_all}
+use Rattle.std.proofs.lemmas.Bool.{ne_eqb}
 use Rattle.wc_objects.specs.Hex.{glyph, hex}
 
 pub digits_fit : (n : ℕ) → n < 2 ^ 64 → length (digits_of 16 n) ≤ 16

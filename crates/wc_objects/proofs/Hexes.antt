@@ -1,12 +1,12 @@
 -- The number that few digits spell is small.
-use Rattle.std.proofs.Common.{◌≡◌, ℕ, ◌+◌, ◌*◌, ◌<◌, ◌≤◌, ◌^◌, List, [], ◌∷◌, ◌++◌, map, length, take, drop, get_or, refl, sym, ap, ◌∙◌, subst, arith, add-one}
-use Rattle.std.specs.List.{list_all, AllByRecursion}
+use Rattle.std.proofs.Common.{◌≡◌, ℕ, ◌+◌, ◌*◌, ◌<◌, ◌≤◌, ◌^◌, List, [], ◌∷◌, ◌++◌, map, length, take, drop, get_or, refl, sym, ap, ◌∙◌, arith, add-one}
+use Rattle.std.specs.List.{list_all}
 use Rattle.std.specs.Int.Digits.{number_from_digits, AllBelowBase}
 use Rattle.std.proofs.Math.Nat.{pow-le-pow_right}
 use Rattle.std.proofs.Math.Seq.{drop-cons}
 use Rattle.std.proofs.lemmas.List.{take_more, map-append, length-take, length-map}
 use Rattle.std.proofs.lemmas.Int.Digits.{number_lt, number_push}
-use Rattle.std.proofs.Common.{Bool, true, false, ◌&&◌}
+use Rattle.std.proofs.Common.{Bool, true, ◌&&◌}
 use Rattle.wc_objects.specs.Hex.{is_hex, digit}
 
 pub few_digits : (ds : List ℕ) → AllBelowBase 16 ds → length ds ≤ 15 → number_from_digits 16 ds < 1152921504606846976

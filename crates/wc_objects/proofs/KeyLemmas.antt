@@ -1,11 +1,11 @@
 -- Values that are passed with their keys.
-use Rattle.std.proofs.Common.{◌≡◌, ℕ, ◌≤◌, Bool, true, false, not, List, [], ◌∷◌, ◌++◌, append_assoc, length, drop, Option, Some, None, refl, sym, ap, ◌∙◌, subst}
+use Rattle.std.proofs.Common.{◌≡◌, ℕ, ◌≤◌, Bool, true, false, not, List, [], ◌∷◌, ◌++◌, append_assoc, length, drop, Option, Some, None, refl, sym, ap, ◌∙◌}
 use Rattle.std.specs.Prelude.{is_some}
 use Rattle.std.specs.Borrow.{Bor}
 use Rattle.std.proofs.lemmas.List.{drop_all}
 use Rattle.wc_objects.specs.declared.kind.Kind.{Kind}
 use Rattle.wc_objects.specs.declared.object.Object.{Object}
-use Rattle.wc_objects.specs.Forms.{key_kind, with_kind, kinds_of, kinds_of_keys, values_of, pieces_of, keys_of}
+use Rattle.wc_objects.specs.Forms.{key_kind, with_kind, kinds_of, kinds_of_keys, values_of, keys_of}
 use Rattle.wc_objects.specs.Left.{keys_left}
 use Rattle.wc_objects.proofs.Pieces.{begins}
 

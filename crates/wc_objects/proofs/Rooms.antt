@@ -8,7 +8,6 @@ use Rattle.wc_objects.specs.Spelling.{HasRoom, Puts, be32, text_bytes, simple_by
 use denote.Hole.Carrier.{out}
 use Rattle.wc_objects.specs.declared.object.Object.{Object}
 use Rattle.wc_objects.specs.declared.object.Object.TheViews.{out-Object}
-use Rattle.wc_objects.specs.declared.object.Object.TheVariants as Object
 
 pub length-be32 : (n : ℕ) → length (be32 n) ≡ 4
 unfolding be32

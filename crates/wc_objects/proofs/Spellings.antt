@@ -1,10 +1,10 @@
 -- A message has one spelling, and no spelling begins another.
-use Rattle.std.proofs.Common.{◌≡◌, ℕ, ◌+◌, ◌-◌, ◌≤◌, ◌<◌, ◌^◌, List, [], ◌∷◌, ◌++◌, length, take, refl, sym, ap, ◌∙◌, append_assoc, append-nil, arith}
+use Rattle.std.proofs.Common.{◌≡◌, ℕ, ◌<◌, ◌^◌, List, [], ◌++◌, length, take, sym, ap, ◌∙◌, append_assoc, append-nil, arith}
 use Rattle.std.specs.Int.{w32, from_be_bytes}
 use Rattle.std.proofs.lemmas.List.{length-append, nil_from_length}
 use Rattle.std.proofs.lemmas.Nat.{from_be_bytes-to_be_bytes_4}
 use Rattle.wc_objects.specs.declared.object.WireMessage.{WireMessage}
-use Rattle.wc_objects.specs.Spelling.{be32, body_bytes, message_bytes}
+use Rattle.wc_objects.specs.Spelling.{be32, body_bytes}
 use Rattle.wc_objects.specs.Spells.{Spells}
 use Rattle.wc_objects.proofs.Rooms.{message_bytes-sized}
 
@@ -15,12 +15,12 @@ one_spelling message a b p q = p.spelling ∙ sym q.spelling
 abbrev pub stated : List ℕ → ℕ
 stated bytes = from_be_bytes w32 (take 4 bytes)
 
-stated_front : (n : ℕ) (rest : List ℕ) → n < 2 ^ 31 → stated (be32 n ++ rest) ≡ n
+pub stated_front : (n : ℕ) (rest : List ℕ) → n < 2 ^ 32 → stated (be32 n ++ rest) ≡ n
 unfolding be32
-stated_front n rest small = from_be_bytes-to_be_bytes_4 n (omega arith)
+stated_front n rest small = from_be_bytes-to_be_bytes_4 n small
 
 -- it is the length of the message
-states : (message : WireMessage) (a rest : List ℕ) → Spells message a → stated (a ++ rest) ≡ length a
+pub states : (message : WireMessage) (a rest : List ℕ) → Spells message a → stated (a ++ rest) ≡ length a
 states message a rest p =
     let sized : a ≡ be32 (length a) ++ body_bytes message.id message.objects = p.spelling ∙ message_bytes-sized message.id message.objects (length a) (ap length p.spelling) in
     ap (λ (bytes : List ℕ). stated (bytes ++ rest)) sized ∙ ap stated (append_assoc (be32 (length a)) (body_bytes message.id message.objects) rest)

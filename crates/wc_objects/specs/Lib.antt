@@ -4,4 +4,5 @@ pub mod Spelling
 pub mod Forms
 pub mod Left
 pub mod Reading
+pub mod Within
 pub mod Spells

@@ -1,4 +1,4 @@
-use Rattle.std.proofs.Common.{◌≡◌, ◌<◌, ◌≤◌, ◌-◌, length, arith}
+use Rattle.std.proofs.Common.{◌-◌, arith}
 use Rattle.std.proofs.lemmas.List.{length-set}
 use Rattle.wc_objects.proofs.Digits.{digits_fit, length-step, writes_digit, hex_null, hex_digits, starts}
 use Rattle.wc_objects.proofs.hex.write_digits.Goals as goal

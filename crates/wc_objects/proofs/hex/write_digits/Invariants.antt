@@ -1,4 +1,4 @@
-use Rattle.std.proofs.Common.{◌≡◌, ◌≤◌, ◌<◌, ◌++◌, length, drop, map}
+use Rattle.std.proofs.Common.{◌≡◌, ◌≤◌, ◌++◌, length, drop, map}
 use Rattle.std.specs.Int.Digits.{digits_of}
 use Rattle.wc_objects.specs.Hex.{glyph}
 use Rattle.wc_objects.proofs.hex.write_digits.Given as goal

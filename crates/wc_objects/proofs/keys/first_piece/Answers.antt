@@ -1,4 +1,4 @@
-use Rattle.wc_objects.proofs.Pieces.{starts_pieces, passes, finds_mark, finds_end}
+use Rattle.wc_objects.proofs.Pieces.{starts_pieces}
 use Rattle.wc_objects.proofs.keys.first_piece.Goals as goal
 
 pub loop-i-init : goal.loop-i-init
