@@ -10,6 +10,7 @@ use Rattle.wc_loop.specs.declared.ending.Ending.TheVariants.{Version, BadWord, W
 use Rattle.wc_loop.specs.declared.then.Then.{Then}
 use Rattle.wc_loop.specs.declared.then.Then.TheVariants.{GoOn, Quit, WaitFault, ListenFault, KeeperFault}
 use Rattle.wc_loop.specs.Configuration.{password_in}
+use Rattle.wc_loop.specs.Sources.{AllServed}
 use Rattle.wc_loop.specs.Turns.{wakes, listen_faults, faults_then}
 use Rattle.wc_loop.specs.Endings.{kept_of, LastOf, IsEarly, IsLast, Runs}
 use Rattle.wc_loop.proofs.HeadlineLemmas.{IfSome-last}
@@ -45,6 +46,7 @@ pub record Behind (turns : ℕ) (contents : Option (List ℕ)) (password : List 
   pub wait_fault : then ≡ WaitFault → Rose before.faults.waits after.faults.waits
   pub listen_fault : then ≡ ListenFault → Rose before.faults.listens after.faults.listens
   pub asked : IsTrue after.tells → after.asked ≡ Listen 9000 ∷ []
+  pub served : then ≡ GoOn → AllServed h.core.sessions.items before after
   pub left : 1 ≤ h.turns → IsLast contents before after h
 
 -- the ends behind the last turn
@@ -67,6 +69,7 @@ Runs-behind turns contents password k k' before after GoOn ending h b never all 
   line = λ q. absurd (omega arith);
   counted = LastOf-kept after h b.woke;
   left = IfSome-last (kept_of h) h _ refl b.left;
+  served = λ q. IfSome-last (kept_of h) h _ refl (λ above. b.served refl);
   faults = record { wait = λ q. absurd (omega arith); keeper = λ q. absurd (omega arith); listener = λ q. absurd (omega arith) };
   asked = b.asked;
 })
@@ -86,6 +89,7 @@ Runs-behind turns contents password k k' before after WaitFault ending h b never
   line = λ q. absurd (omega arith);
   counted = LastOf-kept after h b.woke;
   left = IfSome-last (kept_of h) h _ refl b.left;
+  served = λ q. absurd (omega arith);
   faults = record { wait = λ q. b.wait_fault refl; keeper = λ q. absurd (omega arith); listener = λ q. absurd (omega arith) };
   asked = b.asked;
 })
@@ -105,6 +109,7 @@ Runs-behind turns contents password k k' before after ListenFault ending h b nev
   line = λ q. absurd (omega arith);
   counted = LastOf-kept after h b.woke;
   left = IfSome-last (kept_of h) h _ refl b.left;
+  served = λ q. absurd (omega arith);
   faults = record { wait = λ q. absurd (omega arith); keeper = λ q. absurd (omega arith); listener = λ q. b.listen_fault refl };
   asked = b.asked;
 })
@@ -142,6 +147,7 @@ Runs-early turns contents k k' seen NoConfiguration u asked early = record {
   line = λ q. absurd (omega arith);
   counted = u.woke;
   left = tt;
+  served = λ q. tt;
   faults = record { wait = λ q. absurd (omega arith); keeper = λ q. early; listener = λ q. absurd (omega arith) };
   asked = asked;
 }
@@ -161,6 +167,7 @@ Runs-early turns contents k k' seen (BadLine n) u asked early = record {
   line = λ q. early;
   counted = u.woke;
   left = tt;
+  served = λ q. tt;
   faults = record { wait = λ q. absurd (omega arith); keeper = λ q. absurd (omega arith); listener = λ q. absurd (omega arith) };
   asked = asked;
 }
@@ -180,6 +187,7 @@ Runs-early turns contents k k' seen NoMemory u asked early = record {
   line = λ q. absurd (omega arith);
   counted = u.woke;
   left = tt;
+  served = λ q. tt;
   faults = record { wait = λ q. absurd (omega arith); keeper = λ q. absurd (omega arith); listener = λ q. absurd (omega arith) };
   asked = asked;
 }
@@ -208,6 +216,7 @@ Runs-unheard turns contents password k k' before after u known listens rose aske
   line = λ q. absurd (omega arith);
   counted = u.woke;
   left = tt;
+  served = λ q. tt;
   faults = record { wait = λ q. absurd (omega arith); keeper = λ q. absurd (omega arith); listener = λ q. rose };
   asked = asked;
 }

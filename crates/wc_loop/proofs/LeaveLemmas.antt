@@ -16,15 +16,15 @@ use Rattle.wc_outside.specs.declared.happening.Happening.TheVariants.{Accepted, 
 use Rattle.wc_loop.specs.declared.session.Session.{Session}
 use Rattle.wc_loop.specs.declared.session.Departure.{Departure}
 use Rattle.wc_loop.specs.declared.headless.Headless.{Headless}
-use Rattle.wc_loop.specs.Links.{link_number, is_undrained, marked_at, served_at}
+use Rattle.wc_loop.specs.Links.{link_number, is_undrained, marked_at}
 use Rattle.wc_loop.specs.Served.{session_link, unsent_in, unsent_on, unsent_at, gone_at, closed_by, Leaves, IsOfLine, IsOfArrival}
 use Rattle.wc_loop.specs.Turns.{CausedBy, IsCaused, Continues, HasFailedIf, has_failed, is_failure, moment, faults_of, Stands, ClosesExactly}
 use Rattle.wc_loop.proofs.KeyedLemmas.{at_key-key, at_key-put_same}
 use Rattle.wc_loop.proofs.ComeLemmas.{eqb-same}
-use Rattle.wc_loop.proofs.StandsLemmas.{SameTails-marked, SameTails-served}
+use Rattle.wc_loop.proofs.StandsLemmas.{SameTails-marked}
 use Rattle.wc_loop.proofs.CauseLemmas.{caused-behind}
 use Rattle.wc_loop.proofs.TurnLemmas.{Call, NeverFall-refl, Continues-still, Continues-sum, Continues-wider, Goes-trans, Advances-same}
-use Rattle.wc_loop.proofs.StepLemmas.{SameSets, OnlyLinks, Continues-flags, links-marked, links-served, undrained-marked}
+use Rattle.wc_loop.proofs.StepLemmas.{SameSets, OnlyLinks, Continues-flags, links-marked, undrained-marked}
 use Rattle.wc_loop.proofs.CloseLemmas.{OnlyCore, Continues-sent}
 
 or-last : (b : Bool) → (b || (true || false)) ≡ true
@@ -113,14 +113,6 @@ fewer-took link count sessions sessions' (Some s) bytes e u put one within =
 
 pub Call-refl : (a : Seen) → Call a a []
 Call-refl a = record { told = λ t. t; taken = λ t. sym (append-nil a.taken); asked = λ t. refl; counts = NeverFall-refl a.faults }
-
--- a link is served in a turn
-pub Continues-served : (x y : Headless) (a : Seen) (link turn : ℕ) → OnlyLinks x y → y.links.opened.items ≡ served_at link turn x.links.opened.items (at_key link_number link x.links.opened.items) → Continues true 0 0 x None y None a a
-Continues-served x y a link turn only opened =
-    Continues-flags x y None a a only (Call-refl a) (λ t k. refl) (λ t k. refl) refl (λ k. refl) refl
-    (λ k. ap (λ ss. is_some (at_key link_number k ss)) opened ∙ (links-served link k turn x.links.opened.items).0)
-    (λ k h. h ∙ sym (ap (λ ss. is_undrained (at_key link_number k ss)) opened ∙ (links-served link k turn x.links.opened.items).1))
-    (rw opened (SameTails-served link turn x.links.opened.items))
 
 -- a link is drained
 pub Continues-drained : (x y : Headless) (a b : Seen) (link : ℕ) → OnlyLinks x y → Call a b [] → (IsTrue b.tells → (k : ℕ) → b.sent k ≡ a.sent k) → (IsTrue b.tells → (k : ℕ) → b.choked k ≡ a.choked k)

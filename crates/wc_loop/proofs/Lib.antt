@@ -9,6 +9,7 @@ pub mod HandsLemmas
 pub mod HeadlineLemmas
 pub mod KeyedLemmas
 pub mod LeaveLemmas
+pub mod LeastLemmas
 pub mod LineLemmas
 pub mod LinkLemmas
 pub mod OutcomeLemmas
@@ -17,6 +18,7 @@ pub mod ProgramLemmas
 pub mod RequestLemmas
 pub mod RunLemmas
 pub mod ServedLemmas
+pub mod SourceLemmas
 pub mod StandsLemmas
 pub mod StepLemmas
 pub mod TakesLemmas

@@ -8,14 +8,14 @@ use Rattle.wc_loop.specs.Links.{link_number, listed}
 use Rattle.wc_loop.proofs.KeyedLemmas.{length-without, some_of}
 
 pub some_tail : LinkState
-some_tail = record { link = record { 0 = 0 }; server = None; tail = record { line = []; over = false }; undrained = false; served_in = 0 }
+some_tail = record { link = record { 0 = 0 }; server = None; tail = record { line = []; over = false }; undrained = false }
 
 -- a place that is not given
 pub missing-place : (k : ℕ) (states : List LinkState) (place : Option ℕ) → PlaceOf link_number k states place → is_some place ≡ false → at_key link_number k states ≡ None
 missing-place k states None p e = p
 missing-place k states (Some i) p e = absurd (false≢true (sym e))
 
-place-there : (k : ℕ) (states : List LinkState) (place : Option ℕ) → PlaceOf link_number k states place → is_some place ≡ true → is_some (at_key link_number k states) ≡ true
+pub place-there : (k : ℕ) (states : List LinkState) (place : Option ℕ) → PlaceOf link_number k states place → is_some place ≡ true → is_some (at_key link_number k states) ≡ true
 place-there k states None p e = absurd (false≢true e)
 place-there k states (Some i) p e = ap is_some (p.found some_tail)
 

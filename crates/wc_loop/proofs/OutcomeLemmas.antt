@@ -5,6 +5,7 @@ use Rattle.wc_loop.specs.declared.headless.Headless.{Headless}
 use Rattle.wc_loop.specs.declared.ending.Ending.{Ending}
 use Rattle.wc_loop.specs.declared.words.Wish.{Wish}
 use Rattle.wc_loop.specs.Headline.{Headline}
+use Rattle.wc_loop.specs.Sources.{AllServed}
 use Rattle.wc_loop.specs.Turns.{wakes}
 use Rattle.wc_loop.specs.Endings.{LastOf, StatusOf, StatusFor, IsNumber, IsLast, HasCause, AsksNoTurn, AsksNothing, RunsBy, RunsFor, asked_by, status_of, number_of}
 
@@ -28,6 +29,7 @@ IsNumber-runs (Ok wish) contents k k' before after ending last r = number_for wi
 pub record Common (contents : Option (List ℕ)) (k k' : ℕ) (before after : Seen) (ending : Ending) (last : Option Headless) : Type 0 where
   pub counted : LastOf after last
   pub left : IfSome last (IsLast contents before after)
+  pub served : status_of ending ≡ 8 → IfSome last (λ last. AllServed last.core.sessions.items before after)
   pub faults : HasCause before.faults after.faults k k' (status_of ending)
   pub asked : IsTrue after.tells → after.asked ≡ asked_by (status_of ending)
 
@@ -35,13 +37,14 @@ few : (n : ℕ) (contents : Option (List ℕ)) (k k' : ℕ) (before after : Seen
 few n contents k k' before after wanted ending last new r e nothing two three six = rw (r.ends, r.none, r.seen) (record {
   counted = λ t. ap wakes (new.taken t);
   left = tt;
+  served = λ q. tt;
   faults = record { wait = λ q. absurd (two (sym e ∙ q)); keeper = λ q. absurd (three (sym e ∙ q)); listener = λ q. absurd (six (sym e ∙ q)) };
   asked = λ t. new.asked t ∙ sym (ap asked_by e ∙ nothing);
 })
 
 common_for : (b : Bool) (turns : ℕ) (contents : Option (List ℕ)) (k k' : ℕ) (before after : Seen) (ending : Ending) (last : Option Headless) → IsNew before → RunsFor b turns contents k k' before after ending last → Common contents k k' before after ending last
 common_for true turns contents k k' before after ending last new r = few 0 contents k k' before after _ ending last new r refl refl (λ q. omega arith) (λ q. omega arith) (λ q. omega arith)
-common_for false turns contents k k' before after ending last new r = record { counted = r.counted; left = r.left; faults = r.faults; asked = r.asked }
+common_for false turns contents k k' before after ending last new r = record { counted = r.counted; left = r.left; served = r.served; faults = r.faults; asked = r.asked }
 
 pub Common-runs : (wish : Result Wish ℕ) (contents : Option (List ℕ)) (k k' : ℕ) (before after : Seen) (ending : Ending) (last : Option Headless) → IsNew before → RunsBy wish contents k k' before after ending last → Common contents k k' before after ending last
 Common-runs (Err n) contents k k' before after ending last new r = few 1 contents k k' before after _ ending last new r refl refl (λ q. omega arith) (λ q. omega arith) (λ q. omega arith)

@@ -11,7 +11,7 @@ use Rattle.wc_outside.specs.declared.happening.Happening.TheVariants.{Woke, Acce
 use Rattle.wc_loop.specs.declared.link_state.LinkState.{LinkState}
 use Rattle.wc_outside.specs.Keyed.{at_key, put_at, without, IsPlace}
 use Rattle.wc_loop.specs.Lines.{rest}
-use Rattle.wc_loop.specs.Links.{link_number, marked_at, served_at}
+use Rattle.wc_loop.specs.Links.{link_number, marked_at}
 use Rattle.wc_loop.specs.Events.{bytes_on, tail_on, clock, clock_from, is_tick, events_of, whole, read_events}
 use Rattle.wc_loop.specs.Tails.{IsTail}
 use Rattle.wc_loop.specs.Steps.{SameTails}
@@ -123,13 +123,6 @@ marked-by j u states (Some state) e = λ k line h. SameTails-put j k (eqb k j) r
 
 pub SameTails-marked : (j : ℕ) (u : Bool) (states : List LinkState) → SameTails states (marked_at j u states (at_key link_number j states))
 SameTails-marked j u states = marked-by j u states (at_key link_number j states) refl
-
-served-by : (j t : ℕ) (states : List LinkState) (o : Option LinkState) → at_key link_number j states ≡ o → SameTails states (served_at j t states o)
-served-by j t states None e = λ k line h. h
-served-by j t states (Some state) e = λ k line h. SameTails-put j k (eqb k j) refl state (record state { served_in = t }) states line e (at_key-key link_number j states state e) refl h
-
-pub SameTails-served : (j t : ℕ) (states : List LinkState) → SameTails states (served_at j t states (at_key link_number j states))
-SameTails-served j t states = served-by j t states (at_key link_number j states) refl
 
 pub IfSome-None : {X : Type 0} (o : Option X) (P : X → Type 0) → o ≡ None → IfSome o P
 IfSome-None None P e = tt

@@ -1,5 +1,5 @@
 -- The steps of a loop.
-use Rattle.std.proofs.Common.{◌≡◌, ◌≢◌, ℕ, ◌+◌, ◌-◌, ◌^◌, min, Bool, true, false, not, eqb, ◌&&◌, IsTrue, List, [], ◌∷◌, ◌++◌, length, Option, Some, None, is_some, refl, sym, ap, ◌∙◌, subst, arith}
+use Rattle.std.proofs.Common.{◌≡◌, ◌≢◌, ℕ, ◌+◌, ◌-◌, ◌^◌, min, Bool, true, false, not, eqb, ◌&&◌, IsTrue, List, [], ◌∷◌, ◌++◌, length, Option, Some, None, is_some, refl, sym, ap, ◌∙◌, arith}
 use Rattle.std.proofs.lemmas.Bool.Decides.{nat_tests}
 use Rattle.std.proofs.lemmas.List.{append-nil}
 use Rattle.std.proofs.lemmas.List.Elements.{All-nil}
@@ -13,7 +13,7 @@ use Rattle.wc_loop.specs.declared.link_state.LinkState.{LinkState}
 use Rattle.wc_loop.specs.declared.headless.Headless.{Headless}
 use Rattle.wc_outside.specs.Keyed.{at_key, put_at}
 use Rattle.wc_loop.specs.Events.{bytes_on, events_of}
-use Rattle.wc_loop.specs.Links.{link_number, is_undrained, marked_at, served_at}
+use Rattle.wc_loop.specs.Links.{link_number, is_undrained, marked_at}
 use Rattle.wc_loop.specs.Run.{run, stays}
 use Rattle.wc_loop.specs.Served.{session_link, seats_of, closed_by}
 use Rattle.wc_loop.specs.Steps.{SameTails}
@@ -122,18 +122,3 @@ drained-by j k false e states (Some state) h =
 -- a link that is drained
 pub undrained-marked : (j k : ℕ) (states : List LinkState) (u u' : Bool) → u' ≡ (u && not (eqb k j && true)) → u ≡ is_undrained (at_key link_number k states) → u' ≡ is_undrained (at_key link_number k (marked_at j false states (at_key link_number j states)))
 undrained-marked j k states u u' e h = e ∙ ap (λ x. x && not (eqb k j && true)) h ∙ drained-by j k (eqb k j) refl states (at_key link_number j states) refl
-
-served_some : (j k t : ℕ) (states : List LinkState) (o : Option LinkState) → at_key link_number j states ≡ o → (is_some (at_key link_number k (served_at j t states o)) ≡ is_some (at_key link_number k states)) × (is_undrained (at_key link_number k (served_at j t states o)) ≡ is_undrained (at_key link_number k states))
-served_some j k t states None e = (refl, refl)
-served_some j k t states (Some state) e = (is_some-put_at link_number j k (record state { served_in = t }) states (at_key-key link_number j states state e), same_flag (eqb k j) refl)
-  where
-    same_flag : (b : Bool) → eqb k j ≡ b → is_undrained (at_key link_number k (put_at link_number j (record state { served_in = t }) states)) ≡ is_undrained (at_key link_number k states)
-    same_flag true q =
-        let same : j ≡ k = grind (arith, nat_tests) in
-        let found : at_key link_number k states ≡ Some state = subst (λ i. at_key link_number i states ≡ Some state) same e in
-        let put : at_key link_number k (put_at link_number j (record state { served_in = t }) states) ≡ Some (record state { served_in = t }) = subst (λ i. at_key link_number i (put_at link_number j (record state { served_in = t }) states) ≡ Some (record state { served_in = t })) same (at_key-put_same link_number j state (record state { served_in = t }) states (at_key-key link_number j states state e) e) in
-        rw (put, found) refl
-    same_flag false q = let other : k ≢ j = λ p. grind (arith, nat_tests) in ap is_undrained (at_key-put_other link_number j k (record state { served_in = t }) states (at_key-key link_number j states state e) other)
-
-pub links-served : (j k t : ℕ) (states : List LinkState) → (is_some (at_key link_number k (served_at j t states (at_key link_number j states))) ≡ is_some (at_key link_number k states)) × (is_undrained (at_key link_number k (served_at j t states (at_key link_number j states))) ≡ is_undrained (at_key link_number k states))
-links-served j k t states = served_some j k t states (at_key link_number j states) refl

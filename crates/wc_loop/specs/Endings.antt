@@ -11,6 +11,7 @@ use Rattle.wc_loop.specs.declared.headless.Headless.{Headless}
 use Rattle.wc_loop.specs.declared.words.Wish.{Wish}
 use Rattle.wc_loop.specs.Configuration.{password_in}
 use Rattle.wc_loop.specs.Headline.{Headline}
+use Rattle.wc_loop.specs.Sources.{AllServed}
 use Rattle.wc_loop.specs.Turns.{Stands, IsCaused, wakes, listen_faults}
 
 -- the state at the end is there where a wait returned
@@ -134,6 +135,8 @@ pub record Runs (turns : ℕ) (contents : Option (List ℕ)) (kept kept' : ℕ) 
   pub line : status_of ending ≡ 4 → IfSome contents (λ configuration. password_in configuration ≡ Err (number_of ending))
   pub counted : LastOf after last
   pub left : IfSome last (IsLast contents before after)
+  -- behind the last turn each source is served, and each link is written
+  pub served : status_of ending ≡ 8 → IfSome last (λ last. AllServed last.core.sessions.items before after)
   pub faults : HasCause before.faults after.faults kept kept' (status_of ending)
   pub asked : IsTrue after.tells → after.asked ≡ asked_by (status_of ending)
 

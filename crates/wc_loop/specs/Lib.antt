@@ -9,6 +9,7 @@ pub mod Links
 pub mod Requests
 pub mod Run
 pub mod Served
+pub mod Sources
 pub mod Steps
 pub mod Tails
 pub mod Turns

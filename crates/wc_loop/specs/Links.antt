@@ -23,11 +23,6 @@ abbrev pub marked_at : ℕ → Bool → List LinkState → Option LinkState → 
 marked_at link undrained states (Some state) = put_at link_number link (record state { undrained = undrained }) states
 marked_at link undrained states None = states
 
--- the links after one of them was read in a turn
-abbrev pub served_at : ℕ → ℕ → List LinkState → Option LinkState → List LinkState
-served_at link turn states (Some state) = put_at link_number link (record state { served_in = turn }) states
-served_at link turn states None = states
-
 -- a link that came
 abbrev pub new_state : LinkId → LinkState
-new_state link = record { link = link; server = None; tail = record { line = []; over = false }; undrained = false; served_in = 0 }
+new_state link = record { link = link; server = None; tail = record { line = []; over = false }; undrained = false }

@@ -86,6 +86,7 @@ impl Headless {
         ensures starved { self.new.core.starved ≡ self.old.core.starved }
         ensures left { Leaves link.0 result self.new.core.sessions.items }
         ensures gone { unsent_on link.0 self.new.core.sessions.items ≡ [] }
+        ensures sessions { self.new.core.sessions.items ≡ without session_link link.0 self.old.core.sessions.items }
     {
         self.ran = self.ran.saturating_add(1);
         self.core.link_gone(link, cause)

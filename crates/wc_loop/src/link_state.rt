@@ -10,8 +10,6 @@ pub struct LinkState {
     pub(crate) tail: Tail,
     /// Whether it was reported ready and is not drained.
     pub(crate) undrained: bool,
-    /// The number of the turn in which it was read last.
-    pub(crate) served_in: u64,
 }
 
 /// A link that was closed.

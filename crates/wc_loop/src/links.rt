@@ -25,7 +25,7 @@ fn position_of(opened: &[LinkState], link: LinkId) -> Option<usize>
 }
 
 impl Links {
-    ghost use Rattle.wc_loop.specs.Links.{link_number, new_state, listed, marked_at, served_at};
+    ghost use Rattle.wc_loop.specs.Links.{link_number, new_state, listed, marked_at};
 
     /// No link, with room for the first ones.
     pub fn new(alloc: Global) -> Result<Links, NoMemory>
@@ -58,7 +58,6 @@ impl Links {
             server: None,
             tail,
             undrained: false,
-            served_in: 0,
         });
         Ok(())
     }
@@ -82,16 +81,6 @@ impl Links {
     {
         if let Some(place) = self.place(link) {
             self.opened[place].undrained = undrained;
-        }
-    }
-
-    /// Marks a link as one that was read in a turn.
-    pub fn serve(&mut self, link: LinkId, turn: u64)
-        ensures opened { self.new.opened.items ≡ served_at link.0 turn self.old.opened.items (at_key link_number link.0 self.old.opened.items) }
-        ensures closed { self.new.closed ≡ self.old.closed }
-    {
-        if let Some(place) = self.place(link) {
-            self.opened[place].served_in = turn;
         }
     }
 

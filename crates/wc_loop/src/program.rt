@@ -5,6 +5,7 @@ ghost use Rattle.wc_outside.specs.Seen.{IsNew};
 ghost use Rattle.wc_loop.specs.Configuration.{password_in};
 ghost use Rattle.wc_loop.specs.Endings.{LastOf, StatusOf, Prints, IsEarly, HasCause, AsksNoTurn, Runs, RunsBy, asked_by, kept_of, number_of, printed, status_of};
 ghost use Rattle.wc_loop.specs.Headline.{Headline, IsFirst};
+ghost use Rattle.wc_loop.specs.Sources.{AllServed};
 ghost use Rattle.wc_loop.specs.Words.{wish_of};
 ghost use Rattle.wc_loop.specs.Turns.{Continues, Stands, IsCaused, faults_then};
 
@@ -69,6 +70,7 @@ fn take_turns<S: Sockets, K: Keeper>(
     ensures continues { Continues false headless.new.turns (faults_then result) headless.old None headless.new None (S.seen sockets.old) (S.seen sockets.new) }
     ensures stands { Stands headless.new None (S.seen sockets.new) }
     ensures causes { All (IsCaused (S.seen sockets.old) (S.seen sockets.new)) headless.new.links.closed.items }
+    ensures served { result ≡ Then.GoOn → 1 ≤ turns → AllServed headless.new.core.sessions.items (S.seen sockets.old) (S.seen sockets.new) }
     ensures never { (result ≢ Then.Quit) × (result ≢ Then.KeeperFault) }
     ensures all { result ≡ Then.GoOn → headless.new.turns ≡ turns }
     ensures fewer { result ≡ Then.WaitFault → headless.new.turns ≢ turns }
@@ -208,6 +210,7 @@ pub fn run_program<S: Sockets, K: Keeper, O: Sink>(
     ensures last { LastOf (S.seen sockets.new) result.last }
     ensures stands { IfSome result.last (λ last. Stands last None (S.seen sockets.new)) }
     ensures causes { IfSome result.last (λ last. All (IsCaused (S.seen sockets.old) (S.seen sockets.new)) last.links.closed.items) }
+    ensures served { result.status ≡ 8 → IfSome result.last (λ last. AllServed last.core.sessions.items (S.seen sockets.old) (S.seen sockets.new)) }
     ensures faults { HasCause (S.seen sockets.old).faults (S.seen sockets.new).faults (K.faults keeper.old) (K.faults keeper.new) result.status }
     ensures sink { result.status ≡ 7 → Rose (O.faults out.old) (O.faults out.new) }
     ensures sink_count { result.status ≢ 7 → O.faults out.new ≡ O.faults out.old }

@@ -1,6 +1,12 @@
-ghost use Rattle.std.specs.Prelude.{◌≡◌, ◌≢◌, ◌<◌, ◌≤◌, None, IfSome, OnErr, true, false, All};
+ghost use Rattle.std.specs.Prelude.{◌≡◌, ◌≢◌, ◌<◌, ◌≤◌, ℕ, None, IfSome, OnOk, OnErr, IsTrue, true, false, All, take};
+ghost use Rattle.std.specs.List.{list_any};
 ghost use Rattle.wc_outside.specs.Faults.{Rose};
-ghost use Rattle.wc_loop.specs.Turns.{Continues, faults_of};
+ghost use Rattle.wc_outside.specs.Happenings.{is_link, is_listener};
+ghost use Rattle.wc_outside.specs.Keyed.{at_key};
+ghost use Rattle.wc_loop.specs.Links.{link_number};
+ghost use Rattle.wc_loop.specs.Served.{session_link};
+ghost use Rattle.wc_loop.specs.Sources.{Falls, IsServed, IsHeard, IsWritten, AllServed, flagged, has_unsent, is_left_over};
+ghost use Rattle.wc_loop.specs.Turns.{Continues, Stands, faults_of};
 
 use crate::headless::Headless;
 use crate::link_state::LinkState;
@@ -13,6 +19,9 @@ use wc_text::LinkId;
 /// The lesser one of two links, where it is above the last one.
 fn lesser(next: Option<LinkId>, link: LinkId, last: u64) -> Option<LinkId>
     ensures above { IfSome next (λ known. last < known.0) → IfSome result (λ least. last < least.0) }
+    ensures other { IfSome result (λ least. (other : ℕ) → last < other → other < least.0 → link.0 ≢ other) }
+    ensures before { IfSome result (λ least. IfSome next (λ known. least.0 ≤ known.0)) }
+    ensures none { result ≡ None → (next ≡ None) × (link.0 ≤ last) }
 {
     if link.0 <= last {
         return next;
@@ -23,27 +32,62 @@ fn lesser(next: Option<LinkId>, link: LinkId, last: u64) -> Option<LinkId>
     }
 }
 
+/// Whether a client has unsent bytes.
+fn has_unsent(session: &Session) -> bool
+    ensures { result ≡ has_unsent session.now }
+{
+    !session.unsent.as_slice().is_empty()
+}
+
 /// The client with the least number above the last one that has unsent bytes.
 fn next_unsent(sessions: &[Session], last: u64) -> Option<LinkId>
-    ensures { IfSome result (λ link. last < link.0) }
+    ensures above { IfSome result (λ link. last < link.0) }
+    ensures between { IfSome result (λ link. (other : ℕ) → last < other → other < link.0 → flagged has_unsent (at_key session_link other sessions.now) ≡ false) }
+    ensures none { result ≡ None → (other : ℕ) → last < other → flagged has_unsent (at_key session_link other sessions.now) ≡ false }
 {
     let mut next = None;
     for session in sessions {
-        if !session.unsent.as_slice().is_empty() {
+        if has_unsent(session) {
             next = lesser(next, session.link, last);
         }
     }
     next
 }
 
-/// The link with the least number above the last one that is not drained and was not read in this
-/// turn.
-fn next_undrained(states: &[LinkState], turn: u64, last: u64) -> Option<LinkId>
-    ensures { IfSome result (λ link. last < link.0) }
+/// Whether a wait reported a link.
+fn is_reported(ready: &Ready, link: LinkId) -> bool
+    ensures { result ≡ list_any (is_link link.0) (take ready.now.count ready.now.tokens) }
+{
+    ready.tokens[..ready.count]
+        .iter()
+        .any(|token| *token == Token::Link(link))
+}
+
+/// Whether a wait reported the listener.
+fn is_listener_reported(ready: &Ready) -> bool
+    ensures { result ≡ list_any is_listener (take ready.now.count ready.now.tokens) }
+{
+    ready.tokens[..ready.count]
+        .iter()
+        .any(|token| *token == Token::Listener)
+}
+
+/// Whether a link is not drained, and a wait did not report it.
+fn is_left_over(state: &LinkState, ready: &Ready) -> bool
+    ensures { result ≡ is_left_over (take ready.now.count ready.now.tokens) state.now }
+{
+    state.undrained && !is_reported(ready, state.link)
+}
+
+/// The link with the least number above the last one that an earlier turn left undrained.
+fn next_undrained(states: &[LinkState], ready: &Ready, last: u64) -> Option<LinkId>
+    ensures above { IfSome result (λ link. last < link.0) }
+    ensures between { IfSome result (λ link. (other : ℕ) → last < other → other < link.0 → flagged (is_left_over (take ready.now.count ready.now.tokens)) (at_key link_number other states.now) ≡ false) }
+    ensures none { result ≡ None → (other : ℕ) → last < other → flagged (is_left_over (take ready.now.count ready.now.tokens)) (at_key link_number other states.now) ≡ false }
 {
     let mut next = None;
     for state in states {
-        if state.undrained && state.served_in != turn {
+        if is_left_over(state, ready) {
             next = lesser(next, state.link, last);
         }
     }
@@ -52,7 +96,9 @@ fn next_undrained(states: &[LinkState], turn: u64, last: u64) -> Option<LinkId>
 
 /// Writes the unsent bytes of each client, in the order of their numbers.
 fn write_all<S: Sockets>(headless: &mut Headless, sockets: &mut S)
-    ensures { Continues true 0 0 headless.old None headless.new None (S.seen sockets.old) (S.seen sockets.new) }
+    ensures continues { Continues true 0 0 headless.old None headless.new None (S.seen sockets.old) (S.seen sockets.new) }
+    ensures falls { Falls (S.seen sockets.old) (S.seen sockets.new) }
+    ensures written { (link : ℕ) → 1 ≤ link → IsWritten link headless.new.core.sessions.items (S.seen sockets.new) }
 {
     let mut last = 0;
     while let Some(link) = next_unsent(headless.core.sessions(), last) {
@@ -62,11 +108,13 @@ fn write_all<S: Sockets>(headless: &mut Headless, sockets: &mut S)
 }
 
 /// Reads the links that an earlier turn left undrained, in the order of their numbers.
-fn read_rest<S: Sockets>(headless: &mut Headless, sockets: &mut S)
-    ensures { Continues true 0 0 headless.old None headless.new None (S.seen sockets.old) (S.seen sockets.new) }
+fn read_rest<S: Sockets>(headless: &mut Headless, sockets: &mut S, ready: &Ready)
+    ensures continues { Continues true 0 0 headless.old None headless.new None (S.seen sockets.old) (S.seen sockets.new) }
+    ensures falls { Falls (S.seen sockets.old) (S.seen sockets.new) }
+    ensures served { Stands headless.old None (S.seen sockets.old) → (link : ℕ) → 1 ≤ link → list_any (is_link link) (take ready.now.count ready.now.tokens) ≡ false → IsServed link (S.seen sockets.old) (S.seen sockets.new) }
 {
     let mut last = 0;
-    while let Some(link) = next_undrained(headless.links(), headless.turns, last) {
+    while let Some(link) = next_undrained(headless.links(), ready, last) {
         read_link(headless, sockets, link);
         last = link.0;
     }
@@ -79,6 +127,9 @@ fn serve_tokens<S: Sockets>(
     ready: &Ready,
 ) -> Result<(), Failed>
     ensures continues { Continues true 0 (faults_of result) headless.old None headless.new None (S.seen sockets.old) (S.seen sockets.new) }
+    ensures falls { Falls (S.seen sockets.old) (S.seen sockets.new) }
+    ensures served { Stands headless.old None (S.seen sockets.old) → (link : ℕ) → IsTrue (list_any (is_link link) (take ready.now.count ready.now.tokens)) → IsServed link (S.seen sockets.old) (S.seen sockets.new) }
+    ensures heard { OnOk result (IsTrue (list_any is_listener (take ready.now.count ready.now.tokens)) → IsHeard (S.seen sockets.old) (S.seen sockets.new)) }
     ensures failed { OnErr result (Rose (S.seen sockets.old).faults.listens (S.seen sockets.new).faults.listens) }
 {
     let mut listened = Ok(());
@@ -95,18 +146,54 @@ fn serve_tokens<S: Sockets>(
     listened
 }
 
-/// Serves the sources that a wait reported, then the links that an earlier turn left undrained, and
-/// then writes what is unsent.
+/// Takes the arrivals that an earlier turn left.
+fn accept_rest<S: Sockets>(
+    headless: &mut Headless,
+    sockets: &mut S,
+    ready: &Ready,
+) -> Result<(), Failed>
+    ensures continues { Continues true 0 (faults_of result) headless.old None headless.new None (S.seen sockets.old) (S.seen sockets.new) }
+    ensures falls { Falls (S.seen sockets.old) (S.seen sockets.new) }
+    ensures heard { OnOk result (Stands headless.old None (S.seen sockets.old) → list_any is_listener (take ready.now.count ready.now.tokens) ≡ false → IsHeard (S.seen sockets.old) (S.seen sockets.new)) }
+    ensures failed { OnErr result (Rose (S.seen sockets.old).faults.listens (S.seen sockets.new).faults.listens) }
+{
+    if !headless.listening || is_listener_reported(ready) {
+        return Ok(());
+    }
+    accept_all(headless, sockets)
+}
+
+/// Serves the sources that a wait reported, and then those that an earlier turn left undrained.
+fn serve_sources<S: Sockets>(
+    headless: &mut Headless,
+    sockets: &mut S,
+    ready: &Ready,
+) -> Result<(), Failed>
+    ensures continues { Continues true 0 (faults_of result) headless.old None headless.new None (S.seen sockets.old) (S.seen sockets.new) }
+    ensures falls { Falls (S.seen sockets.old) (S.seen sockets.new) }
+    ensures served { Stands headless.old None (S.seen sockets.old) → (link : ℕ) → 1 ≤ link → IsServed link (S.seen sockets.old) (S.seen sockets.new) }
+    ensures heard { OnOk result (Stands headless.old None (S.seen sockets.old) → IsHeard (S.seen sockets.old) (S.seen sockets.new)) }
+    ensures failed { OnErr result (Rose (S.seen sockets.old).faults.listens (S.seen sockets.new).faults.listens) }
+{
+    let listened = serve_tokens(headless, sockets, ready);
+    read_rest(headless, sockets, ready);
+    if listened.is_err() {
+        return listened;
+    }
+    accept_rest(headless, sockets, ready)
+}
+
+/// Serves the sources that are ready, and then writes what is unsent.
 fn serve_ready<S: Sockets>(
     headless: &mut Headless,
     sockets: &mut S,
     ready: &Ready,
 ) -> Result<(), Failed>
     ensures continues { Continues true 0 (faults_of result) headless.old None headless.new None (S.seen sockets.old) (S.seen sockets.new) }
+    ensures served { OnOk result (Stands headless.old None (S.seen sockets.old) → AllServed headless.new.core.sessions.items (S.seen sockets.old) (S.seen sockets.new)) }
     ensures failed { OnErr result (Rose (S.seen sockets.old).faults.listens (S.seen sockets.new).faults.listens) }
 {
-    let listened = serve_tokens(headless, sockets, ready);
-    read_rest(headless, sockets);
+    let listened = serve_sources(headless, sockets, ready);
     write_all(headless, sockets);
     listened
 }
@@ -124,6 +211,7 @@ impl Headless {
         ensures continues { Continues false (waits_then result) (faults_then result) self.old None self.new None (S.seen sockets.old) (S.seen sockets.new) }
         ensures stands { Stands self.new None (S.seen sockets.new) }
         ensures causes { All (IsCaused (S.seen sockets.old) (S.seen sockets.new)) self.new.links.closed.items }
+        ensures served { result ≡ Then.GoOn → AllServed self.new.core.sessions.items (S.seen sockets.old) (S.seen sockets.new) }
         ensures closes { ClosesExactly self.old self.new (S.seen sockets.old) (S.seen sockets.new) }
         ensures never { (result ≢ Then.Quit) × (result ≢ Then.KeeperFault) }
         ensures wait_fault { result ≡ Then.WaitFault → Rose (S.seen sockets.old).faults.waits (S.seen sockets.new).faults.waits }

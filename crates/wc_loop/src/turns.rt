@@ -1,9 +1,10 @@
-ghost use Rattle.std.specs.Prelude.{◌≡◌, ◌<◌, ◌≤◌, None, Some, IfSome, OnErr, true, false, length};
+ghost use Rattle.std.specs.Prelude.{◌≡◌, ◌≢◌, ◌+◌, ◌<◌, ◌≤◌, ℕ, None, Some, Ok, IfSome, OnOk, OnErr, IsTrue, true, false, length};
 ghost use Rattle.wc_outside.specs.Faults.{Rose};
 ghost use Rattle.wc_outside.specs.Keyed.{at_key};
 ghost use Rattle.wc_loop.specs.Links.{link_number};
-ghost use Rattle.wc_loop.specs.Served.{unsent_on};
-ghost use Rattle.wc_loop.specs.Turns.{Continues, IsSettled, faults_of, HasFailedIf};
+ghost use Rattle.wc_loop.specs.Served.{unsent_on, is_leaving};
+ghost use Rattle.wc_loop.specs.Sources.{Falls, IsServed, IsHeard, IsWritten, bytes_taken, arrivals};
+ghost use Rattle.wc_loop.specs.Turns.{Continues, Stands, IsSettled, faults_of, HasFailedIf};
 
 use crate::headless::Headless;
 use crate::session::Departure;
@@ -26,6 +27,9 @@ fn send_rest<S: Sockets>(
     departure: &mut Departure,
 ) -> bool
     ensures continues { Continues true 0 0 headless.old (Some departure.old) headless.new (Some departure.new) (S.seen sockets.old) (S.seen sockets.new) }
+    ensures falls { Falls (S.seen sockets.old) (S.seen sockets.new) }
+    ensures core { headless.new.core ≡ headless.old.core }
+    ensures blocked { (other : ℕ) → other ≢ departure.old.link.0 → (S.seen sockets.new).blocked other ≡ (S.seen sockets.old).blocked other }
     ensures link { departure.new.link ≡ departure.old.link }
     ensures cause { departure.new.cause ≡ departure.old.cause }
     ensures done { result ≡ false → IsSettled departure.new (S.seen sockets.new) }
@@ -52,6 +56,9 @@ fn send_rest<S: Sockets>(
 fn settle<S: Sockets>(headless: &mut Headless, sockets: &mut S, departure: &mut Departure)
     requires { HasFailedIf departure.old (S.seen sockets.old) }
     ensures continues { Continues true 0 0 headless.old (Some departure.old) headless.new (Some departure.new) (S.seen sockets.old) (S.seen sockets.new) }
+    ensures falls { Falls (S.seen sockets.old) (S.seen sockets.new) }
+    ensures core { headless.new.core ≡ headless.old.core }
+    ensures blocked { (other : ℕ) → other ≢ departure.old.link.0 → (S.seen sockets.new).blocked other ≡ (S.seen sockets.old).blocked other }
     ensures link { departure.new.link ≡ departure.old.link }
     ensures cause { departure.new.cause ≡ departure.old.cause }
     ensures done { IsSettled departure.new (S.seen sockets.new) }
@@ -70,6 +77,10 @@ fn settle<S: Sockets>(headless: &mut Headless, sockets: &mut S, departure: &mut 
 fn part<S: Sockets>(headless: &mut Headless, sockets: &mut S, mut departure: Departure)
     requires { HasFailedIf departure (S.seen sockets.old) }
     ensures continues { Continues true 0 0 headless.old (Some departure) headless.new None (S.seen sockets.old) (S.seen sockets.new) }
+    ensures falls { Falls (S.seen sockets.old) (S.seen sockets.new) }
+    ensures core { headless.new.core ≡ headless.old.core }
+    ensures blocked { (other : ℕ) → other ≢ departure.link.0 → (S.seen sockets.new).blocked other ≡ (S.seen sockets.old).blocked other }
+    ensures drained { (S.seen sockets.new).undrained departure.link.0 ≡ false }
 {
     settle(headless, sockets, &mut departure);
     sockets.close(departure.link);
@@ -80,6 +91,10 @@ fn part<S: Sockets>(headless: &mut Headless, sockets: &mut S, mut departure: Dep
 fn part_with<S: Sockets>(headless: &mut Headless, sockets: &mut S, left: Option<Departure>)
     requires { IfSome left (λ departure. HasFailedIf departure (S.seen sockets.old)) }
     ensures continues { Continues true 0 0 headless.old left headless.new None (S.seen sockets.old) (S.seen sockets.new) }
+    ensures falls { Falls (S.seen sockets.old) (S.seen sockets.new) }
+    ensures core { headless.new.core ≡ headless.old.core }
+    ensures blocked { (other : ℕ) → is_leaving other left ≡ false → (S.seen sockets.new).blocked other ≡ (S.seen sockets.old).blocked other }
+    ensures drained { IfSome left (λ departure. (S.seen sockets.new).undrained departure.link.0 ≡ false) }
 {
     if let Some(departure) = left {
         part(headless, sockets, departure);
@@ -95,6 +110,9 @@ fn read_once<S: Sockets>(
 ) -> Option<usize>
     requires { 0 < length buffer.old }
     ensures continues { Continues true 0 0 headless.old None headless.new None (S.seen sockets.old) (S.seen sockets.new) }
+    ensures falls { Falls (S.seen sockets.old) (S.seen sockets.new) }
+    ensures drained { result ≡ None → Stands headless.old None (S.seen sockets.old) → (S.seen sockets.new).undrained link.0 ≡ false }
+    ensures bytes { IfSome result (λ count. IsTrue (S.seen sockets.new).tells → bytes_taken link.0 (S.seen sockets.old).taken + count ≤ bytes_taken link.0 (S.seen sockets.new).taken) }
     ensures count { IfSome result (λ count. (1 ≤ count) × (count ≤ length buffer.old)) }
 {
     let Some(place) = headless.links.place(link) else {
@@ -129,9 +147,9 @@ fn read_once<S: Sockets>(
 /// Reads a link until nothing is ready, or up to the limit of a turn.
 pub fn read_link<S: Sockets>(headless: &mut Headless, sockets: &mut S, link: LinkId)
     ensures continues { Continues true 0 0 headless.old None headless.new None (S.seen sockets.old) (S.seen sockets.new) }
+    ensures falls { Falls (S.seen sockets.old) (S.seen sockets.new) }
+    ensures served { Stands headless.old None (S.seen sockets.old) → IsServed link.0 (S.seen sockets.old) (S.seen sockets.new) }
 {
-    let turn = headless.turns;
-    headless.links.serve(link, turn);
     let mut buffer = [0u8; PIECE];
     let mut left = READ_LIMIT;
     while left > 0 {
@@ -146,6 +164,9 @@ pub fn read_link<S: Sockets>(headless: &mut Headless, sockets: &mut S, link: Lin
 /// Takes one arrival. Whether another may be taken, or that the listener failed.
 fn accept_once<S: Sockets>(headless: &mut Headless, sockets: &mut S) -> Result<bool, Failed>
     ensures continues { Continues true 0 (faults_of result) headless.old None headless.new None (S.seen sockets.old) (S.seen sockets.new) }
+    ensures falls { Falls (S.seen sockets.old) (S.seen sockets.new) }
+    ensures drained { result ≡ Ok false → (S.seen sockets.new).listening ≡ false }
+    ensures arrived { result ≡ Ok true → IsTrue (S.seen sockets.new).tells → arrivals (S.seen sockets.old).taken + 1 ≤ arrivals (S.seen sockets.new).taken }
     ensures failed { OnErr result (Rose (S.seen sockets.old).faults.listens (S.seen sockets.new).faults.listens) }
 {
     match sockets.accept() {
@@ -170,6 +191,8 @@ fn accept_once<S: Sockets>(headless: &mut Headless, sockets: &mut S) -> Result<b
 /// Takes arrivals until none is ready, or up to the limit of a turn.
 pub fn accept_all<S: Sockets>(headless: &mut Headless, sockets: &mut S) -> Result<(), Failed>
     ensures continues { Continues true 0 (faults_of result) headless.old None headless.new None (S.seen sockets.old) (S.seen sockets.new) }
+    ensures falls { Falls (S.seen sockets.old) (S.seen sockets.new) }
+    ensures heard { OnOk result (IsHeard (S.seen sockets.old) (S.seen sockets.new)) }
     ensures failed { OnErr result (Rose (S.seen sockets.old).faults.listens (S.seen sockets.new).faults.listens) }
 {
     for _ in 0..ACCEPT_LIMIT {
@@ -185,6 +208,9 @@ pub fn accept_all<S: Sockets>(headless: &mut Headless, sockets: &mut S) -> Resul
 /// Writes unsent bytes of a client once. Whether more may be written.
 fn write_once<S: Sockets>(headless: &mut Headless, sockets: &mut S, link: LinkId) -> bool
     ensures continues { Continues true 0 0 headless.old None headless.new None (S.seen sockets.old) (S.seen sockets.new) }
+    ensures falls { Falls (S.seen sockets.old) (S.seen sockets.new) }
+    ensures done { result ≡ false → IsWritten link.0 headless.new.core.sessions.items (S.seen sockets.new) }
+    ensures others { (other : ℕ) → other ≢ link.0 → IsWritten other headless.old.core.sessions.items (S.seen sockets.old) → IsWritten other headless.new.core.sessions.items (S.seen sockets.new) }
     ensures less { result ≡ true → length (unsent_on link.0 headless.new.core.sessions.items) < length (unsent_on link.0 headless.old.core.sessions.items) }
 {
     let Some(unsent) = headless.core.unsent(link) else {
@@ -210,6 +236,9 @@ fn write_once<S: Sockets>(headless: &mut Headless, sockets: &mut S, link: LinkId
 /// Writes the unsent bytes of a client until they are gone or there is no room.
 pub fn write_link<S: Sockets>(headless: &mut Headless, sockets: &mut S, link: LinkId)
     ensures continues { Continues true 0 0 headless.old None headless.new None (S.seen sockets.old) (S.seen sockets.new) }
+    ensures falls { Falls (S.seen sockets.old) (S.seen sockets.new) }
+    ensures done { IsWritten link.0 headless.new.core.sessions.items (S.seen sockets.new) }
+    ensures others { (other : ℕ) → other ≢ link.0 → IsWritten other headless.old.core.sessions.items (S.seen sockets.old) → IsWritten other headless.new.core.sessions.items (S.seen sockets.new) }
 {
     loop {
         if !write_once(headless, sockets, link) {

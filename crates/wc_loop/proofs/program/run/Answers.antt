@@ -5,6 +5,7 @@ use Rattle.wc_loop.proofs.CauseLemmas.{caused-behind}
 use Rattle.wc_loop.proofs.EndingLemmas.{Runs-behind}
 use Rattle.wc_loop.proofs.HeadlineLemmas.{Fresh-listening, HandsOut-run, Headline-known}
 use Rattle.wc_loop.proofs.ProgramLemmas.{Rose-before}
+use Rattle.wc_loop.proofs.SourceLemmas.{AllServed-behind, later-of}
 use Rattle.wc_loop.proofs.program.run.Goals as goal
 
 pub returns-clause-runs : goal.returns-clause-runs
@@ -29,6 +30,7 @@ returns-clause-runs g c =
       wait_fault = λ q. Rose-before _ _ _ listened.counts.waits (ran.wait_fault q);
       listen_fault = λ q. Rose-before _ _ _ listened.counts.listens (ran.listen_fault q);
       asked = λ t. ran.continues.asked t ∙ listened.asked (ran.continues.told t) ∙ ap (λ xs. xs ++ Listen 9000 ∷ []) (new.asked (listened.told (ran.continues.told t)));
+      served = λ q. AllServed-behind c.take_turns-then.new.headless.core.sessions.items (seen c.args.sockets.now) (seen c.listen.new.self) (seen c.take_turns-then.new.sockets) (record { told = listened.told; more = []; taken = listened.taken }) (later-of _ _ ran.continues) (ran.served q c.requires.above);
       left = λ above. record {
         headline = Headline-known _ password _ _ c.in-Ok.ensures.password (λ t fed. HandsOut-run c.in-Ok.headless c.take_turns-then.new.headless (seen c.listen.new.self) (seen c.take_turns-then.new.sockets) ran.continues first fresh t fed);
         stands = ran.stands;

@@ -1,3 +1,4 @@
+use Rattle.std.proofs.Common.{sym, ◌∙◌, arith}
 use Rattle.wc_loop.specs.Endings.{number_of}
 use Rattle.wc_loop.proofs.OutcomeLemmas.{IsNumber-runs, Common-runs, IfSome-headline}
 use Rattle.wc_loop.proofs.program.run_program.Goals as goal
@@ -12,3 +13,10 @@ pub returns-clause-printed : goal.returns-clause-printed
 returns-clause-printed g c = λ seven.
     let is = IsNumber-runs _ _ _ _ _ _ _ _ (rw c.as_slice.ensures.value at c.run_words-outcome.ensures.runs) in
     rw (c.end.ensures.status seven) (record { number = number_of c.run_words-outcome.result.ending; is = is; holds = c.end.ensures.printed seven })
+
+pub returns-clause-served : goal.returns-clause-served
+returns-clause-served g c = λ eight.
+    let seen = g.S.Sockets.seen in
+    let common = Common-runs _ _ _ _ (seen c.args.sockets.now) (seen c.run_words-outcome.new.sockets) _ _ c.requires c.run_words-outcome.ensures.runs in
+    let status = c.end.ensures.status (λ seven. omega arith) in
+    rw c.end.ensures.last (common.served (sym status ∙ eight))

@@ -5,6 +5,7 @@ use Rattle.wc_loop.proofs.CauseLemmas.{caused-behind}
 use Rattle.wc_loop.proofs.CloseLemmas.{Continues-refl}
 use Rattle.wc_loop.proofs.TurnLemmas.{Continues-wider}
 use Rattle.wc_loop.proofs.ProgramLemmas.{Continues-turn, Rose-before, waits-few}
+use Rattle.wc_loop.proofs.SourceLemmas.{AllServed-behind, later-of}
 use Rattle.wc_loop.proofs.program.take_turns.Goals as goal
 
 pub loop-init : goal.loop-init
@@ -12,6 +13,7 @@ loop-init g c = record {
   continues = Continues-wider _ None _ None _ _ (Continues-refl _ _ _);
   stands = c.requires.stands;
   causes = rw c.requires.open (λ k d below. absurd (omega arith));
+  served = λ one. absurd (omega arith);
   kept = refl;
   count = c.requires.none;
 }
@@ -28,6 +30,7 @@ returns-in_default g c =
       continues = Continues-turn c.turn.result c.loop.counter c.args.headless.now c.loop.headless c.turn.new.self (seen c.args.sockets.now) (seen c.loop.sockets) (seen c.turn.new.sockets) i.count (omega arith) i.continues e.continues;
       stands = e.stands;
       causes = caused-behind (seen c.args.sockets.now) (seen c.loop.sockets) (seen c.turn.new.sockets) _ i.continues.gained e.continues.told i.continues.taken i.continues.counts e.causes;
+      served = λ q. absurd (c.in_default.not-GoOn q);
       never = e.never;
       all = λ q. absurd (c.in_default.not-GoOn q);
       fewer = λ q full. (let w = ap waits_then q in let n = i.count in omega arith);
@@ -49,6 +52,7 @@ loop-preserved g c =
           (Continues-turn GoOn c.loop.counter c.args.headless.now c.loop.headless c.turn.new.self (seen c.args.sockets.now) (seen c.loop.sockets) (seen c.turn.new.sockets) i.count (omega arith) i.continues e.continues);
       stands = e.stands;
       causes = caused-behind (seen c.args.sockets.now) (seen c.loop.sockets) (seen c.turn.new.sockets) _ i.continues.gained e.continues.told i.continues.taken i.continues.counts e.causes;
+      served = λ one. AllServed-behind c.turn.new.self.core.sessions.items (seen c.args.sockets.now) (seen c.loop.sockets) (seen c.turn.new.sockets) (later-of _ _ i.continues) (later-of _ _ e.continues) (e.served refl);
       kept = ap g.K.Keeper.contents e.kept ∙ i.kept;
       count = count;
     }

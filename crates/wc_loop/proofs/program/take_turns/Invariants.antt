@@ -1,4 +1,5 @@
-use Rattle.std.proofs.Common.{◌≡◌, None, false, All}
+use Rattle.std.proofs.Common.{◌≡◌, None, false, All, ◌≤◌}
+use Rattle.wc_loop.specs.Sources.{AllServed}
 use Rattle.wc_loop.specs.Turns.{Continues, Stands, IsCaused}
 use Rattle.wc_loop.proofs.program.take_turns.Given as goal
 
@@ -7,6 +8,7 @@ invariant-loop g l = record {
   continues : Continues false l.counter 0 l.fn.headless None l.headless None (g.S.Sockets.seen l.fn.sockets) (g.S.Sockets.seen l.sockets);
   stands : Stands l.headless None (g.S.Sockets.seen l.sockets);
   causes : All (IsCaused (g.S.Sockets.seen l.fn.sockets) (g.S.Sockets.seen l.sockets)) l.headless.links.closed.items;
+  served : 1 ≤ l.counter → AllServed l.headless.core.sessions.items (g.S.Sockets.seen l.fn.sockets) (g.S.Sockets.seen l.sockets);
   kept : g.K.Keeper.contents l.keeper ≡ g.K.Keeper.contents l.fn.keeper;
   count : l.headless.turns ≡ l.counter;
 }

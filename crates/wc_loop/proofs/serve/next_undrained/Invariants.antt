@@ -1,5 +1,12 @@
-use Rattle.std.proofs.Common.{◌<◌, IfSome}
+use Rattle.std.proofs.Common.{◌≡◌, ℕ, ◌<◌, false, None, IfSome, take}
+use Rattle.wc_outside.specs.Keyed.{at_key}
+use Rattle.wc_loop.specs.Links.{link_number}
+use Rattle.wc_loop.specs.Sources.{flagged, is_left_over}
 use Rattle.wc_loop.proofs.serve.next_undrained.Given as goal
 
 abbrev pub invariant-loop-state : goal.invariant-loop-state
-invariant-loop-state l = IfSome l.next (λ link. l.last < link.0)
+invariant-loop-state l = record {
+  above : IfSome l.next (λ link. l.last < link.0);
+  between : IfSome l.next (λ link. (other : ℕ) → l.last < other → other < link.0 → flagged (is_left_over (take l.ready.count l.ready.tokens)) (at_key link_number other (take l.state-index l.states)) ≡ false);
+  none : l.next ≡ None → (other : ℕ) → l.last < other → flagged (is_left_over (take l.ready.count l.ready.tokens)) (at_key link_number other (take l.state-index l.states)) ≡ false;
+}

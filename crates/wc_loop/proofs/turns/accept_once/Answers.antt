@@ -1,4 +1,5 @@
-use Rattle.std.proofs.Common.{refl, ap, ◌∙◌, ◌&&◌, not, eqb, None}
+use Rattle.std.proofs.Common.{refl, ap, sym, ◌∙◌, ◌&&◌, not, eqb, [], None}
+use Rattle.std.proofs.lemmas.List.{append-nil}
 use Rattle.wc_outside.specs.declared.happening.Happening.TheVariants.{ListenFailed}
 use Rattle.wc_loop.specs.Links.{new_state}
 use Rattle.wc_loop.proofs.KeyedLemmas.{or-false}
@@ -7,6 +8,7 @@ use Rattle.wc_loop.proofs.TurnLemmas.{Continues-trans, NeverFall-trans}
 use Rattle.wc_loop.proofs.StepLemmas.{Continues-missed}
 use Rattle.wc_loop.proofs.ComeLemmas.{and-not-false, Continues-came, Continues-refused}
 use Rattle.wc_loop.proofs.LeaveLemmas.{Continues-idle, causes-arrival}
+use Rattle.wc_loop.proofs.SourceLemmas.{Falls-trans, Falls-drained, Falls-listened, arrivals-came, and-true-not}
 use Rattle.wc_loop.proofs.turns.accept_once.Goals as goal
 
 pub returns-in-Ok-None-clause-continues : goal.returns-in-Ok-None-clause-continues
@@ -46,3 +48,35 @@ returns-in-Err-clause-continues g c =
     rw c.link_missed.ensures (Continues-missed c.args.headless.now _ None (g.S.Sockets.seen c.args.sockets.now) (g.S.Sockets.seen c.accept.new.self) ListenFailed refl (record { told = e.told; taken = e.taken; asked = e.asked; counts = e.counts })
     e.sent e.choked (record { used = e.used; there = λ k. e.there k ∙ or-false _; undrained = e.undrained; listening = e.listening ∙ and-not-false _ })
     (λ k. refl) timeless-listen (λ taken. refl) refl (λ s taken. refl))
+
+pub returns-in-Ok-None-clause-falls : goal.returns-in-Ok-None-clause-falls
+returns-in-Ok-None-clause-falls g c = let e = c.in-Ok-None.ensures in Falls-listened _ _ _ e.undrained e.listening
+
+pub returns-in-Ok-None-clause-drained : goal.returns-in-Ok-None-clause-drained
+returns-in-Ok-None-clause-drained g c = λ none. (let e = rw c.in-Ok-None.field-0-is at c.in-Ok-None.ensures in e.listening ∙ and-true-not _)
+
+pub returns-in-Ok-clause-falls : goal.returns-in-Ok-clause-falls
+returns-in-Ok-clause-falls g c = let e = c.in-Ok-Some.ensures in Falls-trans _ (g.S.Sockets.seen c.accept.new.self) _ (Falls-listened _ _ _ e.undrained e.listening) c.part_with.ensures.falls
+
+pub returns-in-Ok-clause-arrived : goal.returns-in-Ok-clause-arrived
+returns-in-Ok-clause-arrived g c = λ more t.
+    let e = rw c.in-Ok-Some.field-0-is at c.in-Ok-Some.ensures in
+    let arrival = c.in-Ok-Some.arrival in
+    let later = c.part_with.ensures.continues in
+    arrivals-came arrival.link arrival.nonce (g.S.Sockets.seen c.args.sockets.now).taken (g.S.Sockets.seen c.accept.new.self).taken (g.S.Sockets.seen c.part_with.new.sockets).taken later.gained (e.taken (later.told t)) (later.taken t)
+
+pub returns-in-Err-link_came-clause-falls : goal.returns-in-Err-link_came-clause-falls
+returns-in-Err-link_came-clause-falls g c =
+    let e = c.in-Ok-Some.ensures in
+    let d = c.close.ensures in
+    Falls-trans _ (g.S.Sockets.seen c.accept.new.self) _ (Falls-listened _ _ _ e.undrained e.listening) (Falls-drained _ _ (λ k. not (eqb k c.in-Ok-Some.arrival.link.0)) d.undrained d.listening)
+
+pub returns-in-Err-link_came-clause-arrived : goal.returns-in-Err-link_came-clause-arrived
+returns-in-Err-link_came-clause-arrived g c = λ more t.
+    let e = rw c.in-Ok-Some.field-0-is at c.in-Ok-Some.ensures in
+    let d = c.close.ensures in
+    let arrival = c.in-Ok-Some.arrival in
+    arrivals-came arrival.link arrival.nonce (g.S.Sockets.seen c.args.sockets.now).taken (g.S.Sockets.seen c.accept.new.self).taken (g.S.Sockets.seen c.close.new.self).taken [] (e.taken (d.told t)) (d.taken t ∙ sym (append-nil _))
+
+pub returns-in-Err-clause-falls : goal.returns-in-Err-clause-falls
+returns-in-Err-clause-falls g c = let e = c.in-Err.ensures in Falls-listened _ _ _ e.undrained e.listening

@@ -1,10 +1,16 @@
-use Rattle.std.proofs.Common.{refl, ap, sym, subst, ◌∙◌, take, None, true, arith}
+use Rattle.std.proofs.Common.{refl, ap, sym, subst, ◌∙◌, take, is_some, None, true, arith}
 use Rattle.wc_loop.specs.Turns.{Continues}
 use Rattle.wc_outside.specs.declared.happening.Happening.TheVariants.{Read, Ended, Failed}
 use Rattle.wc_loop.proofs.TurnLemmas.{Continues-trans, Continues-takes}
 use Rattle.wc_loop.proofs.CloseLemmas.{Continues-refl}
 use Rattle.wc_loop.proofs.LeaveLemmas.{HasFailed-left, causes-line, causes-ended, causes-failed, Continues-drained, and-not-none}
 use Rattle.wc_loop.proofs.ServedLemmas.{none_of}
+use Rattle.wc_outside.specs.Keyed.{at_key}
+use Rattle.wc_loop.specs.Links.{is_undrained}
+use Rattle.wc_loop.specs.Served.{session_link}
+use Rattle.wc_loop.proofs.KeyedLemmas.{at_key-filter_same, or-false}
+use Rattle.wc_loop.proofs.LinkLemmas.{place-there}
+use Rattle.wc_loop.proofs.SourceLemmas.{Falls-refl, Falls-trans, Falls-drained, bytes-read, closed-left, closed-gone, drained-found}
 use Rattle.wc_loop.proofs.turns.read_once.Goals as goal
 
 pub returns-in_default-clause-continues : goal.returns-in_default-clause-continues
@@ -66,3 +72,51 @@ returns-in-Err-clause-continues g c =
     (record { told = e.told; taken = e.taken; asked = e.asked; counts = e.counts }) e.sent e.choked e.used e.there (λ k. e.undrained k ∙ and-not-none _ _) e.listening (l.failed refl) (let same = l.starved in omega arith)
     (causes-failed c.args.link _ c.link_gone-left-in-Err.new.self.core.sessions.items before after l.left l.cause e.failed e.taken))
     c.part_with-in-Err.ensures.continues
+
+pub returns-in_default-clause-falls : goal.returns-in_default-clause-falls
+returns-in_default-clause-falls g c = Falls-refl _
+
+pub returns-in_default-clause-drained : goal.returns-in_default-clause-drained
+returns-in_default-clause-drained g c = λ none stands. stands.among.undrained c.args.link.0 ∙ ap is_undrained (rw c.in_default.is at c.place.ensures)
+
+pub returns-in-Ok-NotYet-clause-falls : goal.returns-in-Ok-NotYet-clause-falls
+returns-in-Ok-NotYet-clause-falls g c = let e = c.in-Ok-NotYet.ensures in Falls-drained _ _ _ e.undrained e.listening
+
+pub returns-in-Ok-NotYet-clause-drained : goal.returns-in-Ok-NotYet-clause-drained
+returns-in-Ok-NotYet-clause-drained g c = λ none stands. (let e = rw c.in-Ok-NotYet.field-0-is at c.in-Ok-NotYet.ensures in e.undrained c.args.link.0 ∙ drained-found _ c.args.link.0)
+
+pub returns-then-is_some-clause-falls : goal.returns-then-is_some-clause-falls
+returns-then-is_some-clause-falls g c = let e = c.in-Ok-Bytes.ensures in Falls-trans _ (g.S.Sockets.seen c.read.new.self) _ (Falls-drained _ _ _ e.undrained e.listening) c.part_with.ensures.falls
+
+pub returns-then-is_some-clause-drained : goal.returns-then-is_some-clause-drained
+returns-then-is_some-clause-drained g c = λ none stands. closed-left c.args.link.0 c.bytes_came-left.result c.bytes_came-left.new.self.core.sessions.items (g.S.Sockets.seen c.part_with.new.sockets).undrained c.bytes_came-left.ensures.left (sym c.is_some.ensures ∙ c.if-is_some.true) c.part_with.ensures.drained
+
+pub returns-else-is_some-clause-falls : goal.returns-else-is_some-clause-falls
+returns-else-is_some-clause-falls g c = let e = c.in-Ok-Bytes.ensures in Falls-drained _ _ _ e.undrained e.listening
+
+pub returns-else-is_some-clause-bytes : goal.returns-else-is_some-clause-bytes
+returns-else-is_some-clause-bytes g c = λ t.
+    let e = rw c.in-Ok-Bytes.field-0-is at c.in-Ok-Bytes.ensures in
+    bytes-read c.args.link c.in-Ok-Bytes.count c.read.new.into (g.S.Sockets.seen c.args.sockets.now).taken (g.S.Sockets.seen c.read.new.self).taken (e.taken t) (let within = e.within.1 in let size = c.read.auto.into in omega arith)
+
+pub returns-in-Ok-End-clause-falls : goal.returns-in-Ok-End-clause-falls
+returns-in-Ok-End-clause-falls g c = let e = c.in-Ok-End.ensures in Falls-trans _ (g.S.Sockets.seen c.read.new.self) _ (Falls-drained _ _ _ e.undrained e.listening) c.part_with-in-Ok-End.ensures.falls
+
+pub returns-in-Ok-End-clause-drained : goal.returns-in-Ok-End-clause-drained
+returns-in-Ok-End-clause-drained g c = λ none stands.
+    let l = c.link_gone-left.ensures in
+    let there = place-there c.args.link.0 c.args.headless.now.links.opened.items c.place.result c.place.ensures (ap is_some c.in-Some.is) in
+    closed-gone c.args.link.0 c.link_gone-left.result c.args.headless.now.core.sessions.items c.link_gone-left.new.self.core.sessions.items (g.S.Sockets.seen c.part_with-in-Ok-End.new.sockets).undrained
+    (l.ended refl).clients (ap (at_key session_link c.args.link.0) l.sessions ∙ at_key-filter_same session_link c.args.link.0 c.args.headless.now.core.sessions.items)
+    (sym (or-false _) ∙ stands.among.clients c.args.link.0 ∙ there) c.part_with-in-Ok-End.ensures.drained
+
+pub returns-in-Err-clause-falls : goal.returns-in-Err-clause-falls
+returns-in-Err-clause-falls g c = let e = c.in-Err.ensures in Falls-trans _ (g.S.Sockets.seen c.read.new.self) _ (Falls-drained _ _ _ e.undrained e.listening) c.part_with-in-Err.ensures.falls
+
+pub returns-in-Err-clause-drained : goal.returns-in-Err-clause-drained
+returns-in-Err-clause-drained g c = λ none stands.
+    let l = c.link_gone-left-in-Err.ensures in
+    let there = place-there c.args.link.0 c.args.headless.now.links.opened.items c.place.result c.place.ensures (ap is_some c.in-Some.is) in
+    closed-gone c.args.link.0 c.link_gone-left-in-Err.result c.args.headless.now.core.sessions.items c.link_gone-left-in-Err.new.self.core.sessions.items (g.S.Sockets.seen c.part_with-in-Err.new.sockets).undrained
+    (l.failed refl).clients (ap (at_key session_link c.args.link.0) l.sessions ∙ at_key-filter_same session_link c.args.link.0 c.args.headless.now.core.sessions.items)
+    (sym (or-false _) ∙ stands.among.clients c.args.link.0 ∙ there) c.part_with-in-Err.ensures.drained

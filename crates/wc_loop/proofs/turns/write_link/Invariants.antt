@@ -1,10 +1,15 @@
-use Rattle.std.proofs.Common.{None, true, length}
+use Rattle.std.proofs.Common.{◌≢◌, ℕ, None, true, length}
 use Rattle.wc_loop.specs.Served.{unsent_on}
+use Rattle.wc_loop.specs.Sources.{Falls, IsWritten}
 use Rattle.wc_loop.specs.Turns.{Continues}
 use Rattle.wc_loop.proofs.turns.write_link.Given as goal
 
 abbrev pub invariant-loop-link : goal.invariant-loop-link
-invariant-loop-link g l = Continues true 0 0 l.fn.headless None l.headless None (g.S.Sockets.seen l.fn.sockets) (g.S.Sockets.seen l.sockets)
+invariant-loop-link g l = record {
+  continues : Continues true 0 0 l.fn.headless None l.headless None (g.S.Sockets.seen l.fn.sockets) (g.S.Sockets.seen l.sockets);
+  falls : Falls (g.S.Sockets.seen l.fn.sockets) (g.S.Sockets.seen l.sockets);
+  others : (other : ℕ) → other ≢ l.link.0 → IsWritten other l.fn.headless.core.sessions.items (g.S.Sockets.seen l.fn.sockets) → IsWritten other l.headless.core.sessions.items (g.S.Sockets.seen l.sockets);
+}
 
 abbrev pub decreases-loop-link : goal.decreases-loop-link
 decreases-loop-link g l = length (unsent_on l.link.0 l.headless.core.sessions.items)

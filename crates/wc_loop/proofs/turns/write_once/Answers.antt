@@ -1,8 +1,10 @@
-use Rattle.std.proofs.Common.{refl, ◌∙◌, ◌≤◌, length, None, rules, arith}
+use Rattle.std.proofs.Common.{◌≡◌, refl, ap, sym, ◌∙◌, ◌≤◌, inl, inr, [], length, None, rules, arith}
 use Rattle.wc_outside.specs.declared.happening.Happening.TheVariants.{Failed}
 use Rattle.wc_loop.proofs.TurnLemmas.{Continues-trans, Continues-takes}
 use Rattle.wc_loop.proofs.CloseLemmas.{Continues-refl, Continues-quiet, nothing_sent}
 use Rattle.wc_loop.proofs.LeaveLemmas.{HasFailed-left, causes-failed, Continues-took, fewer-took}
+use Rattle.wc_loop.specs.Served.{unsent_on}
+use Rattle.wc_loop.proofs.SourceLemmas.{Falls-refl, Falls-same, Falls-trans, IsWritten-later, others-unsent, others-without, none-given, some-given, no-bytes, blocked-here, blocked-other, not-left}
 use Rattle.wc_loop.proofs.turns.write_once.Goals as goal
 
 pub returns-in_default-clause-continues : goal.returns-in_default-clause-continues
@@ -44,3 +46,45 @@ returns-in-Err-clause-continues g c =
     (λ t k. e.sent t k ∙ nothing_sent _ _) e.choked e.used e.there e.undrained e.listening (l.failed refl) (let same = l.starved in omega arith)
     (causes-failed c.args.link _ _ _ _ l.left l.cause e.failed e.taken))
     c.part_with.ensures.continues
+
+pub returns-in_default-clause-falls : goal.returns-in_default-clause-falls
+returns-in_default-clause-falls g c = Falls-refl _
+
+pub returns-in_default-clause-done : goal.returns-in_default-clause-done
+returns-in_default-clause-done g c = λ done. inl (none-given _ (rw c.in_default.is at c.unsent.ensures))
+
+pub returns-then-is_empty-clause-falls : goal.returns-then-is_empty-clause-falls
+returns-then-is_empty-clause-falls g c = Falls-refl _
+
+pub returns-then-is_empty-clause-done : goal.returns-then-is_empty-clause-done
+returns-then-is_empty-clause-done g c = λ done.
+    let none : c.in-Some.unsent.now ≡ [] = no-bytes c.in-Some.unsent.now (sym c.is_empty.ensures ∙ c.if-is_empty.true) in
+    inl (some-given _ c.in-Some.unsent.now c.in-Some.ensures ∙ none)
+
+pub returns-in-Ok-Took-clause-falls : goal.returns-in-Ok-Took-clause-falls
+returns-in-Ok-Took-clause-falls g c = let e = c.in-Ok-Took.ensures in Falls-same _ _ e.undrained e.listening
+
+pub returns-in-Ok-Took-clause-others : goal.returns-in-Ok-Took-clause-others
+returns-in-Ok-Took-clause-others g c = λ k n. IsWritten-later k _ _ (g.S.Sockets.seen c.args.sockets.now) (g.S.Sockets.seen c.write.new.self) (others-unsent c.args.link.0 k c.in-Ok-Took.count _ _ _ refl c.gone.ensures.sessions n) (c.write.ensures.blocked k ∙ blocked-other k c.args.link.0 _ _ n)
+
+pub returns-in-Ok-NotYet-clause-falls : goal.returns-in-Ok-NotYet-clause-falls
+returns-in-Ok-NotYet-clause-falls g c = let e = c.in-Ok-NotYet.ensures in Falls-same _ _ e.undrained e.listening
+
+pub returns-in-Ok-NotYet-clause-done : goal.returns-in-Ok-NotYet-clause-done
+returns-in-Ok-NotYet-clause-done g c = λ done. (let e = rw c.in-Ok-NotYet.field-0-is at c.in-Ok-NotYet.ensures in inr (e.blocked c.args.link.0 ∙ blocked-here c.args.link.0 _ _))
+
+pub returns-in-Ok-NotYet-clause-others : goal.returns-in-Ok-NotYet-clause-others
+returns-in-Ok-NotYet-clause-others g c = λ k n. IsWritten-later k _ _ (g.S.Sockets.seen c.args.sockets.now) (g.S.Sockets.seen c.write.new.self) refl (c.write.ensures.blocked k ∙ blocked-other k c.args.link.0 _ _ n)
+
+pub returns-in-Err-clause-falls : goal.returns-in-Err-clause-falls
+returns-in-Err-clause-falls g c = let e = c.in-Err.ensures in Falls-trans _ (g.S.Sockets.seen c.write.new.self) _ (Falls-same _ _ e.undrained e.listening) c.part_with.ensures.falls
+
+pub returns-in-Err-clause-done : goal.returns-in-Err-clause-done
+returns-in-Err-clause-done g c = λ done. inl (ap (λ core. unsent_on c.args.link.0 core.sessions.items) c.part_with.ensures.core ∙ c.link_gone-left.ensures.gone)
+
+pub returns-in-Err-clause-others : goal.returns-in-Err-clause-others
+returns-in-Err-clause-others g c = λ k n.
+    let l = c.link_gone-left.ensures in
+    IsWritten-later k _ _ (g.S.Sockets.seen c.args.sockets.now) (g.S.Sockets.seen c.part_with.new.sockets)
+    (ap (λ core. unsent_on k core.sessions.items) c.part_with.ensures.core ∙ others-without c.args.link.0 k _ _ l.sessions n)
+    (c.part_with.ensures.blocked k (not-left k c.args.link.0 c.link_gone-left.result _ l.left n) ∙ c.write.ensures.blocked k ∙ blocked-other k c.args.link.0 _ _ n)
