@@ -1,0 +1,30 @@
+use Rattle.std.proofs.Common.{◌≡◌, ℕ, ◌+◌, ◌<◌, ◌≤◌, Bool, true, false, Some, None, List, [], ◌∷◌, ◌++◌, length, suc, take, drop, refl, sym, ap, ◌∙◌, subst, arith}
+use Rattle.std.specs.Prelude.{is_some, nat_lt, slice_get, slice_set, insert, remove, vec_len, vec_capacity, IsTrue}
+use Rattle.std.proofs.lemmas.Bool.{true≢false}
+use Rattle.wc_nicklist.specs.declared.item.Row.{Row}
+use Rattle.wc_nicklist.specs.declared.item.Key.{Key}
+use Rattle.wc_nicklist.specs.Order.{key, key_at, address, address_of}
+use Rattle.wc_nicklist.specs.Rows.{find_row, insert_row, remove_row, changed_row, Ascending, IsRows}
+use Rattle.wc_nicklist.specs.Stored.{AllBefore, IsPlace, IsSplitAt}
+use Rattle.wc_nicklist.specs.Tree.{Leaf, rows_in, IsLeaf, AreLeaves, IsLeafPlace, IsRoomyPlace, StandsIn}
+use Rattle.wc_nicklist.proofs.Leaves.{is_leaf_at}
+use Rattle.wc_nicklist.proofs.TreeLaws.{tree_removed, tree_nearly, moved_stands_in}
+use Rattle.wc_nicklist.proofs.row_tree.remove.Goals as goal
+
+pub drop_empty-requires-clause-nearly : goal.drop_empty-requires-clause-nearly
+drop_empty-requires-clause-nearly c =
+    let leaves = c.args.leaves.now.items in
+    let s : StandsIn leaves c.in-Some.at c.in-Some.n (key_at c.args.address.now.is_group c.args.address.now.name.now) = moved_stands_in c.as_slice.ensures.value refl c.in-Some.ensures.found in
+    let same : c.index_mut.result.now ≡ s.leaf = c.index_mut.ensures.value ∙ s.outer.value c.index_mut.result.now in
+    let old = is_leaf_at leaves c.in-Some.at s.leaf c.requires.leaves s.outer in
+    let f = old.fits in
+    let r = old.roomy in
+    tree_nearly leaves c.in-Some.at s.leaf c.remove-row.new.self c.requires.leaves s.outer (omega (arith, f, c.remove-row.ensures.len, ap vec_len same)) (omega (arith, r, c.remove-row.ensures.capacity, ap vec_capacity same))
+
+pub returns-clause-rows : goal.returns-clause-rows
+returns-clause-rows c =
+    let leaves = c.args.leaves.now.items in
+    let k = key_at c.args.address.now.is_group c.args.address.now.name.now in
+    let s : StandsIn leaves c.in-Some.at c.in-Some.n k = moved_stands_in c.as_slice.ensures.value refl c.in-Some.ensures.found in
+    let same : c.index_mut.result.now ≡ s.leaf = c.index_mut.ensures.value ∙ s.outer.value c.index_mut.result.now in
+    c.drop_empty.ensures.rows ∙ tree_removed leaves c.in-Some.at c.in-Some.n k c.remove-row.new.self s c.requires.held (c.remove-row.ensures.items ∙ ap (λ l. remove l.items c.in-Some.n) same)
