@@ -1,16 +1,15 @@
 -- Edits of rows that a nicklist can hold leave such rows.
-use Rattle.std.proofs.Common.{◌≡◌, ℕ, ◌+◌, ◌<◌, ◌≤◌, Bool, true, false, cond, ◌&&◌, ◌||◌, Option, Some, None, List, [], ◌∷◌, ◌++◌, length, refl, sym, ap, ◌∙◌, subst, arith}
-use Rattle.std.specs.List.{list_any}
-use Rattle.std.proofs.lemmas.Bool.{true≢false, cond-true, cond-false}
+use Rattle.std.proofs.Common.{◌≡◌, ℕ, ◌<◌, ◌≤◌, Bool, true, false, cond, ◌&&◌, ◌||◌, Option, Some, None, List, [], ◌∷◌, ◌++◌, ◌⊎◌, length, refl, sym, ap, ◌∙◌, subst, inl, inr}
+use Rattle.std.proofs.lemmas.Bool.{true≢false}
 use Rattle.wc_nicklist.specs.declared.item.Item.{Item}
 use Rattle.wc_nicklist.specs.declared.item.Key.{Key}
 use Rattle.wc_nicklist.specs.declared.item.Row.{Row}
 use Rattle.wc_nicklist.specs.Order.{key, key_at, group_key}
-use Rattle.wc_nicklist.specs.Rows.{key_eq, path_eq, find_row, insert_row, remove_row, replace_row, changed_item, changed_row, change_found, change_row, root_name, is_root, last_or, parent_of, below, below_row, path_below, has_child, level_at, TextsAreUtf8, IsHeld, IsRows}
+use Rattle.wc_nicklist.specs.Rows.{key_eq, path_eq, find_row, insert_row, remove_row, replace_row, changed_row, root_name, is_root, last_or, parent_of, below, below_row, path_below, has_child, TextsAreUtf8, IsHeld, IsRows}
 use Rattle.wc_nicklist.specs.Calls.{row_under}
 use Rattle.wc_nicklist.specs.Kept.{path_of}
-use Rattle.wc_nicklist.proofs.OrderLaws.{by_bool, bytes_true, key_eq-true, key_eq-same, path_eq-same}
-use Rattle.wc_nicklist.proofs.RowLaws.{find_key, find-insert, find-remove, find-replace, keyed-insert, keyed-remove, keyed-replace, ascending-insert, ascending-remove, ascending-replace, key_eq-at}
+use Rattle.wc_nicklist.proofs.OrderLaws.{by_bool, bytes_true, key_eq-true, path_eq-same}
+use Rattle.wc_nicklist.proofs.RowLaws.{find_key, find-insert, find-remove, find-replace, keyed-insert, keyed-remove, keyed-replace, ascending-insert, ascending-remove, ascending-replace}
 
 last_or-push : (d : List ℕ) (xs : List (List ℕ)) (x : List ℕ) → last_or d (xs ++ x ∷ []) ≡ x
 last_or-push d [] x = refl
@@ -98,6 +97,15 @@ no_child path (y ∷ ys) k x h e i = by_bool (key_eq (key y) k) _
 below_found : (p : List ℕ) (rows : List Row) (q : List (List ℕ)) (g : Row) → path_below p rows ≡ Some q → is_root p ≡ false → find_row (group_key p) rows ≡ Some g → below g ≡ q
 unfolding path_below
 below_found p rows q g e n f = let i : Some (below g) ≡ Some q = rw (n, f) at e in cc
+
+-- a path is the root's, or the one below a group
+pub parent_found : (p : List ℕ) (rows : List Row) (q : List (List ℕ)) → path_below p rows ≡ Some q → (q ≡ []) ⊎ ((g : Row) × (find_row (group_key p) rows ≡ Some g) × (below g ≡ q))
+unfolding path_below
+parent_found p rows q e = by_bool (is_root p) _
+    (λ t. let i : Some [] ≡ Some q = rw t at e in let j : [] ≡ q = cc in inl (sym j))
+    (λ t. by_row (find_row (group_key p) rows) _
+    (λ n. absurd (let i : None ≡ Some q = rw (t, n) at e in cc))
+    (λ g n. let i : Some (below g) ≡ Some q = rw (t, n) at e in let j : below g ≡ q = cc in inr (g, n, j)))
 
 -- the row that is removed, which has no children
 pub held-remove : (rows : List Row) (k : Key) (r : Row) → IsRows rows → find_row k rows ≡ Some r → (r.item.is_group ≡ true → has_child (below r) rows ≡ false) → IsRows (remove_row k rows)

@@ -1,6 +1,6 @@
 -- What a nicklist keeps of its parts is kept by each edit.
-use Rattle.std.proofs.Common.{◌≡◌, ℕ, ◌<◌, ◌≤◌, Bool, true, false, cond, ◌&&◌, Option, Some, None, List, [], ◌∷◌, ◌++◌, length, refl, sym, ap, ◌∙◌, subst}
-use Rattle.std.specs.Prelude.{IsSome, IsTrue, is_some}
+use Rattle.std.proofs.Common.{◌≡◌, ℕ, Bool, true, false, cond, ◌&&◌, Option, Some, None, List, [], ◌∷◌, ◌++◌, length, refl, sym, ap, ◌∙◌, subst}
+use Rattle.std.specs.Prelude.{IsSome, is_some}
 use Rattle.std.proofs.lemmas.Bool.{true≢false}
 use Rattle.wc_nicklist.specs.declared.index.Index.{Index}
 use Rattle.wc_nicklist.specs.declared.item.Item.{Item}
@@ -12,8 +12,8 @@ use Rattle.wc_nicklist.specs.declared.room.Room.{Room}
 use Rattle.wc_nicklist.specs.Calls.{is_bad_name, when, or_else, name_refusal, row_under, has_children}
 use Rattle.wc_nicklist.specs.Index.{path_in}
 use Rattle.wc_nicklist.specs.Kept.{path_of, IsIndexOf, RoomStands, IfRoom, parent_in, IsKept}
-use Rattle.wc_nicklist.specs.Order.{key, key_at, group_key}
-use Rattle.wc_nicklist.specs.Rows.{key_eq, find_row, insert_row, remove_row, changed_row, replace_row, change_found, change_row, is_root, below, below_row, path_below, has_child, TextsAreUtf8, IsRows}
+use Rattle.wc_nicklist.specs.Order.{key_at, group_key}
+use Rattle.wc_nicklist.specs.Rows.{key_eq, find_row, insert_row, remove_row, changed_row, replace_row, change_found, change_row, is_root, below_row, path_below, TextsAreUtf8, IsRows}
 use Rattle.wc_nicklist.specs.Stored.{Stored}
 use Rattle.wc_nicklist.proofs.Held.{by_row, held-insert, held-remove, held-change, path_of-insert, path_of-remove, path_of-change}
 use Rattle.wc_nicklist.proofs.OrderLaws.{by_bool}

@@ -6,7 +6,7 @@ use Rattle.wc_nicklist.specs.declared.index.Index.{Index}
 use Rattle.wc_nicklist.specs.declared.item.Key.{Key}
 use Rattle.wc_nicklist.specs.Index.{at_name, path_in}
 use Rattle.wc_nicklist.specs.Order.{key_at}
-use Rattle.wc_nicklist.specs.Rows.{bool_eq, key_eq}
+use Rattle.wc_nicklist.specs.Rows.{key_eq}
 
 pub in_groups : (g : Bool) → g ≡ true → (name : List ℕ) (w : Option (List (List ℕ))) (i : Index) (groups : _) → ((q : List ℕ) → at_name groups q ≡ cond (bytes_eq name q) w (at_name i.groups q)) → (k : Key) → path_in (record { groups = groups; nicks = i.nicks }) k ≡ cond (key_eq (key_at g name) k) w (path_in i k)
 unfolding key_eq

@@ -1,15 +1,13 @@
 -- Leaves of rows, one after the other.
-use Rattle.std.proofs.Common.{◌≡◌, ℕ, zero, suc, ◌+◌, ◌-◌, ◌≤◌, ◌<◌, Bool, true, false, cond, Option, Some, None, List, [], ◌∷◌, ◌++◌, length, take, drop, get_or, refl, sym, ap, ◌∙◌, subst, arith, add-one, drop-cons, append_assoc, append-nil, take-append-drop}
-use Rattle.std.specs.Prelude.{slice_get, slice_set, insert, remove, vec_len, vec_capacity}
-use Rattle.std.specs.List.{flat_map}
-use Rattle.std.proofs.lemmas.Bool.{true≢false}
+use Rattle.std.proofs.Common.{◌≡◌, ℕ, zero, suc, ◌+◌, ◌<◌, true, List, [], ◌∷◌, ◌++◌, length, take, drop, get_or, refl, sym, ap, ◌∙◌, subst, arith, add-one, drop-cons, append_assoc, append-nil, take-append-drop}
+use Rattle.std.specs.Prelude.{vec_len}
 use Rattle.std.proofs.lemmas.List.Concat.{flat_map-append}
 use Rattle.wc_nicklist.specs.declared.item.Key.{Key}
 use Rattle.wc_nicklist.specs.declared.item.Row.{Row}
 use Rattle.wc_nicklist.specs.Order.{is_before, before}
-use Rattle.wc_nicklist.specs.Rows.{Ascending, AllBehind, Keyed, IsRows, find_row}
+use Rattle.wc_nicklist.specs.Rows.{Ascending, AllBehind}
 use Rattle.wc_nicklist.specs.Stored.{AllBefore, FirstNotBefore, IsPlace, IsSplitAt}
-use Rattle.wc_nicklist.specs.Tree.{Leaf, leaf_rows, rows_in, IsLeaf, AreLeaves, IsLeafPlace, StandsIn}
+use Rattle.wc_nicklist.specs.Tree.{Leaf, leaf_rows, rows_in, IsLeaf, AreLeaves, IsLeafPlace}
 use Rattle.wc_nicklist.proofs.OrderLaws.{before_chain_at}
 use Rattle.wc_nicklist.proofs.Places.{split_at}
 
@@ -32,7 +30,7 @@ pub all_before_right : (xs ys : List Row) (a : List Key) → AllBefore (xs ++ ys
 all_before_right [] ys a h = h
 all_before_right (x ∷ xs) ys a h = all_before_right xs ys a h.1
 
-behind_in : (x r : Row) (xs b : List Row) → AllBehind x (xs ++ r ∷ b) → before x r ≡ true
+pub behind_in : (x r : Row) (xs b : List Row) → AllBehind x (xs ++ r ∷ b) → before x r ≡ true
 behind_in x r [] b h = h.0
 behind_in x r (y ∷ ys) b h = behind_in x r ys b h.1
 

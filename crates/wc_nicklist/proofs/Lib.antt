@@ -1,4 +1,5 @@
 pub mod Addresses
+pub mod Children
 pub mod Halves
 pub mod Held
 pub mod Keeps

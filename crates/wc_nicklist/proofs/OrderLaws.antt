@@ -7,12 +7,12 @@ use Rattle.std.specs.Cmp.{IsTotalOrder, nat_cmp_total}
 use Rattle.std.specs.FinMap.{IsAntisymmetric, nat_cmp-IsAntisymmetric, slice_cmp-IsAntisymmetric}
 use Rattle.std.specs.Cmp.Lexicographic.{slice_cmp, pointwise_decides, bytes_decides}
 use Rattle.std.proofs.lemmas.Cmp.{then_total, on_total, lists_total, nat_list_cmp_total, tied_itself}
-use Rattle.std.proofs.lemmas.Bool.{true≢false, false≢true, and_parts, eqb-true, false_from_ne_true, and_from}
+use Rattle.std.proofs.lemmas.Bool.{true≢false, false≢true, and_parts, false_from_ne_true, and_from}
 use Rattle.wc_nicklist.specs.declared.item.Key.{Key}
 use Rattle.wc_nicklist.specs.declared.item.Row.{Row}
 use Rattle.wc_text.specs.Order.{folded, fold_order}
 use Rattle.wc_nicklist.specs.Order.{key, group_key, kind, key_cmp, address, address_cmp, is_before, before}
-use Rattle.wc_nicklist.specs.Rows.{bool_eq, key_eq, path_eq, root_name}
+use Rattle.wc_nicklist.specs.Rows.{below, bool_eq, key_eq, path_eq}
 use Rattle.std.proofs.lemmas.List.{map-append}
 
 bool_eq-true : (a b : Bool) → bool_eq a b ≡ true → a ≡ b
@@ -147,17 +147,28 @@ pub before_other : (a b : Row) → before a b ≡ false → (key a ≡ key b →
 unfolding before address_cmp
 before_other a b x n = other_way _ _ (address_total.antisymm (address a) (address b)) x (λ e. n (same_key a b (slice_cmp-IsAntisymmetric key_exact (address a) (address b) e)))
 
-prefix_less : (xs : List Key) (y : Key) → slice_cmp key_cmp xs (xs ++ y ∷ []) ≡ Less
-prefix_less [] y = refl
-prefix_less (x ∷ xs) y = rw (tied_itself key_total x) (prefix_less xs y)
+prefix_less : (xs : List Key) (y : Key) (ys : List Key) → slice_cmp key_cmp xs (xs ++ y ∷ ys) ≡ Less
+prefix_less [] y ys = refl
+prefix_less (x ∷ xs) y ys = rw (tied_itself key_total x) (prefix_less xs y ys)
+
+-- a group's address is the path of what is below it
+pub group_address : (g : Row) → g.item.is_group ≡ true → address g ≡ map group_key (below g)
+group_address g e =
+    let k : key g ≡ group_key g.item.name = λ i. record { is_group = e i; name = g.item.name } in
+    ap (λ x. map group_key g.path ++ x ∷ []) k ∙ sym (map-append group_key g.path (g.item.name ∷ []))
 
 -- a group stands before what is below it
 pub before_below : (g r : Row) → g.item.is_group ≡ true → r.path ≡ g.path ++ g.item.name ∷ [] → before g r ≡ true
 unfolding before address_cmp
 before_below g r e p =
-    let k : key g ≡ group_key g.item.name = λ i. record { is_group = e i; name = g.item.name } in
-    let a : address g ≡ map group_key (g.path ++ g.item.name ∷ []) = ap (λ x. map group_key g.path ++ x ∷ []) k ∙ sym (map-append group_key g.path (g.item.name ∷ [])) in
-    ap is_lt (ap (λ x. slice_cmp key_cmp x (address r)) (a ∙ ap (map group_key) (sym p)) ∙ prefix_less (map group_key r.path) (key r))
+    ap is_lt (ap (λ x. slice_cmp key_cmp x (address r)) (group_address g e ∙ ap (map group_key) (sym p)) ∙ prefix_less (map group_key r.path) (key r) [])
+
+-- and before a group further below
+pub before_further : (g p : Row) (n : List ℕ) (ns : List (List ℕ)) → g.item.is_group ≡ true → p.item.is_group ≡ true → below p ≡ below g ++ n ∷ ns → before g p ≡ true
+unfolding before address_cmp
+before_further g p n ns e i b =
+    let a : address p ≡ map group_key (below g) ++ group_key n ∷ map group_key ns = group_address p i ∙ ap (map group_key) b ∙ map-append group_key (below g) (n ∷ ns) in
+    ap is_lt (ap (λ x. slice_cmp key_cmp x (address p)) (group_address g e) ∙ ap (slice_cmp key_cmp (map group_key (below g))) a ∙ prefix_less (map group_key (below g)) (group_key n) (map group_key ns))
 
 -- the order sees paths and keys alone
 pub before_like : (x a b : Row) → a.path ≡ b.path → key a ≡ key b → before x a ≡ before x b

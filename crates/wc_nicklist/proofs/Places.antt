@@ -1,5 +1,5 @@
 -- Where a row stands among rows in order, and what the edits do there.
-use Rattle.std.proofs.Common.{◌≡◌, ℕ, zero, suc, ◌+◌, ◌≤◌, ◌<◌, Bool, true, false, cond, Option, Some, None, List, [], ◌∷◌, ◌++◌, length, take, drop, get_or, refl, sym, ap, ◌∙◌, subst, arith, add-one, drop-cons, take-append-drop}
+use Rattle.std.proofs.Common.{◌≡◌, ℕ, zero, suc, ◌+◌, ◌≤◌, ◌<◌, Bool, true, false, Option, Some, None, List, [], ◌∷◌, ◌++◌, length, take, drop, get_or, refl, sym, ap, ◌∙◌, subst, arith, add-one, drop-cons, take-append-drop}
 use Rattle.std.specs.Prelude.{slice_set, slice_get, insert, remove, IfSome}
 use Rattle.std.specs.Prelude.{nat_lt}
 use Rattle.std.proofs.lemmas.Bool.{true≢false}
@@ -10,8 +10,8 @@ use Rattle.wc_nicklist.specs.declared.item.Row.{Row}
 use Rattle.wc_nicklist.specs.Order.{key, key_at, address, address_of, is_before, before}
 use Rattle.wc_nicklist.specs.Rows.{key_eq, find_row, insert_row, remove_row, replace_row, changed_row, change_found, change_row, AllBehind, Ascending, Keyed, IsRows}
 use Rattle.wc_nicklist.specs.Stored.{AllBefore, FirstNotBefore, IsPlace, IsSplitAt, StandsAt}
-use Rattle.wc_nicklist.proofs.OrderLaws.{by_bool, before_chain_at, before_is, before_itself, before_one_way, before_other, key_eq-true, key_eq-same, key_eq-other}
-use Rattle.wc_nicklist.proofs.RowLaws.{behind_found, absent_kept, find_key, key_eq-at, key_eq-back}
+use Rattle.wc_nicklist.proofs.OrderLaws.{by_bool, before_chain_at, before_is, before_itself, before_one_way, before_other, key_eq-true, key_eq-same}
+use Rattle.wc_nicklist.proofs.RowLaws.{behind_found, absent_kept, find_key, key_eq-at}
 
 -- one step of a search by halves
 behind_at : (x y : Row) (ys : List Row) (m : ℕ) → AllBehind x ys → m < length ys → y ≡ get_or ys m y → before x y ≡ true

@@ -1,9 +1,9 @@
 -- What is found after an edit, and that edits keep the order.
-use Rattle.std.proofs.Common.{◌≡◌, true, false, cond, Option, Some, None, List, [], ◌∷◌, refl, sym, ap, ◌∙◌}
+use Rattle.std.proofs.Common.{◌≡◌, ℕ, Bool, true, false, cond, Option, Some, None, List, [], ◌∷◌, refl, sym, ap, ◌∙◌}
 use Rattle.std.proofs.lemmas.Bool.{true≢false}
 use Rattle.wc_nicklist.specs.declared.item.Key.{Key}
 use Rattle.wc_nicklist.specs.declared.item.Row.{Row}
-use Rattle.wc_nicklist.specs.Order.{key, before}
+use Rattle.wc_nicklist.specs.Order.{key, key_at, before}
 use Rattle.wc_nicklist.specs.Rows.{key_eq, find_row, remove_row, insert_row, replace_row, AllBehind, Ascending, Keyed}
 use Rattle.wc_nicklist.proofs.OrderLaws.{key_eq-true, key_eq-same, key_eq-other, before_chain, before_one_way, before_other, before_like, before_like_left, by_bool}
 
@@ -18,6 +18,9 @@ find_key k [] r e = absurd cc
 find_key k (x ∷ xs) r e = by_bool (key_eq (key x) k) _
     (λ t. let i : Some x ≡ Some r = rw t at e in let j : x ≡ r = cc in ap key (sym j) ∙ key_eq-true _ _ t)
     (λ t. find_key k xs r (rw t at e))
+
+pub found_by_name : (rows : List Row) (r : Row) (g : Bool) (name : List ℕ) → find_row (key_at g name) rows ≡ Some r → find_row (key_at g r.item.name) rows ≡ Some r
+found_by_name rows r g name e = ap (λ k. find_row (key_at g k.name) rows) (find_key (key_at g name) rows r e) ∙ e
 
 -- what is found
 pub find-remove : (k q : Key) (rows : List Row) → find_row q (remove_row k rows) ≡ cond (key_eq k q) None (find_row q rows)

@@ -1,19 +1,17 @@
 -- The edits of a tree of leaves are those of its rows.
-use Rattle.std.proofs.Common.{◌≡◌, ℕ, zero, suc, ◌+◌, ◌≤◌, ◌<◌, Bool, true, false, ◌||◌, Option, Some, None, List, [], ◌∷◌, ◌++◌, length, take, drop, get_or, refl, sym, ap, ◌∙◌, subst, arith, append_assoc, append-nil, take-append-drop, length-take, length-append}
-use Rattle.std.specs.Prelude.{slice_get, slice_set, insert, remove, IfSome, IsTrue, vec_len, vec_capacity}
+use Rattle.std.proofs.Common.{◌≡◌, ℕ, zero, suc, ◌+◌, ◌≤◌, ◌<◌, true, false, Option, Some, None, List, [], ◌∷◌, ◌++◌, length, take, drop, refl, sym, ap, ◌∙◌, subst, arith, append_assoc, append-nil, length-take, length-append}
+use Rattle.std.specs.Prelude.{slice_get, slice_set, insert, remove, IfSome, vec_len, vec_capacity}
 use Rattle.std.specs.Prelude.{◌==◌}
-use Rattle.std.specs.List.{list_any}
 use Rattle.std.proofs.lemmas.Bool.{true≢false}
 use Rattle.std.proofs.lemmas.List.{take_at, drop_at}
 use Rattle.wc_nicklist.specs.declared.item.Item.{Item}
 use Rattle.wc_nicklist.specs.declared.item.Key.{Key}
 use Rattle.wc_nicklist.specs.declared.item.Row.{Row}
 use Rattle.wc_nicklist.specs.Order.{key, address, address_of}
-use Rattle.wc_nicklist.specs.Rows.{key_eq, path_eq, has_child, find_row, insert_row, remove_row, replace_row, changed_row, change_found, change_row, Ascending, Keyed, IsRows}
+use Rattle.wc_nicklist.specs.Rows.{key_eq, find_row, insert_row, remove_row, replace_row, changed_row, change_found, change_row, Keyed, IsRows}
 use Rattle.wc_nicklist.specs.Stored.{AllBefore, FirstNotBefore, IsPlace, IsSplitAt}
-use Rattle.wc_nicklist.specs.Tree.{Leaf, rows_in, IsLeaf, AreLeaves, IsLeafPlace, IsRoomyPlace, IsFullAt, AreNearlyLeaves, StandsIn}
-use Rattle.wc_nicklist.proofs.Leaves.{rows_in-append, rows_at, cut_at, front, back, IsCut, leaves_left, leaves_right, leaves-append, all_before-append, take_when_none}
-use Rattle.wc_nicklist.proofs.OrderLaws.{key_eq-true}
+use Rattle.wc_nicklist.specs.Tree.{Leaf, rows_in, IsLeaf, AreLeaves, IsLeafPlace, IsRoomyPlace, AreNearlyLeaves, StandsIn}
+use Rattle.wc_nicklist.proofs.Leaves.{rows_in-append, rows_at, cut_at, front, back, leaves_left, leaves_right, leaves-append, all_before-append, take_when_none}
 use Rattle.wc_nicklist.proofs.Places.{found_place, insert_place, remove_place, replace_place, there_found, drop_of_get, split_at}
 use Rattle.wc_nicklist.proofs.RowLaws.{find_key, key_eq-at}
 
@@ -130,7 +128,7 @@ regroup p f y q = simp append_assoc
 row_between : (leaves : List Leaf) (c n : ℕ) (k : Key) (s : StandsIn leaves c n k) (y : List Row) → rows_in (take c leaves) ++ ((take n s.leaf.items ++ y) ++ rows_in (drop (suc c) leaves)) ≡ (rows_in (take c leaves) ++ take n s.leaf.items) ++ (y ++ rows_in (drop (suc c) leaves))
 row_between leaves c n k s y = regroup (rows_in (take c leaves)) (take n s.leaf.items) y (rows_in (drop (suc c) leaves))
 
-whole_row : (leaves : List Leaf) (c n : ℕ) (k : Key) (s : StandsIn leaves c n k) → rows_in leaves ≡ (rows_in (take c leaves) ++ take n s.leaf.items) ++ (s.row ∷ (drop (suc n) s.leaf.items ++ rows_in (drop (suc c) leaves)))
+pub whole_row : (leaves : List Leaf) (c n : ℕ) (k : Key) (s : StandsIn leaves c n k) → rows_in leaves ≡ (rows_in (take c leaves) ++ take n s.leaf.items) ++ (s.row ∷ (drop (suc n) s.leaf.items ++ rows_in (drop (suc c) leaves)))
 whole_row leaves c n k s =
     rows_at leaves c s.leaf s.outer
     ∙ ap (λ z. rows_in (take c leaves) ++ (z ++ rows_in (drop (suc c) leaves))) s.inner.whole
@@ -253,16 +251,3 @@ like_leaf l m i e f = let a = i.filled in let b = i.fits in let d = i.roomy in r
 pub some_rows : (n : ℕ) → false ≡ (n == 0) → 0 < n
 some_rows zero e = absurd (true≢false (sym e))
 some_rows (suc n) e = omega arith
-
--- whether a row of some leaf stands right below a path
-pub child_in : (path : List (List ℕ)) (leaves : List Leaf) → has_child path (rows_in leaves) ≡ list_any (λ l. has_child path l.items) leaves
-child_in path [] = refl
-child_in path (l ∷ ls) = any-append (λ r. path_eq r.path path) l.items (rows_in ls) ∙ ap (λ b. has_child path l.items || b) (child_in path ls)
-  where
-    any-append : (p : Row → Bool) (xs ys : List Row) → list_any p (xs ++ ys) ≡ list_any p xs || list_any p ys
-    any-append p [] ys = refl
-    any-append p (x ∷ xs) ys = ap (λ b. p x || b) (any-append p xs ys) ∙ or_assoc (p x) (list_any p xs) (list_any p ys)
-      where
-        or_assoc : (a b d : Bool) → a || (b || d) ≡ (a || b) || d
-        or_assoc true b d = refl
-        or_assoc false b d = refl

@@ -1,9 +1,9 @@
 -- The calls of a nicklist, each on the flat list of its rows.
-use Rattle.std.specs.Prelude.{◌≡◌, ◌≢◌, ℕ, ◌==◌, Bool, false, ◌&&◌, ◌||◌, nat_lt, Option, Some, None, List, length, if◌then◌else◌, is_none, is_some}
+use Rattle.std.specs.Prelude.{ℕ, ◌==◌, Bool, false, ◌&&◌, ◌||◌, nat_lt, Option, Some, None, List, length, if◌then◌else◌, is_none, is_some}
 use Rattle.wc_nicklist.specs.declared.item.Item.{Item}
 use Rattle.wc_nicklist.specs.declared.item.Row.{Row}
 use Rattle.wc_nicklist.specs.declared.refused.NickRefused.{NickRefused}
-use Rattle.wc_nicklist.specs.declared.refused.NickRefused.TheVariants.{IsRoot, BadName, NoParent, NameTaken, NoSuch, NotEmpty, NoMemory}
+use Rattle.wc_nicklist.specs.declared.refused.NickRefused.TheVariants.{IsRoot, BadName, NoParent, NameTaken, NoSuch, NotEmpty}
 use Rattle.wc_nicklist.specs.Order.{key_at}
 use Rattle.wc_nicklist.specs.Rows.{find_row, is_root, insert_row, level_at, path_below, has_child, below, Nicks}
 

@@ -3,7 +3,7 @@ use Rattle.std.specs.Prelude.{◌≡◌, ℕ, suc, ◌≤◌, ◌<◌, Bool, tru
 use Rattle.wc_nicklist.specs.declared.item.Key.{Key}
 use Rattle.wc_nicklist.specs.declared.item.Row.{Row}
 use Rattle.wc_nicklist.specs.Order.{is_before}
-use Rattle.wc_nicklist.specs.Rows.{find_row, IsRows}
+use Rattle.wc_nicklist.specs.Rows.{find_row, path_eq, IsRows}
 
 -- the rows, and whether one more comes in without taking memory
 pub record Stored : Type 0 where
@@ -24,6 +24,11 @@ pub record IsPlace (rows : List Row) (a : List Key) (n : ℕ) : Type 0 where
   pub within : n ≤ length rows
   pub left : AllBefore (take n rows) a
   pub right : FirstNotBefore (drop n rows) a
+
+-- whether the first of these rows stands right below this path
+abbrev pub begins_below : List (List ℕ) → List Row → Bool
+begins_below path [] = false
+begins_below path (x ∷ xs) = path_eq x.path path
 
 -- Lists that are split at a place.
 pub record IsSplitAt {A : Type 0} (xs : List A) (n : ℕ) (x : A) (rest : List A) : Type 0 where

@@ -1,9 +1,10 @@
-ghost use Rattle.std.specs.Prelude.{◌≡◌};
+ghost use Rattle.std.specs.Prelude.{◌≡◌, ◌++◌};
 ghost use Rattle.std.specs.Iterator.{YieldsFirstBy, item_count};
-ghost use Rattle.wc_nicklist.specs.Rows.{parent_of};
+ghost use Rattle.wc_nicklist.specs.Rows.{below, parent_of, path_eq};
 ghost use Rattle.wc_nicklist.specs.Tree.{rows_in};
 
 use crate::item::{Item, Row};
+use crate::leaf::is_child;
 use std::marker::Model;
 
 /// A row that is lent by its nicklist.
@@ -21,6 +22,13 @@ impl<'a> Model for RowView<'a> {
 }
 
 impl<'a> RowView<'a> {
+    /// Whether it stands right below a group.
+    pub(crate) fn is_child_of(&self, group: &Row) -> bool
+        ensures { result ≡ path_eq self.now.path (below group.now) }
+    {
+        is_child(self.row, group)
+    }
+
     /// The group or the nick.
     pub fn item(&self) -> &Item
         ensures { result.now ≡ self.now.item }
@@ -62,6 +70,13 @@ impl<'a> RowIter<'a> {
         ensures { result ≡ rows_in leaves.now }
     {
         RowIter { leaf: &[], leaves }
+    }
+
+    /// The rows that are left of a leaf, and those of the leaves behind it.
+    pub(crate) fn from_leaf(leaf: &'a [Row], leaves: &'a [Vec<Row>]) -> RowIter<'a>
+        ensures { result ≡ leaf.now ++ rows_in leaves.now }
+    {
+        RowIter { leaf, leaves }
     }
 }
 

@@ -1,6 +1,6 @@
 ghost use Rattle.std.specs.Prelude.{◌≡◌, ◌≤◌, ◌<◌, ◌++◌, ◌+◌, ◌∷◌, [], ℕ, Some, length, insert, slice_get, slice_set, vec_len, vec_capacity};
 ghost use Rattle.wc_nicklist.specs.Order.{key, key_at, address, address_of};
-ghost use Rattle.wc_nicklist.specs.Rows.{below, changed_item, changed_row, has_child, key_eq, path_eq, Ascending};
+ghost use Rattle.wc_nicklist.specs.Rows.{below, changed_item, changed_row, key_eq, path_eq, Ascending};
 ghost use Rattle.wc_nicklist.specs.declared.item.Row.{Row as RowValue};
 ghost use Rattle.wc_nicklist.specs.Stored.{IsPlace};
 
@@ -78,13 +78,6 @@ pub(crate) fn change_at(leaf: &mut Vec<Row>, at: usize, item: Item)
     change_item(&mut leaf[at].item, item);
 }
 
-/// Whether a row of the leaf stands right below a group.
-pub(crate) fn has_child(leaf: &[Row], group: &Row) -> bool
-    ensures { result ≡ has_child (below group.now) leaf.now }
-{
-    leaf.iter().any(|row| is_child(row, group))
-}
-
 /// The kind, the name and the level stay.
 fn change_item(old: &mut Item, new: Item)
     ensures { old.new ≡ changed_item old.old new }
@@ -119,7 +112,7 @@ fn same_path(a: &[Text], b: &[Text]) -> bool
 }
 
 /// Whether a row stands right below a group.
-fn is_child(row: &Row, group: &Row) -> bool
+pub(crate) fn is_child(row: &Row, group: &Row) -> bool
     ensures { result ≡ path_eq row.now.path (below group.now) }
 {
     is_below(

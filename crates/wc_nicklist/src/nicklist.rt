@@ -336,6 +336,7 @@ impl Nicklist {
 
     /// Whether it is a group, and a row stands right below it.
     fn is_filled(&self, is_group: bool, row: &Row) -> bool
+        requires { find_row (key_at is_group row.now.item.name) self.now.rows ≡ Some row.now }
         ensures { result ≡ (is_group && has_child (below row.now) self.now.rows) }
     {
         is_group && self.rows.has_child_of(row)

@@ -1,13 +1,12 @@
-ghost use Rattle.std.specs.Prelude.{◌≡◌, ◌≤◌, ◌<◌, ◌+◌, ◌++◌, ◌∷◌, [], None, Some, OnOk, IsTrue, IfSome, IfNone, IsSomeAnd, length, option_copied, insert, vec_len, vec_capacity};
-ghost use Rattle.std.specs.List.{list_any};
+ghost use Rattle.std.specs.Prelude.{◌≡◌, ◌≤◌, ◌<◌, ◌+◌, ◌++◌, ◌∷◌, [], None, Some, OnOk, IsTrue, IfSome, IfNone, IsSomeAnd, length, option_copied, insert, vec_len, vec_capacity, true, suc, drop, slice_get};
 ghost use Rattle.wc_nicklist.specs.Order.{key, key_at, address, address_of};
 ghost use Rattle.wc_nicklist.specs.Rows.{find_row, insert_row, remove_row, change_row, has_child, below, Ascending, IsRows};
-ghost use Rattle.wc_nicklist.specs.Stored.{IsPlace, AllBefore};
+ghost use Rattle.wc_nicklist.specs.Stored.{IsPlace, AllBefore, begins_below};
 ghost use Rattle.wc_nicklist.specs.Tree.{rows_in, AreLeaves, IsLeaf, IsLeafPlace, IsRoomyPlace, IsFullAt, AreNearlyLeaves, StandsIn};
 
 use crate::item::{Item, Row};
 use crate::iter::RowIter;
-use crate::leaf::{LEAF_ROWS, change_at, has_child, has_key, move_half, place, put};
+use crate::leaf::{LEAF_ROWS, change_at, has_key, move_half, place, put};
 use crate::order::{Address, stands_before};
 use std::alloc::Global;
 use std::marker::Model;
@@ -117,18 +116,51 @@ impl RowTree {
         change(&mut self.leaves, path, is_group, item);
     }
 
-    /// Whether a row stands right below a group.
+    /// Whether a row stands right below a group of these rows.
     pub(crate) fn has_child_of(&self, group: &Row) -> bool
+        requires held { IsRows self.now.rows }
+        requires stands { find_row (key_at true group.now.item.name) self.now.rows ≡ Some group.now }
         ensures { result ≡ has_child (below group.now) self.now.rows }
     {
-        any_child(self.leaves.as_slice(), group)
+        has_child(self.leaves.as_slice(), group)
     }
 }
 
-fn any_child(leaves: &[Vec<Row>], group: &Row) -> bool
-    ensures { result ≡ list_any (λ l. has_child (below group.now) l.items) leaves.now }
+/// Whether a row stands right below a group. Its children stand right behind it, so that the next
+/// row tells.
+fn has_child(leaves: &[Vec<Row>], group: &Row) -> bool
+    requires held { IsRows (rows_in leaves.now) }
+    requires leaves { AreLeaves leaves.now }
+    requires stands { find_row (key_at true group.now.item.name) (rows_in leaves.now) ≡ Some group.now }
+    ensures { result ≡ has_child (below group.now) (rows_in leaves.now) }
 {
-    leaves.iter().any(|leaf| has_child(leaf.as_slice(), group))
+    let address = Address {
+        path: group.path.as_slice(),
+        is_group: true,
+        name: group.item.name.as_slice(),
+    };
+    let Some((at, n)) = find(leaves, &address) else {
+        unreachable!()
+    };
+    begins_with_child(rows_behind(leaves, at, n), group)
+}
+
+/// The rows behind one of a leaf.
+fn rows_behind(leaves: &[Vec<Row>], at: usize, n: usize) -> RowIter<'_>
+    requires outer { at < length leaves.now }
+    requires inner { IfSome (slice_get leaves.now at) (λ l. n < vec_len l) }
+    ensures { IfSome (slice_get leaves.now at) (λ l. result ≡ drop (suc n) l.items ++ rows_in (drop (suc at) leaves.now)) }
+{
+    RowIter::from_leaf(&leaves[at][n + 1..], &leaves[at + 1..])
+}
+
+fn begins_with_child(mut rows: RowIter<'_>, group: &Row) -> bool
+    ensures { result ≡ begins_below (below group.now) rows.entry }
+{
+    match rows.next() {
+        Some(row) => row.is_child_of(group),
+        None => false,
+    }
 }
 
 /// The leaf into which an address belongs.

@@ -1,4 +1,3 @@
-use Rattle.wc_nicklist.proofs.TreeLaws.{tree_changed}
 use Rattle.std.proofs.Common.{◌≡◌, ◌≤◌, ◌<◌, length, ap, refl, arith}
 use Rattle.wc_nicklist.proofs.Halves.{half_init, half_step, half_end}
 use Rattle.wc_nicklist.proofs.leaf.move_half.Goals as goal

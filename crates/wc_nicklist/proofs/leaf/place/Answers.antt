@@ -1,5 +1,5 @@
-use Rattle.std.proofs.Common.{arith, ◌≡◌, ◌<◌, ◌+◌, ◌-◌, ◌/◌, length, sym, ◌∙◌}
-use Rattle.wc_nicklist.proofs.Places.{left_grows, right_grows}
+use Rattle.std.proofs.Common.{arith, ◌<◌, ◌+◌, ◌-◌, ◌/◌, length, sym}
+use Rattle.wc_nicklist.proofs.Places.{left_grows}
 use Rattle.wc_nicklist.proofs.leaf.place.Goals as goal
 
 pub loop-low-preserved-then-stands_before : goal.loop-low-preserved-then-stands_before

@@ -1,4 +1,4 @@
-use Rattle.std.proofs.Common.{◌≡◌, ◌<◌, length, sym, ap, ◌∙◌, arith}
+use Rattle.std.proofs.Common.{◌<◌, length, sym, ◌∙◌, arith}
 use Rattle.wc_nicklist.proofs.Paths.{other_lengths, one_differs, one_alike, all_alike}
 use Rattle.wc_nicklist.proofs.leaf.same_path.Goals as goal
 

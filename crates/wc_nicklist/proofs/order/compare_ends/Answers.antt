@@ -1,7 +1,7 @@
 -- One path has ended, so its own key is compared with the other path's next name.
-use Rattle.std.proofs.Common.{◌≤◌, length, arith, sym, ap, ◌∙◌, ◌≡◌, true}
+use Rattle.std.proofs.Common.{◌≤◌, length, arith, sym, ap, ◌∙◌, true}
 use Rattle.std.specs.Ordering.{ordering_then}
-use Rattle.std.specs.declared.cmp.Ordering.TheVariants.{Less, Equal, Greater}
+use Rattle.std.specs.declared.cmp.Ordering.TheVariants.{Less, Greater}
 use Rattle.wc_nicklist.specs.Order.{key_at, key_cmp}
 use Rattle.wc_nicklist.proofs.Addresses.{first_ends, second_ends, both_end}
 use Rattle.wc_nicklist.proofs.order.compare_ends.Goals as goal

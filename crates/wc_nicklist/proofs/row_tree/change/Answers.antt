@@ -1,12 +1,8 @@
-use Rattle.std.proofs.Common.{◌≡◌, ℕ, ◌+◌, ◌<◌, ◌≤◌, Bool, true, false, Some, None, List, [], ◌∷◌, ◌++◌, length, suc, take, drop, refl, sym, ap, ◌∙◌, subst, arith}
-use Rattle.std.specs.Prelude.{is_some, nat_lt, slice_get, slice_set, insert, remove, vec_len, vec_capacity, IsTrue}
-use Rattle.std.proofs.lemmas.Bool.{true≢false}
-use Rattle.wc_nicklist.specs.declared.item.Row.{Row}
-use Rattle.wc_nicklist.specs.declared.item.Key.{Key}
-use Rattle.wc_nicklist.specs.Order.{key, key_at, address, address_of}
-use Rattle.wc_nicklist.specs.Rows.{find_row, insert_row, remove_row, changed_row, Ascending, IsRows}
-use Rattle.wc_nicklist.specs.Stored.{AllBefore, IsPlace, IsSplitAt}
-use Rattle.wc_nicklist.specs.Tree.{Leaf, rows_in, IsLeaf, AreLeaves, IsLeafPlace, IsRoomyPlace, StandsIn}
+use Rattle.std.proofs.Common.{◌≡◌, Some, ap, ◌∙◌}
+use Rattle.std.specs.Prelude.{slice_get, slice_set, vec_len, vec_capacity}
+use Rattle.wc_nicklist.specs.Order.{key_at}
+use Rattle.wc_nicklist.specs.Rows.{changed_row}
+use Rattle.wc_nicklist.specs.Tree.{StandsIn}
 use Rattle.wc_nicklist.proofs.Leaves.{is_leaf_at}
 use Rattle.wc_nicklist.proofs.TreeLaws.{tree_changed, leaves_set, moved_stands_in, like_leaf}
 use Rattle.wc_nicklist.proofs.row_tree.change.Goals as goal

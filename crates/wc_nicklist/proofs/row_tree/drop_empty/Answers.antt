@@ -1,12 +1,6 @@
-use Rattle.std.proofs.Common.{◌≡◌, ℕ, ◌+◌, ◌<◌, ◌≤◌, Bool, true, false, Some, None, List, [], ◌∷◌, ◌++◌, length, suc, take, drop, refl, sym, ap, ◌∙◌, subst, arith}
-use Rattle.std.specs.Prelude.{is_some, nat_lt, slice_get, slice_set, insert, remove, vec_len, vec_capacity, IsTrue}
-use Rattle.std.proofs.lemmas.Bool.{true≢false}
-use Rattle.wc_nicklist.specs.declared.item.Row.{Row}
-use Rattle.wc_nicklist.specs.declared.item.Key.{Key}
-use Rattle.wc_nicklist.specs.Order.{key, key_at, address, address_of}
-use Rattle.wc_nicklist.specs.Rows.{find_row, insert_row, remove_row, changed_row, Ascending, IsRows}
-use Rattle.wc_nicklist.specs.Stored.{AllBefore, IsPlace, IsSplitAt}
-use Rattle.wc_nicklist.specs.Tree.{Leaf, rows_in, IsLeaf, AreLeaves, IsLeafPlace, IsRoomyPlace, StandsIn}
+use Rattle.std.proofs.Common.{◌≡◌, ◌∷◌, suc, take, drop, sym, ap, ◌∙◌, subst, arith}
+use Rattle.std.specs.Prelude.{vec_len}
+use Rattle.wc_nicklist.specs.Tree.{IsLeaf, AreLeaves}
 use Rattle.wc_nicklist.proofs.Leaves.{leaves-append}
 use Rattle.wc_nicklist.proofs.TreeLaws.{some_rows}
 use Rattle.wc_nicklist.proofs.row_tree.drop_empty.Goals as goal

@@ -1,9 +1,8 @@
-use Rattle.std.proofs.Common.{◌≡◌, ℕ, ◌+◌, ◌-◌, ◌/◌, ◌<◌, ◌≤◌, List, length, suc, take, drop, sym, ap, ◌∙◌, subst, arith}
+use Rattle.std.proofs.Common.{◌≡◌, ℕ, ◌+◌, ◌-◌, ◌/◌, ◌<◌, List, length, sym, subst, arith}
 use Rattle.wc_nicklist.specs.declared.item.Row.{Row}
 use Rattle.wc_nicklist.specs.Order.{key_at, address_of}
 use Rattle.wc_nicklist.specs.Rows.{Ascending}
-use Rattle.wc_nicklist.specs.Stored.{AllBefore, IsSplitAt}
-use Rattle.wc_nicklist.specs.Tree.{IsLeafPlace}
+use Rattle.wc_nicklist.specs.Stored.{AllBefore}
 use Rattle.wc_nicklist.proofs.Leaves.{leaf_at, is_leaf_at, ascending_leaf, leaves_before, place_of, some_leaf, EndsAt}
 use Rattle.wc_nicklist.proofs.row_tree.leaf_of.Goals as goal
 

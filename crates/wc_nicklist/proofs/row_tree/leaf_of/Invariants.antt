@@ -1,5 +1,4 @@
-use Rattle.std.proofs.Common.{◌≤◌, ◌<◌, ◌+◌, ◌-◌, ℕ, length, take, drop, suc}
-use Rattle.wc_nicklist.specs.declared.item.Key.{Key}
+use Rattle.std.proofs.Common.{◌≤◌, ◌+◌, ◌-◌, length, take}
 use Rattle.wc_nicklist.specs.Order.{key_at, address_of}
 use Rattle.wc_nicklist.specs.Stored.{AllBefore}
 use Rattle.wc_nicklist.specs.Tree.{rows_in}

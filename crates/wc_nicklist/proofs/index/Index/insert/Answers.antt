@@ -1,4 +1,4 @@
-use Rattle.std.proofs.Common.{Some, None}
+use Rattle.std.proofs.Common.{Some}
 use Rattle.wc_nicklist.proofs.Keys.{in_groups, in_nicks}
 use Rattle.wc_nicklist.proofs.index.Index.insert.Goals as goal
 

@@ -1,4 +1,4 @@
-use Rattle.std.proofs.Common.{◌≡◌, ap, ◌∙◌, sym}
+use Rattle.std.proofs.Common.{ap, ◌∙◌, sym}
 use Rattle.wc_nicklist.specs.Rows.{last_or, root_name}
 use Rattle.wc_nicklist.proofs.Paths.{last_or-last}
 use Rattle.wc_nicklist.proofs.iter.RowView.parent.Goals as goal

@@ -1,4 +1,4 @@
-use Rattle.std.proofs.Common.{◌≡◌, true, false, sym, ap, ◌∙◌}
+use Rattle.std.proofs.Common.{◌≡◌, sym, ap, ◌∙◌}
 use Rattle.std.specs.Prelude.{is_some}
 use Rattle.wc_nicklist.specs.Rows.{path_below}
 use Rattle.wc_nicklist.proofs.Keeps.{parent_root, parent_group, room_parent}

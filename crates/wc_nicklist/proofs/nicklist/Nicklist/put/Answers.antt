@@ -1,5 +1,4 @@
-use Rattle.std.proofs.Common.{◌≡◌, ◌≤◌, ℕ, List, Some, None, length, arith, sym, ap, ◌∙◌, subst}
-use Rattle.std.specs.Prelude.{vec_capacity}
+use Rattle.std.proofs.Common.{◌≡◌, ◌≤◌, ℕ, List, None, length, arith, sym, ap, ◌∙◌, subst}
 use Rattle.wc_nicklist.specs.Kept.{IfRoom, RoomStands, IsKept}
 use Rattle.wc_nicklist.specs.Order.{key_at}
 use Rattle.wc_nicklist.specs.Rows.{find_row}

@@ -1,4 +1,4 @@
-use Rattle.std.proofs.Common.{◌≡◌, Some, sym, ap, ◌∙◌}
+use Rattle.std.proofs.Common.{ap, ◌∙◌}
 use Rattle.wc_nicklist.specs.Order.{key_at}
 use Rattle.wc_nicklist.specs.Rows.{find_row}
 use Rattle.wc_nicklist.proofs.Keeps.{write_kept, is_there}

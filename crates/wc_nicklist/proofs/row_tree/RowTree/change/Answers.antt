@@ -1,4 +1,4 @@
-use Rattle.std.proofs.Common.{◌≡◌, length, ap, ◌∙◌, sym}
+use Rattle.std.proofs.Common.{length, ap, ◌∙◌, sym}
 use Rattle.wc_nicklist.specs.Order.{key_at}
 use Rattle.wc_nicklist.specs.Tree.{rows_in}
 use Rattle.wc_nicklist.proofs.Lengths.{length-change_row}

@@ -1,4 +1,4 @@
-use Rattle.std.proofs.Common.{◌≡◌, length, ap, ◌∙◌, arith}
+use Rattle.std.proofs.Common.{length, ap, arith}
 use Rattle.wc_nicklist.specs.Tree.{rows_in}
 use Rattle.wc_nicklist.proofs.Lengths.{length-insert_row}
 use Rattle.wc_nicklist.proofs.row_tree.RowTree.insert.Goals as goal
