@@ -2,6 +2,7 @@ pub mod Addresses
 pub mod Children
 pub mod Halves
 pub mod Held
+pub mod Joined
 pub mod Keeps
 pub mod Keys
 pub mod Leaves

@@ -119,7 +119,7 @@ behind_made xs pre rest x n e h = (split_at xs n x rest (ap (drop n) e ∙ drop_
 pub before_made : {A : Type 0} (xs pre rest : List A) (n : ℕ) → xs ≡ pre ++ rest → length pre ≡ n → take n xs ≡ pre
 before_made xs pre rest n e h = ap (take n) e ∙ take_at pre rest n h
 
-front_length : {A : Type 0} (xs : List A) (n : ℕ) → n < length xs → length (take n xs) ≡ n
+pub front_length : {A : Type 0} (xs : List A) (n : ℕ) → n < length xs → length (take n xs) ≡ n
 front_length xs n h = omega (arith, length-take n xs)
 
 regroup : (p f y q : List Row) → p ++ ((f ++ y) ++ q) ≡ (p ++ f) ++ (y ++ q)

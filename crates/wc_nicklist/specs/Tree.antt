@@ -1,5 +1,5 @@
 -- The rows as a tree of two levels: leaves of some rows each, one after the other.
-use Rattle.std.specs.Prelude.{◌≡◌, ℕ, suc, ◌<◌, ◌≤◌, List, [], ◌∷◌, length, take, drop, vec_len, vec_capacity, Some}
+use Rattle.std.specs.Prelude.{◌≡◌, ℕ, suc, ◌+◌, ◌<◌, ◌≤◌, slice_get, List, [], ◌∷◌, length, take, drop, vec_len, vec_capacity, Some}
 use Rattle.std.specs.List.{flat_map}
 use Rattle.std.specs.declared.alloc.Global.{Global}
 use Rattle.std.specs.declared.vec.Vec.{Vec}
@@ -59,6 +59,14 @@ pub record IsFullAt (leaves : List Leaf) (c : ℕ) : Type 0 where
 pub record IsRoomyPlace (leaves : List Leaf) (a : List Key) (c : ℕ) : Type 0 where
   pub place : IsLeafPlace leaves a c
   pub room : vec_len place.leaf < 64
+
+-- the leaf there and the next one have few rows together
+pub record AreFewAt (leaves : List Leaf) (c : ℕ) : Type 0 where
+  pub leaf : Leaf
+  pub next : Leaf
+  pub got : slice_get leaves c ≡ Some leaf
+  pub next_got : slice_get leaves (suc c) ≡ Some next
+  pub few : vec_len leaf + vec_len next ≤ 32
 
 -- leaves, of which that one may have no rows
 pub record AreNearlyLeaves (leaves : List Leaf) (c : ℕ) : Type 0 where

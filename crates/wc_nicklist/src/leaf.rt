@@ -12,7 +12,7 @@ use wc_text::Text;
 pub(crate) const LEAF_ROWS: usize = 64;
 
 /// What a full leaf keeps when it is split.
-const HALF: usize = LEAF_ROWS / 2;
+pub(crate) const HALF: usize = LEAF_ROWS / 2;
 
 /// The place of an address: the number of rows that stand before it.
 pub(crate) fn place(rows: &[Row], address: &Address<'_>) -> usize

@@ -2,11 +2,11 @@ ghost use Rattle.std.specs.Prelude.{◌≡◌, ◌≤◌, ◌<◌, ◌+◌, ◌+
 ghost use Rattle.wc_nicklist.specs.Order.{key, key_at, address, address_of};
 ghost use Rattle.wc_nicklist.specs.Rows.{find_row, insert_row, remove_row, change_row, has_child, below, Ascending, IsRows};
 ghost use Rattle.wc_nicklist.specs.Stored.{IsPlace, AllBefore, begins_below};
-ghost use Rattle.wc_nicklist.specs.Tree.{rows_in, AreLeaves, IsLeaf, IsLeafPlace, IsRoomyPlace, IsFullAt, AreNearlyLeaves, StandsIn};
+ghost use Rattle.wc_nicklist.specs.Tree.{rows_in, AreLeaves, IsLeaf, IsLeafPlace, IsRoomyPlace, IsFullAt, AreNearlyLeaves, AreFewAt, StandsIn};
 
 use crate::item::{Item, Row};
 use crate::iter::RowIter;
-use crate::leaf::{LEAF_ROWS, change_at, has_key, move_half, place, put};
+use crate::leaf::{HALF, LEAF_ROWS, change_at, has_key, move_half, place, put};
 use crate::order::{Address, stands_before};
 use std::alloc::Global;
 use std::marker::Model;
@@ -258,6 +258,7 @@ fn remove(leaves: &mut Vec<Vec<Row>>, address: &Address<'_>) -> Row
     };
     let row = leaves[at].remove(n);
     drop_empty(leaves, at);
+    join_around(leaves, at);
     row
 }
 
@@ -270,6 +271,48 @@ fn drop_empty(leaves: &mut Vec<Vec<Row>>, at: usize)
 {
     if leaves[at].is_empty() {
         leaves.remove(at);
+    }
+}
+
+/// Joins a leaf with its neighbours where they have few rows, so that rows which go leave no run of
+/// nearly empty leaves.
+fn join_around(leaves: &mut Vec<Vec<Row>>, at: usize)
+    requires leaves { AreLeaves leaves.old.items }
+    ensures rows { rows_in leaves.new.items ≡ rows_in leaves.old.items }
+    ensures leaves { AreLeaves leaves.new.items }
+{
+    join(leaves, at);
+    if at > 0 {
+        join(leaves, at - 1);
+    }
+}
+
+/// Joins a leaf with the next one where they have few rows together.
+fn join(leaves: &mut Vec<Vec<Row>>, at: usize)
+    requires leaves { AreLeaves leaves.old.items }
+    ensures rows { rows_in leaves.new.items ≡ rows_in leaves.old.items }
+    ensures leaves { AreLeaves leaves.new.items }
+{
+    if !are_few(leaves.as_slice(), at) {
+        return;
+    }
+    let mut next = leaves.remove(at + 1);
+    let Ok(()) = leaves[at].append(&mut next) else {
+        unreachable!()
+    };
+}
+
+/// Whether a leaf and the next one have few rows together. A full leaf is split into two that have
+/// twice as many, so that they are not joined again at once.
+fn are_few(leaves: &[Vec<Row>], at: usize) -> bool
+    ensures { IsTrue result → AreFewAt leaves.now at }
+{
+    let Some(leaf) = leaves.get(at) else {
+        return false;
+    };
+    match leaves.get(at + 1) {
+        Some(next) => leaf.len() <= HALF && next.len() <= HALF - leaf.len(),
+        None => false,
     }
 }
 

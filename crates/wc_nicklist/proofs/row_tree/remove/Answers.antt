@@ -22,4 +22,4 @@ returns-clause-rows c =
     let k = key_at c.args.address.now.is_group c.args.address.now.name.now in
     let s : StandsIn leaves c.in-Some.at c.in-Some.n k = moved_stands_in c.as_slice.ensures.value refl c.in-Some.ensures.found in
     let same : c.index_mut.result.now ≡ s.leaf = c.index_mut.ensures.value ∙ s.outer.value c.index_mut.result.now in
-    c.drop_empty.ensures.rows ∙ tree_removed leaves c.in-Some.at c.in-Some.n k c.remove-row.new.self s c.requires.held (c.remove-row.ensures.items ∙ ap (λ l. remove l.items c.in-Some.n) same)
+    c.join_around.ensures.rows ∙ c.drop_empty.ensures.rows ∙ tree_removed leaves c.in-Some.at c.in-Some.n k c.remove-row.new.self s c.requires.held (c.remove-row.ensures.items ∙ ap (λ l. remove l.items c.in-Some.n) same)
