@@ -1,3 +1,5 @@
+ghost use Rattle.std.specs.Prelude.{◌<◌};
+
 use crate::Nicklist;
 use crate::tests::{Act, answer_to, spelled};
 use std::alloc::{AllocError, Global};
