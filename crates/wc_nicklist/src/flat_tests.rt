@@ -7,18 +7,18 @@ use std::test::Fail;
 use wc_text::Handle;
 
 /// Groups have the numbers below this one, and greater numbers stand for the root.
-const GROUPS: u32 = 24;
+const GROUPS: u8 = 24;
 
 /// Rows in no order. Each is the bytes kind, number, kind, number and so on, from below the root to
 /// the row: 0 for a nick and 1 for a group. In the order of their bytes they are in canonical order.
 type Flat = Vec<Vec<u8>>;
 
 /// The next of a fixed sequence of numbers below a limit.
-fn next(state: &mut u32, limit: u32) -> u32
+fn next(state: &mut u32, limit: u8) -> u8
     requires { 0 < limit }
 {
     *state = state.wrapping_mul(1_664_525).wrapping_add(1_013_904_223);
-    (*state >> 16) % limit
+    u8::try_from((*state >> 16) % u32::from(limit)).unwrap_or(0)
 }
 
 /// The name of a number. Without case, names sort as their numbers.
@@ -133,17 +133,13 @@ fn flat_spelled(alloc: Global, rows: &mut Flat) -> Result<String, AllocError> {
 fn choose(state: &mut u32, grows: bool) -> (Act, Option<u8>, u8) {
     let is_add = (next(state, 16) < 13) == grows;
     let parent = next(state, GROUPS + 4);
-    let parent = if parent < GROUPS {
-        Some(parent as u8)
-    } else {
-        None
-    };
+    let parent = if parent < GROUPS { Some(parent) } else { None };
     if next(state, 4) == 0 {
         let call = if is_add { Act::Group } else { Act::NoGroup };
-        (call, parent, next(state, GROUPS) as u8)
+        (call, parent, next(state, GROUPS))
     } else {
         let call = if is_add { Act::Nick } else { Act::NoNick };
-        (call, parent, next(state, 200) as u8)
+        (call, parent, next(state, 200))
     }
 }
 

@@ -37,6 +37,36 @@ pub(crate) enum Act {
 
 use Act::{Group, Nick, NoGroup, NoNick};
 
+fn added(
+    list: &mut Nicklist,
+    alloc: Global,
+    is_group: bool,
+    parent: &str,
+    name: &str,
+) -> Result<&'static str, NoMemory> {
+    let parent = text(alloc, parent)?;
+    let item = item(alloc, 9, name, "")?;
+    if is_group {
+        Ok(word(list.add_group(alloc, &parent, item)))
+    } else {
+        Ok(word(list.add_nick(alloc, &parent, item)))
+    }
+}
+
+fn removed(
+    list: &mut Nicklist,
+    alloc: Global,
+    is_group: bool,
+    name: &str,
+) -> Result<&'static str, NoMemory> {
+    let name = text(alloc, name)?;
+    if is_group {
+        Ok(word(list.remove_group(&name).map(drop)))
+    } else {
+        Ok(word(list.remove_nick(&name).map(drop)))
+    }
+}
+
 /// Makes a call, and answers with a word.
 pub(crate) fn answer_to(
     list: &mut Nicklist,
@@ -45,15 +75,12 @@ pub(crate) fn answer_to(
     parent: &str,
     name: &str,
 ) -> Result<&'static str, NoMemory> {
-    let parent = text(alloc, parent)?;
-    let called = text(alloc, name)?;
-    let item = item(alloc, 9, name, "")?;
-    Ok(match act {
-        Act::Group => word(list.add_group(alloc, &parent, item)),
-        Act::Nick => word(list.add_nick(alloc, &parent, item)),
-        Act::NoGroup => word(list.remove_group(&called).map(drop)),
-        Act::NoNick => word(list.remove_nick(&called).map(drop)),
-    })
+    match act {
+        Act::Group => added(list, alloc, true, parent, name),
+        Act::Nick => added(list, alloc, false, parent, name),
+        Act::NoGroup => removed(list, alloc, true, name),
+        Act::NoNick => removed(list, alloc, false, name),
+    }
 }
 
 /// The word for an answer.
