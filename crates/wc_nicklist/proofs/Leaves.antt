@@ -1,0 +1,160 @@
+-- Leaves of rows, one after the other.
+use Rattle.std.proofs.Common.{◌≡◌, ℕ, zero, suc, ◌+◌, ◌<◌, true, List, [], ◌∷◌, ◌++◌, length, take, drop, get_or, refl, sym, ap, ◌∙◌, subst, arith, add-one, drop-cons, append_assoc, append-nil, take-append-drop}
+use Rattle.std.specs.Prelude.{vec_len}
+use Rattle.std.proofs.lemmas.List.Concat.{flat_map-append}
+use Rattle.wc_nicklist.specs.declared.item.Key.{Key}
+use Rattle.wc_nicklist.specs.declared.item.Row.{Row}
+use Rattle.wc_nicklist.specs.Order.{is_before, before}
+use Rattle.wc_nicklist.specs.Rows.{Ascending, AllBehind}
+use Rattle.wc_nicklist.specs.Stored.{AllBefore, FirstNotBefore, IsPlace, IsSplitAt}
+use Rattle.wc_nicklist.specs.Tree.{Leaf, leaf_rows, rows_in, IsLeaf, AreLeaves, IsLeafPlace}
+use Rattle.wc_nicklist.proofs.OrderLaws.{before_chain_at}
+use Rattle.wc_nicklist.proofs.Places.{split_at}
+
+-- all of a leaf's rows stand before the address only if it is the last leaf
+abbrev pub EndsAt : List Leaf → List Key → ℕ → Type 0
+EndsAt leaves a c = (l : Leaf) → l ≡ get_or leaves c l → AllBefore l.items a → drop (suc c) leaves ≡ []
+
+pub rows_in-append : (xs ys : List Leaf) → rows_in (xs ++ ys) ≡ rows_in xs ++ rows_in ys
+rows_in-append xs ys = flat_map-append leaf_rows xs ys
+
+pub all_before-append : (xs ys : List Row) (a : List Key) → AllBefore xs a → AllBefore ys a → AllBefore (xs ++ ys) a
+all_before-append [] ys a h l = l
+all_before-append (x ∷ xs) ys a h l = (h.0, all_before-append xs ys a h.1 l)
+
+pub all_before_left : (xs ys : List Row) (a : List Key) → AllBefore (xs ++ ys) a → AllBefore xs a
+all_before_left [] ys a h = tt
+all_before_left (x ∷ xs) ys a h = (h.0, all_before_left xs ys a h.1)
+
+pub all_before_right : (xs ys : List Row) (a : List Key) → AllBefore (xs ++ ys) a → AllBefore ys a
+all_before_right [] ys a h = h
+all_before_right (x ∷ xs) ys a h = all_before_right xs ys a h.1
+
+pub behind_in : (x r : Row) (xs b : List Row) → AllBehind x (xs ++ r ∷ b) → before x r ≡ true
+behind_in x r [] b h = h.0
+behind_in x r (y ∷ ys) b h = behind_in x r ys b h.1
+
+-- rows in order stand before an address if the last one does
+pub all_with_last : (xs : List Row) (r : Row) (a : List Key) → Ascending (xs ++ r ∷ []) → is_before r a ≡ true → AllBefore (xs ++ r ∷ []) a
+all_with_last [] r a h b = (b, tt)
+all_with_last (x ∷ xs) r a h b = (before_chain_at x r a (behind_in x r xs [] h.0) b, all_with_last xs r a h.1 b)
+
+pub ascending_left : (xs ys : List Row) → Ascending (xs ++ ys) → Ascending xs
+ascending_left [] ys h = tt
+ascending_left (x ∷ xs) ys h = (behind_left xs h.0, ascending_left xs ys h.1)
+  where
+    behind_left : (zs : List Row) → AllBehind x (zs ++ ys) → AllBehind x zs
+    behind_left [] b = tt
+    behind_left (z ∷ zs) b = (b.0, behind_left zs b.1)
+
+pub ascending_right : (xs ys : List Row) → Ascending (xs ++ ys) → Ascending ys
+ascending_right [] ys h = h
+ascending_right (x ∷ xs) ys h = ascending_right xs ys h.1
+
+-- a leaf among the leaves
+pub leaf_at : (leaves : List Leaf) (c : ℕ) (l : Leaf) → c < length leaves → l ≡ get_or leaves c l → IsSplitAt leaves c l (drop (suc c) leaves)
+leaf_at leaves c l h e = split_at leaves c l (drop (suc c) leaves) (drop-cons leaves c l h ∙ ap (λ z. z ∷ drop (suc c) leaves) (sym e))
+
+pub rows_at : (leaves : List Leaf) (c : ℕ) (l : Leaf) → IsSplitAt leaves c l (drop (suc c) leaves) → rows_in leaves ≡ rows_in (take c leaves) ++ (l.items ++ rows_in (drop (suc c) leaves))
+rows_at leaves c l s = ap rows_in s.whole ∙ rows_in-append (take c leaves) (l ∷ drop (suc c) leaves)
+
+pub ascending_leaf : (leaves : List Leaf) (c : ℕ) (l : Leaf) → Ascending (rows_in leaves) → IsSplitAt leaves c l (drop (suc c) leaves) → Ascending l.items
+ascending_leaf leaves c l h s = ascending_left l.items _ (ascending_right (rows_in (take c leaves)) _ (subst Ascending (rows_at leaves c l s) h))
+
+pub leaves_left : (xs ys : List Leaf) → AreLeaves (xs ++ ys) → AreLeaves xs
+leaves_left [] ys h = tt
+leaves_left (x ∷ xs) ys h = (h.0, leaves_left xs ys h.1)
+
+pub leaves_right : (xs ys : List Leaf) → AreLeaves (xs ++ ys) → AreLeaves ys
+leaves_right [] ys h = h
+leaves_right (x ∷ xs) ys h = leaves_right xs ys h.1
+
+pub leaves-append : (xs ys : List Leaf) → AreLeaves xs → AreLeaves ys → AreLeaves (xs ++ ys)
+leaves-append [] ys h l = l
+leaves-append (x ∷ xs) ys h l = (h.0, leaves-append xs ys h.1 l)
+
+pub is_leaf_at : (leaves : List Leaf) (c : ℕ) (l : Leaf) → AreLeaves leaves → IsSplitAt leaves c l (drop (suc c) leaves) → IsLeaf l
+is_leaf_at leaves c l h s = (leaves_right (take c leaves) (l ∷ drop (suc c) leaves) (subst AreLeaves s.whole h)).0
+
+-- one step of a search by halves
+pub leaves_grow : (leaves : List Leaf) (a : List Key) (c : ℕ) (l : Leaf) → IsSplitAt leaves c l (drop (suc c) leaves) → AllBefore (rows_in (take c leaves)) a → AllBefore l.items a → AllBefore (rows_in (take (c + 1) leaves)) a
+leaves_grow leaves a c l s h b =
+    let e : take (c + 1) leaves ≡ take c leaves ++ l ∷ [] = ap (λ n. take n leaves) (add-one c) ∙ take_next leaves c l s in
+    subst (λ z. AllBefore z a) (sym (ap rows_in e ∙ rows_in-append (take c leaves) (l ∷ []) ∙ ap (λ z. rows_in (take c leaves) ++ z) (append-nil l.items))) (all_before-append (rows_in (take c leaves)) l.items a h b)
+  where
+    take_next : (xs : List Leaf) (n : ℕ) (x : Leaf) → IsSplitAt xs n x (drop (suc n) xs) → take (suc n) xs ≡ take n xs ++ x ∷ []
+    take_next [] n x s = absurd (omega (arith, s.within))
+    take_next (y ∷ ys) zero x s = ap (λ z. z ∷ []) (s.value y)
+    take_next (y ∷ ys) (suc n) x s = ap (λ z. y ∷ z) (take_next ys n x (inner ys n x y s))
+      where
+        inner : (ys : List Leaf) (n : ℕ) (x y : Leaf) → IsSplitAt (y ∷ ys) (suc n) x (drop (suc (suc n)) (y ∷ ys)) → IsSplitAt ys n x (drop (suc n) ys)
+        inner ys n x y s = split_at ys n x (drop (suc n) ys) (same ys n (s.within) ∙ ap (λ z. z ∷ drop (suc n) ys) (s.value x))
+          where
+            same : (zs : List Leaf) (m : ℕ) → suc m < length (y ∷ zs) → drop m zs ≡ get_or zs m x ∷ drop (suc m) zs
+            same zs m h = drop-cons zs m x (omega arith)
+
+pub place_of : (leaves : List Leaf) (a : List Key) (c : ℕ) (l : Leaf) → c < length leaves → l ≡ get_or leaves c l → AllBefore (rows_in (take c leaves)) a → EndsAt leaves a c → IsLeafPlace leaves a c
+place_of leaves a c l h e left right = record {
+  leaf = l;
+  split = leaf_at leaves c l h e;
+  left = left;
+  right = right l e;
+}
+
+-- The rows before and behind an address, in a leaf and around it.
+abbrev pub front : List Leaf → ℕ → Leaf → ℕ → List Row
+front leaves c l n = rows_in (take c leaves) ++ take n l.items
+
+abbrev pub back : List Leaf → ℕ → Leaf → ℕ → List Row
+back leaves c l n = drop n l.items ++ rows_in (drop (suc c) leaves)
+
+pub record IsCut (leaves : List Leaf) (a : List Key) (c : ℕ) (l : Leaf) (n : ℕ) : Type 0 where
+  pub whole : rows_in leaves ≡ front leaves c l n ++ back leaves c l n
+  pub before_all : AllBefore (front leaves c l n) a
+  pub first_not : FirstNotBefore (back leaves c l n) a
+
+first_of_two : (xs : List Row) (ls : List Leaf) (a : List Key) → FirstNotBefore xs a → (xs ≡ [] → ls ≡ []) → FirstNotBefore (xs ++ rows_in ls) a
+first_of_two [] ls a f h = subst (λ z. FirstNotBefore (rows_in z) a) (sym (h refl)) tt
+first_of_two (x ∷ xs) ls a f h = f
+
+pub take_when_none : (xs : List Row) (n : ℕ) (a : List Key) → drop n xs ≡ [] → AllBefore (take n xs) a → AllBefore xs a
+take_when_none xs n a e h = subst (λ z. AllBefore z a) (ap (λ z. take n xs ++ z) (sym e) ∙ take-append-drop n xs) (subst (λ z. AllBefore z a) (sym (append-nil (take n xs))) h)
+
+pub cut_at : (leaves : List Leaf) (a : List Key) (c n : ℕ) (p : IsLeafPlace leaves a c) → IsPlace p.leaf.items a n → IsCut leaves a c p.leaf n
+cut_at leaves a c n p q =
+    let l = p.leaf in
+    record {
+      whole =
+          rows_at leaves c l p.split
+          ∙ ap (λ z. rows_in (take c leaves) ++ (z ++ rows_in (drop (suc c) leaves))) (sym (take-append-drop n l.items))
+          ∙ ap (λ z. rows_in (take c leaves) ++ z) (append_assoc (take n l.items) (drop n l.items) (rows_in (drop (suc c) leaves)))
+          ∙ sym (append_assoc (rows_in (take c leaves)) (take n l.items) (drop n l.items ++ rows_in (drop (suc c) leaves)));
+      before_all = all_before-append (rows_in (take c leaves)) (take n l.items) a p.left q.left;
+      first_not = first_of_two (drop n l.items) (drop (suc c) leaves) a q.right (λ e. p.right (take_when_none l.items n a e q.left));
+    }
+
+-- rows in front of one that stands before an address
+front_before : (xs : List Row) (x : Row) (rest : List Row) (a : List Key) → Ascending (xs ++ x ∷ rest) → is_before x a ≡ true → AllBefore xs a
+front_before [] x rest a h b = tt
+front_before (y ∷ ys) x rest a h b = (before_chain_at y x a (behind_in y x ys rest h.0) b, front_before ys x rest a h.1 b)
+
+front_of_rows : (xs ys rest : List Row) (a : List Key) → 0 < length ys → Ascending (xs ++ (ys ++ rest)) → AllBefore ys a → AllBefore xs a
+front_of_rows xs [] rest a n h b = absurd (omega arith)
+front_of_rows xs (y ∷ ys) rest a n h b = front_before xs y (ys ++ rest) a h b.0
+
+vec_filled : (l : Leaf) → 0 < vec_len l → 0 < length l.items
+vec_filled l h = let e = l.ok in omega arith
+
+pub leaves_before : (leaves : List Leaf) (a : List Key) (c : ℕ) (l : Leaf) → AreLeaves leaves → Ascending (rows_in leaves) → IsSplitAt leaves c l (drop (suc c) leaves) → AllBefore l.items a → AllBefore (rows_in (take (c + 1) leaves)) a
+leaves_before leaves a c l are h s b =
+    leaves_grow leaves a c l s
+    (front_of_rows (rows_in (take c leaves)) l.items (rows_in (drop (suc c) leaves)) a (vec_filled l (is_leaf_at leaves c l are s).filled) (subst Ascending (rows_at leaves c l s) h) b)
+    b
+
+pub some_leaf : (leaves : List Leaf) (c : ℕ) → c < length leaves → (l : Leaf) × (l ≡ get_or leaves c l)
+some_leaf [] c h = absurd (omega arith)
+some_leaf (l ∷ ls) zero h = (l, refl)
+some_leaf (l ∷ ls) (suc c) h = some_leaf ls c (omega arith)
+
+pub last_before : (xs : List Row) (r : Row) (a : List Key) → AllBefore (xs ++ r ∷ []) a → is_before r a ≡ true
+last_before xs r a h = (all_before_right xs (r ∷ []) a h).0

@@ -1,0 +1,16 @@
+pub mod Addresses
+pub mod Children
+pub mod Halves
+pub mod Held
+pub mod Joined
+pub mod Keeps
+pub mod Keys
+pub mod Leaves
+pub mod Lengths
+pub mod Names
+pub mod OrderLaws
+pub mod Paths
+pub mod Places
+pub mod Refusals
+pub mod RowLaws
+pub mod TreeLaws

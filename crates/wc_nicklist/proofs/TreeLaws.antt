@@ -1,0 +1,253 @@
+-- The edits of a tree of leaves are those of its rows.
+use Rattle.std.proofs.Common.{◌≡◌, ℕ, zero, suc, ◌+◌, ◌≤◌, ◌<◌, true, false, Option, Some, None, List, [], ◌∷◌, ◌++◌, length, take, drop, refl, sym, ap, ◌∙◌, subst, arith, append_assoc, append-nil, length-take, length-append}
+use Rattle.std.specs.Prelude.{slice_get, slice_set, insert, remove, IfSome, vec_len, vec_capacity}
+use Rattle.std.specs.Prelude.{◌==◌}
+use Rattle.std.proofs.lemmas.Bool.{true≢false}
+use Rattle.std.proofs.lemmas.List.{take_at, drop_at}
+use Rattle.wc_nicklist.specs.declared.item.Item.{Item}
+use Rattle.wc_nicklist.specs.declared.item.Key.{Key}
+use Rattle.wc_nicklist.specs.declared.item.Row.{Row}
+use Rattle.wc_nicklist.specs.Order.{key, address, address_of}
+use Rattle.wc_nicklist.specs.Rows.{key_eq, find_row, insert_row, remove_row, replace_row, changed_row, change_found, change_row, Keyed, IsRows}
+use Rattle.wc_nicklist.specs.Stored.{AllBefore, FirstNotBefore, IsPlace, IsSplitAt}
+use Rattle.wc_nicklist.specs.Tree.{Leaf, rows_in, IsLeaf, AreLeaves, IsLeafPlace, IsRoomyPlace, AreNearlyLeaves, StandsIn}
+use Rattle.wc_nicklist.proofs.Leaves.{rows_in-append, rows_at, cut_at, front, back, leaves_left, leaves_right, leaves-append, all_before-append, take_when_none}
+use Rattle.wc_nicklist.proofs.Places.{found_place, insert_place, remove_place, replace_place, there_found, drop_of_get, split_at}
+use Rattle.wc_nicklist.proofs.RowLaws.{find_key, key_eq-at}
+
+-- What stands first behind a cut tells whether there is such a row.
+cut_found : (a b : List Row) (path : List (List ℕ)) (k : Key) (r : Row) → IsRows (a ++ b) → AllBefore a (address_of path k) → FirstNotBefore b (address_of path k) → find_row k (a ++ b) ≡ Some r → r.path ≡ path → (rest : List Row) × (b ≡ r ∷ rest)
+cut_found a b path k r ok l f e i = found_place a b (address_of path k) k r ok.ascending l f e (λ j. address_of (i j) (find_key k (a ++ b) r e j))
+
+cut_same : (a b : List Row) (x : Row) (path : List (List ℕ)) (k : Key) → IsRows (a ++ x ∷ b) → AllBefore a (address_of path k) → FirstNotBefore (x ∷ b) (address_of path k) → IfSome (find_row k (a ++ x ∷ b)) (λ r. r.path ≡ path) → key_eq (key x) k ≡ true → find_row k (a ++ x ∷ b) ≡ Some x
+cut_same a b x path k ok l f h t = go (find_row k (a ++ x ∷ b)) refl h
+  where
+    go : (o : Option Row) → find_row k (a ++ x ∷ b) ≡ o → IfSome o (λ r. r.path ≡ path) → o ≡ Some x
+    go None e i = absurd (there_found a b x k t e)
+    go (Some r) e i = let g = cut_found a (x ∷ b) path k r ok l f e i in let j = g.1 in cc
+
+cut_other : (a b : List Row) (x : Row) (path : List (List ℕ)) (k : Key) → IsRows (a ++ x ∷ b) → AllBefore a (address_of path k) → FirstNotBefore (x ∷ b) (address_of path k) → IfSome (find_row k (a ++ x ∷ b)) (λ r. r.path ≡ path) → key_eq (key x) k ≡ false → find_row k (a ++ x ∷ b) ≡ None
+cut_other a b x path k ok l f h t = go (find_row k (a ++ x ∷ b)) refl h
+  where
+    go : (o : Option Row) → find_row k (a ++ x ∷ b) ≡ o → IfSome o (λ r. r.path ≡ path) → o ≡ None
+    go None e i = refl
+    go (Some r) e i =
+        let g = cut_found a (x ∷ b) path k r ok l f e i in
+        let j = g.1 in
+        let same : x ≡ r = cc in
+        absurd (true≢false (sym (key_eq-at (key r) k (find_key k (a ++ x ∷ b) r e)) ∙ ap (λ z. key_eq (key z) k) (sym same) ∙ t))
+
+cut_none : (a : List Row) (path : List (List ℕ)) (k : Key) → IsRows (a ++ []) → AllBefore a (address_of path k) → IfSome (find_row k (a ++ [])) (λ r. r.path ≡ path) → find_row k (a ++ []) ≡ None
+cut_none a path k ok l h = go (find_row k (a ++ [])) refl h
+  where
+    go : (o : Option Row) → find_row k (a ++ []) ≡ o → IfSome o (λ r. r.path ≡ path) → o ≡ None
+    go None e i = refl
+    go (Some r) e i = let g = cut_found a [] path k r ok l tt e i in let j = g.1 in absurd cc
+
+-- The same in a leaf.
+module _ (leaves : List Leaf) (path : List (List ℕ)) (k : Key) (c n : ℕ) (p : IsLeafPlace leaves (address_of path k) c) (q : IsPlace p.leaf.items (address_of path k) n) (ok : IsRows (rows_in leaves)) (known : IfSome (find_row k (rows_in leaves)) (λ r. r.path ≡ path)) where
+  rest_of : Row → List Row
+  rest_of x = drop (suc n) p.leaf.items ++ rows_in (drop (suc c) leaves)
+
+  back_is : (x : Row) → slice_get p.leaf.items n ≡ Some x → back leaves c p.leaf n ≡ x ∷ rest_of x
+  unfolding rest_of
+  back_is x g = ap (λ z. z ++ rows_in (drop (suc c) leaves)) (drop_of_get p.leaf.items n x g)
+
+  whole_is : (x : Row) → slice_get p.leaf.items n ≡ Some x → rows_in leaves ≡ front leaves c p.leaf n ++ x ∷ rest_of x
+  whole_is x g = (cut_at leaves (address_of path k) c n p q).whole ∙ ap (λ z. front leaves c p.leaf n ++ z) (back_is x g)
+
+  known_in : (rows : List Row) → rows_in leaves ≡ rows → IfSome (find_row k rows) (λ r. r.path ≡ path)
+  known_in rows e = let P : List Row → Type 0 = λ z. IfSome (find_row k z) (λ r. r.path ≡ path) in subst P e known
+
+  pub same_in : (x : Row) → slice_get p.leaf.items n ≡ Some x → key_eq (key x) k ≡ true → find_row k (rows_in leaves) ≡ Some x
+  same_in x g t =
+      let cut = cut_at leaves (address_of path k) c n p q in
+      let e = whole_is x g in
+      let F : List Row → Type 0 = λ z. FirstNotBefore z (address_of path k) in
+      ap (find_row k) e ∙ cut_same (front leaves c p.leaf n) (rest_of x) x path k (subst IsRows e ok) cut.before_all (subst F (back_is x g) cut.first_not) (known_in _ e) t
+
+  pub stands_in : (x : Row) → slice_get p.leaf.items n ≡ Some x → key_eq (key x) k ≡ true → StandsIn leaves c n k
+  stands_in x g t = record {
+    leaf = p.leaf;
+    outer = p.split;
+    row = x;
+    found = same_in x g t;
+    inner = split_at p.leaf.items n x (drop (suc n) p.leaf.items) (drop_of_get p.leaf.items n x g);
+  }
+
+  pub other_in : (x : Row) → slice_get p.leaf.items n ≡ Some x → key_eq (key x) k ≡ false → find_row k (rows_in leaves) ≡ None
+  other_in x g t =
+      let cut = cut_at leaves (address_of path k) c n p q in
+      let e = whole_is x g in
+      let F : List Row → Type 0 = λ z. FirstNotBefore z (address_of path k) in
+      ap (find_row k) e ∙ cut_other (front leaves c p.leaf n) (rest_of x) x path k (subst IsRows e ok) cut.before_all (subst F (back_is x g) cut.first_not) (known_in _ e) t
+
+  dropped : (xs : List Row) (m : ℕ) → slice_get xs m ≡ None → drop m xs ≡ []
+  dropped [] zero g = refl
+  dropped [] (suc m) g = refl
+  dropped (x ∷ xs) zero g = absurd cc
+  dropped (x ∷ xs) (suc m) g = dropped xs m g
+
+  pub none_in : slice_get p.leaf.items n ≡ None → find_row k (rows_in leaves) ≡ None
+  none_in g =
+      let a = address_of path k in
+      let cut = cut_at leaves a c n p q in
+      let d = dropped p.leaf.items n g in
+      let last : drop (suc c) leaves ≡ [] = p.right (take_when_none p.leaf.items n a d q.left) in
+      let empty : back leaves c p.leaf n ≡ [] = (λ i. d i ++ rows_in (last i)) in
+      let e : rows_in leaves ≡ front leaves c p.leaf n ++ [] = cut.whole ∙ ap (λ z. front leaves c p.leaf n ++ z) empty in
+      ap (find_row k) e ∙ cut_none (front leaves c p.leaf n) path k (subst IsRows e ok) cut.before_all (known_in _ e)
+
+-- Leaves with one leaf replaced.
+pub rows_set : (leaves : List Leaf) (c : ℕ) (l m : Leaf) → IsSplitAt leaves c l (drop (suc c) leaves) → rows_in (slice_set leaves c m) ≡ rows_in (take c leaves) ++ (m.items ++ rows_in (drop (suc c) leaves))
+rows_set leaves c l m s = ap rows_in (s.written m) ∙ rows_in-append (take c leaves) (m ∷ drop (suc c) leaves)
+
+pub leaves_set : (leaves : List Leaf) (c : ℕ) (l m : Leaf) → AreLeaves leaves → IsSplitAt leaves c l (drop (suc c) leaves) → IsLeaf m → AreLeaves (slice_set leaves c m)
+leaves_set leaves c l m h s i =
+    let parts = subst AreLeaves s.whole h in
+    subst AreLeaves (sym (s.written m)) (leaves-append (take c leaves) (m ∷ drop (suc c) leaves) (leaves_left (take c leaves) _ parts) (i, (leaves_right (take c leaves) (l ∷ drop (suc c) leaves) parts).1))
+
+-- a list that is made of two parts and an element between them
+pub made_at : {A : Type 0} (xs pre rest : List A) (x : A) (n : ℕ) → xs ≡ pre ++ x ∷ rest → length pre ≡ n → IsSplitAt xs n x (drop (suc n) xs)
+made_at xs pre rest x n e h =
+    let s = split_at xs n x rest (ap (drop n) e ∙ drop_at pre (x ∷ rest) n h) in
+    subst (IsSplitAt xs n x) (sym s.behind) s
+
+pub behind_made : {A : Type 0} (xs pre rest : List A) (x : A) (n : ℕ) → xs ≡ pre ++ x ∷ rest → length pre ≡ n → drop (suc n) xs ≡ rest
+behind_made xs pre rest x n e h = (split_at xs n x rest (ap (drop n) e ∙ drop_at pre (x ∷ rest) n h)).behind
+
+pub before_made : {A : Type 0} (xs pre rest : List A) (n : ℕ) → xs ≡ pre ++ rest → length pre ≡ n → take n xs ≡ pre
+before_made xs pre rest n e h = ap (take n) e ∙ take_at pre rest n h
+
+pub front_length : {A : Type 0} (xs : List A) (n : ℕ) → n < length xs → length (take n xs) ≡ n
+front_length xs n h = omega (arith, length-take n xs)
+
+regroup : (p f y q : List Row) → p ++ ((f ++ y) ++ q) ≡ (p ++ f) ++ (y ++ q)
+regroup p f y q = simp append_assoc
+
+row_between : (leaves : List Leaf) (c n : ℕ) (k : Key) (s : StandsIn leaves c n k) (y : List Row) → rows_in (take c leaves) ++ ((take n s.leaf.items ++ y) ++ rows_in (drop (suc c) leaves)) ≡ (rows_in (take c leaves) ++ take n s.leaf.items) ++ (y ++ rows_in (drop (suc c) leaves))
+row_between leaves c n k s y = regroup (rows_in (take c leaves)) (take n s.leaf.items) y (rows_in (drop (suc c) leaves))
+
+pub whole_row : (leaves : List Leaf) (c n : ℕ) (k : Key) (s : StandsIn leaves c n k) → rows_in leaves ≡ (rows_in (take c leaves) ++ take n s.leaf.items) ++ (s.row ∷ (drop (suc n) s.leaf.items ++ rows_in (drop (suc c) leaves)))
+whole_row leaves c n k s =
+    rows_at leaves c s.leaf s.outer
+    ∙ ap (λ z. rows_in (take c leaves) ++ (z ++ rows_in (drop (suc c) leaves))) s.inner.whole
+    ∙ row_between leaves c n k s (s.row ∷ drop (suc n) s.leaf.items)
+
+pub tree_changed : (leaves : List Leaf) (c n : ℕ) (k : Key) (i : Item) (m : Leaf) (s : StandsIn leaves c n k) → IsRows (rows_in leaves) → m.items ≡ slice_set s.leaf.items n (changed_row s.row i) → rows_in (slice_set leaves c m) ≡ change_row k i (rows_in leaves)
+tree_changed leaves c n k i m s ok e =
+    let w = whole_row leaves c n k s in
+    let r = changed_row s.row i in
+    rows_set leaves c s.leaf m s.outer
+    ∙ ap (λ z. rows_in (take c leaves) ++ (z ++ rows_in (drop (suc c) leaves))) (e ∙ s.inner.written r)
+    ∙ row_between leaves c n k s (r ∷ drop (suc n) s.leaf.items)
+    ∙ sym (replace_place (rows_in (take c leaves) ++ take n s.leaf.items) (drop (suc n) s.leaf.items ++ rows_in (drop (suc c) leaves)) s.row r refl (subst Keyed w ok.keyed))
+    ∙ ap (replace_row r) (sym w)
+    ∙ ap (λ o. change_found o i (rows_in leaves)) (sym s.found)
+
+pub tree_removed : (leaves : List Leaf) (c n : ℕ) (k : Key) (m : Leaf) (s : StandsIn leaves c n k) → IsRows (rows_in leaves) → m.items ≡ remove s.leaf.items n → rows_in (slice_set leaves c m) ≡ remove_row k (rows_in leaves)
+tree_removed leaves c n k m s ok e =
+    let w = whole_row leaves c n k s in
+    rows_set leaves c s.leaf m s.outer
+    ∙ ap (λ z. rows_in (take c leaves) ++ (z ++ rows_in (drop (suc c) leaves))) e
+    ∙ row_between leaves c n k s (drop (suc n) s.leaf.items)
+    ∙ sym (remove_place (rows_in (take c leaves) ++ take n s.leaf.items) (drop (suc n) s.leaf.items ++ rows_in (drop (suc c) leaves)) s.row (subst Keyed w ok.keyed))
+    ∙ ap (remove_row (key s.row)) (sym w)
+    ∙ ap (λ z. remove_row z (rows_in leaves)) (find_key k (rows_in leaves) s.row s.found)
+
+pub tree_nearly : (leaves : List Leaf) (c : ℕ) (l m : Leaf) → AreLeaves leaves → IsSplitAt leaves c l (drop (suc c) leaves) → vec_len m ≤ 64 → 64 ≤ vec_capacity m → AreNearlyLeaves (slice_set leaves c m) c
+tree_nearly leaves c l m h s fits roomy =
+    let parts = subst AreLeaves s.whole h in
+    let made = s.written m in
+    let len = front_length leaves c s.within in
+    record {
+      leaf = m;
+      split = made_at (slice_set leaves c m) (take c leaves) (drop (suc c) leaves) m c made len;
+      fits = fits;
+      roomy = roomy;
+      before = subst AreLeaves (sym (before_made (slice_set leaves c m) (take c leaves) (m ∷ drop (suc c) leaves) c made len)) (leaves_left (take c leaves) _ parts);
+      behind = subst AreLeaves (sym (behind_made (slice_set leaves c m) (take c leaves) (drop (suc c) leaves) m c made len)) (leaves_right (take c leaves) (l ∷ drop (suc c) leaves) parts).1;
+    }
+
+pub tree_inserted : (leaves : List Leaf) (c : ℕ) (r : Row) (m : Leaf) (p : IsLeafPlace leaves (address r) c) (n : ℕ) → IsPlace p.leaf.items (address r) n → m.items ≡ insert p.leaf.items n r → find_row (key r) (rows_in leaves) ≡ None → rows_in (slice_set leaves c m) ≡ insert_row r (rows_in leaves)
+tree_inserted leaves c r m p n q e absent =
+    let cut = cut_at leaves (address r) c n p q in
+    let l = p.leaf in
+    rows_set leaves c l m p.split
+    ∙ ap (λ z. rows_in (take c leaves) ++ (z ++ rows_in (drop (suc c) leaves))) e
+    ∙ regroup (rows_in (take c leaves)) (take n l.items) (r ∷ drop n l.items) (rows_in (drop (suc c) leaves))
+    ∙ sym (insert_place (front leaves c l n) (back leaves c l n) r cut.before_all cut.first_not (ap (find_row (key r)) (sym cut.whole) ∙ absent))
+    ∙ ap (insert_row r) (sym cut.whole)
+
+-- a leaf in two halves
+pub split_made : (leaves : List Leaf) (c : ℕ) (l lower upper : Leaf) → IsSplitAt leaves c l (drop (suc c) leaves) → insert (slice_set leaves c lower) (c + 1) upper ≡ take c leaves ++ lower ∷ upper ∷ drop (suc c) leaves
+split_made leaves c l lower upper s =
+    let made = s.written lower in
+    let xs = slice_set leaves c lower in
+    let len = front_length leaves c s.within in
+    let one : xs ≡ (take c leaves ++ lower ∷ []) ++ drop (suc c) leaves = made ∙ sym (append_assoc (take c leaves) (lower ∷ []) (drop (suc c) leaves)) in
+    let more : length (take c leaves ++ lower ∷ []) ≡ c + 1 = simp length-append (omega arith) in
+    (λ i. before_made xs (take c leaves ++ lower ∷ []) (drop (suc c) leaves) (c + 1) one more i ++ upper ∷ (ap (drop (c + 1)) one ∙ drop_at (take c leaves ++ lower ∷ []) (drop (suc c) leaves) (c + 1) more) i)
+    ∙ append_assoc (take c leaves) (lower ∷ []) (upper ∷ drop (suc c) leaves)
+
+pub split_rows : (leaves : List Leaf) (c : ℕ) (l lower upper : Leaf) (new : List Leaf) → IsSplitAt leaves c l (drop (suc c) leaves) → l.items ≡ lower.items ++ upper.items → new ≡ take c leaves ++ lower ∷ upper ∷ drop (suc c) leaves → rows_in new ≡ rows_in leaves
+split_rows leaves c l lower upper new s e made =
+    ap rows_in made ∙ rows_in-append (take c leaves) (lower ∷ upper ∷ drop (suc c) leaves)
+    ∙ ap (λ z. rows_in (take c leaves) ++ z) (sym (append_assoc lower.items upper.items (rows_in (drop (suc c) leaves))))
+    ∙ ap (λ z. rows_in (take c leaves) ++ (z ++ rows_in (drop (suc c) leaves))) (sym e)
+    ∙ sym (rows_at leaves c l s)
+
+pub split_leaves : (leaves : List Leaf) (c : ℕ) (l lower upper : Leaf) (new : List Leaf) → AreLeaves leaves → IsSplitAt leaves c l (drop (suc c) leaves) → IsLeaf lower → IsLeaf upper → new ≡ take c leaves ++ lower ∷ upper ∷ drop (suc c) leaves → AreLeaves new
+split_leaves leaves c l lower upper new h s i j made =
+    let parts = subst AreLeaves s.whole h in
+    subst AreLeaves (sym made) (leaves-append (take c leaves) (lower ∷ upper ∷ drop (suc c) leaves) (leaves_left (take c leaves) _ parts) (i, (j, (leaves_right (take c leaves) (l ∷ drop (suc c) leaves) parts).1)))
+
+pub lower_place : (leaves : List Leaf) (a : List Key) (c : ℕ) (p : IsLeafPlace leaves a c) (lower upper : Leaf) (new : List Leaf) → vec_len lower < 64 → (AllBefore lower.items a → ⊥) → new ≡ take c leaves ++ lower ∷ upper ∷ drop (suc c) leaves → IsRoomyPlace new a c
+lower_place leaves a c p lower upper new room differs made =
+    let len = front_length leaves c p.split.within in
+    let P : List Leaf → Type 0 = λ z. AllBefore (rows_in z) a in
+    record {
+      place = record {
+        leaf = lower;
+        split = made_at new (take c leaves) (upper ∷ drop (suc c) leaves) lower c made len;
+        left = subst P (sym (before_made new (take c leaves) (lower ∷ upper ∷ drop (suc c) leaves) c made len)) p.left;
+        right = λ b. absurd (differs b);
+      };
+      room = room;
+    }
+
+pub upper_place : (leaves : List Leaf) (a : List Key) (c : ℕ) (p : IsLeafPlace leaves a c) (lower upper : Leaf) (new : List Leaf) → vec_len upper < 64 → p.leaf.items ≡ lower.items ++ upper.items → AllBefore lower.items a → new ≡ take c leaves ++ lower ∷ upper ∷ drop (suc c) leaves → IsRoomyPlace new a (c + 1)
+upper_place leaves a c p lower upper new room halves all made =
+    let len = front_length leaves c p.split.within in
+    let pre = take c leaves ++ lower ∷ [] in
+    let one : new ≡ pre ++ upper ∷ drop (suc c) leaves = made ∙ sym (append_assoc (take c leaves) (lower ∷ []) (upper ∷ drop (suc c) leaves)) in
+    let more : length pre ≡ c + 1 = simp length-append (omega arith) in
+    let P : List Leaf → Type 0 = λ z. AllBefore (rows_in z) a in
+    let R : List Row → Type 0 = λ z. AllBefore z a in
+    let rows : rows_in pre ≡ rows_in (take c leaves) ++ lower.items = rows_in-append (take c leaves) (lower ∷ []) ∙ ap (λ z. rows_in (take c leaves) ++ z) (append-nil lower.items) in
+    record {
+      place = record {
+        leaf = upper;
+        split = made_at new pre (drop (suc c) leaves) upper (c + 1) one more;
+        left = subst P (sym (before_made new pre (upper ∷ drop (suc c) leaves) (c + 1) one more)) (subst R (sym rows) (all_before-append (rows_in (take c leaves)) lower.items a p.left all));
+        right = λ b. behind_made new pre (drop (suc c) leaves) upper (c + 1) one more ∙ p.right (subst R (sym halves) (all_before-append lower.items upper.items a all b));
+      };
+      room = room;
+    }
+
+pub moved_leaf_place : {leaves now : List Leaf} {a b : List Key} {c : ℕ} → leaves ≡ now → a ≡ b → IsLeafPlace leaves a c → IsLeafPlace now b c
+moved_leaf_place {leaves} {now} {a} {b} {c} e i p = subst (λ z. IsLeafPlace now z c) i (subst (λ z. IsLeafPlace z a c) e p)
+
+pub moved_stands_in : {leaves now : List Leaf} {j k : Key} {c n : ℕ} → leaves ≡ now → j ≡ k → StandsIn leaves c n j → StandsIn now c n k
+moved_stands_in {leaves} {now} {j} {k} {c} {n} e i s = subst (λ z. StandsIn now c n z) i (subst (λ z. StandsIn z c n j) e s)
+
+pub moved_roomy : {leaves now : List Leaf} {a b : List Key} {c : ℕ} → leaves ≡ now → a ≡ b → IsRoomyPlace leaves a c → IsRoomyPlace now b c
+moved_roomy {leaves} {now} {a} {b} {c} e i p = subst (λ z. IsRoomyPlace now z c) i (subst (λ z. IsRoomyPlace z a c) e p)
+
+-- a leaf with as many rows and as much memory
+pub like_leaf : (l m : Leaf) → IsLeaf l → vec_len m ≡ vec_len l → vec_capacity m ≡ vec_capacity l → IsLeaf m
+like_leaf l m i e f = let a = i.filled in let b = i.fits in let d = i.roomy in record { filled = omega (arith, a, e); fits = omega (arith, b, e); roomy = omega (arith, d, f) }
+
+pub some_rows : (n : ℕ) → false ≡ (n == 0) → 0 < n
+some_rows zero e = absurd (true≢false (sym e))
+some_rows (suc n) e = omega arith

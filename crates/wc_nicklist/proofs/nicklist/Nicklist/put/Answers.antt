@@ -1,0 +1,26 @@
+use Rattle.std.proofs.Common.{◌≡◌, ◌≤◌, ℕ, List, None, length, arith, sym, ap, ◌∙◌, subst}
+use Rattle.wc_nicklist.specs.Kept.{IfRoom, RoomStands, IsKept}
+use Rattle.wc_nicklist.specs.Order.{key_at}
+use Rattle.wc_nicklist.specs.Rows.{find_row}
+use Rattle.wc_nicklist.proofs.Keeps.{put_kept}
+use Rattle.wc_nicklist.proofs.Refusals.{is_name}
+use Rattle.wc_nicklist.proofs.nicklist.Nicklist.put.Goals as goal
+
+pub filled-name-requires-clause-fits : goal.filled-name-requires-clause-fits
+filled-name-requires-clause-fits c =
+    let room : RoomStands c.self.inside.rows c.self.inside.index c.in-Some.room = subst (IfRoom c.self.inside.rows c.self.inside.index) (sym c.take.ensures.value ∙ c.in-Some.is) c.self.invariant.prepared in
+    let short = (is_name c.args.is_group c.args.item.name c.requires.named).bounds.1 in
+    let fits = room.parts.fits in
+    let P : List ℕ → Type 0 = λ l. length l ≤ 64 in
+    let name : length c.as_slice.result.now ≤ 64 = subst P (sym c.as_slice.ensures) short in
+    omega (arith, name, fits)
+
+-- the new row and its path come in together
+pub invariant_of-self : goal.invariant_of-self
+invariant_of-self c =
+    let room : RoomStands c.self.inside.rows c.self.inside.index c.in-Some.room = subst (IfRoom c.self.inside.rows c.self.inside.index) (sym c.take.ensures.value ∙ c.in-Some.is) c.self.invariant.prepared in
+    let absent : find_row (key_at c.args.is_group c.args.item.name) c.self.inside.rows.rows ≡ None = ap (λ s. find_row (key_at c.args.is_group c.args.item.name) s.rows) c.self.view_is ∙ c.requires.absent in
+    subst (IsKept c.insert-2.new.self c.insert.new.self) (sym c.take.ensures.after)
+    (put_kept c.self.inside.rows c.insert-2.new.self c.self.inside.index c.insert.new.self c.in-Some.room c.args.is_group c.args.item c.filled-name.result.items c.new_row.result
+    c.self.invariant.held c.self.invariant.indexed room absent c.requires.named c.requires.utf8
+    (c.filled-name.ensures ∙ c.as_slice.ensures) c.new_row.ensures c.insert-2.ensures c.insert.ensures)

@@ -1,0 +1,100 @@
+ghost use Rattle.std.specs.Prelude.{◌≡◌, ◌++◌};
+ghost use Rattle.std.specs.Iterator.{YieldsFirstBy, item_count};
+ghost use Rattle.wc_nicklist.specs.Rows.{below, parent_of, path_eq};
+ghost use Rattle.wc_nicklist.specs.Tree.{rows_in};
+
+use crate::item::{Item, Row};
+use crate::leaf::is_child;
+use std::marker::Model;
+
+/// A row that is lent by its nicklist.
+#[derive(Drop)]
+pub struct RowView<'a> {
+    row: &'a Row,
+}
+
+impl<'a> Model for RowView<'a> {
+    ghost use Rattle.wc_nicklist.specs.declared.item.Row.{Row};
+
+    ghost Value = { Row };
+
+    ghost view = { λ a. a.row.now };
+}
+
+impl<'a> RowView<'a> {
+    /// Whether it stands right below a group.
+    pub(crate) fn is_child_of(&self, group: &Row) -> bool
+        ensures { result ≡ path_eq self.now.path (below group.now) }
+    {
+        is_child(self.row, group)
+    }
+
+    /// The group or the nick.
+    pub fn item(&self) -> &Item
+        ensures { result.now ≡ self.now.item }
+    {
+        &self.row.item
+    }
+
+    /// The name of the row's parent.
+    pub fn parent(&self) -> &[u8]
+        ensures { result.now ≡ parent_of self.now }
+    {
+        match self.row.path.as_slice().last() {
+            Some(name) => name.as_slice(),
+            None => b"root",
+        }
+    }
+}
+
+/// The rows of a nicklist in canonical order, which contracts see as the list of those that are left.
+#[derive(Drop)]
+pub struct RowIter<'a> {
+    leaf: &'a [Row],
+    leaves: &'a [Vec<Row>],
+}
+
+impl<'a> Model for RowIter<'a> {
+    ghost use Rattle.std.specs.Prelude.{List, ◌++◌};
+    ghost use Rattle.wc_nicklist.specs.declared.item.Row.{Row};
+    ghost use Rattle.wc_nicklist.specs.Tree.{rows_in};
+
+    ghost Value = { List Row };
+
+    ghost view = { λ a. a.leaf.now ++ rows_in a.leaves.now };
+}
+
+impl<'a> RowIter<'a> {
+    /// The rows of these leaves.
+    pub(crate) fn new(leaves: &'a [Vec<Row>]) -> RowIter<'a>
+        ensures { result ≡ rows_in leaves.now }
+    {
+        RowIter { leaf: &[], leaves }
+    }
+
+    /// The rows that are left of a leaf, and those of the leaves behind it.
+    pub(crate) fn from_leaf(leaf: &'a [Row], leaves: &'a [Vec<Row>]) -> RowIter<'a>
+        ensures { result ≡ leaf.now ++ rows_in leaves.now }
+    {
+        RowIter { leaf, leaves }
+    }
+}
+
+impl<'a> Iterator for RowIter<'a> {
+    type Item = RowView<'a>;
+
+    ghost next_gives = { YieldsFirstBy (λ row. row) (λ s. s) };
+
+    ghost remaining = { item_count (λ s. s) };
+
+    fn next(&mut self) -> Option<RowView<'a>> {
+        while self.leaf.is_empty() {
+            let (leaf, leaves) = self.leaves.split_first()?;
+            self.leaf = leaf.as_slice();
+            self.leaves = leaves;
+        }
+        let (row, leaf) = self.leaf.split_first()?;
+        self.leaf = leaf;
+        Some(RowView { row })
+    }
+}

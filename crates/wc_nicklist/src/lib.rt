@@ -1,0 +1,25 @@
+//! Nicklists: groups with their nicks, which contracts see as one flat list of rows.
+#![tactic(auto)]
+
+#[cfg(test)]
+mod flat_tests;
+mod index;
+mod item;
+mod iter;
+mod leaf;
+mod name;
+mod nicklist;
+mod order;
+mod refused;
+mod room;
+mod row_tree;
+#[cfg(test)]
+mod tests;
+mod touch;
+
+pub use item::{Item, Key, Row};
+pub use iter::{RowIter, RowView};
+pub use name::Name;
+pub use nicklist::Nicklist;
+pub use refused::NickRefused;
+pub use touch::Touch;

@@ -1,0 +1,69 @@
+ghost use Rattle.std.specs.Prelude.{◌≡◌, ◌≤◌, ◌<◌, length, drop, min};
+ghost use Rattle.wc_nicklist.specs.Order.{key_at, key_cmp, address_cmp, address_of, is_before};
+
+use crate::item::Row;
+use std::cmp::Ordering;
+use wc_text::{Text, fold_cmp};
+
+/// Where a row stands: the names of the groups above it, its kind and its name.
+#[derive(Drop)]
+pub(crate) struct Address<'a> {
+    pub(crate) path: &'a [Text],
+    pub(crate) is_group: bool,
+    pub(crate) name: &'a [u8],
+}
+
+/// Whether a row stands before an address in canonical order.
+pub(crate) fn stands_before(row: &Row, address: &Address<'_>) -> bool
+    ensures { result ≡ is_before row.now (address_of address.now.path.now (key_at address.now.is_group address.now.name.now)) }
+{
+    let own = Address {
+        path: row.path.as_slice(),
+        is_group: row.item.is_group,
+        name: row.item.name.as_slice(),
+    };
+    compare(&own, address) == Ordering::Less
+}
+
+/// The canonical order: name by name along the paths, and a nick before a group.
+fn compare(a: &Address<'_>, b: &Address<'_>) -> Ordering
+    ensures { result ≡ address_cmp (address_of a.now.path.now (key_at a.now.is_group a.now.name.now)) (address_of b.now.path.now (key_at b.now.is_group b.now.name.now)) }
+{
+    let shared = a.path.len().min(b.path.len());
+    for i in 0..shared {
+        let of_groups = fold_cmp(a.path[i].as_slice(), b.path[i].as_slice());
+        if of_groups != Ordering::Equal {
+            return of_groups;
+        }
+    }
+    compare_ends(a, b, shared)
+}
+
+/// The order of two addresses whose first names are alike, where one path ends there.
+fn compare_ends(a: &Address<'_>, b: &Address<'_>, shared: usize) -> Ordering
+    requires within_a { shared ≤ length a.now.path.now }
+    requires within_b { shared ≤ length b.now.path.now }
+    requires one_ends { min (length a.now.path.now) (length b.now.path.now) ≤ shared }
+    ensures { result ≡ address_cmp (address_of (drop shared a.now.path.now) (key_at a.now.is_group a.now.name.now)) (address_of (drop shared b.now.path.now) (key_at b.now.is_group b.now.name.now)) }
+{
+    if shared < a.path.len() {
+        compare_keys(true, a.path[shared].as_slice(), b.is_group, b.name).then(Ordering::Greater)
+    } else if shared < b.path.len() {
+        compare_keys(a.is_group, a.name, true, b.path[shared].as_slice()).then(Ordering::Less)
+    } else {
+        compare_keys(a.is_group, a.name, b.is_group, b.name)
+    }
+}
+
+/// The order of two keys: a nick before a group, then by name.
+fn compare_keys(a_is_group: bool, a: &[u8], b_is_group: bool, b: &[u8]) -> Ordering
+    ensures { result ≡ key_cmp (key_at a_is_group a.now) (key_at b_is_group b.now) }
+{
+    if a_is_group == b_is_group {
+        fold_cmp(a, b)
+    } else if a_is_group {
+        Ordering::Greater
+    } else {
+        Ordering::Less
+    }
+}
