@@ -1,8 +1,7 @@
 -- How messages are written.
-use Rattle.std.specs.Prelude.{◌≡◌, ℕ, ◌≤◌, Bool, true, false, ◌||◌, ◌==◌, List, [], ◌∷◌, ◌++◌, if◌then◌else◌, length, IsTrue}
-use Rattle.std.specs.List.{list_any}
+use Rattle.std.specs.Prelude.{◌≡◌, ℕ, ◌≤◌, Bool, true, not, ◌&&◌, ◌||◌, ◌==◌, List, [], ◌∷◌, ◌++◌, if◌then◌else◌, length, IsTrue}
+use Rattle.std.specs.List.{list_all, list_any}
 use Rattle.wc_ircmsg.specs.declared.message.Message.{Message}
-use Rattle.wc_ircmsg.specs.Cuts.{Lacks}
 use Rattle.wc_ircmsg.specs.Commands.{is_command}
 
 -- a parameter that is no word of its own: one that is empty, has a blank or begins with `:`
@@ -11,25 +10,25 @@ needs_colon [] = true
 needs_colon (b ∷ param) = (b == 58) || list_any (λ c. c == 32) (b ∷ param)
 
 -- only the last parameter may need a `:`
-abbrev pub AreWords : List (List ℕ) → Type 0
-AreWords [] = Unit {0}
-AreWords (param ∷ []) = Unit {0}
-AreWords (param ∷ next ∷ params) = (needs_colon param ≡ false) × AreWords (next ∷ params)
+abbrev pub are_words : List (List ℕ) → Bool
+are_words [] = true
+are_words (param ∷ []) = true
+are_words (param ∷ next ∷ params) = not (needs_colon param) && are_words (next ∷ params)
 
--- a text that stays in one line: without CR, LF and NUL
-abbrev pub IsOneLine : List ℕ → Type 0
-IsOneLine text = Lacks 13 text × Lacks 10 text × Lacks 0 text
+-- CR, LF and NUL
+abbrev pub ends_lines : ℕ → Bool
+ends_lines b = (b == 13) || (b == 10) || (b == 0)
 
-abbrev pub AllOneLine : List (List ℕ) → Type 0
-AllOneLine [] = Unit {0}
-AllOneLine (text ∷ texts) = IsOneLine text × AllOneLine texts
+-- a text that stays in one line
+abbrev pub is_one_line : List ℕ → Bool
+is_one_line text = list_all (λ b. not (ends_lines b)) text
 
 -- a message that a line can spell
 pub record IsWritable (message : Message) : Type 0 where
   pub command : IsTrue (is_command message.command)
   pub few : length message.params ≤ 15
-  pub words : AreWords message.params
-  pub one_line : AllOneLine message.params
+  pub words : IsTrue (are_words message.params)
+  pub one_line : IsTrue (list_all is_one_line message.params)
 
 -- the last parameter, behind a `:` where it needs one
 abbrev pub last_text : List ℕ → List ℕ

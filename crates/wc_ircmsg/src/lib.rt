@@ -19,4 +19,4 @@ pub use ctcp::read_ctcp;
 pub use message::{LineRefused, Message};
 pub use prefixes::{Prefixes, read_prefix_token};
 pub use read::{one_message, read_line};
-pub use write::write_line;
+pub use write::{is_writable, write_line};

@@ -6,7 +6,7 @@ use std::alloc::Global;
 use wc_text::{Items, NoMemory, Text};
 
 /// The most parameters that a line has.
-const MOST_PARAMS: usize = 15;
+pub const MOST_PARAMS: usize = 15;
 
 /// The parameter at the front of a text, and what is left behind it, where so many more may come. Behind a `:` it is
 /// all that is left, and so it is where no more may come.
