@@ -4,3 +4,6 @@ pub mod FrontLemmas
 pub mod SourceLemmas
 pub mod ParamLemmas
 pub mod ReadLemmas
+pub mod CommandLemmas
+pub mod WriteLemmas
+pub mod TextLemmas

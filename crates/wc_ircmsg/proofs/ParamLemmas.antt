@@ -23,15 +23,13 @@ Unmarked-made (suc more) text =
 pub FirstParam-same : (more : ℕ) (text param rest : List ℕ) → FirstParam more text param rest → (param ≡ first_of more text) × (rest ≡ behind_first more text)
 FirstParam-same more [] param rest first = absurd first
 FirstParam-same more (b ∷ text) param rest (inl trailing) =
-    let marked : eqb b 58 ≡ true = (Decides-eqb b 58).1 trailing.0 in
-    (
+    let marked : eqb b 58 ≡ true = (Decides-eqb b 58).1 trailing.0 in (
       trailing.1 ∙ sym (ap (λ t. cond t text (cond (eqb more 0) (b ∷ text) (word_of (b ∷ text)))) marked),
       trailing.2 ∙ sym (ap (λ t. cond t [] (cond (eqb more 0) [] (rest_of (b ∷ text)))) marked),
     )
 FirstParam-same more (b ∷ text) param rest (inr other) =
     let plain : eqb b 58 ≡ false = other_byte b 58 other.0 in
-    let same = Unmarked-same more (b ∷ text) param rest other.1 in
-    (
+    let same = Unmarked-same more (b ∷ text) param rest other.1 in (
       same.0 ∙ sym (ap (λ t. cond t text (cond (eqb more 0) (b ∷ text) (word_of (b ∷ text)))) plain),
       same.1 ∙ sym (ap (λ t. cond t [] (cond (eqb more 0) [] (rest_of (b ∷ text)))) plain),
     )

@@ -143,3 +143,17 @@ reading-Refuses text refused is = by (is_command (word_of (call_of text))) refl 
   by : (t : Bool) → is_command (word_of (call_of text)) ≡ t → cond t (Ok made) (Err (refusal_of text)) ≡ Err refused → Refuses text refused
   by true e here = absurd (cc)
   by false e here = let same : refusal_of text ≡ refused = cc in subst (λ r. Refuses text r) same (refuses text e)
+
+-- ---- for the code
+pub refusal_empty : (text behind : List ℕ) → behind ≡ past 32 text → eqb (length behind) 0 ≡ true → Refusals.Empty ≡ refusal_of text
+refusal_empty text [] is none = sym (refusal_of-blank text (sym is))
+refusal_empty text (b ∷ behind) is none = absurd (false≢true (sym longer ∙ none)) where
+  longer : eqb (length (b ∷ behind)) 0 ≡ false
+  longer = grind arith
+
+pub refusal_filled : (text behind call : List ℕ) → behind ≡ past 32 text → eqb (length behind) 0 ≡ false → call ≡ call_of text → Refusals.BadCommand (length text - length call) ≡ refusal_of text
+refusal_filled text [] call is some called = absurd (false≢true (sym some))
+refusal_filled text (b ∷ behind) call is some called =
+    ap (λ t. Refusals.BadCommand (length text - length t)) called ∙ sym (refusal_of-filled text (λ none. cc))
+
+pub ruleset refusals = (refusal_empty, refusal_filled, length-call_of)

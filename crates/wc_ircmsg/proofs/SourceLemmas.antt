@@ -27,8 +27,7 @@ Names-same source nick user host names =
     let unmarked = Lacks-append 64 nick (marked 33 names.user_part) names.nick_unmarked.1 (Lacks-marked 64 33 names.user_part (λ e. absurd (omega arith)) names.user_unmarked) in
     let outer = cut-marked 64 front names.host_part unmarked in
     let inner = cut-marked 33 nick names.user_part names.nick_unmarked.0 in
-    let is_front : before 64 source ≡ front = ap (before 64) names.spelled ∙ outer.0 in
-    (
+    let is_front : before 64 source ≡ front = ap (before 64) names.spelled ∙ outer.0 in (
       sym (ap (before 33) is_front ∙ inner.0),
       names.user_is ∙ sym (ap (λ t. or_empty (behind 33 t)) is_front ∙ ap or_empty inner.1),
       names.host_is ∙ sym (ap (λ t. or_empty (behind 64 t)) names.spelled ∙ ap or_empty outer.1),

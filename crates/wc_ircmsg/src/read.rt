@@ -16,6 +16,7 @@ use std::alloc::Global;
 use wc_text::{NoMemory, Text, lossy};
 
 /// The prefix at the front of a text, without its `:`, and from the command on. Tags are passed over.
+#[tactic(auto, unfolding(crate::specs::Answers::source_of, crate::specs::Answers::call_of, crate::specs::Answers::untagged_of))]
 fn cut_front(text: &[u8]) -> (&[u8], &[u8])
     ensures source { result.0.now ≡ source_of text.now }
     ensures call { result.1.now ≡ call_of text.now }
@@ -25,6 +26,7 @@ fn cut_front(text: &[u8]) -> (&[u8], &[u8])
 }
 
 /// The message with these parts.
+#[tactic(auto, unfolding(crate::specs::Answers::message_from))]
 fn message(alloc: Global, prefix: &[u8], command: &[u8], rest: &[u8]) -> Result<Message, NoMemory>
     ensures { IfOk result (λ message. message ≡ message_from prefix.now command.now rest.now) }
 {
@@ -44,6 +46,7 @@ fn message(alloc: Global, prefix: &[u8], command: &[u8], rest: &[u8]) -> Result<
 }
 
 /// Why a text without a command is refused, of which this is what stands where the command has to.
+#[tactic(auto, using(crate::proofs::ReadLemmas::refusals))]
 fn refusal(text: &[u8], call: &[u8]) -> LineRefused
     requires { call.now ≡ call_of text.now }
     ensures { result ≡ refusal_of text.now }
@@ -56,6 +59,7 @@ fn refusal(text: &[u8], call: &[u8]) -> LineRefused
     }
 }
 
+#[tactic(auto, unfolding(crate::specs::Answers::reading_of))]
 fn read_text(alloc: Global, text: &[u8]) -> Result<Message, LineRefused>
     ensures read { IfOk result (λ message. reading_of text.now ≡ Ok message) }
     ensures refused { IfErr result (λ refused. refused ≢ LineRefused.NoMemory → reading_of text.now ≡ Err refused) }
