@@ -7,3 +7,6 @@ pub mod ReadLemmas
 pub mod CommandLemmas
 pub mod WriteLemmas
 pub mod TextLemmas
+pub mod CtcpLemmas
+pub mod NameLemmas
+pub mod TokenLemmas

@@ -1,6 +1,7 @@
 -- The parameters of a text.
-use Rattle.std.proofs.Common.{◌≡◌, ◌≢◌, ℕ, zero, suc, ◌⊎◌, inl, inr, List, [], ◌∷◌, ◌++◌, refl, ap, sym, ◌∙◌, arith, eqb, Bool, true, false, cond, subst}
+use Rattle.std.proofs.Common.{◌≡◌, ◌≢◌, ℕ, zero, suc, ◌-◌, ◌<◌, ◌⊎◌, inl, inr, List, [], ◌∷◌, ◌++◌, length, append_assoc, append-nil, refl, ap, sym, ◌∙◌, arith, eqb, Bool, true, false, cond, subst}
 use Rattle.std.proofs.lemmas.Bool.Decides.{nat_tests, Decides-eqb}
+use Rattle.std.proofs.lemmas.Bool.{false≢true}
 use Rattle.wc_ircmsg.specs.Words.{Parts, word_of, rest_of}
 use Rattle.wc_ircmsg.specs.Params.{Unmarked, FirstParam, SpellsParams, first_of, behind_first, params_of}
 use Rattle.wc_ircmsg.proofs.WordLemmas.{other_byte, byte_differs, Parts-same, Parts-made}
@@ -65,3 +66,28 @@ SpellsParams-made more [] = refl
 SpellsParams-made zero (b ∷ text) = (behind_first 0 (b ∷ text), FirstParam-made 0 b text, last_of_all (b ∷ text))
 SpellsParams-made (suc more) (b ∷ text) =
     (behind_first (suc more) (b ∷ text), FirstParam-made (suc more) b text, SpellsParams-made more (behind_first (suc more) (b ∷ text)))
+
+-- the parameters so far, and one more
+pub params_more : (front new all : List (List ℕ)) (text param rest behind : List ℕ) (places : ℕ) → 0 < places → eqb (length rest) 0 ≡ false → front ++ params_of places rest ≡ all
+    → text ≡ param → param ≡ first_of (places - 1) rest → behind ≡ behind_first (places - 1) rest → new ≡ front ++ text ∷ [] → new ++ params_of (places - 1) behind ≡ all
+unfolding params_of
+params_more front new all text param [] behind places some filled so_far copied first left pushed = absurd (false≢true (sym filled))
+params_more front new all text param (b ∷ rest) behind zero some filled so_far copied first left pushed = absurd (omega arith)
+params_more front new all text param (b ∷ rest) behind (suc more) some filled so_far copied first left pushed =
+    let less : suc more - 1 ≡ more = omega arith in
+    let is : text ≡ first_of more (b ∷ rest) = copied ∙ first ∙ ap (λ n. first_of n (b ∷ rest)) less in
+    let rest_is : params_of (suc more - 1) behind ≡ params_of more (behind_first more (b ∷ rest)) = (λ i. params_of (less i) (left i)) ∙ ap (λ n. params_of more (behind_first n (b ∷ rest))) less in
+    (λ i. pushed i ++ rest_is i)
+    ∙ append_assoc front (text ∷ []) (params_of more (behind_first more (b ∷ rest)))
+    ∙ ap (λ t. front ++ t ∷ params_of more (behind_first more (b ∷ rest))) is
+    ∙ so_far
+
+-- all of them
+pub params_end : (front all : List (List ℕ)) (rest : List ℕ) (places : ℕ) → (places ≡ 0) ⊎ (eqb (length rest) 0 ≡ true) → front ++ params_of places rest ≡ all → front ≡ all
+unfolding params_of
+params_end front all rest zero done so_far = sym (append-nil front) ∙ so_far
+params_end front all [] (suc more) done so_far = sym (append-nil front) ∙ so_far
+params_end front all (b ∷ rest) (suc more) (inl none) so_far = absurd (omega arith)
+params_end front all (b ∷ rest) (suc more) (inr none) so_far = absurd (longer none) where
+  longer : eqb (length (b ∷ rest)) 0 ≡ true → ⊥
+  longer e = grind arith

@@ -1,5 +1,5 @@
 -- A text's message is the one that is computed.
-use Rattle.std.proofs.Common.{◌≡◌, ◌≢◌, ℕ, zero, suc, ◌+◌, ◌-◌, List, [], ◌∷◌, ◌++◌, length, refl, ap, sym, ◌∙◌, arith, eqb, Bool, true, false, cond, Option, Some, None, subst, append-nil, Result, Ok, Err, IfOk, IfErr}
+use Rattle.std.proofs.Common.{◌≡◌, ◌≢◌, ℕ, zero, suc, ◌+◌, ◌-◌, ◌⊎◌, inl, inr, List, [], ◌∷◌, ◌++◌, length, refl, ap, sym, ◌∙◌, arith, eqb, Bool, true, false, cond, Option, Some, None, subst, append-nil, Result, Ok, Err, IfOk, IfErr}
 use Rattle.std.proofs.lemmas.Bool.{false≢true}
 use Rattle.wc_ircmsg.specs.declared.message.Message.{Message}
 use Rattle.wc_ircmsg.specs.declared.message.LineRefused.{LineRefused}
@@ -9,7 +9,8 @@ use Rattle.wc_ircmsg.specs.Words.{blanks, Parts, word_of, rest_of}
 use Rattle.wc_ircmsg.specs.Commands.{is_command, is_filled}
 use Rattle.wc_ircmsg.specs.Sources.{Names, nick_of, user_of, host_of}
 use Rattle.wc_ircmsg.specs.Params.{SpellsParams, params_of}
-use Rattle.wc_ircmsg.specs.Grammar.{Front, Spells, IsBlank, LacksCommand, Refuses}
+use Rattle.wc_ircmsg.specs.Grammar.{Front, Spells, IsBlank, LacksCommand, Refuses, Reads}
+use Rattle.wc_text.specs.Lossy.{lossy_of}
 use Rattle.wc_ircmsg.specs.Answers.{source_of, call_of, message_from, refusal_of, reading_of, untagged_of, behind_marked}
 use Rattle.wc_ircmsg.proofs.WordLemmas.{past-blanks, margin, Parts-same, Parts-made}
 use Rattle.wc_ircmsg.proofs.FrontLemmas.{Front-same, Front-made, length-call_of}
@@ -157,3 +158,27 @@ refusal_filled text (b ∷ behind) call is some called =
     ap (λ t. Refusals.BadCommand (length text - length t)) called ∙ sym (refusal_of-filled text (λ none. cc))
 
 pub ruleset refusals = (refusal_empty, refusal_filled, length-call_of)
+
+-- the clauses of a reading, from what was computed
+pub read_from : (result : Result Message LineRefused) (text line : List ℕ) → text ≡ lossy_of line → IfOk result (λ message. reading_of text ≡ Ok message) → IfOk result (Reads line)
+read_from (Ok message) text line is computed = reading-Spells (lossy_of line) message (ap reading_of (sym is) ∙ computed)
+read_from (Err refused) text line is computed = tt
+
+pub refused_from : (result : Result Message LineRefused) (text line : List ℕ) → text ≡ lossy_of line → IfErr result (λ refused. refused ≢ Refusals.NoMemory → reading_of text ≡ Err refused) → IfErr result (λ refused. refused ≢ Refusals.NoMemory → Refuses (lossy_of line) refused)
+refused_from (Ok message) text line is computed = tt
+refused_from (Err refused) text line is computed = λ other. reading-Refuses (lossy_of line) refused (ap reading_of (sym is) ∙ computed other)
+
+pub only_from : (result : Result Message LineRefused) (text line : List ℕ) → text ≡ lossy_of line → IfOk result (λ message. reading_of text ≡ Ok message) → IfErr result (λ refused. refused ≢ Refusals.NoMemory → reading_of text ≡ Err refused)
+    → (message : Message) → Reads line message → (result ≡ Ok message) ⊎ (result ≡ Err Refusals.NoMemory)
+only_from (Ok read) text line is computed refusal message reads =
+    let spelt : reading_of text ≡ Ok message = ap reading_of is ∙ Spells-reading (lossy_of line) message reads in
+    inl (sym computed ∙ spelt)
+only_from (Err Refusals.NoMemory) text line is computed refusal message reads = inr refl
+only_from (Err Refusals.Empty) text line is computed refusal message reads =
+    let spelt : reading_of text ≡ Ok message = ap reading_of is ∙ Spells-reading (lossy_of line) message reads in
+    let refused : reading_of text ≡ Err Refusals.Empty = refusal (λ e. cc) in
+    absurd (cc)
+only_from (Err (Refusals.BadCommand place)) text line is computed refusal message reads =
+    let spelt : reading_of text ≡ Ok message = ap reading_of is ∙ Spells-reading (lossy_of line) message reads in
+    let refused : reading_of text ≡ Err (Refusals.BadCommand place) = refusal (λ e. cc) in
+    absurd (cc)

@@ -1,11 +1,12 @@
 -- What a text spells is text.
-use Rattle.std.proofs.Common.{◌≡◌, ◌≢◌, ℕ, zero, suc, ◌<◌, ◌⊎◌, inl, inr, List, [], ◌∷◌, ◌++◌, refl, ap, sym, ◌∙◌, arith, Option, Some, None, subst, append-nil}
+use Rattle.std.proofs.Common.{◌≡◌, ◌≢◌, ℕ, zero, suc, ◌<◌, ◌⊎◌, inl, inr, List, [], ◌∷◌, ◌++◌, refl, ap, sym, ◌∙◌, arith, Option, Some, None, subst, append-nil, Result, Ok, Err, IfOk}
 use Rattle.std.proofs.lemmas.Str.{IsUtf8-nil}
 use Rattle.std.specs.Str.{IsUtf8}
 use Rattle.wc_text.specs.Lossy.{lossy_of}
 use Rattle.wc_text.proofs.LossyLemmas.{lossy_of_is_utf8}
 use Rattle.wc_text.proofs.Utf8Lemmas.{utf8_parts}
 use Rattle.wc_ircmsg.specs.declared.message.Message.{Message}
+use Rattle.wc_ircmsg.specs.declared.message.LineRefused.{LineRefused}
 use Rattle.wc_ircmsg.specs.Words.{blanks, Parts, Marked}
 use Rattle.wc_ircmsg.specs.Sources.{marked, or_empty, Names}
 use Rattle.wc_ircmsg.specs.Params.{Unmarked, FirstParam, SpellsParams}
@@ -81,3 +82,7 @@ Spells-text text message spells utf8 =
 -- each text of a message that any bytes spell is UTF-8
 pub Reads-text : (line : List ℕ) (message : Message) → Reads line message → HasUtf8 message
 Reads-text line message reads = Spells-text (lossy_of line) message reads (lossy_of_is_utf8 line)
+
+pub texts_from : (result : Result Message LineRefused) (line : List ℕ) → IfOk result (Reads line) → IfOk result HasUtf8
+texts_from (Ok message) line reads = Reads-text line message reads
+texts_from (Err refused) line reads = tt

@@ -148,3 +148,10 @@ Lacks-behind c d (b ∷ text) lacks = by (eqb b c) (Lacks-behind c d text lacks.
   by : (t : Bool) → Lacks d (or_empty (behind c text)) → Lacks d (or_empty (cond t (Some text) (behind c text)))
   by true more = lacks.1
   by false more = more
+
+pub before-whole : (c : ℕ) (text : List ℕ) → behind c text ≡ None → before c text ≡ text
+before-whole c [] none = refl
+before-whole c (b ∷ text) none = by (eqb b c) none (before-whole c text) where
+  by : (t : Bool) → cond t (Some text) (behind c text) ≡ None → (behind c text ≡ None → before c text ≡ text) → cond t [] (b ∷ before c text) ≡ b ∷ text
+  by true here more = absurd (cc)
+  by false here more = ap (λ t. b ∷ t) (more here)

@@ -1,4 +1,5 @@
-ghost use Rattle.std.specs.Prelude.{◌≡◌, ◌↔◌, IsTrue};
+ghost use Rattle.std.specs.Prelude.{◌≡◌, ◌↔◌, ◌==◌, IsTrue};
+ghost use Rattle.std.specs.List.{list_all, zip};
 ghost use Rattle.wc_ircmsg.specs.CaseMaps.{folded_signs, fold_by, IsSameName};
 
 /// Which characters a server counts as the same: its CASEMAPPING.
@@ -25,11 +26,15 @@ impl CaseMap {
     }
 }
 
+fn are_same(map: CaseMap, a: &[u8], b: &[u8]) -> bool
+    ensures { result ≡ list_all (λ p. fold_by (folded_signs map) p.0 == fold_by (folded_signs map) p.1) (zip a.now b.now) }
+{
+    a.iter().zip(b).all(|(x, y)| map.fold(*x) == map.fold(*y))
+}
+
 /// Whether two nicks or channel names are the same in this mapping. It takes no memory.
 pub fn same_name(map: CaseMap, a: &[u8], b: &[u8]) -> bool
     ensures { IsTrue result ↔ IsSameName map a.now b.now }
 {
-    a.iter()
-        .map(|x| map.fold(*x))
-        .eq(b.iter().map(|y| map.fold(*y)))
+    a.len() == b.len() && are_same(map, a, b)
 }

@@ -15,7 +15,8 @@ fn are_digits(word: &[u8]) -> bool
     word.iter().all(|b| b.is_ascii_digit())
 }
 
-fn is_name(word: &[u8]) -> bool
+/// Whether a word is one letter of ASCII or more.
+pub(crate) fn is_name(word: &[u8]) -> bool
     ensures { result ≡ is_name word.now }
 {
     match word {

@@ -1,9 +1,11 @@
-ghost use Rattle.std.specs.Prelude.{◌≡◌, Ok, Some, None, IfOk, IfSome};
-ghost use Rattle.wc_ircmsg.specs.Tokens.{each_once, SpellsPrefixes};
+ghost use Rattle.std.specs.Prelude.{◌≡◌, ◌==◌, ◌&&◌, nat_eq, length, Some, IfOk, IfSome, option_map};
+ghost use Rattle.std.specs.Str.{chars};
+ghost use Rattle.wc_ircmsg.specs.Tokens.{each_once, parts_of, are_modes, are_chars, SpellsPrefixes};
 ghost use Rattle.wc_ircmsg.specs.declared.prefixes.Prefixes.{Prefixes};
 
+use crate::command::is_name;
 use crate::cuts::split_once;
-use std::alloc::Global;
+use std::alloc::{AllocError, Global};
 use wc_text::{NoMemory, Text};
 
 /// The modes that a member of a channel may have, and the character that shows each, from the highest on. There are
@@ -29,7 +31,9 @@ fn each_once<T: PartialEq>(list: &[T]) -> bool
 }
 
 /// What stands between `(` and the first `)`, and behind that.
-fn cut_token(value: &[u8]) -> Option<(&[u8], &[u8])> {
+fn cut_token(value: &[u8]) -> Option<(&[u8], &[u8])>
+    ensures { option_map (λ parts. (parts.0.now, parts.1.now)) result ≡ parts_of value.now }
+{
     let [b'(', behind @ ..] = value else {
         return None;
     };
@@ -37,24 +41,41 @@ fn cut_token(value: &[u8]) -> Option<(&[u8], &[u8])> {
     Some((modes, chars?))
 }
 
-fn are_modes(modes: &[u8]) -> bool {
-    !modes.is_empty() && modes.iter().all(|b| b.is_ascii_alphabetic()) && each_once(modes)
+fn are_modes(modes: &[u8]) -> bool
+    ensures { result ≡ are_modes modes.now }
+{
+    is_name(modes) && each_once(modes)
+}
+
+fn characters(alloc: Global, text: &str) -> Result<Vec<char>, AllocError>
+    ensures { IfOk result (λ characters. characters.items ≡ chars text.now) }
+{
+    text.chars().collect(alloc)
+}
+
+fn each_char_once(alloc: Global, text: &str, count: usize) -> Result<bool, NoMemory>
+    ensures { IfOk result (λ once. once ≡ ((length (chars text.now) == count) && each_once nat_eq (chars text.now))) }
+{
+    let characters = characters(alloc, text)?;
+    Ok(characters.len() == count && each_once(characters.as_slice()))
 }
 
 /// Whether these are so many characters, each of them once.
-fn are_chars(alloc: Global, chars: &[u8], count: usize) -> Result<bool, NoMemory> {
-    let Ok(text) = std::str::from_utf8(chars) else {
-        return Ok(false);
-    };
-    let chars: Vec<char> = text.chars().collect(alloc)?;
-    Ok(chars.len() == count && each_once(chars.as_slice()))
+#[tactic(auto, using(crate::proofs::TokenLemmas::utf8_tests))]
+fn are_chars(alloc: Global, chars: &[u8], count: usize) -> Result<bool, NoMemory>
+    ensures { IfOk result (λ are. are ≡ are_chars count chars.now) }
+{
+    match std::str::from_utf8(chars) {
+        Ok(text) => each_char_once(alloc, text, count),
+        Err(_) => Ok(false),
+    }
 }
 
 /// The modes and characters of a server's token PREFIX, whose value is `(`, letters, `)` and as many characters, as in
 /// `(ov)@+`. None exactly where the value has another form, has no mode, or has a letter or a character twice.
 pub fn read_prefix_token(alloc: Global, value: &[u8]) -> Result<Option<Prefixes>, NoMemory>
     ensures found { IfOk result (λ read. IfSome read (SpellsPrefixes value.now)) }
-    ensures none { result ≡ Ok None → (prefixes : Prefixes) → ¬ (SpellsPrefixes value.now prefixes) }
+    ensures only { IfOk result (λ read. (prefixes : Prefixes) → SpellsPrefixes value.now prefixes → read ≡ Some prefixes) }
 {
     let Some((modes, chars)) = cut_token(value) else {
         return Ok(None);

@@ -1,4 +1,4 @@
-ghost use Rattle.std.specs.Prelude.{◌≡◌, ◌≢◌, ◌↔◌, ℕ, List, Ok, Err, IfOk, IfErr, length};
+ghost use Rattle.std.specs.Prelude.{◌≡◌, ◌≢◌, ◌↔◌, ◌⊎◌, ℕ, List, Ok, Err, IfOk, IfErr, length};
 ghost use Rattle.wc_text.specs.Lossy.{lossy_of};
 ghost use Rattle.wc_ircmsg.specs.Answers.{source_of, call_of, message_from, refusal_of, reading_of};
 ghost use Rattle.wc_ircmsg.specs.Grammar.{Spells, Refuses, Reads};
@@ -82,8 +82,9 @@ fn read_text(alloc: Global, text: &[u8]) -> Result<Message, LineRefused>
 /// Refused as `Empty` exactly where the line has no word, and as `BadCommand` exactly where no command of letters or
 /// of three digits stands behind tags and prefix.
 pub fn read_line(alloc: Global, line: &[u8]) -> Result<Message, LineRefused>
-    // What is read is spelled so, and a line is refused only where it spells no message.
+    // What is read is spelled so, what is spelled so is read, and a line is refused only for its reason.
     ensures read { IfOk result (Reads line.now) }
+    ensures only { (message : Message) → Reads line.now message → (result ≡ Ok message) ⊎ (result ≡ Err LineRefused.NoMemory) }
     ensures refused { IfErr result (λ refused. refused ≢ LineRefused.NoMemory → Refuses (lossy_of line.now) refused) }
 
     // Which answer it is, if memory is found.
