@@ -1,5 +1,5 @@
 -- What stands between two bytes 01.
-use Rattle.std.proofs.Common.{◌≡◌, ◌≢◌, ℕ, ◌⊎◌, inl, inr, List, [], ◌∷◌, ◌++◌, length, refl, ap, sym, ◌∙◌, arith, eqb, Bool, true, false, Option, Some, None, subst, IfSome}
+use Rattle.std.proofs.Common.{◌≡◌, ◌≢◌, ℕ, ◌⊎◌, inl, inr, List, [], ◌∷◌, ◌++◌, length, refl, ap, sym, ◌∙◌, arith, eqb, true, false, Option, Some, None, subst}
 use Rattle.wc_ircmsg.specs.Cuts.{before, behind, Lacks}
 use Rattle.wc_ircmsg.specs.Sources.{or_empty}
 use Rattle.wc_ircmsg.specs.Ctcp.{IsCtcp}
@@ -25,16 +25,6 @@ quoted_same text behind inner other first last front back quoted =
     let tail : inner ++ last ∷ [] ≡ other ++ 1 ∷ [] = cc in
     let ends = same_ends inner other last 1 tail in
     (head, ends.1, ends.0)
-
--- one byte alone is not quoted
-pub one_byte : (text behind other : List ℕ) (first : ℕ) → text ≡ first ∷ behind → length behind ≡ 0 → text ≢ 1 ∷ (other ++ 1 ∷ [])
-one_byte text [] [] first front none quoted = cc
-one_byte text [] (b ∷ other) first front none quoted = cc
-one_byte text (b ∷ behind) other first front none quoted = absurd (omega arith)
-
-pub no_byte : (text other : List ℕ) → length text ≡ 0 → text ≢ 1 ∷ (other ++ 1 ∷ [])
-no_byte [] other none quoted = cc
-no_byte (b ∷ text) other none quoted = absurd (omega arith)
 
 -- the word and the arguments are those that are computed
 pub IsCtcp-same : (text inner word arguments : List ℕ) → text ≡ 1 ∷ (inner ++ 1 ∷ []) → IsCtcp text word arguments → (before 32 inner ≡ word) × (or_empty (behind 32 inner) ≡ arguments)

@@ -1,8 +1,8 @@
 -- What stands before a command.
-use Rattle.std.proofs.Common.{◌≡◌, ◌≢◌, ℕ, ◌≤◌, List, [], ◌∷◌, ◌++◌, length, drop, refl, ap, sym, ◌∙◌, arith, eqb, Bool, true, false, cond, Option, Some, None, subst}
-use Rattle.std.proofs.lemmas.Bool.Decides.{nat_tests, Decides-eqb}
+use Rattle.std.proofs.Common.{◌≡◌, ◌≢◌, ℕ, ◌≤◌, List, [], ◌∷◌, length, drop, refl, ap, sym, ◌∙◌, arith, eqb, Bool, true, false, cond, Option, Some, None, subst}
+use Rattle.std.proofs.lemmas.Bool.Decides.{Decides-eqb}
 use Rattle.wc_ircmsg.specs.Cuts.{before, onward, past, begins_with, BeginsWithout}
-use Rattle.wc_ircmsg.specs.Words.{blanks, Parts, Marked, word_of, rest_of}
+use Rattle.wc_ircmsg.specs.Words.{Parts, Marked, word_of, rest_of}
 use Rattle.wc_ircmsg.specs.Sources.{or_empty}
 use Rattle.wc_ircmsg.specs.Answers.{behind_marked, marked_word, untagged_of, source_of, call_of}
 use Rattle.wc_ircmsg.specs.Grammar.{Front}

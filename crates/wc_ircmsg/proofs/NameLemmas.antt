@@ -1,6 +1,6 @@
 -- Names that are the same.
-use Rattle.std.proofs.Common.{◌≡◌, ◌≢◌, ℕ, List, [], ◌∷◌, length, map, refl, ap, sym, ◌∙◌, arith, eqb, Bool, true, false, ◌&&◌, IsTrue}
-use Rattle.std.proofs.lemmas.Bool.{false≢true, and_parts, and_from}
+use Rattle.std.proofs.Common.{◌≡◌, ℕ, List, [], ◌∷◌, length, map, refl, sym, ◌∙◌, arith, eqb, Bool, true}
+use Rattle.std.proofs.lemmas.Bool.{and_parts, and_from}
 use Rattle.std.proofs.lemmas.Bool.Decides.{Decides-eqb}
 use Rattle.std.specs.List.{list_all, zip}
 
@@ -26,17 +26,5 @@ folded_alike fold (x ∷ a) (y ∷ b) same =
     let tail : map fold a ≡ map fold b = cc in
     and_from (eqb (fold x) (fold y)) (alike fold a b) ((Decides-eqb (fold x) (fold y)).1 head) (folded_alike fold a b tail)
 
-folded_length : (fold : ℕ → ℕ) (a b : List ℕ) → map fold a ≡ map fold b → length a ≡ length b
-folded_length fold [] [] same = refl
-folded_length fold [] (y ∷ b) same = absurd (cc)
-folded_length fold (x ∷ a) [] same = absurd (cc)
-folded_length fold (x ∷ a) (y ∷ b) same =
-    let tail : map fold a ≡ map fold b = cc in
-    let more = folded_length fold a b tail in
-    omega arith
-
 pub same_long : (fold : ℕ → ℕ) (a b : List ℕ) (result : Bool) → length a ≡ length b → result ≡ alike fold a b → (result ≡ true → map fold a ≡ map fold b) × (map fold a ≡ map fold b → result ≡ true)
 same_long fold a b result same is = (λ yes. alike_folded fold a b same (sym is ∙ yes), λ folded. is ∙ folded_alike fold a b folded)
-
-pub not_same_long : (fold : ℕ → ℕ) (a b : List ℕ) → (length a ≡ length b → ⊥) → (false ≡ true → map fold a ≡ map fold b) × (map fold a ≡ map fold b → false ≡ true)
-not_same_long fold a b other = (λ e. absurd (false≢true e), λ folded. absurd (other (folded_length fold a b folded)))

@@ -1,15 +1,15 @@
 -- A text's message is the one that is computed.
-use Rattle.std.proofs.Common.{◌≡◌, ◌≢◌, ℕ, zero, suc, ◌+◌, ◌-◌, ◌⊎◌, inl, inr, List, [], ◌∷◌, ◌++◌, length, refl, ap, sym, ◌∙◌, arith, eqb, Bool, true, false, cond, Option, Some, None, subst, append-nil, Result, Ok, Err, IfOk, IfErr}
+use Rattle.std.proofs.Common.{◌≡◌, ◌≢◌, ℕ, ◌-◌, ◌⊎◌, inl, inr, List, [], ◌∷◌, ◌++◌, length, refl, ap, sym, ◌∙◌, arith, eqb, Bool, true, false, cond, subst, append-nil, Result, Ok, Err, IfOk, IfErr}
 use Rattle.std.proofs.lemmas.Bool.{false≢true}
 use Rattle.wc_ircmsg.specs.declared.message.Message.{Message}
 use Rattle.wc_ircmsg.specs.declared.message.LineRefused.{LineRefused}
 use Rattle.wc_ircmsg.specs.declared.message.LineRefused.TheVariants as Refusals
 use Rattle.wc_ircmsg.specs.Cuts.{past}
-use Rattle.wc_ircmsg.specs.Words.{blanks, Parts, word_of, rest_of}
+use Rattle.wc_ircmsg.specs.Words.{blanks, word_of, rest_of}
 use Rattle.wc_ircmsg.specs.Commands.{is_command, is_filled}
-use Rattle.wc_ircmsg.specs.Sources.{Names, nick_of, user_of, host_of}
-use Rattle.wc_ircmsg.specs.Params.{SpellsParams, params_of}
-use Rattle.wc_ircmsg.specs.Grammar.{Front, Spells, IsBlank, LacksCommand, Refuses, Reads}
+use Rattle.wc_ircmsg.specs.Sources.{Names}
+use Rattle.wc_ircmsg.specs.Params.{SpellsParams}
+use Rattle.wc_ircmsg.specs.Grammar.{Spells, IsBlank, Refuses, Reads}
 use Rattle.wc_text.specs.Lossy.{lossy_of}
 use Rattle.wc_ircmsg.specs.Answers.{source_of, call_of, message_from, refusal_of, reading_of, untagged_of, behind_marked}
 use Rattle.wc_ircmsg.proofs.WordLemmas.{past-blanks, margin, Parts-same, Parts-made}

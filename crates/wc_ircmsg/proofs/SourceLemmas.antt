@@ -1,8 +1,8 @@
 -- What a prefix names.
-use Rattle.std.proofs.Common.{◌≡◌, ◌≢◌, ℕ, List, [], ◌∷◌, ◌++◌, refl, ap, sym, ◌∙◌, arith, eqb, Bool, true, false, cond, Option, Some, None, append-nil, subst}
+use Rattle.std.proofs.Common.{◌≡◌, ◌≢◌, ℕ, List, [], ◌∷◌, ◌++◌, refl, ap, sym, ◌∙◌, arith, Option, Some, None, append-nil}
 use Rattle.wc_ircmsg.specs.Cuts.{before, behind, Lacks}
 use Rattle.wc_ircmsg.specs.Sources.{marked, or_empty, Names, nick_of, user_of, host_of}
-use Rattle.wc_ircmsg.proofs.WordLemmas.{other_byte, byte_differs, before-at, behind-at, before-none, behind-none, Lacks-before, Lacks-behind, cut_at_mark, Lacks-before-other}
+use Rattle.wc_ircmsg.proofs.WordLemmas.{before-at, behind-at, before-none, behind-none, Lacks-before, Lacks-behind, cut_at_mark, Lacks-before-other}
 
 -- a front without the mark, and a text behind the mark or nothing
 pub cut-marked : (mark : ℕ) (front : List ℕ) (text : Option (List ℕ)) → Lacks mark front → (before mark (front ++ marked mark text) ≡ front) × (behind mark (front ++ marked mark text) ≡ text)

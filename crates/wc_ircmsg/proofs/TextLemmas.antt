@@ -1,5 +1,5 @@
 -- What a text spells is text.
-use Rattle.std.proofs.Common.{◌≡◌, ◌≢◌, ℕ, zero, suc, ◌<◌, ◌⊎◌, inl, inr, List, [], ◌∷◌, ◌++◌, refl, ap, sym, ◌∙◌, arith, Option, Some, None, subst, append-nil, Result, Ok, Err, IfOk}
+use Rattle.std.proofs.Common.{◌≢◌, ℕ, zero, suc, ◌<◌, inl, inr, List, [], ◌∷◌, ◌++◌, sym, arith, Option, Some, None, subst, append-nil, Result, Ok, Err, IfOk}
 use Rattle.std.proofs.lemmas.Str.{IsUtf8-nil}
 use Rattle.std.specs.Str.{IsUtf8}
 use Rattle.wc_text.specs.Lossy.{lossy_of}
@@ -9,7 +9,7 @@ use Rattle.wc_ircmsg.specs.declared.message.Message.{Message}
 use Rattle.wc_ircmsg.specs.declared.message.LineRefused.{LineRefused}
 use Rattle.wc_ircmsg.specs.Words.{blanks, Parts, Marked}
 use Rattle.wc_ircmsg.specs.Sources.{marked, or_empty, Names}
-use Rattle.wc_ircmsg.specs.Params.{Unmarked, FirstParam, SpellsParams}
+use Rattle.wc_ircmsg.specs.Params.{FirstParam, SpellsParams}
 use Rattle.wc_ircmsg.specs.Grammar.{Front, Spells, Reads}
 use Rattle.wc_ircmsg.specs.Utf8.{AllUtf8, HasUtf8}
 

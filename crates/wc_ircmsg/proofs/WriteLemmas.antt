@@ -1,21 +1,17 @@
 -- A line that is written spells the message that it is written of.
-use Rattle.std.proofs.Common.{◌≡◌, ◌≢◌, ℕ, zero, suc, ◌+◌, ◌<◌, ◌≤◌, ◌⊎◌, inl, inr, List, [], ◌∷◌, ◌++◌, length, refl, ap, sym, ◌∙◌, arith, eqb, Bool, true, false, cond, not, ◌&&◌, ◌||◌, Option, Some, None, subst, append-nil}
+use Rattle.std.proofs.Common.{◌≡◌, ◌≢◌, ℕ, zero, suc, ◌≤◌, inl, inr, List, [], ◌∷◌, ◌++◌, length, refl, ap, sym, ◌∙◌, arith, eqb, Bool, true, false, cond, not, None, subst, append-nil}
 use Rattle.std.proofs.lemmas.Bool.{false≢true, and_parts, and_from, or_parts}
-use Rattle.std.proofs.lemmas.Bool.Decides.{nat_tests}
 use Rattle.std.proofs.lemmas.List.Folds.{list_all-append}
 use Rattle.std.proofs.lemmas.Str.{IsUtf8-append, IsUtf8-nil}
 use Rattle.std.specs.List.{list_all, list_any}
 use Rattle.std.specs.Str.{IsUtf8}
-use Rattle.wc_text.specs.Lossy.{lossy_of}
 use Rattle.wc_text.proofs.LossyLemmas.{lossy_of_utf8}
 use Rattle.wc_text.proofs.Utf8Lemmas.{utf8_cons}
 use Rattle.wc_ircmsg.specs.declared.message.Message.{Message}
 use Rattle.wc_ircmsg.specs.Cuts.{Lacks, BeginsWithout}
 use Rattle.wc_ircmsg.specs.Words.{Parts}
-use Rattle.wc_ircmsg.specs.Commands.{is_command}
-use Rattle.wc_ircmsg.specs.Sources.{Names}
 use Rattle.wc_ircmsg.specs.Params.{Unmarked, FirstParam, SpellsParams}
-use Rattle.wc_ircmsg.specs.Grammar.{Front, Spells, Reads}
+use Rattle.wc_ircmsg.specs.Grammar.{Spells, Reads}
 use Rattle.wc_ircmsg.specs.Utf8.{AllUtf8}
 use Rattle.wc_ircmsg.specs.Written.{needs_colon, are_words, ends_lines, is_one_line, IsWritable, last_text, params_text, line_of, without_prefix}
 use Rattle.wc_ircmsg.proofs.WordLemmas.{byte_differs}

@@ -1,5 +1,5 @@
 -- What a line spells, computed.
-use Rattle.std.specs.Prelude.{◌≡◌, ℕ, ◌-◌, List, [], ◌∷◌, if◌then◌else◌, length, drop, Result, Ok, Err, not}
+use Rattle.std.specs.Prelude.{ℕ, ◌-◌, List, [], if◌then◌else◌, length, drop, Result, Ok, Err}
 use Rattle.wc_ircmsg.specs.declared.message.Message.{Message}
 use Rattle.wc_ircmsg.specs.declared.message.LineRefused.{LineRefused}
 use Rattle.wc_ircmsg.specs.declared.message.LineRefused.TheVariants as Refusals

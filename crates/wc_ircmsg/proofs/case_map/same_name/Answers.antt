@@ -1,4 +1,3 @@
-use Rattle.std.proofs.Common.{rules}
 use Rattle.wc_ircmsg.specs.CaseMaps.{fold_by, folded_signs}
 use Rattle.wc_ircmsg.proofs.NameLemmas.{same_long}
 use Rattle.wc_ircmsg.proofs.case_map.same_name.Goals as goal

@@ -1,4 +1,4 @@
-use Rattle.std.proofs.Common.{◌≡◌, ◌∙◌, sym, inl, inr, arith}
+use Rattle.std.proofs.Common.{◌∙◌, sym, inl, inr, arith}
 use Rattle.wc_ircmsg.proofs.ParamLemmas.{params_more, params_end}
 use Rattle.wc_ircmsg.proofs.params.read_params.Goals as goal
 use Rattle.wc_ircmsg.proofs.params.read_params.Goals.{then-loop-places-test+else-not-is_empty, else-loop-places-test}

@@ -1,5 +1,4 @@
-use Rattle.std.proofs.Common.{◌≡◌, List, ℕ, Option, Some, sym, ◌∙◌, rules, false, true}
-use Rattle.wc_ircmsg.specs.Tokens.{parts_of, are_modes, are_chars}
+use Rattle.std.proofs.Common.{sym, ◌∙◌}
 use Rattle.wc_ircmsg.proofs.TokenLemmas.{copies_spell, copies_same, not_parted, not_modes, not_chars}
 use Rattle.wc_ircmsg.proofs.prefixes.read_prefix_token.Goals as goal
 use Rattle.wc_ircmsg.proofs.prefixes.read_prefix_token.Goals.{then-not-are_modes-via-then-not-are_modes, then-not-are_modes-via-else-not-are_modes+in_ok-are_chars+then-not-branch}

@@ -1,6 +1,6 @@
 use Rattle.std.proofs.Common.{◌≡◌, IsTrue, List, ℕ, rules, sym, subst}
 use Rattle.wc_text.specs.Lossy.{lossy_of}
-use Rattle.wc_ircmsg.specs.Grammar.{Spells, Reads}
+use Rattle.wc_ircmsg.specs.Grammar.{Spells}
 use Rattle.wc_ircmsg.specs.Written.{is_one_line, line_of, without_prefix}
 use Rattle.wc_ircmsg.proofs.WriteLemmas.{Spells-written, written_in_line, Reads-written}
 use Rattle.wc_ircmsg.proofs.write.write_line.Goals as goal
