@@ -1,0 +1,12 @@
+pub mod CutLemmas
+pub mod WordLemmas
+pub mod FrontLemmas
+pub mod SourceLemmas
+pub mod ParamLemmas
+pub mod ReadLemmas
+pub mod CommandLemmas
+pub mod WriteLemmas
+pub mod TextLemmas
+pub mod CtcpLemmas
+pub mod NameLemmas
+pub mod TokenLemmas

@@ -1,0 +1,12 @@
+pub mod Cuts
+pub mod Words
+pub mod Commands
+pub mod Sources
+pub mod Params
+pub mod Grammar
+pub mod Answers
+pub mod Written
+pub mod Utf8
+pub mod CaseMaps
+pub mod Ctcp
+pub mod Tokens

@@ -1,0 +1,32 @@
+-- The prefix of a message, which names its source.
+use Rattle.std.specs.Prelude.{◌≡◌, ℕ, List, [], ◌∷◌, ◌++◌, Option, Some, None, unwrap_or}
+use Rattle.wc_ircmsg.specs.Cuts.{before, behind, Lacks}
+
+-- a text behind its mark, or nothing
+abbrev pub marked : ℕ → Option (List ℕ) → List ℕ
+marked mark None = []
+marked mark (Some text) = mark ∷ text
+
+-- a text, or the empty one
+abbrev pub or_empty : Option (List ℕ) → List ℕ
+or_empty text = unwrap_or text []
+
+-- A source is a nick or the name of a server, behind `!` a user or none, and behind `@` a host or none. The nick has
+-- neither mark, and the user has no `@`.
+pub record Names (source nick user host : List ℕ) : Type 0 where
+  pub user_part : Option (List ℕ)
+  pub host_part : Option (List ℕ)
+  pub spelled : source ≡ (nick ++ marked 33 user_part) ++ marked 64 host_part
+  pub nick_unmarked : Lacks 33 nick × Lacks 64 nick
+  pub user_unmarked : Lacks 64 (or_empty user_part)
+  pub user_is : user ≡ or_empty user_part
+  pub host_is : host ≡ or_empty host_part
+
+abbrev pub nick_of : List ℕ → List ℕ
+nick_of source = before 33 (before 64 source)
+
+abbrev pub user_of : List ℕ → List ℕ
+user_of source = or_empty (behind 33 (before 64 source))
+
+abbrev pub host_of : List ℕ → List ℕ
+host_of source = or_empty (behind 64 source)

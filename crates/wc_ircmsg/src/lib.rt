@@ -1,0 +1,22 @@
+//! The lines of the IRC protocol, read and written.
+#![tactic(auto)]
+
+mod case_map;
+mod command;
+mod ctcp;
+mod cuts;
+mod message;
+mod params;
+mod prefixes;
+mod read;
+mod source;
+#[cfg(test)]
+mod tests;
+mod write;
+
+pub use case_map::{CaseMap, same_name};
+pub use ctcp::read_ctcp;
+pub use message::{LineRefused, Message};
+pub use prefixes::{Prefixes, read_prefix_token};
+pub use read::{one_message, read_line};
+pub use write::{is_writable, write_line};
