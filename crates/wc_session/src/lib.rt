@@ -1,13 +1,20 @@
-// A library with one function.
+//! The relay's side of one client: what it is sent, and what is known of it.
 #![tactic(auto)]
 
-ghost use Rattle.std.specs.Prelude.{◌≡◌};
-ghost use Rattle.wc_session.specs.Echo.{echo_of};
+mod client;
+mod handshake;
+mod laws;
+mod login;
+mod names;
+mod objects;
+mod outcome;
+mod sending;
+mod served;
+mod session;
+mod sync_set;
 
-// The `ensures` clause is the contract: what `echo` returns is `echo_of` of its argument, a definition
-// in `specs/Echo.antt`, which a caller's clause can cite too.
-pub fn echo(x: usize) -> usize
-    ensures { result ≡ echo_of x }
-{
-    x
-}
+pub use client::Client;
+pub use laws::lets_in_exactly;
+pub use outcome::Outcome;
+pub use session::Session;
+pub use sync_set::SyncSet;
