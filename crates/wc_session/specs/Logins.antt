@@ -1,6 +1,5 @@
 -- Who is let in, as a test.
-use Rattle.std.specs.Prelude.{ℕ, Bool, true, false, not, ◌&&◌, nat_lt, nat_eq, List, [], ◌∷◌, length, Option, Some, None}
-use Rattle.std.specs.List.{starts_with}
+use Rattle.std.specs.Prelude.{ℕ, Bool, true, false, not, ◌&&◌, nat_lt, List, [], ◌∷◌, ◌++◌, length, take, Option, Some, None}
 use Rattle.std.specs.Str.{bytes_eq}
 use Rattle.sha2.specs.Sha256.{sha256}
 use Rattle.sha2.specs.Sha512.{sha512}
@@ -10,7 +9,6 @@ use Rattle.wc_relaycmd.specs.declared.algorithm.Algorithm.TheVariants.{Plain, Sh
 use Rattle.wc_relaycmd.specs.declared.login.Login.{Login}
 use Rattle.wc_relaycmd.specs.declared.login.HashLogin.{HashLogin}
 use Rattle.wc_relaycmd.specs.Logins.{login_of}
-use Rattle.std.specs.Prelude.{◌++◌}
 
 abbrev pub same_algorithm : Algorithm → Algorithm → Bool
 same_algorithm Plain Plain = true
@@ -25,7 +23,7 @@ is_digest Sha512 message digest = bytes_eq digest (sha512 message)
 
 -- a salt begins with the nonce and has more behind it
 abbrev pub is_salted : List ℕ → List ℕ → Bool
-is_salted salt nonce = starts_with nat_eq salt nonce && nat_lt (length nonce) (length salt)
+is_salted salt nonce = bytes_eq (take (length nonce) salt) nonce && nat_lt (length nonce) (length salt)
 
 abbrev pub hash_proves : HashLogin → List ℕ → List ℕ → Algorithm → Bool
 hash_proves login password nonce chosen =

@@ -18,3 +18,6 @@ pub use laws::lets_in_exactly;
 pub use outcome::Outcome;
 pub use session::Session;
 pub use sync_set::SyncSet;
+
+#[cfg(test)]
+mod tests;

@@ -54,5 +54,6 @@ pub fn reply(
         return Ok(true);
     }
     let null = null_hdata(alloc);
-    send(out, id, null.as_slice())
+    let sent = send(out, id, null.as_slice())?;
+    Ok(sent)
 }
