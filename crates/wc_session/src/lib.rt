@@ -14,7 +14,7 @@ mod session;
 mod sync_set;
 
 pub use client::Client;
-pub use laws::lets_in_exactly;
+pub use laws::{lets_in_exactly, one_reply_each};
 pub use outcome::Outcome;
 pub use session::Session;
 pub use sync_set::SyncSet;

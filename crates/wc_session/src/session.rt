@@ -1,10 +1,11 @@
-ghost use Rattle.std.specs.Prelude.{◌≡◌, ◌≤◌, length, drop, IfOk, OnOk, OnErr};
+ghost use Rattle.std.specs.Prelude.{◌≡◌, ◌≤◌, false, length, drop, IfOk, IsOk, OnOk, OnErr};
 ghost use Rattle.wc_lines.specs.LineText.{HasText};
 ghost use Rattle.wc_relaycmd.specs.Utf8.{HasUtf8};
 ghost use Rattle.wc_session.specs.Known.{new_session};
 ghost use Rattle.wc_session.specs.Reply.{reply_of, line_told};
 ghost use Rattle.wc_session.specs.Sending.{Sends};
 ghost use Rattle.wc_session.specs.Served.{OnServed, OnNoMemory, Answers};
+ghost use Rattle.wc_session.specs.Sync.{follows_core};
 
 use crate::client::Client;
 use crate::objects::CORE_BUFFER;
@@ -84,6 +85,9 @@ impl Session {
         ensures told { OnOk result (Sends self.old.unsent self.new.unsent (line_told self.old.client line.now)) }
         ensures client { self.new.client ≡ self.old.client }
         ensures refused { OnErr result (self.new ≡ self.old) }
+
+        // A client that asked for no events is never dropped for want of memory here.
+        ensures unasked { follows_core self.old.client ≡ false → IsOk result }
     {
         if !self.client.follows_core() {
             return Ok(());

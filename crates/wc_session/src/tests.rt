@@ -56,15 +56,6 @@ fn ask(alloc: Global, bench: &mut Bench, line: &str) -> Result<&'static str, NoM
     }
 }
 
-/// What the last of some lines came to, which line feeds part.
-fn ask_all(alloc: Global, bench: &mut Bench, lines: &str) -> Result<&'static str, NoMemory> {
-    let mut last = "nothing";
-    for line in lines.lines() {
-        last = ask(alloc, bench, line)?;
-    }
-    Ok(last)
-}
-
 /// A line of the core buffer with this handle, and the next one for its content.
 fn line(alloc: Global, number: u32, message: &str) -> Result<Line, NoMemory>
     ensures { IfOk result HasText }
@@ -83,54 +74,55 @@ fn line(alloc: Global, number: u32, message: &str) -> Result<Line, NoMemory>
     })
 }
 
-/// Lines of a client whose password is `x`, and what the last one comes to.
+/// Lines of a client whose password is `x`, a last line, and what that one comes to.
 const OUTCOMES: &str = "\
-ping a => login failed
-test => login failed
-sync => login failed
-input core.weechat /print  a => login failed
-quit => quit
-bogus => no request
-(_x) ping a => no request
-init password=y => login failed
-init => no request
-init totp=1 => login failed
-init password=x => silent
-init password=x|init password=y => silent
-init password=x|quit => quit
-init password=x|ping a => replied
-init password=x|info version => replied
-init password=x|infolist buffer => replied
-init password=x|nicklist => replied
-init password=x|completion core.weechat 0 a => replied
-init password=x|desync => silent
-init password=x|input core.weechat /print  a => input
-init password=x|input 0x1 /print  a => input
-init password=x|input 0x0001 /print  a => input
-init password=x|input 0x10000000000000001 /print  a => silent
-init password=x|input 0x /print  a => silent
-init password=x|input 0x+1 /print  a => silent
-init password=x|input 0X1 /print  a => silent
-init password=x|input core.other /print  a => silent
-handshake|init password=x => silent
-handshake password_hash_algo=sha256|init password=x => login failed
-handshake password_hash_algo=sha256|handshake|init password=x => silent
-handshake password_hash_algo=pbkdf2+sha256 => login failed
-init password=x|handshake password_hash_algo=pbkdf2+sha256 => replied
-init password_hash=sha256:00:00 => login failed
-handshake password_hash_algo=sha256|init password_hash=sha256:0 => login failed
+- / ping a => login failed
+- / test => login failed
+- / sync => login failed
+- / input core.weechat /print  a => login failed
+- / quit => quit
+- / bogus => no request
+- / (_x) ping a => no request
+- / init password=y => login failed
+- / init => no request
+- / init totp=1 => login failed
+- / init password=x => silent
+init password=x / init password=y => silent
+init password=x / quit => quit
+init password=x / ping a => replied
+init password=x / info version => replied
+init password=x / infolist buffer => replied
+init password=x / nicklist => replied
+init password=x / completion core.weechat 0 a => replied
+init password=x / desync => silent
+init password=x / input core.weechat /print  a => input
+init password=x / input 0x1 /print  a => input
+init password=x / input 0x0001 /print  a => input
+init password=x / input 0x10000000000000001 /print  a => silent
+init password=x / input 0x /print  a => silent
+init password=x / input 0x+1 /print  a => silent
+init password=x / input 0X1 /print  a => silent
+init password=x / input core.other /print  a => silent
+handshake / init password=x => silent
+handshake password_hash_algo=sha256 / init password=x => login failed
+handshake password_hash_algo=sha256|handshake / init password=x => silent
+- / handshake password_hash_algo=pbkdf2+sha256 => login failed
+init password=x / handshake password_hash_algo=pbkdf2+sha256 => replied
+- / init password_hash=sha256:00:00 => login failed
+handshake password_hash_algo=sha256 / init password_hash=sha256:0 => login failed
 ";
 
 #[test]
 fn requests_come_to_their_outcomes(rt: HostRuntime) -> Result<(), Fail> {
     for row in OUTCOMES.lines() {
         let (script, expected) = row.split_once(" => ").ok_or("a row has an outcome")?;
+        let (before, last) = script.split_once(" / ").ok_or("a row has a last line")?;
         let mut bench = new_bench(rt.alloc(), "x")?;
-        let mut last = "nothing";
-        for line in script.split('|') {
-            last = ask(rt.alloc(), &mut bench, line)?;
+        for line in before.split('|') {
+            let _outcome = ask(rt.alloc(), &mut bench, line)?;
         }
-        assert!(rt; last == expected, "{row}: {last}");
+        let outcome = ask(rt.alloc(), &mut bench, last)?;
+        assert!(rt; outcome == expected, "{row}: {outcome}");
     }
     Ok(())
 }
@@ -200,12 +192,9 @@ fn replies_are_as_documented(rt: HostRuntime) -> Result<(), Fail> {
 #[test]
 fn replies_stand_behind_one_another(rt: HostRuntime) -> Result<(), Fail> {
     let mut bench = new_bench(rt.alloc(), "x")?;
-    let last = ask_all(
-        rt.alloc(),
-        &mut bench,
-        "init password=x\nping a\nping\nping b",
-    )?;
-    assert_eq!(rt; last, "replied");
+    for line in ["init password=x", "ping a", "ping", "ping b"] {
+        let _outcome = ask(rt.alloc(), &mut bench, line)?;
+    }
     bench.session.gone(22);
     assert_eq!(rt;
         bench.session.unsent(),
@@ -252,12 +241,11 @@ fn no_common_algorithm_is_answered_before_the_client_leaves(rt: HostRuntime) -> 
 #[test]
 fn a_handshake_after_login_changes_nothing(rt: HostRuntime) -> Result<(), Fail> {
     let mut bench = new_bench(rt.alloc(), "x")?;
-    let last = ask_all(
-        rt.alloc(),
-        &mut bench,
-        "handshake escape_commands=on\ninit password=x",
-    )?;
-    assert_eq!(rt; last, "silent");
+    assert_eq!(rt;
+        ask(rt.alloc(), &mut bench, "handshake escape_commands=on")?,
+        "replied"
+    );
+    assert_eq!(rt; ask(rt.alloc(), &mut bench, "init password=x")?, "silent");
     assert!(rt; bench.session.escaped());
     assert_eq!(rt;
         ask(rt.alloc(), &mut bench, "handshake escape_commands=off")?,
@@ -309,10 +297,8 @@ fn clients_are_told_what_they_asked_for(rt: HostRuntime) -> Result<(), Fail> {
 #[test]
 fn a_new_line_is_told_in_219_bytes(rt: HostRuntime) -> Result<(), Fail> {
     let mut bench = new_bench(rt.alloc(), "x")?;
-    assert_eq!(rt;
-        ask_all(rt.alloc(), &mut bench, "init password=x\nsync")?,
-        "silent"
-    );
+    assert_eq!(rt; ask(rt.alloc(), &mut bench, "init password=x")?, "silent");
+    assert_eq!(rt; ask(rt.alloc(), &mut bench, "sync")?, "silent");
     let line = line(rt.alloc(), 5, "hello")?;
     bench.session.line_added(rt.alloc(), &line)?;
     assert_eq!(rt;

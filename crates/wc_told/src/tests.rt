@@ -51,8 +51,8 @@ fn dump_has_the_held_lines_from_the_oldest(rt: HostRuntime) -> Result<(), Fail> 
     let mut out = BytesMut::new(rt.alloc());
     append_message(&mut out, b"", objects.as_slice())?;
     assert_eq!(rt;
-        &out.as_slice()[9..],
-        b"hda\0\0\0\x1bbuffer/lines/line/line_data\0\0\0\x77buffer:ptr,date:tim,date_printed:tim,displayed:chr,notify_level:chr,highlight:chr,tags_array:arr,prefix:str,message:str\0\0\0\x02\x011\x012\x017\x018\x011\x0a1700000000\x0a1700000000\x01\0\0str\0\0\0\0\0\0\0\0\0\0\0\x03two\x011\x012\x019\x01a\x011\x0a1700000000\x0a1700000000\x01\0\0str\0\0\0\0\0\0\0\0\0\0\0\x05three".as_slice()
+        out.as_slice(),
+        b"\0\0\x01\x16\0\0\0\0\0hda\0\0\0\x1bbuffer/lines/line/line_data\0\0\0\x77buffer:ptr,date:tim,date_printed:tim,displayed:chr,notify_level:chr,highlight:chr,tags_array:arr,prefix:str,message:str\0\0\0\x02\x011\x012\x017\x018\x011\x0a1700000000\x0a1700000000\x01\0\0str\0\0\0\0\0\0\0\0\0\0\0\x03two\x011\x012\x019\x01a\x011\x0a1700000000\x0a1700000000\x01\0\0str\0\0\0\0\0\0\0\0\0\0\0\x05three".as_slice()
     );
     Ok(())
 }

@@ -1,6 +1,6 @@
-use Rattle.std.proofs.Common.{◌≡◌, true, false, sym, ◌∙◌, arith}
-use Rattle.wc_session.specs.Sending.{message, fits, fitting, null_hdata, reply, Sends}
-use Rattle.wc_session.proofs.SendingLemmas.{reply_first, reply_second, owed_first, owed_second, unsent_same, sends_as, sends_from}
+use Rattle.std.proofs.Common.{◌≡◌, sym, ◌∙◌, arith}
+use Rattle.wc_session.specs.Sending.{message, fits, fitting, null_hdata, Sends}
+use Rattle.wc_session.proofs.SendingLemmas.{reply_first, reply_second, owed_second, unsent_same, sends_as, sends_from}
 use Rattle.wc_session.proofs.sending.reply.Goals as goal
 
 pub returns-then-branch-clause-ok : goal.returns-then-branch-clause-ok

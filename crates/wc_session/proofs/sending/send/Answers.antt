@@ -1,4 +1,4 @@
-use Rattle.std.proofs.Common.{◌≡◌, ◌++◌, ◌<◌, ◌^◌, ◌-◌, length, arith}
+use Rattle.std.proofs.Common.{◌<◌, ◌^◌, ◌-◌, length, arith}
 use Rattle.wc_objects.specs.Spelling.{message_bytes}
 use Rattle.wc_session.proofs.SendingLemmas.{sends_one, sends_too_long}
 use Rattle.wc_session.proofs.sending.send.Goals as goal

@@ -1,7 +1,3 @@
-use Rattle.std.proofs.Common.{◌≡◌, true, [], ◌∷◌, sym, ap, ◌∙◌, subst, List}
-use Rattle.wc_objects.specs.Forms.{well_formed}
-use Rattle.wc_objects.specs.declared.object.Object.{Object}
-use Rattle.wc_told.specs.LineObjects.{added_objects}
 use Rattle.wc_told.proofs.Formed.{added_formed}
 use Rattle.wc_told.proofs.line_objects.line_added.Goals as goal
 
