@@ -122,7 +122,7 @@ fn requests_come_to_their_outcomes(rt: HostRuntime) -> Result<(), Fail> {
             let _outcome = ask(rt.alloc(), &mut bench, line)?;
         }
         let outcome = ask(rt.alloc(), &mut bench, last)?;
-        assert!(rt; outcome == expected, "{row}: {outcome}");
+        assert!(rt; outcome == expected, "{row}");
     }
     Ok(())
 }
@@ -195,7 +195,8 @@ fn replies_stand_behind_one_another(rt: HostRuntime) -> Result<(), Fail> {
     for line in ["init password=x", "ping a", "ping", "ping b"] {
         let _outcome = ask(rt.alloc(), &mut bench, line)?;
     }
-    bench.session.gone(22);
+    let first = bench.session.unsent().len().min(22);
+    bench.session.gone(first);
     assert_eq!(rt;
         bench.session.unsent(),
         b"\0\0\0\x15\0\0\0\0\x05_pongstr\0\0\0\0\0\0\0\x16\0\0\0\0\x05_pongstr\0\0\0\x01b".as_slice()
