@@ -1,0 +1,6 @@
+pub mod Formed
+pub mod LoginLaws
+pub mod NameLemmas
+pub mod OneReplyLaws
+pub mod SendingLemmas
+pub mod ServedLemmas

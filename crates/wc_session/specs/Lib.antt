@@ -1,0 +1,9 @@
+pub mod Handshakes
+pub mod Known
+pub mod Logins
+pub mod Names
+pub mod OneReply
+pub mod Reply
+pub mod Sending
+pub mod Served
+pub mod Sync
