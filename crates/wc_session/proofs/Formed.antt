@@ -1,0 +1,188 @@
+-- What is replied keeps the rules of messages.
+use Rattle.std.proofs.Common.{◌≡◌, ℕ, ℤ, ◌<◌, true, false, Bool, ◌&&◌, nat_lt, arith, List, [], ◌∷◌, ◌++◌, codes, Option, Some, None, refl, sym, ap, ◌∙◌}
+use Rattle.std.specs.List.{list_all}
+use Rattle.std.specs.Str.{IsUtf8, IsAscii, is_utf8, chars}
+use Rattle.std.proofs.lemmas.Str.{is_utf8-from_IsUtf8, IsUtf8-from_ascii}
+use Rattle.std.proofs.lemmas.Str.Ascii.{IsAscii-nil, IsAscii-cons}
+use Rattle.std.proofs.lemmas.Bool.Decides.{nat_tests}
+use Rattle.hex.specs.Hex.{encode_upper, upper_digits}
+use Rattle.hex.proofs.HexLemmas.{IsAscii-encode_with}
+use lib.Utf8.{encode}
+use denote.Hole.Carrier.{out}
+use Rattle.wc_objects.specs.declared.kind.Kind.{Kind}
+use Rattle.wc_objects.specs.declared.kind.Kind.TheVariants as k
+use Rattle.wc_objects.specs.declared.object.Object.{Object}
+use Rattle.wc_objects.specs.declared.object.Object.TheVariants as o
+use Rattle.wc_objects.specs.declared.object.Object.TheViews.{out-Object, out-roll-Object, out-roll-Hda}
+use Rattle.wc_objects.specs.declared.object.Hda.{Hda, roll-Hda}
+use Rattle.wc_objects.specs.Forms.{simple_is, value_is, hda_is, object_is, well_formed}
+use Rattle.wc_relaycmd.specs.declared.algorithm.Algorithm.{Algorithm}
+use Rattle.wc_relaycmd.specs.declared.algorithm.Algorithm.TheVariants.{Plain, Sha256, Sha512}
+use Rattle.wc_session.specs.Sending.{null_hdata}
+use Rattle.wc_session.specs.Handshakes.{name_of_choice, switch, entry, handshake_table, handshake_objects}
+use Rattle.wc_session.specs.Reply.{test_texts, test_numbers, test_objects, info_objects, infolist_objects, pong_objects}
+
+null_hda : hda_is (roll-Hda (record { path = None; keys = None; items = [] })) ≡ true
+unfolding hda_is
+null_hda = rw out-roll-Hda refl
+
+pub null_formed : well_formed null_hdata ≡ true
+unfolding well_formed object_is
+null_formed = rw (← o.rolls-Hda (roll-Hda (record { path = None; keys = None; items = [] })), out-roll-Object, null_hda) refl
+
+pub info_formed : (name : List ℕ) → IsUtf8 name → well_formed (info_objects name) ≡ true
+unfolding well_formed object_is out-Object out
+info_formed name h = rw (is_utf8-from_IsUtf8 name h) refl
+
+pub infolist_formed : (name : List ℕ) → IsUtf8 name → well_formed (infolist_objects name) ≡ true
+unfolding well_formed object_is
+infolist_formed name h = rw (← o.rolls-Inl name [], out-roll-Object, is_utf8-from_IsUtf8 name h) refl
+
+pub pong_formed : (text : List ℕ) → IsUtf8 text → well_formed (pong_objects text) ≡ true
+unfolding well_formed object_is value_is simple_is out-Object out
+pong_formed text h = rw (is_utf8-from_IsUtf8 text h) refl
+
+-- ---- the reply to `test`
+
+chr_formed : (n : ℤ) → object_is (o.Chr n) ≡ true
+unfolding object_is simple_is out-Object out
+chr_formed n = refl
+
+int_formed : (n : ℤ) → object_is (o.Int n) ≡ true
+unfolding object_is simple_is out-Object out
+int_formed n = refl
+
+lon_formed : (n : ℤ) → object_is (o.Lon n) ≡ true
+unfolding object_is simple_is out-Object out
+lon_formed n = refl
+
+ptr_formed : (n : ℕ) → object_is (o.Ptr n) ≡ true
+unfolding object_is simple_is out-Object out
+ptr_formed n = refl
+
+tim_formed : (n : ℤ) → object_is (o.Tim n) ≡ true
+unfolding object_is simple_is out-Object out
+tim_formed n = refl
+
+str_formed : object_is (o.Str (Some (codes "a string"))) ≡ true
+unfolding object_is simple_is is_utf8 chars encode out-Object out
+str_formed = refl
+
+empty_formed : object_is (o.Str (Some [])) ≡ true
+unfolding object_is simple_is is_utf8 chars encode out-Object out
+empty_formed = refl
+
+null_str_formed : object_is (o.Str None) ≡ true
+unfolding object_is simple_is out-Object out
+null_str_formed = refl
+
+buf_formed : object_is (o.Buf (Some (codes "buffer"))) ≡ true
+unfolding object_is simple_is is_utf8 chars encode out-Object out
+buf_formed = refl
+
+null_buf_formed : object_is (o.Buf None) ≡ true
+unfolding object_is simple_is out-Object out
+null_buf_formed = refl
+
+texts_simple : list_all (λ value. simple_is k.Str value) test_texts ≡ true
+unfolding simple_is is_utf8 chars encode out-Object out
+texts_simple = refl
+
+texts_formed : object_is (o.Arr k.Str test_texts) ≡ true
+unfolding object_is
+texts_formed = rw (← o.rolls-Arr k.Str test_texts, out-roll-Object) texts_simple
+
+numbers_simple : list_all (λ value. simple_is k.Int value) test_numbers ≡ true
+unfolding simple_is out-Object out
+numbers_simple = refl
+
+numbers_formed : object_is (o.Arr k.Int test_numbers) ≡ true
+unfolding object_is
+numbers_formed = rw (← o.rolls-Arr k.Int test_numbers, out-roll-Object) numbers_simple
+
+pub test_formed : well_formed test_objects ≡ true
+unfolding well_formed test_objects
+test_formed =
+    rw (chr_formed, int_formed, int_formed, lon_formed, lon_formed, str_formed, empty_formed, null_str_formed, buf_formed, null_buf_formed, ptr_formed, ptr_formed, tim_formed, texts_formed, numbers_formed) refl
+
+-- ---- the reply to a handshake
+
+text_simple : (text : List ℕ) → is_utf8 text ≡ true → simple_is k.Str (o.Str (Some text)) ≡ true
+unfolding simple_is out-Object out
+text_simple text h = h
+
+algo_text : is_utf8 (codes "password_hash_algo") ≡ true
+unfolding is_utf8 chars encode
+algo_text = refl
+
+iterations_text : is_utf8 (codes "password_hash_iterations") ≡ true
+unfolding is_utf8 chars encode
+iterations_text = refl
+
+count_text : is_utf8 (codes "100000") ≡ true
+unfolding is_utf8 chars encode
+count_text = refl
+
+totp_text : is_utf8 (codes "totp") ≡ true
+unfolding is_utf8 chars encode
+totp_text = refl
+
+off_text : is_utf8 (codes "off") ≡ true
+unfolding is_utf8 chars encode
+off_text = refl
+
+nonce_text : is_utf8 (codes "nonce") ≡ true
+unfolding is_utf8 chars encode
+nonce_text = refl
+
+compression_text : is_utf8 (codes "compression") ≡ true
+unfolding is_utf8 chars encode
+compression_text = refl
+
+escape_text : is_utf8 (codes "escape_commands") ≡ true
+unfolding is_utf8 chars encode
+escape_text = refl
+
+switch_text : (on : Bool) → is_utf8 (switch on) ≡ true
+unfolding is_utf8 chars encode
+switch_text true = refl
+switch_text false = refl
+
+choice_text : (choice : Option Algorithm) → is_utf8 (name_of_choice choice) ≡ true
+unfolding is_utf8 chars encode
+choice_text None = refl
+choice_text (Some Plain) = refl
+choice_text (Some Sha256) = refl
+choice_text (Some Sha512) = refl
+
+ascii_from : (text : List ℕ) → list_all (λ b. nat_lt b 128) text ≡ true → IsAscii text
+ascii_from [] h = IsAscii-nil
+ascii_from (b ∷ text) h =
+    IsAscii-cons b text (grind (arith, nat_tests)) (ascii_from text (grind (arith, nat_tests)))
+
+digits_text : (nonce : List ℕ) → is_utf8 (encode_upper nonce) ≡ true
+digits_text nonce =
+    is_utf8-from_IsUtf8 (encode_upper nonce) (IsUtf8-from_ascii (encode_upper nonce) (IsAscii-encode_with upper_digits nonce (ascii_from upper_digits refl)))
+
+table_simple : (nonce : List ℕ) (choice : Option Algorithm) (escapes : Bool)
+    → list_all (λ p. simple_is k.Str p.0 && simple_is k.Str p.1) (handshake_table nonce choice escapes) ≡ true
+unfolding handshake_table
+table_simple nonce choice escapes =
+    rw (
+      text_simple _ algo_text,
+      text_simple _ (choice_text choice),
+      text_simple _ iterations_text,
+      text_simple _ count_text,
+      text_simple _ totp_text,
+      text_simple _ off_text,
+      text_simple _ nonce_text,
+      text_simple _ (digits_text nonce),
+      text_simple _ compression_text,
+      text_simple _ escape_text,
+      text_simple _ (switch_text escapes),
+    ) refl
+
+pub handshake_formed : (nonce : List ℕ) (choice : Option Algorithm) (escapes : Bool) → well_formed (handshake_objects nonce choice escapes) ≡ true
+unfolding well_formed object_is value_is
+handshake_formed nonce choice escapes =
+    rw (← o.rolls-Htb k.Str k.Str (handshake_table nonce choice escapes), out-roll-Object, table_simple nonce choice escapes) refl

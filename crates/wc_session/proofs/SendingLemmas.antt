@@ -1,0 +1,93 @@
+-- Messages behind the unsent bytes.
+use Rattle.std.proofs.Common.{◌≡◌, ℕ, ◌-◌, ◌^◌, ◌<◌, ◌≤◌, Bool, true, false, List, [], ◌∷◌, ◌++◌, length, refl, sym, ap, subst, ◌∙◌, append-nil, arith}
+use Rattle.std.specs.Str.{IsUtf8}
+use Rattle.std.proofs.lemmas.Bool.Decides.{nat_tests}
+use Rattle.wc_objects.specs.declared.object.Object.{Object}
+use Rattle.wc_objects.specs.declared.object.WireMessage.{WireMessage}
+use Rattle.wc_objects.specs.Forms.{well_formed}
+use Rattle.wc_objects.specs.Spelling.{message_bytes}
+use Rattle.wc_lines.specs.declared.line.Line.{Line}
+use Rattle.wc_told.specs.LineObjects.{line_added}
+use Rattle.wc_session.specs.declared.client.Client.{Client}
+use Rattle.wc_session.specs.Reply.{line_told, core_buffer}
+use Rattle.wc_session.specs.Sync.{follows_core}
+use Rattle.wc_session.specs.Sending.{message, spelling, fits, fitting, reply, null_hdata, is_owed, Sends}
+
+fitting_one : (m : WireMessage) → fits m ≡ true → fitting m ≡ m ∷ []
+unfolding fitting
+fitting_one m e = rw e refl
+
+fitting_none : (m : WireMessage) → fits m ≡ false → fitting m ≡ []
+unfolding fitting
+fitting_none m e = rw e refl
+
+pub fits_within : (m : WireMessage) → length (spelling m) ≤ 2 ^ 31 - 1 → fits m ≡ true
+fits_within m h = grind (arith, nat_tests)
+
+pub fits_not : (m : WireMessage) → 2 ^ 31 - 1 < length (spelling m) → fits m ≡ false
+fits_not m h = grind (arith, nat_tests)
+
+pub sends_none : (bytes : List ℕ) → Sends bytes bytes []
+sends_none bytes = record { bytes = sym (append-nil bytes); spelt = tt }
+
+-- a message that was put behind the bytes
+pub sends_one : (old new id : List ℕ) (objects : List Object) → new ≡ old ++ message_bytes id objects → length (message_bytes id objects) ≤ 2 ^ 31 - 1
+    → IsUtf8 id → well_formed objects ≡ true → Sends old new (fitting (message id objects))
+sends_one old new id objects e within text formed =
+    let P : List WireMessage → Type 0 = λ messages. Sends old new messages in
+    subst P (sym (fitting_one (message id objects) (fits_within (message id objects) within))) (record {
+      bytes = e ∙ ap (λ (t : List ℕ). old ++ t) (sym (append-nil (message_bytes id objects)));
+      spelt = (record { id = text; formed = formed; spelling = refl; fits = within }, tt);
+    })
+
+-- one that does not fit was not put there
+pub sends_too_long : (old new id : List ℕ) (objects : List Object) → new ≡ old → 2 ^ 31 - 1 < length (message_bytes id objects)
+    → Sends old new (fitting (message id objects))
+sends_too_long old new id objects e long =
+    let P : List WireMessage → Type 0 = λ messages. Sends old new messages in
+    subst P (sym (fitting_none (message id objects) (fits_not (message id objects) long)))
+    (record { bytes = e ∙ sym (append-nil old); spelt = tt })
+
+-- ---- a reply
+
+pub reply_first : (id : List ℕ) (objects : List Object) → fits (message id objects) ≡ true → fitting (message id objects) ≡ reply id objects
+unfolding reply
+reply_first id objects e = fitting_one (message id objects) e ∙ rw e refl
+
+pub reply_second : (id : List ℕ) (objects : List Object) → fits (message id objects) ≡ false → fitting (message id null_hdata) ≡ reply id objects
+unfolding reply
+reply_second id objects e = rw e refl
+
+pub owed_first : (id : List ℕ) (objects : List Object) → fits (message id objects) ≡ true → true ≡ is_owed (reply id objects)
+owed_first id objects e = ap is_owed (sym (fitting_one (message id objects) e)) ∙ ap is_owed (reply_first id objects e)
+
+owed_fitting : (m : WireMessage) (sent : Bool) → fits m ≡ sent → sent ≡ is_owed (fitting m)
+owed_fitting m true e = ap is_owed (sym (fitting_one m e))
+owed_fitting m false e = ap is_owed (sym (fitting_none m e))
+
+pub owed_second : (id : List ℕ) (objects : List Object) (sent : Bool) → fits (message id objects) ≡ false → sent ≡ fits (message id null_hdata)
+    → sent ≡ is_owed (reply id objects)
+owed_second id objects sent e is = owed_fitting (message id null_hdata) sent (sym is) ∙ ap is_owed (reply_second id objects e)
+
+-- a message that does not fit left the bytes as they were
+pub unsent_same : (old new : List ℕ) (m : WireMessage) → fits m ≡ false → Sends old new (fitting m) → new ≡ old
+unsent_same old new m e sends =
+    let P : List WireMessage → Type 0 = λ messages. Sends old new messages in
+    let none : Sends old new [] = subst P (fitting_none m e) sends in
+    none.bytes ∙ append-nil old
+
+pub sends_as : (old new : List ℕ) (a b : List WireMessage) → a ≡ b → Sends old new a → Sends old new b
+sends_as old new a b e sends = let P : List WireMessage → Type 0 = λ messages. Sends old new messages in subst P e sends
+
+pub sends_from : (old mid new : List ℕ) (messages : List WireMessage) → mid ≡ old → Sends mid new messages → Sends old new messages
+sends_from old mid new messages e sends = let P : List ℕ → Type 0 = λ bytes. Sends bytes new messages in subst P e sends
+
+-- ---- the event of a new line
+
+pub told_none : (client : Client) (line : Line) → follows_core client ≡ false → [] ≡ line_told client line
+unfolding line_told
+told_none client line e = rw e refl
+
+pub told_one : (client : Client) (line : Line) → follows_core client ≡ true → fitting (line_added core_buffer line) ≡ line_told client line
+unfolding line_told
+told_one client line e = rw e refl

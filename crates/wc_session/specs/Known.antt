@@ -1,0 +1,18 @@
+-- What contracts see of a session.
+use Rattle.std.specs.Prelude.{ℕ, List, [], Some, false}
+use Rattle.wc_text.specs.declared.names.LinkId.{LinkId}
+use Rattle.wc_relaycmd.specs.declared.algorithm.Algorithm.TheVariants.{Plain}
+use Rattle.wc_session.specs.declared.client.Client.{Client}
+use Rattle.wc_session.specs.Sync.{no_options}
+
+-- what is known of the client, and the bytes that are still to be sent to it
+pub record Known : Type 0 where
+  pub client : Client
+  pub unsent : List ℕ
+
+-- A client that has said nothing: without a handshake `plain` is chosen.
+abbrev pub new_client : LinkId → List ℕ → Client
+new_client link nonce = record { link = link; nonce = nonce; chosen = Some Plain; escaped = false; logged_in = false; everywhere = no_options; on_core = no_options }
+
+abbrev pub new_session : LinkId → List ℕ → Known
+new_session link nonce = record { client = new_client link nonce; unsent = [] }

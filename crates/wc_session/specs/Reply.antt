@@ -1,0 +1,146 @@
+-- What each request gets.
+use Rattle.std.specs.Prelude.{ℕ, ℤ, pos, negsuc, Bool, true, false, not, ◌&&◌, ◌||◌, List, [], ◌∷◌, Option, Some, None, is_none, codes, if◌then◌else◌}
+use Rattle.std.specs.Str.{bytes_eq}
+use Rattle.wc_text.specs.declared.names.Handle.{Handle}
+use Rattle.wc_text.specs.declared.names.Pair.{Pair}
+use Rattle.wc_text.specs.declared.names.Cause.{Cause}
+use Rattle.wc_text.specs.declared.names.Cause.TheVariants as cause
+use Rattle.wc_lines.specs.declared.line.Line.{Line}
+use Rattle.wc_relaycmd.specs.declared.request.Command.{Command}
+use Rattle.wc_relaycmd.specs.declared.request.Command.TheVariants as ask
+use Rattle.wc_relaycmd.specs.declared.request.Request.{Request}
+use Rattle.wc_objects.specs.declared.kind.Kind.TheVariants as k
+use Rattle.wc_objects.specs.declared.object.Object.{Object}
+use Rattle.wc_objects.specs.declared.object.Object.TheVariants as o
+use Rattle.wc_objects.specs.declared.object.WireMessage.{WireMessage}
+use Rattle.wc_told.specs.LineObjects.{line_dump, line_added}
+use Rattle.wc_session.specs.declared.client.Client.{Client}
+use Rattle.wc_session.specs.declared.outcome.Outcome.{Outcome}
+use Rattle.wc_session.specs.declared.outcome.Outcome.TheVariants as outcome
+use Rattle.wc_session.specs.Sending.{reply, fitting, null_hdata}
+use Rattle.wc_session.specs.Handshakes.{choice_in, asks_escapes, handshake_objects}
+use Rattle.wc_session.specs.Logins.{pairs_let_in}
+use Rattle.wc_session.specs.Names.{names_core}
+use Rattle.wc_session.specs.Sync.{synchronized, desynchronized, follows_core}
+
+-- what a request gets: the messages that are sent, in order, what is answered to who asked, and what is known of
+-- the client from then on
+pub record Answer : Type 0 where
+  pub messages : List WireMessage
+  pub outcome : Outcome
+  pub client : Client
+
+abbrev pub silent : Client → Answer
+silent client = record { messages = []; outcome = outcome.Silent; client = client }
+
+abbrev pub leaves : Client → Cause → Answer
+leaves client why = record { messages = []; outcome = outcome.Leave why; client = client }
+
+-- a reply
+abbrev pub replies : Client → List WireMessage → Answer
+replies client [] = silent client
+replies client (m ∷ messages) = record { messages = m ∷ messages; outcome = outcome.Replied; client = client }
+
+-- ---- the objects of replies
+
+abbrev pub test_texts : List Object
+test_texts = o.Str (Some (codes "abc")) ∷ o.Str (Some (codes "de")) ∷ []
+
+abbrev pub test_numbers : List Object
+test_numbers = o.Int (pos 123) ∷ o.Int (pos 456) ∷ o.Int (pos 789) ∷ []
+
+-- the reply to `test`
+unfoldable pub test_objects : List Object
+test_objects =
+    o.Chr (pos 65) ∷ o.Int (pos 123456) ∷ o.Int (negsuc 123455) ∷ o.Lon (pos 1234567890) ∷ o.Lon (negsuc 1234567889) ∷
+    o.Str (Some (codes "a string")) ∷ o.Str (Some []) ∷ o.Str None ∷ o.Buf (Some (codes "buffer")) ∷ o.Buf None ∷
+    o.Ptr 305441741 ∷ o.Ptr 0 ∷ o.Tim (pos 1321993456) ∷ o.Arr k.Str test_texts ∷ o.Arr k.Int test_numbers ∷ []
+
+-- the core buffer, and its own lines
+abbrev pub core_buffer : Handle
+core_buffer = record { 0 = 1 }
+
+abbrev pub core_lines : Handle
+core_lines = record { 0 = 2 }
+
+abbrev pub is_line_dump : List ℕ → List ℕ → Bool
+is_line_dump path keys =
+    bytes_eq path (codes "buffer:gui_buffers(*)/own_lines/first_line(*)/data")
+    && bytes_eq keys (codes "buffer,date,date_printed,displayed,notify_level,highlight,tags_array,prefix,message")
+
+-- the reply to `hdata`: the lines of the core buffer, and else the null hdata
+unfoldable pub hdata_objects : List Line → List ℕ → List ℕ → List Object
+hdata_objects lines path keys = if is_line_dump path keys then line_dump core_buffer core_lines lines else null_hdata
+
+-- an information that is unknown
+abbrev pub info_objects : List ℕ → List Object
+info_objects name = o.Inf (Some name) None ∷ []
+
+-- a list that is unknown
+abbrev pub infolist_objects : List ℕ → List Object
+infolist_objects name = o.Inl name [] ∷ []
+
+abbrev pub pong_objects : List ℕ → List Object
+pong_objects text = o.Str (Some text) ∷ []
+
+-- ---- the login
+
+-- A handshake before login settles the algorithm and the escapes; one after it settles nothing.
+unfoldable pub shaken : Client → List Pair → Client
+shaken client pairs = if client.logged_in then client else record client { chosen = choice_in pairs; escaped = asks_escapes pairs }
+
+abbrev pub handshake_reply : Client → List ℕ → List Pair → List WireMessage
+handshake_reply client id pairs = reply id (handshake_objects client.nonce (choice_in pairs) (asks_escapes pairs))
+
+-- Before login a handshake without a common algorithm is answered, and then the client leaves.
+unfoldable pub handshake_answer : Client → List ℕ → List Pair → Answer
+handshake_answer client id pairs =
+    if not client.logged_in && is_none (choice_in pairs)
+    then record { messages = handshake_reply client id pairs; outcome = outcome.Leave cause.LoginFailed; client = shaken client pairs }
+    else replies (shaken client pairs) (handshake_reply client id pairs)
+
+unfoldable pub init_answer : List ℕ → Client → List Pair → Answer
+init_answer password client pairs =
+    if client.logged_in then silent client else (
+    if pairs_let_in pairs password client.nonce client.chosen then silent (record client { logged_in = true })
+    else leaves client cause.LoginFailed)
+
+-- ---- requests
+
+abbrev pub input_answer : Client → List ℕ → List ℕ → Answer
+input_answer client buffer text =
+    if names_core buffer then record { messages = []; outcome = outcome.Input core_buffer text; client = client } else silent client
+
+-- what is served before login
+abbrev pub is_open : Command → Bool
+is_open (ask.Handshake pairs) = true
+is_open (ask.Init pairs) = true
+is_open ask.Quit = true
+is_open _ = false
+
+-- what a request gets that is served
+unfoldable pub served : List Line → List ℕ → Client → List ℕ → Command → Answer
+served lines password client id (ask.Handshake pairs) = handshake_answer client id pairs
+served lines password client id (ask.Init pairs) = init_answer password client pairs
+served lines password client id (ask.Hdata path keys) = replies client (reply id (hdata_objects lines path keys))
+served lines password client id (ask.Info name) = replies client (reply id (info_objects name))
+served lines password client id (ask.Infolist name) = replies client (reply id (infolist_objects name))
+served lines password client id (ask.Nicklist buffer) = replies client (reply id null_hdata)
+served lines password client id (ask.Input buffer text) = input_answer client buffer text
+served lines password client id (ask.Completion buffer position text) = replies client (reply id null_hdata)
+served lines password client id (ask.Sync buffers options) = silent (synchronized client buffers options)
+served lines password client id (ask.Desync buffers options) = silent (desynchronized client buffers options)
+served lines password client id ask.Test = replies client (reply id test_objects)
+served lines password client id (ask.Ping text) = replies client (reply (codes "_pong") (pong_objects text))
+served lines password client id ask.Quit = leaves client cause.Quit
+
+-- What a request gets, where the core buffer has these lines and this is the password that is set. Before login a
+-- handshake, `init` and `quit` are served, and any other request drops the client.
+unfoldable pub reply_of : List Line → List ℕ → Client → Request → Answer
+reply_of lines password client request =
+    if client.logged_in || is_open request.command then served lines password client request.id request.command
+    else leaves client cause.LoginFailed
+
+-- the event of a new line of the core buffer, for a client that asked for it
+unfoldable pub line_told : Client → Line → List WireMessage
+line_told client line = if follows_core client then fitting (line_added core_buffer line) else []

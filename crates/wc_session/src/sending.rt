@@ -1,0 +1,59 @@
+ghost use Rattle.std.specs.Prelude.{◌≡◌, true, IfOk, OnErr, is_some};
+ghost use Rattle.std.specs.Str.{IsUtf8};
+ghost use Rattle.wc_objects.specs.Forms.{well_formed};
+ghost use Rattle.wc_session.specs.Sending.{message, fits, fitting, reply, null_hdata, Sends, is_owed};
+
+use bytes::BytesMut;
+use std::alloc::Global;
+use wc_objects::{Hda, Object, WriteRefused, append_message};
+use wc_text::{Items, NoMemory};
+
+/// Puts a message behind the unsent bytes, and answers whether it fits in a message.
+pub fn send(out: &mut BytesMut, id: &[u8], objects: &[Object]) -> Result<bool, NoMemory>
+    requires formed { well_formed objects.now ≡ true }
+    requires text { IsUtf8 id.now }
+    ensures fits { IfOk result (λ sent. sent ≡ fits (message id.now objects.now)) }
+    ensures ok { IfOk result (λ sent. Sends out.old.items out.new.items (fitting (message id.now objects.now))) }
+    ensures err { OnErr result (out.new.items ≡ out.old.items) }
+{
+    match append_message(out, id, objects) {
+        Ok(()) => Ok(true),
+        Err(WriteRefused::TooLong) => Ok(false),
+        Err(WriteRefused::NoMemory) => Err(NoMemory),
+    }
+}
+
+/// The null hdata.
+pub fn null_hdata(alloc: Global) -> [Object; 1]
+    ensures objects { result ≡ null_hdata }
+    ensures formed { well_formed result ≡ true }
+{
+    [Object::Hda(Hda {
+        path: None,
+        keys: None,
+        items: Items::new(alloc),
+    })]
+}
+
+/// Puts the reply to a request behind the unsent bytes, which is the null hdata where these objects are too long for a
+/// message. It answers whether there is one.
+#[tactic(auto, unfolding(crate::specs::Sending::reply))]
+pub fn reply(
+    alloc: Global,
+    out: &mut BytesMut,
+    id: &[u8],
+    objects: &[Object],
+) -> Result<bool, NoMemory>
+    requires formed { well_formed objects.now ≡ true }
+    requires text { IsUtf8 id.now }
+    ensures owed { IfOk result (λ sent. sent ≡ is_owed (reply id.now objects.now)) }
+    ensures ok { IfOk result (λ sent. Sends out.old.items out.new.items (reply id.now objects.now)) }
+    ensures err { OnErr result (out.new.items ≡ out.old.items) }
+{
+    if send(out, id, objects)? {
+        return Ok(true);
+    }
+    let null = null_hdata(alloc);
+    let sent = send(out, id, null.as_slice())?;
+    Ok(sent)
+}

@@ -1,0 +1,60 @@
+-- What a client is told of lines: the event of a new line, and the dump of the lines that are held.
+use Rattle.std.specs.Prelude.{ℕ, ◌^◌, ◌-◌, ℤ, pos, Bool, nat_le, List, [], ◌∷◌, map, Option, Some, codes, if◌then◌else◌}
+use Rattle.wc_text.specs.declared.names.Handle.{Handle}
+use Rattle.wc_lines.specs.declared.line.Line.{Line}
+use Rattle.wc_objects.specs.declared.kind.Kind.TheVariants as k
+use Rattle.wc_objects.specs.declared.object.Object.{Object}
+use Rattle.wc_objects.specs.declared.object.Object.TheVariants as o
+use Rattle.wc_objects.specs.declared.object.Hda.{Hda, roll-Hda}
+use Rattle.wc_objects.specs.declared.object.HdaItem.{HdaItem, roll-HdaItem}
+use Rattle.wc_objects.specs.declared.object.WireMessage.{WireMessage}
+
+-- truth is 1 and 0
+abbrev pub truth : Bool → ℤ
+truth b = if b then pos 1 else pos 0
+
+-- a date, which counts as the greatest that a message may hold where it is greater
+abbrev pub moment : ℕ → ℤ
+moment date = pos (if nat_le date (2 ^ 63 - 1) then date else 2 ^ 63 - 1)
+
+abbrev pub texts : List (List ℕ) → List Object
+texts tags = map (λ text. o.Str (Some text)) tags
+
+-- the keys of a line, in the event and in the dump
+abbrev pub line_keys : List ℕ
+line_keys = codes "buffer:ptr,date:tim,date_printed:tim,displayed:chr,notify_level:chr,highlight:chr,tags_array:arr,prefix:str,message:str"
+
+-- the values of a line of a buffer, in the order of the keys
+unfoldable pub line_values : Handle → Line → List Object
+line_values buffer line =
+    o.Ptr buffer.0 ∷ o.Tim (moment line.date) ∷ o.Tim (moment line.date_printed) ∷
+    o.Chr (truth line.displayed) ∷ o.Chr line.notify ∷ o.Chr (truth line.highlight) ∷
+    o.Arr k.Str (texts line.tags) ∷ o.Str (Some line.prefix) ∷ o.Str (Some line.message) ∷ []
+
+-- items on a path, with the keys of a line
+abbrev pub on_path : List ℕ → List HdaItem → Hda
+on_path path items = roll-Hda (record { path = Some path; keys = Some line_keys; items = items })
+
+-- a new line, named by its content
+unfoldable pub added_item : Handle → Line → HdaItem
+added_item buffer line = roll-HdaItem (record { pointers = line.content.0 ∷ []; values = line_values buffer line })
+
+abbrev pub added_objects : Handle → Line → List Object
+added_objects buffer line = o.Hda (on_path (codes "line_data") (added_item buffer line ∷ [])) ∷ []
+
+-- the event of a new line of a buffer
+abbrev pub line_added : Handle → Line → WireMessage
+line_added buffer line = record { id = codes "_buffer_line_added"; objects = added_objects buffer line }
+
+-- a line in the dump, by its buffer, the buffer's own lines, itself and its content
+unfoldable pub dumped_item : Handle → Handle → Line → HdaItem
+dumped_item buffer own line =
+    roll-HdaItem (record { pointers = buffer.0 ∷ own.0 ∷ line.handle.0 ∷ line.content.0 ∷ []; values = line_values buffer line })
+
+-- the dump of lines, of whichever buffers these items are
+abbrev pub dump_of : List HdaItem → List Object
+dump_of items = o.Hda (on_path (codes "buffer/lines/line/line_data") items) ∷ []
+
+-- the dump of the lines of one buffer, from the oldest
+abbrev pub line_dump : Handle → Handle → List Line → List Object
+line_dump buffer own lines = dump_of (map (dumped_item buffer own) lines)
