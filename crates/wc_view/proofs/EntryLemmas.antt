@@ -15,8 +15,8 @@ use Rattle.wc_view.specs.Entries.{Entry, part_at, IsEntry}
 use Rattle.wc_view.specs.Parts.{Part, lines_at, with_row}
 
 pub by_bool : (b : Bool) (P : Type 0) → (b ≡ true → P) → (b ≡ false → P) → P
-by_bool true P yes no = yes refl
-by_bool false P yes no = no refl
+by_bool true P at_true at_false = at_true refl
+by_bool false P at_true at_false = at_false refl
 
 pub last_all : {X : Type 0} (n : ℕ) (xs : List X) → length xs ≤ n → last_of n xs ≡ xs
 last_all n xs l = let e : length xs - n ≡ 0 = omega arith in ap (λ k. drop k xs) e
@@ -67,6 +67,13 @@ entry_set h i es v d l e = same_map nat_cmp_total nat_cmp-IsAntisymmetric _ _ (�
 
 pub no_entry : (h : ℕ) (es : List Entry) → find nat_cmp h es ≡ None → lines_at (part_at es) h ≡ []
 no_entry h es e = ap (λ o. unwrap_or o []) (get-from_entries nat_cmp_total es h ∙ e)
+
+pub entry_shown : (h i : ℕ) (es : List Entry) (e : Entry) (lines : List MirrorLine) → i < length es → IsEntry h i es → e ≡ get_or es i e → lines ≡ e.1
+    → lines ≡ lines_at (part_at es) h
+entry_shown h i es e lines l at is shown = shown ∙ ap (λ (z : Entry). z.1) is ∙ sym (entry_lines h i es e l at)
+
+pub none_shown : (h : ℕ) (es : List Entry) → find nat_cmp h es ≡ None → [] ≡ lines_at (part_at es) h
+none_shown h es e = sym (no_entry h es e)
 
 entry_push : (h : ℕ) (es : List Entry) (v : List MirrorLine) → find nat_cmp h es ≡ None → part_at (es ++ (h, v) ∷ []) ≡ insert (part_at es) h v
 entry_push h es v e = from_entries_push nat_cmp_total nat_cmp-IsAntisymmetric es h v e

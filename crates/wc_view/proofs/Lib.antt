@@ -1,1 +1,4 @@
-mod EntryLemmas
+pub mod EachLemmas
+pub mod EntryLemmas
+pub mod LawLemmas
+pub mod PartLemmas

@@ -1,7 +1,7 @@
 -- What the values of a line say. None where the value is of another kind, or has a number or a null text that a
 -- line can not have.
 use Rattle.std.specs.Prelude.{ℕ, ℤ, pos, negsuc, Bool, true, false, List, Option, Some, None, if◌then◌else◌}
-use Rattle.std.specs.Int.RustNames.{int_eq}
+use Rattle.std.specs.Ordering.{int_eq}
 use Rattle.wc_objects.specs.declared.kind.Kind.TheVariants.{Str}
 use Rattle.wc_objects.specs.declared.object.Object.{Object, out-Object}
 use Rattle.wc_objects.specs.declared.object.Object.TheOpen.{Object-F}
@@ -32,9 +32,7 @@ level_in value = level_layer (out-Object value)
 
 -- truth is 1 and 0
 abbrev pub truth_of : ℤ → Option Bool
-truth_of (pos 0) = Some false
-truth_of (pos 1) = Some true
-truth_of _ = None
+truth_of n = if int_eq n (pos 0) then Some false else (if int_eq n (pos 1) then Some true else None)
 
 abbrev pub truth_layer : Layer → Option Bool
 truth_layer (Object-F.Chr n) = truth_of n

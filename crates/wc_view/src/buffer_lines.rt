@@ -89,6 +89,7 @@ fn place_of(entries: &[BufferLines], buffer: u64) -> Option<usize>
 }
 
 /// The lines of a buffer, none where it is not there.
+#[tactic(auto, using(crate::proofs::EntryLemmas::entry_shown, crate::proofs::EntryLemmas::none_shown))]
 pub(crate) fn lines_of(entries: &[BufferLines], buffer: u64) -> &[MirrorLine]
     ensures { result.now ≡ lines_at (part_at entries.now) buffer }
 {
@@ -128,6 +129,7 @@ pub(crate) fn add_row(
 }
 
 /// The last lines of each buffer, up to the limit.
+#[tactic(auto, using(crate::proofs::PartLemmas::rows_more))]
 pub(crate) fn of_rows(
     alloc: Global,
     rows: Vec<LineRow>,

@@ -51,12 +51,12 @@ impl Model for Mirror {
 impl Mirror {
     /// A mirror that has taken nothing, of at most `limit` lines a buffer. The ids are those under which the client
     /// asks for the dumps of buffers, of lines and of nicklists.
-    pub fn new(limit: u32, ids: [Text; 3]) -> Result<Mirror, NoMemory>
+    pub fn new(alloc: Global, limit: u32, ids: [Text; 3]) -> Result<Mirror, NoMemory>
         requires some { 1 ≤ limit }
         requires ids { AreIds ids }
         ensures { IfOk result (λ mirror. mirror ≡ nothing_taken limit (slice_index_or ids 1 [])) }
     {
-        let [_buffers, line_dump, _nicks] = ids;
+        let line_dump = ids[1].copy(alloc)?;
         Ok(Mirror {
             limit: limit as usize,
             line_dump,

@@ -70,6 +70,7 @@ fn row_in(alloc: Global, item: &HdaItem) -> Result<Option<LineRow>, NoMemory>
 }
 
 /// The lines that items say. None where one says none.
+#[tactic(auto, using(crate::proofs::EachLemmas::one_more, crate::proofs::EachLemmas::none_there, crate::proofs::EachLemmas::all_there))]
 fn each_row(alloc: Global, items: &Items<HdaItem>) -> Result<Option<Vec<LineRow>>, NoMemory>
     ensures { IfOk result (λ rows. option_map (λ v. v.items) rows ≡ each row_in items.now) }
 {

@@ -19,7 +19,7 @@ fn empty_mirror(alloc: Global) -> Result<Mirror, Fail> {
         Text::from_slice(alloc, b"l")?,
         Text::from_slice(alloc, b"n")?,
     ];
-    Ok(Mirror::new(3, ids)?)
+    Ok(Mirror::new(alloc, 3, ids)?)
 }
 
 fn line(alloc: Global, number: u64, message: &str) -> Result<Line, NoMemory>

@@ -2,7 +2,7 @@
 
 ghost use Rattle.std.specs.Prelude.{◌≡◌, None, Some, MatchOption, IfOk};
 ghost use Rattle.wc_view.specs.Each.{each};
-ghost use Rattle.wc_view.specs.Values.{pointer_in, date_in, level_in, truth_in, text_in, texts_in};
+ghost use Rattle.wc_view.specs.Values.{pointer_in, date_in, level_in, truth_of, truth_in, text_in, texts_in};
 
 use std::alloc::Global;
 use wc_objects::{Kind, Object};
@@ -35,12 +35,21 @@ pub(crate) fn level_in(value: &Object) -> Option<i8>
     }
 }
 
+/// Truth is 1 and 0.
+fn truth_of(number: i8) -> Option<bool>
+    ensures { result ≡ truth_of number }
+{
+    if number == 0 {
+        return Some(false);
+    }
+    if number == 1 { Some(true) } else { None }
+}
+
 pub(crate) fn truth_in(value: &Object) -> Option<bool>
     ensures { result ≡ truth_in value.now }
 {
     match value {
-        Object::Chr(0) => Some(false),
-        Object::Chr(1) => Some(true),
+        Object::Chr(number) => truth_of(*number),
         _ => None,
     }
 }
@@ -64,6 +73,7 @@ pub(crate) fn text_copy(alloc: Global, value: &Object) -> Result<Option<Text>, N
 }
 
 /// The texts of an array. None where one is null.
+#[tactic(auto, using(crate::proofs::EachLemmas::one_more, crate::proofs::EachLemmas::none_there, crate::proofs::EachLemmas::all_there))]
 fn each_text(alloc: Global, values: &Items<Object>) -> Result<Option<Items<Text>>, NoMemory>
     ensures { IfOk result (λ texts. texts ≡ each text_in values.now) }
 {
