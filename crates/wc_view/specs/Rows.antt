@@ -8,32 +8,47 @@ use Rattle.wc_objects.specs.declared.object.HdaItem.{HdaItem, out-HdaItem}
 use Rattle.wc_objects.specs.declared.object.Hda.{out-Hda}
 use Rattle.wc_objects.specs.Kinds.{Layer}
 use Rattle.wc_told.specs.LineObjects.{line_keys}
+use Rattle.wc_view.specs.declared.rows.LineMarks.{LineMarks}
 use Rattle.wc_view.specs.declared.rows.LineRow.{LineRow}
+use Rattle.wc_view.specs.declared.rows.LineTexts.{LineTexts}
 use Rattle.wc_view.specs.Each.{each}
 use Rattle.wc_view.specs.Values.{pointer_in, date_in, level_in, truth_in, text_in, texts_in}
+
+-- what the values say that are numbers
+unfoldable pub marks_in : Object → Object → Object → Object → Object → Object → Option LineMarks
+marks_in buffer date printed displayed notify highlight =
+    option_and_then (λ buffer. option_and_then (λ date. option_and_then (λ printed.
+    option_and_then (λ displayed. option_and_then (λ notify. option_and_then (λ highlight.
+    Some (record { buffer = buffer; date = date; date_printed = printed; displayed = displayed; notify = notify; highlight = highlight }))
+    (truth_in highlight)) (level_in notify)) (truth_in displayed)) (date_in printed)) (date_in date)) (pointer_in buffer)
+
+-- what the values say that are texts
+unfoldable pub line_texts_in : Object → Object → Object → Option LineTexts
+line_texts_in tags prefix message =
+    option_and_then (λ tags. option_and_then (λ prefix. option_and_then (λ message.
+    Some (record { tags = tags; prefix = prefix; message = message })) (text_in message)) (text_in prefix)) (texts_in tags)
+
+abbrev pub row_with : ℕ → LineMarks → LineTexts → LineRow
+row_with content marks texts = record {
+    buffer = marks.buffer;
+    line = record {
+      content = record { 0 = content };
+      date = marks.date;
+      date_printed = marks.date_printed;
+      displayed = marks.displayed;
+      notify = marks.notify;
+      highlight = marks.highlight;
+      tags = texts.tags;
+      prefix = texts.prefix;
+      message = texts.message;
+    };
+  }
 
 -- a line and its buffer, by the last pointer, which is that of the line's content, and the values in the order of the keys
 abbrev pub row_of : Option ℕ → List Object → Option LineRow
 row_of content (buffer ∷ date ∷ printed ∷ displayed ∷ notify ∷ highlight ∷ tags ∷ prefix ∷ message ∷ []) =
-    option_and_then (λ content. option_and_then (λ buffer. option_and_then (λ date. option_and_then (λ printed.
-    option_and_then (λ displayed. option_and_then (λ notify. option_and_then (λ highlight.
-    option_and_then (λ tags. option_and_then (λ prefix. option_and_then (λ message.
-    Some (record {
-      buffer = buffer;
-      line = record {
-        content = record { 0 = content };
-        date = date;
-        date_printed = printed;
-        displayed = displayed;
-        notify = notify;
-        highlight = highlight;
-        tags = tags;
-        prefix = prefix;
-        message = message;
-      };
-    }))
-    (text_in message)) (text_in prefix)) (texts_in tags)) (truth_in highlight)) (level_in notify)) (truth_in displayed))
-    (date_in printed)) (date_in date)) (pointer_in buffer)) content
+    option_and_then (λ content. option_and_then (λ marks. option_and_then (λ texts. Some (row_with content marks texts))
+    (line_texts_in tags prefix message)) (marks_in buffer date printed displayed notify highlight)) content
 row_of content _ = None
 
 unfoldable pub row_in : HdaItem → Option LineRow

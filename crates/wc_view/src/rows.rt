@@ -2,7 +2,7 @@
 
 ghost use Rattle.std.specs.Prelude.{◌≡◌, Option, option_map, List, IfOk};
 ghost use Rattle.wc_view.specs.Each.{each, only};
-ghost use Rattle.wc_view.specs.Rows.{row_in, rows_on, rows_layer, is_text};
+ghost use Rattle.wc_view.specs.Rows.{marks_in, line_texts_in, row_with, row_in, rows_on, rows_layer, is_text};
 ghost use Rattle.wc_objects.specs.declared.object.Object.{out-Object};
 
 use crate::mirror_line::MirrorLine;
@@ -22,30 +22,75 @@ pub(crate) struct LineRow {
     pub line: MirrorLine,
 }
 
-/// The line that an item says. None where the item has other values than a line has.
-#[tactic(auto, unfolding(crate::specs::Rows::row_in))]
-fn row_in(alloc: Global, item: &HdaItem) -> Result<Option<LineRow>, NoMemory>
-    ensures { IfOk result (λ row. row ≡ row_in item.now) }
+/// What a line's numbers say.
+#[derive(Clone, Copy)]
+pub(crate) struct LineMarks {
+    pub buffer: u64,
+    pub date: u64,
+    pub date_printed: u64,
+    pub displayed: bool,
+    pub notify: i8,
+    pub highlight: bool,
+}
+
+/// What a line's texts say.
+#[derive(Drop)]
+pub(crate) struct LineTexts {
+    pub tags: Items<Text>,
+    pub prefix: Text,
+    pub message: Text,
+}
+
+/// What the values say that are numbers. None where one can not be that of a line.
+#[tactic(auto, unfolding(crate::specs::Rows::marks_in))]
+fn marks_in(
+    buffer: &Object,
+    date: &Object,
+    printed: &Object,
+    displayed: &Object,
+    notify: &Object,
+    highlight: &Object,
+) -> Option<LineMarks>
+    ensures { result ≡ marks_in buffer.now date.now printed.now displayed.now notify.now highlight.now }
 {
-    let Some(content) = item.pointers.as_slice().last() else {
-        return Ok(None);
-    };
-    let [buffer, date, printed, displayed, notify, highlight, tags, prefix, message] =
-        item.values.as_slice()
-    else {
-        return Ok(None);
-    };
     let Some(buffer) = pointer_in(buffer) else {
-        return Ok(None);
+        return None;
     };
-    let (Some(date), Some(date_printed)) = (date_in(date), date_in(printed)) else {
-        return Ok(None);
+    let Some(date) = date_in(date) else {
+        return None;
     };
-    let (Some(displayed), Some(notify), Some(highlight)) =
-        (truth_in(displayed), level_in(notify), truth_in(highlight))
-    else {
-        return Ok(None);
+    let Some(date_printed) = date_in(printed) else {
+        return None;
     };
+    let Some(displayed) = truth_in(displayed) else {
+        return None;
+    };
+    let Some(notify) = level_in(notify) else {
+        return None;
+    };
+    let Some(highlight) = truth_in(highlight) else {
+        return None;
+    };
+    Some(LineMarks {
+        buffer,
+        date,
+        date_printed,
+        displayed,
+        notify,
+        highlight,
+    })
+}
+
+/// What the values say that are texts. None where one is null.
+#[tactic(auto, unfolding(crate::specs::Rows::line_texts_in))]
+fn line_texts_in(
+    alloc: Global,
+    tags: &Object,
+    prefix: &Object,
+    message: &Object,
+) -> Result<Option<LineTexts>, NoMemory>
+    ensures { IfOk result (λ texts. texts ≡ line_texts_in tags.now prefix.now message.now) }
+{
     let Some(tags) = texts_in(alloc, tags)? else {
         return Ok(None);
     };
@@ -55,18 +100,62 @@ fn row_in(alloc: Global, item: &HdaItem) -> Result<Option<LineRow>, NoMemory>
     let Some(message) = text_copy(alloc, message)? else {
         return Ok(None);
     };
+    Ok(Some(LineTexts {
+        tags,
+        prefix,
+        message,
+    }))
+}
+
+fn row_with(content: u64, marks: LineMarks, texts: LineTexts) -> LineRow
+    ensures { result ≡ row_with content marks texts }
+{
     let line = MirrorLine {
-        content: Handle(*content),
+        content: Handle(content),
+        date: marks.date,
+        date_printed: marks.date_printed,
+        displayed: marks.displayed,
+        notify: marks.notify,
+        highlight: marks.highlight,
+        tags: texts.tags,
+        prefix: texts.prefix,
+        message: texts.message,
+    };
+    LineRow {
+        buffer: marks.buffer,
+        line,
+    }
+}
+
+/// The line that an item says. None where the item has other values than a line has.
+#[tactic(auto, unfolding(crate::specs::Rows::row_in))]
+fn row_in(alloc: Global, item: &HdaItem) -> Result<Option<LineRow>, NoMemory>
+    ensures { IfOk result (λ row. row ≡ row_in item.now) }
+{
+    let Some(content) = item.pointers.as_slice().last() else {
+        return Ok(None);
+    };
+    let [
+        buffer,
         date,
-        date_printed,
+        printed,
         displayed,
         notify,
         highlight,
         tags,
         prefix,
         message,
+    ] = item.values.as_slice()
+    else {
+        return Ok(None);
     };
-    Ok(Some(LineRow { buffer, line }))
+    let Some(marks) = marks_in(buffer, date, printed, displayed, notify, highlight) else {
+        return Ok(None);
+    };
+    let Some(texts) = line_texts_in(alloc, tags, prefix, message)? else {
+        return Ok(None);
+    };
+    Ok(Some(row_with(*content, marks, texts)))
 }
 
 /// The lines that items say. None where one says none.
