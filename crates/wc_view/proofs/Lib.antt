@@ -2,3 +2,4 @@ pub mod EachLemmas
 pub mod EntryLemmas
 pub mod LawLemmas
 pub mod PartLemmas
+pub mod TakeLemmas

@@ -1,7 +1,7 @@
 ghost use Rattle.std.specs.Prelude.{◌≡◌, ℕ, ◌≤◌, List, Option, Some, None, Ok, Err, [], option_map, slice_index_or, IfOk, OnOk, OnErr, IsTrue};
 ghost use Rattle.wc_objects.specs.declared.object.WireMessage.{WireMessage};
 ghost use Rattle.wc_objects.specs.Spells.{FrontSpells, misses_bytes};
-ghost use Rattle.wc_objects.specs.Reading.{first_message};
+ghost use Rattle.wc_objects.specs.Reading.{GivesFirst, first_message};
 ghost use Rattle.wc_view.specs.Ids.{AreIds};
 ghost use Rattle.wc_view.specs.Parts.{Part, lines_at};
 ghost use Rattle.wc_view.specs.Taking.{Mirrored, nothing_taken, with_dump, with_added, with_message, Takes};
@@ -120,6 +120,22 @@ impl Mirror {
         Ok(())
     }
 
+    /// Folds the message at the front of the bytes, as `take` does.
+    #[tactic(auto, using(crate::proofs::TakeLemmas::takes_found, crate::proofs::TakeLemmas::takes_none, crate::proofs::TakeLemmas::takes_bad))]
+    fn take_front(&mut self, alloc: Global, bytes: &[u8]) -> Result<usize, MirrorRefused>
+        ensures { Takes result self.old self.new (first_message bytes.now) }
+    {
+        match front_of(alloc, bytes) {
+            Ok(Some((message, size))) => match self.fold(alloc, &message) {
+                Ok(()) => Ok(size),
+                Err(NoMemory) => Err(MirrorRefused::NoMemory),
+            },
+            Ok(None) => Ok(0),
+            Err(MessageRefused::BadAt { place }) => Err(MirrorRefused::BadMessage { place }),
+            Err(MessageRefused::NoMemory) => Err(MirrorRefused::NoMemory),
+        }
+    }
+
     /// Folds the first message of WeeChat's relay protocol where a whole one stands at the front of the bytes, and
     /// answers how many bytes it takes. 0 where none stands there yet, as `read_message` tells.
     ///
@@ -135,14 +151,16 @@ impl Mirror {
         ensures exact { Takes result self.old self.new (first_message bytes.now) }
         ensures refused { OnErr result (self.new ≡ self.old) }
     {
-        match read_message(alloc, bytes) {
-            Ok(Some((message, size))) => match self.fold(alloc, &message) {
-                Ok(()) => Ok(size),
-                Err(NoMemory) => Err(MirrorRefused::NoMemory),
-            },
-            Ok(None) => Ok(0),
-            Err(MessageRefused::BadAt { place }) => Err(MirrorRefused::BadMessage { place }),
-            Err(MessageRefused::NoMemory) => Err(MirrorRefused::NoMemory),
-        }
+        self.take_front(alloc, bytes)
     }
+}
+
+/// The message at the front of the bytes, as `read_message` gives it.
+fn front_of(
+    alloc: Global,
+    bytes: &[u8],
+) -> Result<Option<(WireMessage, usize)>, MessageRefused>
+    ensures { GivesFirst result (first_message bytes.now) }
+{
+    read_message(alloc, bytes)
 }
