@@ -3,3 +3,4 @@ pub mod EntryLemmas
 pub mod LawLemmas
 pub mod PartLemmas
 pub mod TakeLemmas
+pub mod TakeNone

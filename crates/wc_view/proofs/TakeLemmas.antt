@@ -11,7 +11,7 @@ use Rattle.wc_view.specs.declared.mirror.MirrorRefused.{MirrorRefused}
 use Rattle.wc_view.specs.declared.mirror.MirrorRefused.TheVariants.{BadMessage, NoMemory}
 use Rattle.wc_view.specs.Taking.{Mirrored, with_message, Takes}
 
-abbrev Front : Type 0
+abbrev pub Front : Type 0
 Front = Option (WireMessage × ℕ)
 
 pub takes_found : (read : Result Front ℕ) (message : WireMessage) (size : ℕ) (old new : Mirrored) → read ≡ Ok (Some (message, size))
@@ -32,11 +32,11 @@ unchanged (Err (BadMessage at)) (Err place) old new t = t.1
 unchanged (Err (BadMessage at)) (Ok front) old new t = absurd t
 
 -- reading as a call answers it where memory is found
-abbrev answered : Result Front ℕ → Result Front MessageRefused
+abbrev pub answered : Result Front ℕ → Result Front MessageRefused
 answered (Ok front) = Ok front
 answered (Err place) = Err (BadAt place)
 
-gives_answered : (read : Result Front ℕ) → GivesFirst (answered read) read
+pub gives_answered : (read : Result Front ℕ) → GivesFirst (answered read) read
 gives_answered (Ok front) = refl
 gives_answered (Err place) = refl
 
