@@ -29,7 +29,6 @@ abbrev has_rows : ℕ → List LineRow → Bool
 has_rows q [] = false
 has_rows q (row ∷ rows) = cond (eqb q row.buffer) true (has_rows q rows)
 
-
 found_by : (f : ℕ → List MirrorLine) (q : ℕ) (rows : List LineRow)
     → find nat_cmp q (map (λ row. (row.buffer, f row.buffer)) rows) ≡ cond (has_rows q rows) (Some (f q)) None
 found_by f q [] = refl
@@ -85,8 +84,8 @@ rows_more limit rows row = same_map nat_cmp_total nat_cmp-IsAntisymmetric _ _ (�
     let h = row.buffer in
     let ls = lines_at (part_of limit rows) h ++ row.line ∷ [] in
     let is : last_of limit ls ≡ last_of limit (lines_of h (rows ++ row ∷ [])) =
-        ap (λ held. last_of limit (held ++ row.line ∷ [])) (part_lines limit h rows) ∙ last_with limit (lines_of h rows) row.line
-        ∙ ap (last_of limit) (sym (lines_here rows row)) in
+    ap (λ held. last_of limit (held ++ row.line ∷ [])) (part_lines limit h rows) ∙ last_with limit (lines_of h rows) row.line
+    ∙ ap (last_of limit) (sym (lines_here rows row)) in
     get-insert nat_cmp_total (part_of limit rows) h (last_of limit ls) q
     ∙ by_bool (eqb q h) _
     (λ t. rw (tied q h, t) (ap Some (is ∙ ap (λ b. last_of limit (lines_of b (rows ++ row ∷ []))) (sym (eqb-true q h t)))

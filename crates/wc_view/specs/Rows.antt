@@ -30,19 +30,19 @@ line_texts_in tags prefix message =
 
 abbrev pub row_with : ℕ → LineMarks → LineTexts → LineRow
 row_with content marks texts = record {
-    buffer = marks.buffer;
-    line = record {
-      content = record { 0 = content };
-      date = marks.date;
-      date_printed = marks.date_printed;
-      displayed = marks.displayed;
-      notify = marks.notify;
-      highlight = marks.highlight;
-      tags = texts.tags;
-      prefix = texts.prefix;
-      message = texts.message;
-    };
-  }
+  buffer = marks.buffer;
+  line = record {
+    content = record { 0 = content };
+    date = marks.date;
+    date_printed = marks.date_printed;
+    displayed = marks.displayed;
+    notify = marks.notify;
+    highlight = marks.highlight;
+    tags = texts.tags;
+    prefix = texts.prefix;
+    message = texts.message;
+  };
+}
 
 -- a line and its buffer, by the last pointer, which is that of the line's content, and the values in the order of the keys
 abbrev pub row_of : Option ℕ → List Object → Option LineRow

@@ -2,11 +2,13 @@
 #![tactic(auto)]
 
 mod buffer_lines;
+mod laws;
 mod mirror;
 mod mirror_line;
 mod rows;
 mod values;
 
+pub use laws::{dump_shows_lines, event_shows_line};
 pub use mirror::{Mirror, MirrorRefused};
 pub use mirror_line::MirrorLine;
 

@@ -156,10 +156,7 @@ impl Mirror {
 }
 
 /// The message at the front of the bytes, as `read_message` gives it.
-fn front_of(
-    alloc: Global,
-    bytes: &[u8],
-) -> Result<Option<(WireMessage, usize)>, MessageRefused>
+fn front_of(alloc: Global, bytes: &[u8]) -> Result<Option<(WireMessage, usize)>, MessageRefused>
     ensures { GivesFirst result (first_message bytes.now) }
 {
     read_message(alloc, bytes)

@@ -10,7 +10,8 @@ use wc_objects::append_message;
 use wc_text::{Handle, Items, NoMemory, Text};
 use wc_told::{line_added, line_dump};
 
-const EVENT: &[u8] = b"\0\0\0\xdb\0\0\0\0\x12_buffer_line_addedhda\0\0\0\x09line_data\0\0\0\x77buffer:ptr,date:tim,date_printed:tim,displayed:chr,notify_level:chr,highlight:chr,tags_array:arr,prefix:str,message:str\0\0\0\x01\x016\x011\x0a1700000000\x0a1700000000\x01\0\0str\0\0\0\0\0\0\0\0\0\0\0\x05hello";
+const EVENT: &[u8] =
+    b"\0\0\0\xdb\0\0\0\0\x12_buffer_line_addedhda\0\0\0\x09line_data\0\0\0\x77buffer:ptr,date:tim,date_printed:tim,displayed:chr,notify_level:chr,highlight:chr,tags_array:arr,prefix:str,message:str\0\0\0\x01\x016\x011\x0a1700000000\x0a1700000000\x01\0\0str\0\0\0\0\0\0\0\0\0\0\0\x05hello";
 
 /// A mirror of three lines that has the lines of no buffer yet.
 fn empty_mirror(alloc: Global) -> Result<Mirror, Fail> {
@@ -76,8 +77,14 @@ fn event_of_219_bytes_is_one_line(rt: HostRuntime) -> Result<(), Fail> {
         return Err(Fail::new("one line"));
     };
     assert_eq!(rt; line.message.as_slice(), b"hello".as_slice());
-    assert_eq!(rt; (line.content, line.date, line.date_printed), (Handle(6), 1700000000, 1700000000));
-    assert_eq!(rt; (line.displayed, line.notify, line.highlight), (true, 0, false));
+    assert_eq!(rt;
+        (line.content, line.date, line.date_printed),
+        (Handle(6), 1700000000, 1700000000)
+    );
+    assert_eq!(rt;
+        (line.displayed, line.notify, line.highlight),
+        (true, 0, false)
+    );
     assert_eq!(rt; message_at(&mirror, 2, 0), b"none".as_slice());
     Ok(())
 }
