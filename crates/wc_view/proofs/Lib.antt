@@ -1,5 +1,6 @@
 pub mod EachLemmas
 pub mod EntryLemmas
+pub mod IdLemmas
 pub mod LawLemmas
 pub mod PartLemmas
 pub mod TakeLemmas

@@ -13,6 +13,7 @@ use wc_told::{line_added, line_dump};
 const EVENT: &[u8] =
     b"\0\0\0\xdb\0\0\0\0\x12_buffer_line_addedhda\0\0\0\x09line_data\0\0\0\x77buffer:ptr,date:tim,date_printed:tim,displayed:chr,notify_level:chr,highlight:chr,tags_array:arr,prefix:str,message:str\0\0\0\x01\x016\x011\x0a1700000000\x0a1700000000\x01\0\0str\0\0\0\0\0\0\0\0\0\0\0\x05hello";
 
+#[tactic(auto, using(crate::proofs::IdLemmas::letter_ids))]
 /// A mirror of three lines that has the lines of no buffer yet.
 fn empty_mirror(alloc: Global) -> Result<Mirror, Fail> {
     let ids = [
