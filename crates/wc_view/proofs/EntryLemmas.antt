@@ -1,18 +1,18 @@
 -- A list of entries seen as the lines of each buffer.
-use Rattle.std.proofs.Common.{◌≡◌, ℕ, zero, suc, ◌+◌, ◌-◌, ◌<◌, ◌≤◌, Bool, true, false, cond, Option, Some, None, List, [], ◌∷◌, ◌++◌, length, take, drop, get_or, set, refl, sym, ap, ◌∙◌, arith, eqb}
+use Rattle.std.proofs.Common.{◌≡◌, ℕ, zero, suc, ◌+◌, ◌-◌, ◌<◌, ◌≤◌, Bool, true, false, cond, Some, None, List, [], ◌∷◌, ◌++◌, length, take, drop, get_or, set, refl, sym, ap, ◌∙◌, arith, eqb}
 use Rattle.std.specs.Prelude.{unwrap_or}
 use Rattle.std.specs.List.{remove as remove_at}
 use Rattle.std.proofs.lemmas.List.{take_more}
-use Rattle.std.proofs.lemmas.Bool.{eqb-true, eq-eqb}
+use Rattle.std.proofs.lemmas.Bool.{eq-eqb}
 use Rattle.std.proofs.lemmas.Bool.Decides.{nat_tests}
-use Rattle.std.specs.FinMap.{insert, find, get, get-insert, get-from_entries, same_map, nat_cmp-IsAntisymmetric, from_entries_push}
+use Rattle.std.specs.FinMap.{insert, find, get-insert, get-from_entries, same_map, nat_cmp-IsAntisymmetric, from_entries_push}
 use Rattle.std.specs.Ordering.{nat_cmp, eq_by_cmp}
 use Rattle.std.specs.Cmp.{nat_cmp_total, unsigned_tied}
 use Rattle.wc_lines.specs.Ring.{last_of}
 use Rattle.wc_view.specs.declared.mirror_line.MirrorLine.{MirrorLine}
 use Rattle.wc_view.specs.declared.rows.LineRow.{LineRow}
 use Rattle.wc_view.specs.Entries.{Entry, part_at, IsEntry}
-use Rattle.wc_view.specs.Parts.{Part, lines_at, with_row}
+use Rattle.wc_view.specs.Parts.{lines_at, with_row}
 
 pub by_bool : (b : Bool) (P : Type 0) → (b ≡ true → P) → (b ≡ false → P) → P
 by_bool true P at_true at_false = at_true refl

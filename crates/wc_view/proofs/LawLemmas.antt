@@ -1,37 +1,30 @@
 -- What is told of lines is folded to the lines that are held.
-use Rattle.std.proofs.Common.{◌≡◌, ℕ, ℤ, pos, zero, suc, ◌+◌, ◌-◌, ◌≤◌, Bool, true, false, cond, List, [], ◌∷◌, ◌++◌, length, drop, map, codes, Option, Some, None, refl, sym, ap, subst, ◌∙◌, arith, eqb, All}
-use Rattle.std.specs.Prelude.{unwrap_or, filter, bytes_eq, nat_le, IfSome, if◌then◌else◌}
-use Rattle.std.specs.FinMap.{get, insert, get-insert}
-use Rattle.std.specs.Ordering.{nat_cmp, eq_by_cmp, int_eq}
+use Rattle.std.proofs.Common.{◌≡◌, ℕ, ℤ, zero, suc, ◌-◌, Bool, true, false, cond, List, [], ◌∷◌, ◌++◌, length, drop, map, codes, Option, Some, None, refl, sym, ap, subst, ◌∙◌, arith, eqb}
+use Rattle.std.specs.Prelude.{unwrap_or, bytes_eq}
+use Rattle.std.specs.FinMap.{get, get-insert}
 use Rattle.std.specs.Cmp.{nat_cmp_total}
-use Rattle.std.specs.Option.{option_and_then}
 use Rattle.std.specs.List.{drop-map}
-use Rattle.std.proofs.lemmas.Bool.{eqb-true, eq-eqb}
+use Rattle.std.proofs.lemmas.Bool.{eq-eqb}
 use Rattle.std.proofs.lemmas.Bool.Decides.{nat_tests}
-use Rattle.std.proofs.lemmas.List.{length-append, length-map, map-append}
-use Rattle.std.proofs.lemmas.Slice.Eq.{bytes_eq-Decides}
+use Rattle.std.proofs.lemmas.List.{length-map, map-append}
 use denote.Hole.Carrier.{out}
 use Rattle.wc_text.specs.declared.names.Handle.{Handle}
 use Rattle.wc_lines.specs.declared.line.Line.{Line}
 use Rattle.wc_lines.specs.Ring.{last_of}
 use Rattle.wc_objects.specs.declared.kind.Kind.TheVariants as k
-use Rattle.wc_objects.specs.declared.object.Object.{Object}
-use Rattle.wc_objects.specs.declared.object.Object.TheOpen.{Object-F}
 use Rattle.wc_objects.specs.declared.object.Object.TheVariants as o
-use Rattle.wc_objects.specs.declared.object.Object.TheViews.{out-Object, out-roll-Object, out-roll-Hda, out-roll-HdaItem}
+use Rattle.wc_objects.specs.declared.object.Object.TheViews.{out-Object, out-roll-Object, out-roll-Hda}
 use Rattle.wc_objects.specs.declared.object.HdaItem.{HdaItem}
-use Rattle.wc_objects.specs.declared.object.WireMessage.{WireMessage}
-use Rattle.wc_told.specs.LineObjects.{truth, moment, texts, line_keys, line_values, on_path, added_item, added_objects, dumped_item, line_dump, line_added}
-use Rattle.wc_view.specs.declared.mirror_line.MirrorLine.{MirrorLine}
+use Rattle.wc_told.specs.LineObjects.{truth, moment, texts, line_values, on_path, added_item, added_objects, dumped_item, line_dump, line_added}
 use Rattle.wc_view.specs.declared.rows.LineRow.{LineRow}
-use Rattle.wc_view.specs.Each.{onto, each, only}
-use Rattle.wc_view.specs.Values.{pointer_in, date_in, level_in, truth_in, truth_of, text_in, texts_in}
-use Rattle.wc_view.specs.Rows.{marks_in, line_texts_in, row_of, row_in, rows_on, is_text}
+use Rattle.wc_view.specs.Each.{each}
+use Rattle.wc_view.specs.Values.{pointer_in, date_in, level_in, truth_in, text_in, texts_in}
+use Rattle.wc_view.specs.Rows.{marks_in, line_texts_in, row_of, row_in, rows_on}
 use Rattle.wc_view.specs.Parts.{Part, lines_at, with_row, lines_of, part_of}
-use Rattle.wc_view.specs.Fold.{fold_lines, fold_dump, fold_added, dumped, grown, only_row}
+use Rattle.wc_view.specs.Fold.{fold_lines, dumped, grown, only_row}
 use Rattle.wc_view.specs.Views.{shown_date, shown_line, view_of, HasLines, reply, DumpShows, EventShows}
-use Rattle.wc_view.proofs.EntryLemmas.{by_bool, tied, last_all}
-use Rattle.wc_view.proofs.PartLemmas.{part_lines, last_with}
+use Rattle.wc_view.proofs.EntryLemmas.{tied, last_all}
+use Rattle.wc_view.proofs.PartLemmas.{part_lines}
 
 pointer_told : (n : ℕ) → pointer_in (o.Ptr n) ≡ Some n
 unfolding out-Object out

@@ -1,17 +1,16 @@
 -- The lines of each buffer among rows.
-use Rattle.std.proofs.Common.{◌≡◌, ℕ, zero, suc, ◌+◌, ◌-◌, ◌≤◌, Bool, true, false, cond, List, [], ◌∷◌, ◌++◌, length, take, drop, map, Option, Some, None, refl, sym, ap, subst, ◌∙◌, arith, eqb}
-use Rattle.std.specs.Prelude.{filter, unwrap_or}
+use Rattle.std.proofs.Common.{◌≡◌, ℕ, zero, suc, ◌+◌, ◌-◌, ◌≤◌, Bool, true, false, cond, List, [], ◌∷◌, ◌++◌, length, drop, map, Some, None, refl, sym, ap, ◌∙◌, arith, eqb}
+use Rattle.std.specs.Prelude.{unwrap_or}
 use Rattle.std.proofs.lemmas.List.{length-append, length-drop, drop-append-le, drop-drop}
 use Rattle.std.proofs.lemmas.Bool.{eqb-true, eq-eqb}
 use Rattle.std.proofs.lemmas.Bool.Decides.{nat_tests}
-use Rattle.std.specs.FinMap.{insert, find, get, get-insert, get-from_entries, same_map, nat_cmp-IsAntisymmetric}
-use Rattle.std.specs.Ordering.{nat_cmp, eq_by_cmp}
+use Rattle.std.specs.FinMap.{find, get, get-insert, get-from_entries, same_map, nat_cmp-IsAntisymmetric}
+use Rattle.std.specs.Ordering.{nat_cmp}
 use Rattle.std.specs.Cmp.{nat_cmp_total}
 use Rattle.wc_lines.specs.Ring.{last_of}
 use Rattle.wc_view.specs.declared.mirror_line.MirrorLine.{MirrorLine}
 use Rattle.wc_view.specs.declared.rows.LineRow.{LineRow}
-use Rattle.wc_view.specs.Entries.{Entry}
-use Rattle.wc_view.specs.Parts.{Part, lines_at, with_row, lines_of, part_of}
+use Rattle.wc_view.specs.Parts.{lines_at, with_row, lines_of, part_of}
 use Rattle.wc_view.proofs.EntryLemmas.{by_bool, tied}
 
 -- a line behind the last n, and of these the last n

@@ -1,5 +1,5 @@
 -- A call that takes no byte had too few.
-use Rattle.std.proofs.Common.{◌≡◌, ℕ, ◌+◌, List, length, take, Option, Some, None, sym, ap, ◌∙◌, arith}
+use Rattle.std.proofs.Common.{◌≡◌, ℕ, List, length, Some, None, sym, ap, ◌∙◌, arith}
 use Rattle.std.specs.Prelude.{Result, Ok, Err, IsTrue, IfOk, IfSome, IfNone}
 use Rattle.std.proofs.lemmas.List.{length-take}
 use Rattle.wc_objects.specs.declared.object.WireMessage.{WireMessage}

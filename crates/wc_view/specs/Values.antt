@@ -1,6 +1,6 @@
 -- What the values of a line say. None where the value is of another kind, or has a number or a null text that a
 -- line can not have.
-use Rattle.std.specs.Prelude.{ℕ, ℤ, pos, negsuc, Bool, true, false, List, Option, Some, None, if◌then◌else◌}
+use Rattle.std.specs.Prelude.{ℕ, ℤ, pos, Bool, true, false, List, Option, Some, None, if◌then◌else◌}
 use Rattle.std.specs.Ordering.{int_eq}
 use Rattle.wc_objects.specs.declared.kind.Kind.TheVariants.{Str}
 use Rattle.wc_objects.specs.declared.object.Object.{Object, out-Object}

@@ -1,5 +1,5 @@
 -- What a client has of a buffer, where it has the lines that the buffer holds.
-use Rattle.std.specs.Prelude.{◌≡◌, ℕ, ◌^◌, ◌-◌, ◌≤◌, nat_le, Bool, false, ◌==◌, List, [], ◌∷◌, ◌++◌, length, map, codes, bytes_eq, Option, None, Some, if◌then◌else◌}
+use Rattle.std.specs.Prelude.{◌≡◌, ℕ, ◌^◌, ◌-◌, ◌≤◌, nat_le, false, ◌==◌, List, [], ◌∷◌, ◌++◌, length, map, codes, bytes_eq, Option, None, Some, if◌then◌else◌}
 use Rattle.wc_text.specs.declared.names.Handle.{Handle}
 use Rattle.wc_lines.specs.declared.line.Line.{Line}
 use Rattle.wc_lines.specs.Ring.{last_of}
