@@ -1,0 +1,9 @@
+use Rattle.std.proofs.Common.{◌≡◌, vec_len}
+use Rattle.wc_lines.specs.Ring.{last_of}
+use Rattle.wc_view.proofs.buffer_lines.keep_last.Given as goal
+
+abbrev pub invariant-loop-lines : goal.invariant-loop-lines
+invariant-loop-lines l = last_of l.limit l.lines.items ≡ last_of l.limit l.initial.lines.items
+
+abbrev pub decreases-loop-lines : goal.decreases-loop-lines
+decreases-loop-lines l = vec_len l.lines

@@ -1,0 +1,9 @@
+pub mod Each
+pub mod Entries
+pub mod Fold
+pub mod Ids
+pub mod Parts
+pub mod Rows
+pub mod Taking
+pub mod Values
+pub mod Views

@@ -1,0 +1,69 @@
+-- The lines that a message tells.
+use Rattle.std.specs.Prelude.{ℕ, ◌-◌, Bool, false, ◌&&◌, List, [], ◌∷◌, length, Option, Some, None, if◌then◌else◌, bytes_eq}
+use Rattle.std.specs.List.{slice_get}
+use Rattle.std.specs.Option.{option_and_then}
+use Rattle.wc_objects.specs.declared.object.Object.{Object, out-Object}
+use Rattle.wc_objects.specs.declared.object.Object.TheOpen.{Object-F}
+use Rattle.wc_objects.specs.declared.object.HdaItem.{HdaItem, out-HdaItem}
+use Rattle.wc_objects.specs.declared.object.Hda.{out-Hda}
+use Rattle.wc_objects.specs.Kinds.{Layer}
+use Rattle.wc_told.specs.LineObjects.{line_keys}
+use Rattle.wc_view.specs.declared.rows.LineMarks.{LineMarks}
+use Rattle.wc_view.specs.declared.rows.LineRow.{LineRow}
+use Rattle.wc_view.specs.declared.rows.LineTexts.{LineTexts}
+use Rattle.wc_view.specs.Each.{each}
+use Rattle.wc_view.specs.Values.{pointer_in, date_in, level_in, truth_in, text_in, texts_in}
+
+-- what the values say that are numbers
+unfoldable pub marks_in : Object → Object → Object → Object → Object → Object → Option LineMarks
+marks_in buffer date printed displayed notify highlight =
+    option_and_then (λ buffer. option_and_then (λ date. option_and_then (λ printed.
+    option_and_then (λ displayed. option_and_then (λ notify. option_and_then (λ highlight.
+    Some (record { buffer = buffer; date = date; date_printed = printed; displayed = displayed; notify = notify; highlight = highlight }))
+    (truth_in highlight)) (level_in notify)) (truth_in displayed)) (date_in printed)) (date_in date)) (pointer_in buffer)
+
+-- what the values say that are texts
+unfoldable pub line_texts_in : Object → Object → Object → Option LineTexts
+line_texts_in tags prefix message =
+    option_and_then (λ tags. option_and_then (λ prefix. option_and_then (λ message.
+    Some (record { tags = tags; prefix = prefix; message = message })) (text_in message)) (text_in prefix)) (texts_in tags)
+
+abbrev pub row_with : ℕ → LineMarks → LineTexts → LineRow
+row_with content marks texts = record {
+  buffer = marks.buffer;
+  line = record {
+    content = record { 0 = content };
+    date = marks.date;
+    date_printed = marks.date_printed;
+    displayed = marks.displayed;
+    notify = marks.notify;
+    highlight = marks.highlight;
+    tags = texts.tags;
+    prefix = texts.prefix;
+    message = texts.message;
+  };
+}
+
+-- a line and its buffer, by the last pointer, which is that of the line's content, and the values in the order of the keys
+abbrev pub row_of : Option ℕ → List Object → Option LineRow
+row_of content (buffer ∷ date ∷ printed ∷ displayed ∷ notify ∷ highlight ∷ tags ∷ prefix ∷ message ∷ []) =
+    option_and_then (λ content. option_and_then (λ marks. option_and_then (λ texts. Some (row_with content marks texts))
+    (line_texts_in tags prefix message)) (marks_in buffer date printed displayed notify highlight)) content
+row_of content _ = None
+
+unfoldable pub row_in : HdaItem → Option LineRow
+row_in item = row_of (slice_get (out-HdaItem item).pointers (length (out-HdaItem item).pointers - 1)) (out-HdaItem item).values
+
+abbrev pub is_text : List ℕ → Option (List ℕ) → Bool
+is_text text None = false
+is_text text (Some found) = bytes_eq found text
+
+abbrev pub rows_layer : List ℕ → Layer → Option (List LineRow)
+rows_layer path (Object-F.Hda hda) =
+    if is_text path (out-Hda hda).path && is_text line_keys (out-Hda hda).keys then each row_in (out-Hda hda).items else None
+rows_layer path _ = None
+
+-- the lines of a message of one hda on this path with the keys of a line, each of whose items says a line
+unfoldable pub rows_on : List ℕ → List Object → Option (List LineRow)
+rows_on path (object ∷ []) = rows_layer path (out-Object object)
+rows_on path _ = None

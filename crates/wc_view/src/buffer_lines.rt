@@ -1,0 +1,145 @@
+//! The lines of each buffer.
+
+ghost use Rattle.std.specs.Prelude.{◌≡◌, ℕ, ◌<◌, ◌++◌, ◌∷◌, [], length, None, IfOk, IfSome, IfNone, OnOk, OnErr};
+ghost use Rattle.std.specs.FinMap.{find};
+ghost use Rattle.std.specs.Ordering.{nat_cmp};
+ghost use Rattle.wc_lines.specs.Ring.{last_of};
+ghost use Rattle.wc_view.specs.Entries.{part_at, IsEntry};
+ghost use Rattle.wc_view.specs.Parts.{lines_at, with_row, part_of};
+
+use crate::mirror_line::MirrorLine;
+use crate::rows::LineRow;
+use std::alloc::Global;
+use std::marker::Model;
+use wc_text::NoMemory;
+
+/// A buffer's handle and its lines, from the oldest.
+#[derive(Drop)]
+pub(crate) struct BufferLines {
+    buffer: u64,
+    lines: Vec<MirrorLine>,
+}
+
+impl Model for BufferLines {
+    ghost use Rattle.std.specs.Prelude.{List, ℕ};
+    ghost use Rattle.wc_view.specs.declared.mirror_line.MirrorLine.{MirrorLine};
+
+    ghost Value = { ℕ × List MirrorLine };
+
+    ghost view = { λ b. (b.buffer, b.lines.items) };
+}
+
+impl BufferLines {
+    fn new(alloc: Global, buffer: u64) -> BufferLines
+        ensures { result ≡ (buffer, []) }
+    {
+        BufferLines {
+            buffer,
+            lines: Vec::new(alloc),
+        }
+    }
+
+    fn buffer(&self) -> u64
+        ensures { result ≡ self.now.0 }
+    {
+        self.buffer
+    }
+
+    fn lines(&self) -> &[MirrorLine]
+        ensures { result.now ≡ self.now.1 }
+    {
+        self.lines.as_slice()
+    }
+
+    /// Puts a line behind the others, of which the oldest go above the limit. Where memory is refused, all stay.
+    fn push(&mut self, line: MirrorLine, limit: usize) -> Result<(), NoMemory>
+        ensures ok { OnOk result (self.new ≡ (self.old.0, last_of limit (self.old.1 ++ line ∷ []))) }
+        ensures err { OnErr result (self.new ≡ self.old) }
+    {
+        match self.lines.push(line) {
+            Ok(()) => {
+                keep_last(&mut self.lines, limit);
+                Ok(())
+            }
+            Err(_) => Err(NoMemory),
+        }
+    }
+}
+
+#[tactic(auto, using(crate::proofs::EntryLemmas::last_all, crate::proofs::EntryLemmas::last_shorter))]
+fn keep_last(lines: &mut Vec<MirrorLine>, limit: usize)
+    ensures { lines.new.items ≡ last_of limit lines.old.items }
+{
+    while lines.len() > limit {
+        let _ = lines.remove(0);
+    }
+}
+
+#[tactic(auto, using(crate::proofs::EntryLemmas::find_more))]
+fn place_of(entries: &[BufferLines], buffer: u64) -> Option<usize>
+    ensures some { IfSome result (λ i. (i < length entries.now) × IsEntry buffer i entries.now) }
+    ensures none { IfNone result (find nat_cmp buffer entries.now ≡ None) }
+{
+    for i in 0..entries.len() {
+        if entries[i].buffer() == buffer {
+            return Some(i);
+        }
+    }
+    None
+}
+
+/// The lines of a buffer, none where it is not there.
+#[tactic(auto, using(crate::proofs::EntryLemmas::entry_shown, crate::proofs::EntryLemmas::none_shown))]
+pub(crate) fn lines_of(entries: &[BufferLines], buffer: u64) -> &[MirrorLine]
+    ensures { result.now ≡ lines_at (part_at entries.now) buffer }
+{
+    match place_of(entries, buffer) {
+        Some(place) => entries[place].lines(),
+        None => &[],
+    }
+}
+
+/// Puts a line behind the others of its buffer, of which the oldest go above the limit. Where memory is refused,
+/// all stay.
+#[tactic(auto, using(crate::proofs::EntryLemmas::row_at, crate::proofs::EntryLemmas::row_new))]
+pub(crate) fn add_row(
+    entries: &mut Vec<BufferLines>,
+    alloc: Global,
+    row: LineRow,
+    limit: usize,
+) -> Result<(), NoMemory>
+    ensures ok { OnOk result (part_at entries.new.items ≡ with_row limit row (part_at entries.old.items)) }
+    ensures err { OnErr result (entries.new.items ≡ entries.old.items) }
+{
+    match place_of(entries.as_slice(), row.buffer) {
+        Some(place) => {
+            let entry = &mut entries[place];
+            entry.push(row.line, limit)?;
+            Ok(())
+        }
+        None => {
+            let mut entry = BufferLines::new(alloc, row.buffer);
+            entry.push(row.line, limit)?;
+            match entries.push(entry) {
+                Ok(()) => Ok(()),
+                Err(_) => Err(NoMemory),
+            }
+        }
+    }
+}
+
+/// The last lines of each buffer, up to the limit.
+#[tactic(auto, using(crate::proofs::PartLemmas::rows_more))]
+pub(crate) fn of_rows(
+    alloc: Global,
+    rows: Vec<LineRow>,
+    limit: usize,
+) -> Result<Vec<BufferLines>, NoMemory>
+    ensures { IfOk result (λ entries. part_at entries.items ≡ part_of limit rows.items) }
+{
+    let mut entries = Vec::new(alloc);
+    for row in rows {
+        add_row(&mut entries, alloc, row, limit)?;
+    }
+    Ok(entries)
+}

@@ -1,0 +1,212 @@
+//! The lines that a message tells.
+
+ghost use Rattle.std.specs.Prelude.{◌≡◌, Option, option_map, List, IfOk};
+ghost use Rattle.wc_view.specs.Each.{each, only};
+ghost use Rattle.wc_view.specs.Rows.{marks_in, line_texts_in, row_with, row_in, rows_on, rows_layer, is_text};
+ghost use Rattle.wc_objects.specs.declared.object.Object.{out-Object};
+
+use crate::mirror_line::MirrorLine;
+use crate::values::{date_in, level_in, pointer_in, text_copy, texts_in, truth_in};
+use std::alloc::Global;
+use wc_objects::{HdaItem, Object};
+use wc_text::{Handle, Items, NoMemory, Text};
+
+/// The keys of a line, in the event and in the dump.
+const LINE_KEYS: &[u8] =
+    b"buffer:ptr,date:tim,date_printed:tim,displayed:chr,notify_level:chr,highlight:chr,tags_array:arr,prefix:str,message:str";
+
+/// A line and the handle of its buffer.
+#[derive(Drop)]
+pub(crate) struct LineRow {
+    pub buffer: u64,
+    pub line: MirrorLine,
+}
+
+/// What a line's numbers say.
+#[derive(Clone, Copy)]
+pub(crate) struct LineMarks {
+    pub buffer: u64,
+    pub date: u64,
+    pub date_printed: u64,
+    pub displayed: bool,
+    pub notify: i8,
+    pub highlight: bool,
+}
+
+/// What a line's texts say.
+#[derive(Drop)]
+pub(crate) struct LineTexts {
+    pub tags: Items<Text>,
+    pub prefix: Text,
+    pub message: Text,
+}
+
+/// What the values say that are numbers. None where one can not be that of a line.
+#[tactic(auto, unfolding(crate::specs::Rows::marks_in))]
+fn marks_in(
+    buffer: &Object,
+    date: &Object,
+    printed: &Object,
+    displayed: &Object,
+    notify: &Object,
+    highlight: &Object,
+) -> Option<LineMarks>
+    ensures { result ≡ marks_in buffer.now date.now printed.now displayed.now notify.now highlight.now }
+{
+    let Some(buffer) = pointer_in(buffer) else {
+        return None;
+    };
+    let Some(date) = date_in(date) else {
+        return None;
+    };
+    let Some(date_printed) = date_in(printed) else {
+        return None;
+    };
+    let Some(displayed) = truth_in(displayed) else {
+        return None;
+    };
+    let Some(notify) = level_in(notify) else {
+        return None;
+    };
+    let Some(highlight) = truth_in(highlight) else {
+        return None;
+    };
+    Some(LineMarks {
+        buffer,
+        date,
+        date_printed,
+        displayed,
+        notify,
+        highlight,
+    })
+}
+
+/// What the values say that are texts. None where one is null.
+#[tactic(auto, unfolding(crate::specs::Rows::line_texts_in))]
+fn line_texts_in(
+    alloc: Global,
+    tags: &Object,
+    prefix: &Object,
+    message: &Object,
+) -> Result<Option<LineTexts>, NoMemory>
+    ensures { IfOk result (λ texts. texts ≡ line_texts_in tags.now prefix.now message.now) }
+{
+    let Some(tags) = texts_in(alloc, tags)? else {
+        return Ok(None);
+    };
+    let Some(prefix) = text_copy(alloc, prefix)? else {
+        return Ok(None);
+    };
+    let Some(message) = text_copy(alloc, message)? else {
+        return Ok(None);
+    };
+    Ok(Some(LineTexts {
+        tags,
+        prefix,
+        message,
+    }))
+}
+
+fn row_with(content: u64, marks: LineMarks, texts: LineTexts) -> LineRow
+    ensures { result ≡ row_with content marks texts }
+{
+    let line = MirrorLine {
+        content: Handle(content),
+        date: marks.date,
+        date_printed: marks.date_printed,
+        displayed: marks.displayed,
+        notify: marks.notify,
+        highlight: marks.highlight,
+        tags: texts.tags,
+        prefix: texts.prefix,
+        message: texts.message,
+    };
+    LineRow {
+        buffer: marks.buffer,
+        line,
+    }
+}
+
+/// The line that an item says. None where the item has other values than a line has.
+#[tactic(auto, unfolding(crate::specs::Rows::row_in))]
+fn row_in(alloc: Global, item: &HdaItem) -> Result<Option<LineRow>, NoMemory>
+    ensures { IfOk result (λ row. row ≡ row_in item.now) }
+{
+    let Some(content) = item.pointers.as_slice().last() else {
+        return Ok(None);
+    };
+    let [
+        buffer,
+        date,
+        printed,
+        displayed,
+        notify,
+        highlight,
+        tags,
+        prefix,
+        message,
+    ] = item.values.as_slice()
+    else {
+        return Ok(None);
+    };
+    let Some(marks) = marks_in(buffer, date, printed, displayed, notify, highlight) else {
+        return Ok(None);
+    };
+    let Some(texts) = line_texts_in(alloc, tags, prefix, message)? else {
+        return Ok(None);
+    };
+    Ok(Some(row_with(*content, marks, texts)))
+}
+
+/// The lines that items say. None where one says none.
+#[tactic(auto, using(crate::proofs::EachLemmas::one_more, crate::proofs::EachLemmas::none_there, crate::proofs::EachLemmas::all_there))]
+fn each_row(alloc: Global, items: &Items<HdaItem>) -> Result<Option<Vec<LineRow>>, NoMemory>
+    ensures { IfOk result (λ rows. option_map (λ v. v.items) rows ≡ each row_in items.now) }
+{
+    let mut rows = Vec::new(alloc);
+    for item in items.as_slice() {
+        let Some(row) = row_in(alloc, item)? else {
+            return Ok(None);
+        };
+        if rows.push(row).is_err() {
+            return Err(NoMemory);
+        }
+    }
+    Ok(Some(rows))
+}
+
+fn is_text(found: &Option<Text>, text: &[u8]) -> bool
+    ensures { result ≡ is_text text.now found.now }
+{
+    match found {
+        Some(found) => found.as_slice() == text,
+        None => false,
+    }
+}
+
+/// The lines of a message of one `hda` on this path with the keys of a line. None of any other message, and where
+/// some item says no line.
+#[tactic(auto, unfolding(crate::specs::Rows::rows_on))]
+pub(crate) fn rows_on(
+    alloc: Global,
+    path: &[u8],
+    objects: &Items<Object>,
+) -> Result<Option<Vec<LineRow>>, NoMemory>
+    ensures { IfOk result (λ rows. option_map (λ v. v.items) rows ≡ rows_on path.now objects.now) }
+{
+    let [Object::Hda(hda)] = objects.as_slice() else {
+        return Ok(None);
+    };
+    if is_text(&hda.path, path) && is_text(&hda.keys, LINE_KEYS) {
+        each_row(alloc, &hda.items)
+    } else {
+        Ok(None)
+    }
+}
+
+/// The one line of these, and None where they are more or fewer.
+pub(crate) fn only_row(mut rows: Vec<LineRow>) -> Option<LineRow>
+    ensures { result ≡ only rows.items }
+{
+    if rows.len() == 1 { rows.pop() } else { None }
+}
