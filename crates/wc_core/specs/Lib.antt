@@ -1,0 +1,4 @@
+pub mod Events
+pub mod Typed
+pub mod State
+pub mod Step

@@ -1,0 +1,151 @@
+-- What the core does at each event.
+use Rattle.std.specs.Prelude.{ℕ, ℤ, pos, ◌+◌, ◌-◌, ◌/◌, Bool, true, false, List, [], ◌∷◌, ◌++◌, map, length, take, drop, nat_lt, if◌then◌else◌, ◌==◌, Option, Some, None}
+use Rattle.std.specs.List.{flat_map}
+use Rattle.wc_text.specs.Cut.{cut_of}
+use Rattle.wc_text.specs.declared.names.Cause.{Cause}
+use Rattle.wc_text.specs.declared.names.Cause.TheVariants.{Ended, Failed, Surplus}
+use Rattle.wc_text.specs.declared.names.LinkId.{LinkId}
+use Rattle.wc_lines.specs.declared.line.Line.{Line}
+use Rattle.wc_objects.specs.declared.object.WireMessage.{WireMessage}
+use Rattle.wc_relaycmd.specs.Answers.{request_of}
+use Rattle.wc_relaycmd.specs.declared.request.Request.{Request}
+use Rattle.wc_session.specs.declared.client.Client.{Client}
+use Rattle.wc_session.specs.declared.outcome.Outcome.{Outcome}
+use Rattle.wc_session.specs.declared.outcome.Outcome.TheVariants as outcome
+use Rattle.wc_session.specs.Known.{new_client}
+use Rattle.wc_session.specs.Reply.{Answer, reply_of, line_told}
+use Rattle.wc_session.specs.Sending.{spelling}
+use Rattle.wc_core.specs.Events.{Event, Start, Tick, Arrives, Line as LineCame, Ends, Fails, ListenFails}
+use Rattle.wc_core.specs.State.{State, Act, Sends, Closes, Quits, Stepped}
+use Rattle.wc_core.specs.Typed.{Typed, Nothing, Prints, Quits as TypedQuits, typed_line, parted}
+
+abbrev pub client_link : Client → ℕ
+client_link client = client.link.0
+
+-- how many clients are open at most
+abbrev pub client_limit : ℕ
+client_limit = 5
+
+abbrev pub stays : State → Stepped
+stays state = record { state = state; acts = [] }
+
+abbrev pub then_does : Stepped → (State → Stepped) → Stepped
+then_does first others = record { state = (others first.state).state; acts = first.acts ++ (others first.state).acts }
+
+-- messages for the client of a link
+abbrev pub sends : ℕ → List WireMessage → List Act
+sends link messages = map (λ m. Sends link (spelling m)) messages
+
+-- ---- lines
+
+-- the line that is printed next: its date is the last moment in seconds
+abbrev pub next_line : State → List ℕ → List ℕ → Line
+next_line state prefix message = record {
+  handle = record { 0 = state.next };
+  content = record { 0 = state.next + 1 };
+  date = state.moment / 1000;
+  date_printed = state.moment / 1000;
+  displayed = true;
+  notify = pos 0;
+  highlight = false;
+  tags = [];
+  prefix = take (cut_of prefix 128) prefix;
+  message = take (cut_of message 1024) message;
+}
+
+-- the last ones of these lines
+abbrev pub last_lines : ℕ → List Line → List Line
+last_lines limit lines = drop (length lines - limit) lines
+
+abbrev pub told_to : Line → Client → List Act
+told_to line client = sends (client_link client) (line_told client line)
+
+-- a line stands in the buffer, and is told to each client that asked for it
+abbrev pub prints : State → Line → Stepped
+prints state line = record {
+  state = record state { lines = last_lines state.limit (state.lines ++ line ∷ []); next = state.next + 2 };
+  acts = flat_map (told_to line) state.clients;
+}
+
+-- ---- what is typed
+
+-- one line that is typed; behind a `/quit` nothing is done
+abbrev pub does : State → Typed → Stepped
+does state Nothing = stays state
+does state (Prints prefix message) = prints state (next_line state prefix message)
+does state TypedQuits = record { state = state; acts = Quits ∷ [] }
+
+abbrev pub is_quit : Typed → Bool
+is_quit Nothing = false
+is_quit (Prints prefix message) = false
+is_quit TypedQuits = true
+
+abbrev pub runs : State → List (List ℕ) → Stepped
+runs state [] = stays state
+runs state (line ∷ lines) =
+    let typed = typed_line line in
+    if is_quit typed then does state typed else then_does (does state typed) (λ next. runs next lines)
+
+-- ---- clients
+
+-- the first client of a link
+abbrev pub client_of : ℕ → List Client → Option Client
+client_of link [] = None
+client_of link (client ∷ clients) = if client_link client == link then Some client else client_of link clients
+
+abbrev pub without_client : ℕ → List Client → List Client
+without_client link [] = []
+without_client link (client ∷ clients) = if client_link client == link then without_client link clients else client ∷ without_client link clients
+
+abbrev pub put_client : ℕ → Client → List Client → List Client
+put_client link new [] = []
+put_client link new (client ∷ clients) = if client_link client == link then new ∷ clients else client ∷ put_client link new clients
+
+abbrev pub leaves : State → ℕ → Cause → Stepped
+leaves state link cause = record { state = record state { clients = without_client link state.clients }; acts = Closes link cause ∷ [] }
+
+-- what an answer asks of the core, behind its messages
+abbrev pub follows : State → ℕ → Outcome → Stepped
+follows state link outcome.Replied = stays state
+follows state link outcome.Silent = stays state
+follows state link (outcome.Input buffer text) = runs state (parted text)
+follows state link (outcome.Leave cause) = leaves state link cause
+follows state link outcome.NoMemory = stays state
+
+abbrev pub answers : State → ℕ → Answer → Stepped
+answers state link answer =
+    then_does (record { state = record state { clients = put_client link answer.client state.clients }; acts = sends link answer.messages })
+    (λ next. follows next link answer.outcome)
+
+-- a line of a client, where it is open and its line is a request
+abbrev pub asked : State → Client → Option Request → Stepped
+asked state client None = stays state
+asked state client (Some request) = answers state (client_link client) (reply_of state.lines state.password client request)
+
+abbrev pub line_came : State → List ℕ → Option Client → Stepped
+line_came state line None = stays state
+line_came state line (Some client) = asked state client (request_of client.escaped line)
+
+abbrev pub lost : State → ℕ → Cause → Option Client → Stepped
+lost state link cause None = stays state
+lost state link cause (Some client) = leaves state link cause
+
+abbrev pub arrives : State → ℕ → List ℕ → Stepped
+arrives state link nonce =
+    if nat_lt (length state.clients) client_limit then stays (record state { clients = state.clients ++ new_client (record { 0 = link }) nonce ∷ [] })
+    else record { state = state; acts = Closes link Surplus ∷ [] }
+
+-- what the core does at an event
+abbrev pub step : State → Event → Stepped
+step state (Start moment) = stays (record state { moment = moment })
+step state (Tick moment) = stays (record state { moment = moment })
+step state (Arrives link nonce) = arrives state link nonce
+step state (LineCame link line) = line_came state line (client_of link state.clients)
+step state (Ends link) = lost state link Ended (client_of link state.clients)
+step state (Fails link) = lost state link Failed (client_of link state.clients)
+step state ListenFails = stays state
+
+-- what it does at one event after another
+abbrev pub run : State → List Event → Stepped
+run state [] = stays state
+run state (event ∷ events) = then_does (step state event) (λ next. run next events)
