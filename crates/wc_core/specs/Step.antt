@@ -1,10 +1,11 @@
 -- What the core does at each event.
-use Rattle.std.specs.Prelude.{ℕ, ℤ, pos, ◌+◌, ◌-◌, ◌/◌, Bool, true, false, List, [], ◌∷◌, ◌++◌, map, length, take, drop, nat_lt, if◌then◌else◌, ◌==◌, Option, Some, None}
+use Rattle.std.specs.Prelude.{ℕ, ℤ, pos, ◌+◌, ◌-◌, ◌/◌, ◌^◌, Bool, true, false, List, [], ◌∷◌, ◌++◌, map, length, take, drop, nat_lt, if◌then◌else◌, Option, Some, None}
 use Rattle.std.specs.List.{flat_map}
 use Rattle.wc_text.specs.Cut.{cut_of}
 use Rattle.wc_text.specs.declared.names.Cause.{Cause}
 use Rattle.wc_text.specs.declared.names.Cause.TheVariants.{Ended, Failed, Surplus}
 use Rattle.wc_text.specs.declared.names.LinkId.{LinkId}
+use Rattle.wc_outside.specs.Keyed.{at_key, put_at, without}
 use Rattle.wc_lines.specs.declared.line.Line.{Line}
 use Rattle.wc_objects.specs.declared.object.WireMessage.{WireMessage}
 use Rattle.wc_relaycmd.specs.Answers.{request_of}
@@ -67,12 +68,20 @@ prints state line = record {
   acts = flat_map (told_to line) state.clients;
 }
 
+-- handles are numbers up to this one
+abbrev pub last_handle : ℕ
+last_handle = 2 ^ 62
+
+-- the same, where the two handles of a line are left; a line that would tell that none are would find none either
+abbrev pub prints_text : State → List ℕ → List ℕ → Stepped
+prints_text state prefix message = if nat_lt state.next last_handle then prints state (next_line state prefix message) else stays state
+
 -- ---- what is typed
 
 -- one line that is typed; behind a `/quit` nothing is done
 abbrev pub does : State → Typed → Stepped
 does state Nothing = stays state
-does state (Prints prefix message) = prints state (next_line state prefix message)
+does state (Prints prefix message) = prints_text state prefix message
 does state TypedQuits = record { state = state; acts = Quits ∷ [] }
 
 abbrev pub is_quit : Typed → Bool
@@ -88,21 +97,8 @@ runs state (line ∷ lines) =
 
 -- ---- clients
 
--- the first client of a link
-abbrev pub client_of : ℕ → List Client → Option Client
-client_of link [] = None
-client_of link (client ∷ clients) = if client_link client == link then Some client else client_of link clients
-
-abbrev pub without_client : ℕ → List Client → List Client
-without_client link [] = []
-without_client link (client ∷ clients) = if client_link client == link then without_client link clients else client ∷ without_client link clients
-
-abbrev pub put_client : ℕ → Client → List Client → List Client
-put_client link new [] = []
-put_client link new (client ∷ clients) = if client_link client == link then new ∷ clients else client ∷ put_client link new clients
-
 abbrev pub leaves : State → ℕ → Cause → Stepped
-leaves state link cause = record { state = record state { clients = without_client link state.clients }; acts = Closes link cause ∷ [] }
+leaves state link cause = record { state = record state { clients = without client_link link state.clients }; acts = Closes link cause ∷ [] }
 
 -- what an answer asks of the core, behind its messages
 abbrev pub follows : State → ℕ → Outcome → Stepped
@@ -114,7 +110,7 @@ follows state link outcome.NoMemory = stays state
 
 abbrev pub answers : State → ℕ → Answer → Stepped
 answers state link answer =
-    then_does (record { state = record state { clients = put_client link answer.client state.clients }; acts = sends link answer.messages })
+    then_does (record { state = record state { clients = put_at client_link link answer.client state.clients }; acts = sends link answer.messages })
     (λ next. follows next link answer.outcome)
 
 -- a line of a client, where it is open and its line is a request
@@ -140,9 +136,9 @@ abbrev pub step : State → Event → Stepped
 step state (Start moment) = stays (record state { moment = moment })
 step state (Tick moment) = stays (record state { moment = moment })
 step state (Arrives link nonce) = arrives state link nonce
-step state (LineCame link line) = line_came state line (client_of link state.clients)
-step state (Ends link) = lost state link Ended (client_of link state.clients)
-step state (Fails link) = lost state link Failed (client_of link state.clients)
+step state (LineCame link line) = line_came state line (at_key client_link link state.clients)
+step state (Ends link) = lost state link Ended (at_key client_link link state.clients)
+step state (Fails link) = lost state link Failed (at_key client_link link state.clients)
 step state ListenFails = stays state
 
 -- what it does at one event after another

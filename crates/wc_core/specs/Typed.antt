@@ -1,6 +1,8 @@
 -- What a text that is typed into the core buffer asks for.
-use Rattle.std.specs.Prelude.{ℕ, Bool, true, false, List, [], ◌∷◌, ◌++◌, codes, if◌then◌else◌, ◌==◌}
-use Rattle.std.specs.Str.{bytes_eq}
+use Rattle.std.specs.Prelude.{ℕ, List, [], ◌∷◌, ◌++◌, codes, if◌then◌else◌, ◌==◌, Option, Some, None}
+use Rattle.std.specs.Str.{bytes_eq, IsUtf8}
+use Rattle.wc_relaycmd.specs.Cuts.{before, behind}
+use Rattle.wc_relaycmd.specs.Words.{word_of, rest_of}
 
 pub data Typed : Type 0 where
   Nothing : Typed
@@ -16,27 +18,6 @@ parted_from line (b ∷ text) = if b == 10 then line ∷ parted_from [] text els
 abbrev pub parted : List ℕ → List (List ℕ)
 parted text = parted_from [] text
 
--- what stands before the first of a byte, and what stands behind it
-abbrev pub before : ℕ → List ℕ → List ℕ
-before mark [] = []
-before mark (b ∷ text) = if b == mark then [] else b ∷ before mark text
-
-abbrev pub has : ℕ → List ℕ → Bool
-has mark [] = false
-has mark (b ∷ text) = if b == mark then true else has mark text
-
-abbrev pub behind : ℕ → List ℕ → List ℕ
-behind mark [] = []
-behind mark (b ∷ text) = if b == mark then text else behind mark text
-
-abbrev pub without_blanks : List ℕ → List ℕ
-without_blanks [] = []
-without_blanks (b ∷ text) = if b == 32 then without_blanks text else b ∷ text
-
-abbrev pub begins_with : ℕ → List ℕ → Bool
-begins_with mark [] = false
-begins_with mark (b ∷ text) = b == mark
-
 -- a line that tells a refusal
 abbrev pub refused : List ℕ → Typed
 refused text = Prints (codes "=!=") text
@@ -48,8 +29,12 @@ abbrev pub wrong_arguments : List ℕ → Typed
 wrong_arguments name = refused (codes "wrong arguments: /" ++ name)
 
 -- a tab parts the prefix of a line from its message
+abbrev pub printed_by : List ℕ → Option (List ℕ) → Typed
+printed_by text None = Prints [] text
+printed_by text (Some message) = Prints (before 9 text) message
+
 abbrev pub printed : List ℕ → Typed
-printed text = if has 9 text then Prints (before 9 text) (behind 9 text) else Prints [] text
+printed text = printed_by text (behind 9 text)
 
 -- `/print` and a text, whose first word does not begin with `-`
 abbrev pub print_command : List ℕ → Typed
@@ -66,9 +51,18 @@ command name rest =
     if bytes_eq name (codes "print") then print_command rest else (
     if bytes_eq name (codes "quit") then quit_command rest else unknown_command name)
 
+-- what one line asks for behind a `/`
+abbrev pub slashed : List ℕ → Typed
+slashed [] = command [] []
+slashed (b ∷ text) = if b == 47 then refused (codes "no text here") else command (word_of (b ∷ text)) (rest_of (b ∷ text))
+
 -- what one line asks for: a command behind a `/`, and else nothing that the core buffer can take
 unfoldable pub typed_line : List ℕ → Typed
 typed_line [] = Nothing
-typed_line (b ∷ text) =
-    if b == 47 then (if begins_with 47 text then refused (codes "no text here") else command (before 32 text) (without_blanks (behind 32 text)))
-    else refused (codes "no text here")
+typed_line (b ∷ text) = if b == 47 then slashed text else refused (codes "no text here")
+
+-- the texts that are printed are UTF-8
+abbrev pub TypedUtf8 : Typed → Type 0
+TypedUtf8 Nothing = Unit {0}
+TypedUtf8 (Prints prefix message) = IsUtf8 prefix × IsUtf8 message
+TypedUtf8 Quits = Unit {0}

@@ -1,2 +1,13 @@
-//! The core: clients, the core buffer's lines, and what is typed.
+//! The core: the clients, the lines of the core buffer, and what is typed into it.
 #![tactic(auto)]
+
+mod core_state;
+mod line;
+mod seat;
+mod typed;
+
+pub use core_state::Core;
+pub use seat::Departure;
+
+#[cfg(test)]
+mod tests;
