@@ -1,5 +1,5 @@
 -- How the core follows what it is to do.
-use Rattle.std.specs.Prelude.{◌≡◌, ℕ, ◌+◌, ◌-◌, ◌^◌, ◌<◌, ◌≤◌, Bool, true, false, ◌||◌, is_none, IsTrue, is_some, if◌then◌else◌, ◌==◌, List, [], ◌∷◌, ◌++◌, map, drop, Option, Some, None, IsSome}
+use Rattle.std.specs.Prelude.{◌≡◌, ℕ, ◌+◌, ◌-◌, ◌^◌, ◌<◌, ◌≤◌, Bool, true, false, ◌||◌, is_none, IsTrue, is_some, if◌then◌else◌, ◌==◌, List, [], ◌∷◌, ◌++◌, map, min, drop, Option, Some, None, IsSome}
 use Rattle.wc_text.specs.declared.names.LinkId.{LinkId}
 use Rattle.wc_text.specs.declared.names.Cause.{Cause}
 use Rattle.wc_outside.specs.Keyed.{at_key, put_at}
@@ -139,6 +139,11 @@ pub record MayDo (old new : Standing) (stepped : Stepped) : Type 0 where
   pub keeps : Keeps old new
   pub does : new.starved ≡ old.starved → old.starved < 2 ^ 64 - 1 → Distinct (links_of old) → Did old new stepped
 
+-- memory was refused
+pub record Starves (old new : Standing) : Type 0 where
+  pub keeps : Keeps old new
+  pub count : new.starved ≡ min (old.starved + 1) (2 ^ 64 - 1)
+
 -- a refused arrival has no seat
 abbrev pub refusal : ℕ → Option Cause → List Act
 refusal link None = []
@@ -150,7 +155,7 @@ pub record Came (link : ℕ) (old new : Standing) (refused : Option Cause) (step
   pub bytes : (other : ℕ) → unsent_on other new.seats ≡ unsent_on other old.seats
   pub leaving : (other : ℕ) → leaving_on other new.seats ≡ leaving_on other old.seats
   pub quits : new.quits ≡ old.quits
-  pub refused : stepped.acts ≡ refusal link refused
+  pub acts : stepped.acts ≡ refusal link refused
 
 abbrev pub seats_after : List Seat → List Seat → ℕ → Option Cause → Type 0
 seats_after old new link None = map seat_link new ≡ map seat_link old ++ link ∷ []

@@ -4,12 +4,12 @@ ghost use Rattle.std.specs.Str.{IsUtf8};
 ghost use Rattle.wc_outside.specs.Keyed.{at_key, without, IsPlace};
 ghost use Rattle.wc_lines.specs.LineText.{HasText};
 ghost use Rattle.wc_relaycmd.specs.Utf8.{HasUtf8};
+ghost use Rattle.wc_session.specs.Served.{OnServed, OnNoMemory};
 ghost use Rattle.wc_core.specs.Events.{Start, Tick, Arrives, Line as LineCame};
 ghost use Rattle.wc_core.specs.Typed.{typed_line, parted};
 ghost use Rattle.wc_core.specs.State.{first_state};
 ghost use Rattle.wc_core.specs.Step.{step, stays, prints, prints_text, last_handle, does, is_quit, runs, leaves, lost, follows, asked, client_link};
-ghost use Rattle.wc_core.specs.Served.{seat_link, state_of, unsent_at, gone_at, is_open_at, departure_of, Absent, links_of, MayDo, MayCome, OutcomeUtf8};
-ghost use Rattle.wc_core.specs.State.{Stepped};
+ghost use Rattle.wc_core.specs.Served.{seat_link, state_of, unsent_at, gone_at, is_open_at, departure_of, Absent, links_of, MayDo, MayCome, Starves, OutcomeUtf8};
 
 use crate::line::new_line;
 use crate::seat::{Departure, Seat, drop_seat, first_departure, open_count, seat_place, tell_all};
@@ -153,7 +153,8 @@ impl Core {
         requires place { IsPlace seat_link link.0 self.old.seats place }
         requires opened { is_open_at (at_key seat_link link.0 self.old.seats) ≡ true }
         requires text { OutcomeUtf8 outcome }
-        ensures { MayDo self.old self.new (follows (state_of self.old) link.0 outcome) }
+        ensures does { OnServed outcome (MayDo self.old self.new (follows (state_of self.old) link.0 outcome)) }
+        ensures refused { OnNoMemory outcome (Starves self.old self.new) }
     {
         match outcome {
             Outcome::Replied | Outcome::Silent => {}
@@ -177,8 +178,7 @@ impl Core {
     fn starve_out(&mut self, place: usize, link: LinkId)
         requires place { IsPlace seat_link link.0 self.old.seats place }
         requires opened { is_open_at (at_key seat_link link.0 self.old.seats) ≡ true }
-        ensures does { (stepped : Stepped) → MayDo self.old self.new stepped }
-        ensures starved { self.new.starved ≡ min (self.old.starved + 1) (2 ^ 64 - 1) }
+        ensures { Starves self.old self.new }
     {
         self.leave(place, link, Cause::NoMemory);
         self.starve();
@@ -190,8 +190,8 @@ impl Core {
         ensures { MayDo self.old self.new (runs (state_of self.old) (parted text.now)) }
     {
         let mut left = Some(text);
-        while let Some(text) = left {
-            let (line, behind) = split_once(text, b'\n');
+        while let Some(rest) = left {
+            let (line, behind) = split_once(rest, b'\n');
             if self.run_line(line) {
                 return;
             }

@@ -1,7 +1,7 @@
-ghost use Rattle.std.specs.Prelude.{◌≡◌, ◌==◌, true, IsSome, length, map, position};
+ghost use Rattle.std.specs.Prelude.{◌≡◌, ◌==◌, true, IsSome, length, filter, map, position};
 ghost use Rattle.wc_outside.specs.Keyed.{PlaceOf, without};
 ghost use Rattle.wc_lines.specs.LineText.{HasText};
-ghost use Rattle.wc_core.specs.Served.{seat_link, is_open, clients_of, departure_of, told_seat, SeatKept, SeatsKept};
+ghost use Rattle.wc_core.specs.Served.{seat_link, is_open, departure_of, told_seat, SeatKept, SeatsKept};
 
 use std::alloc::Global;
 use wc_lines::Line;
@@ -62,15 +62,9 @@ pub fn tell_all(seats: &mut [Seat], alloc: Global, line: &Line) -> bool
 
 /// How many clients are open.
 pub fn open_count(seats: &[Seat]) -> usize
-    ensures { result ≡ length (clients_of seats.now) }
+    ensures { result ≡ length (filter (λ seat. is_open seat) seats.now) }
 {
-    let mut count = 0usize;
-    for seat in seats {
-        if seat.is_open() {
-            count += 1;
-        }
-    }
-    count
+    seats.iter().filter(|seat| seat.is_open()).count()
 }
 
 fn position_of(seats: &[Seat], link: LinkId) -> Option<usize>
@@ -97,13 +91,15 @@ pub fn drop_seat(seats: &mut Vec<Seat>, link: LinkId)
 pub fn first_departure(seats: &[Seat]) -> Option<Departure>
     ensures { result ≡ departure_of seats.now }
 {
-    for seat in seats {
+    let mut rest = seats;
+    while let [seat, others @ ..] = rest {
         if let Some(cause) = seat.leaving {
             return Some(Departure {
                 link: seat.session.link(),
                 cause,
             });
         }
+        rest = others;
     }
     None
 }
