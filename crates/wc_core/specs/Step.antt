@@ -39,13 +39,13 @@ sends link messages = map (λ m. Sends link (spelling m)) messages
 
 -- ---- lines
 
--- the line that is printed next: its date is the last moment in seconds
-abbrev pub next_line : State → List ℕ → List ℕ → Line
-next_line state prefix message = record {
-  handle = record { 0 = state.next };
-  content = record { 0 = state.next + 1 };
-  date = state.moment / 1000;
-  date_printed = state.moment / 1000;
+-- a line with this handle, the next one for its content, and this moment, which it has in seconds
+abbrev pub line_at : ℕ → ℕ → List ℕ → List ℕ → Line
+line_at handle moment prefix message = record {
+  handle = record { 0 = handle };
+  content = record { 0 = handle + 1 };
+  date = moment / 1000;
+  date_printed = moment / 1000;
   displayed = true;
   notify = pos 0;
   highlight = false;
@@ -53,6 +53,10 @@ next_line state prefix message = record {
   prefix = take (cut_of prefix 128) prefix;
   message = take (cut_of message 1024) message;
 }
+
+-- the line that is printed next
+abbrev pub next_line : State → List ℕ → List ℕ → Line
+next_line state prefix message = line_at state.next state.moment prefix message
 
 -- the last ones of these lines
 abbrev pub last_lines : ℕ → List Line → List Line

@@ -133,7 +133,7 @@ impl Core {
         match read_request(self.alloc, line, self.seats[place].session.escaped()) {
             Ok(Some(request)) => self.ask(place, link, request),
             Ok(None) => {}
-            Err(NoMemory) => self.starve_out(place, link),
+            Err(NoMemory) => self.starve_out(link),
         }
     }
 
@@ -145,12 +145,11 @@ impl Core {
         ensures { IfSome (at_key seat_link link.0 self.old.seats) (λ seat. MayDo self.old self.new (asked (state_of self.old) seat.session.client (Some request))) }
     {
         let outcome = self.seats[place].session.request(self.alloc, &self.lines, &self.password, request);
-        self.follow(place, link, outcome);
+        self.follow(link, outcome);
     }
 
     /// Does what an answer asks, behind its messages.
-    fn follow(&mut self, place: usize, link: LinkId, outcome: Outcome)
-        requires place { IsPlace seat_link link.0 self.old.seats place }
+    fn follow(&mut self, link: LinkId, outcome: Outcome)
         requires opened { is_open_at (at_key seat_link link.0 self.old.seats) ≡ true }
         requires text { OutcomeUtf8 outcome }
         ensures does { OnServed outcome (MayDo self.old self.new (follows (state_of self.old) link.0 outcome)) }
@@ -159,8 +158,8 @@ impl Core {
         match outcome {
             Outcome::Replied | Outcome::Silent => {}
             Outcome::Input { buffer: _, text } => self.run_lines(text.as_slice()),
-            Outcome::Leave(cause) => self.leave(place, link, cause),
-            Outcome::NoMemory => self.starve_out(place, link),
+            Outcome::Leave(cause) => self.lose(link, cause),
+            Outcome::NoMemory => self.starve_out(link),
         }
     }
 
@@ -169,18 +168,17 @@ impl Core {
         requires place { IsPlace seat_link link.0 self.old.seats place }
         requires opened { is_open_at (at_key seat_link link.0 self.old.seats) ≡ true }
         ensures does { MayDo self.old self.new (leaves (state_of self.old) link.0 cause) }
+        ensures gone { is_open_at (at_key seat_link link.0 self.new.seats) ≡ false }
         ensures starved { self.new.starved ≡ self.old.starved }
     {
         self.seats[place].leaving = Some(cause);
     }
 
-    /// Marks a client that is open as leaving for want of memory.
-    fn starve_out(&mut self, place: usize, link: LinkId)
-        requires place { IsPlace seat_link link.0 self.old.seats place }
-        requires opened { is_open_at (at_key seat_link link.0 self.old.seats) ≡ true }
+    /// Marks the client of a link as leaving for want of memory.
+    fn starve_out(&mut self, link: LinkId)
         ensures { Starves self.old self.new }
     {
-        self.leave(place, link, Cause::NoMemory);
+        self.lose(link, Cause::NoMemory);
         self.starve();
     }
 
@@ -243,11 +241,13 @@ impl Core {
         requires text { HasText line }
         ensures { MayDo self.old self.new (prints (state_of self.old) line) }
     {
-        if !tell_all(&mut self.seats, self.alloc, &line) {
-            self.starve();
-        }
+        let told = tell_all(&mut self.seats, self.alloc, &line);
         let _oldest = self.lines.push(line);
         self.next += 2;
+        if told {
+            return;
+        }
+        self.starve();
     }
 
     /// Serves the loss of a link for this cause: its client, if it is open, is leaving. The cause NoMemory counts as
@@ -256,14 +256,25 @@ impl Core {
         ensures does { MayDo self.old self.new (lost (state_of self.old) link.0 cause (at_key client_link link.0 (state_of self.old).clients)) }
         ensures gone { is_open_at (at_key seat_link link.0 self.new.seats) ≡ false }
     {
-        if cause == Cause::NoMemory {
-            self.starve();
+        self.lose(link, cause);
+        if cause != Cause::NoMemory {
+            return;
         }
-        if let Some(place) = seat_place(&self.seats, link)
-            && self.seats[place].is_open()
-        {
-            self.leave(place, link, cause);
+        self.starve();
+    }
+
+    fn lose(&mut self, link: LinkId, cause: Cause)
+        ensures does { MayDo self.old self.new (lost (state_of self.old) link.0 cause (at_key client_link link.0 (state_of self.old).clients)) }
+        ensures gone { is_open_at (at_key seat_link link.0 self.new.seats) ≡ false }
+        ensures starved { self.new.starved ≡ self.old.starved }
+    {
+        let Some(place) = seat_place(&self.seats, link) else {
+            return;
+        };
+        if !self.seats[place].is_open() {
+            return;
         }
+        self.leave(place, link, cause);
     }
 
     /// The first client that is leaving.

@@ -1,7 +1,7 @@
-ghost use Rattle.std.specs.Prelude.{◌≡◌, ◌++◌, ◌+◌, ◌/◌, ◌^◌, ◌<◌, [], take, true, false, pos, IfOk};
+ghost use Rattle.std.specs.Prelude.{◌≡◌, ◌++◌, ◌^◌, ◌<◌, take, IfOk};
 ghost use Rattle.std.specs.Str.{IsUtf8};
 ghost use Rattle.wc_text.specs.Cut.{cut_of};
-ghost use Rattle.wc_lines.specs.LineText.{HasText};
+ghost use Rattle.wc_core.specs.Step.{line_at};
 
 use std::alloc::Global;
 use wc_lines::Line;
@@ -12,24 +12,23 @@ const PREFIX_LIMIT: usize = 128;
 
 const MESSAGE_LIMIT: usize = 1024;
 
+#[tactic(auto, using(wc_text::proofs::CutLemmas::cut_inside))]
 /// The front of a text that is not longer than the limit.
-fn kept(alloc: Global, text: &[u8], limit: usize) -> Result<Text, NoMemory>
+fn front_of(text: &[u8], limit: usize) -> &[u8]
     requires { IsUtf8 text.now }
-    ensures kept { IfOk result (λ kept. kept ≡ take (cut_of text.now limit) text.now) }
-    ensures text { IfOk result IsUtf8 }
+    ensures { result.now ≡ take (cut_of text.now limit) text.now }
 {
-    Text::from_slice(alloc, &text[..cut(text, limit)])
+    text.split_at(cut(text, limit)).0
 }
 
 /// The message that two texts make.
 fn message_of(alloc: Global, front: &[u8], rest: &[u8]) -> Result<Text, NoMemory>
     requires { IsUtf8 (front.now ++ rest.now) }
-    ensures kept { IfOk result (λ message. message ≡ take (cut_of (front.now ++ rest.now) 1024) (front.now ++ rest.now)) }
-    ensures text { IfOk result IsUtf8 }
+    ensures { IfOk result (λ message. message ≡ take (cut_of (front.now ++ rest.now) 1024) (front.now ++ rest.now)) }
 {
     let mut whole = Text::from_slice(alloc, front)?;
     whole.append(rest)?;
-    kept(alloc, whole.as_slice(), MESSAGE_LIMIT)
+    Text::from_slice(alloc, front_of(whole.as_slice(), MESSAGE_LIMIT))
 }
 
 /// A line with this handle, which is printed at this moment, in milliseconds since 1970. Its message is two texts.
@@ -44,21 +43,9 @@ pub fn new_line(
     requires room { handle < 2 ^ 62 }
     requires prefix { IsUtf8 prefix.now }
     requires message { IsUtf8 (front.now ++ message.now) }
-    ensures line { IfOk result (λ line. line ≡ record {
-        handle = record { 0 = handle };
-        content = record { 0 = handle + 1 };
-        date = moment / 1000;
-        date_printed = moment / 1000;
-        displayed = true;
-        notify = pos 0;
-        highlight = false;
-        tags = [];
-        prefix = take (cut_of prefix.now 128) prefix.now;
-        message = take (cut_of (front.now ++ message.now) 1024) (front.now ++ message.now);
-    }) }
-    ensures text { IfOk result HasText }
+    ensures { IfOk result (λ line. line ≡ line_at handle moment prefix.now (front.now ++ message.now)) }
 {
-    let prefix = kept(alloc, prefix, PREFIX_LIMIT)?;
+    let prefix = Text::from_slice(alloc, front_of(prefix, PREFIX_LIMIT))?;
     let message = message_of(alloc, front, message)?;
     Ok(Line {
         handle: Handle(handle),

@@ -55,7 +55,7 @@ pub fn tell_all(seats: &mut [Seat], alloc: Global, line: &Line) -> bool
     let mut told = true;
     for seat in seats.iter_mut() {
         let heard = seat.tell(alloc, line);
-        told = told && heard;
+        told &= heard;
     }
     told
 }
