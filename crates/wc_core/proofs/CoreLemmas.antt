@@ -31,7 +31,7 @@ use Rattle.wc_core.specs.Step.{client_link, client_limit, stays, sends, prints, 
 use Rattle.wc_core.specs.Served.{seat_link, links_of, is_open, is_open_at, clients_of, state_of, unsent_in, unsent_on, leaving_in, leaving_on, Absent, Distinct, Did, Keeps, MayDo, Came, MayCome, Starves, told_seat, SeatsKept, OutcomeUtf8}
 use Rattle.wc_core.proofs.DidLemmas.{or_else-none, or-true, Did-stays, Did-then, Keeps-refl, Keeps-trans, Keeps-seats, MayDo-exact, MayDo-stays, MayDo-starved, MayDo-then}
 use Rattle.wc_core.proofs.SeatLemmas.{open-length, clients-push, links-push, unsent-push, leaving-push, kept-push, client-open, client-missing, client-leaving}
-use Rattle.wc_core.proofs.ServeLemmas.{Did-prints, Keeps-told, Keeps-put, Did-reply, Did-leave}
+use Rattle.wc_core.proofs.ServeLemmas.{open_none, Did-prints, Keeps-told, Keeps-put, Did-reply, Did-leave}
 use Rattle.wc_core.proofs.ReplyLemmas.{Fits, reply_fits}
 
 -- ---- want of memory
@@ -190,6 +190,39 @@ outcome-text lines password client request old new outcome.Silent utf8 answered 
 outcome-text lines password client request old new (outcome.Input buffer text) utf8 answered = subst OutcomeUtf8 (sym answered.outcome) (reply_fits lines password client request utf8).text
 outcome-text lines password client request old new (outcome.Leave why) utf8 answered = tt
 outcome-text lines password client request old new outcome.NoMemory utf8 answered = tt
+
+link_same : (lines : List Line) (password : List ℕ) (request : Request) (old new : Known) (result : Outcome) → HasUtf8 request → OnServed result (Answers old new result (reply_of lines password old.client request)) → OnNoMemory result (new ≡ old)
+    → client_link new.client ≡ client_link old.client
+link_same lines password request old new outcome.Replied utf8 answered same = ap (λ (c : Client). client_link c) answered.client ∙ ap (λ (l : LinkId). l.0) (reply_fits lines password old.client request utf8).link
+link_same lines password request old new outcome.Silent utf8 answered same = ap (λ (c : Client). client_link c) answered.client ∙ ap (λ (l : LinkId). l.0) (reply_fits lines password old.client request utf8).link
+link_same lines password request old new (outcome.Input buffer text) utf8 answered same = ap (λ (c : Client). client_link c) answered.client ∙ ap (λ (l : LinkId). l.0) (reply_fits lines password old.client request utf8).link
+link_same lines password request old new (outcome.Leave why) utf8 answered same = ap (λ (c : Client). client_link c) answered.client ∙ ap (λ (l : LinkId). l.0) (reply_fits lines password old.client request utf8).link
+link_same lines password request old new outcome.NoMemory utf8 answered same = ap (λ (k : Known). client_link k.client) same
+
+-- the client stays open behind its reply
+pub ask-opened : (link : LinkId) (seats : List Seat) (place : ℕ) (s : Seat) (session' : Known) (lines : List Line) (password : List ℕ) (request : Request) (result : Outcome) → IsPlace seat_link link.0 seats place → s ≡ get_or seats place s
+    → is_open_at (at_key seat_link link.0 seats) ≡ true → HasUtf8 request → OnServed result (Answers s.session session' result (reply_of lines password s.session.client request)) → OnNoMemory result (session' ≡ s.session)
+    → is_open_at (at_key seat_link link.0 (set seats place (record { session = session'; leaving = s.leaving }))) ≡ true
+ask-opened link seats place s session' lines password request result p e opened utf8 answered same =
+    let at = seat-at link seats place s p e in
+    let y : Seat = record { session = session'; leaving = s.leaving } in
+    let key : seat_link y ≡ link.0 = link_same lines password request s.session session' result utf8 answered same ∙ at_key-key seat_link link.0 seats s at in
+    ap (λ ss. is_open_at (at_key seat_link link.0 ss)) (p.put y) ∙ ap is_open_at (at_key-put_same seat_link link.0 s y seats key at) ∙ open_of (at_key seat_link link.0 seats) s at opened
+
+pub ask-at : (old new : Standing) (link : LinkId) (place : ℕ) (s : Seat) (session' : Known) (request : Request) (result : Outcome) → IsPlace seat_link link.0 old.seats place → s ≡ get_or old.seats place s
+    → is_open_at (at_key seat_link link.0 old.seats) ≡ true → HasUtf8 request → OnServed result (Answers s.session session' result (reply_of old.lines.lines old.password s.session.client request)) → OnNoMemory result (session' ≡ s.session)
+    → OnServed result (MayDo (record old { seats = set old.seats place (record { session = session'; leaving = s.leaving }) }) new (follows (state_of (record old { seats = set old.seats place (record { session = session'; leaving = s.leaving }) })) link.0 result))
+    → OnNoMemory result (Starves (record old { seats = set old.seats place (record { session = session'; leaving = s.leaving }) }) new)
+    → IfSome (at_key seat_link link.0 old.seats) (λ seat. MayDo old new (asked (state_of old) seat.session.client (Some request)))
+ask-at old new link place s session' request result p e opened utf8 answered same done starved =
+    let at = seat-at link old.seats place s p e in
+    let sits = open_of (at_key seat_link link.0 old.seats) s at opened in
+    let y : Seat = record { session = session'; leaving = s.leaving } in
+    let there : set old.seats place y ≡ put_at seat_link link.0 (record { session = session'; leaving = None }) old.seats = p.put y ∙ ap (λ l. put_at seat_link link.0 (record { session = session'; leaving = l }) old.seats) (open_none s sits) in
+    let P : List Seat → Type 0 = λ ss. OnServed result (MayDo (record old { seats = ss }) new (follows (state_of (record old { seats = ss })) link.0 result)) in
+    let Q : List Seat → Type 0 = λ ss. OnNoMemory result (Starves (record old { seats = ss }) new) in
+    let R : Option Seat → Type 0 = λ o. IfSome o (λ seat. MayDo old new (asked (state_of old) seat.session.client (Some request))) in
+    subst R (sym at) (ask-served old new link.0 s session' request result at sits utf8 answered same (subst P there done) (subst Q there starved))
 
 -- ---- arrivals
 

@@ -2,6 +2,7 @@
 use Rattle.std.proofs.Common.{◌≡◌, ◌≢◌, ℕ, ◌<◌, Bool, true, false, cond, ◌&&◌, eqb, List, [], ◌∷◌, ◌++◌, Option, Some, None, IsSome, refl, ap, sym, subst, ◌∙◌, arith, zero, suc, length, filter, get_or, set, take, drop, ◌+◌, append-nil, append_assoc}
 use Rattle.std.specs.Prelude.{map, not}
 use Rattle.std.specs.List.{flat_map}
+use Rattle.std.proofs.Math.Seq.{take-length}
 use Rattle.std.proofs.lemmas.List.Edits.{map_over_more}
 use Rattle.std.proofs.lemmas.Bool.{false≢true}
 use Rattle.std.proofs.lemmas.Bool.Decides.{nat_tests}
@@ -152,6 +153,21 @@ SeatsKept-links [] [] kept = refl
 SeatsKept-links [] (b ∷ new) kept = absurd kept
 SeatsKept-links (a ∷ old) [] kept = absurd kept
 SeatsKept-links (a ∷ old) (b ∷ new) kept = rw (kept.0.link, SeatsKept-links old new kept.1) refl
+
+pub SeatsKept-length : (old new : List Seat) → SeatsKept old new → length new ≡ length old
+SeatsKept-length [] [] kept = refl
+SeatsKept-length [] (b ∷ new) kept = absurd kept
+SeatsKept-length (a ∷ old) [] kept = absurd kept
+SeatsKept-length (a ∷ old) (b ∷ new) kept = ap suc (SeatsKept-length old new kept.1)
+
+drop_all : (seats : List Seat) → drop (length seats) seats ≡ []
+drop_all [] = refl
+drop_all (seat ∷ seats) = drop_all seats
+
+-- seats that were lent as a slice, and are as many as before
+pub items_back : (len : ℕ) (old new : List Seat) → len ≡ length old → length new ≡ length old → take len (new ++ drop (length new) old) ≡ new
+items_back len old new e same =
+    ap (λ n. take len (new ++ drop n old)) same ∙ ap (λ s. take len (new ++ s)) (drop_all old) ∙ ap (take len) (append-nil new) ∙ ap (λ n. take n new) (e ∙ sym same) ∙ take-length new
 
 pub SeatsKept-leaving : (j : ℕ) (old new : List Seat) → SeatsKept old new → IsSome (leaving_on j old) → at_key seat_link j new ≡ at_key seat_link j old
 SeatsKept-leaving j [] [] kept some = refl

@@ -55,7 +55,7 @@ none_of : (leaving : Option Cause) → is_none leaving ≡ true → leaving ≡ 
 none_of None sits = refl
 none_of (Some why) sits = absurd (false≢true sits)
 
-open_none : (s : Seat) → is_open s ≡ true → s.leaving ≡ None
+pub open_none : (s : Seat) → is_open s ≡ true → s.leaving ≡ None
 open_none s sits = none_of s.leaving sits
 
 stays_by : (leaving : Option Cause) → is_none leaving ≡ true → IsSome leaving → ⊥
