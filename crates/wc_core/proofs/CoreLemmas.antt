@@ -146,6 +146,15 @@ line-asked old new k line s request at sits e done =
     let P : Option Request → Type 0 = λ r. MayDo old new (asked (state_of old) s.session.client r) in
     rw (client-open k old.seats s at sits) (subst P e done)
 
+pub same_open : (o : Option Seat) (s t : Seat) → o ≡ Some s → o ≡ Some t → is_open s ≡ true → is_open t ≡ true
+same_open o s t a b sits = sym (ap is_open_at b) ∙ ap is_open_at a ∙ sits
+
+pub asked-at : (old new : Standing) (k : ℕ) (s : Seat) (request : Request) → at_key seat_link k old.seats ≡ Some s → IfSome (at_key seat_link k old.seats) (λ seat. MayDo old new (asked (state_of old) seat.session.client (Some request)))
+    → MayDo old new (asked (state_of old) s.session.client (Some request))
+asked-at old new k s request at done =
+    let P : Option Seat → Type 0 = λ o. IfSome o (λ seat. MayDo old new (asked (state_of old) seat.session.client (Some request))) in
+    subst P at done
+
 -- ---- requests
 
 -- the core behind the reply, before what the answer asks for
