@@ -73,7 +73,7 @@ quit_typed old typed e =
     let new : Standing = record old { quits = true } in
     let P : Typed → Type 0 = λ t. MayDo old new (does (state_of old) t) in
     subst P e (MayDo-exact old new (does (state_of old) Quits) (Keeps-seats old new refl (omega arith))
-      (λ distinct. record { state = refl; bytes = λ j. sym (append-nil (unsent_on j old.seats)); leaving = λ j. sym (or_else-none (leaving_on j old.seats)); quits = sym (or-true old.quits) }))
+    (λ distinct. record { state = refl; bytes = λ j. sym (append-nil (unsent_on j old.seats)); leaving = λ j. sym (or_else-none (leaving_on j old.seats)); quits = sym (or-true old.quits) }))
 
 -- ---- the seat of a link
 
@@ -91,8 +91,8 @@ leave-at old link place s why p e opened =
     let y : Seat = record { session = s.session; leaving = Some why } in
     rw (p.put y)
     (MayDo-exact old (record old { seats = put_at seat_link link.0 y old.seats }) (leaves (state_of old) link.0 why)
-      (Keeps-put old link.0 s y at sits (at_key-key seat_link link.0 old.seats s at))
-      (λ distinct. Did-leave old link.0 s why distinct at sits))
+    (Keeps-put old link.0 s y at sits (at_key-key seat_link link.0 old.seats s at))
+    (λ distinct. Did-leave old link.0 s why distinct at sits))
 
 pub leave-gone : (link : LinkId) (seats : List Seat) (place : ℕ) (s : Seat) (why : Cause) → IsPlace seat_link link.0 seats place → s ≡ get_or seats place s
     → is_open_at (at_key seat_link link.0 (set seats place (record { session = s.session; leaving = Some why }))) ≡ false
@@ -126,6 +126,7 @@ pub lost-leaves : (old new : Standing) (k : ℕ) (why : Cause) → is_open_at (a
 lost-leaves old new k why opened done = by (at_key seat_link k old.seats) refl opened where
   P : Option Client → Type 0
   P o = MayDo old new (lost (state_of old) k why o)
+
   by : (o : Option Seat) → at_key seat_link k old.seats ≡ o → is_open_at o ≡ true → MayDo old new (leaves (state_of old) k why)
   by None at sits = absurd (false≢true sits)
   by (Some s) at sits = subst P (client-open k old.seats s at sits) done
@@ -171,9 +172,9 @@ ask-answer old new k s session' answer result at sits same answered done =
     let first : Stepped = record { state = record (state_of old) { clients = put_at client_link k answer.client (clients_of old.seats) }; acts = sends k answer.messages } in
     let P : Client → Type 0 = λ client. MayDo old mid (record { state = record (state_of old) { clients = put_at client_link k client (clients_of old.seats) }; acts = sends k answer.messages }) in
     let reply : MayDo old mid first = subst P answered.client
-      (MayDo-exact old mid (record { state = record (state_of old) { clients = put_at client_link k session'.client (clients_of old.seats) }; acts = sends k answer.messages })
-        (Keeps-put old k s (record { session = session'; leaving = None }) at sits key)
-        (λ distinct. Did-reply old k s session' answer.messages at sits key answered.sends.bytes)) in
+    (MayDo-exact old mid (record { state = record (state_of old) { clients = put_at client_link k session'.client (clients_of old.seats) }; acts = sends k answer.messages })
+    (Keeps-put old k s (record { session = session'; leaving = None }) at sits key)
+    (λ distinct. Did-reply old k s session' answer.messages at sits key answered.sends.bytes)) in
     let Q : Outcome → Type 0 = λ o. MayDo mid new (follows (state_of mid) k o) in
     rw here (MayDo-then old mid new first (λ next. follows next k answer.outcome) reply (subst Q answered.outcome done))
 

@@ -66,9 +66,9 @@ Keeps-trans a b c f g = record {
   rises = (let p = f.rises in let q = g.rises in omega arith);
   links = g.links ∙ f.links;
   kept = λ j s.
-    let same = f.kept j s in
-    let P : Option Seat → Type 0 = λ o. IsSome (leaving_in o) in
-    g.kept j (subst P (sym same) s) ∙ same;
+      let same = f.kept j s in
+      let P : Option Seat → Type 0 = λ o. IsSome (leaving_in o) in
+      g.kept j (subst P (sym same) s) ∙ same;
 }
 
 -- the same seats, and want of memory may be counted
@@ -88,11 +88,11 @@ pub MayDo-then : (a b c : Standing) (first : Stepped) (next : State → Stepped)
 MayDo-then a b c first next f g = record {
   keeps = Keeps-trans a b c f.keeps g.keeps;
   does = λ same below distinct.
-    let p = f.keeps.rises in
-    let q = g.keeps.rises in
-    let half : b.starved ≡ a.starved = omega arith in
-    let rest : c.starved ≡ b.starved = omega arith in
-    Did-then a b c first next (f.does half below distinct) (g.does rest (omega arith) (subst Distinct (sym f.keeps.links) distinct));
+      let p = f.keeps.rises in
+      let q = g.keeps.rises in
+      let half : b.starved ≡ a.starved = omega arith in
+      let rest : c.starved ≡ b.starved = omega arith in
+      Did-then a b c first next (f.does half below distinct) (g.does rest (omega arith) (subst Distinct (sym f.keeps.links) distinct));
 }
 
 pub MayDo-refused : (a b : Standing) (s : Stepped) → Starves a b → MayDo a b s

@@ -138,6 +138,7 @@ told-bytes j line [] distinct = refl
 told-bytes j line (seat ∷ seats) distinct = by (is_open seat) (told-bytes j line seats distinct.1) where
   none : eqb (seat_link seat) j ≡ true → sent_to j (told_acts line seats) ≡ []
   none e = let P : ℕ → Type 0 = λ n. Absent n (map seat_link seats) in sent-absent j line seats (subst P (same_number (seat_link seat) j e) distinct.0)
+
   by : (b : Bool) → unsent_on j (map (told_seat line) seats) ≡ unsent_on j seats ++ sent_to j (told_acts line seats)
       → unsent_in (cond (eqb (seat_link (cond b (heard line seat) seat)) j) (Some (cond b (heard line seat) seat)) (at_key seat_link j (map (told_seat line) seats)))
       ≡ unsent_in (cond (eqb (seat_link seat) j) (Some seat) (at_key seat_link j seats)) ++ sent_to j (flat_map (told_to line) (cond b (seat.session.client ∷ clients_of seats) (clients_of seats)))
@@ -195,9 +196,9 @@ SeatKept-trans : (a b c : Seat) → SeatKept a b → SeatKept b c → SeatKept a
 SeatKept-trans a b c f g = record {
   link = g.link ∙ f.link;
   kept = λ some.
-    let same = f.kept some in
-    let P : Seat → Type 0 = λ s. IsSome s.leaving in
-    g.kept (subst P (sym same) some) ∙ same;
+      let same = f.kept some in
+      let P : Seat → Type 0 = λ s. IsSome s.leaving in
+      g.kept (subst P (sym same) some) ∙ same;
 }
 
 pub SeatsKept-refl : (seats : List Seat) → SeatsKept seats seats
@@ -281,6 +282,7 @@ clients-put k [] seat session' at sits = refl
 clients-put k (x ∷ seats) seat session' at sits = by (is_open x) (eqb (seat_link x) k) refl refl (λ a. clients-put k seats seat session' a sits) at where
   y : Seat
   y = record { session = session'; leaving = None }
+
   by : (b t : Bool) → is_open x ≡ b → eqb (seat_link x) k ≡ t
       → (at_key seat_link k seats ≡ Some seat → clients_of (put_at seat_link k y seats) ≡ put_at client_link k session'.client (clients_of seats)) → cond t (Some x) (at_key seat_link k seats) ≡ Some seat
       → clients_of (cond t (y ∷ seats) (x ∷ put_at seat_link k y seats)) ≡ put_at client_link k session'.client (cond b (x.session.client ∷ clients_of seats) (clients_of seats))
@@ -298,10 +300,13 @@ clients-leave k [] seat session' why distinct at = refl
 clients-leave k (x ∷ seats) seat session' why distinct at = by (is_open x) (eqb (seat_link x) k) refl refl (λ a. clients-leave k seats seat session' why distinct.1 a) at where
   y : Seat
   y = record { session = session'; leaving = Some why }
+
   others : eqb (seat_link x) k ≡ true → clients_of seats ≡ without client_link k (clients_of seats)
   others q = let P : ℕ → Type 0 = λ n. Absent n (map seat_link seats) in sym (absent-without k seats (subst P (same_number (seat_link x) k q) distinct.0))
+
   filtered : (t : Bool) → eqb (seat_link x) k ≡ t → cond (not t) (x.session.client ∷ without client_link k (clients_of seats)) (without client_link k (clients_of seats)) ≡ without client_link k (x.session.client ∷ clients_of seats)
   filtered t q = sym (ap (λ t. cond (not t) (x.session.client ∷ without client_link k (clients_of seats)) (without client_link k (clients_of seats))) q)
+
   by : (b t : Bool) → is_open x ≡ b → eqb (seat_link x) k ≡ t
       → (at_key seat_link k seats ≡ Some seat → clients_of (put_at seat_link k y seats) ≡ without client_link k (clients_of seats)) → cond t (Some x) (at_key seat_link k seats) ≡ Some seat
       → clients_of (cond t (y ∷ seats) (x ∷ put_at seat_link k y seats)) ≡ without client_link k (cond b (x.session.client ∷ clients_of seats) (clients_of seats))
@@ -327,6 +332,7 @@ clients-push [] session = refl
 clients-push (seat ∷ seats) session = by (is_open seat) (clients-push seats session) where
   y : Seat
   y = record { session = session; leaving = None }
+
   by : (b : Bool) → clients_of (seats ++ y ∷ []) ≡ clients_of seats ++ session.client ∷ []
       → cond b (seat.session.client ∷ clients_of (seats ++ y ∷ [])) (clients_of (seats ++ y ∷ [])) ≡ cond b (seat.session.client ∷ clients_of seats) (clients_of seats) ++ session.client ∷ []
   by true more = ap (λ clients. seat.session.client ∷ clients) more

@@ -72,19 +72,18 @@ Keeps-put old k s y at sits key = record {
   links = put-links k y old.seats key;
   kept = λ j some. by j (eqb j k) refl some;
 } where
-    by : (j : ℕ) (t : Bool) → eqb j k ≡ t → IsSome (leaving_on j old.seats) → at_key seat_link j (put_at seat_link k y old.seats) ≡ at_key seat_link j old.seats
-    by j true e some =
+  by : (j : ℕ) (t : Bool) → eqb j k ≡ t → IsSome (leaving_on j old.seats) → at_key seat_link j (put_at seat_link k y old.seats) ≡ at_key seat_link j old.seats
+  by j true e some =
       let here : j ≡ k = grind (arith, nat_tests) in
       let P : ℕ → Type 0 = λ n. IsSome (leaving_on n old.seats) in
       let Q : Option Seat → Type 0 = λ o. IsSome (leaving_in o) in
       absurd (open_stays s sits (subst Q at (subst P here some)))
-    by j false e some = let ne : j ≢ k = λ q. grind (arith, nat_tests) in at_key-put_other seat_link k j y old.seats key ne
+  by j false e some = let ne : j ≢ k = λ q. grind (arith, nat_tests) in at_key-put_other seat_link k j y old.seats key ne
 
 -- what is seen of a link whose seat is changed, or of another
 put_here : (A : Type 0) (f : Option Seat → A) (k j : ℕ) (s y : Seat) (seats : List Seat) → at_key seat_link k seats ≡ Some s → seat_link y ≡ k → eqb k j ≡ true → (f (at_key seat_link j (put_at seat_link k y seats)) ≡ f (Some y)) × (f (at_key seat_link j seats) ≡ f (Some s))
 put_here A f k j s y seats at key e =
-    let here : k ≡ j = grind (arith, nat_tests) in
-    (
+    let here : k ≡ j = grind (arith, nat_tests) in (
       ap f (subst (λ n. at_key seat_link n (put_at seat_link k y seats) ≡ Some y) here (at_key-put_same seat_link k s y seats key at)),
       ap f (subst (λ n. at_key seat_link n seats ≡ Some s) here at),
     )
@@ -102,14 +101,16 @@ Did-reply old k s session' messages at sits key e = record {
   leaving = λ j. leaving_by j (eqb k j) refl ∙ sym (ap (or_else (leaving_on j old.seats)) (close-sends j k messages) ∙ or_else-none (leaving_on j old.seats));
   quits = sym (ap (λ t. old.quits || t) (end-sends k messages) ∙ or-false old.quits);
 } where
-    y : Seat
-    y = record { session = session'; leaving = None }
-    bytes_by : (j : ℕ) (t : Bool) → eqb k j ≡ t → unsent_on j (put_at seat_link k y old.seats) ≡ unsent_on j old.seats ++ cond t (flat_map (λ m. spelling m) messages) []
-    bytes_by j true q = let seen = put_here (List ℕ) unsent_in k j s y old.seats at key q in seen.0 ∙ e ∙ ap (λ t. t ++ flat_map (λ m. spelling m) messages) (sym seen.1)
-    bytes_by j false q = put_there (List ℕ) unsent_in k j y old.seats key q ∙ sym (append-nil (unsent_on j old.seats))
-    leaving_by : (j : ℕ) (t : Bool) → eqb k j ≡ t → leaving_on j (put_at seat_link k y old.seats) ≡ leaving_on j old.seats
-    leaving_by j true q = let seen = put_here (Option Cause) leaving_in k j s y old.seats at key q in seen.0 ∙ sym (open_none s sits) ∙ sym seen.1
-    leaving_by j false q = put_there (Option Cause) leaving_in k j y old.seats key q
+  y : Seat
+  y = record { session = session'; leaving = None }
+
+  bytes_by : (j : ℕ) (t : Bool) → eqb k j ≡ t → unsent_on j (put_at seat_link k y old.seats) ≡ unsent_on j old.seats ++ cond t (flat_map (λ m. spelling m) messages) []
+  bytes_by j true q = let seen = put_here (List ℕ) unsent_in k j s y old.seats at key q in seen.0 ∙ e ∙ ap (λ t. t ++ flat_map (λ m. spelling m) messages) (sym seen.1)
+  bytes_by j false q = put_there (List ℕ) unsent_in k j y old.seats key q ∙ sym (append-nil (unsent_on j old.seats))
+
+  leaving_by : (j : ℕ) (t : Bool) → eqb k j ≡ t → leaving_on j (put_at seat_link k y old.seats) ≡ leaving_on j old.seats
+  leaving_by j true q = let seen = put_here (Option Cause) leaving_in k j s y old.seats at key q in seen.0 ∙ sym (open_none s sits) ∙ sym seen.1
+  leaving_by j false q = put_there (Option Cause) leaving_in k j y old.seats key q
 
 -- a client is marked as leaving
 pub Did-leave : (old : Standing) (k : ℕ) (s : Seat) (why : Cause) → Distinct (links_of old) → at_key seat_link k old.seats ≡ Some s → is_open s ≡ true
@@ -120,16 +121,19 @@ Did-leave old k s why distinct at sits = record {
   leaving = λ j. leaving_by j (eqb k j) refl;
   quits = sym (or-false old.quits);
 } where
-    y : Seat
-    y = record { session = s.session; leaving = Some why }
-    key : seat_link y ≡ k
-    key = at_key-key seat_link k old.seats s at
-    bytes_by : (j : ℕ) (t : Bool) → eqb k j ≡ t → unsent_on j (put_at seat_link k y old.seats) ≡ unsent_on j old.seats
-    bytes_by j true q = let seen = put_here (List ℕ) unsent_in k j s y old.seats at key q in seen.0 ∙ sym seen.1
-    bytes_by j false q = put_there (List ℕ) unsent_in k j y old.seats key q
-    leaving_by : (j : ℕ) (t : Bool) → eqb k j ≡ t → leaving_on j (put_at seat_link k y old.seats) ≡ or_else (leaving_on j old.seats) (or_else (cond t (Some why) None) None)
-    leaving_by j true q = let seen = put_here (Option Cause) leaving_in k j s y old.seats at key q in seen.0 ∙ sym (ap (λ o. or_else o (Some why)) (seen.1 ∙ open_none s sits))
-    leaving_by j false q = put_there (Option Cause) leaving_in k j y old.seats key q ∙ sym (or_else-none (leaving_on j old.seats))
+  y : Seat
+  y = record { session = s.session; leaving = Some why }
+
+  key : seat_link y ≡ k
+  key = at_key-key seat_link k old.seats s at
+
+  bytes_by : (j : ℕ) (t : Bool) → eqb k j ≡ t → unsent_on j (put_at seat_link k y old.seats) ≡ unsent_on j old.seats
+  bytes_by j true q = let seen = put_here (List ℕ) unsent_in k j s y old.seats at key q in seen.0 ∙ sym seen.1
+  bytes_by j false q = put_there (List ℕ) unsent_in k j y old.seats key q
+
+  leaving_by : (j : ℕ) (t : Bool) → eqb k j ≡ t → leaving_on j (put_at seat_link k y old.seats) ≡ or_else (leaving_on j old.seats) (or_else (cond t (Some why) None) None)
+  leaving_by j true q = let seen = put_here (Option Cause) leaving_in k j s y old.seats at key q in seen.0 ∙ sym (ap (λ o. or_else o (Some why)) (seen.1 ∙ open_none s sits))
+  leaving_by j false q = put_there (Option Cause) leaving_in k j y old.seats key q ∙ sym (or_else-none (leaving_on j old.seats))
 
 -- ---- a text that is typed
 

@@ -144,7 +144,9 @@ impl Core {
         requires text { HasUtf8 request }
         ensures { IfSome (at_key seat_link link.0 self.old.seats) (λ seat. MayDo self.old self.new (asked (state_of self.old) seat.session.client (Some request))) }
     {
-        let outcome = self.seats[place].session.request(self.alloc, &self.lines, &self.password, request);
+        let outcome = self.seats[place]
+            .session
+            .request(self.alloc, &self.lines, &self.password, request);
         self.follow(link, outcome);
     }
 

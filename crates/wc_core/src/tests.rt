@@ -116,10 +116,18 @@ fn serves_one_client(rt: HostRuntime) -> Result<(), Fail> {
 fn logs_in_by_a_hash(rt: HostRuntime) -> Result<(), Fail> {
     let mut core = new_core(rt.alloc(), "lmnomnopnopq")?;
     assert!(rt; arrive(&mut core, 1).is_none());
-    say(&mut core, 1, "(h) handshake password_hash_algo=plain:sha256");
+    say(
+        &mut core,
+        1,
+        "(h) handshake password_hash_algo=plain:sha256",
+    );
     assert_eq!(rt; unsent_len(&core, 1), 201);
     core.gone(LinkId(1), 201);
-    say(&mut core, 1, "init password_hash=sha256:6162636462636465636465666465666765666768666768696768696a68696a6b696a6b6c6a6b6c6d6b6c6d6e:248d6a61d20638b8e5c026930c3e6039a33ce45964ff2167f6ecedd419db06c1");
+    say(
+        &mut core,
+        1,
+        "init password_hash=sha256:6162636462636465636465666465666765666768666768696768696a68696a6b696a6b6c6a6b6c6d6b6c6d6e:248d6a61d20638b8e5c026930c3e6039a33ce45964ff2167f6ecedd419db06c1",
+    );
     say(&mut core, 1, "ping");
     assert_eq!(rt; unsent_len(&core, 1), 21);
     assert!(rt; core.is_open(LinkId(1)));
@@ -130,7 +138,11 @@ fn logs_in_by_a_hash(rt: HostRuntime) -> Result<(), Fail> {
 fn answers_a_handshake_without_a_common_algorithm(rt: HostRuntime) -> Result<(), Fail> {
     let mut core = new_core(rt.alloc(), "x")?;
     assert!(rt; arrive(&mut core, 1).is_none());
-    say(&mut core, 1, "(h) handshake password_hash_algo=pbkdf2+sha256");
+    say(
+        &mut core,
+        1,
+        "(h) handshake password_hash_algo=pbkdf2+sha256",
+    );
     assert_eq!(rt; unsent_len(&core, 1), 195);
     assert!(rt; cause_of(&core) == Some(Cause::LoginFailed));
     assert!(rt; !core.is_open(LinkId(1)));
@@ -148,16 +160,56 @@ struct TypedRow {
 }
 
 const TYPED: &[TypedRow] = &[
-    TypedRow { typed: "/print hello", prefix: "", message: "hello" },
-    TypedRow { typed: "/print   a  b ", prefix: "", message: "a  b " },
-    TypedRow { typed: "/print a\tb\tc", prefix: "a", message: "b\tc" },
-    TypedRow { typed: "/print -x a", prefix: "=!=", message: "wrong arguments: /print" },
-    TypedRow { typed: "/print", prefix: "=!=", message: "wrong arguments: /print" },
-    TypedRow { typed: "/quit now", prefix: "=!=", message: "wrong arguments: /quit" },
-    TypedRow { typed: "/join #a", prefix: "=!=", message: "unknown command: /join" },
-    TypedRow { typed: "/", prefix: "=!=", message: "unknown command: /" },
-    TypedRow { typed: "hello", prefix: "=!=", message: "no text here" },
-    TypedRow { typed: "//print a", prefix: "=!=", message: "no text here" },
+    TypedRow {
+        typed: "/print hello",
+        prefix: "",
+        message: "hello",
+    },
+    TypedRow {
+        typed: "/print   a  b ",
+        prefix: "",
+        message: "a  b ",
+    },
+    TypedRow {
+        typed: "/print a\tb\tc",
+        prefix: "a",
+        message: "b\tc",
+    },
+    TypedRow {
+        typed: "/print -x a",
+        prefix: "=!=",
+        message: "wrong arguments: /print",
+    },
+    TypedRow {
+        typed: "/print",
+        prefix: "=!=",
+        message: "wrong arguments: /print",
+    },
+    TypedRow {
+        typed: "/quit now",
+        prefix: "=!=",
+        message: "wrong arguments: /quit",
+    },
+    TypedRow {
+        typed: "/join #a",
+        prefix: "=!=",
+        message: "unknown command: /join",
+    },
+    TypedRow {
+        typed: "/",
+        prefix: "=!=",
+        message: "unknown command: /",
+    },
+    TypedRow {
+        typed: "hello",
+        prefix: "=!=",
+        message: "no text here",
+    },
+    TypedRow {
+        typed: "//print a",
+        prefix: "=!=",
+        message: "no text here",
+    },
 ];
 
 #[test]
@@ -184,11 +236,23 @@ fn runs_what_is_typed(rt: HostRuntime) -> Result<(), Fail> {
 fn runs_several_lines_up_to_a_quit(rt: HostRuntime) -> Result<(), Fail> {
     let mut core = new_core(rt.alloc(), "x")?;
     assert!(rt; arrive(&mut core, 1).is_none());
-    say(&mut core, 1, "handshake escape_commands=on\ninit password=x");
-    say(&mut core, 1, "input 0x1 /print a\\n\\n/print b\\n/quit\\n/print c");
+    say(
+        &mut core,
+        1,
+        "handshake escape_commands=on\ninit password=x",
+    );
+    say(
+        &mut core,
+        1,
+        "input 0x1 /print a\\n\\n/print b\\n/quit\\n/print c",
+    );
     assert!(rt; core.quits());
     assert_eq!(rt; core.lines().len(), 2);
-    let handles = core.lines().iter().map(|line| line.content.0).fold(0u64, |sum, n| sum.wrapping_add(n));
+    let handles = core
+        .lines()
+        .iter()
+        .map(|line| line.content.0)
+        .fold(0u64, |sum, n| sum.wrapping_add(n));
     assert_eq!(rt; handles, 14);
     Ok(())
 }
@@ -199,7 +263,11 @@ fn tells_lines_to_those_who_asked(rt: HostRuntime) -> Result<(), Fail> {
     assert!(rt; arrive(&mut core, 1).is_none());
     assert!(rt; arrive(&mut core, 2).is_none());
     say(&mut core, 1, "init password=x\nsync core.weechat");
-    say(&mut core, 2, "init password=x\ninput core.weechat /print hello");
+    say(
+        &mut core,
+        2,
+        "init password=x\ninput core.weechat /print hello",
+    );
     assert_eq!(rt; (unsent_len(&core, 1), unsent_len(&core, 2)), (219, 0));
     say(&mut core, 2, "sync\ninput core.weechat /print hello");
     assert_eq!(rt; (unsent_len(&core, 1), unsent_len(&core, 2)), (438, 219));

@@ -19,5 +19,5 @@ returns c =
     let few : length (filter (λ (seat : Seat). is_open seat) seats) < 5 = omega (arith, count, c.if-open_count-ge-CLIENT_LIMIT.false) in
     let f : Known → Seat = λ session. record { session = session; leaving = None } in
     let items : c.push.new.self.items ≡ seats ++ f (new_session c.args.arrival.link c.args.arrival.nonce) ∷ [] =
-      c.push.ensures.items ∙ ap (λ b. cond b (seats ++ f c.in-Ok.session ∷ []) seats) c.if-is_err.ensures.negation ∙ ap (λ session. seats ++ f session ∷ []) c.in-Ok.ensures in
+    c.push.ensures.items ∙ ap (λ b. cond b (seats ++ f c.in-Ok.session ∷ []) seats) c.if-is_err.ensures.negation ∙ ap (λ session. seats ++ f session ∷ []) c.in-Ok.ensures in
     λ absent. rw (← c.self.view_is) (rw items (came _ c.args.arrival.link c.args.arrival.nonce few))

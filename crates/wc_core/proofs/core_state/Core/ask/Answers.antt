@@ -20,4 +20,4 @@ returns c =
     let P : Standing → Type 0 = λ o. IsPlace seat_link c.args.link.0 o.seats c.args.place in
     let Q : Standing → Type 0 = λ o. is_open_at (at_key seat_link c.args.link.0 o.seats) ≡ true in
     rw (← c.self.view_is) (ask-at _ _ c.args.link c.args.place c.index_mut.result.now c.request-outcome.new.self c.args.request c.request-outcome.result (subst P (sym c.self.view_is) c.requires.place) c.index_mut.ensures.value
-      (subst Q (sym c.self.view_is) c.requires.opened) c.requires.text c.request-outcome.ensures.answered c.request-outcome.ensures.refused c.follow.ensures.does c.follow.ensures.refused)
+    (subst Q (sym c.self.view_is) c.requires.opened) c.requires.text c.request-outcome.ensures.answered c.request-outcome.ensures.refused c.follow.ensures.does c.follow.ensures.refused)

@@ -16,6 +16,6 @@ pub loop-left-preserved : goal.loop-left-preserved
 loop-left-preserved c = record {
   text = others_utf8 c.in-Some.rest.now c.split_once.result.1 (subst LeftUtf8 c.in-Some.is c.loop-left.invariant.text) c.split_once.ensures.back;
   onward = λ final done. c.loop-left.invariant.onward final
-    (more_left c.loop-left.self c.run_line.new.self final c.loop-left.left c.in-Some.rest c.split_once.result.0.now c.split_once.result.1 c.in-Some.is c.split_once.ensures.front c.split_once.ensures.back
+      (more_left c.loop-left.self c.run_line.new.self final c.loop-left.left c.in-Some.rest c.split_once.result.0.now c.split_once.result.1 c.in-Some.is c.split_once.ensures.front c.split_once.ensures.back
       (sym c.run_line.ensures.quits ∙ c.if-run_line.false) c.run_line.ensures.does done);
 }
