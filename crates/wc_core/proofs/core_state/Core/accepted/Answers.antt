@@ -1,7 +1,6 @@
-use Rattle.std.proofs.Common.{◌≡◌, ◌≤◌, ◌<◌, ◌∙◌, ◌++◌, ◌∷◌, [], ap, sym, arith, length, filter, cond, None}
+use Rattle.std.proofs.Common.{◌≡◌, ◌≤◌, ◌<◌, ◌∙◌, ◌++◌, ◌∷◌, [], ap, arith, length, filter, cond, None}
 use Rattle.wc_session.specs.Known.{Known, new_session}
 use Rattle.wc_core.specs.declared.seat.Seat.{Seat}
-use Rattle.wc_core.specs.Standing.{Standing}
 use Rattle.wc_core.specs.Served.{is_open}
 use Rattle.wc_core.proofs.CoreLemmas.{came, came-surplus}
 use Rattle.wc_core.proofs.core_state.Core.accepted.Goals as goal

@@ -1,4 +1,4 @@
-use Rattle.std.proofs.Common.{◌≡◌, sym, subst, ◌∙◌, Some, None}
+use Rattle.std.proofs.Common.{◌≡◌, sym, subst, ◌∙◌, Some}
 use Rattle.wc_outside.specs.Keyed.{at_key}
 use Rattle.wc_core.specs.Standing.{Standing}
 use Rattle.wc_core.specs.Served.{seat_link}

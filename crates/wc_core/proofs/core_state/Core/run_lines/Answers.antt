@@ -1,4 +1,4 @@
-use Rattle.std.proofs.Common.{◌≡◌, sym, ◌∙◌, subst}
+use Rattle.std.proofs.Common.{sym, ◌∙◌, subst}
 use Rattle.wc_core.specs.TypedSeen.{LeftUtf8}
 use Rattle.wc_core.proofs.TypedLemmas.{first_utf8, others_utf8}
 use Rattle.wc_core.proofs.ServeLemmas.{quit_left, more_left}
