@@ -15,6 +15,7 @@ mod tests;
 mod word;
 
 pub use algorithm::{Algorithm, choose_algorithm};
+pub use cuts::{cut_word, split_once};
 pub use line::{one_request, read_request};
 pub use lists::last_value;
 pub use login::{HashLogin, Login, check_login, read_login};

@@ -113,6 +113,13 @@ impl Session {
         self.unsent.advance(n);
     }
 
+    /// The link of the client.
+    pub fn link(&self) -> LinkId
+        ensures { result ≡ self.now.client.link }
+    {
+        self.client.link
+    }
+
     /// Whether the client writes its lines with `escape_commands`.
     pub fn escaped(&self) -> bool
         ensures { result ≡ self.now.client.escaped }

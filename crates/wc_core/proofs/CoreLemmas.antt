@@ -1,0 +1,277 @@
+-- What each of the core's calls does.
+use Rattle.std.proofs.Common.{◌≡◌, ◌≢◌, ℕ, ◌+◌, ◌-◌, ◌^◌, ◌<◌, ◌≤◌, Bool, true, false, cond, eqb, List, [], ◌∷◌, ◌++◌, length, Option, Some, None, IsSome, refl, ap, sym, subst, ◌∙◌, arith, append-nil, nat_lt, set, get_or, min, filter, Result, Ok, Err, IfSome}
+use Rattle.std.specs.Prelude.{map}
+use Rattle.std.proofs.lemmas.Bool.{false≢true}
+use Rattle.std.proofs.lemmas.Bool.Decides.{nat_tests}
+use Rattle.wc_text.specs.declared.names.Cause.{Cause}
+use Rattle.wc_text.specs.declared.names.Cause.TheVariants.{Surplus, NoMemory}
+use Rattle.std.specs.Str.{IsUtf8}
+use Rattle.std.proofs.lemmas.List.Elements.{All-nil}
+use Rattle.wc_text.proofs.CutLemmas.{cut_utf8}
+use Rattle.wc_text.specs.declared.names.LinkId.{LinkId}
+use Rattle.wc_outside.specs.Keyed.{at_key, put_at, IsPlace}
+use Rattle.wc_outside.proofs.KeyedLemmas.{at_key-key, at_key-put_same}
+use Rattle.wc_lines.specs.declared.line.Line.{Line}
+use Rattle.wc_lines.specs.LineText.{HasText}
+use Rattle.wc_lines.specs.Ring.{with_line}
+use Rattle.wc_relaycmd.specs.declared.request.Request.{Request}
+use Rattle.wc_relaycmd.specs.Answers.{request_of}
+use Rattle.wc_relaycmd.specs.Utf8.{HasUtf8}
+use Rattle.wc_session.specs.declared.client.Client.{Client}
+use Rattle.wc_session.specs.declared.outcome.Outcome.{Outcome}
+use Rattle.wc_session.specs.declared.outcome.Outcome.TheVariants as outcome
+use Rattle.wc_session.specs.Known.{Known, new_session}
+use Rattle.wc_session.specs.Reply.{Answer, reply_of}
+use Rattle.wc_session.specs.Served.{OnServed, OnNoMemory, Answers}
+use Rattle.wc_core.specs.declared.seat.Seat.{Seat}
+use Rattle.wc_core.specs.Standing.{Standing}
+use Rattle.wc_core.specs.Typed.{Typed, Quits}
+use Rattle.wc_core.specs.State.{State, Stepped}
+use Rattle.wc_core.specs.Step.{client_link, client_limit, stays, sends, prints, prints_text, next_line, line_at, does, last_handle, leaves, lost, arrives, follows, answers, asked, line_came}
+use Rattle.wc_core.specs.Served.{seat_link, links_of, is_open, is_open_at, clients_of, state_of, unsent_in, unsent_on, leaving_in, leaving_on, Absent, Distinct, Did, Keeps, MayDo, Came, MayCome, Starves, told_seat, SeatsKept, OutcomeUtf8}
+use Rattle.wc_core.proofs.DidLemmas.{or_else-none, or-true, Did-stays, Did-then, Keeps-refl, Keeps-trans, Keeps-seats, MayDo-exact, MayDo-stays, MayDo-starved, MayDo-then}
+use Rattle.wc_core.proofs.SeatLemmas.{open-length, clients-push, links-push, unsent-push, leaving-push, kept-push, client-open, client-missing, client-leaving}
+use Rattle.wc_core.proofs.ServeLemmas.{open_none, Did-prints, Keeps-told, Keeps-put, Did-reply, Did-leave}
+use Rattle.wc_core.proofs.ReplyLemmas.{Fits, reply_fits}
+
+-- ---- want of memory
+
+pub starved_only : (old new : Standing) (s : Stepped) → new ≡ record old { starved = min (old.starved + 1) (2 ^ 64 - 1) } → old.starved ≤ new.starved → MayDo old new s
+starved_only old new s e rises = MayDo-starved old new s (Keeps-seats old new (ap (λ (c : Standing). c.seats) e) rises) (ap (λ (c : Standing). c.starved) e)
+
+-- ---- lines
+
+pub show-told : (old : Standing) (line : Line) (seats : List Seat) → seats ≡ map (told_seat line) old.seats → SeatsKept old.seats seats
+    → MayDo old (record old { seats = seats; lines = with_line old.lines line; next = old.next + 2 }) (prints (state_of old) line)
+show-told old line seats e kept =
+    MayDo-exact old (record old { seats = seats; lines = with_line old.lines line; next = old.next + 2 }) (prints (state_of old) line)
+    (Keeps-told old (record old { seats = seats; lines = with_line old.lines line; next = old.next + 2 }) kept (omega arith))
+    (λ distinct. rw e (Did-prints old line distinct))
+
+pub show-refused : (old mid new : Standing) (line : Line) → SeatsKept old.seats mid.seats → mid.starved ≡ old.starved → new ≡ record mid { starved = min (mid.starved + 1) (2 ^ 64 - 1) } → mid.starved ≤ new.starved → MayDo old new (prints (state_of old) line)
+show-refused old mid new line kept same e rises =
+    MayDo-starved old new (prints (state_of old) line) (Keeps-trans old mid new (Keeps-told old mid kept (omega (arith, same))) (Keeps-seats mid new (ap (λ (c : Standing). c.seats) e) rises))
+    (ap (λ (c : Standing). c.starved) e ∙ ap (λ n. min (n + 1) (2 ^ 64 - 1)) same)
+
+pub print-spent : (old : Standing) (prefix message : List ℕ) → 2 ^ 62 ≤ old.next → MayDo old old (prints_text (state_of old) prefix message)
+print-spent old prefix message spent =
+    let test : nat_lt old.next last_handle ≡ false = grind (arith, nat_tests) in
+    rw test (MayDo-stays old)
+
+pub print-shown : (old new : Standing) (line : Line) (prefix message : List ℕ) → old.next < 2 ^ 62 → line ≡ next_line (state_of old) prefix message → MayDo old new (prints (state_of old) line)
+    → MayDo old new (prints_text (state_of old) prefix message)
+print-shown old new line prefix message left e done =
+    let test : nat_lt old.next last_handle ≡ true = grind (arith, nat_tests) in
+    let P : Line → Type 0 = λ line. MayDo old new (prints (state_of old) line) in
+    rw test (subst P e done)
+
+pub line_text : (handle moment : ℕ) (prefix message : List ℕ) (line : Line) → line ≡ line_at handle moment prefix message → HasText line
+line_text handle moment prefix message line e = subst HasText (sym e) (record { tags = All-nil IsUtf8; prefix = cut_utf8 prefix 128; message = cut_utf8 message 1024 })
+
+pub quit_typed : (old : Standing) (typed : Typed) → Quits ≡ typed → MayDo old (record old { quits = true }) (does (state_of old) typed)
+quit_typed old typed e =
+    let new : Standing = record old { quits = true } in
+    let P : Typed → Type 0 = λ t. MayDo old new (does (state_of old) t) in
+    subst P e (MayDo-exact old new (does (state_of old) Quits) (Keeps-seats old new refl (omega arith))
+    (λ distinct. record { state = refl; bytes = λ j. sym (append-nil (unsent_on j old.seats)); leaving = λ j. sym (or_else-none (leaving_on j old.seats)); quits = sym (or-true old.quits) }))
+
+-- ---- the seat of a link
+
+open_of : (o : Option Seat) (s : Seat) → o ≡ Some s → is_open_at o ≡ true → is_open s ≡ true
+open_of o s at sits = sym (ap is_open_at at) ∙ sits
+
+pub seat-at : (link : LinkId) (seats : List Seat) (place : ℕ) (s : Seat) → IsPlace seat_link link.0 seats place → s ≡ get_or seats place s → at_key seat_link link.0 seats ≡ Some s
+seat-at link seats place s p e = p.found s ∙ ap Some (sym e)
+
+pub leave-at : (old : Standing) (link : LinkId) (place : ℕ) (s : Seat) (why : Cause) → IsPlace seat_link link.0 old.seats place → s ≡ get_or old.seats place s → is_open_at (at_key seat_link link.0 old.seats) ≡ true
+    → MayDo old (record old { seats = set old.seats place (record { session = s.session; leaving = Some why }) }) (leaves (state_of old) link.0 why)
+leave-at old link place s why p e opened =
+    let at = seat-at link old.seats place s p e in
+    let sits = open_of (at_key seat_link link.0 old.seats) s at opened in
+    let y : Seat = record { session = s.session; leaving = Some why } in
+    rw (p.put y)
+    (MayDo-exact old (record old { seats = put_at seat_link link.0 y old.seats }) (leaves (state_of old) link.0 why)
+    (Keeps-put old link.0 s y at sits (at_key-key seat_link link.0 old.seats s at))
+    (λ distinct. Did-leave old link.0 s why distinct at sits))
+
+pub leave-gone : (link : LinkId) (seats : List Seat) (place : ℕ) (s : Seat) (why : Cause) → IsPlace seat_link link.0 seats place → s ≡ get_or seats place s
+    → is_open_at (at_key seat_link link.0 (set seats place (record { session = s.session; leaving = Some why }))) ≡ false
+leave-gone link seats place s why p e =
+    let at = seat-at link seats place s p e in
+    let y : Seat = record { session = s.session; leaving = Some why } in
+    ap (λ ss. is_open_at (at_key seat_link link.0 ss)) (p.put y) ∙ ap is_open_at (at_key-put_same seat_link link.0 s y seats (at_key-key seat_link link.0 seats s at) at)
+
+pub starve-at : (old mid new : Standing) (s : Stepped) → MayDo old mid s → mid.starved ≡ old.starved → new ≡ record mid { starved = min (mid.starved + 1) (2 ^ 64 - 1) } → mid.starved ≤ new.starved → Starves old new
+starve-at old mid new s done same e rises = record {
+  keeps = Keeps-trans old mid new done.keeps (Keeps-seats mid new (ap (λ (c : Standing). c.seats) e) rises);
+  count = ap (λ (c : Standing). c.starved) e ∙ ap (λ n. min (n + 1) (2 ^ 64 - 1)) same;
+}
+
+-- ---- losses
+
+pub lost-missing : (old : Standing) (k : ℕ) (why : Cause) → at_key seat_link k old.seats ≡ None → MayDo old old (lost (state_of old) k why (at_key client_link k (clients_of old.seats)))
+lost-missing old k why none = rw (client-missing k old.seats none) (MayDo-stays old)
+
+pub lost-leaving : (old : Standing) (k : ℕ) (why : Cause) (s : Seat) → at_key seat_link k old.seats ≡ Some s → is_open s ≡ false → MayDo old old (lost (state_of old) k why (at_key client_link k (clients_of old.seats)))
+lost-leaving old k why s at leaving =
+    MayDo-exact old old (lost (state_of old) k why (at_key client_link k (clients_of old.seats))) (Keeps-refl old)
+    (λ distinct. rw (client-leaving k old.seats s distinct at leaving) (Did-stays old))
+
+pub lost-open : (old new : Standing) (k : ℕ) (why : Cause) (s : Seat) → at_key seat_link k old.seats ≡ Some s → is_open s ≡ true → MayDo old new (leaves (state_of old) k why)
+    → MayDo old new (lost (state_of old) k why (at_key client_link k (clients_of old.seats)))
+lost-open old new k why s at sits done = rw (client-open k old.seats s at sits) done
+
+-- the loss of an open client
+pub lost-leaves : (old new : Standing) (k : ℕ) (why : Cause) → is_open_at (at_key seat_link k old.seats) ≡ true → MayDo old new (lost (state_of old) k why (at_key client_link k (clients_of old.seats))) → MayDo old new (leaves (state_of old) k why)
+lost-leaves old new k why opened done = by (at_key seat_link k old.seats) refl opened where
+  P : Option Client → Type 0
+  P o = MayDo old new (lost (state_of old) k why o)
+
+  by : (o : Option Seat) → at_key seat_link k old.seats ≡ o → is_open_at o ≡ true → MayDo old new (leaves (state_of old) k why)
+  by None at sits = absurd (false≢true sits)
+  by (Some s) at sits = subst P (client-open k old.seats s at sits) done
+
+-- ---- lines of clients
+
+pub line-missing : (old : Standing) (k : ℕ) (line : List ℕ) → at_key seat_link k old.seats ≡ None → MayDo old old (line_came (state_of old) line (at_key client_link k (clients_of old.seats)))
+line-missing old k line none = rw (client-missing k old.seats none) (MayDo-stays old)
+
+pub line-leaving : (old : Standing) (k : ℕ) (line : List ℕ) (s : Seat) → at_key seat_link k old.seats ≡ Some s → is_open s ≡ false → MayDo old old (line_came (state_of old) line (at_key client_link k (clients_of old.seats)))
+line-leaving old k line s at leaving =
+    MayDo-exact old old (line_came (state_of old) line (at_key client_link k (clients_of old.seats))) (Keeps-refl old)
+    (λ distinct. rw (client-leaving k old.seats s distinct at leaving) (Did-stays old))
+
+pub line-asked : (old new : Standing) (k : ℕ) (line : List ℕ) (s : Seat) (request : Option Request) → at_key seat_link k old.seats ≡ Some s → is_open s ≡ true → request ≡ request_of s.session.client.escaped line
+    → MayDo old new (asked (state_of old) s.session.client request) → MayDo old new (line_came (state_of old) line (at_key client_link k (clients_of old.seats)))
+line-asked old new k line s request at sits e done =
+    let P : Option Request → Type 0 = λ r. MayDo old new (asked (state_of old) s.session.client r) in
+    rw (client-open k old.seats s at sits) (subst P e done)
+
+pub same_open : (o : Option Seat) (s t : Seat) → o ≡ Some s → o ≡ Some t → is_open s ≡ true → is_open t ≡ true
+same_open o s t a b sits = sym (ap is_open_at b) ∙ ap is_open_at a ∙ sits
+
+pub asked-at : (old new : Standing) (k : ℕ) (s : Seat) (request : Request) → at_key seat_link k old.seats ≡ Some s → IfSome (at_key seat_link k old.seats) (λ seat. MayDo old new (asked (state_of old) seat.session.client (Some request)))
+    → MayDo old new (asked (state_of old) s.session.client (Some request))
+asked-at old new k s request at done =
+    let P : Option Seat → Type 0 = λ o. IfSome o (λ seat. MayDo old new (asked (state_of old) seat.session.client (Some request))) in
+    subst P at done
+
+-- ---- requests
+
+-- the core behind the reply, before what the answer asks for
+abbrev pub replied : Standing → ℕ → Known → Standing
+replied old k session' = record old { seats = put_at seat_link k (record { session = session'; leaving = None }) old.seats }
+
+ask-answer : (old new : Standing) (k : ℕ) (s : Seat) (session' : Known) (answer : Answer) (result : Outcome) → at_key seat_link k old.seats ≡ Some s → is_open s ≡ true → answer.client.link ≡ s.session.client.link
+    → Answers s.session session' result answer → MayDo (replied old k session') new (follows (state_of (replied old k session')) k result)
+    → MayDo old new (answers (state_of old) (client_link s.session.client) answer)
+ask-answer old new k s session' answer result at sits same answered done =
+    let here : client_link s.session.client ≡ k = at_key-key seat_link k old.seats s at in
+    let key : client_link session'.client ≡ k = ap (λ (c : Client). client_link c) answered.client ∙ ap (λ (l : LinkId). l.0) same ∙ here in
+    let mid = replied old k session' in
+    let first : Stepped = record { state = record (state_of old) { clients = put_at client_link k answer.client (clients_of old.seats) }; acts = sends k answer.messages } in
+    let P : Client → Type 0 = λ client. MayDo old mid (record { state = record (state_of old) { clients = put_at client_link k client (clients_of old.seats) }; acts = sends k answer.messages }) in
+    let reply : MayDo old mid first = subst P answered.client
+    (MayDo-exact old mid (record { state = record (state_of old) { clients = put_at client_link k session'.client (clients_of old.seats) }; acts = sends k answer.messages })
+    (Keeps-put old k s (record { session = session'; leaving = None }) at sits key)
+    (λ distinct. Did-reply old k s session' answer.messages at sits key answered.sends.bytes)) in
+    let Q : Outcome → Type 0 = λ o. MayDo mid new (follows (state_of mid) k o) in
+    rw here (MayDo-then old mid new first (λ next. follows next k answer.outcome) reply (subst Q answered.outcome done))
+
+-- a request of an open client, whose answer was followed
+pub ask-served : (old new : Standing) (k : ℕ) (s : Seat) (session' : Known) (request : Request) (result : Outcome) → at_key seat_link k old.seats ≡ Some s → is_open s ≡ true → HasUtf8 request
+    → OnServed result (Answers s.session session' result (reply_of old.lines.lines old.password s.session.client request)) → OnNoMemory result (session' ≡ s.session)
+    → OnServed result (MayDo (replied old k session') new (follows (state_of (replied old k session')) k result)) → OnNoMemory result (Starves (replied old k session') new)
+    → MayDo old new (asked (state_of old) s.session.client (Some request))
+ask-served old new k s session' request outcome.Replied at sits utf8 answered same done starved = ask-answer old new k s session' (reply_of old.lines.lines old.password s.session.client request) outcome.Replied at sits (reply_fits old.lines.lines old.password s.session.client request utf8).link answered done
+ask-served old new k s session' request outcome.Silent at sits utf8 answered same done starved = ask-answer old new k s session' (reply_of old.lines.lines old.password s.session.client request) outcome.Silent at sits (reply_fits old.lines.lines old.password s.session.client request utf8).link answered done
+ask-served old new k s session' request (outcome.Input buffer text) at sits utf8 answered same done starved = ask-answer old new k s session' (reply_of old.lines.lines old.password s.session.client request) (outcome.Input buffer text) at sits (reply_fits old.lines.lines old.password s.session.client request utf8).link answered done
+ask-served old new k s session' request (outcome.Leave why) at sits utf8 answered same done starved = ask-answer old new k s session' (reply_of old.lines.lines old.password s.session.client request) (outcome.Leave why) at sits (reply_fits old.lines.lines old.password s.session.client request utf8).link answered done
+ask-served old new k s session' request outcome.NoMemory at sits utf8 answered same done starved =
+    let key : client_link session'.client ≡ k = ap (λ (known : Known). client_link known.client) same ∙ at_key-key seat_link k old.seats s at in
+    let mid = replied old k session' in
+    MayDo-starved old new (asked (state_of old) s.session.client (Some request)) (Keeps-trans old mid new (Keeps-put old k s (record { session = session'; leaving = None }) at sits key) starved.keeps) starved.count
+
+-- the text that a request types is text
+pub outcome-text : (lines : List Line) (password : List ℕ) (client : Client) (request : Request) (old new : Known) (result : Outcome) → HasUtf8 request
+    → OnServed result (Answers old new result (reply_of lines password client request)) → OutcomeUtf8 result
+outcome-text lines password client request old new outcome.Replied utf8 answered = tt
+outcome-text lines password client request old new outcome.Silent utf8 answered = tt
+outcome-text lines password client request old new (outcome.Input buffer text) utf8 answered = subst OutcomeUtf8 (sym answered.outcome) (reply_fits lines password client request utf8).text
+outcome-text lines password client request old new (outcome.Leave why) utf8 answered = tt
+outcome-text lines password client request old new outcome.NoMemory utf8 answered = tt
+
+link_same : (lines : List Line) (password : List ℕ) (request : Request) (old new : Known) (result : Outcome) → HasUtf8 request → OnServed result (Answers old new result (reply_of lines password old.client request)) → OnNoMemory result (new ≡ old)
+    → client_link new.client ≡ client_link old.client
+link_same lines password request old new outcome.Replied utf8 answered same = ap (λ (c : Client). client_link c) answered.client ∙ ap (λ (l : LinkId). l.0) (reply_fits lines password old.client request utf8).link
+link_same lines password request old new outcome.Silent utf8 answered same = ap (λ (c : Client). client_link c) answered.client ∙ ap (λ (l : LinkId). l.0) (reply_fits lines password old.client request utf8).link
+link_same lines password request old new (outcome.Input buffer text) utf8 answered same = ap (λ (c : Client). client_link c) answered.client ∙ ap (λ (l : LinkId). l.0) (reply_fits lines password old.client request utf8).link
+link_same lines password request old new (outcome.Leave why) utf8 answered same = ap (λ (c : Client). client_link c) answered.client ∙ ap (λ (l : LinkId). l.0) (reply_fits lines password old.client request utf8).link
+link_same lines password request old new outcome.NoMemory utf8 answered same = ap (λ (k : Known). client_link k.client) same
+
+-- the client stays open behind its reply
+pub ask-opened : (link : LinkId) (seats : List Seat) (place : ℕ) (s : Seat) (session' : Known) (lines : List Line) (password : List ℕ) (request : Request) (result : Outcome) → IsPlace seat_link link.0 seats place → s ≡ get_or seats place s
+    → is_open_at (at_key seat_link link.0 seats) ≡ true → HasUtf8 request → OnServed result (Answers s.session session' result (reply_of lines password s.session.client request)) → OnNoMemory result (session' ≡ s.session)
+    → is_open_at (at_key seat_link link.0 (set seats place (record { session = session'; leaving = s.leaving }))) ≡ true
+ask-opened link seats place s session' lines password request result p e opened utf8 answered same =
+    let at = seat-at link seats place s p e in
+    let y : Seat = record { session = session'; leaving = s.leaving } in
+    let key : seat_link y ≡ link.0 = link_same lines password request s.session session' result utf8 answered same ∙ at_key-key seat_link link.0 seats s at in
+    ap (λ ss. is_open_at (at_key seat_link link.0 ss)) (p.put y) ∙ ap is_open_at (at_key-put_same seat_link link.0 s y seats key at) ∙ open_of (at_key seat_link link.0 seats) s at opened
+
+pub ask-at : (old new : Standing) (link : LinkId) (place : ℕ) (s : Seat) (session' : Known) (request : Request) (result : Outcome) → IsPlace seat_link link.0 old.seats place → s ≡ get_or old.seats place s
+    → is_open_at (at_key seat_link link.0 old.seats) ≡ true → HasUtf8 request → OnServed result (Answers s.session session' result (reply_of old.lines.lines old.password s.session.client request)) → OnNoMemory result (session' ≡ s.session)
+    → OnServed result (MayDo (record old { seats = set old.seats place (record { session = session'; leaving = s.leaving }) }) new (follows (state_of (record old { seats = set old.seats place (record { session = session'; leaving = s.leaving }) })) link.0 result))
+    → OnNoMemory result (Starves (record old { seats = set old.seats place (record { session = session'; leaving = s.leaving }) }) new)
+    → IfSome (at_key seat_link link.0 old.seats) (λ seat. MayDo old new (asked (state_of old) seat.session.client (Some request)))
+ask-at old new link place s session' request result p e opened utf8 answered same done starved =
+    let at = seat-at link old.seats place s p e in
+    let sits = open_of (at_key seat_link link.0 old.seats) s at opened in
+    let y : Seat = record { session = session'; leaving = s.leaving } in
+    let there : set old.seats place y ≡ put_at seat_link link.0 (record { session = session'; leaving = None }) old.seats = p.put y ∙ ap (λ l. put_at seat_link link.0 (record { session = session'; leaving = l }) old.seats) (open_none s sits) in
+    let P : List Seat → Type 0 = λ ss. OnServed result (MayDo (record old { seats = ss }) new (follows (state_of (record old { seats = ss })) link.0 result)) in
+    let Q : List Seat → Type 0 = λ ss. OnNoMemory result (Starves (record old { seats = ss }) new) in
+    let R : Option Seat → Type 0 = λ o. IfSome o (λ seat. MayDo old new (asked (state_of old) seat.session.client (Some request))) in
+    subst R (sym at) (ask-served old new link.0 s session' request result at sits utf8 answered same (subst P there done) (subst Q there starved))
+
+-- ---- arrivals
+
+pub came-surplus : (old : Standing) (link : LinkId) (nonce : List ℕ) → 5 ≤ length (filter (λ seat. is_open seat) old.seats) → MayCome link.0 old old (Some Surplus) (arrives (state_of old) link.0 nonce)
+came-surplus old link nonce full =
+    let same = open-length old.seats in
+    let test : nat_lt (length (clients_of old.seats)) client_limit ≡ false = grind (arith, nat_tests) in
+    record {
+      rises = omega arith;
+      seats = refl;
+      kept = λ j some. refl;
+      comes = λ stay below. rw test (record { state = refl; bytes = λ j. refl; leaving = λ j. refl; quits = refl; acts = refl });
+    }
+
+pub came-starved : (old new : Standing) (link : LinkId) (why : Cause) (nonce : List ℕ) → new ≡ record old { starved = min (old.starved + 1) (2 ^ 64 - 1) } → old.starved ≤ new.starved → MayCome link.0 old new (Some why) (arrives (state_of old) link.0 nonce)
+came-starved old new link why nonce e rises =
+    let count : new.starved ≡ min (old.starved + 1) (2 ^ 64 - 1) = ap (λ (c : Standing). c.starved) e in
+    record {
+      rises = rises;
+      seats = ap (λ (c : Standing). c.seats) e;
+      kept = λ j some. ap (λ (c : Standing). at_key seat_link j c.seats) e;
+      comes = λ same below. absurd (omega arith);
+    }
+
+pub came : (old : Standing) (link : LinkId) (nonce : List ℕ) → length (filter (λ seat. is_open seat) old.seats) < 5
+    → MayCome link.0 old (record old { seats = old.seats ++ record { session = new_session link nonce; leaving = None } ∷ [] }) None (arrives (state_of old) link.0 nonce)
+came old link nonce few =
+    let same = open-length old.seats in
+    let seat : Seat = record { session = new_session link nonce; leaving = None } in
+    let test : nat_lt (length (clients_of old.seats)) client_limit ≡ true = grind (arith, nat_tests) in
+    record {
+      rises = omega arith;
+      seats = links-push old.seats seat;
+      kept = λ j some. kept-push j old.seats seat some;
+      comes = λ stay below. rw test (record {
+        state = rw (clients-push old.seats (new_session link nonce)) refl;
+        bytes = λ j. unsent-push j old.seats seat refl;
+        leaving = λ j. leaving-push j old.seats seat refl;
+        quits = refl;
+        acts = refl;
+      });
+    }

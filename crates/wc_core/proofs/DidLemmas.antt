@@ -1,0 +1,99 @@
+-- How what is done follows one another.
+use Rattle.std.proofs.Common.{◌≡◌, ℕ, ◌+◌, ◌-◌, ◌^◌, ◌<◌, ◌≤◌, Bool, true, false, List, [], ◌∷◌, ◌++◌, Option, Some, None, IsSome, refl, ap, sym, subst, ◌∙◌, ◌||◌, arith, append-nil, append_assoc, min}
+use Rattle.std.specs.Prelude.{map}
+use Rattle.wc_text.specs.declared.names.Cause.{Cause}
+use Rattle.wc_outside.specs.Keyed.{at_key}
+use Rattle.wc_core.specs.declared.seat.Seat.{Seat}
+use Rattle.wc_core.specs.Standing.{Standing}
+use Rattle.wc_core.specs.State.{State, Act, Stepped}
+use Rattle.wc_core.specs.Step.{stays, then_does}
+use Rattle.wc_core.specs.Served.{seat_link, links_of, state_of, unsent_on, leaving_in, leaving_on, sent_by, sent_to, or_else, close_by, close_of, is_end, has_end, Distinct, Did, Keeps, MayDo, Starves}
+
+pub sent_to-append : (j : ℕ) (a b : List Act) → sent_to j (a ++ b) ≡ sent_to j a ++ sent_to j b
+sent_to-append j [] b = refl
+sent_to-append j (x ∷ a) b = ap (λ t. sent_by j x ++ t) (sent_to-append j a b) ∙ sym (append_assoc (sent_by j x) (sent_to j a) (sent_to j b))
+
+or_else-assoc : (a b c : Option Cause) → or_else (or_else a b) c ≡ or_else a (or_else b c)
+or_else-assoc None b c = refl
+or_else-assoc (Some x) b c = refl
+
+pub or_else-none : (a : Option Cause) → or_else a None ≡ a
+or_else-none None = refl
+or_else-none (Some x) = refl
+
+pub close_of-append : (j : ℕ) (a b : List Act) → close_of j (a ++ b) ≡ or_else (close_of j a) (close_of j b)
+close_of-append j [] b = refl
+close_of-append j (x ∷ a) b = ap (λ o. or_else (close_by j x) o) (close_of-append j a b) ∙ sym (or_else-assoc (close_by j x) (close_of j a) (close_of j b))
+
+or-assoc : (a b c : Bool) → ((a || b) || c) ≡ (a || (b || c))
+or-assoc true b c = refl
+or-assoc false b c = refl
+
+pub or-false : (b : Bool) → (b || false) ≡ b
+or-false true = refl
+or-false false = refl
+
+pub or-true : (b : Bool) → (b || true) ≡ true
+or-true true = refl
+or-true false = refl
+
+pub has_end-append : (a b : List Act) → has_end (a ++ b) ≡ (has_end a || has_end b)
+has_end-append [] b = refl
+has_end-append (x ∷ a) b = ap (λ t. is_end x || t) (has_end-append a b) ∙ sym (or-assoc (is_end x) (has_end a) (has_end b))
+
+-- nothing is done
+pub Did-stays : (a : Standing) → Did a a (stays (state_of a))
+Did-stays a = record { state = refl; bytes = λ j. sym (append-nil (unsent_on j a.seats)); leaving = λ j. sym (or_else-none (leaving_on j a.seats)); quits = sym (or-false a.quits) }
+
+-- one step behind another
+pub Did-then : (a b c : Standing) (first : Stepped) (next : State → Stepped) → Did a b first → Did b c (next (state_of b)) → Did a c (then_does first next)
+Did-then a b c first next f g =
+    let P : State → Type 0 = λ s. Did b c (next s) in
+    let h : Did b c (next first.state) = subst P f.state g in
+    let acts = (next first.state).acts in
+    record {
+      state = h.state;
+      bytes = λ j. h.bytes j ∙ ap (λ t. t ++ sent_to j acts) (f.bytes j) ∙ append_assoc (unsent_on j a.seats) (sent_to j first.acts) (sent_to j acts) ∙ ap (λ t. unsent_on j a.seats ++ t) (sym (sent_to-append j first.acts acts));
+      leaving = λ j. h.leaving j ∙ ap (λ o. or_else o (close_of j acts)) (f.leaving j) ∙ or_else-assoc (leaving_on j a.seats) (close_of j first.acts) (close_of j acts) ∙ ap (λ o. or_else (leaving_on j a.seats) o) (sym (close_of-append j first.acts acts));
+      quits = h.quits ∙ ap (λ t. t || has_end acts) f.quits ∙ or-assoc a.quits (has_end first.acts) (has_end acts) ∙ ap (λ t. a.quits || t) (sym (has_end-append first.acts acts));
+    }
+
+pub Keeps-refl : (a : Standing) → Keeps a a
+Keeps-refl a = record { rises = omega arith; links = refl; kept = λ j s. refl }
+
+pub Keeps-trans : (a b c : Standing) → Keeps a b → Keeps b c → Keeps a c
+Keeps-trans a b c f g = record {
+  rises = (let p = f.rises in let q = g.rises in omega arith);
+  links = g.links ∙ f.links;
+  kept = λ j s.
+      let same = f.kept j s in
+      let P : Option Seat → Type 0 = λ o. IsSome (leaving_in o) in
+      g.kept j (subst P (sym same) s) ∙ same;
+}
+
+-- the same seats, and want of memory may be counted
+pub Keeps-seats : (a b : Standing) → b.seats ≡ a.seats → a.starved ≤ b.starved → Keeps a b
+Keeps-seats a b e rises = record { rises = rises; links = ap (map seat_link) e; kept = λ j s. ap (at_key seat_link j) e }
+
+pub MayDo-exact : (a b : Standing) (s : Stepped) → Keeps a b → (Distinct (links_of a) → Did a b s) → MayDo a b s
+MayDo-exact a b s keeps did = record { keeps = keeps; does = λ same below distinct. did distinct }
+
+pub MayDo-stays : (a : Standing) → MayDo a a (stays (state_of a))
+MayDo-stays a = MayDo-exact a a (stays (state_of a)) (Keeps-refl a) (λ distinct. Did-stays a)
+
+pub MayDo-starved : (a b : Standing) (s : Stepped) → Keeps a b → b.starved ≡ min (a.starved + 1) (2 ^ 64 - 1) → MayDo a b s
+MayDo-starved a b s keeps e = record { keeps = keeps; does = λ same below distinct. absurd (omega arith) }
+
+pub MayDo-then : (a b c : Standing) (first : Stepped) (next : State → Stepped) → MayDo a b first → MayDo b c (next (state_of b)) → MayDo a c (then_does first next)
+MayDo-then a b c first next f g = record {
+  keeps = Keeps-trans a b c f.keeps g.keeps;
+  does = λ same below distinct.
+      let p = f.keeps.rises in
+      let q = g.keeps.rises in
+      let half : b.starved ≡ a.starved = omega arith in
+      let rest : c.starved ≡ b.starved = omega arith in
+      Did-then a b c first next (f.does half below distinct) (g.does rest (omega arith) (subst Distinct (sym f.keeps.links) distinct));
+}
+
+pub MayDo-refused : (a b : Standing) (s : Stepped) → Starves a b → MayDo a b s
+MayDo-refused a b s f = MayDo-starved a b s f.keeps f.count

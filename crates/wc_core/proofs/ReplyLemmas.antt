@@ -1,0 +1,95 @@
+-- A request leaves its client on its link, and what it types is text.
+use Rattle.std.proofs.Common.{◌≡◌, ℕ, Bool, true, false, cond, not, ◌&&◌, ◌||◌, List, [], ◌∷◌, Option, Some, refl, sym, ap, subst}
+use Rattle.std.specs.Option.{is_none}
+use Rattle.std.specs.Str.{IsUtf8}
+use Rattle.wc_text.specs.declared.names.LinkId.{LinkId}
+use Rattle.wc_text.specs.declared.names.Pair.{Pair}
+use Rattle.wc_text.specs.declared.names.Cause.TheVariants as cause
+use Rattle.wc_lines.specs.declared.line.Line.{Line}
+use Rattle.wc_relaycmd.specs.declared.request.Command.{Command}
+use Rattle.wc_relaycmd.specs.declared.request.Command.TheVariants as ask
+use Rattle.wc_relaycmd.specs.declared.request.Request.{Request}
+use Rattle.wc_relaycmd.specs.Utf8.{CommandUtf8, HasUtf8}
+use Rattle.wc_objects.specs.declared.object.WireMessage.{WireMessage}
+use Rattle.wc_session.specs.declared.client.Client.{Client}
+use Rattle.wc_session.specs.declared.outcome.Outcome.{Outcome}
+use Rattle.wc_session.specs.declared.outcome.Outcome.TheVariants as outcome
+use Rattle.wc_session.specs.Handshakes.{choice_in, asks_escapes}
+use Rattle.wc_session.specs.Logins.{pairs_let_in}
+use Rattle.wc_session.specs.Names.{names_core}
+use Rattle.wc_session.specs.Sync.{synchronized, desynchronized}
+use Rattle.wc_session.specs.Reply.{Answer, silent, leaves, replies, core_buffer, shaken, handshake_reply, handshake_answer, init_answer, input_answer, is_open, served, reply_of}
+use Rattle.wc_core.specs.Served.{OutcomeUtf8}
+
+pub record Fits (client : Client) (answer : Answer) : Type 0 where
+  pub link : answer.client.link ≡ client.link
+  pub text : OutcomeUtf8 answer.outcome
+
+if_fits : (client : Client) (b : Bool) (x y : Answer) → Fits client x → Fits client y → Fits client (cond b x y)
+if_fits client true x y p q = p
+if_fits client false x y p q = q
+
+silent_fits : (client after : Client) → after.link ≡ client.link → Fits client (silent after)
+silent_fits client after e = record { link = e; text = tt }
+
+replies_fits : (client after : Client) (messages : List WireMessage) → after.link ≡ client.link → Fits client (replies after messages)
+replies_fits client after [] e = record { link = e; text = tt }
+replies_fits client after (m ∷ messages) e = record { link = e; text = tt }
+
+link_if : (b : Bool) (a b' : Client) → b'.link ≡ a.link → (cond b a b').link ≡ a.link
+link_if true a b' e = refl
+link_if false a b' e = e
+
+shaken_link : (client : Client) (pairs : List Pair) → (shaken client pairs).link ≡ client.link
+unfolding shaken
+shaken_link client pairs = link_if client.logged_in client (record client { chosen = choice_in pairs; escaped = asks_escapes pairs }) refl
+
+handshake_fits : (client : Client) (id : List ℕ) (pairs : List Pair) → Fits client (handshake_answer client id pairs)
+unfolding handshake_answer
+handshake_fits client id pairs =
+    if_fits client (not client.logged_in && is_none (choice_in pairs))
+    (record { messages = handshake_reply client id pairs; outcome = outcome.Leave cause.LoginFailed; client = shaken client pairs })
+    (replies (shaken client pairs) (handshake_reply client id pairs))
+    (record { link = shaken_link client pairs; text = tt }) (replies_fits client (shaken client pairs) (handshake_reply client id pairs) (shaken_link client pairs))
+
+init_fits : (password : List ℕ) (client : Client) (pairs : List Pair) → Fits client (init_answer password client pairs)
+unfolding init_answer
+init_fits password client pairs =
+    let let_in : Client = record client { logged_in = true } in
+    if_fits client client.logged_in (silent client) (cond (pairs_let_in pairs password client.nonce client.chosen) (silent let_in) (leaves client cause.LoginFailed))
+    (silent_fits client client refl)
+    (if_fits client (pairs_let_in pairs password client.nonce client.chosen) (silent let_in) (leaves client cause.LoginFailed) (silent_fits client let_in refl) (record { link = refl; text = tt }))
+
+input_fits : (client : Client) (buffer text : List ℕ) → IsUtf8 text → Fits client (input_answer client buffer text)
+input_fits client buffer text utf8 =
+    if_fits client (names_core buffer) (record { messages = []; outcome = outcome.Input core_buffer text; client = client }) (silent client) (record { link = refl; text = utf8 }) (silent_fits client client refl)
+
+synchronized_link : (client : Client) (buffers : List (List ℕ)) (options : Option (List (List ℕ))) → (synchronized client buffers options).link ≡ client.link
+unfolding synchronized
+synchronized_link client buffers options = refl
+
+desynchronized_link : (client : Client) (buffers : List (List ℕ)) (options : Option (List (List ℕ))) → (desynchronized client buffers options).link ≡ client.link
+unfolding desynchronized
+desynchronized_link client buffers options = refl
+
+served_fits : (lines : List Line) (password : List ℕ) (client : Client) (id : List ℕ) (command : Command) → CommandUtf8 command → Fits client (served lines password client id command)
+unfolding served CommandUtf8
+served_fits lines password client id (ask.Handshake pairs) utf8 = handshake_fits client id pairs
+served_fits lines password client id (ask.Init pairs) utf8 = init_fits password client pairs
+served_fits lines password client id (ask.Hdata path keys) utf8 = replies_fits client client _ refl
+served_fits lines password client id (ask.Info name) utf8 = replies_fits client client _ refl
+served_fits lines password client id (ask.Infolist name) utf8 = replies_fits client client _ refl
+served_fits lines password client id (ask.Nicklist buffer) utf8 = replies_fits client client _ refl
+served_fits lines password client id (ask.Input buffer text) utf8 = input_fits client buffer text utf8.1
+served_fits lines password client id (ask.Completion buffer position text) utf8 = replies_fits client client _ refl
+served_fits lines password client id (ask.Sync buffers options) utf8 = silent_fits client (synchronized client buffers options) (synchronized_link client buffers options)
+served_fits lines password client id (ask.Desync buffers options) utf8 = silent_fits client (desynchronized client buffers options) (desynchronized_link client buffers options)
+served_fits lines password client id ask.Test utf8 = replies_fits client client _ refl
+served_fits lines password client id (ask.Ping text) utf8 = replies_fits client client _ refl
+served_fits lines password client id ask.Quit utf8 = record { link = refl; text = tt }
+
+pub reply_fits : (lines : List Line) (password : List ℕ) (client : Client) (request : Request) → HasUtf8 request → Fits client (reply_of lines password client request)
+unfolding reply_of
+reply_fits lines password client request utf8 =
+    if_fits client (client.logged_in || is_open request.command) (served lines password client request.id request.command) (leaves client cause.LoginFailed)
+    (served_fits lines password client request.id request.command utf8.command) (record { link = refl; text = tt })

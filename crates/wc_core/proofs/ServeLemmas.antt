@@ -1,0 +1,163 @@
+-- What the core's calls do, against the steps.
+use Rattle.std.proofs.Common.{◌≡◌, ◌≢◌, ℕ, ◌+◌, ◌-◌, ◌<◌, ◌≤◌, Bool, true, false, cond, eqb, List, [], ◌∷◌, ◌++◌, length, Option, Some, None, IsSome, refl, ap, sym, subst, ◌∙◌, ◌||◌, arith, append-nil, append_assoc, nat_lt}
+use Rattle.std.specs.Prelude.{map}
+use Rattle.std.specs.List.{flat_map}
+use Rattle.std.specs.Option.{is_none, option_copied}
+use Rattle.wc_relaycmd.specs.Cuts.{before, behind}
+use Rattle.wc_core.proofs.TypedLemmas.{lines_left-split}
+use Rattle.std.specs.Borrow.{Bor}
+use Rattle.std.proofs.lemmas.Bool.{false≢true}
+use Rattle.std.proofs.lemmas.Bool.Decides.{nat_tests}
+use Rattle.wc_text.specs.declared.names.Cause.{Cause}
+use Rattle.wc_text.specs.declared.names.Cause.TheVariants.{Surplus}
+use Rattle.wc_outside.specs.Keyed.{at_key, put_at, without}
+use Rattle.wc_outside.proofs.KeyedLemmas.{at_key-key, at_key-put_other, at_key-put_same, at_key-push_other}
+use Rattle.wc_lines.specs.declared.line.Line.{Line}
+use Rattle.wc_lines.specs.Held.{Held}
+use Rattle.wc_lines.specs.Ring.{with_line}
+use Rattle.wc_objects.specs.declared.object.WireMessage.{WireMessage}
+use Rattle.wc_session.specs.declared.client.Client.{Client}
+use Rattle.wc_session.specs.Known.{Known, new_session}
+use Rattle.wc_session.specs.Sending.{spelling}
+use Rattle.wc_core.specs.declared.seat.Seat.{Seat}
+use Rattle.wc_core.specs.Standing.{Standing}
+use Rattle.wc_core.specs.Typed.{Typed, typed_line, parted}
+use Rattle.wc_core.specs.TypedSeen.{lines_left}
+use Rattle.wc_core.specs.State.{State, Act, Stepped, Sends, Closes}
+use Rattle.wc_core.specs.Step.{client_link, client_limit, stays, then_does, sends, told_to, prints, does, is_quit, runs, leaves, lost, arrives}
+use Rattle.wc_core.specs.Served.{seat_link, links_of, is_open, clients_of, state_of, unsent_in, unsent_on, leaving_in, leaving_on, sent_to, or_else, close_of, has_end, Absent, Distinct, Did, Keeps, MayDo, Came, MayCome, told_seat, SeatsKept}
+use Rattle.wc_core.proofs.DidLemmas.{or_else-none, or-false, Keeps-refl, Keeps-trans, MayDo-then, MayDo-exact}
+use Rattle.wc_core.proofs.SeatLemmas.{sent-sends, close-sends, end-sends, close-told, end-told, told-links, told-clients, told-leaving, told-bytes, SeatsKept-links, SeatsKept-leaving, absent-client, client-open, client-missing, client-leaving, clients-put, clients-leave}
+
+-- ---- a line that is printed
+
+abbrev pub shown : Standing → Line → Standing
+shown old line = record old { seats = map (told_seat line) old.seats; lines = with_line old.lines line; next = old.next + 2 }
+
+pub Did-prints : (old : Standing) (line : Line) → Distinct (links_of old) → Did old (shown old line) (prints (state_of old) line)
+Did-prints old line distinct = record {
+  state = rw (told-clients line old.seats) refl;
+  bytes = λ j. told-bytes j line old.seats distinct;
+  leaving = λ j. told-leaving j line old.seats ∙ sym (ap (or_else (leaving_on j old.seats)) (close-told j line (clients_of old.seats)) ∙ or_else-none (leaving_on j old.seats));
+  quits = sym (ap (λ t. old.quits || t) (end-told line (clients_of old.seats)) ∙ or-false old.quits);
+}
+
+pub Keeps-told : (old new : Standing) → SeatsKept old.seats new.seats → old.starved ≤ new.starved → Keeps old new
+Keeps-told old new kept rises = record { rises = rises; links = SeatsKept-links old.seats new.seats kept; kept = λ j some. SeatsKept-leaving j old.seats new.seats kept some }
+
+-- ---- a seat that is changed
+
+put-links : (k : ℕ) (y : Seat) (seats : List Seat) → seat_link y ≡ k → map seat_link (put_at seat_link k y seats) ≡ map seat_link seats
+put-links k y [] e = refl
+put-links k y (seat ∷ seats) e = grind (arith, nat_tests, put-links k y seats e)
+
+none_of : (leaving : Option Cause) → is_none leaving ≡ true → leaving ≡ None
+none_of None sits = refl
+none_of (Some why) sits = absurd (false≢true sits)
+
+pub open_none : (s : Seat) → is_open s ≡ true → s.leaving ≡ None
+open_none s sits = none_of s.leaving sits
+
+stays_by : (leaving : Option Cause) → is_none leaving ≡ true → IsSome leaving → ⊥
+stays_by None sits some = absurd (cc)
+stays_by (Some why) sits some = false≢true sits
+
+open_stays : (s : Seat) → is_open s ≡ true → IsSome s.leaving → ⊥
+open_stays s sits some = stays_by s.leaving sits some
+
+-- the seat of an open client is changed
+pub Keeps-put : (old : Standing) (k : ℕ) (s y : Seat) → at_key seat_link k old.seats ≡ Some s → is_open s ≡ true → seat_link y ≡ k → Keeps old (record old { seats = put_at seat_link k y old.seats })
+Keeps-put old k s y at sits key = record {
+  rises = omega arith;
+  links = put-links k y old.seats key;
+  kept = λ j some. by j (eqb j k) refl some;
+} where
+  by : (j : ℕ) (t : Bool) → eqb j k ≡ t → IsSome (leaving_on j old.seats) → at_key seat_link j (put_at seat_link k y old.seats) ≡ at_key seat_link j old.seats
+  by j true e some =
+      let here : j ≡ k = grind (arith, nat_tests) in
+      let P : ℕ → Type 0 = λ n. IsSome (leaving_on n old.seats) in
+      let Q : Option Seat → Type 0 = λ o. IsSome (leaving_in o) in
+      absurd (open_stays s sits (subst Q at (subst P here some)))
+  by j false e some = let ne : j ≢ k = λ q. grind (arith, nat_tests) in at_key-put_other seat_link k j y old.seats key ne
+
+-- what is seen of a link whose seat is changed, or of another
+put_here : (A : Type 0) (f : Option Seat → A) (k j : ℕ) (s y : Seat) (seats : List Seat) → at_key seat_link k seats ≡ Some s → seat_link y ≡ k → eqb k j ≡ true → (f (at_key seat_link j (put_at seat_link k y seats)) ≡ f (Some y)) × (f (at_key seat_link j seats) ≡ f (Some s))
+put_here A f k j s y seats at key e =
+    let here : k ≡ j = grind (arith, nat_tests) in (
+      ap f (subst (λ n. at_key seat_link n (put_at seat_link k y seats) ≡ Some y) here (at_key-put_same seat_link k s y seats key at)),
+      ap f (subst (λ n. at_key seat_link n seats ≡ Some s) here at),
+    )
+
+put_there : (A : Type 0) (f : Option Seat → A) (k j : ℕ) (y : Seat) (seats : List Seat) → seat_link y ≡ k → eqb k j ≡ false → f (at_key seat_link j (put_at seat_link k y seats)) ≡ f (at_key seat_link j seats)
+put_there A f k j y seats key e = let ne : j ≢ k = λ q. grind (arith, nat_tests) in ap f (at_key-put_other seat_link k j y seats key ne)
+
+-- a reply stands behind the unsent bytes
+pub Did-reply : (old : Standing) (k : ℕ) (s : Seat) (session' : Known) (messages : List WireMessage) → at_key seat_link k old.seats ≡ Some s → is_open s ≡ true → client_link session'.client ≡ k
+    → session'.unsent ≡ s.session.unsent ++ flat_map (λ m. spelling m) messages
+    → Did old (record old { seats = put_at seat_link k (record { session = session'; leaving = None }) old.seats }) (record { state = record (state_of old) { clients = put_at client_link k session'.client (clients_of old.seats) }; acts = sends k messages })
+Did-reply old k s session' messages at sits key e = record {
+  state = rw (clients-put k old.seats s session' at sits) refl;
+  bytes = λ j. bytes_by j (eqb k j) refl ∙ ap (λ t. unsent_on j old.seats ++ t) (sym (sent-sends j k messages));
+  leaving = λ j. leaving_by j (eqb k j) refl ∙ sym (ap (or_else (leaving_on j old.seats)) (close-sends j k messages) ∙ or_else-none (leaving_on j old.seats));
+  quits = sym (ap (λ t. old.quits || t) (end-sends k messages) ∙ or-false old.quits);
+} where
+  y : Seat
+  y = record { session = session'; leaving = None }
+
+  bytes_by : (j : ℕ) (t : Bool) → eqb k j ≡ t → unsent_on j (put_at seat_link k y old.seats) ≡ unsent_on j old.seats ++ cond t (flat_map (λ m. spelling m) messages) []
+  bytes_by j true q = let seen = put_here (List ℕ) unsent_in k j s y old.seats at key q in seen.0 ∙ e ∙ ap (λ t. t ++ flat_map (λ m. spelling m) messages) (sym seen.1)
+  bytes_by j false q = put_there (List ℕ) unsent_in k j y old.seats key q ∙ sym (append-nil (unsent_on j old.seats))
+
+  leaving_by : (j : ℕ) (t : Bool) → eqb k j ≡ t → leaving_on j (put_at seat_link k y old.seats) ≡ leaving_on j old.seats
+  leaving_by j true q = let seen = put_here (Option Cause) leaving_in k j s y old.seats at key q in seen.0 ∙ sym (open_none s sits) ∙ sym seen.1
+  leaving_by j false q = put_there (Option Cause) leaving_in k j y old.seats key q
+
+-- a client is marked as leaving
+pub Did-leave : (old : Standing) (k : ℕ) (s : Seat) (why : Cause) → Distinct (links_of old) → at_key seat_link k old.seats ≡ Some s → is_open s ≡ true
+    → Did old (record old { seats = put_at seat_link k (record { session = s.session; leaving = Some why }) old.seats }) (leaves (state_of old) k why)
+Did-leave old k s why distinct at sits = record {
+  state = rw (clients-leave k old.seats s s.session why distinct at) refl;
+  bytes = λ j. bytes_by j (eqb k j) refl ∙ sym (append-nil (unsent_on j old.seats));
+  leaving = λ j. leaving_by j (eqb k j) refl;
+  quits = sym (or-false old.quits);
+} where
+  y : Seat
+  y = record { session = s.session; leaving = Some why }
+
+  key : seat_link y ≡ k
+  key = at_key-key seat_link k old.seats s at
+
+  bytes_by : (j : ℕ) (t : Bool) → eqb k j ≡ t → unsent_on j (put_at seat_link k y old.seats) ≡ unsent_on j old.seats
+  bytes_by j true q = let seen = put_here (List ℕ) unsent_in k j s y old.seats at key q in seen.0 ∙ sym seen.1
+  bytes_by j false q = put_there (List ℕ) unsent_in k j y old.seats key q
+
+  leaving_by : (j : ℕ) (t : Bool) → eqb k j ≡ t → leaving_on j (put_at seat_link k y old.seats) ≡ or_else (leaving_on j old.seats) (or_else (cond t (Some why) None) None)
+  leaving_by j true q = let seen = put_here (Option Cause) leaving_in k j s y old.seats at key q in seen.0 ∙ sym (ap (λ o. or_else o (Some why)) (seen.1 ∙ open_none s sits))
+  leaving_by j false q = put_there (Option Cause) leaving_in k j y old.seats key q ∙ sym (or_else-none (leaving_on j old.seats))
+
+-- ---- a text that is typed
+
+-- one line, and the lines behind it
+pub MayDo-runs : (a b c : Standing) (line : List ℕ) (lines : List (List ℕ)) → is_quit (typed_line line) ≡ false → MayDo a b (does (state_of a) (typed_line line)) → MayDo b c (runs (state_of b) lines)
+    → MayDo a c (runs (state_of a) (line ∷ lines))
+MayDo-runs a b c line lines goes f g = rw goes (MayDo-then a b c (does (state_of a) (typed_line line)) (λ next. runs next lines) f g)
+
+pub MayDo-quit : (a b : Standing) (line : List ℕ) (lines : List (List ℕ)) → is_quit (typed_line line) ≡ true → MayDo a b (does (state_of a) (typed_line line)) → MayDo a b (runs (state_of a) (line ∷ lines))
+MayDo-quit a b line lines goes f = rw goes f
+
+left_lines : (left : Option (Bor (List ℕ))) (rest : Bor (List ℕ)) (line : List ℕ) (others : Option (Bor (List ℕ))) → left ≡ Some rest → line ≡ before 10 rest.now → option_copied others ≡ behind 10 rest.now → line ∷ lines_left others ≡ lines_left left
+left_lines left rest line others e front back = ap (λ l. l ∷ lines_left others) front ∙ lines_left-split rest.now others back ∙ sym (ap lines_left e)
+
+-- a line that ends the run, before the lines that are left
+pub quit_left : (a b : Standing) (left : Option (Bor (List ℕ))) (rest : Bor (List ℕ)) (line : List ℕ) (others : Option (Bor (List ℕ))) → left ≡ Some rest → line ≡ before 10 rest.now → option_copied others ≡ behind 10 rest.now
+    → is_quit (typed_line line) ≡ true → MayDo a b (does (state_of a) (typed_line line)) → MayDo a b (runs (state_of a) (lines_left left))
+quit_left a b left rest line others e front back goes f =
+    let P : List (List ℕ) → Type 0 = λ lines. MayDo a b (runs (state_of a) lines) in
+    subst P (left_lines left rest line others e front back) (MayDo-quit a b line (lines_left others) goes f)
+
+-- one that does not
+pub more_left : (a b c : Standing) (left : Option (Bor (List ℕ))) (rest : Bor (List ℕ)) (line : List ℕ) (others : Option (Bor (List ℕ))) → left ≡ Some rest → line ≡ before 10 rest.now → option_copied others ≡ behind 10 rest.now
+    → is_quit (typed_line line) ≡ false → MayDo a b (does (state_of a) (typed_line line)) → MayDo b c (runs (state_of b) (lines_left others)) → MayDo a c (runs (state_of a) (lines_left left))
+more_left a b c left rest line others e front back goes f g =
+    let P : List (List ℕ) → Type 0 = λ lines. MayDo a c (runs (state_of a) lines) in
+    subst P (left_lines left rest line others e front back) (MayDo-runs a b c line (lines_left others) goes f g)

@@ -1,0 +1,34 @@
+-- What the core is, seen flat.
+use Rattle.std.specs.Prelude.{ℕ, List, []}
+use Rattle.wc_text.specs.declared.names.Cause.{Cause}
+use Rattle.wc_lines.specs.declared.line.Line.{Line}
+use Rattle.wc_session.specs.declared.client.Client.{Client}
+
+pub record State : Type 0 where
+  -- the password that is set
+  pub password : List ℕ
+  -- the clients that are open, in the order in which they came
+  pub clients : List Client
+  -- the lines of the core buffer, from the oldest, and how many it holds at most
+  pub lines : List Line
+  pub limit : ℕ
+  -- the next handle
+  pub next : ℕ
+  -- the last moment, in milliseconds since 1970
+  pub moment : ℕ
+
+-- what the core asks of the loop
+pub data Act : Type 0 where
+  -- bytes for the client of a link
+  Sends : ℕ → List ℕ → Act
+  Closes : ℕ → Cause → Act
+  -- the run is to end
+  Quits : Act
+
+pub record Stepped : Type 0 where
+  pub state : State
+  pub acts : List Act
+
+-- handles 1 to 4 are those of the core buffer
+abbrev pub first_state : List ℕ → ℕ → State
+first_state password limit = record { password = password; clients = []; lines = []; limit = limit; next = 5; moment = 0 }
