@@ -1,0 +1,6 @@
+pub mod SizeLemmas
+pub mod IdLemmas
+pub mod ClientLemmas
+pub mod PrintLemmas
+pub mod StepLemmas
+pub mod RunLemmas
