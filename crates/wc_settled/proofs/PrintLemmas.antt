@@ -76,9 +76,9 @@ last_within n xs = omega (arith, length-drop (length xs - n) xs)
 kept-prints : (limit link : ℕ) (state : State) (line : Line) → IsKept limit link state → IsPrinted line → IsKept limit link (prints state line).state
 kept-prints limit link state line kept is =
     let all = state.lines ++ line ∷ [] in record {
-      limit = kept.limit;
+      same = kept.same;
       most = kept.most;
-      within = (let h = last_within state.limit all in omega (arith, kept.limit));
+      within = (let h = last_within state.limit all in omega (arith, kept.same));
       printed = All-drop IsPrinted (length all - state.limit) all (All-push IsPrinted state.lines line kept.printed is);
       first = kept.first;
     }
@@ -112,7 +112,7 @@ Tells-prints limit link id state line free kept is = record {
     let shown = event_shows limit id part core_buffer state.lines line (event_apart (codes "buffer_line_added") id free) had in
     let told : held limit link id part (prints state line).acts ≡ fold_lines limit id part (line_added core_buffer line) = ap (fold_all limit id part) (told_line limit link state line kept is follows) in
     subst (λ part. HasLines part 1 (last_of state.limit all)) (sym told)
-    (subst (λ n. HasLines (fold_lines limit id part (line_added core_buffer line)) 1 (last_of n all)) (sym kept.limit) shown.0);
+    (subst (λ n. HasLines (fold_lines limit id part (line_added core_buffer line)) 1 (last_of n all)) (sym kept.same) shown.0);
 }
 
 cut_size : (text : List ℕ) (limit : ℕ) → length (take (cut_of text limit) text) ≤ limit

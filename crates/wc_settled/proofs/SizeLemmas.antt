@@ -17,7 +17,7 @@ use Rattle.wc_objects.specs.declared.object.Object.TheVariants as o
 use Rattle.wc_objects.specs.declared.object.Object.TheViews.{out-Object, out-roll-Object, out-roll-Hda, out-roll-HdaItem}
 use Rattle.wc_objects.specs.declared.object.HdaItem.{HdaItem}
 use Rattle.wc_objects.specs.Hex.{hex, glyph}
-use Rattle.wc_objects.specs.Spelling.{be32, text_bytes, pointer_bytes, simple_bytes, value_bytes, item_bytes, hda_bytes, object_bytes, body_bytes, message_bytes}
+use Rattle.wc_objects.specs.Spelling.{be32, text_bytes, pointer_bytes, simple_bytes, value_bytes, counted, item_bytes, hda_bytes, object_bytes, body_bytes, message_bytes}
 use Rattle.wc_objects.proofs.Rooms.{length-be32, length-message_bytes}
 use Rattle.wc_told.specs.LineObjects.{moment, truth, texts, line_keys, line_values, on_path, added_item, dumped_item, line_dump, line_added}
 use Rattle.wc_session.specs.Reply.{core_buffer, core_lines}
@@ -49,12 +49,15 @@ pointer_short : (p : ℕ) → p < 2 ^ 64 → IsShort (o.Ptr p)
 unfolding value_bytes simple_bytes out-Object out
 pointer_short p small = let h = pointer_size p small in omega arith
 
+date_size : (date : ℕ) → length (signed_decimal (moment date)) ≤ 21
+date_size date = by (leb date (2 ^ 63 - 1)) refl where
+  by : (b : Bool) → leb date (2 ^ 63 - 1) ≡ b → length (signed_decimal (pos (cond b date (2 ^ 63 - 1)))) ≤ 21
+  by true e = let small : date ≤ 2 ^ 63 - 1 = grind (arith, nat_tests) in length_signed_le 20 (pos date) (omega arith) (omega arith)
+  by false e = length_signed_le 20 (pos (2 ^ 63 - 1)) (omega arith) (omega arith)
+
 date_short : (date : ℕ) → IsShort (o.Tim (moment date))
 unfolding value_bytes simple_bytes out-Object out
-date_short date = by (leb date (2 ^ 63 - 1)) refl where
-  by : (b : Bool) → leb date (2 ^ 63 - 1) ≡ b → 1 + length (signed_decimal (pos (cond b date (2 ^ 63 - 1)))) ≤ 1100
-  by true e = let small : date ≤ 2 ^ 63 - 1 = grind (arith, nat_tests) in let h = length_signed_le 20 (pos date) (omega arith) (omega arith) in omega arith
-  by false e = let h = length_signed_le 20 (pos (2 ^ 63 - 1)) (omega arith) (omega arith) in omega arith
+date_short date = let h = date_size date in omega arith
 
 number_short : (n : ℤ) → IsShort (o.Chr n)
 unfolding value_bytes simple_bytes out-Object out
@@ -66,7 +69,7 @@ text_short text small = let h = text_size text in omega arith
 
 none_short : IsShort (o.Arr k.Str [])
 unfolding value_bytes
-none_short = rw (← o.rolls-Arr k.Str [], out-roll-Object) (let h = length-be32 0 in omega arith)
+none_short = rw (← o.rolls-Arr k.Str [], out-roll-Object) (let size : length (counted simple_bytes []) ≡ 4 = length-append (be32 0) [] ∙ ap (λ n. n + 0) (length-be32 0) in omega arith)
 
 tags_short : (tags : List (List ℕ)) → tags ≡ [] → IsShort (o.Arr k.Str (texts tags))
 tags_short tags none = subst (λ tags. IsShort (o.Arr k.Str (texts tags))) (sym none) none_short

@@ -40,7 +40,7 @@ use Rattle.wc_settled.proofs.ClientLemmas.{following-push, first-push, first-put
 use Rattle.wc_settled.proofs.PrintLemmas.{held, held-append, Tells, Tells-runs}
 
 kept-clients : (limit link : ℕ) (state : State) (clients : List Client) → IsKept limit link state → is_first_alone link clients ≡ true → IsKept limit link (record state { clients = clients })
-kept-clients limit link state clients kept e = record { limit = kept.limit; most = kept.most; within = kept.within; printed = kept.printed; first = e }
+kept-clients limit link state clients kept e = record { same = kept.same; most = kept.most; within = kept.within; printed = kept.printed; first = e }
 
 kept-leaves : (limit link : ℕ) (state : State) (k : ℕ) (why : Cause) → IsKept limit link state → IsKept limit link (leaves state k why).state
 kept-leaves limit link state k why kept = kept-clients limit link state (without client_link k state.clients) kept (first-without link k state.clients kept.first)
@@ -176,8 +176,8 @@ kept-lost limit link state k why None kept = kept
 kept-lost limit link state k why (Some client) kept = kept-leaves limit link state k why kept
 
 pub step_keeps : StepKeeps
-step_keeps limit link state (Start moment) kept = record { limit = kept.limit; most = kept.most; within = kept.within; printed = kept.printed; first = kept.first }
-step_keeps limit link state (Tick moment) kept = record { limit = kept.limit; most = kept.most; within = kept.within; printed = kept.printed; first = kept.first }
+step_keeps limit link state (Start moment) kept = record { same = kept.same; most = kept.most; within = kept.within; printed = kept.printed; first = kept.first }
+step_keeps limit link state (Tick moment) kept = record { same = kept.same; most = kept.most; within = kept.within; printed = kept.printed; first = kept.first }
 step_keeps limit link state (Arrives k nonce) kept = by (nat_lt (length state.clients) client_limit) where
   came : Client
   came = new_client (record { 0 = k }) nonce

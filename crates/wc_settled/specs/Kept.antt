@@ -17,7 +17,7 @@ is_first_alone link [] = true
 is_first_alone link (client ∷ clients) = if client_link client == link then is_quiet link clients else is_first_alone link clients
 
 pub record IsKept (limit link : ℕ) (state : State) : Type 0 where
-  pub limit : state.limit ≡ limit
+  pub same : state.limit ≡ limit
   pub most : limit ≤ 4096
   pub within : length state.lines ≤ limit
   pub printed : All IsPrinted state.lines
