@@ -30,7 +30,7 @@ use Rattle.wc_core.proofs.MessageLemmas.{messages_to-append}
 use Rattle.wc_settled.specs.Printed.{IsPrinted}
 use Rattle.wc_settled.specs.Settled.{client_on, follows_all, is_following}
 use Rattle.wc_settled.specs.Kept.{IsKept}
-use Rattle.wc_settled.specs.Mirrors.{fold_all}
+use Rattle.wc_settled.specs.Mirrors.{fold_all, mirror_after, HasCoreLines}
 use Rattle.wc_settled.proofs.SizeLemmas.{event_fits}
 use Rattle.wc_settled.proofs.IdLemmas.{event_apart}
 use Rattle.wc_settled.proofs.ClientLemmas.{follows_line, told-first}
@@ -39,19 +39,15 @@ pub fold_all-append : (limit : ℕ) (id : List ℕ) (part : Option Part) (a b : 
 fold_all-append limit id part [] b = refl
 fold_all-append limit id part (m ∷ a) b = fold_all-append limit id (fold_lines limit id part m) a b
 
--- what a client holds that was sent the messages for a link
-abbrev pub held : ℕ → ℕ → List ℕ → Option Part → List Act → Option Part
-held limit link id part acts = fold_all limit id part (messages_to link acts)
-
-pub held-append : (limit link : ℕ) (id : List ℕ) (part : Option Part) (a b : List Act) → held limit link id part (a ++ b) ≡ held limit link id (held limit link id part a) b
-held-append limit link id part a b =
+pub mirror-append : (limit link : ℕ) (id : List ℕ) (part : Option Part) (a b : List Act) → mirror_after limit link id part (a ++ b) ≡ mirror_after limit link id (mirror_after limit link id part a) b
+mirror-append limit link id part a b =
     ap (fold_all limit id part) (messages_to-append link a b) ∙ fold_all-append limit id part (messages_to link a) (messages_to link b)
 
 -- What is done to lines alone: what always holds does so still, and a client that follows has the lines after it.
 pub record Tells (limit link : ℕ) (id : List ℕ) (state : State) (stepped : Stepped) : Type 0 where
   pub clients : stepped.state.clients ≡ state.clients
   pub kept : IsKept limit link stepped.state
-  pub right : is_following (client_on link state) ≡ true → (part : Option Part) → HasLines part 1 state.lines → HasLines (held limit link id part stepped.acts) 1 stepped.state.lines
+  pub right : is_following (client_on link state) ≡ true → (part : Option Part) → HasCoreLines part state → HasCoreLines (mirror_after limit link id part stepped.acts) stepped.state
 
 pub Tells-stays : (limit link : ℕ) (id : List ℕ) (state : State) → IsKept limit link state → Tells limit link id state (stays state)
 Tells-stays limit link id state kept = record { clients = refl; kept = kept; right = λ follows part had. had }
@@ -63,9 +59,9 @@ Tells-then limit link id state first others a b = record {
   kept = b.kept;
   right = λ follows part had.
     let between = ap (λ clients. is_following (at_key client_link link clients)) a.clients ∙ follows in
-    let lines = (others first.state).state.lines in
-    subst (λ part. HasLines part 1 lines) (sym (held-append limit link id part first.acts (others first.state).acts))
-    (b.right between (held limit link id part first.acts) (a.right follows part had));
+    let last = (others first.state).state in
+    subst (λ part. HasCoreLines part last) (sym (mirror-append limit link id part first.acts (others first.state).acts))
+    (b.right between (mirror_after limit link id part first.acts) (a.right follows part had));
 }
 
 -- ---- a line
@@ -110,7 +106,7 @@ Tells-prints limit link id state line free kept is = record {
   right = λ follows part had.
     let all = state.lines ++ line ∷ [] in
     let shown = event_shows limit id part core_buffer state.lines line (event_apart (codes "buffer_line_added") id free) had in
-    let told : held limit link id part (prints state line).acts ≡ fold_lines limit id part (line_added core_buffer line) = ap (fold_all limit id part) (told_line limit link state line kept is follows) in
+    let told : mirror_after limit link id part (prints state line).acts ≡ fold_lines limit id part (line_added core_buffer line) = ap (fold_all limit id part) (told_line limit link state line kept is follows) in
     subst (λ part. HasLines part 1 (last_of state.limit all)) (sym told)
     (subst (λ n. HasLines (fold_lines limit id part (line_added core_buffer line)) 1 (last_of n all)) (sym kept.same) shown.0);
 }

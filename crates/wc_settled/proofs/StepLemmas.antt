@@ -1,4 +1,4 @@
--- What one event leaves of what a client holds.
+-- What one event leaves of the core and of its clients.
 use Rattle.std.proofs.Common.{◌≡◌, ◌≢◌, ℕ, ◌≤◌, Bool, true, false, cond, List, [], ◌∷◌, ◌++◌, length, codes, Option, Some, None, refl, sym, ap, subst, ◌∙◌, arith, eqb, nat_lt, bytes_eq}
 use Rattle.std.specs.List.{AllByRecursion}
 use Rattle.std.proofs.lemmas.Bool.{false≢true}
@@ -34,10 +34,10 @@ use Rattle.wc_core.specs.Served.{messages_to}
 use Rattle.wc_core.proofs.ReplyLemmas.{reply_fits}
 use Rattle.wc_settled.specs.Settled.{Asked, asked_by, asked_with, asked_in, client_on, is_following, has_id}
 use Rattle.wc_settled.specs.Kept.{is_first_alone, IsKept}
-use Rattle.wc_settled.specs.Mirrors.{fold_all, StepMirrors, StepKeeps}
+use Rattle.wc_settled.specs.Mirrors.{mirror_after, HasCoreLines, StepKeeps}
 use Rattle.wc_settled.proofs.IdLemmas.{request_free, event_apart, apart_event}
 use Rattle.wc_settled.proofs.ClientLemmas.{following-push, first-push, first-put, first-without, messages-sends}
-use Rattle.wc_settled.proofs.PrintLemmas.{held, held-append, Tells, Tells-runs}
+use Rattle.wc_settled.proofs.PrintLemmas.{mirror-append, Tells, Tells-runs}
 
 kept-clients : (limit link : ℕ) (state : State) (clients : List Client) → IsKept limit link state → is_first_alone link clients ≡ true → IsKept limit link (record state { clients = clients })
 kept-clients limit link state clients kept e = record { same = kept.same; most = kept.most; within = kept.within; printed = kept.printed; first = e }
@@ -55,7 +55,7 @@ kept-follows limit link state k (outcome.Leave why) kept = kept-leaves limit lin
 kept-follows limit link state k outcome.NoMemory kept = kept
 
 right-follows : (limit link : ℕ) (id : List ℕ) (state : State) (k : ℕ) (o : Outcome) (part : Option Part) → IsKept limit link state → BeginsWithout 95 id
-    → is_following (client_on link (follows state k o).state) ≡ true → HasLines part 1 state.lines → HasLines (held limit link id part (follows state k o).acts) 1 (follows state k o).state.lines
+    → is_following (client_on link (follows state k o).state) ≡ true → HasCoreLines part state → HasCoreLines (mirror_after limit link id part (follows state k o).acts) (follows state k o).state
 right-follows limit link id state k outcome.Replied part kept free after had = had
 right-follows limit link id state k outcome.Silent part kept free after had = had
 right-follows limit link id state k (outcome.Input buffer text) part kept free after had =
@@ -76,13 +76,13 @@ kept-answers limit link state k answer here kept = kept-follows limit link (put 
 
 -- where the messages of an answer leave the lines right, so does what follows them
 pub right-answers : (limit link : ℕ) (id : List ℕ) (state : State) (k : ℕ) (answer : Answer) (part : Option Part) → client_link answer.client ≡ k → IsKept limit link state → BeginsWithout 95 id
-    → is_following (client_on link (answers state k answer).state) ≡ true → HasLines (held limit link id part (sends k answer.messages)) 1 state.lines
-    → HasLines (held limit link id part (answers state k answer).acts) 1 (answers state k answer).state.lines
+    → is_following (client_on link (answers state k answer).state) ≡ true → HasCoreLines (mirror_after limit link id part (sends k answer.messages)) state
+    → HasCoreLines (mirror_after limit link id part (answers state k answer).acts) (answers state k answer).state
 right-answers limit link id state k answer part here kept free after had =
     let next = put state k answer.client in
-    let lines = (follows next k answer.outcome).state.lines in
-    subst (λ part. HasLines part 1 lines) (sym (held-append limit link id part (sends k answer.messages) (follows next k answer.outcome).acts))
-    (right-follows limit link id next k answer.outcome (held limit link id part (sends k answer.messages)) (kept-put limit link state k answer.client here kept) free after had)
+    let last = (follows next k answer.outcome).state in
+    subst (λ part. HasCoreLines part last) (sym (mirror-append limit link id part (sends k answer.messages) (follows next k answer.outcome).acts))
+    (right-follows limit link id next k answer.outcome (mirror_after limit link id part (sends k answer.messages)) (kept-put limit link state k answer.client here kept) free after had)
 
 -- ---- what is answered to a request
 
@@ -91,46 +91,12 @@ pub reply_link : (state : State) (client : Client) (line : List ℕ) (request : 
 reply_link state client line request e =
     ap (λ (l : LinkId). l.0) (reply_fits state.lines state.password client request (HasUtf8-reads line client.escaped request (reads-request_of line client.escaped request e))).link
 
--- messages under another id than those of the fold change nothing
-unmoved : (limit : ℕ) (id other : List ℕ) (part : Option Part) (messages : List WireMessage) → AtMostOne other messages → bytes_eq other id ≡ false
-    → bytes_eq other (codes "_buffer_line_added") ≡ false → fold_all limit id part messages ≡ part
-unmoved limit id other part [] one apart no_event = refl
-unmoved limit id other part (m ∷ []) one apart no_event =
-    let is_dump : bytes_eq m.id id ≡ false = ap (λ i. bytes_eq i id) one ∙ apart in
-    let is_event : bytes_eq m.id (codes "_buffer_line_added") ≡ false = ap (λ i. bytes_eq i (codes "_buffer_line_added")) one ∙ no_event in
-    ap (λ t. cond t (fold_dump limit part m) (cond (bytes_eq m.id (codes "_buffer_line_added")) (fold_added limit part m) part)) is_dump
-    ∙ ap (λ t. cond t (fold_added limit part m) part) is_event
-unmoved limit id other part (m ∷ n ∷ messages) one apart no_event = absurd one
-
-reply_apart : (id other : List ℕ) (command : Command) → bytes_eq id other ≡ false → bytes_eq (codes "_pong") other ≡ false → bytes_eq (id_of_reply id command) other ≡ false
-reply_apart id other (ask.Ping text) own pong = pong
-reply_apart id other _ own pong = own
-
--- a reply to another request than the dump leaves the lines as they are
-other_reply : (limit link : ℕ) (id : List ℕ) (state : State) (k : ℕ) (client : Client) (line : List ℕ) (request : Request) (part : Option Part) → BeginsWithout 95 id
-    → request_of client.escaped line ≡ Some request → (eqb k link ≡ true → bytes_eq request.id id ≡ false)
-    → held limit link id part (sends k (reply_of state.lines state.password client request).messages) ≡ part
-other_reply limit link id state k client line request part free e own =
-    ap (fold_all limit id part) (messages-sends link k messages) ∙ by (eqb k link) refl
-  where
-    messages : List WireMessage
-    messages = (reply_of state.lines state.password client request).messages
-
-    none : List WireMessage
-    none = []
-
-    by : (b : Bool) → eqb k link ≡ b → fold_all limit id part (cond b messages none) ≡ part
-    by true here =
-        unmoved limit id (id_of_reply request.id request.command) part messages (one_reply state.lines state.password client request)
-        (reply_apart request.id id request.command (own here) (event_apart (codes "pong") id free))
-        (reply_apart request.id (codes "_buffer_line_added") request.command (apart_event (codes "buffer_line_added") request.id (request_free line client.escaped request e)) refl)
-    by false here = refl
-
 -- ---- a line of a client
 
-asked_is : (link k : ℕ) (state : State) (line : List ℕ) (client : Client) → at_key client_link k state.clients ≡ Some client → eqb k link ≡ true
-    → asked_in link state (LineCame k line) ≡ asked_with client (request_of client.escaped line)
-asked_is link k state line client at here =
+-- what the client of a link asks by a line of it
+pub asked_here : (link k : ℕ) (state : State) (line : List ℕ) (o : Option Client) → eqb k link ≡ true → at_key client_link k state.clients ≡ o
+    → asked_in link state (LineCame k line) ≡ asked_by line o
+asked_here link k state line o here at =
     let same : k ≡ link = grind (arith, nat_tests) in
     ap (λ b. cond b (asked_by line (client_on link state)) []) here ∙ ap (λ n. asked_by line (at_key client_link n state.clients)) (sym same) ∙ ap (asked_by line) at
 
@@ -144,30 +110,6 @@ kept-line limit link state k line kept = came (at_key client_link k state.client
   came : (o : Option Client) → IsKept limit link (line_came state line o).state
   came None = kept
   came (Some client) = served client (request_of client.escaped line) refl
-
-right-line : (limit link : ℕ) (id : List ℕ) (state : State) (k : ℕ) (line : List ℕ) (part : Option Part) → IsKept limit link state → BeginsWithout 95 id
-    → AllByRecursion (λ asked. has_id id asked ≡ false) (asked_in link state (LineCame k line)) → is_following (client_on link (step state (LineCame k line)).state) ≡ true
-    → HasLines part 1 state.lines → HasLines (held limit link id part (step state (LineCame k line)).acts) 1 (step state (LineCame k line)).state.lines
-right-line limit link id state k line part kept free own after had = came (at_key client_link k state.clients) refl after where
-  apart : (client : Client) (request : Request) → at_key client_link k state.clients ≡ Some client → request_of client.escaped line ≡ Some request
-      → eqb (client_link client) link ≡ true → bytes_eq request.id id ≡ false
-  apart client request at e here =
-      let key = at_key-key client_link k state.clients client at in
-      let is = asked_is link k state line client at (ap (λ n. eqb n link) (sym key) ∙ here) ∙ ap (asked_with client) e in
-      (subst (AllByRecursion (λ asked. has_id id asked ≡ false)) is own).0
-
-  served : (client : Client) (o : Option Request) → at_key client_link k state.clients ≡ Some client → request_of client.escaped line ≡ o
-      → is_following (client_on link (asked state client o).state) ≡ true → HasLines (held limit link id part (asked state client o).acts) 1 (asked state client o).state.lines
-  served client None at e after = had
-  served client (Some request) at e after =
-      let answer = reply_of state.lines state.password client request in
-      right-answers limit link id state (client_link client) answer part (reply_link state client line request e) kept free after
-      (subst (λ part. HasLines part 1 state.lines) (sym (other_reply limit link id state (client_link client) client line request part free e (apart client request at e))) had)
-
-  came : (o : Option Client) → at_key client_link k state.clients ≡ o → is_following (client_on link (line_came state line o).state) ≡ true
-      → HasLines (held limit link id part (line_came state line o).acts) 1 (line_came state line o).state.lines
-  came None at after = had
-  came (Some client) at after = served client (request_of client.escaped line) at refl after
 
 -- ---- one event
 
@@ -189,26 +131,6 @@ step_keeps limit link state (LineCame k line) kept = kept-line limit link state 
 step_keeps limit link state (Ends k) kept = kept-lost limit link state k cause.Ended (at_key client_link k state.clients) kept
 step_keeps limit link state (Fails k) kept = kept-lost limit link state k cause.Failed (at_key client_link k state.clients) kept
 step_keeps limit link state ListenFails kept = kept
-
-right-lost : (limit link : ℕ) (id : List ℕ) (state : State) (k : ℕ) (why : Cause) (o : Option Client) (part : Option Part) → HasLines part 1 state.lines
-    → HasLines (held limit link id part (lost state k why o).acts) 1 (lost state k why o).state.lines
-right-lost limit link id state k why None part had = had
-right-lost limit link id state k why (Some client) part had = had
-
-pub step_mirrors : StepMirrors
-step_mirrors limit link id state (Start moment) part kept free own after had = had
-step_mirrors limit link id state (Tick moment) part kept free own after had = had
-step_mirrors limit link id state (Arrives k nonce) part kept free own after had = by (nat_lt (length state.clients) client_limit) where
-  arrived : Bool → Stepped
-  arrived b = cond b (stays (record state { clients = state.clients ++ new_client (record { 0 = k }) nonce ∷ [] })) (record { state = state; acts = Closes k cause.Surplus ∷ [] })
-
-  by : (b : Bool) → HasLines (held limit link id part (arrived b).acts) 1 (arrived b).state.lines
-  by true = had
-  by false = had
-step_mirrors limit link id state (LineCame k line) part kept free own after had = right-line limit link id state k line part kept free own after had
-step_mirrors limit link id state (Ends k) part kept free own after had = right-lost limit link id state k cause.Ended (at_key client_link k state.clients) part had
-step_mirrors limit link id state (Fails k) part kept free own after had = right-lost limit link id state k cause.Failed (at_key client_link k state.clients) part had
-step_mirrors limit link id state ListenFails part kept free own after had = had
 
 -- ---- whether a client followed before an event
 
@@ -247,7 +169,7 @@ following-line limit link state k line kept none after = came (at_key client_lin
   other client request at e same =
       let key = at_key-key client_link k state.clients client at in
       let here : eqb k link ≡ true = grind (arith, nat_tests) in
-      let is = sym none ∙ asked_is link k state line client at here ∙ ap (asked_with client) e in
+      let is = sym none ∙ asked_here link k state line (Some client) here at ∙ ap (asked_with client) e in
       cc
 
   served : (client : Client) (o : Option Request) → at_key client_link k state.clients ≡ Some client → request_of client.escaped line ≡ o

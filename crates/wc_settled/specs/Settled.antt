@@ -55,16 +55,20 @@ asks_dump _ = false
 abbrev pub has_id : List ℕ → Asked → Bool
 has_id id asked = bytes_eq asked.request.id id
 
--- A client that logged in and asked for all events took the line dump under an id that no other of its requests has.
--- It asked for all events at each request from then on, and it does so still and is open at the end.
+-- a client that logged in took the line dump under this id
+pub record TakesDump (id : List ℕ) (asked : Asked) : Type 0 where
+  pub logged_in : asked.client.logged_in ≡ true
+  pub dump : asks_dump asked.request.command ≡ true
+  pub under : asked.request.id ≡ id
+
+-- A client that follows all events took the line dump under an id that no other of its requests has. It followed them
+-- at each request from then on, and it follows them still and is open at the end.
 pub record Settled (link : ℕ) (id : List ℕ) (state : State) (events : List Event) : Type 0 where
   pub before : List Asked
   pub dump : Asked
   pub behind : List Asked
   pub asked : asked_on link state events ≡ before ++ dump ∷ behind
-  pub logged_in : dump.client.logged_in ≡ true
-  pub dumps : asks_dump dump.request.command ≡ true
-  pub under : dump.request.id ≡ id
+  pub takes : TakesDump id dump
   pub alone : AllByRecursion (λ other. has_id id other ≡ false) (before ++ behind)
   pub follows : AllByRecursion (λ asked. follows_all asked.client ≡ true) (dump ∷ behind)
   pub still : is_following (client_on link (run state events).state) ≡ true
