@@ -1,0 +1,4 @@
+pub mod Printed
+pub mod Settled
+pub mod Kept
+pub mod Mirrors

@@ -1,0 +1,21 @@
+//! What each client that settled holds.
+
+ghost use Rattle.wc_settled.specs.Mirrors.{Mirrors, StepMirrors, DumpMirrors, StepKeeps, RunKeeps};
+
+/// A client that settled has exactly the lines of the core buffer, after any events.
+pub fn settled_client_has_lines()
+    ensures { Mirrors }
+{}
+
+/// A client that has the lines of the core buffer has them still after one event, and one that takes the dump has them
+/// behind it.
+pub fn event_keeps_lines()
+    ensures kept { StepMirrors }
+    ensures dump { DumpMirrors }
+{}
+
+/// What the core always keeps of its lines and clients.
+pub fn core_keeps()
+    ensures event { StepKeeps }
+    ensures run { RunKeeps }
+{}
