@@ -18,7 +18,6 @@ SameTails old new = (k : ℕ) (line : List ℕ) → IfSome (at_key link_number k
 
 -- a link came, with room for a line
 pub record Comes (x y : Headless) (link : LinkId) : Type 0 where
-  pub password : y.core.password ≡ x.core.password
   pub clock : y.clock ≡ x.clock
   pub used : y.used ≡ link.0
   pub listening : y.listening ≡ x.listening
