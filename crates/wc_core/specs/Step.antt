@@ -1,10 +1,9 @@
 -- What the core does at each event.
-use Rattle.std.specs.Prelude.{ℕ, ℤ, pos, ◌+◌, ◌-◌, ◌/◌, ◌^◌, Bool, true, false, List, [], ◌∷◌, ◌++◌, map, length, take, drop, nat_lt, if◌then◌else◌, Option, Some, None}
+use Rattle.std.specs.Prelude.{ℕ, pos, ◌+◌, ◌-◌, ◌/◌, ◌^◌, Bool, true, false, List, [], ◌∷◌, ◌++◌, map, length, take, drop, nat_lt, if◌then◌else◌, Option, Some, None}
 use Rattle.std.specs.List.{flat_map}
 use Rattle.wc_text.specs.Cut.{cut_of}
 use Rattle.wc_text.specs.declared.names.Cause.{Cause}
 use Rattle.wc_text.specs.declared.names.Cause.TheVariants.{Ended, Failed, Surplus}
-use Rattle.wc_text.specs.declared.names.LinkId.{LinkId}
 use Rattle.wc_outside.specs.Keyed.{at_key, put_at, without}
 use Rattle.wc_lines.specs.declared.line.Line.{Line}
 use Rattle.wc_objects.specs.declared.object.WireMessage.{WireMessage}
@@ -15,7 +14,6 @@ use Rattle.wc_session.specs.declared.outcome.Outcome.{Outcome}
 use Rattle.wc_session.specs.declared.outcome.Outcome.TheVariants as outcome
 use Rattle.wc_session.specs.Known.{new_client}
 use Rattle.wc_session.specs.Reply.{Answer, reply_of, line_told}
-use Rattle.wc_session.specs.Sending.{spelling}
 use Rattle.wc_core.specs.Events.{Event, Start, Tick, Arrives, Line as LineCame, Ends, Fails, ListenFails}
 use Rattle.wc_core.specs.State.{State, Act, Sends, Closes, Quits, Stepped}
 use Rattle.wc_core.specs.Typed.{Typed, Nothing, Prints, Quits as TypedQuits, typed_line, parted}
@@ -35,7 +33,7 @@ then_does first others = record { state = (others first.state).state; acts = fir
 
 -- messages for the client of a link
 abbrev pub sends : ℕ → List WireMessage → List Act
-sends link messages = map (λ m. Sends link (spelling m)) messages
+sends link messages = map (Sends link) messages
 
 -- ---- lines
 
