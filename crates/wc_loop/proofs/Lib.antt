@@ -15,9 +15,7 @@ pub mod LinkLemmas
 pub mod OutcomeLemmas
 pub mod PointLemmas
 pub mod ProgramLemmas
-pub mod RequestLemmas
 pub mod RunLemmas
-pub mod ServedLemmas
 pub mod SourceLemmas
 pub mod StandsLemmas
 pub mod StepLemmas
