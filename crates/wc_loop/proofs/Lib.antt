@@ -16,6 +16,7 @@ pub mod OutcomeLemmas
 pub mod PointLemmas
 pub mod ProgramLemmas
 pub mod RunLemmas
+pub mod SeatLemmas
 pub mod SourceLemmas
 pub mod StandsLemmas
 pub mod StepLemmas
