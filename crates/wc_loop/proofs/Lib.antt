@@ -1,5 +1,6 @@
 pub mod CauseLemmas
 pub mod CloseLemmas
+pub mod ClosingLemmas
 pub mod ComeLemmas
 pub mod ConfigurationLemmas
 pub mod CutLaws
