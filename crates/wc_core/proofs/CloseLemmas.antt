@@ -23,7 +23,7 @@ does-closes j state (Prints prefix message) =
     closes_none-if j (nat_lt state.next last_handle) (prints state (next_line state prefix message)) (stays state) (close-told j (next_line state prefix message) state.clients) refl
 does-closes j state Quits = refl
 
-runs-closes : (j : ℕ) (state : State) (lines : List (List ℕ)) → close_of j (runs state lines).acts ≡ None
+pub runs-closes : (j : ℕ) (state : State) (lines : List (List ℕ)) → close_of j (runs state lines).acts ≡ None
 runs-closes j state [] = refl
 runs-closes j state (line ∷ lines) =
     closes_none-if j (is_quit (typed_line line)) (does state (typed_line line)) (then_does (does state (typed_line line)) (λ next. runs next lines)) (does-closes j state (typed_line line))

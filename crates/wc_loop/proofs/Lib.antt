@@ -1,5 +1,6 @@
 pub mod CauseLemmas
 pub mod CloseLemmas
+pub mod ClosingLemmas
 pub mod ComeLemmas
 pub mod ConfigurationLemmas
 pub mod CutLaws
@@ -15,9 +16,8 @@ pub mod LinkLemmas
 pub mod OutcomeLemmas
 pub mod PointLemmas
 pub mod ProgramLemmas
-pub mod RequestLemmas
 pub mod RunLemmas
-pub mod ServedLemmas
+pub mod SeatLemmas
 pub mod SourceLemmas
 pub mod StandsLemmas
 pub mod StepLemmas

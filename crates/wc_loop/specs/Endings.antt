@@ -126,7 +126,7 @@ IsEarly contents kept kept' TurnsTaken = ⊥
 -- the state behind the last turn
 pub record IsLast (contents : Option (List ℕ)) (before after : Seen) (last : Headless) : Type 0 where
   pub headline : Headline contents after last
-  pub stands : Stands last None after
+  pub stands : Stands last after
   pub causes : All (IsCaused before after) last.links.closed.items
 
 -- a run that was asked for this number of waits ends
@@ -136,7 +136,7 @@ pub record Runs (turns : ℕ) (contents : Option (List ℕ)) (kept kept' : ℕ) 
   pub counted : LastOf after last
   pub left : IfSome last (IsLast contents before after)
   -- behind the last turn each source is served, and each link is written
-  pub served : status_of ending ≡ 8 → IfSome last (λ last. AllServed last.core.sessions.items before after)
+  pub served : status_of ending ≡ 8 → IfSome last (λ last. AllServed last.core.seats before after)
   pub faults : HasCause before.faults after.faults kept kept' (status_of ending)
   pub asked : IsTrue after.tells → after.asked ≡ asked_by (status_of ending)
 

@@ -3,16 +3,8 @@ use Rattle.std.specs.Prelude.{ℕ, ◌+◌, Bool, true, List, [], ◌∷◌, ◌
 use Rattle.std.specs.List.{flat_map}
 use Rattle.wc_outside.specs.declared.happening.Happening.{Happening}
 use Rattle.wc_outside.specs.declared.happening.Happening.TheVariants.{Woke, Accepted, Read, Ended, Failed, ListenFailed}
+use Rattle.wc_core.specs.Events.{Event, Start, Tick, Arrives, Line, Ends, Fails, ListenFails}
 use Rattle.wc_loop.specs.Lines.{ended, rest, without_cr, line_limit}
-
-pub data Event : Type 0 where
-  Start : ℕ → Event
-  Tick : ℕ → Event
-  Arrives : ℕ → List ℕ → Event
-  Line : ℕ → List ℕ → Event
-  Ends : ℕ → Event
-  Fails : ℕ → Event
-  ListenFails : Event
 
 -- the bytes of a happening that came on a link
 abbrev pub bytes_on : ℕ → Happening → List ℕ

@@ -3,30 +3,39 @@ use Rattle.std.specs.Prelude.{ℕ, ◌≡◌, ◌≤◌, false, List, [], ◌++�
 use Rattle.wc_outside.specs.Seen.{Seen}
 use Rattle.wc_loop.specs.declared.headless.Headless.{Headless}
 use Rattle.wc_outside.specs.Keyed.{at_key}
-use Rattle.wc_loop.specs.Configuration.{password_in}
+use Rattle.wc_loop.specs.Configuration.{settings_in}
 use Rattle.wc_loop.specs.Hands.{IsFrontOf}
 use Rattle.wc_loop.specs.Links.{link_number}
-use Rattle.wc_loop.specs.Run.{Seat, seat_link, run_of, owed}
-use Rattle.wc_loop.specs.Served.{seats_of, unsent_on}
+use Rattle.wc_core.specs.Events.{Event}
+use Rattle.wc_core.specs.State.{State, first_state}
+use Rattle.wc_core.specs.Step.{client_link, run}
+use Rattle.wc_core.specs.Served.{state_of, unsent_on, sent_to, has_end}
+use Rattle.wc_session.specs.declared.client.Client.{Client}
+use Rattle.wc_loop.specs.Events.{whole}
+use Rattle.wc_loop.specs.Served.{Reaches, IsCalm}
 use Rattle.wc_loop.specs.Turns.{moment, point}
 
--- the clients are those of the run; what is sent and then unsent on each open link is what the run owes; and what was sent on a closed link is a front of that, all of it unless there was no room as it was closed, or it failed
-pub record HandsOut (password : List ℕ) (seen : Seen) (last : Headless) : Type 0 where
-  pub seats : seats_of last.core.sessions.items ≡ (run_of password seen.taken).seats
-  pub links : (link : ℕ) → is_some (at_key link_number link last.links.opened.items) ≡ is_some (at_key seat_link link (run_of password seen.taken).seats)
-  pub opened : (link : ℕ) (seat : Seat) → 1 ≤ link → at_key seat_link link (run_of password seen.taken).seats ≡ Some seat
-      → seen.sent link ++ unsent_on link last.core.sessions.items ≡ owed link (run_of password seen.taken).acts
-  pub closed : (link : ℕ) → 1 ≤ link → link ≤ seen.used → at_key seat_link link (run_of password seen.taken).seats ≡ None
-      → IsFrontOf (owed link (run_of password seen.taken).acts) (point link (moment last None seen))
+-- The state is that of the run over the events that were reached, from this one on; what is sent and then unsent on each open link is what the run owes; and what was sent on a closed link is a front of that, all of it unless there was no room as it was closed, or it failed.
+pub record HandsOut (first : State) (seen : Seen) (last : Headless) : Type 0 where
+  pub events : List Event
+  pub reaches : Reaches false last.core.quits 0 last.ran (whole seen.taken) events
+  pub state : state_of last.core ≡ (run first events).state
+  pub quits : last.core.quits ≡ has_end (run first events).acts
+  pub links : (link : ℕ) → is_some (at_key link_number link last.links.opened.items) ≡ is_some (at_key client_link link (run first events).state.clients)
+  pub opened : (link : ℕ) (client : Client) → 1 ≤ link → at_key client_link link (run first events).state.clients ≡ Some client
+      → seen.sent link ++ unsent_on link last.core.seats ≡ sent_to link (run first events).acts
+  pub closed : (link : ℕ) → 1 ≤ link → link ≤ seen.used → at_key client_link link (run first events).state.clients ≡ None
+      → IsFrontOf (sent_to link (run first events).acts) (point link (moment last seen))
 
 -- the same, where the sockets and the keeper tell what they hold and no growth was refused
 abbrev pub Headline : Option (List ℕ) → Seen → Headless → Type 0
 Headline contents seen last =
-    IfSome contents (λ configuration. IfOk (password_in configuration) (λ password. IsTrue seen.tells → last.core.starved ≡ 0 → HandsOut password seen last))
+    IfSome contents (λ configuration. IfOk (settings_in configuration) (λ settings. IsTrue seen.tells → last.core.starved ≡ 0 → HandsOut (first_state settings.password settings.limit) seen last))
 
 -- a state before the first turn
 pub record IsFirst (headless : Headless) : Type 0 where
-  pub sessions : headless.core.sessions.items ≡ []
+  pub seats : headless.core.seats ≡ []
+  pub quits : headless.core.quits ≡ false
   pub links : headless.links.opened.items ≡ []
   pub starved : headless.core.starved ≡ 0
   pub clock : headless.clock ≡ None

@@ -1,4 +1,3 @@
-pub mod Asking
 pub mod Configuration
 pub mod Endings
 pub mod Events
@@ -6,7 +5,6 @@ pub mod Hands
 pub mod Headline
 pub mod Lines
 pub mod Links
-pub mod Requests
 pub mod Run
 pub mod Served
 pub mod Sources

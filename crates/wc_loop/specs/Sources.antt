@@ -3,13 +3,15 @@ use Rattle.std.specs.Prelude.{ℕ, ◌≡◌, ◌+◌, ◌≤◌, ◌⊎◌, ◌
 use Rattle.std.specs.List.{flat_map, list_any}
 use Rattle.wc_outside.specs.Happenings.{is_link}
 use Rattle.wc_outside.specs.Seen.{Seen}
+use Rattle.wc_outside.specs.Faults.{Rose}
+use Rattle.wc_loop.specs.Turns.{HasGained}
 use Rattle.wc_outside.specs.declared.happening.Happening.{Happening}
 use Rattle.wc_outside.specs.declared.happening.Happening.TheVariants.{Woke, Accepted, Read, Ended, Failed, ListenFailed}
 use Rattle.wc_outside.specs.declared.sockets.Token.{Token}
 use Rattle.wc_loop.specs.declared.link_state.LinkState.{LinkState}
-use Rattle.wc_loop.specs.declared.session.Session.{Session}
+use Rattle.wc_core.specs.declared.seat.Seat.{Seat}
 use Rattle.wc_loop.specs.Events.{bytes_on}
-use Rattle.wc_loop.specs.Served.{unsent_on}
+use Rattle.wc_core.specs.Served.{unsent_on}
 
 -- how many bytes were taken of a link
 abbrev pub bytes_taken : ℕ → List Happening → ℕ
@@ -42,14 +44,14 @@ abbrev pub IsHeard : Seen → Seen → Type 0
 IsHeard before after = IsTrue after.tells → after.listening ≡ true → arrivals before.taken + 1024 ≤ arrivals after.taken
 
 -- nothing is unsent on a link, or its last write found no room
-abbrev pub IsWritten : ℕ → List Session → Seen → Type 0
-IsWritten link sessions seen = (unsent_on link sessions ≡ []) ⊎ (seen.blocked link ≡ true)
+abbrev pub IsWritten : ℕ → List Seat → Seen → Type 0
+IsWritten link seats seen = (unsent_on link seats ≡ []) ⊎ (seen.blocked link ≡ true)
 
 -- each source was served between two moments, and each link is written
-pub record AllServed (sessions : List Session) (before after : Seen) : Type 0 where
+pub record AllServed (seats : List Seat) (before after : Seen) : Type 0 where
   pub links : (link : ℕ) → 1 ≤ link → IsServed link before after
   pub listener : IsHeard before after
-  pub written : (link : ℕ) → 1 ≤ link → IsWritten link sessions after
+  pub written : (link : ℕ) → 1 ≤ link → IsWritten link seats after
 
 -- whether what was looked up has a flag
 abbrev pub flagged : {X : Type 0} → (X → Bool) → Option X → Bool
@@ -57,9 +59,23 @@ flagged flag (Some x) = flag x
 flagged flag None = false
 
 -- whether a client has unsent bytes
-abbrev pub has_unsent : Session → Bool
-has_unsent session = not (length session.unsent == 0)
+abbrev pub has_unsent : Seat → Bool
+has_unsent seat = not (length seat.session.unsent == 0)
 
 -- whether a link is not drained, and these tokens do not name it
 abbrev pub is_left_over : List Token → LinkState → Bool
 is_left_over tokens state = state.undrained && not (list_any (is_link state.link.0) tokens)
+
+-- in one turn at most so many bytes of a link are taken, and at most so many clients
+pub record TakesWithin (before after : Seen) : Type 0 where
+  pub bytes : IsTrue after.tells → (link : ℕ) → 1 ≤ link → bytes_taken link after.taken ≤ bytes_taken link before.taken + 1048576
+  pub clients : IsTrue after.tells → arrivals after.taken ≤ arrivals before.taken + 1024
+
+-- nothing is read, and no client comes
+pub record TakesNothing (before after : Seen) : Type 0 where
+  pub bytes : IsTrue after.tells → (link : ℕ) → bytes_taken link after.taken ≡ bytes_taken link before.taken
+  pub clients : IsTrue after.tells → arrivals after.taken ≡ arrivals before.taken
+
+-- nothing is unsent on a link, or its last write found no room, or it failed between
+abbrev pub IsSent : ℕ → List Seat → Seen → Seen → Type 0
+IsSent link seats before after = (unsent_on link seats ≡ []) ⊎ ((after.blocked link ≡ true) ⊎ (Rose before.faults.links after.faults.links × (IsTrue after.tells → HasGained before after (Failed (record { 0 = link })))))

@@ -1,5 +1,5 @@
 -- What the loop keeps, and how it goes on from one moment to another.
-use Rattle.std.specs.Prelude.{ℕ, ◌+◌, ◌-◌, ◌^◌, ◌≡◌, ◌<◌, ◌≤◌, ◌==◌, Bool, true, false, not, ◌&&◌, ◌||◌, nat_le, min, List, [], ◌∷◌, ◌++◌, length, Option, None, is_some, is_none, IfSome, Result, Ok, Err, IsTrue, All}
+use Rattle.std.specs.Prelude.{ℕ, ◌+◌, ◌-◌, ◌^◌, ◌≡◌, ◌<◌, ◌≤◌, ◌==◌, Bool, true, false, ◌&&◌, ◌||◌, nat_le, min, List, [], ◌∷◌, ◌++◌, length, map, Option, None, is_some, is_none, IfSome, Result, Ok, Err, IsTrue, All}
 use Rattle.std.specs.List.{flat_map, list_any}
 use Rattle.wc_text.specs.declared.names.Cause.{Cause}
 use Rattle.wc_text.specs.declared.names.Cause.TheVariants.{Ended as CauseEnded, Failed as CauseFailed, LoginFailed, NoMemory, Surplus, Quit as CauseQuit, Disconnected, NickTaken}
@@ -8,19 +8,22 @@ use Rattle.wc_outside.specs.Faults.{NeverFall, Rose}
 use Rattle.wc_outside.specs.declared.happening.Happening.{Happening}
 use Rattle.wc_outside.specs.declared.happening.Happening.TheVariants.{Woke, Accepted, Read, Ended, Failed, ListenFailed}
 use Rattle.wc_outside.specs.declared.failed.Failed.{Failed as Fault}
-use Rattle.wc_loop.specs.declared.session.Session.{Session}
-use Rattle.wc_loop.specs.declared.session.Departure.{Departure}
+use Rattle.wc_core.specs.declared.seat.Seat.{Seat}
+use Rattle.wc_core.specs.Events.{Event}
+use Rattle.wc_core.specs.Standing.{Standing}
+use Rattle.wc_core.specs.Step.{run}
+use Rattle.wc_core.specs.Served.{seat_link, state_of, unsent_on, sent_to, has_end, Distinct}
 use Rattle.wc_loop.specs.declared.link_state.LinkState.{LinkState}
 use Rattle.wc_loop.specs.declared.link_state.Closed.{Closed}
 use Rattle.wc_loop.specs.declared.headless.Headless.{Headless}
 use Rattle.wc_loop.specs.declared.then.Then.{Then}
 use Rattle.wc_loop.specs.declared.then.Then.TheVariants.{GoOn, Quit, WaitFault, ListenFault, KeeperFault}
 use Rattle.wc_outside.specs.Keyed.{at_key}
-use Rattle.wc_loop.specs.Events.{Event, bytes_on, tail_on, clock, events_of, events_from, whole}
+use Rattle.wc_loop.specs.Events.{bytes_on, tail_on, clock, events_of, events_from, whole}
 use Rattle.wc_loop.specs.Hands.{Point, Hands}
 use Rattle.wc_loop.specs.Links.{link_number, is_undrained}
-use Rattle.wc_loop.specs.Run.{run, owed, closings}
-use Rattle.wc_loop.specs.Served.{session_link, seats_of, carried, closed_by, is_leaving, KeepsLinks, MayServe}
+use Rattle.wc_loop.specs.Run.{closings}
+use Rattle.wc_loop.specs.Served.{leaving_closes, Reaches, MayTake}
 use Rattle.wc_loop.specs.Tails.{IsTail}
 
 -- what the loop keeps is what the happenings make of it: the clock, what came behind the last LF of each link, and how many events were reached
@@ -31,42 +34,37 @@ pub record StandsFor (clocked : Option ℕ) (states : List LinkState) (used ran 
   pub fresh : (link : ℕ) → used < link → flat_map (bytes_on link) taken ≡ []
   pub events : ran ≡ min (length (whole taken)) (2 ^ 64 - 1)
 
--- the links that the loop keeps are those of these sockets, and those of the clients but for one that is leaving
-pub record StandsAmong (states : List LinkState) (sessions : List Session) (left : Option Departure) (used : ℕ) (listening : Bool) (seen : Seen) : Type 0 where
+-- the links that the loop keeps are those of these sockets, and those of the clients, also of those that are leaving
+pub record StandsAmong (states : List LinkState) (seats : List Seat) (used : ℕ) (listening : Bool) (seen : Seen) : Type 0 where
   pub counted : used ≡ seen.used
   pub there : (link : ℕ) → seen.there link ≡ is_some (at_key link_number link states)
   pub undrained : (link : ℕ) → seen.undrained link ≡ is_undrained (at_key link_number link states)
   pub listens : seen.listening ≡ listening
-  pub clients : (link : ℕ) → (is_some (at_key session_link link sessions) || is_leaving link left) ≡ is_some (at_key link_number link states)
-  -- a client that is leaving has no session
-  pub apart : (link : ℕ) → is_leaving link left ≡ true → at_key session_link link sessions ≡ None
+  pub clients : (link : ℕ) → is_some (at_key seat_link link seats) ≡ is_some (at_key link_number link states)
+  pub once : Distinct (map seat_link seats)
   -- no link above those that are used is known
   pub unknown : (link : ℕ) → used < link → at_key link_number link states ≡ None
 
--- what the loop keeps is that of these sockets
-pub record Stands (headless : Headless) (left : Option Departure) (seen : Seen) : Type 0 where
-  pub among : StandsAmong headless.links.opened.items headless.core.sessions.items left headless.used headless.listening seen
-  pub told : IsTrue seen.tells → StandsFor headless.clock headless.links.opened.items headless.used headless.ran seen.taken
+-- what the loop keeps is that of these sockets, until `/quit` is run
+pub record Stands (headless : Headless) (seen : Seen) : Type 0 where
+  pub among : StandsAmong headless.links.opened.items headless.core.seats headless.used headless.listening seen
+  pub told : IsTrue seen.tells → headless.core.quits ≡ false → StandsFor headless.clock headless.links.opened.items headless.used headless.ran seen.taken
 
--- what is seen at a moment, at which a client may be leaving
+-- what is seen at a moment
 pub record Moment : Type 0 where
   pub taken : List Happening
   pub sent : ℕ → List ℕ
   pub choked : ℕ → Bool
   pub used : ℕ
-  pub sessions : List Session
-  pub left : Option Departure
-  pub starved : ℕ
+  pub core : Standing
 
-abbrev pub moment : Headless → Option Departure → Seen → Moment
-moment headless left seen = record {
+abbrev pub moment : Headless → Seen → Moment
+moment headless seen = record {
   taken = seen.taken;
   sent = seen.sent;
   choked = seen.choked;
   used = headless.used;
-  sessions = headless.core.sessions.items;
-  left = left;
-  starved = headless.core.starved;
+  core = headless.core;
 }
 
 -- whether a happening is the failure of a link
@@ -86,21 +84,24 @@ has_failed link taken = list_any (is_failure link) taken
 abbrev pub point : ℕ → Moment → Point
 point link m = record {
   sent = m.sent link;
-  unsent = carried link m.left m.sessions;
-  gone = nat_le link m.used && (is_none (at_key session_link link m.sessions) && not (is_leaving link m.left));
+  unsent = unsent_on link m.core.seats;
+  gone = nat_le link m.used && is_none (at_key seat_link link m.core.seats);
   spoiled = m.choked link || has_failed link m.taken;
 }
 
 -- from one moment to another the core takes these events, what it owes is handed to each link, and it closes these links
-pub record Advances (password : List ℕ) (a b : Moment) (closed : List Closed) (events : List Event) : Type 0 where
-  pub seats : seats_of b.sessions ≡ (run password (seats_of a.sessions) events).seats
-  pub hands : (link : ℕ) → Hands (point link a) (point link b) (owed link (run password (seats_of a.sessions) events).acts)
-  pub closes : closings (run password (seats_of a.sessions) events).acts ≡ closed
+pub record Advances (a b : Moment) (closed : List Closed) (events : List Event) : Type 0 where
+  pub state : state_of b.core ≡ (run (state_of a.core) events).state
+  pub hands : (link : ℕ) → Hands (point link a) (point link b) (sent_to link (run (state_of a.core) events).acts)
+  pub closes : closings (run (state_of a.core) events).acts ≡ closed
+  pub quits : b.core.quits ≡ (a.core.quits || has_end (run (state_of a.core) events).acts)
 
--- from one moment to another the core takes the events that more happenings add, unless some growth was refused
-pub record Goes (password : List ℕ) (a b : Moment) (closed : List Closed) (more : List Happening) : Type 0 where
-  pub rises : a.starved ≤ b.starved
-  pub advances : b.starved ≡ a.starved → a.starved < 2 ^ 64 - 1 → Advances password a b closed (events_from a.taken more)
+-- from one moment to another the core takes the events that more happenings add, as far as they are reached, unless some growth was refused
+pub record Goes (a b : Moment) (ran ran' : ℕ) (closed : List Closed) (more : List Happening) : Type 0 where
+  pub events : List Event
+  pub reaches : Reaches a.core.quits b.core.quits ran ran' (events_from a.taken more) events
+  pub rises : a.core.starved ≤ b.core.starved
+  pub advances : b.core.starved ≡ a.core.starved → a.core.starved < 2 ^ 64 - 1 → Advances a b closed events
 
 -- between two moments this happened
 pub record HasGained (before after : Seen) (happening : Happening) : Type 0 where
@@ -115,7 +116,7 @@ CausedBy CauseFailed link before after = Rose before.faults.links after.faults.l
 CausedBy LoginFailed link before after = IsTrue after.tells → (bytes : List ℕ) × HasGained before after (Read (record { 0 = link }) bytes)
 CausedBy Surplus link before after = IsTrue after.tells → (nonce : List ℕ) × HasGained before after (Accepted (record { 0 = link }) nonce)
 CausedBy NoMemory link before after = Unit {0}
-CausedBy CauseQuit link before after = ⊥
+CausedBy CauseQuit link before after = IsTrue after.tells → (bytes : List ℕ) × HasGained before after (Read (record { 0 = link }) bytes)
 CausedBy Disconnected link before after = ⊥
 CausedBy NickTaken link before after = ⊥
 
@@ -168,14 +169,13 @@ faults_then Quit = 0
 faults_then WaitFault = 0
 faults_then KeeperFault = 0
 
--- the links that were closed in a turn so far, and the one whose client is leaving
-abbrev pub closed_so_far : Headless → Option Departure → List Closed
-closed_so_far headless left = headless.links.closed.items ++ closed_by left
+-- the links that were closed in a turn so far, and those whose clients are leaving
+abbrev pub closed_so_far : Headless → List Closed
+closed_so_far headless = headless.links.closed.items ++ leaving_closes headless.core.seats
 
 -- a loop goes on over `waits` returned waits and `faults` failures of the listener: what it keeps goes on standing for the happenings, and the core takes the events that they add.
--- Before and behind it a client may be leaving. Within one turn it lists what it closes.
-pub record Continues (within : Bool) (waits faults : ℕ) (old : Headless) (left : Option Departure) (new : Headless) (left' : Option Departure) (before after : Seen) : Type 0 where
-  pub password : new.core.password ≡ old.core.password
+-- Within one turn it lists what it closes.
+pub record Continues (within : Bool) (waits faults : ℕ) (old new : Headless) (before after : Seen) : Type 0 where
   pub turns : old.turns + waits < 2 ^ 64 → new.turns ≡ old.turns + waits
   pub counts : NeverFall before.faults after.faults
   pub told : IsTrue after.tells → IsTrue before.tells
@@ -185,38 +185,39 @@ pub record Continues (within : Bool) (waits faults : ℕ) (old : Headless) (left
   pub gained : List Happening
   pub taken : IsTrue after.tells → after.taken ≡ before.taken ++ gained
   pub closed : List Closed
-  pub grows : within ≡ true → Stands old left before → closed_so_far new left' ≡ closed_so_far old left ++ closed
-  pub causes : All (IsCaused before after) closed
-  pub stands : Stands old left before → Stands new left' after
-  pub goes : IsTrue after.tells → Stands old left before → Goes old.core.password (moment old left before) (moment new left' after) closed gained
+  pub grows : within ≡ true → Stands old before → closed_so_far new ≡ closed_so_far old ++ closed
+  pub causes : Stands old before → All (IsCaused before after) closed
+  pub quits : old.core.quits ≡ true → new.core.quits ≡ true
+  pub stands : Stands old before → Stands new after
+  pub goes : IsTrue after.tells → Stands old before → Goes (moment old before) (moment new after) old.ran new.ran closed gained
 
--- one happening is taken, at which a client may leave
-pub record Takes (old new : Headless) (left : Option Departure) (happening : Happening) : Type 0 where
-  pub password : new.core.password ≡ old.core.password
+-- one happening is taken, before which `/quit` was not run; clients may be leaving behind it
+pub record Takes (old new : Headless) (happening : Happening) : Type 0 where
   pub turns : new.turns ≡ old.turns
   pub closed : new.links.closed.items ≡ old.links.closed.items
   pub used : new.used ≡ old.used
   pub listening : new.listening ≡ old.listening
   pub links : (link : ℕ) → is_some (at_key link_number link new.links.opened.items) ≡ is_some (at_key link_number link old.links.opened.items)
   pub undrained : (link : ℕ) → is_undrained (at_key link_number link new.links.opened.items) ≡ is_undrained (at_key link_number link old.links.opened.items)
-  pub clients : KeepsLinks old.core.sessions.items new.core.sessions.items left
-  pub apart : (link : ℕ) → is_leaving link left ≡ true → at_key session_link link new.core.sessions.items ≡ None
-  pub told : (taken : List Happening) → ((link : ℕ) → old.used < link → at_key link_number link old.links.opened.items ≡ None)
+  pub clients : map seat_link new.core.seats ≡ map seat_link old.core.seats
+  pub told : (taken : List Happening) → ((link : ℕ) → old.used < link → at_key link_number link old.links.opened.items ≡ None) → new.core.quits ≡ false
       → StandsFor old.clock old.links.opened.items old.used old.ran taken → StandsFor new.clock new.links.opened.items new.used new.ran (taken ++ happening ∷ [])
-  pub serves : (taken : List Happening) → StandsFor old.clock old.links.opened.items old.used old.ran taken
-      → MayServe old.core.password old.core.sessions.items new.core.sessions.items left old.core.starved new.core.starved (events_of taken happening)
+  pub takes : (taken : List Happening) → StandsFor old.clock old.links.opened.items old.used old.ran taken
+      → MayTake old.core new.core old.ran new.ran (events_of taken happening)
 
--- a departure is settled: what it left unsent is sent, or there is no room for it, or its link failed
-abbrev pub IsSettled : Departure → Seen → Type 0
-IsSettled departure seen = IsTrue seen.tells → seen.blocked departure.link.0 ≡ false → has_failed departure.link.0 seen.taken ≡ false → departure.unsent ≡ []
+-- a client that is leaving is settled: what it is owed is sent, or there is no room for it, or its link failed
+abbrev pub IsSettled : ℕ → List Seat → Seen → Type 0
+IsSettled link seats seen = IsTrue seen.tells → seen.blocked link ≡ false → has_failed link seen.taken ≡ false → unsent_on link seats ≡ []
 
--- a client that left for a failure of its link failed
-abbrev pub HasFailedIf : Departure → Seen → Type 0
-HasFailedIf departure seen = departure.cause ≡ CauseFailed → IsTrue seen.tells → has_failed departure.link.0 seen.taken ≡ true
+-- the link of a client that is leaving for its failure failed
+abbrev pub HasFailedIf : ℕ → Cause → Seen → Type 0
+HasFailedIf link cause seen = cause ≡ CauseFailed → IsTrue seen.tells → has_failed link seen.taken ≡ true
 
 -- the links that a turn closed are, in order, those that the core closes at the events that the turn added, unless some growth was refused
 pub record ClosesExactly (old new : Headless) (before after : Seen) : Type 0 where
   pub gained : List Happening
   pub taken : IsTrue after.tells → after.taken ≡ before.taken ++ gained
+  pub events : List Event
+  pub reaches : IsTrue after.tells → Reaches old.core.quits new.core.quits old.ran new.ran (events_from before.taken gained) events
   pub closed : IsTrue after.tells → new.core.starved ≡ old.core.starved → old.core.starved < 2 ^ 64 - 1
-      → new.links.closed.items ≡ closings (run old.core.password (seats_of old.core.sessions.items) (events_from before.taken gained)).acts
+      → new.links.closed.items ≡ closings (run (state_of old.core) events).acts

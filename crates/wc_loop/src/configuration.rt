@@ -1,11 +1,12 @@
 ghost use Rattle.std.specs.Prelude.{◌≡◌, ◌≤◌, ℕ, drop, length, Ok, Err, IfOk, OnErr, IsErrOf};
 ghost use Rattle.std.specs.Option.{option_copied};
 ghost use Rattle.std.specs.List.{list_any};
+ghost use Rattle.std.specs.Str.{is_utf8};
 ghost use Rattle.wc_loop.specs.Configuration.{is_passed_over, is_barred, is_value, is_version_line, password_of_line, password_behind, password_in};
 
 use crate::feed::next_line;
-use crate::request::is_utf8;
 use std::alloc::Global;
+use std::str;
 use wc_text::{NoMemory, Text};
 
 /// Why there is no configuration.
@@ -15,6 +16,13 @@ pub enum ConfigurationRefused {
     BadLine { line: u64 },
     #[error("out of memory")]
     NoMemory,
+}
+
+/// Whether bytes are a text.
+fn is_utf8(bytes: &[u8]) -> bool
+    ensures { result ≡ is_utf8 bytes.now }
+{
+    str::from_utf8(bytes).is_ok()
 }
 
 /// Whether a line says nothing: it is empty or a comment.

@@ -21,6 +21,9 @@ use wc_outside::{KeepFault, Keeper, Sink, Sockets};
 /// Where clients are listened for.
 const PORT: u16 = 9000;
 
+/// How many lines the core buffer holds at most.
+const HISTORY_LIMIT: u32 = 4096;
+
 /// How a run ended.
 #[derive(Drop)]
 pub struct Ended {
@@ -36,7 +39,6 @@ pub struct Ended {
 /// Makes the state of a run, by the configuration.
 fn configured<K: Keeper>(alloc: Global, keeper: &mut K) -> Result<Headless, Ending>
     ensures first { IfOk result IsFirst }
-    ensures password { IfOk result (λ headless. IfSome (K.contents keeper.old) (λ kept. password_in kept ≡ Ok headless.core.password)) }
     ensures early { IfErr result (IsEarly (K.contents keeper.old) (K.faults keeper.old) (K.faults keeper.new)) }
     ensures kept { K.contents keeper.new ≡ K.contents keeper.old }
 {
@@ -50,7 +52,7 @@ fn configured<K: Keeper>(alloc: Global, keeper: &mut K) -> Result<Headless, Endi
         Err(ConfigurationRefused::BadLine { line }) => return Err(Ending::BadLine(line)),
         Err(ConfigurationRefused::NoMemory) => return Err(Ending::NoMemory),
     };
-    match Headless::new(alloc, password) {
+    match Headless::new(alloc, password, HISTORY_LIMIT) {
         Ok(headless) => Ok(headless),
         Err(_) => Err(Ending::NoMemory),
     }
@@ -66,11 +68,11 @@ fn take_turns<S: Sockets, K: Keeper>(
 ) -> Then
     requires none { headless.old.turns ≡ 0 }
     requires open { headless.old.links.closed.items ≡ [] }
-    requires stands { Stands headless.old None (S.seen sockets.old) }
-    ensures continues { Continues false headless.new.turns (faults_then result) headless.old None headless.new None (S.seen sockets.old) (S.seen sockets.new) }
-    ensures stands { Stands headless.new None (S.seen sockets.new) }
+    requires stands { Stands headless.old (S.seen sockets.old) }
+    ensures continues { Continues false headless.new.turns (faults_then result) headless.old headless.new (S.seen sockets.old) (S.seen sockets.new) }
+    ensures stands { Stands headless.new (S.seen sockets.new) }
     ensures causes { All (IsCaused (S.seen sockets.old) (S.seen sockets.new)) headless.new.links.closed.items }
-    ensures served { result ≡ Then.GoOn → 1 ≤ turns → AllServed headless.new.core.sessions.items (S.seen sockets.old) (S.seen sockets.new) }
+    ensures served { result ≡ Then.GoOn → 1 ≤ turns → AllServed headless.new.core.seats (S.seen sockets.old) (S.seen sockets.new) }
     ensures never { (result ≢ Then.Quit) × (result ≢ Then.KeeperFault) }
     ensures all { result ≡ Then.GoOn → headless.new.turns ≡ turns }
     ensures fewer { result ≡ Then.WaitFault → headless.new.turns ≢ turns }
@@ -208,9 +210,9 @@ pub fn run_program<S: Sockets, K: Keeper, O: Sink>(
     ensures status { result.status ≢ 7 → StatusOf (wish_of (map string_bytes words.now.items)) (K.contents keeper.old) (S.seen sockets.new) result.status result.last }
     ensures printed { result.status ≢ 7 → Prints (wish_of (map string_bytes words.now.items)) (K.contents keeper.old) result.status (O.contents out.old) (O.contents out.new) }
     ensures last { LastOf (S.seen sockets.new) result.last }
-    ensures stands { IfSome result.last (λ last. Stands last None (S.seen sockets.new)) }
+    ensures stands { IfSome result.last (λ last. Stands last (S.seen sockets.new)) }
     ensures causes { IfSome result.last (λ last. All (IsCaused (S.seen sockets.old) (S.seen sockets.new)) last.links.closed.items) }
-    ensures served { result.status ≡ 8 → IfSome result.last (λ last. AllServed last.core.sessions.items (S.seen sockets.old) (S.seen sockets.new)) }
+    ensures served { result.status ≡ 8 → IfSome result.last (λ last. AllServed last.core.seats (S.seen sockets.old) (S.seen sockets.new)) }
     ensures faults { HasCause (S.seen sockets.old).faults (S.seen sockets.new).faults (K.faults keeper.old) (K.faults keeper.new) result.status }
     ensures sink { result.status ≡ 7 → Rose (O.faults out.old) (O.faults out.new) }
     ensures sink_count { result.status ≢ 7 → O.faults out.new ≡ O.faults out.old }

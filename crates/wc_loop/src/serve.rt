@@ -4,13 +4,12 @@ ghost use Rattle.wc_outside.specs.Faults.{Rose};
 ghost use Rattle.wc_outside.specs.Happenings.{is_link, is_listener};
 ghost use Rattle.wc_outside.specs.Keyed.{at_key};
 ghost use Rattle.wc_loop.specs.Links.{link_number};
-ghost use Rattle.wc_loop.specs.Served.{session_link};
+ghost use Rattle.wc_core.specs.Served.{seat_link};
 ghost use Rattle.wc_loop.specs.Sources.{Falls, IsServed, IsHeard, IsWritten, AllServed, flagged, has_unsent, is_left_over};
 ghost use Rattle.wc_loop.specs.Turns.{Continues, Stands, faults_of};
 
 use crate::headless::Headless;
 use crate::link_state::LinkState;
-use crate::session::Session;
 use crate::then::Then;
 use crate::turns::{accept_all, read_link, write_link};
 use wc_outside::{Failed, Keeper, Ready, Sockets, Token};
@@ -32,23 +31,24 @@ fn lesser(next: Option<LinkId>, link: LinkId, last: u64) -> Option<LinkId>
     }
 }
 
-/// Whether a client has unsent bytes.
-fn has_unsent(session: &Session) -> bool
-    ensures { result ≡ has_unsent session.now }
+/// Whether the client of a link has unsent bytes.
+fn has_unsent(headless: &Headless, link: LinkId) -> bool
+    ensures { result ≡ flagged has_unsent (at_key seat_link link.0 headless.now.core.seats) }
 {
-    !session.unsent.as_slice().is_empty()
+    match headless.unsent(link) {
+        Some(unsent) => !unsent.is_empty(),
+        None => false,
+    }
 }
 
-/// The client with the least number above the last one that has unsent bytes.
-fn next_unsent(sessions: &[Session], last: u64) -> Option<LinkId>
+/// The link with the least number above the last one whose client has unsent bytes.
+fn next_unsent(headless: &Headless, last: u64) -> Option<LinkId>
     ensures above { IfSome result (λ link. last < link.0) }
-    ensures between { IfSome result (λ link. (other : ℕ) → last < other → other < link.0 → flagged has_unsent (at_key session_link other sessions.now) ≡ false) }
-    ensures none { result ≡ None → (other : ℕ) → last < other → flagged has_unsent (at_key session_link other sessions.now) ≡ false }
 {
     let mut next = None;
-    for session in sessions {
-        if has_unsent(session) {
-            next = lesser(next, session.link, last);
+    for state in headless.links() {
+        if has_unsent(headless, state.link) {
+            next = lesser(next, state.link, last);
         }
     }
     next
@@ -96,12 +96,12 @@ fn next_undrained(states: &[LinkState], ready: &Ready, last: u64) -> Option<Link
 
 /// Writes the unsent bytes of each client, in the order of their numbers.
 fn write_all<S: Sockets>(headless: &mut Headless, sockets: &mut S)
-    ensures continues { Continues true 0 0 headless.old None headless.new None (S.seen sockets.old) (S.seen sockets.new) }
+    ensures continues { Continues true 0 0 headless.old headless.new (S.seen sockets.old) (S.seen sockets.new) }
     ensures falls { Falls (S.seen sockets.old) (S.seen sockets.new) }
-    ensures written { (link : ℕ) → 1 ≤ link → IsWritten link headless.new.core.sessions.items (S.seen sockets.new) }
+    ensures written { (link : ℕ) → 1 ≤ link → IsWritten link headless.new.core.seats (S.seen sockets.new) }
 {
     let mut last = 0;
-    while let Some(link) = next_unsent(headless.core.sessions(), last) {
+    while let Some(link) = next_unsent(headless, last) {
         write_link(headless, sockets, link);
         last = link.0;
     }
@@ -109,9 +109,9 @@ fn write_all<S: Sockets>(headless: &mut Headless, sockets: &mut S)
 
 /// Reads the links that an earlier turn left undrained, in the order of their numbers.
 fn read_rest<S: Sockets>(headless: &mut Headless, sockets: &mut S, ready: &Ready)
-    ensures continues { Continues true 0 0 headless.old None headless.new None (S.seen sockets.old) (S.seen sockets.new) }
+    ensures continues { Continues true 0 0 headless.old headless.new (S.seen sockets.old) (S.seen sockets.new) }
     ensures falls { Falls (S.seen sockets.old) (S.seen sockets.new) }
-    ensures served { Stands headless.old None (S.seen sockets.old) → (link : ℕ) → 1 ≤ link → list_any (is_link link) (take ready.now.count ready.now.tokens) ≡ false → IsServed link (S.seen sockets.old) (S.seen sockets.new) }
+    ensures served { Stands headless.old (S.seen sockets.old) → (link : ℕ) → 1 ≤ link → list_any (is_link link) (take ready.now.count ready.now.tokens) ≡ false → IsServed link (S.seen sockets.old) (S.seen sockets.new) }
 {
     let mut last = 0;
     while let Some(link) = next_undrained(headless.links(), ready, last) {
@@ -126,9 +126,9 @@ fn serve_tokens<S: Sockets>(
     sockets: &mut S,
     ready: &Ready,
 ) -> Result<(), Failed>
-    ensures continues { Continues true 0 (faults_of result) headless.old None headless.new None (S.seen sockets.old) (S.seen sockets.new) }
+    ensures continues { Continues true 0 (faults_of result) headless.old headless.new (S.seen sockets.old) (S.seen sockets.new) }
     ensures falls { Falls (S.seen sockets.old) (S.seen sockets.new) }
-    ensures served { Stands headless.old None (S.seen sockets.old) → (link : ℕ) → IsTrue (list_any (is_link link) (take ready.now.count ready.now.tokens)) → IsServed link (S.seen sockets.old) (S.seen sockets.new) }
+    ensures served { Stands headless.old (S.seen sockets.old) → (link : ℕ) → IsTrue (list_any (is_link link) (take ready.now.count ready.now.tokens)) → IsServed link (S.seen sockets.old) (S.seen sockets.new) }
     ensures heard { OnOk result (IsTrue (list_any is_listener (take ready.now.count ready.now.tokens)) → IsHeard (S.seen sockets.old) (S.seen sockets.new)) }
     ensures failed { OnErr result (Rose (S.seen sockets.old).faults.listens (S.seen sockets.new).faults.listens) }
 {
@@ -152,9 +152,9 @@ fn accept_rest<S: Sockets>(
     sockets: &mut S,
     ready: &Ready,
 ) -> Result<(), Failed>
-    ensures continues { Continues true 0 (faults_of result) headless.old None headless.new None (S.seen sockets.old) (S.seen sockets.new) }
+    ensures continues { Continues true 0 (faults_of result) headless.old headless.new (S.seen sockets.old) (S.seen sockets.new) }
     ensures falls { Falls (S.seen sockets.old) (S.seen sockets.new) }
-    ensures heard { OnOk result (Stands headless.old None (S.seen sockets.old) → list_any is_listener (take ready.now.count ready.now.tokens) ≡ false → IsHeard (S.seen sockets.old) (S.seen sockets.new)) }
+    ensures heard { OnOk result (Stands headless.old (S.seen sockets.old) → list_any is_listener (take ready.now.count ready.now.tokens) ≡ false → IsHeard (S.seen sockets.old) (S.seen sockets.new)) }
     ensures failed { OnErr result (Rose (S.seen sockets.old).faults.listens (S.seen sockets.new).faults.listens) }
 {
     if !headless.listening || is_listener_reported(ready) {
@@ -169,10 +169,10 @@ fn serve_sources<S: Sockets>(
     sockets: &mut S,
     ready: &Ready,
 ) -> Result<(), Failed>
-    ensures continues { Continues true 0 (faults_of result) headless.old None headless.new None (S.seen sockets.old) (S.seen sockets.new) }
+    ensures continues { Continues true 0 (faults_of result) headless.old headless.new (S.seen sockets.old) (S.seen sockets.new) }
     ensures falls { Falls (S.seen sockets.old) (S.seen sockets.new) }
-    ensures served { Stands headless.old None (S.seen sockets.old) → (link : ℕ) → 1 ≤ link → IsServed link (S.seen sockets.old) (S.seen sockets.new) }
-    ensures heard { OnOk result (Stands headless.old None (S.seen sockets.old) → IsHeard (S.seen sockets.old) (S.seen sockets.new)) }
+    ensures served { Stands headless.old (S.seen sockets.old) → (link : ℕ) → 1 ≤ link → IsServed link (S.seen sockets.old) (S.seen sockets.new) }
+    ensures heard { OnOk result (Stands headless.old (S.seen sockets.old) → IsHeard (S.seen sockets.old) (S.seen sockets.new)) }
     ensures failed { OnErr result (Rose (S.seen sockets.old).faults.listens (S.seen sockets.new).faults.listens) }
 {
     let listened = serve_tokens(headless, sockets, ready);
@@ -189,8 +189,8 @@ fn serve_ready<S: Sockets>(
     sockets: &mut S,
     ready: &Ready,
 ) -> Result<(), Failed>
-    ensures continues { Continues true 0 (faults_of result) headless.old None headless.new None (S.seen sockets.old) (S.seen sockets.new) }
-    ensures served { OnOk result (Stands headless.old None (S.seen sockets.old) → AllServed headless.new.core.sessions.items (S.seen sockets.old) (S.seen sockets.new)) }
+    ensures continues { Continues true 0 (faults_of result) headless.old headless.new (S.seen sockets.old) (S.seen sockets.new) }
+    ensures served { OnOk result (Stands headless.old (S.seen sockets.old) → AllServed headless.new.core.seats (S.seen sockets.old) (S.seen sockets.new)) }
     ensures failed { OnErr result (Rose (S.seen sockets.old).faults.listens (S.seen sockets.new).faults.listens) }
 {
     let listened = serve_sources(headless, sockets, ready);
@@ -207,11 +207,11 @@ impl Headless {
     ///
     /// The sockets are those that this state was made with. The keeper is not used yet.
     pub fn turn<S: Sockets, K: Keeper>(&mut self, sockets: &mut S, keeper: &mut K) -> Then
-        requires { Stands self.old None (S.seen sockets.old) }
-        ensures continues { Continues false (waits_then result) (faults_then result) self.old None self.new None (S.seen sockets.old) (S.seen sockets.new) }
-        ensures stands { Stands self.new None (S.seen sockets.new) }
+        requires { Stands self.old (S.seen sockets.old) }
+        ensures continues { Continues false (waits_then result) (faults_then result) self.old self.new (S.seen sockets.old) (S.seen sockets.new) }
+        ensures stands { Stands self.new (S.seen sockets.new) }
         ensures causes { All (IsCaused (S.seen sockets.old) (S.seen sockets.new)) self.new.links.closed.items }
-        ensures served { result ≡ Then.GoOn → AllServed self.new.core.sessions.items (S.seen sockets.old) (S.seen sockets.new) }
+        ensures served { result ≡ Then.GoOn → AllServed self.new.core.seats (S.seen sockets.old) (S.seen sockets.new) }
         ensures closes { ClosesExactly self.old self.new (S.seen sockets.old) (S.seen sockets.new) }
         ensures never { (result ≢ Then.Quit) × (result ≢ Then.KeeperFault) }
         ensures wait_fault { result ≡ Then.WaitFault → Rose (S.seen sockets.old).faults.waits (S.seen sockets.new).faults.waits }
