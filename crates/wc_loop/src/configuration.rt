@@ -34,8 +34,8 @@ pub struct Given<'a> {
 /// What is set behind an option and its value. None for an option that is not read, and for a value
 /// that is none of it.
 fn with_value<'a>(given: Given<'a>, name: &[u8], value: &'a [u8]) -> Option<Given<'a>>
-    ensures value { option_map seen_settings result ≡ with_value (seen_settings given) name.now value.now }
-    ensures range { 1 ≤ given.limit → given.limit ≤ 4096 → IfSome result (λ next. (1 ≤ next.limit) × (next.limit ≤ 4096)) }
+    ensures value { option_map seen_settings result ≡ with_value (seen_settings given.entry) name.now value.now }
+    ensures range { 1 ≤ given.entry.limit → given.entry.limit ≤ 4096 → IfSome result (λ next. (1 ≤ next.limit) × (next.limit ≤ 4096)) }
 {
     if name == PASSWORD {
         if !Kind::Text.fits(value) {
@@ -66,8 +66,8 @@ fn is_utf8(line: &[u8]) -> bool
 
 /// What is set behind a line with a name and a value.
 fn with_line<'a>(given: Given<'a>, line: &'a [u8]) -> Option<Given<'a>>
-    ensures value { option_map seen_settings result ≡ with_line (seen_settings given) line.now }
-    ensures range { 1 ≤ given.limit → given.limit ≤ 4096 → IfSome result (λ next. (1 ≤ next.limit) × (next.limit ≤ 4096)) }
+    ensures value { option_map seen_settings result ≡ with_line (seen_settings given.entry) line.now }
+    ensures range { 1 ≤ given.entry.limit → given.entry.limit ≤ 4096 → IfSome result (λ next. (1 ≤ next.limit) × (next.limit ≤ 4096)) }
 {
     if !is_utf8(line) {
         return None;
@@ -87,8 +87,8 @@ fn is_version_line(number: u64, line: &[u8]) -> bool
 
 /// What is set behind a line with a number.
 fn behind_line<'a>(number: u64, given: Given<'a>, line: &'a [u8]) -> Option<Given<'a>>
-    ensures value { option_map seen_settings result ≡ behind_line number (seen_settings given) line.now }
-    ensures range { 1 ≤ given.limit → given.limit ≤ 4096 → IfSome result (λ next. (1 ≤ next.limit) × (next.limit ≤ 4096)) }
+    ensures value { option_map seen_settings result ≡ behind_line number (seen_settings given.entry) line.now }
+    ensures range { 1 ≤ given.entry.limit → given.entry.limit ≤ 4096 → IfSome result (λ next. (1 ≤ next.limit) × (next.limit ≤ 4096)) }
 {
     if is_passed_over(line) || is_version_line(number, line) {
         return Some(given);
@@ -126,7 +126,7 @@ pub fn read_settings(alloc: Global, text: &[u8]) -> Result<Settings, ConfigRefus
 
 /// What is set, in memory of its own.
 fn kept(alloc: Global, given: Given<'_>) -> Result<Settings, ConfigRefused>
-    ensures ok { IfOk result (λ settings. settings ≡ seen_settings given) }
+    ensures ok { IfOk result (λ settings. settings ≡ seen_settings given.entry) }
     ensures err { OnErr result (result ≡ Err ConfigRefused.NoMemory) }
 {
     match Text::from_slice(alloc, given.password) {
