@@ -18,6 +18,7 @@ pub mod ProgramLemmas
 pub mod RequestLemmas
 pub mod RunLemmas
 pub mod ServedLemmas
+pub mod ServeLemmas
 pub mod SourceLemmas
 pub mod StandsLemmas
 pub mod StepLemmas
