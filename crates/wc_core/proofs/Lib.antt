@@ -4,3 +4,4 @@ pub mod SeatLemmas
 pub mod ServeLemmas
 pub mod ReplyLemmas
 pub mod CoreLemmas
+pub mod MessageLemmas

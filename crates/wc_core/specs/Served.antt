@@ -76,8 +76,18 @@ departure_of (seat ∷ seats) = departure_by seat.session.client.link seat.leavi
 
 -- ---- what the acts do to a link
 
+abbrev pub messages_by : ℕ → Act → List WireMessage
+messages_by link (Sends to m) = if to == link then m ∷ [] else []
+messages_by link (Closes to cause) = []
+messages_by link Quits = []
+
+-- the messages for the client of a link
+abbrev pub messages_to : ℕ → List Act → List WireMessage
+messages_to link [] = []
+messages_to link (act ∷ acts) = messages_by link act ++ messages_to link acts
+
 abbrev pub sent_by : ℕ → Act → List ℕ
-sent_by link (Sends to bytes) = if to == link then bytes else []
+sent_by link (Sends to m) = if to == link then spelling m else []
 sent_by link (Closes to cause) = []
 sent_by link Quits = []
 
@@ -91,7 +101,7 @@ or_else None other = other
 or_else (Some cause) other = Some cause
 
 abbrev pub close_by : ℕ → Act → Option Cause
-close_by link (Sends to bytes) = None
+close_by link (Sends to m) = None
 close_by link (Closes to cause) = if to == link then Some cause else None
 close_by link Quits = None
 
@@ -101,7 +111,7 @@ close_of link [] = None
 close_of link (act ∷ acts) = or_else (close_by link act) (close_of link acts)
 
 abbrev pub is_end : Act → Bool
-is_end (Sends to bytes) = false
+is_end (Sends to m) = false
 is_end (Closes to cause) = false
 is_end Quits = true
 

@@ -2,6 +2,7 @@
 use Rattle.std.specs.Prelude.{ℕ, List, []}
 use Rattle.wc_text.specs.declared.names.Cause.{Cause}
 use Rattle.wc_lines.specs.declared.line.Line.{Line}
+use Rattle.wc_objects.specs.declared.object.WireMessage.{WireMessage}
 use Rattle.wc_session.specs.declared.client.Client.{Client}
 
 pub record State : Type 0 where
@@ -19,8 +20,8 @@ pub record State : Type 0 where
 
 -- what the core asks of the loop
 pub data Act : Type 0 where
-  -- bytes for the client of a link
-  Sends : ℕ → List ℕ → Act
+  -- a message for the client of a link
+  Sends : ℕ → WireMessage → Act
   Closes : ℕ → Cause → Act
   -- the run is to end
   Quits : Act

@@ -15,7 +15,6 @@ use Rattle.wc_session.specs.declared.outcome.Outcome.{Outcome}
 use Rattle.wc_session.specs.declared.outcome.Outcome.TheVariants as outcome
 use Rattle.wc_session.specs.Known.{new_client}
 use Rattle.wc_session.specs.Reply.{Answer, reply_of, line_told}
-use Rattle.wc_session.specs.Sending.{spelling}
 use Rattle.wc_core.specs.Events.{Event, Start, Tick, Arrives, Line as LineCame, Ends, Fails, ListenFails}
 use Rattle.wc_core.specs.State.{State, Act, Sends, Closes, Quits, Stepped}
 use Rattle.wc_core.specs.Typed.{Typed, Nothing, Prints, Quits as TypedQuits, typed_line, parted}
@@ -35,7 +34,7 @@ then_does first others = record { state = (others first.state).state; acts = fir
 
 -- messages for the client of a link
 abbrev pub sends : ℕ → List WireMessage → List Act
-sends link messages = map (λ m. Sends link (spelling m)) messages
+sends link messages = map (Sends link) messages
 
 -- ---- lines
 
