@@ -8,6 +8,8 @@ use Rattle.wc_outside.specs.declared.asked.Asked.TheVariants.{Listen}
 use Rattle.wc_loop.specs.declared.ending.Ending.{Ending}
 use Rattle.wc_loop.specs.declared.ending.Ending.TheVariants.{Version, BadWord, WaitFailed, NoConfiguration, BadLine, NoMemory, ListenFailed, TurnsTaken, Quit}
 use Rattle.wc_loop.specs.declared.headless.Headless.{Headless}
+use Rattle.wc_loop.specs.declared.then.Then.{Then}
+use Rattle.wc_loop.specs.declared.then.Then.TheVariants.{GoOn, Quit as ThenQuit, WaitFault, ListenFault, KeeperFault}
 use Rattle.wc_loop.specs.declared.words.Wish.{Wish}
 use Rattle.wc_loop.specs.declared.configuration.Settings.{Settings}
 use Rattle.wc_loop.specs.Configuration.{settings_in}
@@ -148,6 +150,14 @@ tells_version NoMemory = false
 tells_version ListenFailed = false
 tells_version TurnsTaken = false
 tells_version Quit = false
+
+-- how a run ends behind a turn that ended so
+abbrev pub EndsAt : Then → Ending → Type 0
+EndsAt GoOn ending = ending ≡ TurnsTaken
+EndsAt ThenQuit ending = ending ≡ Quit
+EndsAt WaitFault ending = ending ≡ WaitFailed
+EndsAt ListenFault ending = ending ≡ ListenFailed
+EndsAt KeeperFault ending = ⊥
 
 -- an end before the listener is asked for
 abbrev pub IsEarly : Option (List ℕ) → ℕ → ℕ → Ending → Type 0
