@@ -9,6 +9,7 @@ use Rattle.std.specs.Str.{IsUtf8}
 use Rattle.wc_session.specs.declared.outcome.Outcome.{Outcome}
 use Rattle.wc_session.specs.declared.outcome.Outcome.TheVariants as outcome
 use Rattle.wc_session.specs.declared.client.Client.{Client}
+use Rattle.wc_session.specs.Known.{new_session}
 use Rattle.wc_session.specs.Reply.{line_told}
 use Rattle.wc_session.specs.Sending.{spelling}
 use Rattle.std.specs.List.{flat_map}
@@ -64,6 +65,19 @@ is_open_at (Some seat) = is_open seat
 abbrev pub gone_at : ℕ → ℕ → List Seat → Option Seat → List Seat
 gone_at link count seats None = seats
 gone_at link count seats (Some seat) = put_at seat_link link (record seat { session = record seat.session { unsent = drop count seat.session.unsent } }) seats
+
+-- the seats after the client of a link began to leave, where it is open
+abbrev pub left_if : Bool → ℕ → Cause → List Seat → Seat → List Seat
+left_if true link cause seats seat = put_at seat_link link (record seat { leaving = Some cause }) seats
+left_if false link cause seats seat = seats
+
+abbrev pub left_at : ℕ → Cause → List Seat → Option Seat → List Seat
+left_at link cause seats None = seats
+left_at link cause seats (Some seat) = left_if (is_open seat) link cause seats seat
+
+-- the seat of a client that came
+abbrev pub new_seat : LinkId → List ℕ → Seat
+new_seat link nonce = record { session = new_session link nonce; leaving = None }
 
 -- the first client that is leaving
 abbrev pub departure_by : LinkId → Option Cause → Option Departure → Option Departure

@@ -1,4 +1,4 @@
-ghost use Rattle.std.specs.Prelude.{◌≡◌, ◌≤◌, ◌^◌, ◌-◌, ◌+◌, ◌<◌, ◌++◌, [], min, List, length, true, false, Some, None, IfOk, IfSome};
+ghost use Rattle.std.specs.Prelude.{◌≡◌, ◌≢◌, ◌⊎◌, ◌∷◌, ◌≤◌, ◌^◌, ◌-◌, ◌+◌, ◌<◌, ◌++◌, [], min, List, length, true, false, Some, None, IfOk, IfSome};
 ghost use Rattle.std.specs.Option.{option_copied};
 ghost use Rattle.std.specs.Str.{IsUtf8};
 ghost use Rattle.wc_outside.specs.Keyed.{at_key, without, IsPlace};
@@ -9,7 +9,7 @@ ghost use Rattle.wc_core.specs.Events.{Start, Tick, Arrives, Line as LineCame};
 ghost use Rattle.wc_core.specs.Typed.{typed_line, parted};
 ghost use Rattle.wc_core.specs.State.{first_state};
 ghost use Rattle.wc_core.specs.Step.{step, stays, prints, prints_text, last_handle, does, is_quit, runs, leaves, lost, follows, asked, client_link};
-ghost use Rattle.wc_core.specs.Served.{seat_link, state_of, unsent_at, gone_at, is_open_at, departure_of, Absent, links_of, MayDo, MayCome, Starves, OutcomeUtf8};
+ghost use Rattle.wc_core.specs.Served.{seat_link, state_of, unsent_at, gone_at, is_open_at, left_at, new_seat, departure_of, Absent, links_of, MayDo, MayCome, Starves, OutcomeUtf8};
 
 use crate::line::new_line;
 use crate::seat::{Departure, Seat, drop_seat, first_departure, open_count, seat_place, tell_all};
@@ -75,7 +75,7 @@ impl Core {
     /// Sets the starting moment, in milliseconds since 1970.
     pub fn start(&mut self, moment: u64)
         ensures does { MayDo self.old self.new (step (state_of self.old) (Start moment)) }
-        ensures starved { self.new.starved ≡ self.old.starved }
+        ensures moves { self.new ≡ record self.old { moment = moment } }
     {
         self.moment = moment;
     }
@@ -83,7 +83,7 @@ impl Core {
     /// Sets the last moment, in milliseconds since 1970.
     pub fn tick(&mut self, moment: u64)
         ensures does { MayDo self.old self.new (step (state_of self.old) (Tick moment)) }
-        ensures starved { self.new.starved ≡ self.old.starved }
+        ensures moves { self.new ≡ record self.old { moment = moment } }
     {
         self.moment = moment;
     }
@@ -99,7 +99,10 @@ impl Core {
     /// Admits an arrival. It answers why where that is refused: as many clients as are allowed are open, or there is no
     /// memory. The link of a refused arrival is to be closed, and is no client.
     pub fn accepted(&mut self, arrival: Arrival) -> Option<Cause>
-        ensures { Absent arrival.link.0 (links_of self.old) → MayCome arrival.link.0 self.old self.new result (step (state_of self.old) (Arrives arrival.link.0 arrival.nonce)) }
+        ensures comes { Absent arrival.link.0 (links_of self.old) → MayCome arrival.link.0 self.old self.new result (step (state_of self.old) (Arrives arrival.link.0 arrival.nonce)) }
+        ensures admitted { result ≡ None → self.new ≡ record self.old { seats = self.old.seats ++ new_seat arrival.link arrival.nonce ∷ [] } }
+        ensures refused { IfSome result (λ cause. self.new ≡ record self.old { starved = self.new.starved }) }
+        ensures cause { IfSome result (λ cause. (cause ≡ Cause.Surplus) ⊎ (cause ≡ Cause.NoMemory)) }
     {
         if open_count(&self.seats) >= CLIENT_LIMIT {
             return Some(Cause::Surplus);
@@ -172,6 +175,7 @@ impl Core {
         ensures does { MayDo self.old self.new (leaves (state_of self.old) link.0 cause) }
         ensures gone { is_open_at (at_key seat_link link.0 self.new.seats) ≡ false }
         ensures starved { self.new.starved ≡ self.old.starved }
+        ensures leaves { self.new ≡ record self.old { seats = left_at link.0 cause self.old.seats (at_key seat_link link.0 self.old.seats) } }
     {
         self.seats[place].leaving = Some(cause);
     }
@@ -257,6 +261,8 @@ impl Core {
     pub fn link_gone(&mut self, link: LinkId, cause: Cause)
         ensures does { MayDo self.old self.new (lost (state_of self.old) link.0 cause (at_key client_link link.0 (state_of self.old).clients)) }
         ensures gone { is_open_at (at_key seat_link link.0 self.new.seats) ≡ false }
+        ensures leaves { self.new ≡ record self.old { seats = left_at link.0 cause self.old.seats (at_key seat_link link.0 self.old.seats); starved = self.new.starved } }
+        ensures starved { cause ≢ Cause.NoMemory → self.new.starved ≡ self.old.starved }
     {
         self.lose(link, cause);
         if cause != Cause::NoMemory {
@@ -269,6 +275,7 @@ impl Core {
         ensures does { MayDo self.old self.new (lost (state_of self.old) link.0 cause (at_key client_link link.0 (state_of self.old).clients)) }
         ensures gone { is_open_at (at_key seat_link link.0 self.new.seats) ≡ false }
         ensures starved { self.new.starved ≡ self.old.starved }
+        ensures leaves { self.new ≡ record self.old { seats = left_at link.0 cause self.old.seats (at_key seat_link link.0 self.old.seats) } }
     {
         let Some(place) = seat_place(&self.seats, link) else {
             return;

@@ -2,11 +2,12 @@
 use Rattle.std.specs.Prelude.{ℕ, ◌+◌, ◌-◌, ◌^◌, ◌≡◌, Bool, true, false, min, List, [], ◌∷◌, ◌++◌, length, Option, Some, None}
 use Rattle.wc_text.specs.declared.names.LinkId.{LinkId}
 use Rattle.wc_text.specs.declared.names.Cause.{Cause}
+use Rattle.wc_text.specs.declared.names.Cause.TheVariants.{Ended, Failed, LoginFailed, NoMemory, Surplus, Quit, Disconnected, NickTaken}
 use Rattle.wc_core.specs.declared.seat.Seat.{Seat}
 use Rattle.wc_core.specs.Events.{Event}
 use Rattle.wc_core.specs.Standing.{Standing}
 use Rattle.wc_core.specs.Step.{run}
-use Rattle.wc_core.specs.Served.{state_of, MayDo}
+use Rattle.wc_core.specs.Served.{leaving_on, state_of, MayDo}
 use Rattle.wc_loop.specs.declared.link_state.Closed.{Closed}
 
 -- the close that a client asks for, if it is leaving
@@ -36,3 +37,24 @@ pub record MayTake (old new : Standing) (ran ran' : ℕ) (all : List Event) : Ty
   pub events : List Event
   pub reaches : Reaches old.quits new.quits ran ran' all events
   pub takes : MayDo old new (run (state_of old) events)
+
+-- for what a client can leave at a line of a link: its own client for its answer, and each one for want of memory
+abbrev pub IsOfLine : ℕ → ℕ → Cause → Type 0
+IsOfLine link other NoMemory = Unit {0}
+IsOfLine link other LoginFailed = other ≡ link
+IsOfLine link other Quit = other ≡ link
+IsOfLine link other Ended = ⊥
+IsOfLine link other Failed = ⊥
+IsOfLine link other Surplus = ⊥
+IsOfLine link other Disconnected = ⊥
+IsOfLine link other NickTaken = ⊥
+
+-- whether a client that is leaving was leaving before, or can leave at a line of this link
+abbrev pub LeavesBy : ℕ → ℕ → Option Cause → Option Cause → Type 0
+LeavesBy link other old None = Unit {0}
+LeavesBy link other (Some before) (Some cause) = cause ≡ before
+LeavesBy link other None (Some cause) = IsOfLine link other cause
+
+-- the clients that began to leave could do so at a line of this link
+abbrev pub LeavesAtLine : ℕ → List Seat → List Seat → Type 0
+LeavesAtLine link old new = (other : ℕ) → LeavesBy link other (leaving_on other old) (leaving_on other new)

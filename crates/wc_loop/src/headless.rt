@@ -9,9 +9,9 @@ ghost use Rattle.wc_loop.specs.Served.{unsent_at, unsent_on, session_link, Leave
 use crate::feed::feed;
 use crate::link_state::{Closed, LinkState};
 use crate::links::Links;
-use crate::serving::Core;
-use crate::session::Departure;
 use std::alloc::Global;
+use wc_core::Core;
+use wc_lines::Lines;
 use wc_outside::{Ready, Token};
 use wc_text::{Arrival, Cause, LinkId, NoMemory, Text};
 
@@ -31,22 +31,29 @@ pub struct Headless {
     pub(crate) ran: u64,
 }
 
+/// Whether the return of a wait is a tick, where the last one was at this moment.
+fn is_tick(last: u64, moment: u64) -> bool
+    ensures { result ≡ is_tick last moment }
+{
+    moment < last || moment - last >= 100
+}
+
 impl Headless {
     ghost use Rattle.wc_loop.specs.Turns.{Takes};
     ghost use Rattle.wc_loop.specs.Steps.{Comes, Marks, Reports, Begins};
 
-    /// The state before the first turn, for clients that log in by this password.
-    pub fn new(alloc: Global, password: Text) -> Result<Headless, NoMemory>
-        ensures password { IfOk result (λ headless. headless.core.password ≡ password) }
-        ensures sessions { IfOk result (λ headless. headless.core.sessions.items ≡ []) }
-        ensures starved { IfOk result (λ headless. headless.core.starved ≡ 0) }
-        ensures links { IfOk result (λ headless. (headless.links.opened.items ≡ []) × (headless.links.closed.items ≡ [])) }
-        ensures rest { IfOk result (λ headless. (headless.clock ≡ None) × (headless.used ≡ 0) × (headless.listening ≡ false) × (headless.turns ≡ 0) × (headless.ran ≡ 0)) }
+    /// The state before the first turn, for clients that log in by this password, and a core buffer of at most so many lines.
+    pub fn new(alloc: Global, password: Text, limit: u32) -> Result<Headless, NoMemory>
+        requires some { 1 ≤ limit }
+        requires most { limit ≤ 4096 }
+        ensures state { IfOk result (λ headless. state_of headless.core ≡ first_state password limit) }
+        ensures first { IfOk result IsFirst }
     {
         let links = Links::new(alloc)?;
+        let core = Core::new(alloc, password, limit)?;
         Ok(Headless {
             alloc,
-            core: Core::new(alloc, password),
+            core,
             links,
             clock: None,
             used: 0,
@@ -56,18 +63,12 @@ impl Headless {
         })
     }
 
-    /// Serves bytes of a link. Its client may leave.
-    pub(crate) fn bytes_came(
-        &mut self,
-        place: usize,
-        link: LinkId,
-        bytes: &[u8],
-    ) -> Option<Departure>
-        requires { IsPlace link_number link.0 self.old.links.opened.items place }
-        ensures takes { Takes self.old self.new result (Read link bytes.now) }
-        ensures cause { IfSome result (λ departure. IsOfLine departure.cause) }
-        ensures rises { self.old.core.starved ≤ self.new.core.starved }
-        ensures left { Leaves link.0 result self.new.core.sessions.items }
+    /// Serves bytes of a link. Clients may begin to leave.
+    pub(crate) fn bytes_came(&mut self, place: usize, link: LinkId, bytes: &[u8])
+        requires place { IsPlace link_number link.0 self.old.links.opened.items place }
+        requires going { self.old.core.quits ≡ false }
+        ensures takes { Takes self.old self.new (Read link bytes.now) }
+        ensures causes { LeavesAtLine link.0 self.old.core.seats self.new.core.seats }
     {
         feed(
             &mut self.core,
@@ -75,53 +76,60 @@ impl Headless {
             &mut self.links.opened[place].tail,
             bytes,
             &mut self.ran,
-        )
+        );
     }
 
-    /// Serves the end of a link, or its failure. Its client leaves.
-    pub(crate) fn link_gone(&mut self, link: LinkId, cause: Cause) -> Option<Departure>
-        ensures ended { cause ≡ Cause.Ended → Takes self.old self.new result (Ended link) }
-        ensures failed { cause ≡ Cause.Failed → Takes self.old self.new result (Failed link) }
-        ensures cause { IfSome result (λ departure. departure.cause ≡ cause) }
-        ensures starved { self.new.core.starved ≡ self.old.core.starved }
-        ensures left { Leaves link.0 result self.new.core.sessions.items }
-        ensures gone { unsent_on link.0 self.new.core.sessions.items ≡ [] }
-        ensures sessions { self.new.core.sessions.items ≡ without session_link link.0 self.old.core.sessions.items }
+    /// Serves the end of a link, or its failure. Its client begins to leave.
+    pub(crate) fn link_gone(&mut self, link: LinkId, cause: Cause)
+        requires going { self.old.core.quits ≡ false }
+        requires cause { cause ≢ Cause.NoMemory }
+        ensures ended { cause ≡ Cause.Ended → Takes self.old self.new (Ended link) }
+        ensures failed { cause ≡ Cause.Failed → Takes self.old self.new (Failed link) }
+        ensures core { self.new.core ≡ record self.old.core { seats = left_at link.0 cause self.old.core.seats (at_key seat_link link.0 self.old.core.seats) } }
+        ensures gone { is_open_at (at_key seat_link link.0 self.new.core.seats) ≡ false }
     {
         self.ran = self.ran.saturating_add(1);
-        self.core.link_gone(link, cause)
+        self.core.link_gone(link, cause);
     }
 
-    /// Serves an event that changes nothing: the failure of a link whose client left, or that of the
-    /// listener.
+    /// Counts an event that changes nothing, as the failure of a link whose client is leaving, or that of the listener.
+    /// Behind `/quit` no event is reached.
     pub(crate) fn link_missed(&mut self)
-        ensures { self.new ≡ record self.old { ran = min (self.old.ran + 1) (2 ^ 64 - 1) } }
+        ensures { self.new ≡ record self.old { ran = missed self.old.core.quits self.old.ran } }
     {
+        if self.core.quits() {
+            return;
+        }
         self.ran = self.ran.saturating_add(1);
     }
 
-    /// Serves an arrival, whose client may be one too many. Where there is no memory for a line of
-    /// the link, it is to be closed at once.
-    pub(crate) fn link_came(&mut self, arrival: Arrival) -> Result<Option<Departure>, NoMemory>
+    /// Serves an arrival. Whether its link is to be closed at once: its client is one too many, and the link is listed as
+    /// closed; or there is no memory for a client or for a line of the link, and then it may not be listed.
+    pub(crate) fn link_came(&mut self, arrival: Arrival) -> bool
         ensures comes { Comes self.old self.new arrival.link }
-        ensures rises { self.old.core.starved ≤ self.new.core.starved }
-        ensures links { IfOk result (λ left. self.new.links.opened.items ≡ self.old.links.opened.items ++ new_state arrival.link ∷ []) }
-        ensures adds { IfOk result (λ left. at_key session_link arrival.link.0 self.old.core.sessions.items ≡ None → AddsLink arrival.link.0 self.old.core.sessions.items self.new.core.sessions.items left) }
-        ensures left { IfOk result (λ left. at_key session_link arrival.link.0 self.old.core.sessions.items ≡ None → Leaves arrival.link.0 left self.new.core.sessions.items) }
-        ensures cause { IfOk result (λ left. IfSome left (λ departure. IsOfArrival departure.cause)) }
-        ensures whose { IfOk result (λ left. IfSome left (λ departure. departure.link ≡ arrival.link)) }
-        ensures serves { IfOk result (λ left. at_key session_link arrival.link.0 self.old.core.sessions.items ≡ None → MayServe self.old.core.password self.old.core.sessions.items self.new.core.sessions.items left self.old.core.starved self.new.core.starved (Arrives arrival.link.0 arrival.nonce ∷ [])) }
-        ensures refused { OnErr result (self.new.links.opened.items ≡ self.old.links.opened.items) }
-        ensures sessions { OnErr result (self.new.core.sessions.items ≡ without session_link arrival.link.0 self.old.core.sessions.items) }
-        ensures starved { OnErr result (self.new.core.starved ≡ min (self.old.core.starved + 1) (2 ^ 64 - 1)) }
+        ensures came { Came arrival.link arrival.nonce self.old self.new result }
     {
         self.used = arrival.link.0;
         self.ran = self.ran.saturating_add(1);
         if self.links.admit(self.alloc, arrival.link).is_err() {
-            self.core.link_starved(arrival.link);
-            return Err(NoMemory);
+            self.starve(arrival);
+            return true;
         }
-        Ok(self.core.accepted(arrival))
+        match self.core.accepted(arrival) {
+            Some(cause) => {
+                self.links.close(arrival.link, cause);
+                true
+            }
+            None => false,
+        }
+    }
+
+    /// Serves an arrival for whose link there is no memory.
+    fn starve(&mut self, arrival: Arrival)
+    {
+        let _refused = self.core.accepted(arrival);
+        self.core.link_gone(arrival.link, Cause::NoMemory);
+        self.core.forget(arrival.link);
     }
 
     /// Keeps a source as one that was reported and is not drained.
@@ -151,20 +159,13 @@ impl Headless {
         let reached = self.ran.saturating_add(1);
         self.turns = self.turns.saturating_add(1);
         self.links.begin_turn();
-        if self.is_event(moment) {
-            self.clock = Some(moment);
-            self.ran = reached;
-        }
-    }
-
-    /// Whether the return of a wait is the start or a tick.
-    fn is_event(&self, moment: u64) -> bool
-        ensures { result ≡ is_event self.now.clock moment }
-    {
         match self.clock {
-            Some(last) => moment < last || moment - last >= 100,
-            None => true,
+            None => self.core.start(moment),
+            Some(last) if is_tick(last, moment) => self.core.tick(moment),
+            Some(_) => return,
         }
+        self.clock = Some(moment);
+        self.ran = reached;
     }
 
     /// Whether a source was reported ready and is not drained.
@@ -189,7 +190,7 @@ impl Headless {
     /// The bytes that a client is owed and that are not sent yet. There are none exactly where the
     /// link has no client.
     pub fn unsent(&self, link: LinkId) -> Option<&[u8]>
-        ensures { option_copied result ≡ unsent_at (at_key session_link link.0 self.now.core.sessions.items) }
+        ensures { option_copied result ≡ unsent_at (at_key seat_link link.0 self.now.core.seats) }
     {
         self.core.unsent(link)
     }
@@ -199,6 +200,13 @@ impl Headless {
         ensures { result ≡ self.now.core.starved }
     {
         self.core.starved()
+    }
+
+    /// The lines of the core buffer.
+    pub fn lines(&self) -> &Lines
+        ensures { result.now ≡ self.now.core.lines }
+    {
+        self.core.lines()
     }
 
     /// How many waits returned.

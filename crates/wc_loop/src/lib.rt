@@ -8,21 +8,16 @@ mod headless;
 mod line_buffer;
 mod link_state;
 mod links;
-mod login;
 mod print;
 mod program;
 #[cfg(test)]
 mod program_tests;
-mod request;
 mod serve;
-mod serving;
-mod session;
 mod tail;
 #[cfg(test)]
 mod tests;
 mod then;
 mod turns;
-mod unsent;
 mod words;
 
 pub use headless::Headless;

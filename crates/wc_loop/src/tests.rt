@@ -1,6 +1,6 @@
-use crate::serving::Core;
 use std::alloc::Global;
 use std::test::Fail;
+use wc_core::Core;
 use wc_text::{Arrival, LinkId, NoMemory, Text};
 
 /// The lines that a client writes, and what it is owed then.
@@ -61,12 +61,12 @@ const ROWS: [Row; 7] = [
 ];
 
 fn core(alloc: Global) -> Result<Core, NoMemory> {
-    Ok(Core::new(alloc, Text::from_slice(alloc, b"x")?))
+    Core::new(alloc, Text::from_slice(alloc, b"x")?, 4096)
 }
 
 /// Whether the client is still there.
 fn stays(core: &Core) -> bool {
-    core.unsent(LinkId(1)).is_some()
+    core.is_open(LinkId(1))
 }
 
 /// Whether these bytes are unsent.

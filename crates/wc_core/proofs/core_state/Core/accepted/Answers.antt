@@ -5,14 +5,14 @@ use Rattle.wc_core.specs.Served.{is_open}
 use Rattle.wc_core.proofs.CoreLemmas.{came, came-surplus}
 use Rattle.wc_core.proofs.core_state.Core.accepted.Goals as goal
 
-pub returns-then-open_count-ge-CLIENT_LIMIT : goal.returns-then-open_count-ge-CLIENT_LIMIT
-returns-then-open_count-ge-CLIENT_LIMIT c =
+pub returns-then-open_count-ge-CLIENT_LIMIT-clause-comes : goal.returns-then-open_count-ge-CLIENT_LIMIT-clause-comes
+returns-then-open_count-ge-CLIENT_LIMIT-clause-comes c =
     let count : c.open_count.result ≡ length (filter (λ (seat : Seat). is_open seat) c.self.inside.seats.items) = rw c.deref.ensures.value at c.open_count.ensures in
     let full : 5 ≤ length (filter (λ (seat : Seat). is_open seat) c.self.inside.seats.items) = omega (arith, count, c.if-open_count-ge-CLIENT_LIMIT.true) in
     λ absent. rw (← c.self.view_is) (came-surplus _ c.args.arrival.link c.args.arrival.nonce full)
 
-pub returns : goal.returns
-returns c =
+pub returns-clause-comes : goal.returns-clause-comes
+returns-clause-comes c =
     let seats = c.self.inside.seats.items in
     let count : c.open_count.result ≡ length (filter (λ (seat : Seat). is_open seat) seats) = rw c.deref.ensures.value at c.open_count.ensures in
     let few : length (filter (λ (seat : Seat). is_open seat) seats) < 5 = omega (arith, count, c.if-open_count-ge-CLIENT_LIMIT.false) in
