@@ -114,6 +114,7 @@ fn write_all<S: Sockets>(headless: &mut Headless, sockets: &mut S)
 /// Sends the unsent bytes of each client behind `/quit`, in the order of their numbers.
 fn send_all<S: Sockets>(headless: &mut Headless, sockets: &mut S)
     requires calm { IsCalm headless.old.core.seats }
+    requires quit { headless.old.core.quits ≡ true }
     ensures continues { Continues true 0 0 headless.old headless.new (S.seen sockets.old) (S.seen sockets.new) }
     ensures calm { IsCalm headless.new.core.seats }
     ensures quits { headless.new.core.quits ≡ headless.old.core.quits }
