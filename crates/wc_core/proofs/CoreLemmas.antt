@@ -1,10 +1,10 @@
 -- What each of the core's calls does.
-use Rattle.std.proofs.Common.{◌≡◌, ◌≢◌, ℕ, ◌+◌, ◌-◌, ◌^◌, ◌<◌, ◌≤◌, Bool, true, false, cond, eqb, List, [], ◌∷◌, ◌++◌, length, Option, Some, None, IsSome, refl, ap, sym, subst, ◌∙◌, arith, append-nil, nat_lt, set, get_or, min, filter, Result, Ok, Err, IfSome}
+use Rattle.std.proofs.Common.{◌≡◌, ℕ, ◌+◌, ◌-◌, ◌^◌, ◌<◌, ◌≤◌, true, false, List, [], ◌∷◌, ◌++◌, length, Option, Some, None, refl, ap, sym, subst, ◌∙◌, arith, append-nil, nat_lt, set, get_or, min, filter, IfSome}
 use Rattle.std.specs.Prelude.{map}
 use Rattle.std.proofs.lemmas.Bool.{false≢true}
 use Rattle.std.proofs.lemmas.Bool.Decides.{nat_tests}
 use Rattle.wc_text.specs.declared.names.Cause.{Cause}
-use Rattle.wc_text.specs.declared.names.Cause.TheVariants.{Surplus, NoMemory}
+use Rattle.wc_text.specs.declared.names.Cause.TheVariants.{Surplus}
 use Rattle.std.specs.Str.{IsUtf8}
 use Rattle.std.proofs.lemmas.List.Elements.{All-nil}
 use Rattle.wc_text.proofs.CutLemmas.{cut_utf8}
@@ -26,13 +26,13 @@ use Rattle.wc_session.specs.Served.{OnServed, OnNoMemory, Answers}
 use Rattle.wc_core.specs.declared.seat.Seat.{Seat}
 use Rattle.wc_core.specs.Standing.{Standing}
 use Rattle.wc_core.specs.Typed.{Typed, Quits}
-use Rattle.wc_core.specs.State.{State, Stepped}
-use Rattle.wc_core.specs.Step.{client_link, client_limit, stays, sends, prints, prints_text, next_line, line_at, does, last_handle, leaves, lost, arrives, follows, answers, asked, line_came}
-use Rattle.wc_core.specs.Served.{seat_link, links_of, is_open, is_open_at, clients_of, state_of, unsent_in, unsent_on, leaving_in, leaving_on, Absent, Distinct, Did, Keeps, MayDo, Came, MayCome, Starves, told_seat, SeatsKept, OutcomeUtf8}
-use Rattle.wc_core.proofs.DidLemmas.{or_else-none, or-true, Did-stays, Did-then, Keeps-refl, Keeps-trans, Keeps-seats, MayDo-exact, MayDo-stays, MayDo-starved, MayDo-then}
+use Rattle.wc_core.specs.State.{Stepped}
+use Rattle.wc_core.specs.Step.{client_link, client_limit, sends, prints, prints_text, next_line, line_at, does, last_handle, leaves, lost, arrives, follows, answers, asked, line_came}
+use Rattle.wc_core.specs.Served.{seat_link, is_open, is_open_at, clients_of, state_of, unsent_on, leaving_on, MayDo, MayCome, Starves, told_seat, SeatsKept, OutcomeUtf8}
+use Rattle.wc_core.proofs.DidLemmas.{or_else-none, or-true, Did-stays, Keeps-refl, Keeps-trans, Keeps-seats, MayDo-exact, MayDo-stays, MayDo-starved, MayDo-then}
 use Rattle.wc_core.proofs.SeatLemmas.{open-length, clients-push, links-push, unsent-push, leaving-push, kept-push, client-open, client-missing, client-leaving}
 use Rattle.wc_core.proofs.ServeLemmas.{open_none, Did-prints, Keeps-told, Keeps-put, Did-reply, Did-leave}
-use Rattle.wc_core.proofs.ReplyLemmas.{Fits, reply_fits}
+use Rattle.wc_core.proofs.ReplyLemmas.{reply_fits}
 
 -- ---- want of memory
 

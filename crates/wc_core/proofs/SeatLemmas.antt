@@ -1,5 +1,5 @@
 -- Seats, and the clients that sit on them.
-use Rattle.std.proofs.Common.{◌≡◌, ◌≢◌, ℕ, ◌<◌, Bool, true, false, cond, ◌&&◌, eqb, List, [], ◌∷◌, ◌++◌, Option, Some, None, IsSome, refl, ap, sym, subst, ◌∙◌, arith, zero, suc, length, filter, get_or, set, take, drop, ◌+◌, append-nil, append_assoc}
+use Rattle.std.proofs.Common.{◌≡◌, ℕ, ◌<◌, Bool, true, false, cond, ◌&&◌, eqb, List, [], ◌∷◌, ◌++◌, Option, Some, None, IsSome, refl, ap, sym, subst, ◌∙◌, arith, zero, suc, length, filter, get_or, set, take, drop, ◌+◌, append-nil}
 use Rattle.std.specs.Prelude.{map, not}
 use Rattle.std.specs.List.{flat_map}
 use Rattle.std.proofs.Math.Seq.{take-length}
@@ -15,9 +15,9 @@ use Rattle.wc_session.specs.Known.{Known}
 use Rattle.wc_session.specs.Reply.{line_told}
 use Rattle.wc_session.specs.Sending.{spelling}
 use Rattle.wc_core.specs.declared.seat.Seat.{Seat}
-use Rattle.wc_core.specs.State.{Act, Sends}
+use Rattle.wc_core.specs.State.{Act}
 use Rattle.wc_core.specs.Step.{client_link, sends, told_to}
-use Rattle.wc_core.specs.Served.{seat_link, is_open, clients_of, unsent_in, unsent_on, leaving_in, leaving_on, sent_by, sent_to, close_of, has_end, Absent, Distinct, told_seat, SeatKept, SeatsKept}
+use Rattle.wc_core.specs.Served.{seat_link, is_open, clients_of, unsent_in, unsent_on, leaving_in, leaving_on, sent_to, close_of, has_end, Absent, Distinct, told_seat, SeatKept, SeatsKept}
 use Rattle.wc_core.proofs.DidLemmas.{sent_to-append, close_of-append, has_end-append}
 
 -- ---- messages for one client

@@ -1,5 +1,5 @@
 -- How the core follows what it is to do.
-use Rattle.std.specs.Prelude.{◌≡◌, ℕ, ◌+◌, ◌-◌, ◌^◌, ◌<◌, ◌≤◌, Bool, true, false, ◌||◌, is_none, IsTrue, is_some, if◌then◌else◌, ◌==◌, List, [], ◌∷◌, ◌++◌, map, min, drop, Option, Some, None, IsSome}
+use Rattle.std.specs.Prelude.{◌≡◌, ℕ, ◌+◌, ◌-◌, ◌^◌, ◌<◌, ◌≤◌, Bool, true, false, ◌||◌, is_none, if◌then◌else◌, ◌==◌, List, [], ◌∷◌, ◌++◌, map, min, drop, Option, Some, None, IsSome}
 use Rattle.wc_text.specs.declared.names.LinkId.{LinkId}
 use Rattle.wc_text.specs.declared.names.Cause.{Cause}
 use Rattle.wc_outside.specs.Keyed.{at_key, put_at}

@@ -263,6 +263,7 @@ impl Core {
         ensures gone { is_open_at (at_key seat_link link.0 self.new.seats) ≡ false }
         ensures leaves { self.new ≡ record self.old { seats = left_at link.0 cause self.old.seats (at_key seat_link link.0 self.old.seats); starved = self.new.starved } }
         ensures starved { cause ≢ Cause.NoMemory → self.new.starved ≡ self.old.starved }
+        ensures starves { cause ≡ Cause.NoMemory → self.new.starved ≡ min (self.old.starved + 1) (2 ^ 64 - 1) }
     {
         self.lose(link, cause);
         if cause != Cause::NoMemory {

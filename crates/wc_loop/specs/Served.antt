@@ -1,5 +1,5 @@
 -- The clients of the core, as the loop serves them.
-use Rattle.std.specs.Prelude.{ℕ, ◌+◌, ◌-◌, ◌^◌, ◌≡◌, Bool, true, false, min, List, [], ◌∷◌, ◌++◌, length, Option, Some, None}
+use Rattle.std.specs.Prelude.{ℕ, ◌+◌, ◌-◌, ◌^◌, ◌≡◌, ◌<◌, Bool, true, false, min, List, [], ◌∷◌, ◌++◌, length, map, Option, Some, None}
 use Rattle.wc_text.specs.declared.names.LinkId.{LinkId}
 use Rattle.wc_text.specs.declared.names.Cause.{Cause}
 use Rattle.wc_text.specs.declared.names.Cause.TheVariants.{Ended, Failed, LoginFailed, NoMemory, Surplus, Quit, Disconnected, NickTaken}
@@ -7,7 +7,7 @@ use Rattle.wc_core.specs.declared.seat.Seat.{Seat}
 use Rattle.wc_core.specs.Events.{Event}
 use Rattle.wc_core.specs.Standing.{Standing}
 use Rattle.wc_core.specs.Step.{run}
-use Rattle.wc_core.specs.Served.{leaving_on, state_of, MayDo}
+use Rattle.wc_core.specs.Served.{seat_link, leaving_on, state_of, MayDo}
 use Rattle.wc_loop.specs.declared.link_state.Closed.{Closed}
 
 -- the close that a client asks for, if it is leaving
@@ -28,7 +28,7 @@ IsCalm seats = leaving_closes seats ≡ []
 pub record Reaches (quits quits' : Bool) (ran ran' : ℕ) (all events : List Event) : Type 0 where
   pub rest : List Event
   pub front : all ≡ events ++ rest
-  pub counts : ran' ≡ min (ran + length events) (2 ^ 64 - 1)
+  pub counts : ran < 2 ^ 64 → ran' ≡ min (ran + length events) (2 ^ 64 - 1)
   pub whole : quits' ≡ false → rest ≡ []
   pub nothing : quits ≡ true → events ≡ []
 
@@ -49,12 +49,13 @@ IsOfLine link other Surplus = ⊥
 IsOfLine link other Disconnected = ⊥
 IsOfLine link other NickTaken = ⊥
 
--- whether a client that is leaving was leaving before, or can leave at a line of this link
+-- a client that was leaving goes on so, and one that is leaving else can leave at a line of this link
 abbrev pub LeavesBy : ℕ → ℕ → Option Cause → Option Cause → Type 0
-LeavesBy link other old None = Unit {0}
-LeavesBy link other (Some before) (Some cause) = cause ≡ before
+LeavesBy link other (Some before) now = now ≡ Some before
 LeavesBy link other None (Some cause) = IsOfLine link other cause
+LeavesBy link other None None = Unit {0}
 
--- the clients that began to leave could do so at a line of this link
-abbrev pub LeavesAtLine : ℕ → List Seat → List Seat → Type 0
-LeavesAtLine link old new = (other : ℕ) → LeavesBy link other (leaving_on other old) (leaving_on other new)
+-- the same links have clients, and those that began to leave could do so at a line of this link
+pub record LeavesAtLine (link : ℕ) (old new : List Seat) : Type 0 where
+  pub links : map seat_link new ≡ map seat_link old
+  pub leaving : (other : ℕ) → LeavesBy link other (leaving_on other old) (leaving_on other new)

@@ -186,7 +186,7 @@ pub record Continues (within : Bool) (waits faults : ℕ) (old new : Headless) (
   pub taken : IsTrue after.tells → after.taken ≡ before.taken ++ gained
   pub closed : List Closed
   pub grows : within ≡ true → Stands old before → closed_so_far new ≡ closed_so_far old ++ closed
-  pub causes : All (IsCaused before after) closed
+  pub causes : Stands old before → All (IsCaused before after) closed
   pub quits : old.core.quits ≡ true → new.core.quits ≡ true
   pub stands : Stands old before → Stands new after
   pub goes : IsTrue after.tells → Stands old before → Goes (moment old before) (moment new after) old.ran new.ran closed gained

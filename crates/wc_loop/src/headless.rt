@@ -1,10 +1,12 @@
-ghost use Rattle.std.specs.Prelude.{◌≡◌, ◌+◌, ◌-◌, ◌^◌, ◌≤◌, ◌++◌, ◌∷◌, [], None, false, IfOk, IfSome, OnErr, min, take};
+ghost use Rattle.std.specs.Prelude.{◌≡◌, ◌≢◌, ◌⊎◌, ◌+◌, ◌-◌, ◌^◌, ◌<◌, ◌≤◌, ◌++◌, ◌∷◌, [], None, false, IfOk, IfSome, min, take};
 ghost use Rattle.std.specs.Option.{option_copied};
 ghost use Rattle.wc_outside.specs.declared.happening.Happening.TheVariants.{Read, Ended, Failed};
-ghost use Rattle.wc_outside.specs.Keyed.{at_key, without, IsPlace};
-ghost use Rattle.wc_loop.specs.Events.{Arrives, is_event};
-ghost use Rattle.wc_loop.specs.Links.{link_number, new_state};
-ghost use Rattle.wc_loop.specs.Served.{unsent_at, unsent_on, session_link, Leaves, AddsLink, MayServe, IsOfLine, IsOfArrival};
+ghost use Rattle.wc_outside.specs.Keyed.{at_key, IsPlace};
+ghost use Rattle.wc_core.specs.State.{first_state};
+ghost use Rattle.wc_core.specs.Served.{seat_link, state_of, links_of, left_at, unsent_at, is_open_at, Absent};
+ghost use Rattle.wc_loop.specs.Events.{is_tick};
+ghost use Rattle.wc_loop.specs.Links.{link_number};
+ghost use Rattle.wc_loop.specs.Served.{IsCalm, LeavesAtLine};
 
 use crate::feed::feed;
 use crate::link_state::{Closed, LinkState};
@@ -40,14 +42,16 @@ fn is_tick(last: u64, moment: u64) -> bool
 
 impl Headless {
     ghost use Rattle.wc_loop.specs.Turns.{Takes};
-    ghost use Rattle.wc_loop.specs.Steps.{Comes, Marks, Reports, Begins};
+    ghost use Rattle.wc_loop.specs.Steps.{Comes, ServesArrival, Marks, Reports, Begins, missed};
 
     /// The state before the first turn, for clients that log in by this password, and a core buffer of at most so many lines.
     pub fn new(alloc: Global, password: Text, limit: u32) -> Result<Headless, NoMemory>
         requires some { 1 ≤ limit }
         requires most { limit ≤ 4096 }
         ensures state { IfOk result (λ headless. state_of headless.core ≡ first_state password limit) }
-        ensures first { IfOk result IsFirst }
+        ensures core { IfOk result (λ headless. (headless.core.seats ≡ []) × (headless.core.starved ≡ 0) × (headless.core.quits ≡ false)) }
+        ensures links { IfOk result (λ headless. (headless.links.opened.items ≡ []) × (headless.links.closed.items ≡ [])) }
+        ensures rest { IfOk result (λ headless. (headless.clock ≡ None) × (headless.used ≡ 0) × (headless.listening ≡ false) × (headless.turns ≡ 0) × (headless.ran ≡ 0)) }
     {
         let links = Links::new(alloc)?;
         let core = Core::new(alloc, password, limit)?;
@@ -107,7 +111,7 @@ impl Headless {
     /// closed; or there is no memory for a client or for a line of the link, and then it may not be listed.
     pub(crate) fn link_came(&mut self, arrival: Arrival) -> bool
         ensures comes { Comes self.old self.new arrival.link }
-        ensures came { Came arrival.link arrival.nonce self.old self.new result }
+        ensures serves { ServesArrival result self.old self.new arrival.link arrival.nonce }
     {
         self.used = arrival.link.0;
         self.ran = self.ran.saturating_add(1);
@@ -126,6 +130,11 @@ impl Headless {
 
     /// Serves an arrival for whose link there is no memory.
     fn starve(&mut self, arrival: Arrival)
+        ensures core { self.new ≡ record self.old { core = record self.old.core { seats = self.new.core.seats; starved = self.new.core.starved } } }
+        ensures starved { (self.old.core.starved < self.new.core.starved) ⊎ (self.new.core.starved ≡ 2 ^ 64 - 1) }
+        ensures rises { self.old.core.starved ≤ self.new.core.starved }
+        ensures seats { Absent arrival.link.0 (links_of self.old.core) → self.new.core.seats ≡ self.old.core.seats }
+        ensures calm { IsCalm self.old.core.seats → IsCalm self.new.core.seats }
     {
         let _refused = self.core.accepted(arrival);
         self.core.link_gone(arrival.link, Cause::NoMemory);
