@@ -1,5 +1,5 @@
 -- How the sources that a wait named are served, and those that an earlier turn left.
-use Rattle.std.proofs.Common.{◌≡◌, ◌≢◌, ℕ, suc, ◌+◌, ◌<◌, ◌≤◌, inl, inr, Bool, true, false, not, eqb, nat_lt, ◌&&◌, ◌||◌, List, [], ◌∷◌, ◌++◌, length, take, slice_index_or, Option, Some, None, IfSome, Result, Ok, Err, OnOk, OnErr, is_ok, is_err, IsTrue, refl, sym, ap, ◌∙◌, subst, arith}
+use Rattle.std.proofs.Common.{◌≡◌, ◌≢◌, ℕ, zero, suc, ◌+◌, ◌<◌, ◌≤◌, ◌⊎◌, inl, inr, Bool, true, false, not, eqb, nat_lt, ◌&&◌, ◌||◌, List, [], ◌∷◌, ◌++◌, length, take, slice_index_or, Option, Some, None, IfSome, Result, Ok, Err, OnOk, OnErr, is_ok, is_err, IsTrue, refl, sym, ap, ◌∙◌, subst, arith}
 use Rattle.std.specs.List.{list_any}
 use Rattle.std.proofs.lemmas.Bool.{false≢true}
 use Rattle.std.proofs.lemmas.Bool.Decides.{nat_tests}
@@ -45,6 +45,10 @@ heard-of (Err f) P e h = absurd (omega arith)
 pub failed-of : {A : Type 0} (r : Result A Fault) (P : Type 0) → 1 ≤ faults_of r → OnErr r P → P
 failed-of (Ok v) P e h = absurd (omega arith)
 failed-of (Err f) P e h = h
+
+pub is_ok-of : {A : Type 0} (r : Result A Fault) → is_err r ≡ false → is_ok r ≡ true
+is_ok-of (Ok v) e = refl
+is_ok-of (Err f) e = absurd (false≢true (sym e))
 
 pub ok-faults : {A : Type 0} (r : Result A Fault) → is_err r ≡ false → faults_of r ≡ 0
 ok-faults (Ok v) e = refl
@@ -141,9 +145,9 @@ IsSent-behind k seats a b c first later counts (inr (inr h)) =
 pub AllSent-behind : (seats : List Seat) (a b c : Seen) → Later a b → Later b c → NeverFall a.faults b.faults → AllSent seats b c → AllSent seats a c
 AllSent-behind seats a b c first later counts h = λ k one. IsSent-behind k seats a b c first later counts (h k one)
 
-pub sent-next : (k last link : ℕ) (seats after : List Seat) (a b c : Seen) → Later b c → NeverFall a.faults b.faults → NeverFall b.faults c.faults → Later a b → (k ≤ last → IsSent k seats a b) → (last < k → k < link → flagged has_unsent (at_key seat_link k seats) ≡ false)
+pub sent-next : (k last link : ℕ) (seats after : List Seat) (a b c : Seen) → Later a b → Later b c → NeverFall a.faults b.faults → NeverFall b.faults c.faults → (k ≤ last → IsSent k seats a b) → (last < k → k < link → flagged has_unsent (at_key seat_link k seats) ≡ false)
     → (k ≢ link → (unsent_on k after ≡ unsent_on k seats) × (c.blocked k ≡ b.blocked k)) → IsSent link after b c → k ≤ link → IsSent k after a c
-sent-next k last link seats after a b c later fell counts first low between others done most =
+sent-next k last link seats after a b c first later fell counts low between others done most =
     passed-next k last link seats (IsSent k seats a b) (IsSent k after a c) low (λ e. inl e) between
     (λ n h. IsSent-later k seats after a b c later counts (others n).0 (others n).1 h)
     (λ same. IsSent-behind k after a b c first later fell (subst (λ j. IsSent j after b c) (sym same) done)) most
@@ -175,6 +179,11 @@ unnamed-by true true e = absurd (false≢true e)
 unnamed-by true false e = refl
 unnamed-by false r e = absurd (false≢true e)
 
+pub one-of : (tokens : List Token) (next : Option LinkId) (link : LinkId) (result : Option LinkId) → (result ≡ next) ⊎ (result ≡ Some link) → IfSome next (λ known. list_any (is_link known.0) tokens ≡ false) → list_any (is_link link.0) tokens ≡ false
+    → IfSome result (λ known. list_any (is_link known.0) tokens ≡ false)
+one-of tokens next link result (inl e) before here = rw e before
+one-of tokens next link result (inr e) before here = rw e here
+
 -- one more link was served
 pub served-next : (k last link : ℕ) (a b c : Seen) → Later a b → Later b c → Falls b c → (k ≤ last → IsServed k a b) → (last < k → k < link → b.undrained k ≡ false) → IsServed link b c → k ≤ link → IsServed k a c
 served-next k last link a b c first later falls low between done most = go (eqb k link) refl
@@ -201,10 +210,10 @@ pub record TakesOf (link : ℕ) (before after : Seen) : Type 0 where
   pub clients : IsTrue after.tells → arrivals after.taken ≡ arrivals before.taken
 
 -- links were read in the order of their numbers, up to the last one
-pub record ReadsTo (named : ℕ → Bool) (last : ℕ) (before after : Seen) : Type 0 where
+pub record ReadsTo (names : ℕ → Bool) (last : ℕ) (before after : Seen) : Type 0 where
   pub most : IsTrue after.tells → (link : ℕ) → bytes_taken link after.taken ≤ bytes_taken link before.taken + 1048576
   pub above : IsTrue after.tells → (link : ℕ) → last < link → bytes_taken link after.taken ≡ bytes_taken link before.taken
-  pub named : IsTrue after.tells → (link : ℕ) → IsTrue (named link) → bytes_taken link after.taken ≡ bytes_taken link before.taken
+  pub named : IsTrue after.tells → (link : ℕ) → IsTrue (names link) → bytes_taken link after.taken ≡ bytes_taken link before.taken
   pub clients : IsTrue after.tells → arrivals after.taken ≡ arrivals before.taken
 
 pub ReadsTo-first : (named : ℕ → Bool) (a : Seen) → ReadsTo named 0 a a
@@ -358,7 +367,7 @@ Named-listener r front all faults x y z a b c more out going h continues calm fa
     }
   where
     none : (n : ℕ) → (1 ≤ n → Rose a.faults.listens b.faults.listens × IsTrue (list_any is_listener front)) → n ≡ 0
-    none 0 f = refl
+    none zero f = refl
     none (suc n) f = absurd (false≢true (sym out ∙ (f (omega arith)).1))
 
 -- `/quit` was run before all were served
@@ -381,7 +390,7 @@ Named-quits front all faults x y a b more quits h = record {
     fewer p e false f = f
 
 pub any-take : (p : Token → Bool) (i : ℕ) (tokens : List Token) → IsTrue (list_any p (take i tokens)) → IsTrue (list_any p tokens)
-any-take p 0 tokens h = absurd (false≢true h)
+any-take p zero tokens h = absurd (false≢true h)
 any-take p (suc i) [] h = absurd (false≢true h)
 any-take p (suc i) (token ∷ tokens) h = go (p token) refl h (any-take p i tokens)
   where
@@ -397,3 +406,37 @@ AllServed-behind seats a b c first later h = record {
   listener = IsHeard-behind a b c first later h.listener;
   written = h.written;
 }
+
+pub Within-named : (tokens : List Token) (faults : ℕ) (x y : Headless) (a b : Seen) → ServesNamed tokens faults x y a b → TakesWithin a b
+Within-named tokens faults x y a b h = record { bytes = λ t k one. h.most t k; clients = h.clients }
+
+-- the links that were not named are read
+pub Within-rest : (tokens : List Token) (faults : ℕ) (x y : Headless) (a b c : Seen) → ServesNamed tokens faults x y a b → Later b c → (IsTrue c.tells → (k : ℕ) → bytes_taken k c.taken ≤ bytes_taken k b.taken + 1048576)
+    → (IsTrue c.tells → (k : ℕ) → IsTrue (list_any (is_link k) tokens) → bytes_taken k c.taken ≡ bytes_taken k b.taken) → (IsTrue c.tells → arrivals c.taken ≡ arrivals b.taken) → TakesWithin a c
+Within-rest tokens faults x y a b c h later most named clients = record {
+  bytes = λ t k one. reported-or (list_any (is_link k) tokens) _
+      (λ here. (let same = named t k here in let few = h.most (later.told t) k in omega arith))
+      (λ out. (let few = most t k in let none = h.others (later.told t) k out in omega arith));
+  clients = λ t. (let same = clients t in let few = h.clients (later.told t) in omega arith);
+}
+
+-- and the arrivals that were left are taken
+pub Within-all : (tokens : List Token) (faults : ℕ) (x y : Headless) (a b c d : Seen) → ServesNamed tokens faults x y a b → Later b c → Later c d → TakesWithin a c → (IsTrue c.tells → arrivals c.taken ≡ arrivals b.taken)
+    → (IsTrue d.tells → (k : ℕ) → bytes_taken k d.taken ≡ bytes_taken k c.taken) → (IsTrue d.tells → arrivals d.taken ≤ arrivals c.taken + 1024) → (IsTrue d.tells → IsTrue (list_any is_listener tokens) → arrivals d.taken ≡ arrivals c.taken) → TakesWithin a d
+Within-all tokens faults x y a b c d h first later within clients bytes few named = record {
+  bytes = λ t k one. (let same = bytes t k in let most = within.bytes (later.told t) k one in omega arith);
+  clients = λ t. reported-or (list_any is_listener tokens) _
+      (λ here. (let same = named t here in let before = within.clients (later.told t) in omega arith))
+      (λ out. (let most = few t in let same = clients (later.told t) in let none = h.unheard (first.told (later.told t)) out in omega arith));
+}
+
+-- the links that a wait named and those that it did not name are served
+pub served-all : (tokens : List Token) (k : ℕ) (a b c : Seen) → Later a b → Later b c → Falls b c → (IsTrue (list_any (is_link k) tokens) → IsServed k a b) → (list_any (is_link k) tokens ≡ false → IsServed k b c) → IsServed k a c
+served-all tokens k a b c first later falls named others = reported-or (list_any (is_link k) tokens) (IsServed k a c)
+    (λ here. IsServed-later k a b c (named here) falls later)
+    (λ out. IsServed-behind k a b c first later (others out))
+
+pub heard-all : (tokens : List Token) (a b c d : Seen) → Later a b → Later b c → Later c d → Falls b c → Falls c d → (IsTrue (list_any is_listener tokens) → IsHeard a b) → (list_any is_listener tokens ≡ false → IsHeard c d) → Later a c → IsHeard a d
+heard-all tokens a b c d first second third falls falls' named others both = reported-or (list_any is_listener tokens) (IsHeard a d)
+    (λ here. IsHeard-later a c d (IsHeard-later a b c (named here) falls second) falls' third)
+    (λ out. IsHeard-behind a c d both third (others out))

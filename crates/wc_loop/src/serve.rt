@@ -1,4 +1,4 @@
-ghost use Rattle.std.specs.Prelude.{◌≡◌, ◌⊎◌, ◌<◌, ◌≤◌, ◌+◌, ℕ, None, Some, IfSome, OnOk, OnErr, IsTrue, true, false, take};
+ghost use Rattle.std.specs.Prelude.{◌≡◌, ◌≢◌, ◌⊎◌, ◌<◌, ◌≤◌, ◌+◌, ℕ, None, Some, IfSome, OnOk, OnErr, IsTrue, true, false, take};
 ghost use Rattle.std.specs.List.{list_any};
 ghost use Rattle.wc_outside.specs.Faults.{Rose};
 ghost use Rattle.wc_outside.specs.Happenings.{is_link, is_listener};
@@ -143,10 +143,10 @@ fn read_rest<S: Sockets>(headless: &mut Headless, sockets: &mut S, tokens: &[Tok
 {
     let mut last = 0;
     while let Some(link) = next_undrained(headless.links(), tokens, last) {
-        read_link(headless, sockets, link);
         if headless.core.quits() {
             return;
         }
+        read_link(headless, sockets, link);
         last = link.0;
     }
 }
@@ -164,6 +164,9 @@ fn serve_tokens<S: Sockets>(
 {
     let mut listened = Ok(());
     for place in 0..tokens.len() {
+        if headless.core.quits() {
+            return listened;
+        }
         let before = &tokens[..place];
         match tokens[place] {
             Token::Listener => {
@@ -176,9 +179,6 @@ fn serve_tokens<S: Sockets>(
                     read_link(headless, sockets, link);
                 }
             }
-        }
-        if headless.core.quits() {
-            return listened;
         }
     }
     listened
