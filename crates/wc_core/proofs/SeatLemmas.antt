@@ -1,6 +1,7 @@
 -- Seats, and the clients that sit on them.
-use Rattle.std.proofs.Common.{◌≡◌, ℕ, ◌<◌, Bool, true, false, cond, ◌&&◌, eqb, List, [], ◌∷◌, ◌++◌, Option, Some, None, IsSome, refl, ap, sym, subst, ◌∙◌, arith, zero, suc, length, filter, get_or, set, take, drop, ◌+◌, append-nil}
+use Rattle.std.proofs.Common.{◌≡◌, ◌≢◌, ℕ, ◌<◌, Bool, true, false, cond, ◌&&◌, eqb, List, [], ◌∷◌, ◌++◌, ◌⊎◌, inl, inr, Option, Some, None, IsSome, refl, ap, sym, subst, ◌∙◌, arith, zero, suc, length, filter, get_or, set, take, drop, ◌+◌, append-nil, append_assoc}
 use Rattle.std.specs.Prelude.{map, not}
+use Rattle.std.specs.Option.{is_none}
 use Rattle.std.specs.List.{flat_map}
 use Rattle.std.proofs.Math.Seq.{take-length}
 use Rattle.std.proofs.lemmas.List.Edits.{map_over_more}
@@ -13,11 +14,12 @@ use Rattle.wc_objects.specs.declared.object.WireMessage.{WireMessage}
 use Rattle.wc_session.specs.declared.client.Client.{Client}
 use Rattle.wc_session.specs.Known.{Known}
 use Rattle.wc_session.specs.Reply.{line_told}
+use Rattle.wc_session.specs.Sync.{follows_core}
 use Rattle.wc_session.specs.Sending.{spelling}
 use Rattle.wc_core.specs.declared.seat.Seat.{Seat}
-use Rattle.wc_core.specs.State.{Act}
+use Rattle.wc_core.specs.State.{Act, Sends}
 use Rattle.wc_core.specs.Step.{client_link, sends, told_to}
-use Rattle.wc_core.specs.Served.{seat_link, is_open, clients_of, unsent_in, unsent_on, leaving_in, leaving_on, sent_to, close_of, has_end, Absent, Distinct, told_seat, SeatKept, SeatsKept}
+use Rattle.wc_core.specs.Served.{seat_link, is_open, StaysOrStarves, listens, heard_seat, clients_of, unsent_in, unsent_on, leaving_in, leaving_on, sent_by, sent_to, close_of, has_end, Absent, Distinct, told_seat, SeatKept, SeatsKept}
 use Rattle.wc_core.proofs.DidLemmas.{sent_to-append, close_of-append, has_end-append}
 
 -- ---- messages for one client
@@ -170,6 +172,12 @@ pub items_back : (len : ℕ) (old new : List Seat) → len ≡ length old → le
 items_back len old new e same =
     ap (λ n. take len (new ++ drop n old)) same ∙ ap (λ s. take len (new ++ s)) (drop_all old) ∙ ap (take len) (append-nil new) ∙ ap (λ n. take n new) (e ∙ sym same) ∙ take-length new
 
+leaves_deaf : (seat : Seat) → IsSome seat.leaving → listens seat ≡ false
+leaves_deaf seat leaves = by seat.leaving leaves where
+  by : (o : Option Cause) → IsSome o → (is_none o && follows_core seat.session.client) ≡ false
+  by None leaves = absurd (cc)
+  by (Some why) leaves = refl
+
 pub SeatsKept-leaving : (j : ℕ) (old new : List Seat) → SeatsKept old new → IsSome (leaving_on j old) → at_key seat_link j new ≡ at_key seat_link j old
 SeatsKept-leaving j [] [] kept some = refl
 SeatsKept-leaving j [] (b ∷ new) kept some = absurd kept
@@ -178,7 +186,7 @@ SeatsKept-leaving j (a ∷ old) (b ∷ new) kept some =
     ap (λ n. cond (eqb n j) (Some b) (at_key seat_link j new)) kept.0.link ∙ by (eqb (seat_link a) j) (SeatsKept-leaving j old new kept.1) some
   where
     by : (t : Bool) → (IsSome (leaving_on j old) → at_key seat_link j new ≡ at_key seat_link j old) → IsSome (leaving_in (cond t (Some a) (at_key seat_link j old))) → cond t (Some b) (at_key seat_link j new) ≡ cond t (Some a) (at_key seat_link j old)
-    by true more leaves = ap (λ s. Some s) (kept.0.kept leaves)
+    by true more leaves = ap (λ s. Some s) (kept.0.kept (leaves_deaf a leaves))
     by false more leaves = more leaves
 
 pub and_left : (a b : Bool) → (a && b) ≡ true → a ≡ true
@@ -189,16 +197,36 @@ pub and_right : (a b : Bool) → (a && b) ≡ true → b ≡ true
 and_right true b e = e
 and_right false b e = absurd (false≢true e)
 
-SeatKept-refl : (a : Seat) → SeatKept a a
-SeatKept-refl a = record { link = refl; kept = λ some. refl }
+-- why the client of a link is leaving, where memory may have been refused
+pub SeatsKept-causes : (j : ℕ) (old new : List Seat) → SeatsKept old new → StaysOrStarves (leaving_on j old) (leaving_on j new)
+SeatsKept-causes j [] [] kept = inl refl
+SeatsKept-causes j [] (b ∷ new) kept = absurd kept
+SeatsKept-causes j (a ∷ old) [] kept = absurd kept
+SeatsKept-causes j (a ∷ old) (b ∷ new) kept =
+    let P : ℕ → Type 0 = λ n. StaysOrStarves (leaving_on j (a ∷ old)) (leaving_in (cond (eqb n j) (Some b) (at_key seat_link j new))) in
+    subst P (sym kept.0.link) (by (eqb (seat_link a) j) (SeatsKept-causes j old new kept.1))
+  where
+    by : (t : Bool) → StaysOrStarves (leaving_on j old) (leaving_on j new) → StaysOrStarves (leaving_in (cond t (Some a) (at_key seat_link j old))) (leaving_in (cond t (Some b) (at_key seat_link j new)))
+    by true more = kept.0.cause
+    by false more = more
+
+pub SeatKept-refl : (a : Seat) → SeatKept a a
+SeatKept-refl a = record { link = refl; kept = λ deaf. refl; cause = inl refl }
+
+pub starves_more : (a b c : Option Cause) → StaysOrStarves a b → StaysOrStarves b c → StaysOrStarves a c
+starves_more a b c (inl f) (inl g) = inl (g ∙ f)
+starves_more a b c (inr f) (inl g) = inr (g ∙ f)
+starves_more a b c (inl f) (inr g) = inr g
+starves_more a b c (inr f) (inr g) = inr g
 
 SeatKept-trans : (a b c : Seat) → SeatKept a b → SeatKept b c → SeatKept a c
 SeatKept-trans a b c f g = record {
   link = g.link ∙ f.link;
-  kept = λ some.
-      let same = f.kept some in
-      let P : Seat → Type 0 = λ s. IsSome s.leaving in
-      g.kept (subst P (sym same) some) ∙ same;
+  kept = λ deaf.
+      let same = f.kept deaf in
+      let P : Seat → Type 0 = λ s. listens s ≡ false in
+      g.kept (subst P (sym same) deaf) ∙ same;
+  cause = starves_more a.leaving b.leaving c.leaving f.cause g.cause;
 }
 
 pub SeatsKept-refl : (seats : List Seat) → SeatsKept seats seats
@@ -215,12 +243,12 @@ SeatsKept-set (a ∷ old) (b ∷ now) zero x y kept inside e one =
     (SeatKept-trans a b y kept.0 (subst P e one), kept.1)
 SeatsKept-set (a ∷ old) (b ∷ now) (suc i) x y kept inside e one = (kept.0, SeatsKept-set old now i x y kept.1 (omega arith) e one)
 
--- what the seats are once one more was told
-pub tell_more : (line : Line) (old now : List Seat) (i : ℕ) (x y : Seat) (told heard : Bool) → i < length now → x ≡ get_or now i x → SeatsKept old now → SeatKept x y
-    → (told ≡ true → now ≡ map (told_seat line) (take i old) ++ drop i old) → (heard ≡ true → y ≡ told_seat line x) → i < length old
-    → (told && heard) ≡ true → set now i y ≡ map (told_seat line) (take (i + 1) old) ++ drop (i + 1) old
-tell_more line old now i x y told heard inside at kept one so_far hears within both =
-    ap (λ s. set now i s) (hears (and_right told heard both)) ∙ map_over_more (told_seat line) old now i x within (so_far (and_left told heard both)) at
+-- what the seats are once one more was told an event
+pub tell_more : (event : List ℕ) (old now : List Seat) (i : ℕ) (x y : Seat) (told heard : Bool) → x ≡ get_or now i x
+    → (told ≡ true → now ≡ map (heard_seat event) (take i old) ++ drop i old) → (heard ≡ true → y ≡ heard_seat event x) → i < length old
+    → (told && heard) ≡ true → set now i y ≡ map (heard_seat event) (take (i + 1) old) ++ drop (i + 1) old
+tell_more event old now i x y told heard at so_far hears within both =
+    ap (λ s. set now i s) (hears (and_right told heard both)) ∙ map_over_more (heard_seat event) old now i x within (so_far (and_left told heard both)) at
 
 -- ---- the client of a link
 

@@ -29,7 +29,7 @@ later-by CauseFailed link a b c more told taken counts h = (let p = h.0 in let q
 later-by LoginFailed link a b c more told taken counts h = λ t. (let g = h (told t) in (g.0, gained-later a b c _ more (taken t) g.1))
 later-by Surplus link a b c more told taken counts h = λ t. (let g = h (told t) in (g.0, gained-later a b c _ more (taken t) g.1))
 later-by NoMemory link a b c more told taken counts h = tt
-later-by CauseQuit link a b c more told taken counts h = h
+later-by CauseQuit link a b c more told taken counts h = λ t. (let g = h (told t) in (g.0, gained-later a b c _ more (taken t) g.1))
 later-by Disconnected link a b c more told taken counts h = h
 later-by NickTaken link a b c more told taken counts h = h
 
@@ -39,7 +39,7 @@ behind-by CauseFailed link a b c more told taken counts h = (let p = h.0 in let 
 behind-by LoginFailed link a b c more told taken counts h = λ t. (let g = h t in (g.0, gained-behind a b c _ more (taken (told t)) g.1))
 behind-by Surplus link a b c more told taken counts h = λ t. (let g = h t in (g.0, gained-behind a b c _ more (taken (told t)) g.1))
 behind-by NoMemory link a b c more told taken counts h = tt
-behind-by CauseQuit link a b c more told taken counts h = h
+behind-by CauseQuit link a b c more told taken counts h = λ t. (let g = h t in (g.0, gained-behind a b c _ more (taken (told t)) g.1))
 behind-by Disconnected link a b c more told taken counts h = h
 behind-by NickTaken link a b c more told taken counts h = h
 

@@ -1,117 +1,222 @@
--- Bytes are sent, links come and are closed, and waits return.
-use Rattle.std.proofs.Common.{◌≡◌, ◌≢◌, ℕ, nat_le, Bool, true, false, cond, eqb, ◌&&◌, ◌||◌, IsTrue, List, [], ◌++◌, take, drop, Option, Some, None, is_some, is_none, option_map, refl, sym, ap, ◌∙◌, subst, arith, append_assoc}
+-- Bytes are sent, and links are closed.
+use Rattle.std.proofs.Common.{◌≡◌, ◌≢◌, ℕ, ◌+◌, ◌<◌, ◌≤◌, nat_le, Bool, true, false, not, cond, eqb, ◌&&◌, ◌||◌, IsTrue, List, [], ◌∷◌, ◌++◌, map, length, take, drop, Option, Some, None, is_some, is_none, refl, sym, ap, ◌∙◌, subst, arith, append_assoc}
 use Rattle.std.proofs.lemmas.Bool.{false≢true}
 use Rattle.std.proofs.lemmas.Bool.Decides.{nat_tests}
-use Rattle.std.proofs.lemmas.List.{append-nil, take-append-drop}
+use Rattle.std.proofs.lemmas.List.{append-nil, take-append-drop, length-drop}
 use Rattle.wc_outside.specs.Seen.{Seen}
-use Rattle.wc_loop.specs.declared.session.Session.{Session}
-use Rattle.wc_loop.specs.declared.session.Departure.{Departure}
+use Rattle.wc_outside.specs.Keyed.{at_key, put_at, without}
+use Rattle.wc_core.specs.declared.seat.Seat.{Seat}
+use Rattle.wc_core.specs.declared.seat.Departure.{Departure}
+use Rattle.wc_core.specs.Served.{seat_link, state_of, unsent_in, unsent_on, unsent_at, gone_at, departure_of, Distinct}
+use Rattle.wc_loop.specs.declared.link_state.LinkState.{LinkState}
+use Rattle.wc_loop.specs.declared.link_state.Closed.{Closed}
 use Rattle.wc_loop.specs.declared.headless.Headless.{Headless}
-use Rattle.wc_outside.specs.Keyed.{at_key, put_at}
-use Rattle.wc_loop.specs.Run.{seat_link}
-use Rattle.wc_loop.specs.Served.{session_link, seat_of, seats_of, unsent_on}
-use Rattle.wc_loop.specs.Turns.{moment, Continues}
-use Rattle.wc_loop.proofs.KeyedLemmas.{at_key-key, at_key-put_same, at_key-put_other, put_at-same, is_some-put_at}
-use Rattle.wc_loop.proofs.ServedLemmas.{at_key-seats, seats_of-put_at}
-use Rattle.wc_loop.proofs.PointLemmas.{Advances-none, spoils-more, gone-none, gone-staying}
-use Rattle.wc_loop.proofs.TurnLemmas.{Call, Continues-still, Advances-same, NeverFall-refl}
-use Rattle.wc_loop.proofs.StepLemmas.{SameSets}
+use Rattle.wc_loop.specs.Hands.{Hands}
+use Rattle.wc_loop.specs.Links.{link_number, is_undrained, listed, marked_at}
+use Rattle.wc_loop.specs.Served.{leaving_closes}
+use Rattle.wc_loop.specs.Turns.{StandsAmong, Moment, moment, point, Continues, IsSettled, has_failed}
+use Rattle.wc_loop.proofs.HandsLemmas.{Hands-stays, Hands-close}
+use Rattle.wc_loop.proofs.KeyedLemmas.{at_key-key, at_key-put_same, at_key-put_other, at_key-filter_same, at_key-filter_other, none_of, or-false, same-keys}
+use Rattle.wc_loop.proofs.PointLemmas.{Advances-none, Advances-same, spoils-more, gone-none, none-same, or_left, or_right}
+use Rattle.wc_loop.proofs.SeatLemmas.{leaving-gone, clients-gone, links-gone, departed-there, departed-first, departed-leaving, clients-forget, distinct-without}
+use Rattle.wc_loop.proofs.StandsLemmas.{For-states, SameTails-marked, SameTails-without}
+use Rattle.wc_loop.proofs.StepLemmas.{SameSets, among-same, OnlyLinks, Continues-flags, links-marked, undrained-marked}
+use Rattle.wc_loop.proofs.TurnLemmas.{Call, Continues-still, NeverFall-refl}
 
 -- the sockets gave and sent nothing
-pub Continues-quiet : (x : Headless) (l : Option Departure) (a b : Seen) → Call a b [] → (IsTrue b.tells → (k : ℕ) → b.sent k ≡ a.sent k) → (IsTrue b.tells → (k : ℕ) → b.choked k ≡ a.choked k) → SameSets a b → Continues true 0 0 x l x l a b
-Continues-quiet x l a b call sent choked same =
-    Continues-still x l x l a b call refl refl refl (λ s. refl)
-    (λ s. record { counted = s.counted ∙ sym same.used; there = λ k. same.there k ∙ s.there k; undrained = λ k. same.undrained k ∙ s.undrained k; listens = same.listening ∙ s.listens; clients = s.clients; apart = s.apart; unknown = s.unknown })
+pub Continues-quiet : (x : Headless) (a b : Seen) → Call a b [] → (IsTrue b.tells → (k : ℕ) → b.sent k ≡ a.sent k) → (IsTrue b.tells → (k : ℕ) → b.choked k ≡ a.choked k) → SameSets a b → Continues true 0 0 x x a b
+Continues-quiet x a b call sent choked same =
+    Continues-still x x a b call refl refl refl refl (λ s. refl)
+    (among-same x.links.opened.items x.core.seats x.used x.listening a b same)
     (λ t s. s)
-    (λ t s. Advances-same x.core.password (moment x l a) (moment x l b) refl refl refl (sent t) (choked t) [] (call.taken t) [] refl)
+    (λ t s. Advances-same (moment x a) (moment x b) refl refl refl (sent t) (choked t) [] (call.taken t) [] refl)
 
 SameSets-refl : (a : Seen) → SameSets a a
 SameSets-refl a = record { used = refl; there = λ k. refl; undrained = λ k. refl; listening = refl }
 
-pub Continues-refl : (x : Headless) (l : Option Departure) (a : Seen) → Continues true 0 0 x l x l a a
-Continues-refl x l a = Continues-quiet x l a a (record { told = λ t. t; taken = λ t. sym (append-nil a.taken); asked = λ t. refl; counts = NeverFall-refl a.faults }) (λ t k. refl) (λ t k. refl) (SameSets-refl a)
+pub Call-refl : (a : Seen) → Call a a []
+Call-refl a = record { told = λ t. t; taken = λ t. sym (append-nil a.taken); asked = λ t. refl; counts = NeverFall-refl a.faults }
 
-handed-by : (k link count : ℕ) (b : Bool) → eqb k link ≡ b → (sent sent' : List ℕ) (sessions : List Session) (s : Session) → s.link.0 ≡ link → at_key session_link link sessions ≡ Some s
-    → sent' ≡ sent ++ cond b (take count s.unsent) []
-    → sent' ++ unsent_on k (put_at session_link link (record s { unsent = drop count s.unsent }) sessions) ≡ sent ++ unsent_on k sessions
-handed-by k link count true e sent sent' sessions s key found h =
+pub Continues-refl : (x : Headless) (a : Seen) → Continues true 0 0 x x a a
+Continues-refl x a = Continues-quiet x a a (Call-refl a) (λ t k. refl) (λ t k. refl) (SameSets-refl a)
+
+abbrev behind_bytes : ℕ → Seat → Seat
+behind_bytes count s = record s { session = record s.session { unsent = drop count s.session.unsent } }
+
+handed-by : (k link count : ℕ) (b : Bool) → eqb k link ≡ b → (sent sent' : List ℕ) (seats : List Seat) (s : Seat) → seat_link s ≡ link → at_key seat_link link seats ≡ Some s
+    → sent' ≡ sent ++ cond b (take count s.session.unsent) [] → sent' ++ unsent_on k (put_at seat_link link (behind_bytes count s) seats) ≡ sent ++ unsent_on k seats
+handed-by k link count true e sent sent' seats s key found h =
     let same : link ≡ k = grind (arith, nat_tests) in
-    let now : at_key session_link k sessions ≡ Some s = subst (λ n. at_key session_link n sessions ≡ Some s) same found in
-    let then : at_key session_link k (put_at session_link link (record s { unsent = drop count s.unsent }) sessions) ≡ Some (record s { unsent = drop count s.unsent }) =
-    subst (λ n. at_key session_link n (put_at session_link link (record s { unsent = drop count s.unsent }) sessions) ≡ Some (record s { unsent = drop count s.unsent })) same (at_key-put_same session_link link s (record s { unsent = drop count s.unsent }) sessions key found) in
-    rw (h, now, then) (append_assoc sent (take count s.unsent) (drop count s.unsent) ∙ ap (λ bytes. sent ++ bytes) (take-append-drop count s.unsent))
-handed-by k link count false e sent sent' sessions s key found h =
+    let now : at_key seat_link k seats ≡ Some s = subst (λ n. at_key seat_link n seats ≡ Some s) same found in
+    let then : at_key seat_link k (put_at seat_link link (behind_bytes count s) seats) ≡ Some (behind_bytes count s) =
+    subst (λ n. at_key seat_link n (put_at seat_link link (behind_bytes count s) seats) ≡ Some (behind_bytes count s)) same (at_key-put_same seat_link link s (behind_bytes count s) seats key found) in
+    rw (h, now, then) (append_assoc sent (take count s.session.unsent) (drop count s.session.unsent) ∙ ap (λ bytes. sent ++ bytes) (take-append-drop count s.session.unsent))
+handed-by k link count false e sent sent' seats s key found h =
     let n : k ≢ link = λ q. grind (arith, nat_tests) in
-    rw (h, append-nil sent, at_key-put_other session_link link k (record s { unsent = drop count s.unsent }) sessions key n) refl
+    rw (h, append-nil sent, at_key-put_other seat_link link k (behind_bytes count s) seats key n) refl
 
--- only the core changes
-pub record OnlyCore (x y : Headless) : Type 0 where
-  pub password : y.core.password ≡ x.core.password
-  pub starved : y.core.starved ≡ x.core.starved
-  pub links : y.links ≡ x.links
-  pub clock : y.clock ≡ x.clock
-  pub used : y.used ≡ x.used
-  pub listening : y.listening ≡ x.listening
-  pub turns : y.turns ≡ x.turns
-  pub ran : y.ran ≡ x.ran
-
-none_here : (k link : ℕ) (t : Bool) → eqb k link ≡ t → (sessions : List Session) (s : Session) → at_key session_link link sessions ≡ Some s → at_key session_link k sessions ≡ None → (sent sent' piece : List ℕ) → sent' ≡ sent ++ cond t piece [] → sent' ≡ sent
-none_here k link true e sessions s found none sent sent' piece h = absurd (let same : link ≡ k = grind (arith, nat_tests) in let here : at_key session_link k sessions ≡ Some s = subst (λ n. at_key session_link n sessions ≡ Some s) same found in let q : Some s ≡ None = sym here ∙ none in cc)
-none_here k link false e sessions s found none sent sent' piece h = h ∙ append-nil sent
-
-none-same : {X : Type 0} (o o' : Option X) → is_some o' ≡ is_some o → is_none o' ≡ is_none o
-none-same None None e = refl
-none-same None (Some x) e = absurd (false≢true (sym e))
-none-same (Some x) None e = absurd (false≢true e)
-none-same (Some x) (Some y) e = refl
+none_here : (k link : ℕ) (t : Bool) → eqb k link ≡ t → (seats : List Seat) (s : Seat) → at_key seat_link link seats ≡ Some s → at_key seat_link k seats ≡ None → (sent sent' piece : List ℕ) → sent' ≡ sent ++ cond t piece [] → sent' ≡ sent
+none_here k link true e seats s found none sent sent' piece h = absurd (let same : link ≡ k = grind (arith, nat_tests) in let here : at_key seat_link k seats ≡ Some s = subst (λ n. at_key seat_link n seats ≡ Some s) same found in let q : Some s ≡ None = sym here ∙ none in cc)
+none_here k link false e seats s found none sent sent' piece h = h ∙ append-nil sent
 
 -- unsent bytes of a client were sent
-pub Continues-sent : (x y : Headless) (a b : Seen) (link count : ℕ) (s : Session) → OnlyCore x y → Call a b [] → (IsTrue b.tells → (k : ℕ) → b.sent k ≡ a.sent k ++ cond (eqb k link) (take count s.unsent) []) → (IsTrue b.tells → (k : ℕ) → b.choked k ≡ a.choked k) → SameSets a b
-    → at_key session_link link x.core.sessions.items ≡ Some s → y.core.sessions.items ≡ put_at session_link link (record s { unsent = drop count s.unsent }) x.core.sessions.items → Continues true 0 0 x None y None a b
-Continues-sent x y a b link count s only call sent choked same found put =
-    let key = at_key-key session_link link x.core.sessions.items s found in
-    let kept : (k : ℕ) → is_some (at_key session_link k y.core.sessions.items) ≡ is_some (at_key session_link k x.core.sessions.items) = λ k. ap (λ ss. is_some (at_key session_link k ss)) put ∙ is_some-put_at session_link link k (record s { unsent = drop count s.unsent }) x.core.sessions.items key in
-    Continues-still x None y None a b call only.password only.turns only.starved (λ t. ap (λ ls. ls.closed.items ++ []) only.links)
-    (λ t. rw (only.links, only.used, only.listening) (record {
+pub Continues-sent : (x : Headless) (a b : Seen) (link count : ℕ) (o : Option Seat) (bytes : List ℕ) → at_key seat_link link x.core.seats ≡ o → Some bytes ≡ unsent_at o → Call a b []
+    → (IsTrue b.tells → (k : ℕ) → b.sent k ≡ a.sent k ++ cond (eqb k link) (take count bytes) []) → (IsTrue b.tells → (k : ℕ) → b.choked k ≡ a.choked k) → SameSets a b
+    → Continues true 0 0 x (record x { core = record x.core { seats = gone_at link count x.core.seats o } }) a b
+Continues-sent x a b link count None bytes found u call sent choked same = absurd (let q : Some bytes ≡ None = u in cc)
+Continues-sent x a b link count (Some s) bytes found u call sent choked same =
+    let same_bytes : bytes ≡ s.session.unsent = (let q : Some bytes ≡ Some s.session.unsent = u in cc) in
+    let key = at_key-key seat_link link x.core.seats s found in
+    let after = put_at seat_link link (behind_bytes count s) x.core.seats in
+    let links : map seat_link after ≡ map seat_link x.core.seats = links-gone link count x.core.seats (Some s) found in
+    let kept : (k : ℕ) → is_some (at_key seat_link k after) ≡ is_some (at_key seat_link k x.core.seats) = λ k. same-keys seat_link k after x.core.seats links in
+    let y : Headless = record x { core = record x.core { seats = after } } in
+    Continues-still x y a b call refl refl refl refl
+    (λ t. ap (λ cs. x.links.closed.items ++ cs) (leaving-gone link count x.core.seats (Some s) found))
+    (λ t. record {
       counted = t.counted ∙ sym same.used;
       there = λ k. same.there k ∙ t.there k;
       undrained = λ k. same.undrained k ∙ t.undrained k;
       listens = same.listening ∙ t.listens;
-      clients = λ k. ap (λ q. q || false) (kept k) ∙ t.clients k;
-      apart = λ k e. absurd (false≢true e);
+      clients = λ k. kept k ∙ t.clients k;
+      once = subst Distinct (sym links) t.once;
       unknown = t.unknown;
-    }))
-    (λ t st. rw (only.clock, only.links, only.used, only.ran) st)
-    (λ t st. Advances-none x.core.password (moment x None a) (moment y None b)
-    (ap seats_of put ∙ seats_of-put_at link (record s { unsent = drop count s.unsent }) x.core.sessions.items ∙ put_at-same seat_link link (seats_of x.core.sessions.items) (seat_of s) (at_key-seats link x.core.sessions.items ∙ ap (option_map seat_of) found))
-    (λ k. rw only.used (ap (λ q. nat_le k x.used && (q && true)) (none-same _ _ (kept k))))
+    })
+    (λ t st. st)
+    (λ t st. Advances-none (moment x a) (moment y b)
+    (ap (λ clients. record (state_of x.core) { clients = clients }) (clients-gone link count x.core.seats (Some s) found))
+    refl
+    (λ k. ap (λ q. nat_le k x.used && q) (none-same _ _ (kept k)))
     (λ k. rw (call.taken t) (spoils-more k (a.choked k) (b.choked k) a.taken [] (λ e. sym (choked t k) ∙ e)))
-    (λ k. rw put (handed-by k link count (eqb k link) refl (a.sent k) (b.sent k) x.core.sessions.items s key found (sent t k)))
-    (λ k gone. none_here k link (eqb k link) refl x.core.sessions.items s found (gone-none k x.used (at_key session_link k x.core.sessions.items) true gone) (a.sent k) (b.sent k) (take count s.unsent) (sent t k)))
+    (λ k. handed-by k link count (eqb k link) refl (a.sent k) (b.sent k) x.core.seats s key found (rw same_bytes at (sent t k)))
+    (λ k gone. none_here k link (eqb k link) refl x.core.seats s found (gone-none k x.used (at_key seat_link k x.core.seats) gone) (a.sent k) (b.sent k) (take count bytes) (sent t k)))
 
-rest-by : (k link count : ℕ) (unsent : List ℕ) (t : Bool) → eqb link k ≡ t → (u : Bool) → eqb k link ≡ u → (sent sent' others : List ℕ) → sent' ≡ sent ++ cond u (take count unsent) [] → sent' ++ cond t (drop count unsent) others ≡ sent ++ cond t unsent others
-rest-by k link count unsent true e true f sent sent' others h = rw h (append_assoc sent (take count unsent) (drop count unsent) ∙ ap (λ bytes. sent ++ bytes) (take-append-drop count unsent))
-rest-by k link count unsent false e false f sent sent' others h = rw (h, append-nil sent) refl
-rest-by k link count unsent true e false f sent sent' others h = absurd (let same : link ≡ k = grind (arith, nat_tests) in let other : k ≢ link = λ q. grind (arith, nat_tests) in other (sym same))
-rest-by k link count unsent false e true f sent sent' others h = absurd (let same : k ≡ link = grind (arith, nat_tests) in let other : link ≢ k = λ q. grind (arith, nat_tests) in other (sym same))
-
-not_here : (k link : ℕ) (u : Bool) → eqb k link ≡ u → eqb link k ≡ false → (sent sent' piece : List ℕ) → sent' ≡ sent ++ cond u piece [] → sent' ≡ sent
-not_here k link true e f sent sent' piece h = absurd (let same : k ≡ link = grind (arith, nat_tests) in let other : link ≢ k = λ q. grind (arith, nat_tests) in other (sym same))
-not_here k link false e f sent sent' piece h = h ∙ append-nil sent
-
--- bytes that a departure left unsent were sent
-pub Continues-rest : (x : Headless) (d : Departure) (a b : Seen) (count : ℕ) → Call a b [] → (IsTrue b.tells → (k : ℕ) → b.sent k ≡ a.sent k ++ cond (eqb k d.link.0) (take count d.unsent) []) → (IsTrue b.tells → (k : ℕ) → b.choked k ≡ a.choked k) → SameSets a b
-    → Continues true 0 0 x (Some d) x (Some (record d { unsent = drop count d.unsent })) a b
-Continues-rest x d a b count call sent choked same =
-    Continues-still x (Some d) x (Some (record d { unsent = drop count d.unsent })) a b call refl refl refl (λ s. refl)
-    (λ s. record { counted = s.counted ∙ sym same.used; there = λ k. same.there k ∙ s.there k; undrained = λ k. same.undrained k ∙ s.undrained k; listens = same.listening ∙ s.listens; clients = s.clients; apart = s.apart; unknown = s.unknown })
-    (λ t s. s)
-    (λ t s. Advances-none x.core.password (moment x (Some d) a) (moment x (Some (record d { unsent = drop count d.unsent })) b) refl (λ k. refl)
-    (λ k. rw (call.taken t) (spoils-more k (a.choked k) (b.choked k) a.taken [] (λ e. sym (choked t k) ∙ e)))
-    (λ k. rest-by k d.link.0 count d.unsent (eqb d.link.0 k) refl (eqb k d.link.0) refl (a.sent k) (b.sent k) (unsent_on k x.core.sessions.items) (sent t k))
-    (λ k gone. not_here k d.link.0 (eqb k d.link.0) refl (gone-staying k x.used (at_key session_link k x.core.sessions.items) (eqb d.link.0 k) gone) (a.sent k) (b.sent k) (take count d.unsent) (sent t k)))
+pub fewer-sent : (link count : ℕ) (seats : List Seat) (o : Option Seat) (bytes : List ℕ) → at_key seat_link link seats ≡ o → Some bytes ≡ unsent_at o → 1 ≤ count → count ≤ length bytes → length (unsent_on link (gone_at link count seats o)) < length (unsent_on link seats)
+fewer-sent link count seats None bytes e u one within = absurd (let q : Some bytes ≡ None = u in cc)
+fewer-sent link count seats (Some s) bytes e u one within =
+    let same_bytes : bytes ≡ s.session.unsent = (let q : Some bytes ≡ Some s.session.unsent = u in cc) in
+    let after : unsent_on link (put_at seat_link link (behind_bytes count s) seats) ≡ drop count s.session.unsent = ap unsent_in (at_key-put_same seat_link link s (behind_bytes count s) seats (at_key-key seat_link link seats s e) e) in
+    let before : unsent_on link seats ≡ s.session.unsent = ap unsent_in e in
+    let l = length-drop count s.session.unsent in
+    let m = ap length same_bytes in
+    rw (after, before) (omega arith)
 
 -- where nothing is sent, whatever link is asked for
 pub nothing_sent : (sent : List ℕ) (b : Bool) → sent ++ cond b [] [] ≡ sent
 nothing_sent sent true = append-nil sent
 nothing_sent sent false = append-nil sent
+
+-- a link is drained
+pub Continues-drained : (x y : Headless) (a b : Seen) (link : ℕ) → OnlyLinks x y → Call a b [] → (IsTrue b.tells → (k : ℕ) → b.sent k ≡ a.sent k) → (IsTrue b.tells → (k : ℕ) → b.choked k ≡ a.choked k)
+    → b.used ≡ a.used → ((k : ℕ) → b.there k ≡ a.there k) → b.listening ≡ a.listening → ((k : ℕ) → b.undrained k ≡ (a.undrained k && not (eqb k link && true)))
+    → y.links.opened.items ≡ marked_at link false x.links.opened.items (at_key link_number link x.links.opened.items) → Continues true 0 0 x y a b
+Continues-drained x y a b link only call sent choked used there listening undrained opened =
+    Continues-flags x y a b only call sent choked used there listening
+    (λ k. ap (λ ss. is_some (at_key link_number k ss)) opened ∙ links-marked link k false x.links.opened.items)
+    (λ k h. undrained-marked link k x.links.opened.items (a.undrained k) (b.undrained k) (undrained k) h ∙ sym (ap (λ ss. is_undrained (at_key link_number k ss)) opened))
+    (rw opened (SameTails-marked link false x.links.opened.items))
+
+-- ---- a link is closed
+
+pub and-not-true : (b : Bool) → (b && not true) ≡ false
+and-not-true true = refl
+and-not-true false = refl
+
+pub and-not-false : (b : Bool) → (b && not false) ≡ b
+and-not-false true = refl
+and-not-false false = refl
+
+-- what has a key is taken out
+pub closed-seen : {X : Type 0} (f : Option X → Bool) → f None ≡ false → (key : X → ℕ) (k link : ℕ) (t : Bool) → eqb k link ≡ t → (xs : List X) → (f (at_key key k xs) && not t) ≡ f (at_key key k (without key link xs))
+closed-seen f none key k link true e xs =
+    let same : k ≡ link = grind (arith, nat_tests) in
+    and-not-true _ ∙ sym (ap f (ap (λ i. at_key key i (without key link xs)) same ∙ at_key-filter_same key link xs) ∙ none)
+closed-seen f none key k link false e xs =
+    let other : k ≢ link = λ q. grind (arith, nat_tests) in
+    and-not-false _ ∙ ap f (sym (at_key-filter_other key link k xs other))
+
+listed-some : (o : Option LinkState) (closed : List Closed) (one : Closed) → is_some o ≡ true → listed o closed one ≡ closed ++ one ∷ []
+listed-some (Some state) closed one e = refl
+listed-some None closed one e = absurd (false≢true e)
+
+-- a client is forgotten, and its link is closed
+pub record ClosesOne (x y : Headless) (d : Departure) : Type 0 where
+  pub core : y.core ≡ record x.core { seats = without seat_link d.link.0 x.core.seats }
+  pub clock : y.clock ≡ x.clock
+  pub used : y.used ≡ x.used
+  pub listening : y.listening ≡ x.listening
+  pub turns : y.turns ≡ x.turns
+  pub ran : y.ran ≡ x.ran
+  pub opened : y.links.opened.items ≡ without link_number d.link.0 x.links.opened.items
+  pub closed : y.links.closed.items ≡ listed (at_key link_number d.link.0 x.links.opened.items) x.links.closed.items (record { link = d.link; cause = d.cause })
+
+used-known : (k used : ℕ) (o : Option LinkState) → (used < k → o ≡ None) → is_some o ≡ true → (t : Bool) → nat_le k used ≡ t → nat_le k used ≡ true
+used-known k used o unknown some true e = e
+used-known k used o unknown some false e = absurd (let above : used < k = grind (arith, nat_tests) in let none = unknown above in false≢true (sym (ap is_some none) ∙ some))
+
+close-hands : (k : ℕ) (d : Departure) (a b : Moment) (blocked : ℕ → Bool) (t : Bool) → eqb k d.link.0 ≡ t → b.core.seats ≡ without seat_link d.link.0 a.core.seats → b.used ≡ a.used → b.taken ≡ a.taken → b.sent k ≡ a.sent k
+    → b.choked k ≡ (a.choked k || (eqb k d.link.0 && blocked k)) → is_some (at_key seat_link d.link.0 a.core.seats) ≡ true → nat_le d.link.0 a.used ≡ true → (blocked d.link.0 ≡ false → has_failed d.link.0 a.taken ≡ false → unsent_on d.link.0 a.core.seats ≡ [])
+    → Hands (point k a) (point k b) []
+close-hands k d a b blocked true e ss us tk sent choked there used settled =
+    let same : d.link.0 ≡ k = grind (arith, nat_tests) in
+    let first : ((b.choked k || has_failed k b.taken) ≡ false) → (a.choked k ≡ false) × ((blocked k ≡ false) × (has_failed k a.taken ≡ false)) = λ q.
+    let c = sym choked ∙ or_left (b.choked k) (has_failed k b.taken) q in
+    let f = or_right (b.choked k) (has_failed k b.taken) q in
+    (or_left (a.choked k) _ c, (rw e at (or_right (a.choked k) (eqb k d.link.0 && blocked k) c), rw tk at f)) in
+    let low : nat_le k a.used ≡ true = ap (λ i. nat_le i a.used) (sym same) ∙ used in
+    let here : is_some (at_key seat_link k a.core.seats) ≡ true = ap (λ i. is_some (at_key seat_link i a.core.seats)) (sym same) ∙ there in
+    let gone : at_key seat_link k (without seat_link d.link.0 a.core.seats) ≡ None = ap (λ i. at_key seat_link i (without seat_link d.link.0 a.core.seats)) (sym same) ∙ at_key-filter_same seat_link d.link.0 a.core.seats in
+    Hands-close (point k a) (point k b)
+    (ap (λ q. nat_le k a.used && q) (not-none _ here) ∙ and-no _)
+    (rw (us, low, ss, gone) refl)
+    sent
+    (λ q. let p = first q in ap (λ c. c || has_failed k a.taken) p.0 ∙ p.1.1)
+    (λ q. let p = first q in ap (λ i. unsent_on i a.core.seats) (sym same) ∙ settled (rw same p.1.0) (rw same p.1.1))
+  where
+    and-no : (b : Bool) → (b && false) ≡ false
+    and-no true = refl
+    and-no false = refl
+
+    not-none : {X : Type 0} (o : Option X) → is_some o ≡ true → is_none o ≡ false
+    not-none None q = absurd (false≢true q)
+    not-none (Some x) q = refl
+close-hands k d a b blocked false e ss us tk sent choked there used settled =
+    let other : k ≢ d.link.0 = λ q. grind (arith, nat_tests) in
+    let kept : b.choked k ≡ a.choked k = choked ∙ ap (λ q. a.choked k || (q && blocked k)) e ∙ or-false (a.choked k) in
+    let seat : at_key seat_link k b.core.seats ≡ at_key seat_link k a.core.seats = ap (at_key seat_link k) ss ∙ at_key-filter_other seat_link d.link.0 k a.core.seats other in
+    Hands-stays (point k a) (point k b) []
+    (rw (us, seat) refl)
+    (λ q. ap (λ c. c || has_failed k a.taken) (sym kept) ∙ ap (λ ts. b.choked k || has_failed k ts) (sym tk) ∙ q)
+    (ap (λ o. b.sent k ++ unsent_in o) seat ∙ ap (λ bytes. bytes ++ unsent_on k a.core.seats) sent ∙ sym (append-nil _))
+    (λ q. sent)
+    (λ q. refl)
+
+-- the link of a client that is leaving is closed
+pub Continues-close : (x y : Headless) (d : Departure) (a b : Seen) → departure_of x.core.seats ≡ Some d → ClosesOne x y d → Call a b [] → (IsTrue b.tells → (k : ℕ) → b.sent k ≡ a.sent k) → (IsTrue b.tells → (k : ℕ) → b.choked k ≡ (a.choked k || (eqb k d.link.0 && a.blocked k)))
+    → b.used ≡ a.used → ((k : ℕ) → b.there k ≡ (a.there k && not (eqb k d.link.0))) → ((k : ℕ) → b.undrained k ≡ (a.undrained k && not (eqb k d.link.0))) → b.listening ≡ a.listening → IsSettled d.link.0 x.core.seats a
+    → Continues true 0 0 x y a b
+Continues-close x y d a b leaving one call sent choked used there undrained listening settled =
+    let here = departed-there x.core.seats d leaving in
+    let seats : y.core.seats ≡ without seat_link d.link.0 x.core.seats = ap (λ c. c.seats) one.core in
+    let closes : Closed = record { link = d.link; cause = d.cause } in
+    Continues-still x y a b call one.turns (ap (λ c. c.starved) one.core) (ap (λ c. c.quits) one.core) one.ran
+    (λ s. ap (λ cs. cs ++ leaving_closes y.core.seats) (one.closed ∙ listed-some _ x.links.closed.items closes (sym (s.among.clients d.link.0) ∙ here))
+    ∙ ap (λ ss. (x.links.closed.items ++ closes ∷ []) ++ leaving_closes ss) seats ∙ append_assoc x.links.closed.items (closes ∷ []) _ ∙ ap (λ cs. x.links.closed.items ++ cs) (sym (departed-first x.core.seats d leaving s.among.once)))
+    (λ s. rw (seats, one.used, one.listening, one.opened) (record {
+      counted = s.counted ∙ sym used;
+      there = λ k. there k ∙ ap (λ q. q && not (eqb k d.link.0)) (s.there k) ∙ closed-seen is_some refl link_number k d.link.0 (eqb k d.link.0) refl x.links.opened.items;
+      undrained = λ k. undrained k ∙ ap (λ q. q && not (eqb k d.link.0)) (s.undrained k) ∙ closed-seen is_undrained refl link_number k d.link.0 (eqb k d.link.0) refl x.links.opened.items;
+      listens = listening ∙ s.listens;
+      clients = λ k. sym (closed-seen is_some refl seat_link k d.link.0 (eqb k d.link.0) refl x.core.seats) ∙ ap (λ q. q && not (eqb k d.link.0)) (s.clients k) ∙ closed-seen is_some refl link_number k d.link.0 (eqb k d.link.0) refl x.links.opened.items;
+      once = distinct-without d.link.0 x.core.seats s.once;
+      unknown = λ k below. none_of _ (sym (closed-seen is_some refl link_number k d.link.0 (eqb k d.link.0) refl x.links.opened.items) ∙ ap (λ o. is_some o && not (eqb k d.link.0)) (s.unknown k below));
+    }))
+    (λ t s. rw (one.clock, one.used, one.ran, one.opened) (For-states x.clock x.links.opened.items (without link_number d.link.0 x.links.opened.items) x.used x.ran a.taken (SameTails-without d.link.0 x.links.opened.items) s))
+    (λ t s. record {
+      state = ap state_of one.core ∙ ap (λ clients. record (state_of x.core) { clients = clients }) (clients-forget d.link.0 d.cause x.core.seats s.among.once (departed-leaving x.core.seats d leaving s.among.once));
+      hands = λ k. close-hands k d (moment x a) (moment y b) a.blocked (eqb k d.link.0) refl seats one.used (call.taken t ∙ append-nil a.taken) (sent t k) (choked t k) here
+          (used-known d.link.0 x.used (at_key link_number d.link.0 x.links.opened.items) (s.among.unknown d.link.0) (sym (s.among.clients d.link.0) ∙ here) (nat_le d.link.0 x.used) refl)
+          (settled (call.told t));
+      closes = refl;
+      quits = ap (λ c. c.quits) one.core ∙ sym (or-false x.core.quits);
+    })

@@ -1,5 +1,5 @@
 -- Further laws of lists whose elements go by a key.
-use Rattle.std.proofs.Common.{◌≡◌, ℕ, ◌+◌, ◌≤◌, Bool, true, false, cond, eqb, List, [], ◌∷◌, ◌++◌, length, map, Option, Some, None, IsSome, is_some, ◌||◌, refl, arith}
+use Rattle.std.proofs.Common.{◌≡◌, ℕ, ◌+◌, ◌≤◌, Bool, true, false, cond, eqb, List, [], ◌∷◌, ◌++◌, length, map, Option, Some, None, IsSome, is_some, ◌||◌, refl, ap, sym, ◌∙◌, arith}
 use Rattle.std.proofs.lemmas.Bool.{false≢true}
 use Rattle.std.proofs.lemmas.Bool.Decides.{nat_tests}
 use Rattle.wc_outside.specs.Keyed.{at_key, put_at, without}
@@ -81,3 +81,17 @@ is_some-put_at key k j y (x ∷ xs) e = grind (arith, nat_tests, is_some-put_at 
 pub is_some-push : {X : Type 0} (key : X → ℕ) (j : ℕ) (y : X) (xs : List X) → is_some (at_key key j (xs ++ y ∷ [])) ≡ (is_some (at_key key j xs) || eqb (key y) j)
 is_some-push key j y [] = grind (arith, nat_tests)
 is_some-push key j y (x ∷ xs) = grind (arith, nat_tests, is_some-push key j y xs)
+
+pub none_of : {X : Type 0} (o : Option X) → is_some o ≡ false → o ≡ None
+none_of None e = refl
+none_of (Some x) e = absurd (false≢true (sym e))
+
+-- the same keys are there where the lists of keys are the same
+pub same-keys : {X : Type 0} (key : X → ℕ) (k : ℕ) (xs ys : List X) → map key xs ≡ map key ys → is_some (at_key key k xs) ≡ is_some (at_key key k ys)
+same-keys key k [] [] e = refl
+same-keys key k [] (y ∷ ys) e = cc
+same-keys key k (x ∷ xs) [] e = cc
+same-keys key k (x ∷ xs) (y ∷ ys) e =
+    let head : key x ≡ key y = cc in
+    let tail : map key xs ≡ map key ys = cc in
+    grind (arith, nat_tests, same-keys key k xs ys tail)

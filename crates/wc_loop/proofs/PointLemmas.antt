@@ -1,20 +1,30 @@
 -- What is seen of one link from moment to moment.
-use Rattle.std.proofs.Common.{◌≡◌, ◌≢◌, ℕ, ◌+◌, ◌<◌, ◌≤◌, nat_le, Bool, true, false, not, eqb, ◌&&◌, ◌||◌, List, [], ◌++◌, Option, Some, None, is_some, is_none, refl, sym, ap, ◌∙◌, arith, append_assoc}
+use Rattle.std.proofs.Common.{◌≡◌, ◌≢◌, ℕ, ◌+◌, ◌<◌, ◌≤◌, nat_le, Bool, true, false, not, eqb, ◌&&◌, ◌||◌, List, [], ◌∷◌, ◌++◌, map, Option, Some, None, is_some, is_none, refl, sym, ap, ◌∙◌, subst, arith, append_assoc}
 use Rattle.std.proofs.lemmas.Bool.{false≢true}
 use Rattle.std.proofs.lemmas.Bool.Decides.{nat_tests}
 use Rattle.std.proofs.lemmas.List.{append-nil}
 use Rattle.std.proofs.lemmas.List.Folds.{list_any-append}
 use Rattle.wc_outside.specs.declared.happening.Happening.{Happening}
-use Rattle.wc_loop.specs.declared.session.Session.{Session}
-use Rattle.wc_loop.specs.declared.session.Departure.{Departure}
+use Rattle.wc_core.specs.declared.seat.Seat.{Seat}
+use Rattle.wc_core.specs.Events.{Event}
+use Rattle.wc_core.specs.State.{Act, Stepped}
+use Rattle.wc_core.specs.Step.{run, stays}
+use Rattle.wc_core.specs.Served.{seat_link, state_of, unsent_in, unsent_on, sent_to, has_end, Did}
 use Rattle.wc_outside.specs.Keyed.{at_key}
-use Rattle.wc_loop.specs.Events.{Event}
-use Rattle.wc_loop.specs.Run.{run, owed}
-use Rattle.wc_loop.specs.Served.{session_link, seats_of, unsent_in, unsent_on, carried, closed_by, is_leaving, KeepsLinks, AddsLink, Serves}
+use Rattle.wc_loop.specs.declared.link_state.Closed.{Closed}
+use Rattle.wc_loop.specs.Hands.{Hands}
+use Rattle.wc_loop.specs.Run.{closings}
 use Rattle.wc_loop.specs.Turns.{Moment, point, Advances, is_failure, has_failed}
-use Rattle.wc_loop.proofs.KeyedLemmas.{or-false}
+use Rattle.wc_loop.proofs.KeyedLemmas.{or-false, none_of, same-keys, is_some-push}
 use Rattle.wc_loop.proofs.HandsLemmas.{Hands-stays}
-use Rattle.wc_loop.proofs.ServedLemmas.{kept_none, kept_staying, owed_nothing, or_left, or_right, none_of}
+
+pub or_left : (a b : Bool) → (a || b) ≡ false → a ≡ false
+or_left true b e = e
+or_left false b e = refl
+
+pub or_right : (a b : Bool) → (a || b) ≡ false → b ≡ false
+or_right true b e = absurd (false≢true (sym e))
+or_right false b e = e
 
 -- a link that is not spoiled later was not spoiled before
 pub spoils-more : (k : ℕ) (c c' : Bool) (taken more : List Happening) → (c' ≡ false → c ≡ false) → (c' || has_failed k (taken ++ more)) ≡ false → (c || has_failed k taken) ≡ false
@@ -22,14 +32,6 @@ spoils-more k c c' taken more keep e =
     let first = or_left c' (has_failed k (taken ++ more)) e in
     let second = or_right c' (has_failed k (taken ++ more)) e in
     rw (keep first) (or_left (has_failed k taken) (has_failed k more) (sym (list_any-append (is_failure k) taken more) ∙ second))
-
-pub gone-kept : (o o' : Option Session) (t : Bool) → (is_some o' || t) ≡ is_some o → (is_none o' && not t) ≡ (is_none o && true)
-gone-kept None None true e = absurd (false≢true (sym e))
-gone-kept None None false e = refl
-gone-kept None (Some s) t e = absurd (false≢true (sym e))
-gone-kept (Some s) None true e = refl
-gone-kept (Some s) None false e = absurd (false≢true e)
-gone-kept (Some s) (Some r) t e = refl
 
 and_left : (a b : Bool) → (a && b) ≡ true → a ≡ true
 and_left true b e = refl
@@ -43,47 +45,48 @@ none_if : {X : Type 0} (o : Option X) → is_none o ≡ true → o ≡ None
 none_if None e = refl
 none_if (Some x) e = absurd (false≢true e)
 
--- a link that is gone has no session
-pub gone-none : (k used : ℕ) (o : Option Session) (t : Bool) → (nat_le k used && (is_none o && t)) ≡ true → o ≡ None
-gone-none k used o t e = none_if o (and_left (is_none o) t (and_right (nat_le k used) (is_none o && t) e))
+pub none-same : {X : Type 0} (o o' : Option X) → is_some o' ≡ is_some o → is_none o' ≡ is_none o
+none-same None None e = refl
+none-same None (Some x) e = absurd (false≢true (sym e))
+none-same (Some x) None e = absurd (false≢true e)
+none-same (Some x) (Some y) e = refl
 
-pub gone-staying : (k used : ℕ) (o : Option Session) (t : Bool) → (nat_le k used && (is_none o && not t)) ≡ true → t ≡ false
-gone-staying k used o true e = absurd (false≢true (and_right (is_none o) false (and_right (nat_le k used) (is_none o && false) e)))
-gone-staying k used o false e = refl
+-- a link that is gone has no client
+pub gone-none : (k used : ℕ) (o : Option Seat) → (nat_le k used && is_none o) ≡ true → o ≡ None
+gone-none k used o e = none_if o (and_right (nat_le k used) (is_none o) e)
 
-pub carried-staying : (k : ℕ) (left : Option Departure) (sessions : List Session) → is_leaving k left ≡ false → carried k left sessions ≡ unsent_on k sessions
-carried-staying k None sessions e = refl
-carried-staying k (Some d) sessions e = rw e refl
+owed_nothing : (xs ys : List ℕ) → [] ≡ xs ++ ys → ys ≡ []
+owed_nothing [] ys e = sym e
+owed_nothing (x ∷ xs) ys e = cc
 
--- what is owed to a link without a session is nothing
-pub nothing_owed : (k : ℕ) (old new : List Session) (left : Option Departure) (owed' : List ℕ) → KeepsLinks old new left → at_key session_link k old ≡ None → carried k left new ≡ unsent_on k old ++ owed' → owed' ≡ []
-nothing_owed k old new left o keeps none bytes =
-    let after : unsent_on k new ≡ [] = ap unsent_in (kept_none old new left k keeps none) in
-    let before : unsent_on k old ≡ [] = ap unsent_in none in
-    owed_nothing (unsent_on k old) o (sym after ∙ sym (carried-staying k left new (kept_staying old new left k keeps none)) ∙ bytes)
+-- what is owed to a link without a client is nothing
+pub nothing_owed : (k : ℕ) (old new : List Seat) (owed : List ℕ) → is_some (at_key seat_link k new) ≡ is_some (at_key seat_link k old) → at_key seat_link k old ≡ None → unsent_on k new ≡ unsent_on k old ++ owed → owed ≡ []
+nothing_owed k old new o keeps none bytes =
+    let after : unsent_on k new ≡ [] = ap unsent_in (none_of _ (keeps ∙ ap is_some none)) in
+    owed_nothing (unsent_on k old) o (sym after ∙ bytes)
 
--- a happening is taken, at which a client may leave
-pub Advances-takes : (password : List ℕ) (a b : Moment) (events : List Event) → a.left ≡ None → Serves password a.sessions b.sessions b.left events → KeepsLinks a.sessions b.sessions b.left → b.used ≡ a.used
-    → ((k : ℕ) → b.sent k ≡ a.sent k) → ((k : ℕ) → b.choked k ≡ a.choked k) → (more : List Happening) → b.taken ≡ a.taken ++ more → Advances password a b (closed_by b.left) events
-Advances-takes password a b events none exact keeps used sent choked more taken = record {
-  seats = exact.seats;
+-- a happening is taken, at which clients may begin to leave
+pub Advances-takes : (a b : Moment) (closed : List Closed) (events : List Event) → Did a.core b.core (run (state_of a.core) events) → map seat_link b.core.seats ≡ map seat_link a.core.seats → b.used ≡ a.used
+    → ((k : ℕ) → b.sent k ≡ a.sent k) → ((k : ℕ) → b.choked k ≡ a.choked k) → (more : List Happening) → b.taken ≡ a.taken ++ more → closings (run (state_of a.core) events).acts ≡ closed → Advances a b closed events
+Advances-takes a b closed events did links used sent choked more taken closes = record {
+  state = did.state;
   hands = λ k.
-      let bytes = exact.bytes k in
-      let before : carried k a.left a.sessions ≡ unsent_on k a.sessions = ap (λ l. carried k l a.sessions) none in
+      let keeps = same-keys seat_link k b.core.seats a.core.seats links in
       Hands-stays (point k a) (point k b) _
-      (rw (used, none) (ap (λ x. nat_le k a.used && x) (gone-kept (at_key session_link k a.sessions) (at_key session_link k b.sessions) (is_leaving k b.left) (keeps k))))
+      (rw used (ap (λ x. nat_le k a.used && x) (none-same (at_key seat_link k a.core.seats) (at_key seat_link k b.core.seats) keeps)))
       (rw taken (spoils-more k (a.choked k) (b.choked k) a.taken more (λ e. sym (choked k) ∙ e)))
-      (ap (λ x. x ++ carried k b.left b.sessions) (sent k) ∙ ap (λ x. a.sent k ++ x) (bytes ∙ ap (λ x. x ++ owed k (run password (seats_of a.sessions) events).acts) (sym before)) ∙ sym (append_assoc (a.sent k) _ _))
+      (ap (λ x. x ++ unsent_on k b.core.seats) (sent k) ∙ ap (λ x. a.sent k ++ x) (did.bytes k) ∙ sym (append_assoc (a.sent k) _ _))
       (λ e. sent k)
-      (λ e. nothing_owed k a.sessions b.sessions b.left _ keeps (gone-none k a.used (at_key session_link k a.sessions) _ e) bytes);
-  closes = exact.closes;
+      (λ e. nothing_owed k a.core.seats b.core.seats _ keeps (gone-none k a.used (at_key seat_link k a.core.seats) e) (did.bytes k));
+  closes = closes;
+  quits = did.quits;
 }
 
-fresh_by : (k came used : ℕ) (t : Bool) → eqb came k ≡ t → came ≡ used + 1 → (o o' : Option Session) (l : Bool) → (is_some o' || l) ≡ (is_some o || t) → (nat_le k (used + 1) && (is_none o' && not l)) ≡ (nat_le k used && (is_none o && true))
-fresh_by k came used true e next o o' l h =
+pub fresh_by : (k came used : ℕ) (t : Bool) → eqb came k ≡ t → came ≡ used + 1 → (o o' : Option Seat) → is_some o' ≡ (is_some o || t) → (nat_le k (used + 1) && is_none o') ≡ (nat_le k used && is_none o)
+fresh_by k came used true e next o o' h =
     let same : came ≡ k = grind (arith, nat_tests) in
     let above : nat_le k used ≡ false = grind (arith, nat_tests) in
-    rw above (ap (λ x. nat_le k (used + 1) && x) (not_gone o' l (h ∙ or_always (is_some o))) ∙ and-false (nat_le k (used + 1)))
+    rw above (ap (λ x. nat_le k (used + 1) && x) (not_gone o' (h ∙ or_always (is_some o))) ∙ and-false (nat_le k (used + 1)))
   where
     or_always : (b : Bool) → (b || true) ≡ true
     or_always true = refl
@@ -93,50 +96,51 @@ fresh_by k came used true e next o o' l h =
     and-false true = refl
     and-false false = refl
 
-    not_gone : (o : Option Session) (l : Bool) → (is_some o || l) ≡ true → (is_none o && not l) ≡ false
-    not_gone None true q = refl
-    not_gone None false q = absurd (false≢true q)
-    not_gone (Some s) l q = refl
-fresh_by k came used false e next o o' l h =
+    not_gone : (o : Option Seat) → is_some o ≡ true → is_none o ≡ false
+    not_gone None q = absurd (false≢true q)
+    not_gone (Some s) q = refl
+fresh_by k came used false e next o o' h =
     let other : came ≢ k = λ q. grind (arith, nat_tests) in
     let same : nat_le k (used + 1) ≡ nat_le k used = grind (arith, nat_tests) in
-    rw same (ap (λ x. nat_le k used && x) (gone-kept o o' l (h ∙ or-false (is_some o))))
+    rw same (ap (λ x. nat_le k used && x) (none-same o o' (h ∙ or-false (is_some o))))
 
--- a link comes
-pub Advances-comes : (password : List ℕ) (a b : Moment) (came : ℕ) (events : List Event) → a.left ≡ None → came ≡ a.used + 1 → b.used ≡ a.used + 1 → Serves password a.sessions b.sessions b.left events → AddsLink came a.sessions b.sessions b.left
-    → ((k : ℕ) → a.used < k → at_key session_link k a.sessions ≡ None) → ((k : ℕ) → b.sent k ≡ a.sent k) → ((k : ℕ) → b.choked k ≡ a.choked k) → (more : List Happening) → b.taken ≡ a.taken ++ more → Advances password a b (closed_by b.left) events
-Advances-comes password a b came events none next used exact adds unknown sent choked more taken = record {
-  seats = exact.seats;
-  hands = λ k.
-      let bytes = exact.bytes k in
-      let before : carried k a.left a.sessions ≡ unsent_on k a.sessions = ap (λ l. carried k l a.sessions) none in
-      Hands-stays (point k a) (point k b) _
-      (rw (used, none) (fresh_by k came a.used (eqb came k) refl next (at_key session_link k a.sessions) (at_key session_link k b.sessions) (is_leaving k b.left) (adds k)))
+-- a client comes, or its link is refused
+pub Advances-comes : (a b : Moment) (closed : List Closed) (events : List Event) → b.used ≡ a.used + 1 → state_of b.core ≡ (run (state_of a.core) events).state → ((k : ℕ) → sent_to k (run (state_of a.core) events).acts ≡ [])
+    → ((k : ℕ) → unsent_on k b.core.seats ≡ unsent_on k a.core.seats) → ((k : ℕ) → (nat_le k (a.used + 1) && is_none (at_key seat_link k b.core.seats)) ≡ (nat_le k a.used && is_none (at_key seat_link k a.core.seats)) ) → b.core.quits ≡ a.core.quits → has_end (run (state_of a.core) events).acts ≡ false
+    → ((k : ℕ) → b.sent k ≡ a.sent k) → ((k : ℕ) → b.choked k ≡ a.choked k) → (more : List Happening) → b.taken ≡ a.taken ++ more → closings (run (state_of a.core) events).acts ≡ closed → Advances a b closed events
+Advances-comes a b closed events used state owed bytes gone quits ends sent choked more taken closes = record {
+  state = state;
+  hands = λ k. rw (owed k)
+      (Hands-stays (point k a) (point k b) []
+      (rw used (gone k))
       (rw taken (spoils-more k (a.choked k) (b.choked k) a.taken more (λ e. sym (choked k) ∙ e)))
-      (ap (λ x. x ++ carried k b.left b.sessions) (sent k) ∙ ap (λ x. a.sent k ++ x) (bytes ∙ ap (λ x. x ++ owed k (run password (seats_of a.sessions) events).acts) (sym before)) ∙ sym (append_assoc (a.sent k) _ _))
+      (ap (λ x. x ++ unsent_on k b.core.seats) (sent k) ∙ ap (λ x. a.sent k ++ x) (bytes k) ∙ sym (append-nil _))
       (λ e. sent k)
-      (λ e.
-      let absent = gone-none k a.used (at_key session_link k a.sessions) _ e in
-      let known : came ≢ k = λ q. clash_used k came a.used q next (and_left (nat_le k a.used) _ e) in
-      nothing_come k came a.sessions b.sessions b.left _ known adds absent bytes);
-  closes = exact.closes;
+      (λ e. refl));
+  closes = closes;
+  quits = quits ∙ sym (or-false a.core.quits) ∙ ap (λ x. a.core.quits || x) (sym ends);
 }
-  where
-    clash_used : (k came used : ℕ) → came ≡ k → came ≡ used + 1 → nat_le k used ≡ true → ⊥
-    clash_used k came used q next e = let low : k ≤ used = grind (arith, nat_tests) in omega arith
-
-    nothing_come : (k came : ℕ) (old new : List Session) (left : Option Departure) (owed' : List ℕ) → came ≢ k → AddsLink came old new left → at_key session_link k old ≡ None → carried k left new ≡ unsent_on k old ++ owed' → owed' ≡ []
-    nothing_come k came old new left o n adds absent bytes =
-        let t : eqb came k ≡ false = grind (arith, nat_tests) in
-        let sum : (is_some (at_key session_link k new) || is_leaving k left) ≡ false = adds k ∙ ap (λ x. x || eqb came k) (ap is_some absent) ∙ t in
-        let after : unsent_on k new ≡ [] = ap unsent_in (none_of _ (or_left _ (is_leaving k left) sum)) in
-        owed_nothing (unsent_on k old) o (sym after ∙ sym (carried-staying k left new (or_right (is_some (at_key session_link k new)) _ sum)) ∙ bytes)
 
 -- nothing is owed, and what is handed to each link stays the same
-pub Advances-none : (password : List ℕ) (a b : Moment) → seats_of b.sessions ≡ seats_of a.sessions → ((k : ℕ) → (point k b).gone ≡ (point k a).gone) → ((k : ℕ) → (point k b).spoiled ≡ false → (point k a).spoiled ≡ false)
-    → ((k : ℕ) → (point k b).sent ++ (point k b).unsent ≡ (point k a).sent ++ (point k a).unsent) → ((k : ℕ) → (point k a).gone ≡ true → b.sent k ≡ a.sent k) → Advances password a b [] []
-Advances-none password a b seats gone spoils bytes sent = record {
-  seats = seats;
+pub Advances-none : (a b : Moment) → state_of b.core ≡ state_of a.core → b.core.quits ≡ a.core.quits → ((k : ℕ) → (point k b).gone ≡ (point k a).gone) → ((k : ℕ) → (point k b).spoiled ≡ false → (point k a).spoiled ≡ false)
+    → ((k : ℕ) → (point k b).sent ++ (point k b).unsent ≡ (point k a).sent ++ (point k a).unsent) → ((k : ℕ) → (point k a).gone ≡ true → b.sent k ≡ a.sent k) → Advances a b [] []
+Advances-none a b state quits gone spoils bytes sent = record {
+  state = state;
   hands = λ k. Hands-stays (point k a) (point k b) [] (gone k) (spoils k) (bytes k ∙ sym (append-nil _)) (sent k) (λ e. refl);
   closes = refl;
+  quits = quits ∙ sym (or-false a.core.quits);
 }
+
+-- the core stays, or only its moment and its count of want change
+pub Advances-same : (a b : Moment) → b.core.seats ≡ a.core.seats → b.core.quits ≡ a.core.quits → b.used ≡ a.used → ((k : ℕ) → b.sent k ≡ a.sent k) → ((k : ℕ) → b.choked k ≡ a.choked k) → (more : List Happening) → b.taken ≡ a.taken ++ more
+    → (events : List Event) → run (state_of a.core) events ≡ stays (state_of b.core) → Advances a b [] events
+Advances-same a b seats quits used sent choked more taken events none =
+    let acts : (run (state_of a.core) events).acts ≡ [] = ap (λ s. s.acts) none in
+    record {
+      state = sym (ap (λ s. s.state) none);
+      hands = λ k. subst (λ done. Hands (point k a) (point k b) (sent_to k done)) (sym acts)
+          (Hands-stays (point k a) (point k b) [] (rw (used, seats) refl) (rw taken (spoils-more k (a.choked k) (b.choked k) a.taken more (λ e. sym (choked k) ∙ e)))
+          (rw (seats, sent k) (sym (append-nil _))) (λ e. sent k) (λ e. refl));
+      closes = ap closings acts;
+      quits = quits ∙ sym (or-false a.core.quits) ∙ ap (λ done. a.core.quits || has_end done) (sym acts);
+    }

@@ -59,3 +59,7 @@ LeavesBy link other None None = Unit {0}
 pub record LeavesAtLine (link : ℕ) (old new : List Seat) : Type 0 where
   pub links : map seat_link new ≡ map seat_link old
   pub leaving : (other : ℕ) → LeavesBy link other (leaving_on other old) (leaving_on other new)
+
+-- a close goes by the number of its link
+abbrev pub closed_number : Closed → ℕ
+closed_number closed = closed.link.0
