@@ -23,5 +23,6 @@ pub mod StandsLemmas
 pub mod StepLemmas
 pub mod TakesLemmas
 pub mod TurnLemmas
+pub mod WaitLemmas
 pub mod WakeLemmas
 pub mod WordsLemmas

@@ -1,10 +1,19 @@
 ghost use Rattle.std.specs.Prelude.{◌≡◌, ◌≢◌, All};
+ghost use Rattle.std.specs.List.{list_any};
 ghost use Rattle.wc_outside.specs.Faults.{Rose};
 
 use crate::headless::Headless;
+use crate::link_state::LinkState;
 use crate::serve::serve_ready;
 use crate::then::Then;
 use wc_outside::{Failed, Keeper, Ready, Sockets};
+
+/// Whether one of the links is not drained.
+fn any_undrained(states: &[LinkState]) -> bool
+    ensures { result ≡ list_any (λ state. state.undrained) states.now }
+{
+    states.iter().any(|state| state.undrained)
+}
 
 impl Headless {
     ghost use Rattle.std.specs.Prelude.{true, false, OnOk, OnErr};
@@ -17,7 +26,7 @@ impl Headless {
     fn has_undrained(&self) -> bool
         ensures { result ≡ has_undrained self.now }
     {
-        self.listening || self.links.opened.iter().any(|state| state.undrained)
+        self.listening || any_undrained(self.links())
     }
 
     /// How long the next wait may take, in milliseconds.
