@@ -29,7 +29,7 @@ LastOf seen (Some last) = (1 ≤ last.turns) × (IsTrue seen.tells → wakes see
 
 -- at most so many waits returned
 pub record WaitsAtMost (turns : ℕ) (seen : Seen) (last : Option Headless) : Type 0 where
-  pub last : IfSome last (λ last. last.turns ≤ turns)
+  pub counted : IfSome last (λ last. last.turns ≤ turns)
   pub told : IsTrue seen.tells → wakes seen.taken ≤ turns
 
 -- whether `/quit` was run
