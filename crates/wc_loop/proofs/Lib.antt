@@ -18,6 +18,7 @@ pub mod PointLemmas
 pub mod ProgramLemmas
 pub mod RunLemmas
 pub mod SeatLemmas
+pub mod ServedLemmas
 pub mod SourceLemmas
 pub mod StandsLemmas
 pub mod StepLemmas
