@@ -74,8 +74,8 @@ one-closes link [] d h = refl
 one-closes link (seat ∷ seats) d h = one-by link seat seats (eqb (seat_link seat) link.0) refl d h (one-closes link seats d.1)
 
 first-all : (P : ℕ → Cause → Type 0) (link : LinkId) (why : Option Cause) → ((cause : Cause) → why ≡ Some cause → P link.0 cause) → All (λ (c : Closed). P c.link.0 c.cause) (closed_by link why)
-first-all P link None h = All-nil _
-first-all P link (Some cause) h = All-cons _ (record { link = link; cause = cause }) [] (h cause refl) (All-nil _)
+first-all P link None h = All-nil (λ (c : Closed). P c.link.0 c.cause)
+first-all P link (Some cause) h = All-cons (λ (c : Closed). P c.link.0 c.cause) (record { link = link; cause = cause }) [] (h cause refl) (All-nil (λ (c : Closed). P c.link.0 c.cause))
 
 some-none : {A : Type 0} (o : Option Cause) (cause : Cause) → o ≡ Some cause → o ≡ None → A
 some-none o cause e f = absurd (let q : Some cause ≡ None = sym e ∙ f in cc)
@@ -86,9 +86,9 @@ leaving-behind k cause seat seats false e absent h = rw e h
 
 -- what holds of each client that is leaving holds of each close
 pub closes-all : (P : ℕ → Cause → Type 0) (seats : List Seat) → Distinct (map seat_link seats) → ((k : ℕ) (cause : Cause) → leaving_on k seats ≡ Some cause → P k cause) → All (λ (c : Closed). P c.link.0 c.cause) (leaving_closes seats)
-closes-all P [] distinct h = All-nil _
+closes-all P [] distinct h = All-nil (λ (c : Closed). P c.link.0 c.cause)
 closes-all P (seat ∷ seats) distinct h =
-    All-append _ (closed_by seat.session.client.link seat.leaving) (leaving_closes seats)
+    All-append (λ (c : Closed). P c.link.0 c.cause) (closed_by seat.session.client.link seat.leaving) (leaving_closes seats)
     (first-all P seat.session.client.link seat.leaving (λ cause e. h (seat_link seat) cause (leaving-first seat seats ∙ e)))
     (closes-all P seats distinct.1 (λ k cause e. h k cause (leaving-behind k cause seat seats (eqb (seat_link seat) k) refl distinct.0 e)))
 
