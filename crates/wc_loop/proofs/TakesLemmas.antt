@@ -48,13 +48,13 @@ flag-put j k false e old new states found key flag = let other : k ≢ j = λ q.
 reached : (n m : ℕ) (all es others : List Event) → others ≡ [] → all ≡ es ++ others → m ≡ min (n + length es) (2 ^ 64 - 1) → m ≡ min (n + length all) (2 ^ 64 - 1)
 reached n m all es others none front count = let e = ap length (front ∙ ap (λ xs. es ++ xs) none ∙ append-nil es) in omega arith
 
-pub Takes-read : (x y : Headless) (link : LinkId) (place : ℕ) (old new : LinkState) (bytes : List ℕ) → x.ran < 2 ^ 64 → IsPlace link_number link.0 x.links.opened.items place → old ≡ get_or x.links.opened.items place old → new.link ≡ old.link → new.undrained ≡ old.undrained
+pub Takes-read : (x y : Headless) (link : LinkId) (place : ℕ) (old new : LinkState) (bytes : List ℕ) → IsPlace link_number link.0 x.links.opened.items place → old ≡ get_or x.links.opened.items place old → new.link ≡ old.link → new.undrained ≡ old.undrained
     → y.turns ≡ x.turns → y.used ≡ x.used → y.listening ≡ x.listening → y.clock ≡ x.clock → y.links.closed.items ≡ x.links.closed.items → y.links.opened.items ≡ set x.links.opened.items place new
     → map seat_link y.core.seats ≡ map seat_link x.core.seats
     → (y.core.quits ≡ false → (line : List ℕ) → IsTail line old.tail → IsTail (rest line bytes) new.tail)
     → ((line : List ℕ) → IsTail line old.tail → MayTake x.core y.core x.ran y.ran (read_events link.0 line bytes))
     → Takes x y (Read link bytes)
-Takes-read x y link place old new bytes fits p at key flag turns used listening clock closed opened clients tail takes =
+Takes-read x y link place old new bytes p at key flag turns used listening clock closed opened clients tail takes =
     let found : at_key link_number link.0 x.links.opened.items ≡ Some old = p.found old ∙ ap Some (sym at) in
     let number : link_number new ≡ link.0 = ap (λ (l : LinkId). l.0) key ∙ at_key-key link_number link.0 x.links.opened.items old found in
     record {
@@ -68,7 +68,7 @@ Takes-read x y link place old new bytes fits p at key flag turns used listening 
       told = λ taken unknown going s.
           let t = IsTail-at x.clock x.links.opened.items x.used x.ran taken link.0 place old p at s in
           let m = takes (tail_on link.0 taken) t in
-          let count = reached x.ran y.ran (read_events link.0 (tail_on link.0 taken) bytes) m.events m.reaches.rest (m.reaches.whole going) m.reaches.front (m.reaches.counts fits) in
+          let count = reached x.ran y.ran (read_events link.0 (tail_on link.0 taken) bytes) m.events m.reaches.rest (m.reaches.whole going) m.reaches.front (m.reaches.counts (let e = s.events in omega arith)) in
           rw (opened, clock, used) (For-read x.clock x.links.opened.items x.used x.ran y.ran taken link place old new bytes p at key (unknown link.0) (tail going (tail_on link.0 taken) t) count s);
       takes = λ taken s. takes (tail_on link.0 taken) (IsTail-at x.clock x.links.opened.items x.used x.ran taken link.0 place old p at s);
     }
