@@ -329,6 +329,13 @@ impl Core {
         }
     }
 
+    /// The clients that are open and those that are leaving, in the order in which they came.
+    pub fn seats(&self) -> &[Seat]
+        ensures { result.now ≡ self.now.seats }
+    {
+        self.seats.as_slice()
+    }
+
     /// How often want of memory cut something short or made a client leave.
     pub fn starved(&self) -> u64
         ensures { result ≡ self.now.starved }

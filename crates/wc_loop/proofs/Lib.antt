@@ -9,7 +9,6 @@ pub mod FeedLemmas
 pub mod HandsLemmas
 pub mod HeadlineLemmas
 pub mod KeyedLemmas
-pub mod LeaveLemmas
 pub mod LeastLemmas
 pub mod LineLemmas
 pub mod LinkLemmas
@@ -18,11 +17,13 @@ pub mod PointLemmas
 pub mod ProgramLemmas
 pub mod RunLemmas
 pub mod SeatLemmas
+pub mod ServeLemmas
 pub mod ServedLemmas
 pub mod SourceLemmas
 pub mod StandsLemmas
 pub mod StepLemmas
 pub mod TakesLemmas
 pub mod TurnLemmas
+pub mod WaitLemmas
 pub mod WakeLemmas
 pub mod WordsLemmas

@@ -1,8 +1,9 @@
 -- What a whole run hands to its clients.
-use Rattle.std.specs.Prelude.{ℕ, ◌≡◌, ◌≤◌, false, List, [], ◌++◌, Option, Some, None, IfSome, IsTrue, is_some, IfOk}
+use Rattle.std.specs.Prelude.{ℕ, ◌≡◌, ◌≤◌, false, List, [], ◌++◌, Option, Some, None, IfSome, IsTrue, is_some, IfOk, Ok}
 use Rattle.wc_outside.specs.Seen.{Seen}
 use Rattle.wc_loop.specs.declared.headless.Headless.{Headless}
 use Rattle.wc_outside.specs.Keyed.{at_key}
+use Rattle.wc_loop.specs.declared.configuration.Settings.{Settings}
 use Rattle.wc_loop.specs.Configuration.{settings_in}
 use Rattle.wc_loop.specs.Hands.{IsFrontOf}
 use Rattle.wc_loop.specs.Links.{link_number}
@@ -31,6 +32,12 @@ pub record HandsOut (first : State) (seen : Seen) (last : Headless) : Type 0 whe
 abbrev pub Headline : Option (List ℕ) → Seen → Headless → Type 0
 Headline contents seen last =
     IfSome contents (λ configuration. IfOk (settings_in configuration) (λ settings. IsTrue seen.tells → last.core.starved ≡ 0 → HandsOut (first_state settings.password settings.limit) seen last))
+
+-- a state that a configuration sets
+pub record IsConfigured (headless : Headless) (configuration : List ℕ) : Type 0 where
+  pub settings : Settings
+  pub set : settings_in configuration ≡ Ok settings
+  pub state : state_of headless.core ≡ first_state settings.password settings.limit
 
 -- a state before the first turn
 pub record IsFirst (headless : Headless) : Type 0 where

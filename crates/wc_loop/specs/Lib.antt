@@ -11,4 +11,5 @@ pub mod Sources
 pub mod Steps
 pub mod Tails
 pub mod Turns
+pub mod Waits
 pub mod Words

@@ -244,6 +244,7 @@ pub fn send_link<S: Sockets>(headless: &mut Headless, sockets: &mut S, link: Lin
     ensures leaving { leaving_closes headless.new.core.seats ≡ leaving_closes headless.old.core.seats }
     ensures done { IsSent link.0 headless.new.core.seats (S.seen sockets.old) (S.seen sockets.new) }
     ensures others { (other : ℕ) → other ≢ link.0 → (S.seen sockets.new).blocked other ≡ (S.seen sockets.old).blocked other }
+    ensures unsent { (other : ℕ) → other ≢ link.0 → unsent_on other headless.new.core.seats ≡ unsent_on other headless.old.core.seats }
     ensures nothing { TakesNothing (S.seen sockets.old) (S.seen sockets.new) }
 {
     loop {
