@@ -1,5 +1,6 @@
 pub mod CauseLemmas
 pub mod CloseLemmas
+pub mod ClosingLemmas
 pub mod ComeLemmas
 pub mod ConfigurationLemmas
 pub mod CutLaws
@@ -9,7 +10,6 @@ pub mod HandsLemmas
 pub mod HeadlineLemmas
 pub mod KeyedLemmas
 pub mod LeastLemmas
-pub mod LeaveLemmas
 pub mod LineLemmas
 pub mod LinkLemmas
 pub mod OutcomeLemmas
@@ -18,6 +18,7 @@ pub mod ProgramLemmas
 pub mod RunLemmas
 pub mod SeatLemmas
 pub mod ServeLemmas
+pub mod ServedLemmas
 pub mod SourceLemmas
 pub mod StandsLemmas
 pub mod StepLemmas

@@ -7,7 +7,7 @@ use Rattle.wc_core.specs.declared.seat.Seat.{Seat}
 use Rattle.wc_core.specs.Events.{Event}
 use Rattle.wc_core.specs.Standing.{Standing}
 use Rattle.wc_core.specs.Step.{run}
-use Rattle.wc_core.specs.Served.{seat_link, leaving_on, state_of, MayDo}
+use Rattle.wc_core.specs.Served.{seat_link, links_of, leaving_on, state_of, Distinct, Keeps, Did}
 use Rattle.wc_loop.specs.declared.link_state.Closed.{Closed}
 
 -- the close that a client asks for, if it is leaving
@@ -32,11 +32,16 @@ pub record Reaches (quits quits' : Bool) (ran ran' : ℕ) (all events : List Eve
   pub whole : quits' ≡ false → rest ≡ []
   pub nothing : quits ≡ true → events ≡ []
 
+-- the core takes events, unless some growth was refused
+pub record MayRun (old new : Standing) (events : List Event) : Type 0 where
+  pub keeps : Keeps old new
+  pub does : new.starved ≡ old.starved → old.starved < 2 ^ 64 - 1 → Distinct (links_of old) → Did old new (run (state_of old) events)
+
 -- the core takes those of the events that are reached, unless some growth was refused
 pub record MayTake (old new : Standing) (ran ran' : ℕ) (all : List Event) : Type 0 where
   pub events : List Event
   pub reaches : Reaches old.quits new.quits ran ran' all events
-  pub takes : MayDo old new (run (state_of old) events)
+  pub takes : MayRun old new events
 
 -- for what a client can leave at a line of a link: its own client for its answer, and each one for want of memory
 abbrev pub IsOfLine : ℕ → ℕ → Cause → Type 0
@@ -50,15 +55,15 @@ IsOfLine link other Disconnected = ⊥
 IsOfLine link other NickTaken = ⊥
 
 -- a client that was leaving goes on so, and one that is leaving else can leave at a line of this link
-abbrev pub LeavesBy : ℕ → ℕ → Option Cause → Option Cause → Type 0
-LeavesBy link other (Some before) now = now ≡ Some before
-LeavesBy link other None (Some cause) = IsOfLine link other cause
-LeavesBy link other None None = Unit {0}
+abbrev pub LeavesFor : ℕ → ℕ → Option Cause → Option Cause → Type 0
+LeavesFor link other (Some before) now = now ≡ Some before
+LeavesFor link other None (Some cause) = IsOfLine link other cause
+LeavesFor link other None None = Unit {0}
 
 -- the same links have clients, and those that began to leave could do so at a line of this link
 pub record LeavesAtLine (link : ℕ) (old new : List Seat) : Type 0 where
   pub links : map seat_link new ≡ map seat_link old
-  pub leaving : (other : ℕ) → LeavesBy link other (leaving_on other old) (leaving_on other new)
+  pub leaving : Distinct (map seat_link old) → (other : ℕ) → LeavesFor link other (leaving_on other old) (leaving_on other new)
 
 -- a close goes by the number of its link
 abbrev pub closed_number : Closed → ℕ

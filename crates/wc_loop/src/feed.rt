@@ -1,9 +1,7 @@
 ghost use Rattle.std.specs.Prelude.{◌≡◌, ◌+◌, ◌-◌, ◌^◌, ◌≤◌, ◌++◌, ◌∷◌, ℕ, List, [], false, None, IfSome, length, min};
-ghost use Rattle.wc_core.specs.Step.{run};
-ghost use Rattle.wc_core.specs.Served.{state_of, MayDo};
 ghost use Rattle.wc_loop.specs.Lines.{rest, HasNoLf};
 ghost use Rattle.wc_loop.specs.Events.{line_events, read_events};
-ghost use Rattle.wc_loop.specs.Served.{MayTake, LeavesAtLine};
+ghost use Rattle.wc_loop.specs.Served.{MayRun, MayTake, LeavesAtLine};
 ghost use Rattle.wc_loop.specs.Tails.{IsTail};
 
 use crate::line_buffer::LINE_LIMIT;
@@ -14,7 +12,7 @@ use wc_text::LinkId;
 
 /// Serves a line of a link, unless it is too long.
 fn serve_line(core: &mut Core, link: LinkId, line: &[u8], ran: &mut u64)
-    ensures does { MayDo core.old core.new (run (state_of core.old) (line_events link.0 line.now)) }
+    ensures does { MayRun core.old core.new (line_events link.0 line.now) }
     ensures causes { LeavesAtLine link.0 core.old.seats core.new.seats }
     ensures ran { ran.new ≡ min (ran.old + length (line_events link.0 line.now)) (2 ^ 64 - 1) }
 {
@@ -29,7 +27,7 @@ fn serve_line(core: &mut Core, link: LinkId, line: &[u8], ran: &mut u64)
 /// Serves the line that a tail has come to, unless it is too long.
 fn serve_tail(core: &mut Core, link: LinkId, tail: &mut Tail, ran: &mut u64)
     ensures begins { tail.new ≡ record { line = []; over = false } }
-    ensures does { (line : List ℕ) → IsTail line tail.old → MayDo core.old core.new (run (state_of core.old) (line_events link.0 line)) }
+    ensures does { (line : List ℕ) → IsTail line tail.old → MayRun core.old core.new (line_events link.0 line) }
     ensures causes { LeavesAtLine link.0 core.old.seats core.new.seats }
     ensures ran { (line : List ℕ) → IsTail line tail.old → ran.new ≡ min (ran.old + length (line_events link.0 line)) (2 ^ 64 - 1) }
 {
@@ -45,7 +43,7 @@ fn serve_tail(core: &mut Core, link: LinkId, tail: &mut Tail, ran: &mut u64)
 /// Serves the line that ends behind these bytes. A line that came whole is not copied.
 fn end_line(core: &mut Core, link: LinkId, tail: &mut Tail, front: &[u8], ran: &mut u64)
     ensures begins { tail.new ≡ record { line = []; over = false } }
-    ensures does { (line : List ℕ) → IsTail line tail.old → MayDo core.old core.new (run (state_of core.old) (line_events link.0 (line ++ front.now))) }
+    ensures does { (line : List ℕ) → IsTail line tail.old → MayRun core.old core.new (line_events link.0 (line ++ front.now)) }
     ensures causes { LeavesAtLine link.0 core.old.seats core.new.seats }
     ensures ran { (line : List ℕ) → IsTail line tail.old → ran.new ≡ min (ran.old + length (line_events link.0 (line ++ front.now))) (2 ^ 64 - 1) }
 {
