@@ -78,8 +78,22 @@ values_short : (line : Line) → IsPrinted line → AllByRecursion IsShort (line
 unfolding line_values
 values_short line is = (
   pointer_short 1 (omega arith),
-  (date_short line.date, (date_short line.date_printed, (number_short (truth line.displayed), (number_short line.notify, (number_short (truth line.highlight),
-  (tags_short line.tags is.tags, (text_short line.prefix (let h = is.prefix in omega arith), (text_short line.message is.message, tt))))))))
+  (
+    date_short line.date,
+    (
+      date_short line.date_printed,
+      (
+        number_short (truth line.displayed),
+        (
+          number_short line.notify,
+          (
+            number_short (truth line.highlight),
+            (tags_short line.tags is.tags, (text_short line.prefix (let h = is.prefix in omega arith), (text_short line.message is.message, tt))),
+          ),
+        ),
+      ),
+    ),
+  ),
 )
 
 -- ---- items

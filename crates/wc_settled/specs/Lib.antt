@@ -2,3 +2,4 @@ pub mod Printed
 pub mod Settled
 pub mod Kept
 pub mod Mirrors
+pub mod Bytes
