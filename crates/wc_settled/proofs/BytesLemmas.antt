@@ -1,6 +1,6 @@
 -- The bytes that are sent to a link spell messages, in one way.
-use Rattle.std.proofs.Common.{◌≡◌, ℕ, ◌+◌, ◌≤◌, Bool, true, false, cond, List, [], ◌∷◌, ◌++◌, length, take, drop, Option, Some, None, refl, sym, ap, subst, ◌∙◌, arith, eqb, nat_lt}
-use Rattle.std.specs.List.{AllByRecursion, flat_map}
+use Rattle.std.proofs.Common.{◌≡◌, ℕ, Bool, true, false, cond, List, [], ◌∷◌, ◌++◌, length, take, drop, Option, Some, None, refl, sym, ap, subst, ◌∙◌, arith, eqb, nat_lt}
+use Rattle.std.specs.List.{flat_map}
 use Rattle.std.proofs.Math.Seq.{take-append_seam, drop-append_seam}
 use Rattle.std.proofs.lemmas.List.{length-append}
 use Rattle.std.proofs.lemmas.Bool.Decides.{nat_tests}
@@ -21,17 +21,17 @@ use Rattle.wc_session.specs.declared.client.Client.{Client}
 use Rattle.wc_session.specs.declared.outcome.Outcome.{Outcome}
 use Rattle.wc_session.specs.declared.outcome.Outcome.TheVariants as outcome
 use Rattle.wc_session.specs.Known.{new_client}
-use Rattle.wc_session.specs.Reply.{Answer, reply_of}
+use Rattle.wc_session.specs.Reply.{reply_of}
 use Rattle.wc_session.specs.Sending.{spelling}
 use Rattle.wc_core.specs.Events.{Event, Start, Tick, Arrives, Line as LineCame, Ends, Fails, ListenFails}
 use Rattle.wc_core.specs.State.{State, Act, Stepped, Closes, first_state}
-use Rattle.wc_core.specs.Step.{client_link, client_limit, stays, then_does, sends, told_to, prints, prints_text, next_line, last_handle, does, is_quit, runs, follows, answers, asked, line_came, lost, step, run}
+use Rattle.wc_core.specs.Step.{client_link, client_limit, stays, then_does, sends, told_to, prints, prints_text, next_line, last_handle, does, is_quit, runs, follows, asked, line_came, lost, step, run}
 use Rattle.wc_core.specs.Typed.{Typed, Nothing, Prints, Quits, typed_line, parted}
-use Rattle.wc_core.specs.Served.{messages_to, sent_to}
+use Rattle.wc_core.specs.Served.{messages_to}
 use Rattle.wc_core.proofs.MessageLemmas.{sent_to-messages, messages_to-append}
 use Rattle.wc_settled.specs.Printed.{IsPrinted}
 use Rattle.wc_settled.specs.Kept.{IsKept}
-use Rattle.wc_settled.specs.Bytes.{IsSpelt, Spell, SpellOnce, RunSpells, BytesShow}
+use Rattle.wc_settled.specs.Bytes.{IsSpelt, SpellOnce, RunSpells, BytesShow}
 use Rattle.wc_settled.proofs.ClientLemmas.{messages-sends}
 use Rattle.wc_settled.proofs.PrintLemmas.{next_printed}
 use Rattle.wc_settled.proofs.StepLemmas.{step_keeps}

@@ -1,10 +1,9 @@
 -- Lines that are printed reach the client that follows them.
-use Rattle.std.proofs.Common.{◌≡◌, ℕ, ◌+◌, ◌-◌, ◌^◌, ◌<◌, ◌≤◌, Bool, true, false, cond, List, [], ◌∷◌, ◌++◌, length, take, drop, codes, Option, Some, None, refl, sym, ap, subst, ◌∙◌, arith, append-nil, nat_lt, bytes_eq}
-use Rattle.std.specs.Prelude.{All}
+use Rattle.std.proofs.Common.{◌≡◌, ℕ, ◌-◌, ◌^◌, ◌<◌, ◌≤◌, Bool, true, false, cond, List, [], ◌∷◌, ◌++◌, length, take, codes, Option, Some, None, refl, sym, ap, subst, ◌∙◌, arith, nat_lt}
 use Rattle.std.specs.List.{flat_map}
 use Rattle.std.proofs.lemmas.Bool.{false≢true}
 use Rattle.std.proofs.lemmas.Bool.Decides.{nat_tests}
-use Rattle.std.proofs.lemmas.List.{length-append, length-drop, length-take}
+use Rattle.std.proofs.lemmas.List.{length-drop, length-take}
 use Rattle.std.proofs.lemmas.List.Elements.{All-push, All-drop}
 use Rattle.wc_text.specs.Cut.{cut_of}
 use Rattle.wc_text.proofs.CutLemmas.{cut_within}
@@ -29,7 +28,7 @@ use Rattle.wc_core.specs.Served.{messages_to}
 use Rattle.wc_core.proofs.MessageLemmas.{messages_to-append}
 use Rattle.wc_core.proofs.CoreLemmas.{line_text}
 use Rattle.wc_settled.specs.Printed.{IsPrinted}
-use Rattle.wc_settled.specs.Settled.{client_on, follows_all, is_following}
+use Rattle.wc_settled.specs.Settled.{client_on, is_following}
 use Rattle.wc_settled.specs.Kept.{IsKept}
 use Rattle.wc_settled.specs.Mirrors.{fold_all, mirror_after, HasCoreLines}
 use Rattle.wc_settled.proofs.SizeLemmas.{event_fits}

@@ -1,5 +1,5 @@
 -- A client that settled has the lines after all events.
-use Rattle.std.proofs.Common.{◌≡◌, ℕ, ◌≤◌, true, false, List, [], ◌∷◌, ◌++◌, Option, Some, None, refl, sym, ap, subst, ◌∙◌, arith}
+use Rattle.std.proofs.Common.{◌≡◌, ℕ, ◌≤◌, true, false, List, [], ◌∷◌, ◌++◌, Option, None, refl, sym, ap, subst, ◌∙◌, arith}
 use Rattle.std.specs.List.{AllByRecursion}
 use Rattle.std.proofs.lemmas.Bool.{false≢true}
 use Rattle.std.proofs.lemmas.List.Elements.{All-nil}
@@ -9,7 +9,7 @@ use Rattle.wc_core.specs.Events.{Event}
 use Rattle.wc_core.specs.State.{State, first_state}
 use Rattle.wc_core.specs.Step.{step, run}
 use Rattle.wc_settled.specs.Printed.{IsPrinted}
-use Rattle.wc_settled.specs.Settled.{Asked, asked_in, asked_on, client_on, follows_all, is_following, has_id, TakesDump, Settled}
+use Rattle.wc_settled.specs.Settled.{Asked, asked_in, asked_on, client_on, follows_all, is_following, has_id, TakesDump}
 use Rattle.wc_settled.specs.Kept.{IsKept}
 use Rattle.wc_settled.specs.Mirrors.{mirror_after, HasCoreLines, IsShortLine, IsFair, Mirrors, RunKeeps}
 use Rattle.wc_settled.proofs.PrintLemmas.{mirror-append}

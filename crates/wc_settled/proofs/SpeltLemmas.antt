@@ -1,7 +1,7 @@
 -- Each message that the core sends keeps the rules.
-use Rattle.std.proofs.Common.{◌≡◌, ℕ, ◌-◌, ◌^◌, ◌<◌, ◌≤◌, Bool, true, false, cond, not, ◌&&◌, ◌||◌, List, [], ◌∷◌, ◌++◌, map, codes, Option, Some, None, refl, sym, ap, subst, ◌∙◌, arith, eqb, leb, nat_lt}
+use Rattle.std.proofs.Common.{◌≡◌, ℕ, ◌-◌, ◌^◌, ◌<◌, Bool, true, false, cond, not, ◌&&◌, ◌||◌, List, [], ◌∷◌, map, codes, Option, Some, None, refl, sym, subst, arith, leb}
 use Rattle.std.specs.Prelude.{ℤ, pos, All}
-use Rattle.std.specs.List.{AllByRecursion, flat_map}
+use Rattle.std.specs.List.{AllByRecursion}
 use Rattle.std.specs.Option.{is_none}
 use Rattle.std.specs.Int.{w8, w32, w64}
 use Rattle.std.specs.Int.RustNames.{FitsSigned}
@@ -24,13 +24,13 @@ use Rattle.wc_objects.specs.declared.object.Hda.{Hda, roll-Hda}
 use Rattle.wc_objects.specs.declared.object.HdaItem.{HdaItem}
 use Rattle.wc_objects.specs.declared.object.WireMessage.{WireMessage}
 use Rattle.wc_objects.specs.Forms.{well_formed}
-use Rattle.wc_objects.specs.Within.{SimpleWithin, PairWithin, ValueWithin, ItemWithin, HdaWithin, VariableWithin, ObjectWithin, IsWithin}
+use Rattle.wc_objects.specs.Within.{SimpleWithin, PairWithin, ValueWithin, ItemWithin, HdaWithin, ObjectWithin, IsWithin}
 use Rattle.wc_relaycmd.specs.declared.algorithm.Algorithm.{Algorithm}
 use Rattle.wc_relaycmd.specs.declared.request.Command.{Command}
 use Rattle.wc_relaycmd.specs.declared.request.Command.TheVariants as ask
 use Rattle.wc_relaycmd.specs.declared.request.Request.{Request}
 use Rattle.wc_relaycmd.specs.Utf8.{CommandUtf8, HasUtf8}
-use Rattle.wc_told.specs.LineObjects.{truth, moment, texts, line_values, on_path, added_item, dumped_item, dump_of, line_dump, line_added}
+use Rattle.wc_told.specs.LineObjects.{truth, moment, texts, line_values, on_path, added_item, dumped_item, line_dump, line_added}
 use Rattle.wc_told.proofs.Formed.{added_formed, dump_formed}
 use Rattle.wc_session.specs.declared.client.Client.{Client}
 use Rattle.wc_session.specs.declared.outcome.Outcome.TheVariants as outcome
@@ -38,7 +38,7 @@ use Rattle.wc_session.specs.Handshakes.{choice_in, asks_escapes, entry, handshak
 use Rattle.wc_session.specs.Logins.{pairs_let_in}
 use Rattle.wc_session.specs.Names.{names_core}
 use Rattle.wc_session.specs.Reply.{Answer, silent, leaves, replies, core_buffer, core_lines, test_texts, test_numbers, test_objects, hdata_objects, is_line_dump, info_objects, infolist_objects, pong_objects, shaken, handshake_reply, handshake_answer, init_answer, input_answer, is_open, served, reply_of, line_told}
-use Rattle.wc_session.specs.Sending.{message, spelling, fits, fitting, null_hdata, reply}
+use Rattle.wc_session.specs.Sending.{message, fits, fitting, null_hdata, reply}
 use Rattle.wc_session.specs.Sync.{follows_core}
 use Rattle.wc_session.proofs.Formed.{null_formed, info_formed, infolist_formed, pong_formed, test_formed, handshake_formed}
 use Rattle.wc_settled.specs.Printed.{IsPrinted}

@@ -1,5 +1,5 @@
 -- What a client makes of all bytes that it was sent.
-use Rattle.std.specs.Prelude.{◌≡◌, ℕ, ◌≤◌, List, ◌++◌, None}
+use Rattle.std.specs.Prelude.{◌≡◌, ℕ, ◌≤◌, List, None}
 use Rattle.std.specs.List.{AllByRecursion, flat_map}
 use Rattle.wc_lines.specs.declared.line.Line.{Line}
 use Rattle.wc_objects.specs.declared.object.WireMessage.{WireMessage}
