@@ -8,3 +8,4 @@ pub mod EventLemmas
 pub mod RunLemmas
 pub mod SpeltLemmas
 pub mod BytesLemmas
+pub mod ExampleLemmas

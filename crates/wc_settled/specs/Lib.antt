@@ -3,3 +3,4 @@ pub mod Settled
 pub mod Kept
 pub mod Mirrors
 pub mod Bytes
+pub mod Example

@@ -1,6 +1,7 @@
 //! What each client that settled holds.
 
 ghost use Rattle.wc_settled.specs.Bytes.{BytesShow, RunSpells, SpellOnce};
+ghost use Rattle.wc_settled.specs.Example.{ThreeLinesSettle};
 ghost use Rattle.wc_settled.specs.Mirrors.{Mirrors, StepMirrors, DumpMirrors, StepKeeps, RunKeeps};
 
 /// A client that settled has exactly the lines of the core buffer after any events, by the messages that it was sent.
@@ -26,4 +27,9 @@ pub fn event_keeps_lines()
 pub fn core_keeps()
     ensures event { StepKeeps }
     ensures run { RunKeeps }
+{}
+
+/// A client that logs in, asks for all events and takes the dump has settled.
+pub fn three_lines_settle()
+    ensures { ThreeLinesSettle }
 {}
