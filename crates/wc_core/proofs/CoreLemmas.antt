@@ -1,5 +1,5 @@
 -- What each of the core's calls does.
-use Rattle.std.proofs.Common.{◌≡◌, ◌≢◌, ℕ, ◌+◌, ◌-◌, ◌^◌, ◌<◌, ◌≤◌, Bool, true, false, cond, eqb, List, [], ◌∷◌, ◌++◌, length, Option, Some, None, IsSome, refl, ap, sym, subst, ◌∙◌, arith, append-nil, nat_lt, set, get_or, min, filter, Result, Ok, Err, IfSome}
+use Rattle.std.proofs.Common.{◌≡◌, ℕ, ◌+◌, ◌-◌, ◌^◌, ◌<◌, ◌≤◌, true, false, List, [], ◌∷◌, ◌++◌, length, inl, inr, Option, Some, None, refl, ap, sym, subst, ◌∙◌, arith, append-nil, nat_lt, set, get_or, min, filter, IfSome}
 use Rattle.std.specs.Prelude.{map}
 use Rattle.std.proofs.lemmas.Bool.{false≢true}
 use Rattle.std.proofs.lemmas.Bool.Decides.{nat_tests}
@@ -26,18 +26,23 @@ use Rattle.wc_session.specs.Served.{OnServed, OnNoMemory, Answers}
 use Rattle.wc_core.specs.declared.seat.Seat.{Seat}
 use Rattle.wc_core.specs.Standing.{Standing}
 use Rattle.wc_core.specs.Typed.{Typed, Quits}
-use Rattle.wc_core.specs.State.{State, Stepped}
-use Rattle.wc_core.specs.Step.{client_link, client_limit, stays, sends, prints, prints_text, next_line, line_at, does, last_handle, leaves, lost, arrives, follows, answers, asked, line_came}
-use Rattle.wc_core.specs.Served.{seat_link, links_of, is_open, is_open_at, clients_of, state_of, unsent_in, unsent_on, leaving_in, leaving_on, Absent, Distinct, Did, Keeps, MayDo, Came, MayCome, Starves, told_seat, SeatsKept, OutcomeUtf8}
-use Rattle.wc_core.proofs.DidLemmas.{or_else-none, or-true, Did-stays, Did-then, Keeps-refl, Keeps-trans, Keeps-seats, MayDo-exact, MayDo-stays, MayDo-starved, MayDo-then}
-use Rattle.wc_core.proofs.SeatLemmas.{open-length, clients-push, links-push, unsent-push, leaving-push, kept-push, client-open, client-missing, client-leaving}
-use Rattle.wc_core.proofs.ServeLemmas.{open_none, Did-prints, Keeps-told, Keeps-put, Did-reply, Did-leave}
-use Rattle.wc_core.proofs.ReplyLemmas.{Fits, reply_fits}
+use Rattle.wc_core.specs.State.{Stepped}
+use Rattle.wc_core.specs.Step.{client_link, client_limit, sends, prints, prints_text, next_line, line_at, does, last_handle, leaves, lost, arrives, follows, answers, asked, line_came}
+use Rattle.wc_core.specs.Served.{seat_link, is_open, is_open_at, clients_of, state_of, unsent_on, leaving_on, Distinct, StaysOrStarves, MayDo, MayCome, Starves, told_seat, OutcomeUtf8}
+use Rattle.wc_core.proofs.CloseLemmas.{reply-later, lost-starves}
+use Rattle.wc_core.proofs.DidLemmas.{or_else-none, or-true, Did-stays, Keeps-refl, Keeps-trans, Keeps-seats, MayDo-exact, MayDo-stays, MayDo-starved, MayDo-then}
+use Rattle.wc_core.proofs.SeatLemmas.{SeatsKept, open-length, clients-push, links-push, unsent-push, leaving-push, kept-push, SeatsKept-causes, client-open, client-missing, client-leaving}
+use Rattle.wc_core.proofs.ServeLemmas.{open_none, Did-prints, Keeps-told, Keeps-put, Did-reply, Did-leave, leaving-put}
+use Rattle.wc_core.proofs.ReplyLemmas.{reply_fits}
 
 -- ---- want of memory
 
 pub starved_only : (old new : Standing) (s : Stepped) → new ≡ record old { starved = min (old.starved + 1) (2 ^ 64 - 1) } → old.starved ≤ new.starved → MayDo old new s
-starved_only old new s e rises = MayDo-starved old new s (Keeps-seats old new (ap (λ (c : Standing). c.seats) e) rises) (ap (λ (c : Standing). c.starved) e)
+starved_only old new s e rises = MayDo-starved old new s (record {
+  keeps = Keeps-seats old new (ap (λ (c : Standing). c.seats) e) rises;
+  causes = λ distinct j. inl (ap (λ (c : Standing). leaving_on j c.seats) e);
+  count = ap (λ (c : Standing). c.starved) e;
+})
 
 -- ---- lines
 
@@ -50,8 +55,14 @@ show-told old line seats e kept =
 
 pub show-refused : (old mid new : Standing) (line : Line) → SeatsKept old.seats mid.seats → mid.starved ≡ old.starved → new ≡ record mid { starved = min (mid.starved + 1) (2 ^ 64 - 1) } → mid.starved ≤ new.starved → MayDo old new (prints (state_of old) line)
 show-refused old mid new line kept same e rises =
-    MayDo-starved old new (prints (state_of old) line) (Keeps-trans old mid new (Keeps-told old mid kept (omega (arith, same))) (Keeps-seats mid new (ap (λ (c : Standing). c.seats) e) rises))
-    (ap (λ (c : Standing). c.starved) e ∙ ap (λ n. min (n + 1) (2 ^ 64 - 1)) same)
+    let P : List Seat → Type 0 = λ seats. (j : ℕ) → StaysOrStarves (leaving_on j old.seats) (leaving_on j seats) in
+    let back : mid.seats ≡ new.seats = sym (ap (λ (c : Standing). c.seats) e) in
+    let causes = subst P back (λ j. SeatsKept-causes j old.seats mid.seats kept) in
+    MayDo-starved old new (prints (state_of old) line) (record {
+      keeps = Keeps-trans old mid new (Keeps-told old mid kept (omega (arith, same))) (Keeps-seats mid new (ap (λ (c : Standing). c.seats) e) rises);
+      causes = λ distinct j. causes j;
+      count = ap (λ (c : Standing). c.starved) e ∙ ap (λ n. min (n + 1) (2 ^ 64 - 1)) same;
+    })
 
 pub print-spent : (old : Standing) (prefix message : List ℕ) → 2 ^ 62 ≤ old.next → MayDo old old (prints_text (state_of old) prefix message)
 print-spent old prefix message spent =
@@ -101,8 +112,12 @@ leave-gone link seats place s why p e =
     let y : Seat = record { session = s.session; leaving = Some why } in
     ap (λ ss. is_open_at (at_key seat_link link.0 ss)) (p.put y) ∙ ap is_open_at (at_key-put_same seat_link link.0 s y seats (at_key-key seat_link link.0 seats s at) at)
 
-pub starve-at : (old mid new : Standing) (s : Stepped) → MayDo old mid s → mid.starved ≡ old.starved → new ≡ record mid { starved = min (mid.starved + 1) (2 ^ 64 - 1) } → mid.starved ≤ new.starved → Starves old new
-starve-at old mid new s done same e rises = record {
+pub starve-at : (old mid new : Standing) (k : ℕ) → MayDo old mid (lost (state_of old) k NoMemory (at_key client_link k (clients_of old.seats))) → mid.starved ≡ old.starved → new ≡ record mid { starved = min (mid.starved + 1) (2 ^ 64 - 1) } → mid.starved ≤ new.starved → Starves old new
+starve-at old mid new k done same e rises = record {
+  causes = λ distinct j.
+      let P : List Seat → Type 0 = λ seats. StaysOrStarves (leaving_on j old.seats) (leaving_on j seats) in
+      subst P (sym (ap (λ (c : Standing). c.seats) e))
+      (lost-starves j k (state_of old) (at_key client_link k (clients_of old.seats)) (leaving_on j old.seats) (leaving_on j mid.seats) (done.causes distinct j));
   keeps = Keeps-trans old mid new done.keeps (Keeps-seats mid new (ap (λ (c : Standing). c.seats) e) rises);
   count = ap (λ (c : Standing). c.starved) e ∙ ap (λ n. min (n + 1) (2 ^ 64 - 1)) same;
 }
@@ -176,7 +191,7 @@ ask-answer old new k s session' answer result at sits same answered done =
     (Keeps-put old k s (record { session = session'; leaving = None }) at sits key)
     (λ distinct. Did-reply old k s session' answer.messages at sits key answered.sends.bytes)) in
     let Q : Outcome → Type 0 = λ o. MayDo mid new (follows (state_of mid) k o) in
-    rw here (MayDo-then old mid new first (λ next. follows next k answer.outcome) reply (subst Q answered.outcome done))
+    rw here (MayDo-then old mid new first (λ next. follows next k answer.outcome) (reply-later k first.state answer.messages answer.outcome) reply (subst Q answered.outcome done))
 
 -- a request of an open client, whose answer was followed
 pub ask-served : (old new : Standing) (k : ℕ) (s : Seat) (session' : Known) (request : Request) (result : Outcome) → at_key seat_link k old.seats ≡ Some s → is_open s ≡ true → HasUtf8 request
@@ -190,7 +205,14 @@ ask-served old new k s session' request (outcome.Leave why) at sits utf8 answere
 ask-served old new k s session' request outcome.NoMemory at sits utf8 answered same done starved =
     let key : client_link session'.client ≡ k = ap (λ (known : Known). client_link known.client) same ∙ at_key-key seat_link k old.seats s at in
     let mid = replied old k session' in
-    MayDo-starved old new (asked (state_of old) s.session.client (Some request)) (Keeps-trans old mid new (Keeps-put old k s (record { session = session'; leaving = None }) at sits key) starved.keeps) starved.count
+    let keeps = Keeps-put old k s (record { session = session'; leaving = None }) at sits key in
+    MayDo-starved old new (asked (state_of old) s.session.client (Some request)) (record {
+      keeps = Keeps-trans old mid new keeps starved.keeps;
+      causes = λ distinct j.
+          let P : Option Cause → Type 0 = λ before. StaysOrStarves before (leaving_on j new.seats) in
+          subst P (leaving-put old k s session' j at sits key) (starved.causes (subst Distinct (sym keeps.links) distinct) j);
+      count = starved.count;
+    })
 
 -- the text that a request types is text
 pub outcome-text : (lines : List Line) (password : List ℕ) (client : Client) (request : Request) (old new : Known) (result : Outcome) → HasUtf8 request
@@ -244,16 +266,18 @@ came-surplus old link nonce full =
       rises = omega arith;
       seats = refl;
       kept = λ j some. refl;
+      cause = rw test (inl refl);
       comes = λ stay below. rw test (record { state = refl; bytes = λ j. refl; leaving = λ j. refl; quits = refl; acts = refl });
     }
 
-pub came-starved : (old new : Standing) (link : LinkId) (why : Cause) (nonce : List ℕ) → new ≡ record old { starved = min (old.starved + 1) (2 ^ 64 - 1) } → old.starved ≤ new.starved → MayCome link.0 old new (Some why) (arrives (state_of old) link.0 nonce)
-came-starved old new link why nonce e rises =
+pub came-starved : (old new : Standing) (link : LinkId) (nonce : List ℕ) → new ≡ record old { starved = min (old.starved + 1) (2 ^ 64 - 1) } → old.starved ≤ new.starved → MayCome link.0 old new (Some NoMemory) (arrives (state_of old) link.0 nonce)
+came-starved old new link nonce e rises =
     let count : new.starved ≡ min (old.starved + 1) (2 ^ 64 - 1) = ap (λ (c : Standing). c.starved) e in
     record {
       rises = rises;
       seats = ap (λ (c : Standing). c.seats) e;
       kept = λ j some. ap (λ (c : Standing). at_key seat_link j c.seats) e;
+      cause = inr refl;
       comes = λ same below. absurd (omega arith);
     }
 
@@ -267,6 +291,7 @@ came old link nonce few =
       rises = omega arith;
       seats = links-push old.seats seat;
       kept = λ j some. kept-push j old.seats seat some;
+      cause = tt;
       comes = λ stay below. rw test (record {
         state = rw (clients-push old.seats (new_session link nonce)) refl;
         bytes = λ j. unsent-push j old.seats seat refl;

@@ -1,13 +1,14 @@
 -- How what is done follows one another.
-use Rattle.std.proofs.Common.{◌≡◌, ℕ, ◌+◌, ◌-◌, ◌^◌, ◌<◌, ◌≤◌, Bool, true, false, List, [], ◌∷◌, ◌++◌, Option, Some, None, IsSome, refl, ap, sym, subst, ◌∙◌, ◌||◌, arith, append-nil, append_assoc, min}
+use Rattle.std.proofs.Common.{◌≡◌, ℕ, ◌≤◌, Bool, true, false, List, [], ◌∷◌, ◌++◌, inl, inr, Option, Some, None, IsSome, refl, ap, sym, subst, ◌∙◌, ◌||◌, arith, append-nil, append_assoc}
 use Rattle.std.specs.Prelude.{map}
 use Rattle.wc_text.specs.declared.names.Cause.{Cause}
+use Rattle.wc_text.specs.declared.names.Cause.TheVariants.{NoMemory}
 use Rattle.wc_outside.specs.Keyed.{at_key}
 use Rattle.wc_core.specs.declared.seat.Seat.{Seat}
 use Rattle.wc_core.specs.Standing.{Standing}
 use Rattle.wc_core.specs.State.{State, Act, Stepped}
 use Rattle.wc_core.specs.Step.{stays, then_does}
-use Rattle.wc_core.specs.Served.{seat_link, links_of, state_of, unsent_on, leaving_in, leaving_on, sent_by, sent_to, or_else, close_by, close_of, is_end, has_end, Distinct, Did, Keeps, MayDo, Starves}
+use Rattle.wc_core.specs.Served.{seat_link, links_of, state_of, unsent_on, leaving_in, leaving_on, sent_by, sent_to, or_else, close_by, close_of, is_end, has_end, Distinct, Did, StaysOrStarves, LeavesBy, Keeps, MayDo, Starves}
 
 pub sent_to-append : (j : ℕ) (a b : List Act) → sent_to j (a ++ b) ≡ sent_to j a ++ sent_to j b
 sent_to-append j [] b = refl
@@ -76,17 +77,52 @@ pub Keeps-seats : (a b : Standing) → b.seats ≡ a.seats → a.starved ≤ b.s
 Keeps-seats a b e rises = record { rises = rises; links = ap (map seat_link) e; kept = λ j s. ap (at_key seat_link j) e }
 
 pub MayDo-exact : (a b : Standing) (s : Stepped) → Keeps a b → (Distinct (links_of a) → Did a b s) → MayDo a b s
-MayDo-exact a b s keeps did = record { keeps = keeps; does = λ same below distinct. did distinct }
+MayDo-exact a b s keeps did = record { keeps = keeps; causes = λ distinct j. inl ((did distinct).leaving j); does = λ same below distinct. did distinct }
 
 pub MayDo-stays : (a : Standing) → MayDo a a (stays (state_of a))
 MayDo-stays a = MayDo-exact a a (stays (state_of a)) (Keeps-refl a) (λ distinct. Did-stays a)
 
-pub MayDo-starved : (a b : Standing) (s : Stepped) → Keeps a b → b.starved ≡ min (a.starved + 1) (2 ^ 64 - 1) → MayDo a b s
-MayDo-starved a b s keeps e = record { keeps = keeps; does = λ same below distinct. absurd (omega arith) }
+pub MayDo-starved : (a b : Standing) (s : Stepped) → Starves a b → MayDo a b s
+MayDo-starved a b s f = record { keeps = f.keeps; causes = λ distinct j. inr (f.causes distinct j); does = λ same below distinct. (let e = f.count in absurd (omega arith)) }
 
-pub MayDo-then : (a b c : Standing) (first : Stepped) (next : State → Stepped) → MayDo a b first → MayDo b c (next (state_of b)) → MayDo a c (then_does first next)
-MayDo-then a b c first next f g = record {
+-- a client that is leaving stays so for the same cause
+leaving-stays : (a b : Standing) (j : ℕ) (why : Cause) → Keeps a b → leaving_on j a.seats ≡ Some why → leaving_on j b.seats ≡ Some why
+leaving-stays a b j why keeps e =
+    let P : Option Cause → Type 0 = λ o. IsSome o in
+    ap leaving_in (keeps.kept j (subst P (sym e) (some_is why))) ∙ e
+  where
+    some_is : (why : Cause) → IsSome (Some why)
+    some_is why = refl
+
+-- whom the second of two steps closes does not hang on what the first one did
+pub record ClosesLater (first : Stepped) (next : State → Stepped) : Type 0 where
+  pub first_none : (j : ℕ) → close_of j first.acts ≡ None
+  pub same : (j : ℕ) (s t : State) → close_of j (next s).acts ≡ close_of j (next t).acts
+
+causes-then : (a b c : Standing) (first : Stepped) (next : State → Stepped) (j : ℕ) → ClosesLater first next → Keeps b c
+    → LeavesBy (leaving_on j a.seats) (close_of j first.acts) (leaving_on j b.seats) → LeavesBy (leaving_on j b.seats) (close_of j (next (state_of b)).acts) (leaving_on j c.seats)
+    → LeavesBy (leaving_on j a.seats) (close_of j (then_does first next).acts) (leaving_on j c.seats)
+causes-then a b c first next j closes keeps f g = by (stays_by f) g where
+  whole : close_of j (next (state_of b)).acts ≡ close_of j (then_does first next).acts
+  whole =
+      closes.same j (state_of b) first.state ∙ ap (λ o. or_else o (close_of j (next first.state).acts)) (sym (closes.first_none j))
+      ∙ sym (close_of-append j first.acts (next first.state).acts)
+
+  stays_by : LeavesBy (leaving_on j a.seats) (close_of j first.acts) (leaving_on j b.seats) → StaysOrStarves (leaving_on j a.seats) (leaving_on j b.seats)
+  stays_by (inl e) = inl (e ∙ ap (or_else (leaving_on j a.seats)) (closes.first_none j) ∙ or_else-none (leaving_on j a.seats))
+  stays_by (inr e) = e
+
+  by : StaysOrStarves (leaving_on j a.seats) (leaving_on j b.seats) → LeavesBy (leaving_on j b.seats) (close_of j (next (state_of b)).acts) (leaving_on j c.seats)
+      → LeavesBy (leaving_on j a.seats) (close_of j (then_does first next).acts) (leaving_on j c.seats)
+  by (inl e) (inl g) = inl (g ∙ ap (λ o. or_else o (close_of j (next (state_of b)).acts)) e ∙ ap (or_else (leaving_on j a.seats)) whole)
+  by (inl e) (inr (inl g)) = inr (inl (g ∙ e))
+  by (inl e) (inr (inr g)) = inr (inr g)
+  by (inr e) g = inr (inr (leaving-stays b c j NoMemory keeps e))
+
+pub MayDo-then : (a b c : Standing) (first : Stepped) (next : State → Stepped) → ClosesLater first next → MayDo a b first → MayDo b c (next (state_of b)) → MayDo a c (then_does first next)
+MayDo-then a b c first next closes f g = record {
   keeps = Keeps-trans a b c f.keeps g.keeps;
+  causes = λ distinct j. causes-then a b c first next j closes g.keeps (f.causes distinct j) (g.causes (subst Distinct (sym f.keeps.links) distinct) j);
   does = λ same below distinct.
       let p = f.keeps.rises in
       let q = g.keeps.rises in
@@ -94,6 +130,3 @@ MayDo-then a b c first next f g = record {
       let rest : c.starved ≡ b.starved = omega arith in
       Did-then a b c first next (f.does half below distinct) (g.does rest (omega arith) (subst Distinct (sym f.keeps.links) distinct));
 }
-
-pub MayDo-refused : (a b : Standing) (s : Stepped) → Starves a b → MayDo a b s
-MayDo-refused a b s f = MayDo-starved a b s f.keeps f.count

@@ -1,6 +1,8 @@
 pub mod TypedLemmas
 pub mod DidLemmas
 pub mod SeatLemmas
+pub mod EventLemmas
+pub mod CloseLemmas
 pub mod ServeLemmas
 pub mod ReplyLemmas
 pub mod CoreLemmas

@@ -1,5 +1,5 @@
 -- What the core's calls do, against the steps.
-use Rattle.std.proofs.Common.{◌≡◌, ◌≢◌, ℕ, ◌+◌, ◌-◌, ◌<◌, ◌≤◌, Bool, true, false, cond, eqb, List, [], ◌∷◌, ◌++◌, length, Option, Some, None, IsSome, refl, ap, sym, subst, ◌∙◌, ◌||◌, arith, append-nil, append_assoc, nat_lt}
+use Rattle.std.proofs.Common.{◌≡◌, ◌≢◌, ℕ, ◌+◌, ◌≤◌, Bool, true, false, cond, eqb, List, [], ◌∷◌, ◌++◌, Option, Some, None, IsSome, refl, ap, sym, subst, ◌∙◌, ◌||◌, arith, append-nil}
 use Rattle.std.specs.Prelude.{map}
 use Rattle.std.specs.List.{flat_map}
 use Rattle.std.specs.Option.{is_none, option_copied}
@@ -9,25 +9,22 @@ use Rattle.std.specs.Borrow.{Bor}
 use Rattle.std.proofs.lemmas.Bool.{false≢true}
 use Rattle.std.proofs.lemmas.Bool.Decides.{nat_tests}
 use Rattle.wc_text.specs.declared.names.Cause.{Cause}
-use Rattle.wc_text.specs.declared.names.Cause.TheVariants.{Surplus}
-use Rattle.wc_outside.specs.Keyed.{at_key, put_at, without}
-use Rattle.wc_outside.proofs.KeyedLemmas.{at_key-key, at_key-put_other, at_key-put_same, at_key-push_other}
+use Rattle.wc_outside.specs.Keyed.{at_key, put_at}
+use Rattle.wc_outside.proofs.KeyedLemmas.{at_key-key, at_key-put_other, at_key-put_same}
 use Rattle.wc_lines.specs.declared.line.Line.{Line}
-use Rattle.wc_lines.specs.Held.{Held}
 use Rattle.wc_lines.specs.Ring.{with_line}
 use Rattle.wc_objects.specs.declared.object.WireMessage.{WireMessage}
-use Rattle.wc_session.specs.declared.client.Client.{Client}
-use Rattle.wc_session.specs.Known.{Known, new_session}
+use Rattle.wc_session.specs.Known.{Known}
 use Rattle.wc_session.specs.Sending.{spelling}
 use Rattle.wc_core.specs.declared.seat.Seat.{Seat}
 use Rattle.wc_core.specs.Standing.{Standing}
-use Rattle.wc_core.specs.Typed.{Typed, typed_line, parted}
+use Rattle.wc_core.specs.Typed.{typed_line}
 use Rattle.wc_core.specs.TypedSeen.{lines_left}
-use Rattle.wc_core.specs.State.{State, Act, Stepped, Sends, Closes}
-use Rattle.wc_core.specs.Step.{client_link, client_limit, stays, then_does, sends, told_to, prints, does, is_quit, runs, leaves, lost, arrives}
-use Rattle.wc_core.specs.Served.{seat_link, links_of, is_open, clients_of, state_of, unsent_in, unsent_on, leaving_in, leaving_on, sent_to, or_else, close_of, has_end, Absent, Distinct, Did, Keeps, MayDo, Came, MayCome, told_seat, SeatsKept}
-use Rattle.wc_core.proofs.DidLemmas.{or_else-none, or-false, Keeps-refl, Keeps-trans, MayDo-then, MayDo-exact}
-use Rattle.wc_core.proofs.SeatLemmas.{sent-sends, close-sends, end-sends, close-told, end-told, told-links, told-clients, told-leaving, told-bytes, SeatsKept-links, SeatsKept-leaving, absent-client, client-open, client-missing, client-leaving, clients-put, clients-leave}
+use Rattle.wc_core.specs.Step.{client_link, sends, prints, does, is_quit, runs, leaves}
+use Rattle.wc_core.specs.Served.{seat_link, links_of, is_open, clients_of, state_of, unsent_in, unsent_on, leaving_in, leaving_on, or_else, Distinct, Did, Keeps, MayDo, told_seat}
+use Rattle.wc_core.proofs.DidLemmas.{or_else-none, or-false, MayDo-then}
+use Rattle.wc_core.proofs.CloseLemmas.{typed-later}
+use Rattle.wc_core.proofs.SeatLemmas.{SeatsKept, sent-sends, close-sends, end-sends, close-told, end-told, told-clients, told-leaving, told-bytes, SeatsKept-links, SeatsKept-leaving, clients-put, clients-leave}
 
 -- ---- a line that is printed
 
@@ -91,6 +88,17 @@ put_here A f k j s y seats at key e =
 put_there : (A : Type 0) (f : Option Seat → A) (k j : ℕ) (y : Seat) (seats : List Seat) → seat_link y ≡ k → eqb k j ≡ false → f (at_key seat_link j (put_at seat_link k y seats)) ≡ f (at_key seat_link j seats)
 put_there A f k j y seats key e = let ne : j ≢ k = λ q. grind (arith, nat_tests) in ap f (at_key-put_other seat_link k j y seats key ne)
 
+-- another session on the seat of an open client changes no cause
+pub leaving-put : (old : Standing) (k : ℕ) (s : Seat) (session' : Known) (j : ℕ) → at_key seat_link k old.seats ≡ Some s → is_open s ≡ true → client_link session'.client ≡ k
+    → leaving_on j (put_at seat_link k (record { session = session'; leaving = None }) old.seats) ≡ leaving_on j old.seats
+leaving-put old k s session' j at sits key = by (eqb k j) refl where
+  y : Seat
+  y = record { session = session'; leaving = None }
+
+  by : (t : Bool) → eqb k j ≡ t → leaving_on j (put_at seat_link k y old.seats) ≡ leaving_on j old.seats
+  by true q = let seen = put_here (Option Cause) leaving_in k j s y old.seats at key q in seen.0 ∙ sym (open_none s sits) ∙ sym seen.1
+  by false q = put_there (Option Cause) leaving_in k j y old.seats key q
+
 -- a reply stands behind the unsent bytes
 pub Did-reply : (old : Standing) (k : ℕ) (s : Seat) (session' : Known) (messages : List WireMessage) → at_key seat_link k old.seats ≡ Some s → is_open s ≡ true → client_link session'.client ≡ k
     → session'.unsent ≡ s.session.unsent ++ flat_map (λ m. spelling m) messages
@@ -98,7 +106,7 @@ pub Did-reply : (old : Standing) (k : ℕ) (s : Seat) (session' : Known) (messag
 Did-reply old k s session' messages at sits key e = record {
   state = rw (clients-put k old.seats s session' at sits) refl;
   bytes = λ j. bytes_by j (eqb k j) refl ∙ ap (λ t. unsent_on j old.seats ++ t) (sym (sent-sends j k messages));
-  leaving = λ j. leaving_by j (eqb k j) refl ∙ sym (ap (or_else (leaving_on j old.seats)) (close-sends j k messages) ∙ or_else-none (leaving_on j old.seats));
+  leaving = λ j. leaving-put old k s session' j at sits key ∙ sym (ap (or_else (leaving_on j old.seats)) (close-sends j k messages) ∙ or_else-none (leaving_on j old.seats));
   quits = sym (ap (λ t. old.quits || t) (end-sends k messages) ∙ or-false old.quits);
 } where
   y : Seat
@@ -107,10 +115,6 @@ Did-reply old k s session' messages at sits key e = record {
   bytes_by : (j : ℕ) (t : Bool) → eqb k j ≡ t → unsent_on j (put_at seat_link k y old.seats) ≡ unsent_on j old.seats ++ cond t (flat_map (λ m. spelling m) messages) []
   bytes_by j true q = let seen = put_here (List ℕ) unsent_in k j s y old.seats at key q in seen.0 ∙ e ∙ ap (λ t. t ++ flat_map (λ m. spelling m) messages) (sym seen.1)
   bytes_by j false q = put_there (List ℕ) unsent_in k j y old.seats key q ∙ sym (append-nil (unsent_on j old.seats))
-
-  leaving_by : (j : ℕ) (t : Bool) → eqb k j ≡ t → leaving_on j (put_at seat_link k y old.seats) ≡ leaving_on j old.seats
-  leaving_by j true q = let seen = put_here (Option Cause) leaving_in k j s y old.seats at key q in seen.0 ∙ sym (open_none s sits) ∙ sym seen.1
-  leaving_by j false q = put_there (Option Cause) leaving_in k j y old.seats key q
 
 -- a client is marked as leaving
 pub Did-leave : (old : Standing) (k : ℕ) (s : Seat) (why : Cause) → Distinct (links_of old) → at_key seat_link k old.seats ≡ Some s → is_open s ≡ true
@@ -140,7 +144,7 @@ Did-leave old k s why distinct at sits = record {
 -- one line, and the lines behind it
 pub MayDo-runs : (a b c : Standing) (line : List ℕ) (lines : List (List ℕ)) → is_quit (typed_line line) ≡ false → MayDo a b (does (state_of a) (typed_line line)) → MayDo b c (runs (state_of b) lines)
     → MayDo a c (runs (state_of a) (line ∷ lines))
-MayDo-runs a b c line lines goes f g = rw goes (MayDo-then a b c (does (state_of a) (typed_line line)) (λ next. runs next lines) f g)
+MayDo-runs a b c line lines goes f g = rw goes (MayDo-then a b c (does (state_of a) (typed_line line)) (λ next. runs next lines) (typed-later (state_of a) (typed_line line) lines) f g)
 
 pub MayDo-quit : (a b : Standing) (line : List ℕ) (lines : List (List ℕ)) → is_quit (typed_line line) ≡ true → MayDo a b (does (state_of a) (typed_line line)) → MayDo a b (runs (state_of a) (line ∷ lines))
 MayDo-quit a b line lines goes f = rw goes f

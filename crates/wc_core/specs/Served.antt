@@ -1,7 +1,8 @@
 -- How the core follows what it is to do.
-use Rattle.std.specs.Prelude.{◌≡◌, ℕ, ◌+◌, ◌-◌, ◌^◌, ◌<◌, ◌≤◌, Bool, true, false, ◌||◌, is_none, IsTrue, is_some, if◌then◌else◌, ◌==◌, List, [], ◌∷◌, ◌++◌, map, min, drop, Option, Some, None, IsSome}
+use Rattle.std.specs.Prelude.{◌≡◌, ℕ, ◌+◌, ◌-◌, ◌^◌, ◌<◌, ◌≤◌, Bool, true, false, ◌||◌, ◌&&◌, ◌⊎◌, is_none, IfSome, if◌then◌else◌, ◌==◌, List, [], ◌∷◌, ◌++◌, map, min, drop, Option, Some, None, IsSome}
 use Rattle.wc_text.specs.declared.names.LinkId.{LinkId}
 use Rattle.wc_text.specs.declared.names.Cause.{Cause}
+use Rattle.wc_text.specs.declared.names.Cause.TheVariants.{NoMemory}
 use Rattle.wc_outside.specs.Keyed.{at_key, put_at}
 use Rattle.wc_lines.specs.declared.line.Line.{Line}
 use Rattle.wc_objects.specs.declared.object.WireMessage.{WireMessage}
@@ -9,8 +10,10 @@ use Rattle.std.specs.Str.{IsUtf8}
 use Rattle.wc_session.specs.declared.outcome.Outcome.{Outcome}
 use Rattle.wc_session.specs.declared.outcome.Outcome.TheVariants as outcome
 use Rattle.wc_session.specs.declared.client.Client.{Client}
+use Rattle.wc_session.specs.Event.{with_event}
 use Rattle.wc_session.specs.Reply.{line_told}
 use Rattle.wc_session.specs.Sending.{spelling}
+use Rattle.wc_session.specs.Sync.{follows_core}
 use Rattle.std.specs.List.{flat_map}
 use Rattle.wc_core.specs.declared.seat.Seat.{Seat}
 use Rattle.wc_core.specs.declared.seat.Departure.{Departure}
@@ -138,20 +141,31 @@ pub record Did (old new : Standing) (stepped : Stepped) : Type 0 where
   pub leaving : (link : ℕ) → leaving_on link new.seats ≡ or_else (leaving_on link old.seats) (close_of link stepped.acts)
   pub quits : new.quits ≡ (old.quits || has_end stepped.acts)
 
+-- why a client is leaving: as before, or for want of memory
+abbrev pub StaysOrStarves : Option Cause → Option Cause → Type 0
+StaysOrStarves before after = (after ≡ before) ⊎ (after ≡ Some NoMemory)
+
+-- the same, or as the acts close it
+abbrev pub LeavesBy : Option Cause → Option Cause → Option Cause → Type 0
+LeavesBy before closes after = (after ≡ or_else before closes) ⊎ StaysOrStarves before after
+
 -- what holds also where memory was refused: the same links have a client, and a client that is leaving stays as it is
 pub record Keeps (old new : Standing) : Type 0 where
   pub rises : old.starved ≤ new.starved
   pub links : links_of new ≡ links_of old
   pub kept : (link : ℕ) → IsSome (leaving_on link old.seats) → at_key seat_link link new.seats ≡ at_key seat_link link old.seats
 
--- the step is done, unless some growth was refused
+-- The step is done, unless some growth was refused. Who begins to leave does so for the cause that the step's acts give,
+-- or for want of memory.
 pub record MayDo (old new : Standing) (stepped : Stepped) : Type 0 where
   pub keeps : Keeps old new
+  pub causes : Distinct (links_of old) → (link : ℕ) → LeavesBy (leaving_on link old.seats) (close_of link stepped.acts) (leaving_on link new.seats)
   pub does : new.starved ≡ old.starved → old.starved < 2 ^ 64 - 1 → Distinct (links_of old) → Did old new stepped
 
 -- memory was refused
 pub record Starves (old new : Standing) : Type 0 where
   pub keeps : Keeps old new
+  pub causes : Distinct (links_of old) → (link : ℕ) → StaysOrStarves (leaving_on link old.seats) (leaving_on link new.seats)
   pub count : new.starved ≡ min (old.starved + 1) (2 ^ 64 - 1)
 
 -- a refused arrival has no seat
@@ -175,25 +189,38 @@ pub record MayCome (link : ℕ) (old new : Standing) (refused : Option Cause) (s
   pub rises : old.starved ≤ new.starved
   pub seats : seats_after old.seats new.seats link refused
   pub kept : (other : ℕ) → IsSome (leaving_on other old.seats) → at_key seat_link other new.seats ≡ at_key seat_link other old.seats
+  -- it is refused for the cause that the step's acts give, or for want of memory
+  pub cause : IfSome refused (λ why. (stepped.acts ≡ Closes link why ∷ []) ⊎ (why ≡ NoMemory))
   pub comes : new.starved ≡ old.starved → old.starved < 2 ^ 64 - 1 → Came link old new refused stepped
 
 -- ---- a line that is told
 
--- a seat after an event of a line
+-- events of the core buffer are for an open client that asked for them
+abbrev pub listens : Seat → Bool
+listens seat = is_open seat && follows_core seat.session.client
+
+-- a seat behind the event of a line
+abbrev pub heard_seat : List ℕ → Seat → Seat
+heard_seat event seat = if is_open seat then record seat { session = with_event event seat.session } else seat
+
+-- a seat where no memory is found for an event: its client leaves, where the event is for it
+abbrev pub starved_seat : Seat → Seat
+starved_seat seat = if listens seat then record seat { leaving = Some NoMemory } else seat
+
+-- a seat once a line is told
 abbrev pub told_seat : Line → Seat → Seat
 told_seat line seat =
     if is_open seat then record seat { session = record seat.session { unsent = seat.session.unsent ++ flat_map (λ m. spelling m) (line_told seat.session.client line) } } else seat
 
--- a seat where memory may have been refused
-pub record SeatKept (old new : Seat) : Type 0 where
-  pub link : seat_link new ≡ seat_link old
-  pub kept : IsSome old.leaving → new ≡ old
+-- a seat behind this service of it, or one whose client leaves for want of memory, where the service was for it
+abbrev pub SeatServed : (Seat → Seat) → Seat → Seat → Type 0
+SeatServed service old new = (new ≡ service old) ⊎ (new ≡ starved_seat old)
 
-abbrev pub SeatsKept : List Seat → List Seat → Type 0
-SeatsKept [] [] = Unit {0}
-SeatsKept [] (b ∷ new) = ⊥
-SeatsKept (a ∷ old) [] = ⊥
-SeatsKept (a ∷ old) (b ∷ new) = SeatKept a b × SeatsKept old new
+abbrev pub SeatsServed : (Seat → Seat) → List Seat → List Seat → Type 0
+SeatsServed service [] [] = Unit {0}
+SeatsServed service [] (b ∷ new) = ⊥
+SeatsServed service (a ∷ old) [] = ⊥
+SeatsServed service (a ∷ old) (b ∷ new) = SeatServed service a b × SeatsServed service old new
 
 -- the text that was typed is UTF-8
 abbrev pub OutcomeUtf8 : Outcome → Type 0

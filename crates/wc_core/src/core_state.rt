@@ -12,7 +12,7 @@ ghost use Rattle.wc_core.specs.Step.{step, stays, prints, prints_text, last_hand
 ghost use Rattle.wc_core.specs.Served.{seat_link, state_of, unsent_at, gone_at, is_open_at, departure_of, Absent, links_of, MayDo, MayCome, Starves, OutcomeUtf8};
 
 use crate::line::new_line;
-use crate::seat::{Departure, Seat, drop_seat, first_departure, open_count, seat_place, tell_all};
+use crate::seat::{Departure, Seat, drop_seat, first_departure, open_count, seat_place, tell_line};
 use crate::typed::{Asked, read_typed};
 use std::alloc::Global;
 use std::marker::Model;
@@ -243,7 +243,7 @@ impl Core {
         requires text { HasText line }
         ensures { MayDo self.old self.new (prints (state_of self.old) line) }
     {
-        let told = tell_all(&mut self.seats, self.alloc, &line);
+        let told = tell_line(&mut self.seats, self.alloc, &line);
         let _oldest = self.lines.push(line);
         self.next += 2;
         if told {

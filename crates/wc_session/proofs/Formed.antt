@@ -1,5 +1,5 @@
 -- What is replied keeps the rules of messages.
-use Rattle.std.proofs.Common.{◌≡◌, ℕ, ℤ, ◌<◌, true, false, Bool, ◌&&◌, nat_lt, arith, List, [], ◌∷◌, ◌++◌, codes, Option, Some, None, refl, sym, ap, ◌∙◌}
+use Rattle.std.proofs.Common.{◌≡◌, ℕ, ℤ, true, false, Bool, ◌&&◌, nat_lt, arith, List, [], ◌∷◌, codes, Option, Some, None, refl}
 use Rattle.std.specs.List.{list_all}
 use Rattle.std.specs.Str.{IsUtf8, IsAscii, is_utf8, chars}
 use Rattle.std.proofs.lemmas.Str.{is_utf8-from_IsUtf8, IsUtf8-from_ascii}
@@ -9,17 +9,15 @@ use Rattle.hex.specs.Hex.{encode_upper, upper_digits}
 use Rattle.hex.proofs.HexLemmas.{IsAscii-encode_with}
 use lib.Utf8.{encode}
 use denote.Hole.Carrier.{out}
-use Rattle.wc_objects.specs.declared.kind.Kind.{Kind}
 use Rattle.wc_objects.specs.declared.kind.Kind.TheVariants as k
-use Rattle.wc_objects.specs.declared.object.Object.{Object}
 use Rattle.wc_objects.specs.declared.object.Object.TheVariants as o
 use Rattle.wc_objects.specs.declared.object.Object.TheViews.{out-Object, out-roll-Object, out-roll-Hda}
-use Rattle.wc_objects.specs.declared.object.Hda.{Hda, roll-Hda}
+use Rattle.wc_objects.specs.declared.object.Hda.{roll-Hda}
 use Rattle.wc_objects.specs.Forms.{simple_is, value_is, hda_is, object_is, well_formed}
 use Rattle.wc_relaycmd.specs.declared.algorithm.Algorithm.{Algorithm}
 use Rattle.wc_relaycmd.specs.declared.algorithm.Algorithm.TheVariants.{Plain, Sha256, Sha512}
 use Rattle.wc_session.specs.Sending.{null_hdata}
-use Rattle.wc_session.specs.Handshakes.{name_of_choice, switch, entry, handshake_table, handshake_objects}
+use Rattle.wc_session.specs.Handshakes.{name_of_choice, switch, handshake_table, handshake_objects}
 use Rattle.wc_session.specs.Reply.{test_texts, test_numbers, test_objects, info_objects, infolist_objects, pong_objects}
 
 null_hda : hda_is (roll-Hda (record { path = None; keys = None; items = [] })) ≡ true

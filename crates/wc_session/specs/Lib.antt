@@ -7,3 +7,4 @@ pub mod Reply
 pub mod Sending
 pub mod Served
 pub mod Sync
+pub mod Event

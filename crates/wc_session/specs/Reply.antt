@@ -1,5 +1,5 @@
 -- What each request gets.
-use Rattle.std.specs.Prelude.{ℕ, ℤ, pos, negsuc, Bool, true, false, not, ◌&&◌, ◌||◌, List, [], ◌∷◌, Option, Some, None, is_none, codes, if◌then◌else◌}
+use Rattle.std.specs.Prelude.{ℕ, pos, negsuc, Bool, true, false, not, ◌&&◌, ◌||◌, List, [], ◌∷◌, Some, None, is_none, codes, if◌then◌else◌}
 use Rattle.std.specs.Str.{bytes_eq}
 use Rattle.wc_text.specs.declared.names.Handle.{Handle}
 use Rattle.wc_text.specs.declared.names.Pair.{Pair}

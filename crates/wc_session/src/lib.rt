@@ -4,6 +4,7 @@
 mod client;
 mod handshake;
 mod laws;
+mod line_event;
 mod login;
 mod names;
 mod objects;
@@ -14,7 +15,8 @@ mod session;
 mod sync_set;
 
 pub use client::Client;
-pub use laws::{lets_in_exactly, one_reply_each};
+pub use laws::{event_tells, lets_in_exactly, one_reply_each};
+pub use line_event::LineEvent;
 pub use outcome::Outcome;
 pub use session::Session;
 pub use sync_set::SyncSet;

@@ -1,24 +1,21 @@
 ghost use Rattle.std.specs.Prelude.{◌≡◌, ◌≤◌, false, length, drop, IfOk, IsOk, OnOk, OnErr};
-ghost use Rattle.wc_lines.specs.LineText.{HasText};
 ghost use Rattle.wc_relaycmd.specs.Utf8.{HasUtf8};
 ghost use Rattle.wc_session.specs.Known.{new_session};
-ghost use Rattle.wc_session.specs.Reply.{reply_of, line_told};
-ghost use Rattle.wc_session.specs.Sending.{Sends};
+ghost use Rattle.wc_session.specs.Event.{with_event};
+ghost use Rattle.wc_session.specs.Reply.{reply_of};
 ghost use Rattle.wc_session.specs.Served.{OnServed, OnNoMemory, Answers};
 ghost use Rattle.wc_session.specs.Sync.{follows_core};
 
 use crate::client::Client;
-use crate::objects::CORE_BUFFER;
+use crate::line_event::LineEvent;
 use crate::outcome::Outcome;
-use crate::sending::send;
 use crate::served::{Served, serve};
 use bytes::BytesMut;
 use std::alloc::Global;
 use std::marker::Model;
-use wc_lines::{Line, Lines};
+use wc_lines::Lines;
 use wc_relaycmd::Request;
 use wc_text::{LinkId, NoMemory, Text};
-use wc_told::{LINE_ADDED, line_added};
 
 /// The relay's side of one client: what is known of it, and the bytes that are still to be sent to it.
 #[derive(Drop)]
@@ -78,12 +75,10 @@ impl Session {
         }
     }
 
-    /// Tells a new line of the core buffer, where the client asked for its events. A line that is too long for a message
-    /// is not told. Where memory is refused the session stays as it was.
-    pub fn line_added(&mut self, alloc: Global, line: &Line) -> Result<(), NoMemory>
-        requires { HasText line.now }
-        ensures told { OnOk result (Sends self.old.unsent self.new.unsent (line_told self.old.client line.now)) }
-        ensures client { self.new.client ≡ self.old.client }
+    /// Puts the event of a new line of the core buffer behind the unsent bytes, where the client asked for its events.
+    /// Where memory is refused the session stays as it was.
+    pub fn append_event(&mut self, event: &LineEvent) -> Result<(), NoMemory>
+        ensures told { OnOk result (self.new ≡ with_event event.now self.old) }
         ensures refused { OnErr result (self.new ≡ self.old) }
 
         // A client that asked for no events is never dropped for want of memory here.
@@ -92,9 +87,15 @@ impl Session {
         if !self.client.follows_core() {
             return Ok(());
         }
-        let objects = line_added(alloc, CORE_BUFFER, line)?;
-        let _fits = send(&mut self.unsent, LINE_ADDED, objects.as_slice())?;
+        self.unsent.extend_from_slice(event.as_slice())?;
         Ok(())
+    }
+
+    /// Whether events of the core buffer are for this client.
+    pub fn follows_core(&self) -> bool
+        ensures { result ≡ follows_core self.now.client }
+    {
+        self.client.follows_core()
     }
 
     /// The bytes that are still to be sent.

@@ -1,6 +1,7 @@
 ghost use Rattle.std.specs.Prelude.{IfOk};
 ghost use Rattle.wc_lines.specs.LineText.{HasText};
 
+use crate::line_event::LineEvent;
 use crate::outcome::Outcome;
 use crate::session::Session;
 use std::alloc::Global;
@@ -288,7 +289,8 @@ fn clients_are_told_what_they_asked_for(rt: HostRuntime) -> Result<(), Fail> {
             let _outcome = ask(rt.alloc(), &mut bench, line)?;
         }
         let line = line(rt.alloc(), 5, "hello")?;
-        bench.session.line_added(rt.alloc(), &line)?;
+        let event = LineEvent::of(rt.alloc(), &line)?;
+        bench.session.append_event(&event)?;
         let told = bench.session.unsent().len() == 219;
         assert!(rt; told == (expected == "yes"), "{row}");
     }
@@ -301,7 +303,8 @@ fn a_new_line_is_told_in_219_bytes(rt: HostRuntime) -> Result<(), Fail> {
     assert_eq!(rt; ask(rt.alloc(), &mut bench, "init password=x")?, "silent");
     assert_eq!(rt; ask(rt.alloc(), &mut bench, "sync")?, "silent");
     let line = line(rt.alloc(), 5, "hello")?;
-    bench.session.line_added(rt.alloc(), &line)?;
+    let event = LineEvent::of(rt.alloc(), &line)?;
+    bench.session.append_event(&event)?;
     assert_eq!(rt;
         bench.session.unsent(),
         b"\0\0\0\xdb\0\0\0\0\x12_buffer_line_addedhda\0\0\0\x09line_data\0\0\0\x77buffer:ptr,date:tim,date_printed:tim,displayed:chr,notify_level:chr,highlight:chr,tags_array:arr,prefix:str,message:str\0\0\0\x01\x016\x011\x0a1700000000\x0a1700000000\x01\0\0str\0\0\0\0\0\0\0\0\0\0\0\x05hello".as_slice()
