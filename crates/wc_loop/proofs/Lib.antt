@@ -12,6 +12,7 @@ pub mod KeyedLemmas
 pub mod LeastLemmas
 pub mod LineLemmas
 pub mod LinkLemmas
+pub mod MirrorLemmas
 pub mod OutcomeLemmas
 pub mod PointLemmas
 pub mod ProgramLemmas

@@ -1,6 +1,7 @@
 use Rattle.std.proofs.Common.{ap, sym, ◌∙◌, arith}
 use Rattle.wc_loop.specs.Endings.{number_of, status_of}
 use Rattle.wc_loop.proofs.OutcomeLemmas.{IsNumber-runs, Common-runs, Waits-runs, IfSome-headline, IfSome-causes, printed-by}
+use Rattle.wc_loop.proofs.MirrorLemmas.{Mirrored-last}
 use Rattle.wc_loop.proofs.program.run_program.Goals as goal
 
 pub returns-clause-headline : goal.returns-clause-headline
@@ -8,6 +9,9 @@ returns-clause-headline g c =
     let seen = g.S.Sockets.seen in
     let common = Common-runs _ _ _ _ (seen c.args.sockets.now) (seen c.run_words-outcome.new.sockets) _ _ c.requires c.run_words-outcome.ensures.runs in
     rw c.end.ensures.last (IfSome-headline _ _ _ _ common.left)
+
+pub returns-clause-mirrored : goal.returns-clause-mirrored
+returns-clause-mirrored g c = Mirrored-last _ _ _
 
 pub returns-clause-waits : goal.returns-clause-waits
 returns-clause-waits g c =
