@@ -13,6 +13,7 @@ pub mod LeastLemmas
 pub mod LineLemmas
 pub mod LinkLemmas
 pub mod OutcomeLemmas
+pub mod PartLemmas
 pub mod PointLemmas
 pub mod ProgramLemmas
 pub mod RunLemmas
