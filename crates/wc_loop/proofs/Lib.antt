@@ -14,6 +14,7 @@ pub mod LineLemmas
 pub mod LinkLemmas
 pub mod MirrorLemmas
 pub mod OutcomeLemmas
+pub mod PartLemmas
 pub mod PointLemmas
 pub mod ProgramLemmas
 pub mod RunLemmas

@@ -5,6 +5,7 @@ pub mod Hands
 pub mod Headline
 pub mod Lines
 pub mod Links
+pub mod Parts
 pub mod Run
 pub mod Served
 pub mod Sources
