@@ -103,6 +103,7 @@ impl Core {
         ensures admitted { result ≡ None → self.new ≡ record self.old { seats = self.old.seats ++ new_seat arrival.link arrival.nonce ∷ [] } }
         ensures refused { IfSome result (λ cause. self.new ≡ record self.old { starved = self.new.starved }) }
         ensures cause { IfSome result (λ cause. (cause ≡ Cause.Surplus) ⊎ (cause ≡ Cause.NoMemory)) }
+        ensures rises { self.old.starved ≤ self.new.starved }
     {
         if open_count(&self.seats) >= CLIENT_LIMIT {
             return Some(Cause::Surplus);

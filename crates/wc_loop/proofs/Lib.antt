@@ -1,3 +1,4 @@
+pub mod ArriveLemmas
 pub mod CauseLemmas
 pub mod CloseLemmas
 pub mod ClosingLemmas
