@@ -18,6 +18,7 @@ pub mod OutcomeLemmas
 pub mod PartLemmas
 pub mod PointLemmas
 pub mod ProgramLemmas
+pub mod ReadLemmas
 pub mod RunLemmas
 pub mod SeatLemmas
 pub mod ServeLemmas
