@@ -17,6 +17,7 @@ pub mod OutcomeLemmas
 pub mod PartLemmas
 pub mod PointLemmas
 pub mod ProgramLemmas
+pub mod ReadLemmas
 pub mod RunLemmas
 pub mod SeatLemmas
 pub mod ServeLemmas
