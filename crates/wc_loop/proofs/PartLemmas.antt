@@ -16,15 +16,16 @@ use Rattle.wc_outside.specs.declared.happening.Happening.TheVariants.{Failed}
 use Rattle.wc_outside.specs.Keyed.{at_key, put_at, without}
 use Rattle.wc_core.specs.declared.seat.Seat.{Seat}
 use Rattle.wc_core.specs.declared.seat.Departure.{Departure}
-use Rattle.wc_core.specs.Served.{seat_link, leaving_in, leaving_on, unsent_in, unsent_on, gone_at, left_at, departure_by, departure_of, is_open, is_open_at, Distinct}
+use Rattle.wc_core.specs.Standing.{Standing}
+use Rattle.wc_core.specs.Served.{seat_link, links_of, leaving_in, leaving_on, unsent_in, unsent_on, gone_at, left_at, departure_by, departure_of, is_open, is_open_at, Distinct}
 use Rattle.wc_loop.specs.declared.link_state.LinkState.{LinkState}
 use Rattle.wc_loop.specs.declared.link_state.Closed.{Closed}
 use Rattle.wc_loop.specs.declared.headless.Headless.{Headless}
 use Rattle.wc_loop.specs.Links.{link_number, is_undrained}
-use Rattle.wc_loop.specs.Parts.{Misses, SendsOn, Parts, Spares, HaveFailed}
+use Rattle.wc_loop.specs.Parts.{Misses, SendsOn, Parts, Spares, HasFailed}
 use Rattle.wc_loop.specs.Served.{closed_by, leaving_closes, IsCalm, IsOfLine, LeavesFor, LeavesAtLine, closed_number}
 use Rattle.wc_loop.specs.Sources.{Falls, IsWritten, IsSent, TakesNothing}
-use Rattle.wc_loop.specs.Turns.{StandsAmong, Stands, HasGained, HasFailedIf, IsSettled, is_failure, has_failed, Continues}
+use Rattle.wc_loop.specs.Turns.{StandsAmong, Stands, HasGained, IsSettled, is_failure, has_failed, Continues}
 use Rattle.wc_loop.proofs.KeyedLemmas.{at_key-key, at_key-put_other, at_key-put_same, at_key-filter_other, at_key-filter_same, length-without, some_of, none_of}
 use Rattle.wc_loop.proofs.CauseLemmas.{gained-behind}
 use Rattle.wc_loop.proofs.SeatLemmas.{calm-leaving, departed-there, departed-all, departed-leaving, leaving-without, all-without, leaving-gone, links-gone, calm-left, closes-all}
@@ -113,8 +114,8 @@ IsSettled-sent link seats a b (inr (inl e)) = λ t free fit. absurd (false≢tru
 IsSettled-sent link seats a b (inr (inr h)) = λ t free fit. absurd (false≢true (sym fit ∙ has-gained link a b (h.1 t)))
 
 -- nothing is to be sent on a link that failed
-pub IsSettled-failed : (link : ℕ) (why : Cause) (seats : List Seat) (a : Seen) → why ≡ CauseFailed → HasFailedIf link why a → IsSettled link seats a
-IsSettled-failed link why seats a e h = λ t free fit. absurd (false≢true (sym fit ∙ h e t))
+pub IsSettled-failed : (link : LinkId) (lost : Option LinkId) (seats : List Seat) (a : Seen) → lost ≡ Some link → HasFailed lost a → IsSettled link.0 seats a
+IsSettled-failed link lost seats a e h = λ t free fit. (let failed = rw e at h in absurd (false≢true (sym fit ∙ failed t)))
 
 -- ---- parting
 
@@ -137,11 +138,9 @@ departure-close (seat ∷ seats) = close-by seat.leaving (departure-close seats)
 pub departure-same : (old new : List Seat) (d : Departure) → leaving_closes new ≡ leaving_closes old → departure_of old ≡ Some d → departure_of new ≡ Some d
 departure-same old new d e h = departure-close new ∙ ap first_close e ∙ sym (departure-close old) ∙ h
 
-failed-later : (link : ℕ) (why : Cause) (a b : Seen) → Later a b → HasFailedIf link why a → HasFailedIf link why b
-failed-later link why a b later h = λ e t. ap (has_failed link) (later.taken t) ∙ list_any-append (is_failure link) a.taken later.more ∙ ap (λ f. f || list_any (is_failure link) later.more) (h e (later.told t))
-
-pub HaveFailed-later : (closed : List Closed) (a b : Seen) → Later a b → HaveFailed closed a → HaveFailed closed b
-HaveFailed-later closed a b later h = All-weaker (λ (c : Closed). HasFailedIf c.link.0 c.cause a) (λ (c : Closed). HasFailedIf c.link.0 c.cause b) (λ c. failed-later c.link.0 c.cause a b later) closed h
+pub HasFailed-later : (lost : Option LinkId) (a b : Seen) → Later a b → HasFailed lost a → HasFailed lost b
+HasFailed-later None a b later h = tt
+HasFailed-later (Some link) a b later h = λ t. ap (has_failed link.0) (later.taken t) ∙ list_any-append (is_failure link.0) a.taken later.more ∙ ap (λ f. f || list_any (is_failure link.0) later.more) (h (later.told t))
 
 -- the first one that is leaving is parted with
 pub Parts-first : (x y z : Headless) (a b c : Seen) (d : Departure) → departure_of x.core.seats ≡ Some d → (IsTrue c.tells → IsTrue b.tells) → SendsOn d.link.0 x y a b → z.core ≡ record y.core { seats = without seat_link d.link.0 y.core.seats }
@@ -159,22 +158,17 @@ Parts-first x y z a b c d first told sends core falls nothing blocked =
       blocked = λ k s. blocked k (other k s) ∙ sends.blocked k (other k s);
     }
 
-pub HaveFailed-first : (x y z : Headless) (a c : Seen) (link : ℕ) → leaving_closes y.core.seats ≡ leaving_closes x.core.seats → z.core ≡ record y.core { seats = without seat_link link y.core.seats } → Later a c → HaveFailed (leaving_closes x.core.seats) a → HaveFailed (leaving_closes z.core.seats) c
-HaveFailed-first x y z a c link same core later h =
-    let left : leaving_closes z.core.seats ≡ without closed_number link (leaving_closes x.core.seats) = ap (λ s. leaving_closes s.seats) core ∙ leaving-without link y.core.seats ∙ ap (without closed_number link) same in
-    HaveFailed-later (leaving_closes z.core.seats) a c later (subst (λ cs. HaveFailed cs a) (sym left) (all-without (λ (c : Closed). HasFailedIf c.link.0 c.cause a) link (leaving_closes x.core.seats) h))
-
 length-map-links : (seats : List Seat) → length (map seat_link seats) ≡ length seats
 length-map-links [] = refl
 length-map-links (s ∷ ss) = let ih = length-map-links ss in omega arith
 
-pub fewer-parted : (x y z : Headless) (d : Departure) → departure_of y.core.seats ≡ Some d → map seat_link y.core.seats ≡ map seat_link x.core.seats → z.core ≡ record y.core { seats = without seat_link d.link.0 y.core.seats } → length z.core.seats < length x.core.seats
+pub fewer-parted : (x y z : Standing) (d : Departure) → departure_of y.seats ≡ Some d → map seat_link y.seats ≡ map seat_link x.seats → z ≡ record y { seats = without seat_link d.link.0 y.seats } → length z.seats < length x.seats
 fewer-parted x y z d first links core =
-    let less = length-without seat_link d.link.0 y.core.seats (some_of _ (departed-there y.core.seats d first)) in
-    let now = ap (λ s. length s.seats) core in
+    let less = length-without seat_link d.link.0 y.seats (some_of _ (departed-there y.seats d first)) in
+    let now = ap (λ (s : Standing). length s.seats) core in
     let size = ap length links in
-    let p = length-map-links y.core.seats in
-    let q = length-map-links x.core.seats in
+    let p = length-map-links y.seats in
+    let q = length-map-links x.seats in
     omega arith
 
 pub Parts-refl : (x : Headless) (a : Seen) → Parts x x a a
@@ -189,3 +183,8 @@ Parts-trans x y z a b c told h g = record {
   seats = λ k s. g.seats k (h.spared k s) ∙ h.seats k s;
   blocked = λ k s. g.blocked k (h.spared k s) ∙ h.blocked k s;
 }
+
+-- where `/quit` was not run, the client of the link is leaving
+pub misses-going : (link : ℕ) (core : Standing) → Misses link core → core.quits ≡ false → Distinct (links_of core) → IsSome (leaving_on link core.seats)
+misses-going link core (inl over) on distinct = absurd (false≢true (sym on ∙ over))
+misses-going link core (inr leaves) on distinct = leaves distinct

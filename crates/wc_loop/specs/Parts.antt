@@ -1,5 +1,6 @@
 -- How the loop parts with clients, and what one call takes of a link.
-use Rattle.std.specs.Prelude.{ℕ, ◌+◌, ◌≡◌, ◌≢◌, ◌≤◌, ◌⊎◌, IsSome, Bool, true, if◌then◌else◌, List, map, All, Result, Ok, Err, IsTrue}
+use Rattle.std.specs.Prelude.{ℕ, ◌+◌, ◌≡◌, ◌≢◌, ◌≤◌, ◌⊎◌, IsSome, Bool, true, if◌then◌else◌, List, map, All, Option, Some, None, Result, Ok, Err, IsTrue}
+use Rattle.wc_text.specs.declared.names.LinkId.{LinkId}
 use Rattle.wc_outside.specs.Seen.{Seen}
 use Rattle.wc_outside.specs.Keyed.{at_key}
 use Rattle.wc_outside.specs.declared.failed.Failed.{Failed as Fault}
@@ -9,7 +10,7 @@ use Rattle.wc_loop.specs.declared.link_state.Closed.{Closed}
 use Rattle.wc_loop.specs.declared.headless.Headless.{Headless}
 use Rattle.wc_loop.specs.Served.{leaving_closes, closed_number}
 use Rattle.wc_loop.specs.Sources.{Falls, TakesNothing, bytes_taken, arrivals}
-use Rattle.wc_loop.specs.Turns.{HasFailedIf}
+use Rattle.wc_loop.specs.Turns.{has_failed}
 
 -- the failure of a link is no event that is run: `/quit` was run, or its client is leaving
 abbrev pub Misses : ℕ → Standing → Type 0
@@ -30,9 +31,10 @@ pub record SendsOn (link : ℕ) (x y : Headless) (before after : Seen) : Type 0 
 abbrev pub Spares : ℕ → List Closed → Type 0
 Spares link closed = All (λ (c : Closed). closed_number c ≢ link) closed
 
--- the link of each client that is leaving for its failure failed
-abbrev pub HaveFailed : List Closed → Seen → Type 0
-HaveFailed closed seen = All (λ (c : Closed). HasFailedIf c.link.0 c.cause seen) closed
+-- the link that was lost failed, if one was
+abbrev pub HasFailed : Option LinkId → Seen → Type 0
+HasFailed None seen = Unit {0}
+HasFailed (Some link) seen = IsTrue seen.tells → has_failed link.0 seen.taken ≡ true
 
 -- clients that are leaving are parted with, and the others are left as they are
 pub record Parts (x y : Headless) (before after : Seen) : Type 0 where

@@ -1,10 +1,10 @@
 ghost use Rattle.std.specs.Prelude.{◌≡◌, ◌≢◌, ◌+◌, ◌<◌, ◌≤◌, ℕ, None, Some, Ok, IfSome, IsSome, OnOk, OnErr, IsTrue, true, false, length};
 ghost use Rattle.wc_outside.specs.Faults.{Rose};
 ghost use Rattle.wc_core.specs.Served.{unsent_on, departure_of};
-ghost use Rattle.wc_loop.specs.Parts.{Misses, SendsOn, Parts, HaveFailed, ReadsOn, ReadBytes, came_of};
+ghost use Rattle.wc_loop.specs.Parts.{Misses, SendsOn, Parts, HasFailed, ReadsOn, ReadBytes, came_of};
 ghost use Rattle.wc_loop.specs.Served.{IsCalm, leaving_closes};
 ghost use Rattle.wc_loop.specs.Sources.{Falls, IsServed, IsHeard, IsWritten, IsSent, TakesNothing, bytes_taken, arrivals};
-ghost use Rattle.wc_loop.specs.Turns.{Continues, Stands, IsSettled, HasFailedIf, faults_of};
+ghost use Rattle.wc_loop.specs.Turns.{Continues, Stands, IsSettled, faults_of};
 
 use crate::headless::Headless;
 use wc_core::Departure;
@@ -47,45 +47,64 @@ fn send_once<S: Sockets>(headless: &mut Headless, sockets: &mut S, link: LinkId)
     }
 }
 
+/// Whether a link is the one that was lost.
+fn is_lost(lost: Option<LinkId>, link: LinkId) -> bool
+    ensures { result ≡ true → lost ≡ Some link }
+{
+    match lost {
+        Some(failed) => failed == link,
+        None => false,
+    }
+}
+
 /// Sends what a client that is leaving is owed, until it is gone, there is no room, or its link failed.
-/// Nothing is sent on a link that failed before.
-fn settle<S: Sockets>(headless: &mut Headless, sockets: &mut S, departure: Departure)
+/// Nothing is sent on the link that was lost, if one was.
+fn settle<S: Sockets>(
+    headless: &mut Headless,
+    sockets: &mut S,
+    departure: Departure,
+    lost: Option<LinkId>,
+)
     requires first { departure_of headless.old.core.seats ≡ Some departure }
-    requires failed { HasFailedIf departure.link.0 departure.cause (S.seen sockets.old) }
+    requires failed { HasFailed lost (S.seen sockets.old) }
     ensures continues { Continues true 0 0 headless.old headless.new (S.seen sockets.old) (S.seen sockets.new) }
     ensures sends { SendsOn departure.link.0 headless.old headless.new (S.seen sockets.old) (S.seen sockets.new) }
     ensures done { IsSettled departure.link.0 headless.new.core.seats (S.seen sockets.new) }
 {
-    if departure.cause == Cause::Failed {
+    if is_lost(lost, departure.link) {
         return;
     }
     send_link(headless, sockets, departure.link);
 }
 
 /// Closes the link of a client that is leaving, behind a last try to send what it is owed.
-fn part<S: Sockets>(headless: &mut Headless, sockets: &mut S, departure: Departure)
+fn part<S: Sockets>(
+    headless: &mut Headless,
+    sockets: &mut S,
+    departure: Departure,
+    lost: Option<LinkId>,
+)
     requires first { departure_of headless.old.core.seats ≡ Some departure }
-    requires failed { HaveFailed (leaving_closes headless.old.core.seats) (S.seen sockets.old) }
+    requires failed { HasFailed lost (S.seen sockets.old) }
     ensures continues { Continues true 0 0 headless.old headless.new (S.seen sockets.old) (S.seen sockets.new) }
     ensures parts { Parts headless.old headless.new (S.seen sockets.old) (S.seen sockets.new) }
-    ensures failed { HaveFailed (leaving_closes headless.new.core.seats) (S.seen sockets.new) }
     ensures fewer { length headless.new.core.seats < length headless.old.core.seats }
 {
-    settle(headless, sockets, departure);
+    settle(headless, sockets, departure, lost);
     sockets.close(departure.link);
     headless.links.close(departure.link, departure.cause);
     headless.core.forget(departure.link);
 }
 
 /// Closes the links of all clients that are leaving.
-fn part_all<S: Sockets>(headless: &mut Headless, sockets: &mut S)
-    requires failed { HaveFailed (leaving_closes headless.old.core.seats) (S.seen sockets.old) }
+fn part_all<S: Sockets>(headless: &mut Headless, sockets: &mut S, lost: Option<LinkId>)
+    requires failed { HasFailed lost (S.seen sockets.old) }
     ensures continues { Continues true 0 0 headless.old headless.new (S.seen sockets.old) (S.seen sockets.new) }
     ensures parts { Parts headless.old headless.new (S.seen sockets.old) (S.seen sockets.new) }
     ensures calm { IsCalm headless.new.core.seats }
 {
     while let Some(departure) = headless.core.departure() {
-        part(headless, sockets, departure);
+        part(headless, sockets, departure, lost);
     }
 }
 
@@ -118,7 +137,7 @@ fn read_once<S: Sockets>(
         }
         Ok(Got::Bytes(count)) => {
             headless.bytes_came(place, link, &buffer[..count]);
-            part_all(headless, sockets);
+            part_all(headless, sockets, None);
             if headless.core.quits() || !headless.core.is_open(link) {
                 return None;
             }
@@ -126,12 +145,12 @@ fn read_once<S: Sockets>(
         }
         Ok(Got::End) => {
             headless.link_gone(link, Cause::Ended);
-            part_all(headless, sockets);
+            part_all(headless, sockets, None);
             None
         }
         Err(Failed) => {
             headless.link_gone(link, Cause::Failed);
-            part_all(headless, sockets);
+            part_all(headless, sockets, Some(link));
             None
         }
     }
@@ -241,7 +260,7 @@ fn write_once<S: Sockets>(headless: &mut Headless, sockets: &mut S, link: LinkId
         Ok(Put::NotYet) => false,
         Err(Failed) => {
             headless.link_gone(link, Cause::Failed);
-            part_all(headless, sockets);
+            part_all(headless, sockets, Some(link));
             false
         }
     }
