@@ -103,6 +103,7 @@ impl Core {
         ensures admitted { result ≡ None → self.new ≡ record self.old { seats = self.old.seats ++ new_seat arrival.link arrival.nonce ∷ [] } }
         ensures refused { IfSome result (λ cause. self.new ≡ record self.old { starved = self.new.starved }) }
         ensures cause { IfSome result (λ cause. (cause ≡ Cause.Surplus) ⊎ (cause ≡ Cause.NoMemory)) }
+        ensures rises { self.old.starved ≤ self.new.starved }
     {
         if open_count(&self.seats) >= CLIENT_LIMIT {
             return Some(Cause::Surplus);
@@ -327,6 +328,13 @@ impl Core {
             Some(place) => self.seats[place].is_open(),
             None => false,
         }
+    }
+
+    /// The clients that are open and those that are leaving, in the order in which they came.
+    pub fn seats(&self) -> &[Seat]
+        ensures { result.now ≡ self.now.seats }
+    {
+        self.seats.as_slice()
     }
 
     /// How often want of memory cut something short or made a client leave.

@@ -7,7 +7,7 @@ mod seat;
 mod typed;
 
 pub use core_state::Core;
-pub use seat::Departure;
+pub use seat::{Departure, Seat};
 
 #[cfg(test)]
 mod tests;

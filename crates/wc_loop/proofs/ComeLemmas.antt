@@ -1,149 +1,39 @@
--- Links come and are closed, and waits return.
-use Rattle.std.proofs.Common.{◌≡◌, ◌≢◌, ℕ, ◌+◌, ◌-◌, ◌^◌, ◌<◌, ◌≤◌, min, nat_le, Bool, true, false, not, eqb, ◌&&◌, ◌||◌, IsTrue, List, [], ◌∷◌, ◌++◌, Option, Some, None, is_some, is_none, All, refl, sym, ap, ◌∙◌, subst, arith}
+-- Arrivals are served.
+use Rattle.std.proofs.Common.{◌≡◌, ◌≢◌, ℕ, ◌+◌, ◌-◌, ◌^◌, ◌<◌, ◌≤◌, ◌⊎◌, inl, inr, min, nat_le, Bool, true, false, not, eqb, ◌&&◌, ◌||◌, IsTrue, List, [], ◌∷◌, ◌++◌, map, Option, Some, None, IfSome, is_some, is_none, All, refl, sym, ap, ◌∙◌, subst, arith}
 use Rattle.std.proofs.lemmas.Bool.{false≢true}
 use Rattle.std.proofs.lemmas.Bool.Decides.{nat_tests}
 use Rattle.std.proofs.lemmas.List.{append-nil}
-use Rattle.std.proofs.lemmas.List.Elements.{All-nil}
+use Rattle.std.proofs.lemmas.List.Elements.{All-nil, All-cons}
 use Rattle.wc_text.specs.declared.names.LinkId.{LinkId}
+use Rattle.wc_text.specs.declared.names.Cause.{Cause}
+use Rattle.wc_text.specs.declared.names.Cause.TheVariants.{Surplus, NoMemory}
 use Rattle.wc_outside.specs.Seen.{Seen}
+use Rattle.wc_outside.specs.declared.happening.Happening.{Happening}
 use Rattle.wc_outside.specs.declared.happening.Happening.TheVariants.{Accepted}
-use Rattle.wc_loop.specs.declared.session.Session.{Session}
-use Rattle.wc_loop.specs.declared.session.Departure.{Departure}
+use Rattle.wc_outside.specs.Keyed.{at_key, without}
+use Rattle.wc_core.specs.declared.seat.Seat.{Seat}
+use Rattle.wc_core.specs.Events.{Event, Arrives}
+use Rattle.wc_core.specs.State.{State, Act}
+use Rattle.wc_core.specs.Step.{step, run}
+use Rattle.wc_core.specs.Served.{seat_link, links_of, state_of, unsent_in, unsent_on, sent_to, has_end, new_seat, refusal, Absent, Distinct}
+use Rattle.wc_core.proofs.SeatLemmas.{links-push}
 use Rattle.wc_loop.specs.declared.link_state.LinkState.{LinkState}
 use Rattle.wc_loop.specs.declared.link_state.Closed.{Closed}
 use Rattle.wc_loop.specs.declared.headless.Headless.{Headless}
-use Rattle.wc_outside.specs.Keyed.{at_key, without}
-use Rattle.wc_loop.specs.Events.{Arrives}
 use Rattle.wc_loop.specs.Hands.{Hands}
-use Rattle.wc_loop.specs.Links.{link_number, is_undrained, listed}
-use Rattle.wc_loop.specs.Served.{session_link, seats_of, closed_by, is_leaving, AddsLink, Leaves, MayServe}
-use Rattle.wc_loop.specs.Steps.{Comes}
-use Rattle.wc_loop.specs.Turns.{StandsAmong, Moment, moment, point, IsCaused, Continues, IsSettled, has_failed}
-use Rattle.wc_loop.proofs.KeyedLemmas.{or-false, is_some-push, at_key-filter_same, at_key-filter_other, at_key-push_same, at_key-push_other, without-missing}
+use Rattle.wc_loop.specs.Links.{link_number, is_undrained, new_state}
+use Rattle.wc_loop.specs.Run.{closings}
+use Rattle.wc_loop.specs.Served.{closed_by, leaving_closes, IsCalm}
+use Rattle.wc_loop.specs.Steps.{Comes, Admits, Refuses, IsRefusal}
+use Rattle.wc_loop.specs.Turns.{StandsAmong, Moment, moment, point, Advances, CausedBy, IsCaused, Continues, has_failed}
+use Rattle.wc_loop.proofs.KeyedLemmas.{or-false, none_of, is_some-push, at_key-push_same, at_key-push_other}
 use Rattle.wc_loop.proofs.HandsLemmas.{Hands-stays, Hands-close}
-use Rattle.wc_loop.proofs.ServedLemmas.{none_of, or_left, or_right}
-use Rattle.wc_loop.proofs.PointLemmas.{Advances-comes}
-use Rattle.wc_loop.proofs.StandsLemmas.{For-states, For-came, For-refused, SameTails-without}
+use Rattle.wc_loop.proofs.RunLemmas.{Reaches-all}
+use Rattle.wc_loop.proofs.PointLemmas.{Advances-comes, Advances-same, fresh_by, spoils-more, gone-none}
+use Rattle.wc_loop.proofs.SeatLemmas.{absent-missing, distinct-push}
+use Rattle.wc_loop.proofs.StandsLemmas.{For-came, For-refused}
+use Rattle.wc_loop.proofs.CloseLemmas.{and-not-true, and-not-false}
 use Rattle.wc_loop.proofs.TurnLemmas.{Call, Continues-step, Continues-still}
-
-and-not-true : (b : Bool) → (b && not true) ≡ false
-and-not-true true = refl
-and-not-true false = refl
-
-pub and-not-false : (b : Bool) → (b && not false) ≡ b
-and-not-false true = refl
-and-not-false false = refl
-
--- a link is taken out of those that are there
-closed-some : (k link : ℕ) (t : Bool) → eqb k link ≡ t → (states : List LinkState) → (is_some (at_key link_number k states) && not t) ≡ is_some (at_key link_number k (without link_number link states))
-closed-some k link true e states =
-    let same : k ≡ link = grind (arith, nat_tests) in
-    and-not-true _ ∙ sym (ap is_some (ap (λ i. at_key link_number i (without link_number link states)) same ∙ at_key-filter_same link_number link states))
-closed-some k link false e states =
-    let other : k ≢ link = λ q. grind (arith, nat_tests) in
-    and-not-false _ ∙ ap is_some (sym (at_key-filter_other link_number link k states other))
-
-closed-flag : (k link : ℕ) (t : Bool) → eqb k link ≡ t → (states : List LinkState) → (is_undrained (at_key link_number k states) && not t) ≡ is_undrained (at_key link_number k (without link_number link states))
-closed-flag k link true e states =
-    let same : k ≡ link = grind (arith, nat_tests) in
-    and-not-true _ ∙ sym (ap is_undrained (ap (λ i. at_key link_number i (without link_number link states)) same ∙ at_key-filter_same link_number link states))
-closed-flag k link false e states =
-    let other : k ≢ link = λ q. grind (arith, nat_tests) in
-    and-not-false _ ∙ ap is_undrained (sym (at_key-filter_other link_number link k states other))
-
-closed-client : (k link : ℕ) (t u : Bool) → eqb k link ≡ t → eqb link k ≡ u → (s : Option Session) (x : Bool) → (u ≡ true → s ≡ None) → (is_some s || u) ≡ x → (is_some s || false) ≡ (x && not t)
-closed-client k link true true e f s x none h = rw (none refl) (sym (and-not-true x))
-closed-client k link false false e f s x none h = h ∙ sym (and-not-false x)
-closed-client k link true false e f s x none h = absurd (let same : k ≡ link = grind (arith, nat_tests) in let other : link ≢ k = λ q. grind (arith, nat_tests) in other (sym same))
-closed-client k link false true e f s x none h = absurd (let same : link ≡ k = grind (arith, nat_tests) in let other : k ≢ link = λ q. grind (arith, nat_tests) in other (sym same))
-
-listed-some : (o : Option LinkState) (closed : List Closed) (one : Closed) → is_some o ≡ true → listed o closed one ≡ closed ++ one ∷ []
-listed-some (Some state) closed one e = refl
-listed-some None closed one e = absurd (false≢true e)
-
-or-always : (b : Bool) → (b || true) ≡ true
-or-always true = refl
-or-always false = refl
-
-pub eqb-same : (k : ℕ) → eqb k k ≡ true
-eqb-same k = grind (arith, nat_tests)
-
--- the link of a client that is leaving is there
-leaving-there : (link : ℕ) (d : Departure) (states : List LinkState) (sessions : List Session) (used : ℕ) (listening : Bool) (seen : Seen) → d.link.0 ≡ link → StandsAmong states sessions (Some d) used listening seen → is_some (at_key link_number link states) ≡ true
-leaving-there link d states sessions used listening seen e s = sym (s.clients link) ∙ ap (λ t. is_some (at_key session_link link sessions) || t) (rw e (eqb-same link)) ∙ or-always _
-
--- only the links change, and one of them is closed
-pub record ClosesOne (x y : Headless) (d : Departure) : Type 0 where
-  pub core : y.core ≡ x.core
-  pub clock : y.clock ≡ x.clock
-  pub used : y.used ≡ x.used
-  pub listening : y.listening ≡ x.listening
-  pub turns : y.turns ≡ x.turns
-  pub ran : y.ran ≡ x.ran
-  pub opened : y.links.opened.items ≡ without link_number d.link.0 x.links.opened.items
-  pub closed : y.links.closed.items ≡ listed (at_key link_number d.link.0 x.links.opened.items) x.links.closed.items (record { link = d.link; cause = d.cause })
-
-used-known : (k used : ℕ) (o : Option LinkState) → (used < k → o ≡ None) → is_some o ≡ true → (t : Bool) → nat_le k used ≡ t → nat_le k used ≡ true
-used-known k used o unknown some true e = e
-used-known k used o unknown some false e = absurd (let above : used < k = grind (arith, nat_tests) in let none = unknown above in false≢true (sym (ap is_some none) ∙ some))
-
-close-hands : (k : ℕ) (d : Departure) (a b : Moment) (blocked : ℕ → Bool) (t : Bool) → eqb d.link.0 k ≡ t → a.left ≡ Some d → b.left ≡ None → b.sessions ≡ a.sessions → b.used ≡ a.used → b.taken ≡ a.taken → b.sent k ≡ a.sent k
-    → b.choked k ≡ (a.choked k || (eqb k d.link.0 && blocked k)) → (t ≡ true → at_key session_link k a.sessions ≡ None) → (t ≡ true → nat_le k a.used ≡ true) → (blocked d.link.0 ≡ false → has_failed d.link.0 a.taken ≡ false → d.unsent ≡ [])
-    → Hands (point k a) (point k b) []
-close-hands k d a b blocked true e la lb ss us tk sent choked none used settled =
-    let same : d.link.0 ≡ k = grind (arith, nat_tests) in
-    let here : eqb k d.link.0 ≡ true = grind (arith, nat_tests) in
-    let first : ((b.choked k || has_failed k b.taken) ≡ false) → (a.choked k ≡ false) × ((blocked k ≡ false) × (has_failed k a.taken ≡ false)) = λ q.
-    let c = sym choked ∙ or_left (b.choked k) (has_failed k b.taken) q in
-    let f = or_right (b.choked k) (has_failed k b.taken) q in
-    (or_left (a.choked k) _ c, (rw here at (or_right (a.choked k) (eqb k d.link.0 && blocked k) c), rw tk at f)) in
-    Hands-close (point k a) (point k b)
-    (rw (la, e) (ap (λ q. nat_le k a.used && q) (and-not-true (is_none (at_key session_link k a.sessions))) ∙ and-no _))
-    (rw (lb, ss, us, none refl, used refl) refl)
-    sent
-    (λ q. let p = first q in ap (λ c. c || has_failed k a.taken) p.0 ∙ p.1.1)
-    (λ q. let p = first q in rw (la, e) (settled (rw same p.1.0) (rw same p.1.1)))
-  where
-    and-no : (b : Bool) → (b && false) ≡ false
-    and-no true = refl
-    and-no false = refl
-close-hands k d a b blocked false e la lb ss us tk sent choked none used settled =
-    let there : eqb k d.link.0 ≡ false = grind (arith, nat_tests) in
-    let kept : b.choked k ≡ a.choked k = choked ∙ ap (λ q. a.choked k || (q && blocked k)) there ∙ or-false (a.choked k) in
-    Hands-stays (point k a) (point k b) []
-    (rw (la, lb, ss, us, e) refl)
-    (λ q. ap (λ c. c || has_failed k a.taken) (sym kept) ∙ ap (λ ts. b.choked k || has_failed k ts) (sym tk) ∙ q)
-    (rw (la, lb, ss, sent, e) (sym (append-nil _)))
-    (λ q. sent)
-    (λ q. refl)
-
--- the link of a client that left is closed
-pub Continues-close : (x y : Headless) (d : Departure) (a b : Seen) → ClosesOne x y d → Call a b [] → (IsTrue b.tells → (k : ℕ) → b.sent k ≡ a.sent k) → (IsTrue b.tells → (k : ℕ) → b.choked k ≡ (a.choked k || (eqb k d.link.0 && a.blocked k)))
-    → b.used ≡ a.used → ((k : ℕ) → b.there k ≡ (a.there k && not (eqb k d.link.0))) → ((k : ℕ) → b.undrained k ≡ (a.undrained k && not (eqb k d.link.0))) → b.listening ≡ a.listening → IsSettled d a
-    → Continues true 0 0 x (Some d) y None a b
-Continues-close x y d a b one call sent choked used there undrained listening settled =
-    Continues-still x (Some d) y None a b call (ap (λ c. c.password) one.core) one.turns (ap (λ c. c.starved) one.core)
-    (λ s. append-nil _ ∙ one.closed ∙ listed-some _ x.links.closed.items (record { link = d.link; cause = d.cause }) (leaving-there d.link.0 d x.links.opened.items x.core.sessions.items x.used x.listening a refl s.among))
-    (λ s. rw (one.core, one.used, one.listening, one.opened) (record {
-      counted = s.counted ∙ sym used;
-      there = λ k. there k ∙ ap (λ q. q && not (eqb k d.link.0)) (s.there k) ∙ closed-some k d.link.0 (eqb k d.link.0) refl x.links.opened.items;
-      undrained = λ k. undrained k ∙ ap (λ q. q && not (eqb k d.link.0)) (s.undrained k) ∙ closed-flag k d.link.0 (eqb k d.link.0) refl x.links.opened.items;
-      listens = listening ∙ s.listens;
-      clients = λ k. closed-client k d.link.0 (eqb k d.link.0) (eqb d.link.0 k) refl refl (at_key session_link k x.core.sessions.items) _ (s.apart k) (s.clients k) ∙ closed-some k d.link.0 (eqb k d.link.0) refl x.links.opened.items;
-      apart = λ k e. absurd (false≢true e);
-      unknown = λ k below. none_of _ (sym (closed-some k d.link.0 (eqb k d.link.0) refl x.links.opened.items) ∙ ap (λ o. is_some o && not (eqb k d.link.0)) (s.unknown k below));
-    }))
-    (λ t s. rw (one.clock, one.used, one.ran, one.opened) (For-states x.clock x.links.opened.items (without link_number d.link.0 x.links.opened.items) x.used x.ran a.taken (SameTails-without d.link.0 x.links.opened.items) s))
-    (λ t s. record {
-      seats = ap (λ c. seats_of c.sessions.items) one.core;
-      hands = λ k. close-hands k d (moment x (Some d) a) (moment y None b) a.blocked (eqb d.link.0 k) refl refl refl (ap (λ c. c.sessions.items) one.core) one.used (call.taken t ∙ append-nil a.taken) (sent t k) (choked t k) (s.among.apart k)
-          (λ e. used-known k x.used (at_key link_number k x.links.opened.items) (s.among.unknown k) (leaving-there k d x.links.opened.items x.core.sessions.items x.used x.listening a (grind (arith, nat_tests)) s.among) (nat_le k x.used) refl)
-          (settled (call.told t));
-      closes = refl;
-    })
-
-came-client : (a b c x y : Bool) → (a || b) ≡ (c || x) → (c || false) ≡ y → (a || b) ≡ (y || x)
-came-client a b c x y h g = h ∙ ap (λ q. q || x) (sym (or-false c) ∙ g)
 
 came-flag : (k : ℕ) (states : List LinkState) (state : LinkState) (t : Bool) → eqb (link_number state) k ≡ t → state.undrained ≡ false → at_key link_number (link_number state) states ≡ None → is_undrained (at_key link_number k states) ≡ is_undrained (at_key link_number k (states ++ state ∷ []))
 came-flag k states state true e off none =
@@ -155,82 +45,158 @@ came-flag k states state false e off none =
     let other : link_number state ≢ k = λ q. grind (arith, nat_tests) in
     ap is_undrained (sym (at_key-push_other link_number k state states other))
 
-apart-by : (link : ℕ) (left : Option Departure) (sessions : List Session) → Leaves link left sessions → (k : ℕ) → is_leaving k left ≡ true → at_key session_link k sessions ≡ None
-apart-by link None sessions h k e = absurd (false≢true e)
-apart-by link (Some d) sessions h k e = let same : link ≡ k = sym h.0 ∙ grind (arith, nat_tests) in subst (λ i. at_key session_link i sessions ≡ None) same h.1
+no-seat : (states : List LinkState) (seats : List Seat) (used : ℕ) (listening : Bool) (seen : Seen) → StandsAmong states seats used listening seen → (k : ℕ) → used < k → at_key seat_link k seats ≡ None
+no-seat states seats used listening seen s k below = none_of _ (s.clients k ∙ ap is_some (s.unknown k below))
 
-pub Leaves-apart : (link : ℕ) (left : Option Departure) (sessions : List Session) → Leaves link left sessions → (k : ℕ) → is_leaving k left ≡ true → at_key session_link k sessions ≡ None
-Leaves-apart link left sessions h = apart-by link left sessions h
-
-no-session : (states : List LinkState) (sessions : List Session) (used : ℕ) (listening : Bool) (seen : Seen) → StandsAmong states sessions None used listening seen → (k : ℕ) → used < k → at_key session_link k sessions ≡ None
-no-session states sessions used listening seen s k below = none_of _ (sym (or-false _) ∙ s.clients k ∙ ap is_some (s.unknown k below))
-
-pub Continues-came : (x y : Headless) (left : Option Departure) (a b : Seen) (link : LinkId) (nonce : List ℕ) (state : LinkState) → Comes x y link → Call a b (Accepted link nonce ∷ []) → link.0 ≡ a.used + 1 → b.used ≡ a.used + 1
+-- an arrival has a client
+pub Continues-came : (x y : Headless) (a b : Seen) (link : LinkId) (nonce : List ℕ) → Comes x y link → Admits x y link nonce → x.core.quits ≡ false → IsCalm x.core.seats → Call a b (Accepted link nonce ∷ []) → link.0 ≡ a.used + 1 → b.used ≡ a.used + 1
     → (IsTrue b.tells → (k : ℕ) → b.sent k ≡ a.sent k) → (IsTrue b.tells → (k : ℕ) → b.choked k ≡ a.choked k) → ((k : ℕ) → b.there k ≡ (a.there k || eqb link.0 k)) → ((k : ℕ) → b.undrained k ≡ a.undrained k) → b.listening ≡ a.listening
-    → y.links.opened.items ≡ x.links.opened.items ++ state ∷ [] → state.link ≡ link → state.tail ≡ record { line = []; over = false } → state.undrained ≡ false → x.core.starved ≤ y.core.starved → All (IsCaused a b) (closed_by left)
-    → (at_key session_link link.0 x.core.sessions.items ≡ None → AddsLink link.0 x.core.sessions.items y.core.sessions.items left) → (at_key session_link link.0 x.core.sessions.items ≡ None → Leaves link.0 left y.core.sessions.items)
-    → (at_key session_link link.0 x.core.sessions.items ≡ None → MayServe x.core.password x.core.sessions.items y.core.sessions.items left x.core.starved y.core.starved (Arrives link.0 nonce ∷ []))
-    → Continues true 0 0 x None y left a b
-Continues-came x y left a b link nonce state comes call next used sent choked there undrained listening opened key tail off rises causes adds leaves serves =
-    let number : link_number state ≡ link.0 = ap (λ (l : LinkId). l.0) key in
-    Continues-step true 0 0 x None y left a b (Accepted link nonce ∷ []) (closed_by left) call comes.password (λ below. (let e = comes.turns in omega arith)) refl refl
-    (λ t s. ap (λ xs. xs ++ closed_by left) (comes.closed ∙ sym (append-nil x.links.closed.items)))
-    causes rises
+    → Continues true 0 0 x y a b
+Continues-came x y a b link nonce comes admits going calm call next used sent choked there undrained listening =
+    let seats : y.core.seats ≡ x.core.seats ++ new_seat link nonce ∷ [] = ap (λ c. c.seats) admits.core in
+    let stays : y.core.starved ≡ x.core.starved = ap (λ c. c.starved) admits.core in
+    Continues-step true 0 0 x y a b (Accepted link nonce ∷ []) [] call (λ below. (let e = comes.turns in omega arith)) refl refl
+    (λ t s. ap (λ xs. xs ++ leaving_closes y.core.seats) admits.closed ∙ ap (λ cs. x.links.closed.items ++ cs) (comes.calm calm ∙ sym calm) ∙ sym (append-nil _))
+    (λ s. All-nil _) (λ over. comes.quits ∙ over)
     (λ s.
     let above : x.used < link.0 = (let c = s.counted in omega arith) in
-    let none = no-session x.links.opened.items x.core.sessions.items x.used x.listening a s link.0 above in
-    let absent : at_key link_number (link_number state) x.links.opened.items ≡ None = ap (λ i. at_key link_number i x.links.opened.items) number ∙ s.unknown link.0 above in
-    let some : (k : ℕ) → is_some (at_key link_number k (x.links.opened.items ++ state ∷ [])) ≡ (is_some (at_key link_number k x.links.opened.items) || eqb link.0 k) = λ k. is_some-push link_number k state x.links.opened.items ∙ ap (λ i. is_some (at_key link_number k x.links.opened.items) || eqb i k) number in
-    rw (opened, comes.listening) (record {
+    let none = no-seat x.links.opened.items x.core.seats x.used x.listening a s link.0 above in
+    let some : (k : ℕ) → is_some (at_key link_number k (x.links.opened.items ++ new_state link ∷ [])) ≡ (is_some (at_key link_number k x.links.opened.items) || eqb link.0 k) = λ k. is_some-push link_number k (new_state link) x.links.opened.items in
+    rw (admits.opened, comes.listening, seats) (record {
       counted = comes.used ∙ next ∙ sym used;
       there = λ k. there k ∙ ap (λ q. q || eqb link.0 k) (s.there k) ∙ sym (some k);
-      undrained = λ k. undrained k ∙ s.undrained k ∙ came-flag k x.links.opened.items state (eqb (link_number state) k) refl off absent;
+      undrained = λ k. undrained k ∙ s.undrained k ∙ came-flag k x.links.opened.items (new_state link) (eqb link.0 k) refl refl (s.unknown link.0 above);
       listens = listening ∙ s.listens;
-      clients = λ k. came-client (is_some (at_key session_link k y.core.sessions.items)) (is_leaving k left) (is_some (at_key session_link k x.core.sessions.items)) (eqb link.0 k) _ (adds none k) (s.clients k) ∙ sym (some k);
-      apart = Leaves-apart link.0 left y.core.sessions.items (leaves none);
+      clients = λ k. is_some-push seat_link k (new_seat link nonce) x.core.seats ∙ ap (λ q. q || eqb link.0 k) (s.clients k) ∙ sym (some k);
+      once = subst Distinct (sym (links-push x.core.seats (new_seat link nonce))) (distinct-push link.0 (map seat_link x.core.seats) s.once (absent-missing link.0 x.core.seats none));
       unknown = λ k below.
           let number' = comes.used in
           let higher : x.used < k = omega arith in
-          let other : link_number state ≢ k = λ q. omega arith in
-          at_key-push_other link_number k state x.links.opened.items other ∙ s.unknown k higher;
+          let other : link_number (new_state link) ≢ k = λ q. omega arith in
+          at_key-push_other link_number k (new_state link) x.links.opened.items other ∙ s.unknown k higher;
     }))
-    (λ t s. rw (comes.clock, opened) (For-came x.clock x.links.opened.items x.used y.used x.ran y.ran a.taken link nonce state (next ∙ ap (λ n. n + 1) (sym s.among.counted)) (comes.used ∙ next ∙ ap (λ n. n + 1) (sym s.among.counted)) key tail comes.ran (s.told (call.told t))))
-    (λ t s same below.
+    (λ t s on. rw (comes.clock, admits.opened) (For-came x.clock x.links.opened.items x.used y.used x.ran y.ran a.taken link nonce (new_state link) (next ∙ ap (λ n. n + 1) (sym s.among.counted)) (comes.used ∙ next ∙ ap (λ n. n + 1) (sym s.among.counted)) refl refl comes.ran (s.told (call.told t) going)))
+    (λ t s.
     let above : x.used < link.0 = (let c = s.among.counted in omega arith) in
-    let none = no-session x.links.opened.items x.core.sessions.items x.used x.listening a s.among in
-    let exact = (serves (none link.0 above)).serves same below in
-    Advances-comes x.core.password (moment x None a) (moment y left b) link.0 (Arrives link.0 nonce ∷ []) refl (next ∙ ap (λ n. n + 1) (sym s.among.counted)) (comes.used ∙ next ∙ ap (λ n. n + 1) (sym s.among.counted)) exact (adds (none link.0 above)) none (sent t) (choked t) (Accepted link nonce ∷ []) (call.taken t))
+    let none = no-seat x.links.opened.items x.core.seats x.used x.listening a s.among link.0 above in
+    let next' : link.0 ≡ x.used + 1 = next ∙ ap (λ n. n + 1) (sym s.among.counted) in
+    record {
+      events = Arrives link.0 nonce ∷ [];
+      reaches = Reaches-all x.core.quits y.core.quits x.ran y.ran (Arrives link.0 nonce ∷ []) going (λ fits. comes.ran);
+      rises = omega arith;
+      advances = λ same below.
+          let came = (admits.step (absent-missing link.0 x.core.seats none)).comes same below in
+          let acts : (run (state_of x.core) (Arrives link.0 nonce ∷ [])).acts ≡ [] = ap (λ xs. xs ++ []) came.acts in
+          Advances-comes (moment x a) (moment y b) [] (Arrives link.0 nonce ∷ []) (comes.used ∙ next') came.state (λ k. ap (sent_to k) acts) came.bytes
+          (λ k. ap (λ ss. nat_le k (x.used + 1) && is_none (at_key seat_link k ss)) seats ∙ fresh_by k link.0 x.used (eqb link.0 k) refl next' (at_key seat_link k x.core.seats) (at_key seat_link k (x.core.seats ++ new_seat link nonce ∷ [])) (is_some-push seat_link k (new_seat link nonce) x.core.seats))
+          comes.quits (ap has_end acts) (sent t) (choked t) (Accepted link nonce ∷ []) (call.taken t) (ap closings acts);
+    })
 
--- a link came for which there was no memory, and was closed at once
-pub Continues-refused : (x y : Headless) (a b : Seen) (link : LinkId) (nonce : List ℕ) → Comes x y link → Call a b (Accepted link nonce ∷ []) → link.0 ≡ a.used + 1 → b.used ≡ a.used + 1
-    → ((k : ℕ) → b.there k ≡ ((a.there k || eqb link.0 k) && not (eqb k link.0))) → ((k : ℕ) → b.undrained k ≡ (a.undrained k && not (eqb k link.0))) → b.listening ≡ a.listening
-    → y.links.opened.items ≡ x.links.opened.items → y.core.sessions.items ≡ without session_link link.0 x.core.sessions.items → y.core.starved ≡ min (x.core.starved + 1) (2 ^ 64 - 1) → x.core.starved ≤ y.core.starved
-    → Continues true 0 0 x None y None a b
-Continues-refused x y a b link nonce comes call next used there undrained listening opened sessions starved rises =
-    Continues-step true 0 0 x None y None a b (Accepted link nonce ∷ []) [] call comes.password (λ below. (let e = comes.turns in omega arith)) refl refl
-    (λ t s. ap (λ xs. xs ++ []) comes.closed ∙ sym (append-nil _))
-    (All-nil _) rises
+refused-caused : (link : LinkId) (nonce : List ℕ) (why : Cause) (a b : Seen) → IsRefusal why → (IsTrue b.tells → b.taken ≡ a.taken ++ Accepted link nonce ∷ []) → CausedBy why link.0 a b
+refused-caused link nonce why a b (inl e) h = rw e (λ t. (nonce, record { front = []; rest = []; taken = h t }))
+refused-caused link nonce why a b (inr e) h = rw e tt
+
+refused-causes : (link : LinkId) (nonce : List ℕ) (o : Option Cause) (a b : Seen) → IfSome o IsRefusal → (IsTrue b.tells → b.taken ≡ a.taken ++ Accepted link nonce ∷ []) → All (IsCaused a b) (closed_by link o)
+refused-causes link nonce None a b p h = All-nil (IsCaused a b)
+refused-causes link nonce (Some why) a b p h = All-cons (IsCaused a b) (record { link = link; cause = why }) [] (refused-caused link nonce why a b p h) (All-nil (IsCaused a b))
+
+refusal-sent : (k link : ℕ) (o : Option Cause) → sent_to k (refusal link o ++ []) ≡ []
+refusal-sent k link None = refl
+refusal-sent k link (Some why) = refl
+
+refusal-closes : (link : LinkId) (o : Option Cause) → closings (refusal link.0 o ++ []) ≡ closed_by link o
+refusal-closes link None = refl
+refusal-closes link (Some why) = refl
+
+refusal-ends : (link : ℕ) (o : Option Cause) → has_end (refusal link o ++ []) ≡ false
+refusal-ends link None = refl
+refusal-ends link (Some why) = refl
+
+refused-hands : (k link : ℕ) (a b : Moment) (t : Bool) → eqb k link ≡ t → link ≡ a.used + 1 → b.used ≡ a.used + 1 → at_key seat_link link a.core.seats ≡ None → b.core.seats ≡ a.core.seats → b.sent k ≡ a.sent k → (b.choked k ≡ false → a.choked k ≡ false)
+    → (more : List Happening) → b.taken ≡ a.taken ++ more → Hands (point k a) (point k b) []
+refused-hands k link a b true e next used none seats sent choked more taken =
+    let same : link ≡ k = grind (arith, nat_tests) in
+    let here : at_key seat_link k a.core.seats ≡ None = ap (λ i. at_key seat_link i a.core.seats) (sym same) ∙ none in
+    let above : nat_le k a.used ≡ false = grind (arith, nat_tests) in
+    let now : nat_le k (a.used + 1) ≡ true = grind (arith, nat_tests) in
+    Hands-close (point k a) (point k b) (rw above refl) (rw (used, now, seats, here) refl) sent
+    (rw taken (spoils-more k (a.choked k) (b.choked k) a.taken more choked))
+    (λ q. ap unsent_in here)
+refused-hands k link a b false e next used none seats sent choked more taken =
+    let other : link ≢ k = λ q. grind (arith, nat_tests) in
+    let same : nat_le k (a.used + 1) ≡ nat_le k a.used = grind (arith, nat_tests) in
+    Hands-stays (point k a) (point k b) [] (rw (used, seats, same) refl)
+    (rw taken (spoils-more k (a.choked k) (b.choked k) a.taken more choked))
+    (rw seats (ap (λ bytes. bytes ++ unsent_on k a.core.seats) sent ∙ sym (append-nil _)))
+    (λ q. sent) (λ q. refl)
+
+gone-link : (k link : ℕ) (t u : Bool) → eqb k link ≡ t → eqb link k ≡ u → (states : List LinkState) → at_key link_number link states ≡ None → ((is_some (at_key link_number k states) || u) && not t) ≡ is_some (at_key link_number k states)
+gone-link k link true u e f states none = let same : k ≡ link = grind (arith, nat_tests) in let here : at_key link_number k states ≡ None = ap (λ i. at_key link_number i states) same ∙ none in rw here (and-not-true u)
+gone-link k link false false e f states none = and-not-false _ ∙ or-false _
+gone-link k link false true e f states none = absurd (let same : link ≡ k = grind (arith, nat_tests) in let other : k ≢ link = λ q. grind (arith, nat_tests) in other (sym same))
+
+gone-flag : (k link : ℕ) (t : Bool) → eqb k link ≡ t → (states : List LinkState) → at_key link_number link states ≡ None → (is_undrained (at_key link_number k states) && not t) ≡ is_undrained (at_key link_number k states)
+gone-flag k link true e states none = let same : k ≡ link = grind (arith, nat_tests) in let here : at_key link_number k states ≡ None = ap (λ i. at_key link_number i states) same ∙ none in rw here refl
+gone-flag k link false e states none = and-not-false _
+
+-- an arrival has no client, and its link is closed at once
+pub Continues-refused : (x y : Headless) (a b : Seen) (link : LinkId) (nonce : List ℕ) → Comes x y link → Refuses x y link nonce → x.core.quits ≡ false → IsCalm x.core.seats → Call a b (Accepted link nonce ∷ []) → link.0 ≡ a.used + 1 → b.used ≡ a.used + 1
+    → (IsTrue b.tells → (k : ℕ) → b.sent k ≡ a.sent k) → (IsTrue b.tells → (k : ℕ) → b.choked k ≡ false → a.choked k ≡ false) → ((k : ℕ) → b.there k ≡ ((a.there k || eqb link.0 k) && not (eqb k link.0))) → ((k : ℕ) → b.undrained k ≡ (a.undrained k && not (eqb k link.0))) → b.listening ≡ a.listening
+    → Continues true 0 0 x y a b
+Continues-refused x y a b link nonce comes r going calm call next used sent choked there undrained listening =
+    Continues-step true 0 0 x y a b (Accepted link nonce ∷ []) (closed_by link r.cause) call (λ below. (let e = comes.turns in omega arith)) refl refl
+    (λ t s.
+    let above : x.used < link.0 = (let c = s.among.counted in omega arith) in
+    ap (λ cs. y.links.closed.items ++ cs) (comes.calm calm) ∙ append-nil _ ∙ r.closed (s.among.unknown link.0 above) ∙ ap (λ xs. xs ++ closed_by link r.cause) (sym (append-nil x.links.closed.items) ∙ ap (λ cs. x.links.closed.items ++ cs) (sym calm)))
+    (λ s. refused-causes link nonce r.cause a b r.fits call.taken) (λ over. comes.quits ∙ over)
     (λ s.
     let above : x.used < link.0 = (let c = s.counted in omega arith) in
-    let none = no-session x.links.opened.items x.core.sessions.items x.used x.listening a s link.0 above in
+    let none = no-seat x.links.opened.items x.core.seats x.used x.listening a s link.0 above in
     let absent = s.unknown link.0 above in
-    rw (opened, comes.listening, sessions, without-missing session_link link.0 x.core.sessions.items none) (record {
+    let seats : y.core.seats ≡ x.core.seats = ap (λ c. c.seats) (r.core (absent-missing link.0 x.core.seats none)) in
+    rw (r.opened absent, comes.listening, seats) (record {
       counted = comes.used ∙ next ∙ sym used;
       there = λ k. there k ∙ ap (λ q. (q || eqb link.0 k) && not (eqb k link.0)) (s.there k) ∙ gone-link k link.0 (eqb k link.0) (eqb link.0 k) refl refl x.links.opened.items absent;
       undrained = λ k. undrained k ∙ ap (λ q. q && not (eqb k link.0)) (s.undrained k) ∙ gone-flag k link.0 (eqb k link.0) refl x.links.opened.items absent;
       listens = listening ∙ s.listens;
       clients = s.clients;
-      apart = s.apart;
+      once = s.once;
       unknown = λ k below. (let number' = comes.used in let higher : x.used < k = omega arith in s.unknown k higher);
     }))
-    (λ t s. rw (comes.clock, opened) (For-refused x.clock x.links.opened.items x.used y.used x.ran y.ran a.taken link nonce (comes.used ∙ next ∙ ap (λ n. n + 1) (sym s.among.counted)) comes.ran (s.told (call.told t))))
-    (λ t s same below. absurd (omega arith))
-  where
-    gone-link : (k link : ℕ) (t u : Bool) → eqb k link ≡ t → eqb link k ≡ u → (states : List LinkState) → at_key link_number link states ≡ None → ((is_some (at_key link_number k states) || u) && not t) ≡ is_some (at_key link_number k states)
-    gone-link k link true u e f states none = let same : k ≡ link = grind (arith, nat_tests) in let here : at_key link_number k states ≡ None = ap (λ i. at_key link_number i states) same ∙ none in rw here (and-not-true u)
-    gone-link k link false false e f states none = and-not-false _ ∙ or-false _
-    gone-link k link false true e f states none = absurd (let same : link ≡ k = grind (arith, nat_tests) in let other : k ≢ link = λ q. grind (arith, nat_tests) in other (sym same))
+    (λ t s on.
+    let above : x.used < link.0 = (let c = s.among.counted in omega arith) in
+    rw (comes.clock, r.opened (s.among.unknown link.0 above)) (For-refused x.clock x.links.opened.items x.used y.used x.ran y.ran a.taken link nonce (comes.used ∙ next ∙ ap (λ n. n + 1) (sym s.among.counted)) comes.ran (s.told (call.told t) going)))
+    (λ t s.
+    let above : x.used < link.0 = (let c = s.among.counted in omega arith) in
+    let none = no-seat x.links.opened.items x.core.seats x.used x.listening a s.among link.0 above in
+    let absent = absent-missing link.0 x.core.seats none in
+    let next' : link.0 ≡ x.used + 1 = next ∙ ap (λ n. n + 1) (sym s.among.counted) in
+    let core = r.core absent in
+    record {
+      events = Arrives link.0 nonce ∷ [];
+      reaches = Reaches-all x.core.quits y.core.quits x.ran y.ran (Arrives link.0 nonce ∷ []) going (λ fits. comes.ran);
+      rises = r.rises;
+      advances = λ same below.
+          let stepped = r.step same below absent in
+          let acts : (run (state_of x.core) (Arrives link.0 nonce ∷ [])).acts ≡ refusal link.0 r.cause ++ [] = ap (λ p. p.acts ++ []) stepped in
+          record {
+            state = ap state_of core ∙ sym (ap (λ p. p.state) stepped);
+            hands = λ k. rw (acts, refusal-sent k link.0 r.cause)
+                (refused-hands k link.0 (moment x a) (moment y b) (eqb k link.0) refl next' (comes.used ∙ next') none (ap (λ c. c.seats) core) (sent t k) (choked t k) (Accepted link nonce ∷ []) (call.taken t));
+            closes = rw acts (refusal-closes link r.cause);
+            quits = comes.quits ∙ sym (or-false x.core.quits) ∙ ap (λ q. x.core.quits || q) (sym (refusal-ends link.0 r.cause)) ∙ ap (λ xs. x.core.quits || has_end xs) (sym acts);
+          };
+    })
 
-    gone-flag : (k link : ℕ) (t : Bool) → eqb k link ≡ t → (states : List LinkState) → at_key link_number link states ≡ None → (is_undrained (at_key link_number k states) && not t) ≡ is_undrained (at_key link_number k states)
-    gone-flag k link true e states none = let same : k ≡ link = grind (arith, nat_tests) in let here : at_key link_number k states ≡ None = ap (λ i. at_key link_number i states) same ∙ none in rw here refl
-    gone-flag k link false e states none = and-not-false _
+and-nothing : (b : Bool) → (b && not true) ≡ false
+and-nothing true = refl
+and-nothing false = refl
+
+-- no arrival is ready
+pub Continues-idle : (x : Headless) (a b : Seen) → Call a b [] → (IsTrue b.tells → (k : ℕ) → b.sent k ≡ a.sent k) → (IsTrue b.tells → (k : ℕ) → b.choked k ≡ a.choked k)
+    → b.used ≡ a.used → ((k : ℕ) → b.there k ≡ a.there k) → ((k : ℕ) → b.undrained k ≡ a.undrained k) → b.listening ≡ (a.listening && not true) → Continues true 0 0 x (record x { listening = false }) a b
+Continues-idle x a b call sent choked used there undrained listening =
+    Continues-still x (record x { listening = false }) a b call refl refl refl refl (λ s. refl)
+    (λ s. record { counted = s.counted ∙ sym used; there = λ k. there k ∙ s.there k; undrained = λ k. undrained k ∙ s.undrained k; listens = listening ∙ and-nothing _; clients = s.clients; once = s.once; unknown = s.unknown })
+    (λ t s. s)
+    (λ t s. Advances-same (moment x a) (moment (record x { listening = false }) b) refl refl refl (sent t) (choked t) [] (call.taken t) [] refl)

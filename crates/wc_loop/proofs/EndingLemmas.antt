@@ -1,26 +1,37 @@
 -- How a run ends.
-use Rattle.std.proofs.Common.{◌≡◌, ◌≢◌, ◌⊎◌, inl, inr, ℕ, ◌≤◌, Bool, true, false, eqb, cond, IsTrue, List, [], ◌∷◌, Option, Some, None, Ok, Err, IfSome, refl, sym, ◌∙◌, arith}
+use Rattle.std.proofs.Common.{◌≡◌, ◌≢◌, ◌⊎◌, inl, inr, ℕ, ◌≤◌, Bool, true, false, eqb, cond, IsTrue, List, [], ◌∷◌, Option, Some, None, Ok, Err, IfSome, IsSomeAnd, refl, sym, ◌∙◌, arith}
+use Rattle.std.proofs.lemmas.Bool.{false≢true}
 use Rattle.std.proofs.lemmas.Bool.Decides.{nat_tests}
 use Rattle.wc_outside.specs.Faults.{Rose}
 use Rattle.wc_outside.specs.Seen.{Seen}
 use Rattle.wc_outside.specs.declared.asked.Asked.TheVariants.{Listen}
 use Rattle.wc_loop.specs.declared.headless.Headless.{Headless}
 use Rattle.wc_loop.specs.declared.ending.Ending.{Ending}
-use Rattle.wc_loop.specs.declared.ending.Ending.TheVariants.{Version, BadWord, WaitFailed, NoConfiguration, BadLine, NoMemory, ListenFailed, TurnsTaken}
+use Rattle.wc_loop.specs.declared.ending.Ending.TheVariants.{Version, BadWord, WaitFailed, NoConfiguration, BadLine, NoMemory, ListenFailed, TurnsTaken, Quit as EndsQuit}
 use Rattle.wc_loop.specs.declared.then.Then.{Then}
 use Rattle.wc_loop.specs.declared.then.Then.TheVariants.{GoOn, Quit, WaitFault, ListenFault, KeeperFault}
-use Rattle.wc_loop.specs.Configuration.{password_in}
-use Rattle.wc_loop.specs.Sources.{AllServed}
+use Rattle.wc_loop.specs.declared.configuration.Settings.{Settings}
+use Rattle.wc_loop.specs.Configuration.{settings_in}
+use Rattle.wc_loop.specs.Sources.{AllServed, AllSent}
 use Rattle.wc_loop.specs.Turns.{wakes, listen_faults, faults_then}
-use Rattle.wc_loop.specs.Endings.{kept_of, LastOf, IsEarly, IsLast, Runs}
+use Rattle.wc_loop.specs.Headline.{IsConfigured}
+use Rattle.wc_loop.specs.Endings.{kept_of, LastOf, WaitsAtMost, HasQuit, EndsAt, IsEarly, IsLast, Runs}
 use Rattle.wc_loop.proofs.HeadlineLemmas.{IfSome-last}
 
 kept_of-some : (h : Headless) → 1 ≤ h.turns → kept_of h ≡ Some h
 kept_of-some h above = let e : eqb h.turns 0 ≡ false = grind (arith, nat_tests) in rw e refl
 
-readable : (contents : Option (List ℕ)) (password : List ℕ) (P : Type 0) → IfSome contents (λ kept. password_in kept ≡ Ok password) → IfSome contents (λ kept. (n : ℕ) → password_in kept ≡ Err n → P)
-readable None password P known = tt
-readable (Some kept) password P known = λ n bad. (let e : Ok password ≡ Err n = sym known ∙ bad in cc)
+-- a configuration that is readable
+abbrev pub IsReadable : List ℕ → Type 0
+IsReadable kept = (settings : Settings) × (settings_in kept ≡ Ok settings)
+
+readable : (contents : Option (List ℕ)) (P : Type 0) → IfSome contents IsReadable → IfSome contents (λ kept. (n : ℕ) → settings_in kept ≡ Err n → P)
+readable None P known = tt
+readable (Some kept) P known = λ n bad. (let e : Ok known.0 ≡ Err n = sym known.1 ∙ bad in cc)
+
+pub known-readable : (contents : Option (List ℕ)) (first : Headless) → IfSome contents (IsConfigured first) → IfSome contents IsReadable
+known-readable None first known = tt
+known-readable (Some kept) first known = (known.settings, known.set)
 
 not_early : (status : ℕ) → status ≢ 3 → status ≢ 4 → status ≢ 5 → (status ≡ 3) ⊎ ((status ≡ 4) ⊎ (status ≡ 5)) → ⊥
 not_early status a b c (inl q) = a q
@@ -35,90 +46,155 @@ LastOf-kept seen h woke = go (eqb h.turns 0) refl
     go false e = (grind (arith, nat_tests), woke)
 
 -- what stands behind the last turn
-pub record Behind (turns : ℕ) (contents : Option (List ℕ)) (password : List ℕ) (before after : Seen) (then : Then) (h : Headless) : Type 0 where
+pub record Behind (turns : ℕ) (contents : Option (List ℕ)) (before after : Seen) (then : Then) (h : Headless) : Type 0 where
   pub above : 1 ≤ turns
-  pub known : IfSome contents (λ kept. password_in kept ≡ Ok password)
+  pub known : IfSome contents IsReadable
   pub woke : IsTrue after.tells → wakes after.taken ≡ h.turns
   pub listens : IsTrue after.tells → listen_faults after.taken ≡ faults_then then
+  pub never : then ≢ KeeperFault
+  pub quit : then ≡ Quit → h.core.quits ≡ true
+  pub going : then ≢ Quit → then ≢ ListenFault → h.core.quits ≡ false
   pub all : then ≡ GoOn → h.turns ≡ turns
   pub fewer : then ≡ WaitFault → h.turns ≢ turns
-  pub some : then ≡ ListenFault → 1 ≤ h.turns
+  pub some : (then ≡ ListenFault) ⊎ (then ≡ Quit) → 1 ≤ h.turns
+  pub most : h.turns ≤ turns
   pub wait_fault : then ≡ WaitFault → Rose before.faults.waits after.faults.waits
   pub listen_fault : then ≡ ListenFault → Rose before.faults.listens after.faults.listens
   pub asked : IsTrue after.tells → after.asked ≡ Listen 9000 ∷ []
-  pub served : then ≡ GoOn → AllServed h.core.sessions.items before after
+  pub served : then ≡ GoOn → AllServed h.core.seats before after
+  pub sent : then ≡ Quit → AllSent h.core.seats before after
   pub left : 1 ≤ h.turns → IsLast contents before after h
 
+at-most : (turns : ℕ) (after : Seen) (h : Headless) → h.turns ≤ turns → (IsTrue after.tells → wakes after.taken ≡ h.turns) → WaitsAtMost turns after (kept_of h)
+at-most turns after h most woke = record { counted = IfSome-last (kept_of h) h _ refl (λ above. most); told = λ t. (let w = woke t in omega arith) }
+
+kept-quit : (b : Bool) (h : Headless) → 1 ≤ h.turns → h.core.quits ≡ b → IsSomeAnd (kept_of h) (HasQuit b)
+kept-quit b h above q = rw (kept_of-some h above) q
+
+-- a state in which `/quit` was not run
+not-quit : (h : Headless) → h.core.quits ≡ false → IsSomeAnd (kept_of h) (HasQuit true) → ⊥
+not-quit h going = go (eqb h.turns 0)
+  where
+    go : (b : Bool) → IsSomeAnd (cond b None (Some h)) (HasQuit true) → ⊥
+    go true q = q
+    go false q = false≢true (sym going ∙ q)
+
+-- a state in which it was
+not-going : (h : Headless) → 1 ≤ h.turns → h.core.quits ≡ true → IfSome (kept_of h) (HasQuit false) → ⊥
+not-going h above over q = false≢true (sym (rw (kept_of-some h above) at q) ∙ over)
+
 -- the ends behind the last turn
-pub Runs-behind : (turns : ℕ) (contents : Option (List ℕ)) (password : List ℕ) (k k' : ℕ) (before after : Seen) (then : Then) (ending : Ending) (h : Headless) → Behind turns contents password before after then h
-    → (then ≢ Quit) × (then ≢ KeeperFault) → (then ≡ GoOn → ending ≡ TurnsTaken) → (then ≡ WaitFault → ending ≡ WaitFailed) → (then ≡ ListenFault → ending ≡ ListenFailed)
+pub Runs-behind : (turns : ℕ) (contents : Option (List ℕ)) (k k' : ℕ) (before after : Seen) (then : Then) (ending : Ending) (h : Headless) → Behind turns contents before after then h → EndsAt then ending
     → Runs turns contents k k' before after ending (kept_of h)
-Runs-behind turns contents password k k' before after GoOn ending h b never all wait listen = rw (all refl) (record {
+Runs-behind turns contents k k' before after GoOn ending h b at = rw at (record {
   ends = record {
-    later = (λ q. omega arith, λ q. omega arith);
+    later = λ q. omega arith;
     known = omega arith;
     line = λ q. absurd (omega arith);
-    unreadable = readable contents password _ b.known;
-    all = λ q. rw (kept_of-some h (let a = b.above in let n = b.all refl in omega arith)) (b.all refl);
+    unreadable = readable contents _ b.known;
+    quit = λ q. absurd (omega arith);
+    quit_told = λ q t. absurd (omega arith);
+    quit_due = λ q six. absurd (not-quit h (b.going (λ r. cc) (λ r. cc)) q);
+    all = λ q. rw (kept_of-some h (let a = b.above in let n = b.all refl in omega arith)) (b.all refl, b.going (λ r. cc) (λ r. cc));
     told = λ q t. (b.woke t ∙ b.all refl, b.listens t);
-    due = λ t w l. refl;
-    failed = λ q t. b.listens t;
+    due = λ t w g l. refl;
+    failed = λ q t. absurd (omega arith);
     listened = λ q t. absurd (omega arith);
     early = λ q. absurd (not_early 8 (λ q. omega arith) (λ q. omega arith) (λ q. omega arith) q);
   };
   line = λ q. absurd (omega arith);
+  version = refl;
   counted = LastOf-kept after h b.woke;
+  most = at-most turns after h b.most b.woke;
   left = IfSome-last (kept_of h) h _ refl b.left;
   served = λ q. IfSome-last (kept_of h) h _ refl (λ above. b.served refl);
+  sent = λ q. absurd (omega arith);
   faults = record { wait = λ q. absurd (omega arith); keeper = λ q. absurd (omega arith); listener = λ q. absurd (omega arith) };
   asked = b.asked;
 })
-Runs-behind turns contents password k k' before after WaitFault ending h b never all wait listen = rw (wait refl) (record {
+Runs-behind turns contents k k' before after Quit ending h b at = rw at (record {
   ends = record {
-    later = (λ q. omega arith, λ q. omega arith);
+    later = λ q. omega arith;
     known = omega arith;
     line = λ q. absurd (omega arith);
-    unreadable = readable contents password _ b.known;
+    unreadable = readable contents _ b.known;
+    quit = λ q. kept-quit true h (b.some (inr refl)) (b.quit refl);
+    quit_told = λ q t. b.listens t;
+    quit_due = λ q six. refl;
     all = λ q. absurd (omega arith);
     told = λ q t. absurd (omega arith);
-    due = λ t w l. absurd (b.fewer refl (sym (b.woke t) ∙ w));
+    due = λ t w g l. absurd (not-going h (b.some (inr refl)) (b.quit refl) g);
+    failed = λ q t. absurd (omega arith);
+    listened = λ q t. absurd (omega arith);
+    early = λ q. absurd (not_early 0 (λ q. omega arith) (λ q. omega arith) (λ q. omega arith) q);
+  };
+  line = λ q. absurd (omega arith);
+  version = refl;
+  counted = LastOf-kept after h b.woke;
+  most = at-most turns after h b.most b.woke;
+  left = IfSome-last (kept_of h) h _ refl b.left;
+  served = λ q. absurd (omega arith);
+  sent = λ q. IfSome-last (kept_of h) h _ refl (λ above. b.sent refl);
+  faults = record { wait = λ q. absurd (omega arith); keeper = λ q. absurd (omega arith); listener = λ q. absurd (omega arith) };
+  asked = b.asked;
+})
+Runs-behind turns contents k k' before after WaitFault ending h b at = rw at (record {
+  ends = record {
+    later = λ q. omega arith;
+    known = omega arith;
+    line = λ q. absurd (omega arith);
+    unreadable = readable contents _ b.known;
+    quit = λ q. absurd (omega arith);
+    quit_told = λ q t. absurd (omega arith);
+    quit_due = λ q six. absurd (not-quit h (b.going (λ r. cc) (λ r. cc)) q);
+    all = λ q. absurd (omega arith);
+    told = λ q t. absurd (omega arith);
+    due = λ t w g l. absurd (b.fewer refl (sym (b.woke t) ∙ w));
     failed = λ q t. b.listens t;
     listened = λ q t. absurd (omega arith);
     early = λ q. absurd (not_early 2 (λ q. omega arith) (λ q. omega arith) (λ q. omega arith) q);
   };
   line = λ q. absurd (omega arith);
+  version = refl;
   counted = LastOf-kept after h b.woke;
+  most = at-most turns after h b.most b.woke;
   left = IfSome-last (kept_of h) h _ refl b.left;
   served = λ q. absurd (omega arith);
+  sent = λ q. absurd (omega arith);
   faults = record { wait = λ q. b.wait_fault refl; keeper = λ q. absurd (omega arith); listener = λ q. absurd (omega arith) };
   asked = b.asked;
 })
-Runs-behind turns contents password k k' before after ListenFault ending h b never all wait listen = rw (listen refl) (record {
+Runs-behind turns contents k k' before after ListenFault ending h b at = rw at (record {
   ends = record {
-    later = (λ q. omega arith, λ q. omega arith);
+    later = λ q. omega arith;
     known = omega arith;
     line = λ q. absurd (omega arith);
-    unreadable = readable contents password _ b.known;
+    unreadable = readable contents _ b.known;
+    quit = λ q. absurd (omega arith);
+    quit_told = λ q t. absurd (omega arith);
+    quit_due = λ q six. absurd (six refl);
     all = λ q. absurd (omega arith);
     told = λ q t. absurd (omega arith);
-    due = λ t w l. absurd (let n = b.listens t in omega arith);
+    due = λ t w g l. absurd (let n = b.listens t in omega arith);
     failed = λ q t. absurd (omega arith);
     listened = λ q t. (let n = b.listens t in omega arith);
     early = λ q. absurd (not_early 6 (λ q. omega arith) (λ q. omega arith) (λ q. omega arith) q);
   };
   line = λ q. absurd (omega arith);
+  version = refl;
   counted = LastOf-kept after h b.woke;
+  most = at-most turns after h b.most b.woke;
   left = IfSome-last (kept_of h) h _ refl b.left;
   served = λ q. absurd (omega arith);
+  sent = λ q. absurd (omega arith);
   faults = record { wait = λ q. absurd (omega arith); keeper = λ q. absurd (omega arith); listener = λ q. b.listen_fault refl };
   asked = b.asked;
 })
-Runs-behind turns contents password k k' before after Quit ending h b never all wait listen = absurd (never.0 refl)
-Runs-behind turns contents password k k' before after KeeperFault ending h b never all wait listen = absurd (never.1 refl)
+Runs-behind turns contents k k' before after KeeperFault ending h b at = absurd at
 
-bad-line : (contents : Option (List ℕ)) (n : ℕ) → IfSome contents (λ kept. password_in kept ≡ Err n) → IfSome contents (λ kept. (password : List ℕ) → password_in kept ≢ Ok password)
+bad-line : (contents : Option (List ℕ)) (n : ℕ) → IfSome contents (λ kept. settings_in kept ≡ Err n) → IfSome contents (λ kept. (settings : Settings) → settings_in kept ≢ Ok settings)
 bad-line None n bad = tt
-bad-line (Some kept) n bad = λ password ok. (let e : Ok password ≡ Err n = sym ok ∙ bad in cc)
+bad-line (Some kept) n bad = λ settings ok. (let e : Ok settings ≡ Err n = sym ok ∙ bad in cc)
 
 always : (contents : Option (List ℕ)) (P : List ℕ → Type 0) → ((kept : List ℕ) → P kept) → IfSome contents P
 always None P p = tt
@@ -133,61 +209,79 @@ pub record Unawaited (turns : ℕ) (seen : Seen) : Type 0 where
 pub Runs-early : (turns : ℕ) (contents : Option (List ℕ)) (k k' : ℕ) (seen : Seen) (ending : Ending) → Unawaited turns seen → (IsTrue seen.tells → seen.asked ≡ []) → IsEarly contents k k' ending → Runs turns contents k k' seen seen ending None
 Runs-early turns contents k k' seen NoConfiguration u asked early = record {
   ends = record {
-    later = (λ q. omega arith, λ q. omega arith);
+    later = λ q. omega arith;
     known = omega arith;
     line = λ q. absurd (omega arith);
     unreadable = always contents _ (λ kept n bad three five. absurd (three refl));
+    quit = λ q. absurd (omega arith);
+    quit_told = λ q t. absurd (omega arith);
+    quit_due = λ q six. absurd q;
     all = λ q. absurd (omega arith);
     told = λ q t. absurd (omega arith);
-    due = λ t w l. absurd (let z = u.woke t in let a = u.above in omega arith);
+    due = λ t w g l. absurd (let z = u.woke t in let a = u.above in omega arith);
     failed = λ q t. absurd (omega arith);
     listened = λ q t. absurd (omega arith);
     early = λ q. refl;
   };
   line = λ q. absurd (omega arith);
+  version = refl;
   counted = u.woke;
+  most = record { counted = tt; told = λ t. (let z = u.woke t in omega arith) };
   left = tt;
   served = λ q. tt;
+  sent = λ q. tt;
   faults = record { wait = λ q. absurd (omega arith); keeper = λ q. early; listener = λ q. absurd (omega arith) };
   asked = asked;
 }
 Runs-early turns contents k k' seen (BadLine n) u asked early = record {
   ends = record {
-    later = (λ q. omega arith, λ q. omega arith);
+    later = λ q. omega arith;
     known = omega arith;
     line = λ q. bad-line contents n early;
     unreadable = always contents _ (λ kept n bad three five. refl);
+    quit = λ q. absurd (omega arith);
+    quit_told = λ q t. absurd (omega arith);
+    quit_due = λ q six. absurd q;
     all = λ q. absurd (omega arith);
     told = λ q t. absurd (omega arith);
-    due = λ t w l. absurd (let z = u.woke t in let a = u.above in omega arith);
+    due = λ t w g l. absurd (let z = u.woke t in let a = u.above in omega arith);
     failed = λ q t. absurd (omega arith);
     listened = λ q t. absurd (omega arith);
     early = λ q. refl;
   };
   line = λ q. early;
+  version = refl;
   counted = u.woke;
+  most = record { counted = tt; told = λ t. (let z = u.woke t in omega arith) };
   left = tt;
   served = λ q. tt;
+  sent = λ q. tt;
   faults = record { wait = λ q. absurd (omega arith); keeper = λ q. absurd (omega arith); listener = λ q. absurd (omega arith) };
   asked = asked;
 }
 Runs-early turns contents k k' seen NoMemory u asked early = record {
   ends = record {
-    later = (λ q. omega arith, λ q. omega arith);
+    later = λ q. omega arith;
     known = omega arith;
     line = λ q. absurd (omega arith);
     unreadable = always contents _ (λ kept n bad three five. absurd (five refl));
+    quit = λ q. absurd (omega arith);
+    quit_told = λ q t. absurd (omega arith);
+    quit_due = λ q six. absurd q;
     all = λ q. absurd (omega arith);
     told = λ q t. absurd (omega arith);
-    due = λ t w l. absurd (let z = u.woke t in let a = u.above in omega arith);
+    due = λ t w g l. absurd (let z = u.woke t in let a = u.above in omega arith);
     failed = λ q t. absurd (omega arith);
     listened = λ q t. absurd (omega arith);
     early = λ q. refl;
   };
   line = λ q. absurd (omega arith);
+  version = refl;
   counted = u.woke;
+  most = record { counted = tt; told = λ t. (let z = u.woke t in omega arith) };
   left = tt;
   served = λ q. tt;
+  sent = λ q. tt;
   faults = record { wait = λ q. absurd (omega arith); keeper = λ q. absurd (omega arith); listener = λ q. absurd (omega arith) };
   asked = asked;
 }
@@ -196,27 +290,34 @@ Runs-early turns contents k k' seen (BadWord n) u asked early = absurd early
 Runs-early turns contents k k' seen WaitFailed u asked early = absurd early
 Runs-early turns contents k k' seen ListenFailed u asked early = absurd early
 Runs-early turns contents k k' seen TurnsTaken u asked early = absurd early
+Runs-early turns contents k k' seen EndsQuit u asked early = absurd early
 
 -- the listener was asked for in vain
-pub Runs-unheard : (turns : ℕ) (contents : Option (List ℕ)) (password : List ℕ) (k k' : ℕ) (before after : Seen) → Unawaited turns after → IfSome contents (λ kept. password_in kept ≡ Ok password)
+pub Runs-unheard : (turns : ℕ) (contents : Option (List ℕ)) (k k' : ℕ) (before after : Seen) → Unawaited turns after → IfSome contents IsReadable
     → (IsTrue after.tells → listen_faults after.taken ≡ 1) → Rose before.faults.listens after.faults.listens → (IsTrue after.tells → after.asked ≡ Listen 9000 ∷ []) → Runs turns contents k k' before after ListenFailed None
-Runs-unheard turns contents password k k' before after u known listens rose asked = record {
+Runs-unheard turns contents k k' before after u known listens rose asked = record {
   ends = record {
-    later = (λ q. omega arith, λ q. omega arith);
+    later = λ q. omega arith;
     known = omega arith;
     line = λ q. absurd (omega arith);
-    unreadable = readable contents password _ known;
+    unreadable = readable contents _ known;
+    quit = λ q. absurd (omega arith);
+    quit_told = λ q t. absurd (omega arith);
+    quit_due = λ q six. absurd q;
     all = λ q. absurd (omega arith);
     told = λ q t. absurd (omega arith);
-    due = λ t w l. absurd (let z = u.woke t in let a = u.above in omega arith);
+    due = λ t w g l. absurd (let z = u.woke t in let a = u.above in omega arith);
     failed = λ q t. absurd (omega arith);
     listened = λ q t. (let n = listens t in omega arith);
     early = λ q. refl;
   };
   line = λ q. absurd (omega arith);
+  version = refl;
   counted = u.woke;
+  most = record { counted = tt; told = λ t. (let z = u.woke t in omega arith) };
   left = tt;
   served = λ q. tt;
+  sent = λ q. tt;
   faults = record { wait = λ q. absurd (omega arith); keeper = λ q. absurd (omega arith); listener = λ q. rose };
   asked = asked;
 }

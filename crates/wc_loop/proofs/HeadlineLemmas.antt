@@ -1,80 +1,111 @@
 -- What a whole run hands to its clients.
-use Rattle.std.proofs.Common.{◌≡◌, ℕ, ◌≤◌, List, [], ◌++◌, IsTrue, Bool, true, false, cond, eqb, nat_le, ◌&&◌, refl, sym, ap, ◌∙◌, arith, Option, Some, None, IfSome, IfOk, is_some, is_none, option_map, Result, Ok}
+use Rattle.std.proofs.Common.{◌≡◌, ℕ, ◌≤◌, List, [], ◌∷◌, ◌++◌, IsTrue, Bool, true, false, cond, eqb, nat_le, ◌&&◌, ◌||◌, refl, sym, ap, ◌∙◌, subst, arith, Option, Some, None, IfSome, IfOk, is_some, is_none, option_map, Ok}
 use Rattle.std.proofs.lemmas.Bool.{false≢true}
 use Rattle.std.proofs.lemmas.Bool.Decides.{nat_tests}
 use Rattle.std.proofs.lemmas.List.{append-nil}
+use Rattle.wc_text.specs.declared.names.LinkId.{LinkId}
+use Rattle.wc_text.specs.declared.names.Cause.{Cause}
 use Rattle.wc_outside.specs.Seen.{Seen, IsNew}
 use Rattle.wc_outside.specs.Keyed.{at_key}
+use Rattle.wc_outside.specs.declared.happening.Happening.{Happening}
+use Rattle.wc_session.specs.declared.client.Client.{Client}
+use Rattle.wc_core.specs.declared.seat.Seat.{Seat}
+use Rattle.wc_core.specs.Events.{Event}
+use Rattle.wc_core.specs.State.{State, first_state}
+use Rattle.wc_core.specs.Step.{client_link, run}
+use Rattle.wc_core.specs.Served.{seat_link, clients_of, state_of, unsent_on, sent_to, has_end}
 use Rattle.wc_loop.specs.declared.headless.Headless.{Headless}
-use Rattle.wc_loop.specs.declared.session.Session.{Session}
-use Rattle.wc_loop.specs.Configuration.{password_in}
+use Rattle.wc_loop.specs.declared.link_state.Closed.{Closed}
+use Rattle.wc_loop.specs.Configuration.{settings_in}
 use Rattle.wc_loop.specs.Endings.{kept_of}
-use Rattle.wc_loop.specs.Headline.{HandsOut, Headline, IsFirst, IsFresh}
-use Rattle.wc_loop.specs.Run.{Seat, seat_link}
-use Rattle.wc_loop.specs.Served.{session_link, seat_of}
+use Rattle.wc_loop.specs.Events.{events_from}
+use Rattle.wc_loop.specs.Hands.{IsFrontOf}
+use Rattle.wc_loop.specs.Headline.{HandsOut, Headline, IsConfigured, IsFirst, IsFresh}
+use Rattle.wc_loop.specs.Served.{Reaches, IsCalm, closed_by, leaving_closes}
 use Rattle.wc_loop.specs.Turns.{Stands, Continues, moment, point}
-use Rattle.wc_loop.proofs.KeyedLemmas.{or-false}
-use Rattle.wc_loop.proofs.ServedLemmas.{at_key-seats}
 
-pub Stands-first : (first : Headless) (seen : Seen) → IsFirst first → IsFresh seen → Stands first None seen
+pub Stands-first : (first : Headless) (seen : Seen) → IsFirst first → IsFresh seen → Stands first seen
 Stands-first first seen f new = record {
-  among = rw (f.sessions, f.links, f.used, f.listening) (record {
+  among = rw (f.seats, f.links, f.used, f.listening) (record {
     counted = sym new.used;
     there = new.there;
     undrained = new.undrained;
     listens = new.listening;
     clients = λ k. refl;
-    apart = λ k e. absurd (false≢true e);
+    once = tt;
     unknown = λ k below. refl;
   });
-  told = λ t. rw (f.clock, f.links, f.used, f.ran, new.taken t) (record { clock = refl; tails = λ k. tt; fresh = λ k below. refl; events = refl });
+  told = λ t on. rw (f.clock, f.links, f.used, f.ran, new.taken t) (record { clock = refl; tails = λ k. tt; fresh = λ k below. refl; events = refl });
 }
 
-some-same : (o : Option Session) → is_some (option_map seat_of o) ≡ is_some o
+-- ---- the clients of seats of which none is leaving
+
+calm-parts : (link : LinkId) (why : Option Cause) (others : List Closed) → closed_by link why ++ others ≡ [] → (why ≡ None) × (others ≡ [])
+calm-parts link None others e = (refl, e)
+calm-parts link (Some cause) others e = absurd (let q : record { link = link; cause = cause } ∷ others ≡ [] = e in cc)
+
+client-at : (seat : Seat) (t : Bool) (o : Option Client) (o' : Option Seat) → o ≡ option_map (λ s. s.session.client) o' → cond t (Some seat.session.client) o ≡ option_map (λ s. s.session.client) (cond t (Some seat) o')
+client-at seat true o o' e = refl
+client-at seat false o o' e = e
+
+at_key-clients : (k : ℕ) (seats : List Seat) → IsCalm seats → at_key client_link k (clients_of seats) ≡ option_map (λ s. s.session.client) (at_key seat_link k seats)
+at_key-clients k [] calm = refl
+at_key-clients k (seat ∷ seats) calm =
+    let parts = calm-parts seat.session.client.link seat.leaving (leaving_closes seats) calm in
+    ap (λ why. at_key client_link k (cond (is_none why) (seat.session.client ∷ clients_of seats) (clients_of seats))) parts.0 ∙ client-at seat (eqb (seat_link seat) k) (at_key client_link k (clients_of seats)) (at_key seat_link k seats) (at_key-clients k seats parts.1)
+
+some-same : (o : Option Seat) → is_some (option_map (λ s. s.session.client) o) ≡ is_some o
 some-same None = refl
 some-same (Some s) = refl
 
-there-seat : (o : Option Session) (seat : Seat) → option_map seat_of o ≡ Some seat → is_none o ≡ false
-there-seat None seat e = cc
-there-seat (Some s) seat e = refl
+there-seat : (o : Option Seat) (client : Client) → option_map (λ s. s.session.client) o ≡ Some client → is_none o ≡ false
+there-seat None client e = cc
+there-seat (Some s) client e = refl
 
-none-seat : (o : Option Session) → option_map seat_of o ≡ None → is_none o ≡ true
+none-seat : (o : Option Seat) → option_map (λ s. s.session.client) o ≡ None → is_none o ≡ true
 none-seat None e = refl
 none-seat (Some s) e = cc
 
 zero-below : (k : ℕ) → 1 ≤ k → nat_le k 0 ≡ false
 zero-below k one = grind (arith, nat_tests)
 
-and-no : (b : Bool) → (b && (false && true)) ≡ false
+and-no : (b : Bool) → (b && false) ≡ false
 and-no true = refl
 and-no false = refl
 
-first-gone : (k : ℕ) (b : Bool) → 1 ≤ k → (nat_le k 0 && b) ≡ false
-first-gone k b one = rw (zero-below k one) refl
+first-gone : (k used : ℕ) (b : Bool) → used ≡ 0 → 1 ≤ k → (nat_le k used && b) ≡ false
+first-gone k used b none one = rw (none, zero-below k one) refl
+
+reaches-from : (q q' : Bool) (n m : ℕ) (taken gained all : List Happening) (events : List Event) → q ≡ false → n ≡ 0 → taken ≡ [] → gained ≡ all → Reaches q q' n m (events_from taken gained) events → Reaches false q' 0 m (events_from [] all) events
+reaches-from q q' n m taken gained all events quits none nothing same h = rw (quits, none, nothing, same) at h
 
 -- a loop that began with nothing
-pub HandsOut-run : {n f : ℕ} (first last : Headless) (a b : Seen) → Continues false n f first None last None a b → IsFirst first → IsFresh a → IsTrue b.tells → last.core.starved ≡ 0 → HandsOut first.core.password b last
-HandsOut-run first last a b h f new t fed =
+pub HandsOut-run : {n f : ℕ} (first last : Headless) (a b : Seen) → Continues false n f first last a b → IsFirst first → IsFresh a → IsCalm last.core.seats → IsTrue b.tells → last.core.starved ≡ 0 → HandsOut (state_of first.core) b last
+HandsOut-run first last a b h f new calm t fed =
     let told = h.told t in
     let stands = Stands-first first a f new in
     let after = h.stands stands in
     let gained : h.gained ≡ b.taken = sym (h.taken t ∙ ap (λ taken. taken ++ h.gained) (new.taken told)) in
     let goes = h.goes t stands in
+    let owed = λ (k : ℕ). sent_to k (run (state_of first.core) goes.events).acts in
     let advances = goes.advances (fed ∙ sym f.starved) (omega (arith, f.starved)) in
-    let exact = rw (f.sessions, new.taken told, gained) at advances in
-    let sent : (k : ℕ) → a.sent k ≡ [] = new.sent told in
+    let clients = ap (λ (s : State). s.clients) advances.state in
+    let none : (k : ℕ) → a.sent k ++ unsent_on k first.core.seats ≡ [] = λ k. ap (λ s. s ++ unsent_on k first.core.seats) (new.sent told k) ∙ ap (unsent_on k) f.seats in
     record {
-      seats = exact.seats;
-      links = λ k. sym (after.among.clients k) ∙ or-false _ ∙ sym (some-same _) ∙ ap is_some (sym (at_key-seats k last.core.sessions.items)) ∙ ap (λ seats. is_some (at_key seat_link k seats)) exact.seats;
-      opened = λ k seat one there.
-          let here : option_map seat_of (at_key session_link k last.core.sessions.items) ≡ Some seat = sym (at_key-seats k last.core.sessions.items) ∙ ap (at_key seat_link k) exact.seats ∙ there in
-          let open' : (point k (moment last None b)).gone ≡ false = rw (there-seat _ seat here) (and-no _) in
-          (exact.hands k).stays open' ∙ rw (sent k) refl;
-      closed = λ k one used none.
-          let here : option_map seat_of (at_key session_link k last.core.sessions.items) ≡ None = sym (at_key-seats k last.core.sessions.items) ∙ ap (at_key seat_link k) exact.seats ∙ none in
+      events = goes.events;
+      reaches = reaches-from _ _ _ _ _ _ _ _ f.quits f.ran (new.taken told) gained goes.reaches;
+      state = advances.state;
+      quits = advances.quits ∙ ap (λ q. q || has_end (run (state_of first.core) goes.events).acts) f.quits;
+      links = λ k. sym (after.among.clients k) ∙ sym (some-same _) ∙ ap is_some (sym (at_key-clients k last.core.seats calm)) ∙ ap (λ cs. is_some (at_key client_link k cs)) clients;
+      opened = λ k client one there.
+          let here : option_map (λ s. s.session.client) (at_key seat_link k last.core.seats) ≡ Some client = sym (at_key-clients k last.core.seats calm) ∙ ap (at_key client_link k) clients ∙ there in
+          let open' : (point k (moment last b)).gone ≡ false = ap (λ q. nat_le k last.used && q) (there-seat _ client here) ∙ and-no _ in
+          (advances.hands k).stays open' ∙ ap (λ bytes. bytes ++ owed k) (none k);
+      closed = λ k one used missing.
+          let here : option_map (λ s. s.session.client) (at_key seat_link k last.core.seats) ≡ None = sym (at_key-clients k last.core.seats calm) ∙ ap (at_key client_link k) clients ∙ missing in
           let low : nat_le k last.used ≡ true = (let c = after.among.counted in grind (arith, nat_tests)) in
-          let gone : (point k (moment last None b)).gone ≡ true = rw (none-seat _ here, low) refl in
-          rw (sent k) at ((exact.hands k).closes (rw f.used (first-gone k _ one)) gone);
+          let gone : (point k (moment last b)).gone ≡ true = ap (λ q. nat_le k last.used && q) (none-seat _ here) ∙ ap (λ q. q && true) low in
+          subst (λ bytes. IsFrontOf bytes (point k (moment last b))) (ap (λ bytes. bytes ++ owed k) (none k)) ((advances.hands k).closes (first-gone k first.used _ f.used one) gone);
     }
 
 -- the listener was opened at new sockets
@@ -89,12 +120,9 @@ Fresh-listening a b new told taken sent used there undrained listening = record 
   sent = λ t k. sent t k ∙ new.sent (told t) k;
 }
 
-headline-at : (r : Result (List ℕ) ℕ) (password : List ℕ) (P : List ℕ → Type 0) → r ≡ Ok password → P password → IfOk r P
-headline-at r password P e p = rw e p
-
-pub Headline-known : (contents : Option (List ℕ)) (password : List ℕ) (seen : Seen) (last : Headless) → IfSome contents (λ kept. password_in kept ≡ Ok password) → (IsTrue seen.tells → last.core.starved ≡ 0 → HandsOut password seen last) → Headline contents seen last
-Headline-known None password seen last known hands = tt
-Headline-known (Some kept) password seen last known hands = headline-at (password_in kept) password (λ p. IsTrue seen.tells → last.core.starved ≡ 0 → HandsOut p seen last) known hands
+pub Headline-known : (contents : Option (List ℕ)) (first : Headless) (seen : Seen) (last : Headless) → IfSome contents (IsConfigured first) → (IsTrue seen.tells → last.core.starved ≡ 0 → HandsOut (state_of first.core) seen last) → Headline contents seen last
+Headline-known None first seen last known hands = tt
+Headline-known (Some kept) first seen last known hands = rw known.set (λ t fed. subst (λ state. HandsOut state seen last) known.state (hands t fed))
 
 pub IfSome-last : (o : Option Headless) (h : Headless) (P : Headless → Type 0) → o ≡ kept_of h → (1 ≤ h.turns → P h) → IfSome o P
 IfSome-last o h P e p = rw e (go (eqb h.turns 0) refl)

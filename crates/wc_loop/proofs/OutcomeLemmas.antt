@@ -1,13 +1,15 @@
 -- What a run comes to, by its words.
-use Rattle.std.proofs.Common.{◌≡◌, ◌≢◌, ℕ, Bool, true, false, IsTrue, List, [], Option, Some, None, Result, Ok, Err, IfSome, refl, sym, ap, ◌∙◌, arith}
+use Rattle.std.proofs.Common.{◌≡◌, ◌≢◌, ℕ, ◌≤◌, Bool, true, false, not, IsTrue, All, List, [], Option, Some, None, Result, Ok, Err, IfOk, IfSome, refl, sym, ap, subst, ◌∙◌, arith}
+use Rattle.std.proofs.lemmas.Bool.{false≢true}
+use Rattle.std.specs.Io.KnownBytes.{append_known}
 use Rattle.wc_outside.specs.Seen.{Seen, IsNew}
 use Rattle.wc_loop.specs.declared.headless.Headless.{Headless}
 use Rattle.wc_loop.specs.declared.ending.Ending.{Ending}
 use Rattle.wc_loop.specs.declared.words.Wish.{Wish}
 use Rattle.wc_loop.specs.Headline.{Headline}
-use Rattle.wc_loop.specs.Sources.{AllServed}
-use Rattle.wc_loop.specs.Turns.{wakes}
-use Rattle.wc_loop.specs.Endings.{LastOf, StatusOf, StatusFor, IsNumber, IsLast, HasCause, AsksNoTurn, AsksNothing, RunsBy, RunsFor, asked_by, status_of, number_of}
+use Rattle.wc_loop.specs.Sources.{AllServed, AllSent}
+use Rattle.wc_loop.specs.Turns.{wakes, IsCaused}
+use Rattle.wc_loop.specs.Endings.{LastOf, StatusOf, StatusFor, IsNumber, IsLast, HasCause, WaitsAtMost, AsksNothing, RunsBy, RunsFor, asks_turns, asks_version, asked_in, asked_by, printed, status_of, number_of, tells_version}
 
 status_for : (b : Bool) (turns : ℕ) (contents : Option (List ℕ)) (k k' : ℕ) (before after : Seen) (ending : Ending) (last : Option Headless) → RunsFor b turns contents k k' before after ending last → StatusFor b turns contents after (status_of ending) last
 status_for true turns contents k k' before after ending last r = rw (r.ends, r.none) (refl, refl)
@@ -19,41 +21,66 @@ StatusOf-runs (Ok wish) contents k k' before after ending last r = status_for wi
 
 number_for : (b : Bool) (wish : Wish) (turns : ℕ) (contents : Option (List ℕ)) (k k' : ℕ) (before after : Seen) (ending : Ending) (last : Option Headless) → RunsFor b turns contents k k' before after ending last → IsNumber (Ok wish) contents (status_of ending) (number_of ending)
 number_for true wish turns contents k k' before after ending last r = rw r.ends (record { word = λ q. absurd (omega arith); line = λ q. absurd (omega arith) })
-number_for false wish turns contents k k' before after ending last r = record { word = λ q. absurd (r.ends.later.1 q); line = r.line }
+number_for false wish turns contents k k' before after ending last r = record { word = λ q. absurd (r.ends.later q); line = r.line }
 
 pub IsNumber-runs : (wish : Result Wish ℕ) (contents : Option (List ℕ)) (k k' : ℕ) (before after : Seen) (ending : Ending) (last : Option Headless) → RunsBy wish contents k k' before after ending last → IsNumber wish contents (status_of ending) (number_of ending)
 IsNumber-runs (Err n) contents k k' before after ending last r = rw r.ends (record { word = λ q. refl; line = λ q. absurd (omega arith) })
 IsNumber-runs (Ok wish) contents k k' before after ending last r = number_for wish.version wish wish.turns contents k k' before after ending last r
 
 -- what is the same however the words are
-pub record Common (contents : Option (List ℕ)) (k k' : ℕ) (before after : Seen) (ending : Ending) (last : Option Headless) : Type 0 where
+pub record Common (wish : Result Wish ℕ) (contents : Option (List ℕ)) (k k' : ℕ) (before after : Seen) (ending : Ending) (last : Option Headless) : Type 0 where
+  pub version : tells_version ending ≡ asks_version wish
   pub counted : LastOf after last
   pub left : IfSome last (IsLast contents before after)
-  pub served : status_of ending ≡ 8 → IfSome last (λ last. AllServed last.core.sessions.items before after)
+  pub served : status_of ending ≡ 8 → IfSome last (λ last. AllServed last.core.seats before after)
+  pub sent : status_of ending ≡ 0 → IfSome last (λ last. AllSent last.core.seats before after)
   pub faults : HasCause before.faults after.faults k k' (status_of ending)
-  pub asked : IsTrue after.tells → after.asked ≡ asked_by (status_of ending)
+  pub asked : IsTrue after.tells → after.asked ≡ asked_by wish (status_of ending)
 
-few : (n : ℕ) (contents : Option (List ℕ)) (k k' : ℕ) (before after : Seen) (wanted ending : Ending) (last : Option Headless) → IsNew before → AsksNothing k k' before after wanted ending last → status_of wanted ≡ n → asked_by n ≡ [] → n ≢ 2 → n ≢ 3 → n ≢ 6 → Common contents k k' before after ending last
-few n contents k k' before after wanted ending last new r e nothing two three six = rw (r.ends, r.none, r.seen) (record {
+few : (wish : Result Wish ℕ) (n : ℕ) (contents : Option (List ℕ)) (k k' : ℕ) (before after : Seen) (wanted ending : Ending) (last : Option Headless) → IsNew before → AsksNothing k k' before after wanted ending last → tells_version wanted ≡ asks_version wish → asks_turns wish ≡ false
+    → status_of wanted ≡ n → n ≢ 2 → n ≢ 3 → n ≢ 6 → Common wish contents k k' before after ending last
+few wish n contents k k' before after wanted ending last new r version none e two three six = rw (r.ends, r.none, r.seen) (record {
+  version = version;
   counted = λ t. ap wakes (new.taken t);
   left = tt;
   served = λ q. tt;
+  sent = λ q. tt;
   faults = record { wait = λ q. absurd (two (sym e ∙ q)); keeper = λ q. absurd (three (sym e ∙ q)); listener = λ q. absurd (six (sym e ∙ q)) };
-  asked = λ t. new.asked t ∙ sym (ap asked_by e ∙ nothing);
+  asked = λ t. new.asked t ∙ sym (rw none refl);
 })
 
-common_for : (b : Bool) (turns : ℕ) (contents : Option (List ℕ)) (k k' : ℕ) (before after : Seen) (ending : Ending) (last : Option Headless) → IsNew before → RunsFor b turns contents k k' before after ending last → Common contents k k' before after ending last
-common_for true turns contents k k' before after ending last new r = few 0 contents k k' before after _ ending last new r refl refl (λ q. omega arith) (λ q. omega arith) (λ q. omega arith)
-common_for false turns contents k k' before after ending last new r = record { counted = r.counted; left = r.left; served = r.served; faults = r.faults; asked = r.asked }
+common_for : (b : Bool) (wish : Wish) → wish.version ≡ b → (contents : Option (List ℕ)) (k k' : ℕ) (before after : Seen) (ending : Ending) (last : Option Headless) → IsNew before → RunsFor b wish.turns contents k k' before after ending last → Common (Ok wish) contents k k' before after ending last
+common_for true wish e contents k k' before after ending last new r = few (Ok wish) 0 contents k k' before after _ ending last new r (sym e) (ap not e) refl (λ q. omega arith) (λ q. omega arith) (λ q. omega arith)
+common_for false wish e contents k k' before after ending last new r = record { version = r.version ∙ sym e; counted = r.counted; left = r.left; served = r.served; sent = r.sent; faults = r.faults; asked = λ t. r.asked t ∙ sym (rw e refl) }
 
-pub Common-runs : (wish : Result Wish ℕ) (contents : Option (List ℕ)) (k k' : ℕ) (before after : Seen) (ending : Ending) (last : Option Headless) → IsNew before → RunsBy wish contents k k' before after ending last → Common contents k k' before after ending last
-Common-runs (Err n) contents k k' before after ending last new r = few 1 contents k k' before after _ ending last new r refl refl (λ q. omega arith) (λ q. omega arith) (λ q. omega arith)
-Common-runs (Ok wish) contents k k' before after ending last new r = common_for wish.version wish.turns contents k k' before after ending last new r
+pub Common-runs : (wish : Result Wish ℕ) (contents : Option (List ℕ)) (k k' : ℕ) (before after : Seen) (ending : Ending) (last : Option Headless) → IsNew before → RunsBy wish contents k k' before after ending last → Common wish contents k k' before after ending last
+Common-runs (Err n) contents k k' before after ending last new r = few (Err n) 1 contents k k' before after _ ending last new r refl refl refl (λ q. omega arith) (λ q. omega arith) (λ q. omega arith)
+Common-runs (Ok wish) contents k k' before after ending last new r = common_for wish.version wish refl contents k k' before after ending last new r
 
-pub untouched : (wish : Result Wish ℕ) (contents : Option (List ℕ)) (k k' : ℕ) (before after : Seen) (ending : Ending) (last : Option Headless) → RunsBy wish contents k k' before after ending last → AsksNoTurn wish → after ≡ before
-untouched (Err n) contents k k' before after ending last r a = r.seen
-untouched (Ok wish) contents k k' before after ending last r a = (rw a at r).seen
+waits_for : (b : Bool) (turns : ℕ) (contents : Option (List ℕ)) (k k' : ℕ) (before after : Seen) (ending : Ending) (last : Option Headless) → IsNew before → RunsFor b turns contents k k' before after ending last → WaitsAtMost turns after last
+waits_for true turns contents k k' before after ending last new r = rw (r.none, r.seen) (record { counted = tt; told = λ t. (let e = ap wakes (new.taken t) in omega arith) })
+waits_for false turns contents k k' before after ending last new r = r.most
+
+-- at most as many waits returned as words ask for
+pub Waits-runs : (wish : Result Wish ℕ) (contents : Option (List ℕ)) (k k' : ℕ) (before after : Seen) (ending : Ending) (last : Option Headless) → IsNew before → RunsBy wish contents k k' before after ending last → IfOk wish (λ wish. WaitsAtMost wish.turns after last)
+Waits-runs (Err n) contents k k' before after ending last new r = tt
+Waits-runs (Ok wish) contents k k' before after ending last new r = waits_for wish.version wish.turns contents k k' before after ending last new r
+
+untouched_for : (b : Bool) (turns : ℕ) (contents : Option (List ℕ)) (k k' : ℕ) (before after : Seen) (ending : Ending) (last : Option Headless) → not b ≡ false → RunsFor b turns contents k k' before after ending last → after ≡ before
+untouched_for true turns contents k k' before after ending last e r = r.seen
+untouched_for false turns contents k k' before after ending last e r = absurd (false≢true (sym e))
+
+pub untouched : (wish : Result Wish ℕ) (contents : Option (List ℕ)) (k k' : ℕ) (before after : Seen) (ending : Ending) (last : Option Headless) → RunsBy wish contents k k' before after ending last → asks_turns wish ≡ false → after ≡ before
+untouched (Err n) contents k k' before after ending last r e = r.seen
+untouched (Ok wish) contents k k' before after ending last r e = untouched_for wish.version wish.turns contents k k' before after ending last e r
 
 pub IfSome-headline : (last : Option Headless) (contents : Option (List ℕ)) (before after : Seen) → IfSome last (IsLast contents before after) → IfSome last (Headline contents after)
 IfSome-headline None contents before after left = tt
 IfSome-headline (Some last) contents before after left = left.headline
+
+pub IfSome-causes : (last : Option Headless) (contents : Option (List ℕ)) (before after : Seen) → IfSome last (IsLast contents before after) → IfSome last (λ last. All (IsCaused before after) last.links.closed.items)
+IfSome-causes None contents before after left = tt
+IfSome-causes (Some last) contents before after left = left.causes
+
+pub printed-by : (version version' : Bool) (status number : ℕ) (before after : Option (List ℕ)) → version ≡ version' → after ≡ append_known before (printed version status number) → after ≡ append_known before (printed version' status number)
+printed-by version version' status number before after e h = subst (λ v. after ≡ append_known before (printed v status number)) e h

@@ -3,7 +3,7 @@ use Rattle.std.proofs.Common.{◌≡◌, ◌≢◌, ℕ, ◌+◌, ◌<◌, ◌�
 use Rattle.std.proofs.lemmas.Bool.{false≢true}
 use Rattle.std.proofs.lemmas.Bool.Decides.{nat_tests}
 use Rattle.std.proofs.lemmas.List.{append-nil}
-use Rattle.std.proofs.lemmas.List.Elements.{All-nil, All-cons, All-head, All-tail}
+use Rattle.std.proofs.lemmas.List.Elements.{All-nil, All-cons, All-head, All-tail, All-append}
 use Rattle.wc_text.specs.declared.names.LinkId.{LinkId}
 use Rattle.wc_text.specs.declared.names.Cause.{Cause}
 use Rattle.wc_outside.specs.Keyed.{at_key, put_at, without}
@@ -72,6 +72,25 @@ one-by link seat seats false e d h ih =
 pub one-closes : (link : LinkId) (seats : List Seat) → Distinct (map seat_link seats) → ((k : ℕ) → k ≢ link.0 → leaving_on k seats ≡ None) → leaving_closes seats ≡ closed_by link (leaving_on link.0 seats)
 one-closes link [] d h = refl
 one-closes link (seat ∷ seats) d h = one-by link seat seats (eqb (seat_link seat) link.0) refl d h (one-closes link seats d.1)
+
+first-all : (P : ℕ → Cause → Type 0) (link : LinkId) (why : Option Cause) → ((cause : Cause) → why ≡ Some cause → P link.0 cause) → All (λ (c : Closed). P c.link.0 c.cause) (closed_by link why)
+first-all P link None h = All-nil (λ (c : Closed). P c.link.0 c.cause)
+first-all P link (Some cause) h = All-cons (λ (c : Closed). P c.link.0 c.cause) (record { link = link; cause = cause }) [] (h cause refl) (All-nil (λ (c : Closed). P c.link.0 c.cause))
+
+some-none : {A : Type 0} (o : Option Cause) (cause : Cause) → o ≡ Some cause → o ≡ None → A
+some-none o cause e f = absurd (let q : Some cause ≡ None = sym e ∙ f in cc)
+
+leaving-behind : (k : ℕ) (cause : Cause) (seat : Seat) (seats : List Seat) (t : Bool) → eqb (seat_link seat) k ≡ t → Absent (seat_link seat) (map seat_link seats) → leaving_on k seats ≡ Some cause → leaving_on k (seat ∷ seats) ≡ Some cause
+leaving-behind k cause seat seats true e absent h = let same : seat_link seat ≡ k = grind (arith, nat_tests) in some-none (leaving_on k seats) cause h (ap leaving_in (absent-seat k seats (subst (λ n. Absent n (map seat_link seats)) same absent)))
+leaving-behind k cause seat seats false e absent h = rw e h
+
+-- what holds of each client that is leaving holds of each close
+pub closes-all : (P : ℕ → Cause → Type 0) (seats : List Seat) → Distinct (map seat_link seats) → ((k : ℕ) (cause : Cause) → leaving_on k seats ≡ Some cause → P k cause) → All (λ (c : Closed). P c.link.0 c.cause) (leaving_closes seats)
+closes-all P [] distinct h = All-nil (λ (c : Closed). P c.link.0 c.cause)
+closes-all P (seat ∷ seats) distinct h =
+    All-append (λ (c : Closed). P c.link.0 c.cause) (closed_by seat.session.client.link seat.leaving) (leaving_closes seats)
+    (first-all P seat.session.client.link seat.leaving (λ cause e. h (seat_link seat) cause (leaving-first seat seats ∙ e)))
+    (closes-all P seats distinct.1 (λ k cause e. h k cause (leaving-behind k cause seat seats (eqb (seat_link seat) k) refl distinct.0 e)))
 
 -- ---- the first client that is leaving
 

@@ -1,23 +1,40 @@
 -- One happening is taken.
-use Rattle.std.proofs.Common.{◌≡◌, ℕ, ◌+◌, ◌-◌, ◌^◌, min, Bool, true, false, eqb, List, [], ◌∷◌, length, Option, Some, get_or, set, refl, sym, ap, ◌∙◌, subst, arith, ◌≢◌}
+use Rattle.std.proofs.Common.{◌≡◌, ◌≢◌, ℕ, ◌+◌, ◌-◌, ◌^◌, ◌<◌, ◌≤◌, min, Bool, true, false, eqb, IsTrue, List, [], ◌∷◌, ◌++◌, length, map, All, Option, Some, None, is_some, get_or, set, refl, sym, ap, ◌∙◌, subst, arith}
+use Rattle.std.proofs.lemmas.Bool.{false≢true}
 use Rattle.std.proofs.lemmas.Bool.Decides.{nat_tests}
+use Rattle.std.proofs.lemmas.List.{append-nil}
+use Rattle.std.proofs.lemmas.List.Elements.{All-nil, All-cons, All-append}
 use Rattle.wc_text.specs.declared.names.LinkId.{LinkId}
+use Rattle.wc_text.specs.declared.names.Cause.{Cause}
+use Rattle.wc_text.specs.declared.names.Cause.TheVariants.{NoMemory, LoginFailed, Surplus, Quit, Ended as CauseEnded, Failed as CauseFailed, Disconnected, NickTaken}
+use Rattle.wc_outside.specs.Seen.{Seen}
 use Rattle.wc_outside.specs.declared.happening.Happening.{Happening}
-use Rattle.wc_outside.specs.declared.happening.Happening.TheVariants.{Read}
-use Rattle.wc_loop.specs.declared.session.Departure.{Departure}
-use Rattle.wc_loop.specs.declared.link_state.LinkState.{LinkState}
-use Rattle.wc_loop.specs.declared.headless.Headless.{Headless}
+use Rattle.wc_outside.specs.declared.happening.Happening.TheVariants.{Read, Ended, Failed}
 use Rattle.wc_outside.specs.Keyed.{at_key, put_at, IsPlace}
+use Rattle.wc_core.specs.declared.seat.Seat.{Seat}
+use Rattle.wc_core.specs.Events.{Event}
+use Rattle.wc_core.specs.Standing.{Standing}
+use Rattle.wc_core.specs.State.{Act}
+use Rattle.wc_core.specs.Step.{run, step, client_link}
+use Rattle.wc_core.specs.Served.{seat_link, links_of, state_of, leaving_in, leaving_on, left_at, close_of, or_else, Distinct, Did, Keeps, MayDo}
+use Rattle.wc_loop.specs.declared.link_state.LinkState.{LinkState}
+use Rattle.wc_loop.specs.declared.link_state.Closed.{Closed}
+use Rattle.wc_loop.specs.declared.headless.Headless.{Headless}
 use Rattle.wc_loop.specs.Lines.{rest}
 use Rattle.wc_loop.specs.Links.{link_number, is_undrained}
-use Rattle.wc_loop.specs.Events.{Event, bytes_on, tail_on, events_of, read_events}
-use Rattle.wc_loop.specs.Served.{KeepsLinks, Leaves, Serves, MayServe}
+use Rattle.wc_loop.specs.Events.{bytes_on, tail_on, events_of, events_from, read_events}
+use Rattle.wc_loop.specs.Run.{closings}
+use Rattle.wc_loop.specs.Served.{closed_by, leaving_closes, IsCalm, MayRun, MayTake, IsOfLine, LeavesFor, LeavesAtLine}
 use Rattle.wc_loop.specs.Tails.{IsTail}
-use Rattle.wc_loop.specs.Turns.{Takes}
-use Rattle.wc_loop.proofs.KeyedLemmas.{at_key-key, at_key-put_same, at_key-put_other, is_some-put_at}
-use Rattle.wc_loop.proofs.ServedLemmas.{MayServe-exact}
+use Rattle.wc_loop.specs.Turns.{StandsAmong, Stands, moment, Goes, CausedBy, IsCaused, is_wake, is_listen_fault, Continues, Takes}
+use Rattle.wc_loop.proofs.KeyedLemmas.{at_key-key, at_key-put_same, at_key-put_other, is_some-put_at, none_of, same-keys}
+use Rattle.wc_loop.proofs.RunLemmas.{Reaches-all}
+use Rattle.wc_loop.proofs.PointLemmas.{Advances-takes}
+use Rattle.wc_loop.proofs.SeatLemmas.{calm-leaving, one-closes, calm-left, closes-all}
+use Rattle.wc_loop.proofs.ClosingLemmas.{IsOf, OneLink, run-one, all-front, read-of}
+use Rattle.wc_loop.proofs.ServedLemmas.{MayRun-one}
 use Rattle.wc_loop.proofs.StandsLemmas.{For-read, For-quiet, IsTail-at, IsTimeless}
-use Rattle.wc_loop.proofs.ComeLemmas.{Leaves-apart}
+use Rattle.wc_loop.proofs.TurnLemmas.{Call, Continues-step}
 
 flag-put : (j k : ℕ) (t : Bool) → eqb k j ≡ t → (old new : LinkState) (states : List LinkState) → at_key link_number j states ≡ Some old → link_number new ≡ j → new.undrained ≡ old.undrained → is_undrained (at_key link_number k (put_at link_number j new states)) ≡ is_undrained (at_key link_number k states)
 flag-put j k true e old new states found key flag =
@@ -27,46 +44,121 @@ flag-put j k true e old new states found key flag =
     rw (after, before) flag
 flag-put j k false e old new states found key flag = let other : k ≢ j = λ q. grind (arith, nat_tests) in ap is_undrained (at_key-put_other link_number j k new states key other)
 
-pub Takes-read : (x y : Headless) (left : Option Departure) (link : LinkId) (place : ℕ) (old new : LinkState) (bytes : List ℕ) → IsPlace link_number link.0 x.links.opened.items place → old ≡ get_or x.links.opened.items place old → new.link ≡ old.link → new.undrained ≡ old.undrained
-    → y.core.password ≡ x.core.password → y.turns ≡ x.turns → y.used ≡ x.used → y.listening ≡ x.listening → y.clock ≡ x.clock → y.links.closed.items ≡ x.links.closed.items → y.links.opened.items ≡ set x.links.opened.items place new
-    → KeepsLinks x.core.sessions.items y.core.sessions.items left → Leaves link.0 left y.core.sessions.items
-    → ((line : List ℕ) → IsTail line old.tail → IsTail (rest line bytes) new.tail)
-    → ((line : List ℕ) → IsTail line old.tail → MayServe x.core.password x.core.sessions.items y.core.sessions.items left x.core.starved y.core.starved (read_events link.0 line bytes))
-    → ((line : List ℕ) → IsTail line old.tail → y.ran ≡ min (x.ran + length (read_events link.0 line bytes)) (2 ^ 64 - 1))
-    → Takes x y left (Read link bytes)
-Takes-read x y left link place old new bytes p at key flag password turns used listening clock closed opened keeps leaves tail serves ran =
+-- how many events are reached
+reached : (n m : ℕ) (all es others : List Event) → others ≡ [] → all ≡ es ++ others → m ≡ min (n + length es) (2 ^ 64 - 1) → m ≡ min (n + length all) (2 ^ 64 - 1)
+reached n m all es others none front count = let e = ap length (front ∙ ap (λ xs. es ++ xs) none ∙ append-nil es) in omega arith
+
+pub Takes-read : (x y : Headless) (link : LinkId) (place : ℕ) (old new : LinkState) (bytes : List ℕ) → IsPlace link_number link.0 x.links.opened.items place → old ≡ get_or x.links.opened.items place old → new.link ≡ old.link → new.undrained ≡ old.undrained
+    → y.turns ≡ x.turns → y.used ≡ x.used → y.listening ≡ x.listening → y.clock ≡ x.clock → y.links.closed.items ≡ x.links.closed.items → y.links.opened.items ≡ set x.links.opened.items place new
+    → map seat_link y.core.seats ≡ map seat_link x.core.seats
+    → (y.core.quits ≡ false → (line : List ℕ) → IsTail line old.tail → IsTail (rest line bytes) new.tail)
+    → ((line : List ℕ) → IsTail line old.tail → MayTake x.core y.core x.ran y.ran (read_events link.0 line bytes))
+    → Takes x y (Read link bytes)
+Takes-read x y link place old new bytes p at key flag turns used listening clock closed opened clients tail takes =
     let found : at_key link_number link.0 x.links.opened.items ≡ Some old = p.found old ∙ ap Some (sym at) in
     let number : link_number new ≡ link.0 = ap (λ (l : LinkId). l.0) key ∙ at_key-key link_number link.0 x.links.opened.items old found in
     record {
-      password = password;
       turns = turns;
       closed = closed;
       used = used;
       listening = listening;
       links = λ k. rw (opened, p.put new) (is_some-put_at link_number link.0 k new x.links.opened.items number);
       undrained = λ k. rw (opened, p.put new) (flag-put link.0 k (eqb k link.0) refl old new x.links.opened.items found number flag);
-      clients = keeps;
-      apart = Leaves-apart link.0 left y.core.sessions.items leaves;
-      told = λ taken unknown s.
+      clients = clients;
+      told = λ taken unknown going s.
           let t = IsTail-at x.clock x.links.opened.items x.used x.ran taken link.0 place old p at s in
-          rw (opened, clock, used) (For-read x.clock x.links.opened.items x.used x.ran y.ran taken link place old new bytes p at key (unknown link.0) (tail (tail_on link.0 taken) t) (ran (tail_on link.0 taken) t) s);
-      serves = λ taken s. serves (tail_on link.0 taken) (IsTail-at x.clock x.links.opened.items x.used x.ran taken link.0 place old p at s);
+          let m = takes (tail_on link.0 taken) t in
+          let count = reached x.ran y.ran (read_events link.0 (tail_on link.0 taken) bytes) m.events m.reaches.rest (m.reaches.whole going) m.reaches.front (m.reaches.counts (let e = s.events in omega arith)) in
+          rw (opened, clock, used) (For-read x.clock x.links.opened.items x.used x.ran y.ran taken link place old new bytes p at key (unknown link.0) (tail going (tail_on link.0 taken) t) count s);
+      takes = λ taken s. takes (tail_on link.0 taken) (IsTail-at x.clock x.links.opened.items x.used x.ran taken link.0 place old p at s);
     }
 
 -- the link of a client is lost
-pub Takes-lost : (x y : Headless) (left : Option Departure) (link : LinkId) (h : Happening) (event : Event) → ((k : ℕ) → bytes_on k h ≡ []) → IsTimeless h → ((taken : List Happening) → events_of taken h ≡ event ∷ [])
-    → y.core.password ≡ x.core.password → y.turns ≡ x.turns → y.used ≡ x.used → y.listening ≡ x.listening → y.clock ≡ x.clock → y.links ≡ x.links → y.ran ≡ min (x.ran + 1) (2 ^ 64 - 1) → y.core.starved ≡ x.core.starved
-    → KeepsLinks x.core.sessions.items y.core.sessions.items left → Leaves link.0 left y.core.sessions.items → Serves x.core.password x.core.sessions.items y.core.sessions.items left (event ∷ []) → Takes x y left h
-Takes-lost x y left link h event quiet timeless events password turns used listening clock links ran starved keeps leaves serves = record {
-  password = password;
+pub Takes-lost : (x y : Headless) (h : Happening) (event : Event) → x.core.quits ≡ false → ((k : ℕ) → bytes_on k h ≡ []) → IsTimeless h → ((taken : List Happening) → events_of taken h ≡ event ∷ [])
+    → y.turns ≡ x.turns → y.used ≡ x.used → y.listening ≡ x.listening → y.clock ≡ x.clock → y.links ≡ x.links → y.ran ≡ min (x.ran + 1) (2 ^ 64 - 1)
+    → MayDo x.core y.core (step (state_of x.core) event) → Takes x y h
+Takes-lost x y h event going quiet timeless events turns used listening clock links ran does = record {
   turns = turns;
   closed = ap (λ l. l.closed.items) links;
   used = used;
   listening = listening;
   links = λ k. rw links refl;
   undrained = λ k. rw links refl;
-  clients = keeps;
-  apart = Leaves-apart link.0 left y.core.sessions.items leaves;
-  told = λ taken unknown s. rw (links, clock, used) (For-quiet x.clock x.links.opened.items x.used x.ran y.ran taken h quiet timeless (let e = ap length (events taken) in omega arith) s);
-  serves = λ taken s. rw (starved, events taken) (MayServe-exact _ _ _ _ _ _ serves);
+  clients = does.keeps.links;
+  told = λ taken unknown on s. rw (links, clock, used) (For-quiet x.clock x.links.opened.items x.used x.ran y.ran taken h quiet timeless (let e = ap length (events taken) in omega arith) s);
+  takes = λ taken s. rw (events taken) (record { events = event ∷ []; reaches = Reaches-all x.core.quits y.core.quits x.ran y.ran (event ∷ []) going (λ fits. omega arith); takes = MayRun-one x.core y.core event does });
 }
+
+-- from no client that is leaving, events of one link close what is leaving behind them
+closes-left : (link : LinkId) (a b : Standing) (acts : List Act) → OneLink link.0 acts → IsCalm a.seats → Distinct (map seat_link b.seats) → ((k : ℕ) → leaving_on k b.seats ≡ or_else (leaving_on k a.seats) (close_of k acts)) → closings acts ≡ leaving_closes b.seats
+closes-left link a b acts one calm distinct leaving =
+    let now : (k : ℕ) → leaving_on k b.seats ≡ close_of k acts = λ k. leaving k ∙ ap (λ o. or_else o (close_of k acts)) (calm-leaving k a.seats calm) in
+    one.one ∙ ap (closed_by link) (sym (now link.0)) ∙ sym (one-closes link b.seats distinct (λ k n. now k ∙ one.others k n))
+
+-- the links are flagged as they were
+among-takes : (states states' : List LinkState) (seats seats' : List Seat) (used used' : ℕ) (listening listening' : Bool) (a b : Seen)
+    → ((k : ℕ) → is_some (at_key link_number k states') ≡ is_some (at_key link_number k states)) → ((k : ℕ) → is_undrained (at_key link_number k states') ≡ is_undrained (at_key link_number k states)) → map seat_link seats' ≡ map seat_link seats
+    → used' ≡ used → listening' ≡ listening → b.used ≡ a.used → ((k : ℕ) → b.there k ≡ a.there k) → ((k : ℕ) → b.undrained k ≡ a.undrained k) → b.listening ≡ a.listening
+    → StandsAmong states seats used listening a → StandsAmong states' seats' used' listening' b
+among-takes states states' seats seats' used used' listening listening' a b links flags keeps u l bu there undrained bl s = record {
+  counted = u ∙ s.counted ∙ sym bu;
+  there = λ k. there k ∙ s.there k ∙ sym (links k);
+  undrained = λ k. undrained k ∙ s.undrained k ∙ sym (flags k);
+  listens = bl ∙ s.listens ∙ sym l;
+  clients = λ k. same-keys seat_link k seats' seats keeps ∙ s.clients k ∙ sym (links k);
+  once = subst Distinct (sym keeps) s.once;
+  unknown = λ k below. none_of _ (links k ∙ ap is_some (s.unknown k (rw u at below)));
+}
+
+-- the sockets gave a happening of a link, and its client may begin to leave, and others for want of memory
+pub Continues-takes : (x y : Headless) (link : LinkId) (a b : Seen) (h : Happening) → is_wake h ≡ 0 → Call a b (h ∷ []) → (IsTrue b.tells → (k : ℕ) → b.sent k ≡ a.sent k) → (IsTrue b.tells → (k : ℕ) → b.choked k ≡ a.choked k)
+    → b.used ≡ a.used → ((k : ℕ) → b.there k ≡ a.there k) → ((k : ℕ) → b.undrained k ≡ a.undrained k) → b.listening ≡ a.listening → IsCalm x.core.seats → x.core.quits ≡ false → Takes x y h
+    → ((taken : List Happening) → All (IsOf link.0) (events_of taken h)) → (Distinct (links_of x.core) → All (IsCaused a b) (leaving_closes y.core.seats))
+    → Continues true 0 (is_listen_fault h) x y a b
+Continues-takes x y link a b h wake call sent choked used there undrained listening calm going takes of causes =
+    Continues-step true 0 (is_listen_fault h) x y a b (h ∷ []) (leaving_closes y.core.seats) call (λ below. (let e = takes.turns in omega arith)) (omega arith) (omega arith)
+    (λ t s. ap (λ xs. xs ++ leaving_closes y.core.seats) (takes.closed ∙ sym (ap (λ cs. x.links.closed.items ++ cs) calm ∙ append-nil x.links.closed.items)))
+    (λ s. causes s.among.once) (λ over. absurd (false≢true (sym going ∙ over)))
+    (among-takes x.links.opened.items y.links.opened.items x.core.seats y.core.seats x.used y.used x.listening y.listening a b takes.links takes.undrained takes.clients takes.used takes.listening used there undrained listening)
+    (λ t s on. takes.told a.taken s.among.unknown on (s.told (call.told t) going))
+    (λ t s.
+    let m = takes.takes a.taken (s.told (call.told t) going) in
+    let one : All (IsOf link.0) m.events = all-front (IsOf link.0) m.events m.reaches.rest (subst (All (IsOf link.0)) m.reaches.front (of a.taken)) in
+    record {
+      events = m.events;
+      reaches = rw (append-nil (events_of a.taken h)) m.reaches;
+      rises = m.takes.keeps.rises;
+      advances = λ same below.
+          let did = m.takes.does same below s.among.once in
+          Advances-takes (moment x a) (moment y b) (leaving_closes y.core.seats) m.events did takes.clients takes.used (sent t) (choked t) (h ∷ []) (call.taken t)
+          (closes-left link x.core y.core (run (state_of x.core) m.events).acts (run-one link.0 (state_of x.core) m.events one) calm (subst Distinct (sym takes.clients) s.among.once) did.leaving);
+    })
+
+-- ---- causes
+
+line-caused : (link : LinkId) (other : ℕ) (bytes : List ℕ) (why : Cause) (a b : Seen) → IsOfLine link.0 other why → (IsTrue b.tells → b.taken ≡ a.taken ++ Read link bytes ∷ []) → CausedBy why other a b
+line-caused link other bytes LoginFailed a b p e = rw p (λ t. (bytes, record { front = []; rest = []; taken = e t }))
+line-caused link other bytes Quit a b p e = rw p (λ t. (bytes, record { front = []; rest = []; taken = e t }))
+line-caused link other bytes NoMemory a b p e = tt
+line-caused link other bytes Surplus a b p e = absurd p
+line-caused link other bytes CauseEnded a b p e = absurd p
+line-caused link other bytes CauseFailed a b p e = absurd p
+line-caused link other bytes Disconnected a b p e = absurd p
+line-caused link other bytes NickTaken a b p e = absurd p
+
+began : (link other : ℕ) (before after : Option Cause) (why : Cause) → before ≡ None → after ≡ Some why → LeavesFor link other before after → IsOfLine link other why
+began link other None None why e f h = absurd (let q : None ≡ Some why = f in cc)
+began link other None (Some c) why e f h = let same : c ≡ why = (let q : Some c ≡ Some why = f in cc) in subst (IsOfLine link other) same h
+began link other (Some c) after why e f h = absurd (let q : Some c ≡ None = e in cc)
+
+pub causes-line : (link : LinkId) (bytes : List ℕ) (old new : List Seat) (a b : Seen) → IsCalm old → LeavesAtLine link.0 old new → (IsTrue b.tells → b.taken ≡ a.taken ++ Read link bytes ∷ []) → Distinct (map seat_link old) → All (IsCaused a b) (leaving_closes new)
+causes-line link bytes old new a b calm h e distinct =
+    closes-all (λ k why. CausedBy why k a b) new (subst Distinct (sym h.links) distinct)
+    (λ k why leaves. line-caused link k bytes why a b (began link.0 k (leaving_on k old) (leaving_on k new) why (calm-leaving k old calm) leaves (h.leaving distinct k)) e)
+
+pub causes-lost : (link : LinkId) (why : Cause) (old : List Seat) (a b : Seen) → IsCalm old → CausedBy why link.0 a b → All (IsCaused a b) (leaving_closes (left_at link.0 why old (at_key seat_link link.0 old)))
+causes-lost link why old a b calm h = lost-by (at_key seat_link link.0 old) refl
+  where
+    lost-by : (o : Option Seat) → at_key seat_link link.0 old ≡ o → All (IsCaused a b) (leaving_closes (left_at link.0 why old o))
+    lost-by None e = rw (calm-left link why old None e calm) (All-nil (IsCaused a b))
+    lost-by (Some s) e = rw (calm-left link why old (Some s) e calm) (All-cons (IsCaused a b) (record { link = link; cause = why }) [] h (All-nil (IsCaused a b)))

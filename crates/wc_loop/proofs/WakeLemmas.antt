@@ -1,5 +1,5 @@
 -- Waits return.
-use Rattle.std.proofs.Common.{◌≡◌, ◌≢◌, ℕ, ◌+◌, ◌-◌, ◌^◌, ◌<◌, min, Bool, true, false, cond, eqb, ◌&&◌, ◌||◌, IsTrue, List, [], ◌∷◌, ◌++◌, take, length, slice_index_or, Option, Some, None, is_some, All, refl, sym, ap, ◌∙◌, subst, arith}
+use Rattle.std.proofs.Common.{◌≡◌, ◌≢◌, ℕ, ◌+◌, ◌-◌, ◌^◌, ◌<◌, min, Bool, true, false, cond, eqb, ◌&&◌, ◌||◌, IsTrue, List, [], ◌∷◌, ◌++◌, map, take, length, slice_index_or, Option, Some, None, is_some, All, refl, sym, ap, ◌∙◌, subst, arith}
 use Rattle.std.specs.List.{list_any}
 use Rattle.std.proofs.lemmas.Bool.{false≢true}
 use Rattle.std.proofs.lemmas.Bool.Decides.{nat_tests}
@@ -14,17 +14,20 @@ use Rattle.wc_outside.specs.declared.happening.Happening.TheVariants.{Woke}
 use Rattle.wc_loop.specs.declared.link_state.LinkState.{LinkState}
 use Rattle.wc_loop.specs.declared.headless.Headless.{Headless}
 use Rattle.wc_outside.specs.Keyed.{at_key, put_at}
-use Rattle.wc_loop.specs.Events.{Tick, is_tick, wake_events, events_of}
+use Rattle.wc_core.specs.Events.{Tick}
+use Rattle.wc_core.specs.Standing.{Standing}
+use Rattle.wc_core.specs.Step.{run, stays}
+use Rattle.wc_core.specs.Served.{seat_link, state_of, Distinct}
+use Rattle.wc_loop.specs.Events.{is_tick, is_event, wake_events, events_of}
 use Rattle.wc_loop.specs.Links.{link_number, is_undrained, marked_at}
-use Rattle.wc_loop.specs.Run.{Seat, run, stays}
-use Rattle.wc_loop.specs.Served.{seats_of, session_link}
-use Rattle.wc_loop.specs.Steps.{Marks, Reports, Begins}
+use Rattle.wc_loop.specs.Steps.{Marks, Reports, Begins, woken}
 use Rattle.wc_loop.specs.Turns.{Continues, moment}
-use Rattle.wc_loop.proofs.KeyedLemmas.{or-false, at_key-key, at_key-put_same, at_key-put_other}
-use Rattle.wc_loop.proofs.ServedLemmas.{none_of}
+use Rattle.wc_loop.proofs.KeyedLemmas.{or-false, none_of, at_key-key, at_key-put_same, at_key-put_other}
+use Rattle.wc_loop.proofs.RunLemmas.{Reaches-all}
+use Rattle.wc_loop.proofs.PointLemmas.{Advances-same}
 use Rattle.wc_loop.proofs.StandsLemmas.{For-states, For-woke, SameTails-marked}
 use Rattle.wc_loop.proofs.StepLemmas.{links-marked}
-use Rattle.wc_loop.proofs.TurnLemmas.{Call, Continues-step, Advances-same}
+use Rattle.wc_loop.proofs.TurnLemmas.{Call, Continues-step}
 
 pub Reports-none : (x : Headless) → Reports x x []
 Reports-none x = record {
@@ -137,22 +140,46 @@ pub and-if : (a b : Bool) → (a ≡ true → b ≡ true) → a ≡ (a && b)
 and-if true b h = sym (h refl)
 and-if false b h = refl
 
-pub wake-stays : (password : List ℕ) (seats : List Seat) (last : Option ℕ) (moment : ℕ) → run password seats (wake_events last moment) ≡ stays seats
-wake-stays password seats None moment = refl
-wake-stays password seats (Some last) moment = tick-stays (is_tick last moment)
+woken-by : (core : Standing) (moment : ℕ) (t : Bool) → (cond t (record core { moment = moment }) core).seats ≡ core.seats
+woken-by core moment true = refl
+woken-by core moment false = refl
+
+pub woken-seats : (last : Option ℕ) (moment : ℕ) (core : Standing) → (woken last moment core).seats ≡ core.seats
+woken-seats last moment core = woken-by core moment (is_event last moment)
+
+pub woken-quits : (last : Option ℕ) (moment : ℕ) (core : Standing) → (woken last moment core).quits ≡ core.quits
+woken-quits last moment core = quits-by (is_event last moment)
   where
-    tick-stays : (b : Bool) → run password seats (cond b (Tick moment ∷ []) []) ≡ stays seats
-    tick-stays true = refl
-    tick-stays false = refl
+    quits-by : (t : Bool) → (cond t (record core { moment = moment }) core).quits ≡ core.quits
+    quits-by true = refl
+    quits-by false = refl
+
+pub woken-starved : (last : Option ℕ) (moment : ℕ) (core : Standing) → (woken last moment core).starved ≡ core.starved
+woken-starved last moment core = starved-by (is_event last moment)
+  where
+    starved-by : (t : Bool) → (cond t (record core { moment = moment }) core).starved ≡ core.starved
+    starved-by true = refl
+    starved-by false = refl
+
+pub wake-runs : (last : Option ℕ) (moment : ℕ) (core : Standing) → run (state_of core) (wake_events last moment) ≡ stays (state_of (woken last moment core))
+wake-runs None moment core = refl
+wake-runs (Some last) moment core = tick-runs (is_tick last moment)
+  where
+    tick-runs : (t : Bool) → run (state_of core) (cond t (Tick moment ∷ []) []) ≡ stays (state_of (cond t (record core { moment = moment }) core))
+    tick-runs true = refl
+    tick-runs false = refl
 
 -- a wait returned
 unfoldable pub Continues-woke : (x y z : Headless) (a b : Seen) (moment' : ℕ) (tokens : List Token) → Call a b (Woke moment' ∷ []) → (IsTrue b.tells → (k : ℕ) → b.sent k ≡ a.sent k) → (IsTrue b.tells → (k : ℕ) → b.choked k ≡ a.choked k)
     → b.used ≡ a.used → ((k : ℕ) → b.there k ≡ a.there k) → ((k : ℕ) → b.undrained k ≡ (a.undrained k || list_any (is_link k) tokens)) → b.listening ≡ (a.listening || list_any is_listener tokens) → All (IsThere a.there) tokens
-    → Begins x y moment' → Reports y z tokens → Continues false 1 0 x None z None a b
-Continues-woke x y z a b m tokens call sent choked used there undrained listening tokens_there begins reports =
-    let core = reports.core ∙ begins.core in
-    Continues-step false 1 0 x None z None a b (Woke m ∷ []) [] call (ap (λ c. c.password) core) (λ below. (let t = begins.turns in let r = reports.turns in omega arith)) refl refl
-    (λ t. absurd (false≢true t)) (All-nil _) (let s = ap (λ c. c.starved) core in omega arith)
+    → x.core.quits ≡ false → Begins x y moment' → Reports y z tokens → Continues false 1 0 x z a b
+Continues-woke x y z a b m tokens call sent choked used there undrained listening tokens_there going begins reports =
+    let core : z.core ≡ woken x.clock m x.core = reports.core ∙ begins.core in
+    let seats : z.core.seats ≡ x.core.seats = ap (λ c. c.seats) core ∙ woken-seats x.clock m x.core in
+    let quits : z.core.quits ≡ x.core.quits = ap (λ c. c.quits) core ∙ woken-quits x.clock m x.core in
+    let starved : z.core.starved ≡ x.core.starved = ap (λ c. c.starved) core ∙ woken-starved x.clock m x.core in
+    Continues-step false 1 0 x z a b (Woke m ∷ []) [] call (λ below. (let t = begins.turns in let r = reports.turns in omega arith)) refl refl
+    (λ t. absurd (false≢true t)) (λ s. All-nil _) (λ over. quits ∙ over)
     (λ s. record {
       counted = reports.used ∙ begins.used ∙ s.counted ∙ sym used;
       there = λ k. there k ∙ s.there k ∙ ap (λ o. is_some (at_key link_number k o)) (sym begins.opened) ∙ sym (reports.links k);
@@ -161,13 +188,22 @@ Continues-woke x y z a b m tokens call sent choked used there undrained listenin
           undrained k ∙ ap (λ q. q || list_any (is_link k) tokens) (s.undrained k ∙ ap (λ o. is_undrained (at_key link_number k o)) (sym begins.opened))
           ∙ ap (λ q. is_undrained (at_key link_number k y.links.opened.items) || q) (and-if _ _ (λ e. sym some ∙ there_any a.there k tokens tokens_there e)) ∙ sym (reports.undrained k);
       listens = listening ∙ ap (λ q. q || list_any is_listener tokens) (s.listens ∙ sym begins.listening) ∙ sym reports.listening;
-      clients = λ k. ap (λ c. is_some (at_key session_link k c.sessions.items) || false) core ∙ s.clients k ∙ ap (λ o. is_some (at_key link_number k o)) (sym begins.opened) ∙ sym (reports.links k);
-      apart = λ k e. absurd (false≢true e);
+      clients = λ k. ap (λ ss. is_some (at_key seat_link k ss)) seats ∙ s.clients k ∙ ap (λ o. is_some (at_key link_number k o)) (sym begins.opened) ∙ sym (reports.links k);
+      once = subst (λ ss. Distinct (map seat_link ss)) (sym seats) s.once;
       unknown = λ k below. none_of _ (reports.links k ∙ ap (λ o. is_some (at_key link_number k o)) begins.opened ∙ ap is_some (s.unknown k (rw (reports.used, begins.used) at below)));
     })
-    (λ t s.
-    let told = s.told (call.told t) in
+    (λ t s on.
+    let told = s.told (call.told t) going in
     let count : z.ran ≡ min (x.ran + length (events_of a.taken (Woke m))) (2 ^ 64 - 1) = reports.ran ∙ begins.ran ∙ ap (λ c. min (x.ran + length (wake_events c m)) (2 ^ 64 - 1)) told.clock in
     rw (reports.clock, begins.clock, reports.used, begins.used) (For-states _ x.links.opened.items z.links.opened.items x.used z.ran (a.taken ++ Woke m ∷ []) (rw begins.opened at reports.tails) (For-woke x.clock x.links.opened.items x.used x.ran z.ran m a.taken count told)))
-    (λ t s same below.
-    rw (append-nil (events_of a.taken (Woke m))) (Advances-same x.core.password (moment x None a) (moment z None b) (ap (λ c. c.sessions.items) core) refl (reports.used ∙ begins.used) (sent t) (choked t) (Woke m ∷ []) (call.taken t) (events_of a.taken (Woke m)) (wake-stays x.core.password (seats_of x.core.sessions.items) _ m)))
+    (λ t s.
+    let told = s.told (call.told t) going in
+    let count : z.ran ≡ min (x.ran + length (events_of a.taken (Woke m))) (2 ^ 64 - 1) = reports.ran ∙ begins.ran ∙ ap (λ c. min (x.ran + length (wake_events c m)) (2 ^ 64 - 1)) told.clock in
+    record {
+      events = events_of a.taken (Woke m);
+      reaches = rw (append-nil (events_of a.taken (Woke m))) (Reaches-all x.core.quits z.core.quits x.ran z.ran (events_of a.taken (Woke m)) going (λ fits. count));
+      rises = omega arith;
+      advances = λ same below.
+          Advances-same (moment x a) (moment z b) seats quits (reports.used ∙ begins.used) (sent t) (choked t) (Woke m ∷ []) (call.taken t) (events_of a.taken (Woke m))
+          (ap (λ c. run (state_of x.core) (wake_events c m)) (sym told.clock) ∙ wake-runs x.clock m x.core ∙ ap (λ c. stays (state_of c)) (sym core));
+    })

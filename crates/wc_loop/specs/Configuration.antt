@@ -1,48 +1,55 @@
--- The configuration: what its lines say.
-use Rattle.std.specs.Prelude.{ℕ, ◌+◌, Bool, true, not, ◌&&◌, ◌||◌, nat_le, List, [], ◌∷◌, ◌++◌, length, drop, if◌then◌else◌, ◌==◌, nat_eq, Option, Some, None, Result, Ok, Err, codes}
-use Rattle.std.specs.List.{starts_with, list_any}
-use Rattle.std.specs.Str.{bytes_eq, is_utf8}
+-- The configuration: what its lines set.
+use Rattle.std.specs.Prelude.{ℕ, ◌+◌, Bool, true, ◌&&◌, ◌||◌, List, [], ◌∷◌, if◌then◌else◌, ◌==◌, bytes_eq, Option, Some, None, Result, Ok, Err, codes}
+use Rattle.std.specs.Option.{option_map_or}
+use Rattle.std.specs.Str.{is_utf8}
+use Rattle.wc_options.specs.Config.{is_passed_over, version_line}
+use Rattle.wc_options.specs.File.{lines_of, parted}
+use Rattle.wc_options.specs.Number.{number_in}
+use Rattle.wc_options.specs.Values.{value_fits}
+use Rattle.wc_options.specs.declared.kind.Kind.TheVariants.{Text}
+use Rattle.wc_loop.specs.declared.configuration.Settings.{Settings}
+use Rattle.wc_loop.specs.declared.configuration.Given.{Given}
 
--- the lines of a file, which LFs end and the last of which may lack it, where `line` stands before the text
-abbrev pub lines_from : List ℕ → List ℕ → List (List ℕ)
-lines_from line [] = if length line == 0 then [] else line ∷ []
-lines_from line (b ∷ text) = if b == 10 then line ∷ lines_from [] text else lines_from (line ++ b ∷ []) text
+-- what is set before the first line
+abbrev pub first_settings : Settings
+first_settings = record { password = []; limit = 4096 }
 
--- an empty line or a comment
-abbrev pub is_passed_over : List ℕ → Bool
-is_passed_over [] = true
-is_passed_over (b ∷ line) = b == 35
+abbrev pub seen_settings : Given → Settings
+seen_settings given = record { password = given.password.now; limit = given.limit }
 
--- a byte that no value has
-abbrev pub is_barred : ℕ → Bool
-is_barred b = b == 0 || (b == 10 || b == 13)
+abbrev pub with_password : Settings → List ℕ → Option Settings
+with_password settings value = if value_fits Text value then Some (record settings { password = value }) else None
 
--- a value is a text of at most 1,024 bytes without CR, LF and NUL
-abbrev pub is_value : List ℕ → Bool
-is_value value = is_utf8 value && (nat_le (length value) 1024 && not (list_any is_barred value))
+abbrev pub with_limit : Settings → Option ℕ → Option Settings
+with_limit settings None = None
+with_limit settings (Some limit) = Some (record settings { limit = limit })
 
--- the password that a line sets
-abbrev pub password_of_line : List ℕ → Option (List ℕ)
-password_of_line line =
-    if starts_with nat_eq line (codes "relay.network.password = ") && is_value (drop 25 line) then Some (drop 25 line) else None
+-- what is set behind an option and its value, where the option is read and takes the value
+abbrev pub with_value : Settings → List ℕ → List ℕ → Option Settings
+with_value settings name value =
+    if bytes_eq name (codes "relay.network.password") then with_password settings value else (
+    if bytes_eq name (codes "weechat.history.max_buffer_lines_number") then with_limit settings (number_in 1 4096 value) else None)
+
+abbrev pub with_parts : Settings → Option (List ℕ × List ℕ) → Option Settings
+with_parts settings None = None
+with_parts settings (Some parts) = with_value settings parts.0 parts.1
+
+abbrev pub with_line : Settings → List ℕ → Option Settings
+with_line settings line = if is_utf8 line then with_parts settings (parted line) else None
 
 -- the version may stand in the first line
 abbrev pub is_version_line : ℕ → List ℕ → Bool
-is_version_line number line = number == 1 && bytes_eq line (codes "config_version = 1")
+is_version_line number line = number == 1 && bytes_eq line version_line
 
--- the password behind a line, before which `password` was set
-abbrev pub password_behind : ℕ → List ℕ → List ℕ → Option (List ℕ)
-password_behind number password line = if is_passed_over line || is_version_line number line then Some password else password_of_line line
+-- what is set behind a line with a number, where it is readable
+abbrev pub behind_line : ℕ → Settings → List ℕ → Option Settings
+behind_line number settings line = if is_passed_over line || is_version_line number line then Some settings else with_line settings line
 
-abbrev pub with_password : Option (List ℕ) → ℕ → (List ℕ → Result (List ℕ) ℕ) → Result (List ℕ) ℕ
-with_password (Some password) number others = others password
-with_password None number others = Err number
+-- what is set behind lines, the first of which has this number, or the number of the first unreadable one
+abbrev pub behind_lines : ℕ → Settings → List (List ℕ) → Result Settings ℕ
+behind_lines number settings [] = Ok settings
+behind_lines number settings (line ∷ lines) = option_map_or (λ behind. behind_lines (number + 1) behind lines) (behind_line number settings line) (Err number)
 
--- the password that lines set, the first of which has this number, or the number of the first unreadable one
-abbrev pub password_in_lines : ℕ → List ℕ → List (List ℕ) → Result (List ℕ) ℕ
-password_in_lines number password [] = Ok password
-password_in_lines number password (line ∷ lines) = with_password (password_behind number password line) number (λ given. password_in_lines (number + 1) given lines)
-
--- the password that a configuration sets, the empty one where it sets none, or the number of its first unreadable line
-unfoldable pub password_in : List ℕ → Result (List ℕ) ℕ
-password_in text = password_in_lines 1 [] (lines_from [] text)
+-- what a configuration sets, or the number of its first unreadable line
+unfoldable pub settings_in : List ℕ → Result Settings ℕ
+settings_in text = behind_lines 1 first_settings (lines_of text)

@@ -1,17 +1,21 @@
 -- How a run ends, and what it prints.
-use Rattle.std.specs.Prelude.{ℕ, ◌≡◌, ◌≢◌, ◌≤◌, ◌⊎◌, Bool, true, false, List, [], ◌∷◌, ◌++◌, All, ◌||◌, ◌&&◌, nat_le, Option, Some, None, Result, Ok, Err, IfSome, IsTrue, IsSomeAnd, if◌then◌else◌, ◌==◌, codes, decimal}
+use Rattle.std.specs.Prelude.{ℕ, ◌≡◌, ◌≢◌, ◌≤◌, ◌⊎◌, Bool, true, false, not, List, [], ◌∷◌, ◌++◌, All, ◌||◌, ◌&&◌, nat_le, Option, Some, None, Result, Ok, Err, IfSome, IsTrue, IsSomeAnd, if◌then◌else◌, ◌==◌, codes, decimal}
 use Rattle.std.specs.Io.KnownBytes.{append_known}
 use Rattle.wc_outside.specs.Faults.{Faults, Rose}
 use Rattle.wc_outside.specs.Seen.{Seen}
 use Rattle.wc_outside.specs.declared.asked.Asked.{Asked}
 use Rattle.wc_outside.specs.declared.asked.Asked.TheVariants.{Listen}
 use Rattle.wc_loop.specs.declared.ending.Ending.{Ending}
-use Rattle.wc_loop.specs.declared.ending.Ending.TheVariants.{Version, BadWord, WaitFailed, NoConfiguration, BadLine, NoMemory, ListenFailed, TurnsTaken}
+use Rattle.wc_loop.specs.declared.ending.Ending.TheVariants.{Version, BadWord, WaitFailed, NoConfiguration, BadLine, NoMemory, ListenFailed, TurnsTaken, Quit}
 use Rattle.wc_loop.specs.declared.headless.Headless.{Headless}
+use Rattle.wc_loop.specs.declared.then.Then.{Then}
+use Rattle.wc_loop.specs.declared.then.Then.TheVariants.{GoOn, Quit as ThenQuit, WaitFault, ListenFault, KeeperFault}
 use Rattle.wc_loop.specs.declared.words.Wish.{Wish}
-use Rattle.wc_loop.specs.Configuration.{password_in}
+use Rattle.wc_loop.specs.declared.configuration.Settings.{Settings}
+use Rattle.wc_loop.specs.Configuration.{settings_in}
 use Rattle.wc_loop.specs.Headline.{Headline}
-use Rattle.wc_loop.specs.Sources.{AllServed}
+use Rattle.wc_loop.specs.Served.{IsCalm}
+use Rattle.wc_loop.specs.Sources.{AllServed, AllSent}
 use Rattle.wc_loop.specs.Turns.{Stands, IsCaused, wakes, listen_faults}
 
 -- the state at the end is there where a wait returned
@@ -23,18 +27,31 @@ abbrev pub LastOf : Seen → Option Headless → Type 0
 LastOf seen None = IsTrue seen.tells → wakes seen.taken ≡ 0
 LastOf seen (Some last) = (1 ≤ last.turns) × (IsTrue seen.tells → wakes seen.taken ≡ last.turns)
 
+-- at most so many waits returned
+pub record WaitsAtMost (turns : ℕ) (seen : Seen) (last : Option Headless) : Type 0 where
+  pub counted : IfSome last (λ last. last.turns ≤ turns)
+  pub told : IsTrue seen.tells → wakes seen.taken ≤ turns
+
+-- whether `/quit` was run
+abbrev pub HasQuit : Bool → Headless → Type 0
+HasQuit quits last = last.core.quits ≡ quits
+
 -- the status of a run with readable words that ask for this number of waits
 pub record Ends (turns : ℕ) (contents : Option (List ℕ)) (seen : Seen) (status : ℕ) (last : Option Headless) : Type 0 where
   -- no word decided it
-  pub later : (status ≢ 0) × (status ≢ 1)
+  pub later : status ≢ 1
   pub known : status ≤ 8
   -- a line of the configuration is unreadable, and where one is, it was read
-  pub line : status ≡ 4 → IfSome contents (λ configuration. (password : List ℕ) → password_in configuration ≢ Ok password)
-  pub unreadable : IfSome contents (λ configuration. (n : ℕ) → password_in configuration ≡ Err n → status ≢ 3 → status ≢ 5 → status ≡ 4)
-  -- all waits returned, and the listener did not fail
-  pub all : status ≡ 8 → IsSomeAnd last (λ last. last.turns ≡ turns)
+  pub line : status ≡ 4 → IfSome contents (λ configuration. (settings : Settings) → settings_in configuration ≢ Ok settings)
+  pub unreadable : IfSome contents (λ configuration. (n : ℕ) → settings_in configuration ≡ Err n → status ≢ 3 → status ≢ 5 → status ≡ 4)
+  -- `/quit` was run, and the listener did not fail
+  pub quit : status ≡ 0 → IsSomeAnd last (HasQuit true)
+  pub quit_told : status ≡ 0 → IsTrue seen.tells → listen_faults seen.taken ≡ 0
+  pub quit_due : IsSomeAnd last (HasQuit true) → status ≢ 6 → status ≡ 0
+  -- all waits returned, `/quit` was not run, and the listener did not fail
+  pub all : status ≡ 8 → IsSomeAnd last (λ last. (last.turns ≡ turns) × HasQuit false last)
   pub told : status ≡ 8 → IsTrue seen.tells → (wakes seen.taken ≡ turns) × (listen_faults seen.taken ≡ 0)
-  pub due : IsTrue seen.tells → wakes seen.taken ≡ turns → listen_faults seen.taken ≡ 0 → status ≡ 8
+  pub due : IsTrue seen.tells → wakes seen.taken ≡ turns → IfSome last (HasQuit false) → listen_faults seen.taken ≡ 0 → status ≡ 8
   pub failed : status ≡ 2 → IsTrue seen.tells → listen_faults seen.taken ≡ 0
   pub listened : status ≡ 6 → IsTrue seen.tells → 1 ≤ listen_faults seen.taken
   -- what comes before the first wait
@@ -54,10 +71,19 @@ StatusOf (Ok wish) contents seen status last = StatusFor wish.version wish.turns
 abbrev pub line_of : List ℕ → List ℕ
 line_of text = text ++ 10 ∷ []
 
--- what is printed for a status, with the number of a word or a line
-abbrev pub printed : ℕ → ℕ → List ℕ
-printed status number =
-    if status == 0 then line_of (codes "wc-headless 1") else (
+-- whether words ask for the version, and whether they ask for turns
+abbrev pub asks_version : Result Wish ℕ → Bool
+asks_version (Err n) = false
+asks_version (Ok wish) = wish.version
+
+abbrev pub asks_turns : Result Wish ℕ → Bool
+asks_turns (Err n) = false
+asks_turns (Ok wish) = not wish.version
+
+-- what is printed for a status, with the number of a word or a line; the version where it was asked for
+abbrev pub printed : Bool → ℕ → ℕ → List ℕ
+printed version status number =
+    if version then line_of (codes "wc-headless 1") else (
     if status == 1 then line_of (codes "bad word " ++ decimal number) else (
     if status == 2 then line_of (codes "wait failed") else (
     if status == 3 then line_of (codes "cannot read configuration") else (
@@ -68,22 +94,21 @@ printed status number =
 -- the number that is printed is that of the word with a fault, or of the unreadable line
 pub record IsNumber (wish : Result Wish ℕ) (contents : Option (List ℕ)) (status number : ℕ) : Type 0 where
   pub word : status ≡ 1 → wish ≡ Err number
-  pub line : status ≡ 4 → IfSome contents (λ configuration. password_in configuration ≡ Err number)
+  pub line : status ≡ 4 → IfSome contents (λ configuration. settings_in configuration ≡ Err number)
 
 -- what the sink holds is what it held, and what is printed behind it
 pub record Prints (wish : Result Wish ℕ) (contents : Option (List ℕ)) (status : ℕ) (before after : Option (List ℕ)) : Type 0 where
   pub number : ℕ
   pub is : IsNumber wish contents status number
-  pub holds : after ≡ append_known before (printed status number)
+  pub holds : after ≡ append_known before (printed (asks_version wish) status number)
 
--- words that ask for no turn: one of them is bad, or they ask for the version
-abbrev pub AsksNoTurn : Result Wish ℕ → Type 0
-AsksNoTurn (Err n) = Unit {0}
-AsksNoTurn (Ok wish) = wish.version ≡ true
+-- what the sockets are asked for where words ask for turns: the listener, unless the run ended before
+abbrev pub asked_in : ℕ → List Asked
+asked_in status = if nat_le 3 status && nat_le status 5 then [] else Listen 9000 ∷ []
 
--- what the sockets are asked for in a run with this status: the listener, unless it ended before
-abbrev pub asked_by : ℕ → List Asked
-asked_by status = if nat_le status 1 || (nat_le 3 status && nat_le status 5) then [] else Listen 9000 ∷ []
+-- what the sockets are asked for in a run with this status
+abbrev pub asked_by : Result Wish ℕ → ℕ → List Asked
+asked_by wish status = if asks_turns wish then asked_in status else []
 
 -- each status that tells a fault comes only where that count rose
 pub record HasCause (before after : Faults) (kept kept' : ℕ) (status : ℕ) : Type 0 where
@@ -101,6 +126,7 @@ status_of (BadLine n) = 4
 status_of NoMemory = 5
 status_of ListenFailed = 6
 status_of TurnsTaken = 8
+status_of Quit = 0
 
 abbrev pub number_of : Ending → ℕ
 number_of Version = 0
@@ -111,34 +137,61 @@ number_of (BadLine n) = n
 number_of NoMemory = 0
 number_of ListenFailed = 0
 number_of TurnsTaken = 0
+number_of Quit = 0
+
+-- whether it prints the version
+abbrev pub tells_version : Ending → Bool
+tells_version Version = true
+tells_version (BadWord n) = false
+tells_version WaitFailed = false
+tells_version NoConfiguration = false
+tells_version (BadLine n) = false
+tells_version NoMemory = false
+tells_version ListenFailed = false
+tells_version TurnsTaken = false
+tells_version Quit = false
+
+-- how a run ends behind a turn that ended so
+abbrev pub EndsAt : Then → Ending → Type 0
+EndsAt GoOn ending = ending ≡ TurnsTaken
+EndsAt ThenQuit ending = ending ≡ Quit
+EndsAt WaitFault ending = ending ≡ WaitFailed
+EndsAt ListenFault ending = ending ≡ ListenFailed
+EndsAt KeeperFault ending = ⊥
 
 -- an end before the listener is asked for
 abbrev pub IsEarly : Option (List ℕ) → ℕ → ℕ → Ending → Type 0
 IsEarly contents kept kept' NoConfiguration = Rose kept kept'
-IsEarly contents kept kept' (BadLine n) = IfSome contents (λ configuration. password_in configuration ≡ Err n)
+IsEarly contents kept kept' (BadLine n) = IfSome contents (λ configuration. settings_in configuration ≡ Err n)
 IsEarly contents kept kept' NoMemory = Unit {0}
 IsEarly contents kept kept' Version = ⊥
 IsEarly contents kept kept' (BadWord n) = ⊥
 IsEarly contents kept kept' WaitFailed = ⊥
 IsEarly contents kept kept' ListenFailed = ⊥
 IsEarly contents kept kept' TurnsTaken = ⊥
+IsEarly contents kept kept' Quit = ⊥
 
 -- the state behind the last turn
 pub record IsLast (contents : Option (List ℕ)) (before after : Seen) (last : Headless) : Type 0 where
   pub headline : Headline contents after last
   pub stands : Stands last after
+  pub calm : IsCalm last.core.seats
   pub causes : All (IsCaused before after) last.links.closed.items
 
 -- a run that was asked for this number of waits ends
 pub record Runs (turns : ℕ) (contents : Option (List ℕ)) (kept kept' : ℕ) (before after : Seen) (ending : Ending) (last : Option Headless) : Type 0 where
   pub ends : Ends turns contents after (status_of ending) last
-  pub line : status_of ending ≡ 4 → IfSome contents (λ configuration. password_in configuration ≡ Err (number_of ending))
+  pub line : status_of ending ≡ 4 → IfSome contents (λ configuration. settings_in configuration ≡ Err (number_of ending))
+  pub version : tells_version ending ≡ false
   pub counted : LastOf after last
+  pub most : WaitsAtMost turns after last
   pub left : IfSome last (IsLast contents before after)
   -- behind the last turn each source is served, and each link is written
   pub served : status_of ending ≡ 8 → IfSome last (λ last. AllServed last.core.seats before after)
+  -- behind `/quit` each link is written once
+  pub sent : status_of ending ≡ 0 → IfSome last (λ last. AllSent last.core.seats before after)
   pub faults : HasCause before.faults after.faults kept kept' (status_of ending)
-  pub asked : IsTrue after.tells → after.asked ≡ asked_by (status_of ending)
+  pub asked : IsTrue after.tells → after.asked ≡ asked_in (status_of ending)
 
 -- nothing is asked of the outside
 pub record AsksNothing (kept kept' : ℕ) (before after : Seen) (wanted ending : Ending) (last : Option Headless) : Type 0 where

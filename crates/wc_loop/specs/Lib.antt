@@ -5,10 +5,12 @@ pub mod Hands
 pub mod Headline
 pub mod Lines
 pub mod Links
+pub mod Parts
 pub mod Run
 pub mod Served
 pub mod Sources
 pub mod Steps
 pub mod Tails
 pub mod Turns
+pub mod Waits
 pub mod Words

@@ -1,10 +1,12 @@
 -- How the sources that are ready are served.
 use Rattle.std.specs.Prelude.{ℕ, ◌≡◌, ◌+◌, ◌≤◌, ◌⊎◌, ◌==◌, Bool, true, false, not, ◌&&◌, List, [], ◌∷◌, length, Option, Some, None, IsTrue}
 use Rattle.std.specs.List.{flat_map, list_any}
-use Rattle.wc_outside.specs.Happenings.{is_link}
+use Rattle.wc_outside.specs.Happenings.{is_link, is_listener}
 use Rattle.wc_outside.specs.Seen.{Seen}
 use Rattle.wc_outside.specs.Faults.{Rose}
-use Rattle.wc_loop.specs.Turns.{HasGained}
+use Rattle.wc_loop.specs.declared.headless.Headless.{Headless}
+use Rattle.wc_loop.specs.Served.{IsCalm}
+use Rattle.wc_loop.specs.Turns.{HasGained, Stands, Continues}
 use Rattle.wc_outside.specs.declared.happening.Happening.{Happening}
 use Rattle.wc_outside.specs.declared.happening.Happening.TheVariants.{Woke, Accepted, Read, Ended, Failed, ListenFailed}
 use Rattle.wc_outside.specs.declared.sockets.Token.{Token}
@@ -53,6 +55,27 @@ pub record AllServed (seats : List Seat) (before after : Seen) : Type 0 where
   pub listener : IsHeard before after
   pub written : (link : ℕ) → 1 ≤ link → IsWritten link seats after
 
+-- nothing is unsent on a link, or its last write found no room, or it failed between
+abbrev pub IsSent : ℕ → List Seat → Seen → Seen → Type 0
+IsSent link seats before after = (unsent_on link seats ≡ []) ⊎ ((after.blocked link ≡ true) ⊎ (Rose before.faults.links after.faults.links × (IsTrue after.tells → HasGained before after (Failed (record { 0 = link })))))
+
+-- behind `/quit` each link with unsent bytes is written once
+abbrev pub AllSent : List Seat → Seen → Seen → Type 0
+AllSent seats before after = (link : ℕ) → 1 ≤ link → IsSent link seats before after
+
+-- the sources that these tokens name are served between two moments, each once, unless `/quit` was run; the listener failed so often
+pub record ServesNamed (tokens : List Token) (faults : ℕ) (old new : Headless) (before after : Seen) : Type 0 where
+  pub continues : Continues true 0 faults old new before after
+  pub calm : IsCalm new.core.seats
+  pub falls : Falls before after
+  pub served : Stands old before → new.core.quits ≡ false → (link : ℕ) → IsTrue (list_any (is_link link) tokens) → IsServed link before after
+  pub heard : faults ≡ 0 → new.core.quits ≡ false → IsTrue (list_any is_listener tokens) → IsHeard before after
+  pub failed : 1 ≤ faults → Rose before.faults.listens after.faults.listens × IsTrue (list_any is_listener tokens)
+  pub most : IsTrue after.tells → (link : ℕ) → bytes_taken link after.taken ≤ bytes_taken link before.taken + 1048576
+  pub others : IsTrue after.tells → (link : ℕ) → list_any (is_link link) tokens ≡ false → bytes_taken link after.taken ≡ bytes_taken link before.taken
+  pub clients : IsTrue after.tells → arrivals after.taken ≤ arrivals before.taken + 1024
+  pub unheard : IsTrue after.tells → list_any is_listener tokens ≡ false → arrivals after.taken ≡ arrivals before.taken
+
 -- whether what was looked up has a flag
 abbrev pub flagged : {X : Type 0} → (X → Bool) → Option X → Bool
 flagged flag (Some x) = flag x
@@ -75,7 +98,3 @@ pub record TakesWithin (before after : Seen) : Type 0 where
 pub record TakesNothing (before after : Seen) : Type 0 where
   pub bytes : IsTrue after.tells → (link : ℕ) → bytes_taken link after.taken ≡ bytes_taken link before.taken
   pub clients : IsTrue after.tells → arrivals after.taken ≡ arrivals before.taken
-
--- nothing is unsent on a link, or its last write found no room, or it failed between
-abbrev pub IsSent : ℕ → List Seat → Seen → Seen → Type 0
-IsSent link seats before after = (unsent_on link seats ≡ []) ⊎ ((after.blocked link ≡ true) ⊎ (Rose before.faults.links after.faults.links × (IsTrue after.tells → HasGained before after (Failed (record { 0 = link })))))

@@ -209,10 +209,6 @@ pub record Takes (old new : Headless) (happening : Happening) : Type 0 where
 abbrev pub IsSettled : ℕ → List Seat → Seen → Type 0
 IsSettled link seats seen = IsTrue seen.tells → seen.blocked link ≡ false → has_failed link seen.taken ≡ false → unsent_on link seats ≡ []
 
--- the link of a client that is leaving for its failure failed
-abbrev pub HasFailedIf : ℕ → Cause → Seen → Type 0
-HasFailedIf link cause seen = cause ≡ CauseFailed → IsTrue seen.tells → has_failed link seen.taken ≡ true
-
 -- the links that a turn closed are, in order, those that the core closes at the events that the turn added, unless some growth was refused
 pub record ClosesExactly (old new : Headless) (before after : Seen) : Type 0 where
   pub gained : List Happening

@@ -1,142 +1,141 @@
-ghost use Rattle.std.specs.Prelude.{◌≡◌, ◌≤◌, ℕ, drop, length, Ok, Err, IfOk, OnErr, IsErrOf};
-ghost use Rattle.std.specs.Option.{option_copied};
-ghost use Rattle.std.specs.List.{list_any};
+ghost use Rattle.std.specs.Prelude.{◌≡◌, ◌≤◌, ℕ, Ok, Err, IfOk, IfSome, IsErrOf, OnErr, option_map};
 ghost use Rattle.std.specs.Str.{is_utf8};
-ghost use Rattle.wc_loop.specs.Configuration.{is_passed_over, is_barred, is_value, is_version_line, password_of_line, password_behind, password_in};
+ghost use Rattle.wc_loop.specs.Configuration.{seen_settings, with_value, with_parts, with_line, behind_line, is_version_line, settings_in};
 
-use crate::feed::next_line;
 use std::alloc::Global;
-use std::str;
+use wc_options::{
+    ConfigRefused, Kind, VERSION_LINE, first_line, is_passed_over, number_in, part_line,
+};
 use wc_text::{NoMemory, Text};
 
-/// Why there is no configuration.
-#[derive(Clone, Copy, Debug, PartialEq, Eq, thiserror::Error)]
-pub enum ConfigurationRefused {
-    #[error("line {line} is unreadable")]
-    BadLine { line: u64 },
-    #[error("out of memory")]
-    NoMemory,
+/// The option that holds the password of clients.
+const PASSWORD: &[u8] = b"relay.network.password";
+
+/// The option that bounds the lines of a buffer.
+const LINES: &[u8] = b"weechat.history.max_buffer_lines_number";
+
+/// How many lines a buffer holds at most, where no line says so.
+const MOST_LINES: u32 = 4096;
+
+/// What a configuration sets.
+#[derive(Drop)]
+pub struct Settings {
+    /// The password of clients. Without one nobody is let in.
+    pub password: Text,
+    /// How many lines a buffer holds at most, from 1 to 4,096.
+    pub limit: u32,
 }
 
-/// Whether bytes are a text.
-fn is_utf8(bytes: &[u8]) -> bool
-    ensures { result ≡ is_utf8 bytes.now }
-{
-    str::from_utf8(bytes).is_ok()
+/// What the lines so far set.
+#[derive(Clone, Copy)]
+pub struct Given<'a> {
+    pub password: &'a [u8],
+    pub limit: u32,
 }
 
-/// Whether a line says nothing: it is empty or a comment.
-fn is_passed_over(line: &[u8]) -> bool
-    ensures { result ≡ is_passed_over line.now }
+/// What is set behind an option and its value. None for an option that is not read, and for a value
+/// that is none of it.
+fn with_value<'a>(given: Given<'a>, name: &[u8], value: &'a [u8]) -> Option<Given<'a>>
+    ensures value { option_map seen_settings result ≡ with_value (seen_settings given.entry) name.now value.now }
+    ensures range { 1 ≤ given.entry.limit → given.entry.limit ≤ 4096 → IfSome result (λ next. (1 ≤ next.limit) × (next.limit ≤ 4096)) }
 {
-    match line {
-        [] => true,
-        [first, ..] => *first == b'#',
+    if name == PASSWORD {
+        if !Kind::Text.fits(value) {
+            return None;
+        }
+        return Some(Given {
+            password: value,
+            limit: given.limit,
+        });
+    }
+    if name != LINES {
+        return None;
+    }
+    let limit = number_in(value, 1, MOST_LINES)?;
+    Some(Given {
+        password: given.password,
+        limit,
+    })
+}
+
+/// Whether a text is UTF-8.
+#[tactic(auto, using(wc_options::proofs::ConfigLemmas::utf8_tests))]
+fn is_utf8(line: &[u8]) -> bool
+    ensures { result ≡ is_utf8 line.now }
+{
+    std::str::from_utf8(line).is_ok()
+}
+
+/// What is set behind a line with a name and a value.
+fn with_line<'a>(given: Given<'a>, line: &'a [u8]) -> Option<Given<'a>>
+    ensures value { option_map seen_settings result ≡ with_line (seen_settings given.entry) line.now }
+    ensures range { 1 ≤ given.entry.limit → given.entry.limit ≤ 4096 → IfSome result (λ next. (1 ≤ next.limit) × (next.limit ≤ 4096)) }
+{
+    if !is_utf8(line) {
+        return None;
+    }
+    match part_line(line) {
+        Some((name, value)) => with_value(given, name, value),
+        None => None,
     }
 }
 
-/// Whether no value has a byte.
-fn is_barred(byte: u8) -> bool
-    ensures { result ≡ is_barred byte }
-{
-    byte == 0 || byte == b'\n' || byte == b'\r'
-}
-
-/// Whether one of the bytes is one that no value has.
-fn has_barred(value: &[u8]) -> bool
-    ensures { result ≡ list_any is_barred value.now }
-{
-    value.iter().any(|byte| is_barred(*byte))
-}
-
-/// Whether a value is a text of at most 1,024 bytes without CR, LF and NUL.
-fn is_value(value: &[u8]) -> bool
-    ensures { result ≡ is_value value.now }
-{
-    if !is_utf8(value) {
-        return false;
-    }
-    if value.len() > 1024 {
-        return false;
-    }
-    !has_barred(value)
-}
-
-/// Whether a line is the version, which may stand in the first line.
+/// Whether a line tells the version, which may stand in the first line.
 fn is_version_line(number: u64, line: &[u8]) -> bool
     ensures { result ≡ is_version_line number line.now }
 {
-    number == 1 && line == b"config_version = 1".as_slice()
+    number == 1 && line == VERSION_LINE
 }
 
-/// What stands behind the name of the option and ` = `.
-fn behind_name(line: &[u8]) -> &[u8]
-    requires { 25 ≤ length line.now }
-    ensures { result.now ≡ drop 25 line.now }
-{
-    line.split_at(25).1
-}
-
-/// The password that a line sets.
-fn password_of_line(line: &[u8]) -> Option<&[u8]>
-    ensures { option_copied result ≡ password_of_line line.now }
-{
-    if !line.starts_with(b"relay.network.password = ") {
-        return None;
-    }
-    let value = behind_name(line);
-    if !is_value(value) {
-        return None;
-    }
-    Some(value)
-}
-
-/// The password behind a line, before which another one was set.
-fn password_behind<'a>(number: u64, password: &'a [u8], line: &'a [u8]) -> Option<&'a [u8]>
-    ensures { option_copied result ≡ password_behind number password.now line.now }
+/// What is set behind a line with a number.
+fn behind_line<'a>(number: u64, given: Given<'a>, line: &'a [u8]) -> Option<Given<'a>>
+    ensures value { option_map seen_settings result ≡ behind_line number (seen_settings given.entry) line.now }
+    ensures range { 1 ≤ given.entry.limit → given.entry.limit ≤ 4096 → IfSome result (λ next. (1 ≤ next.limit) × (next.limit ≤ 4096)) }
 {
     if is_passed_over(line) || is_version_line(number, line) {
-        return Some(password);
+        return Some(given);
     }
-    password_of_line(line)
+    with_line(given, line)
 }
 
-/// The password that a file sets: its lines are empty, comments behind `#`, or
-/// `relay.network.password = ` and the password, and the first may be `config_version = 1`. Where no
-/// line sets it, it is empty.
+/// What a configuration sets: its lines are empty, comments behind `#`, or an option, ` = ` and its
+/// value, and the first may be `config_version = 1`. The options are `relay.network.password`, a
+/// text, and `weechat.history.max_buffer_lines_number`, a number from 1 to 4,096, without which it is
+/// 4,096. Of a repeated option the last line counts.
 ///
 /// `BadLine` has the number of the first unreadable line, counted from 1.
-pub fn read_password(alloc: Global, text: &[u8]) -> Result<Text, ConfigurationRefused>
-    ensures ok { IfOk result (λ password. password_in text.now ≡ Ok password) }
-    ensures bad_line { (n : ℕ) → IsErrOf result (ConfigurationRefused.BadLine n) → password_in text.now ≡ Err n }
+pub fn read_settings(alloc: Global, text: &[u8]) -> Result<Settings, ConfigRefused>
+    ensures ok { IfOk result (λ settings. settings_in text.now ≡ Ok settings) }
+    ensures range { IfOk result (λ settings. (1 ≤ settings.limit) × (settings.limit ≤ 4096)) }
+    ensures bad_line { (n : ℕ) → IsErrOf result (ConfigRefused.BadLine n) → settings_in text.now ≡ Err n }
 {
+    let mut given = Given {
+        password: b"".as_slice(),
+        limit: MOST_LINES,
+    };
     let mut number = 1;
-    let mut password: &[u8] = b"".as_slice();
     let mut rest = text;
-    while let Some((line, behind)) = next_line(rest) {
-        let Some(given) = password_behind(number, password, line) else {
-            return Err(ConfigurationRefused::BadLine { line: number });
+    while let Some((line, behind)) = first_line(rest) {
+        let Some(next) = behind_line(number, given, line) else {
+            return Err(ConfigRefused::BadLine { line: number });
         };
-        password = given;
+        given = next;
         number += 1;
         rest = behind;
     }
-    if rest.is_empty() {
-        return kept(alloc, password);
-    }
-    let Some(given) = password_behind(number, password, rest) else {
-        return Err(ConfigurationRefused::BadLine { line: number });
-    };
     kept(alloc, given)
 }
 
-/// A password in memory of its own.
-fn kept(alloc: Global, password: &[u8]) -> Result<Text, ConfigurationRefused>
-    ensures ok { IfOk result (λ text. text ≡ password.now) }
-    ensures err { OnErr result (result ≡ Err ConfigurationRefused.NoMemory) }
+/// What is set, in memory of its own.
+fn kept(alloc: Global, given: Given<'_>) -> Result<Settings, ConfigRefused>
+    ensures ok { IfOk result (λ settings. settings ≡ seen_settings given.entry) }
+    ensures err { OnErr result (result ≡ Err ConfigRefused.NoMemory) }
 {
-    match Text::from_slice(alloc, password) {
-        Ok(text) => Ok(text),
-        Err(NoMemory) => Err(ConfigurationRefused::NoMemory),
+    match Text::from_slice(alloc, given.password) {
+        Ok(password) => Ok(Settings {
+            password,
+            limit: given.limit,
+        }),
+        Err(NoMemory) => Err(ConfigRefused::NoMemory),
     }
 }

@@ -1,5 +1,5 @@
 ghost use Rattle.std.specs.Prelude.{◌≡◌, codes};
-ghost use Rattle.wc_loop.specs.Endings.{status_of, number_of, line_of, printed};
+ghost use Rattle.wc_loop.specs.Endings.{status_of, number_of, tells_version, line_of, printed};
 
 use crate::print::{line, numbered};
 use arrayvec::ArrayVec;
@@ -19,6 +19,8 @@ pub enum Ending {
     ListenFailed,
     /// As many waits returned as were asked for.
     TurnsTaken,
+    /// `/quit` was run.
+    Quit,
 }
 
 impl Ending {
@@ -27,7 +29,7 @@ impl Ending {
         ensures { result ≡ status_of self }
     {
         match self {
-            Ending::Version => 0,
+            Ending::Version | Ending::Quit => 0,
             Ending::BadWord(_) => 1,
             Ending::WaitFailed => 2,
             Ending::NoConfiguration => 3,
@@ -40,7 +42,7 @@ impl Ending {
 
     /// What is printed.
     pub fn text(self) -> ArrayVec<u8, 64>
-        ensures { result.items ≡ printed (status_of self) (number_of self) }
+        ensures { result.items ≡ printed (tells_version self) (status_of self) (number_of self) }
     {
         match self {
             Ending::Version => line(b"wc-headless 1"),
@@ -50,7 +52,7 @@ impl Ending {
             Ending::BadLine(number) => numbered(b"configuration line ", number),
             Ending::NoMemory => line(b"out of memory"),
             Ending::ListenFailed => line(b"listen failed"),
-            Ending::TurnsTaken => ArrayVec::new(),
+            Ending::TurnsTaken | Ending::Quit => ArrayVec::new(),
         }
     }
 }

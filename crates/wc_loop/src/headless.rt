@@ -177,11 +177,6 @@ impl Headless {
         self.ran = reached;
     }
 
-    /// Whether a source was reported ready and is not drained.
-    pub(crate) fn has_undrained(&self) -> bool {
-        self.listening || self.links.opened.iter().any(|state| state.undrained)
-    }
-
     /// The links that are open, in the order of their numbers.
     pub fn links(&self) -> &[LinkState]
         ensures { result.now ≡ self.now.links.opened.items }

@@ -17,6 +17,7 @@ mod tail;
 #[cfg(test)]
 mod tests;
 mod then;
+mod turn;
 mod turns;
 mod words;
 

@@ -2,35 +2,33 @@ ghost use Rattle.std.specs.Prelude.{◌≡◌, ◌≢◌, ◌≤◌, ◌⊎◌, 
 ghost use Rattle.std.specs.Io.KnownBytes.{append_known};
 ghost use Rattle.wc_outside.specs.Faults.{Rose};
 ghost use Rattle.wc_outside.specs.Seen.{IsNew};
-ghost use Rattle.wc_loop.specs.Configuration.{password_in};
-ghost use Rattle.wc_loop.specs.Endings.{LastOf, StatusOf, Prints, IsEarly, HasCause, AsksNoTurn, Runs, RunsBy, asked_by, kept_of, number_of, printed, status_of};
-ghost use Rattle.wc_loop.specs.Headline.{Headline, IsFirst};
-ghost use Rattle.wc_loop.specs.Sources.{AllServed};
+ghost use Rattle.wc_loop.specs.Endings.{LastOf, StatusOf, WaitsAtMost, Prints, IsEarly, HasCause, Runs, RunsBy, asks_turns, asked_by, EndsAt, kept_of, number_of, printed, status_of, tells_version};
+ghost use Rattle.wc_loop.specs.Headline.{Headline, Mirrored, IsFirst, IsConfigured};
+ghost use Rattle.wc_loop.specs.Served.{IsCalm};
+ghost use Rattle.wc_loop.specs.Sources.{AllServed, AllSent};
 ghost use Rattle.wc_loop.specs.Words.{wish_of};
 ghost use Rattle.wc_loop.specs.Turns.{Continues, Stands, IsCaused, faults_then};
 
-use crate::configuration::{ConfigurationRefused, read_password};
+use crate::configuration::read_settings;
 use crate::ending::Ending;
 use crate::headless::Headless;
 use crate::print::print;
 use crate::then::Then;
 use crate::words::read_words;
 use std::alloc::Global;
+use wc_options::ConfigRefused;
 use wc_outside::{KeepFault, Keeper, Sink, Sockets};
 
 /// Where clients are listened for.
 const PORT: u16 = 9000;
 
-/// How many lines the core buffer holds at most.
-const HISTORY_LIMIT: u32 = 4096;
-
 /// How a run ended.
 #[derive(Drop)]
 pub struct Ended {
-    /// 0 where words asked for the version; 1 for a bad word; 2 where a wait failed; 3 where the
-    /// configuration could not be read; 4 where a line of it is unreadable; 5 for want of memory
-    /// before the first wait; 6 where the listener failed; 7 where printing failed; and 8 where as
-    /// many waits returned as were asked for.
+    /// 0 where words asked for the version, or `/quit` was run; 1 for a bad word; 2 where a wait
+    /// failed; 3 where the configuration could not be read; 4 where a line of it is unreadable; 5
+    /// for want of memory before the first wait; 6 where the listener failed; 7 where printing
+    /// failed; and 8 where as many waits returned as were asked for.
     pub status: u8,
     /// The state behind the last turn, where a wait returned.
     pub last: Option<Headless>,
@@ -39,6 +37,8 @@ pub struct Ended {
 /// Makes the state of a run, by the configuration.
 fn configured<K: Keeper>(alloc: Global, keeper: &mut K) -> Result<Headless, Ending>
     ensures first { IfOk result IsFirst }
+    ensures known { IfOk result (λ headless. IfSome (K.contents keeper.old) (IsConfigured headless)) }
+    ensures calm { IfOk result (λ headless. IsCalm headless.core.seats) }
     ensures early { IfErr result (IsEarly (K.contents keeper.old) (K.faults keeper.old) (K.faults keeper.new)) }
     ensures kept { K.contents keeper.new ≡ K.contents keeper.old }
 {
@@ -47,36 +47,40 @@ fn configured<K: Keeper>(alloc: Global, keeper: &mut K) -> Result<Headless, Endi
         Err(KeepFault::Failed) => return Err(Ending::NoConfiguration),
         Err(KeepFault::NoMemory) => return Err(Ending::NoMemory),
     };
-    let password = match read_password(alloc, text.as_slice()) {
-        Ok(password) => password,
-        Err(ConfigurationRefused::BadLine { line }) => return Err(Ending::BadLine(line)),
-        Err(ConfigurationRefused::NoMemory) => return Err(Ending::NoMemory),
+    let settings = match read_settings(alloc, text.as_slice()) {
+        Ok(settings) => settings,
+        Err(ConfigRefused::BadLine { line }) => return Err(Ending::BadLine(line)),
+        Err(ConfigRefused::NoMemory) => return Err(Ending::NoMemory),
     };
-    match Headless::new(alloc, password, HISTORY_LIMIT) {
+    match Headless::new(alloc, settings.password, settings.limit) {
         Ok(headless) => Ok(headless),
         Err(_) => Err(Ending::NoMemory),
     }
 }
 
-/// Takes so many turns, unless a wait or the listener fails before. `headless` is a state that took no
-/// turn yet, and the sockets are those that it was made with.
+/// Takes so many turns, unless a wait or the listener fails or `/quit` is run before. `headless` is a
+/// state that took no turn yet, and the sockets are those that it was made with.
 fn take_turns<S: Sockets, K: Keeper>(
     headless: &mut Headless,
     sockets: &mut S,
     keeper: &mut K,
     turns: u64,
 ) -> Then
-    requires none { headless.old.turns ≡ 0 }
-    requires open { headless.old.links.closed.items ≡ [] }
+    requires first { IsFirst headless.old }
     requires stands { Stands headless.old (S.seen sockets.old) }
     ensures continues { Continues false headless.new.turns (faults_then result) headless.old headless.new (S.seen sockets.old) (S.seen sockets.new) }
     ensures stands { Stands headless.new (S.seen sockets.new) }
+    ensures calm { IsCalm headless.new.core.seats }
     ensures causes { All (IsCaused (S.seen sockets.old) (S.seen sockets.new)) headless.new.links.closed.items }
     ensures served { result ≡ Then.GoOn → 1 ≤ turns → AllServed headless.new.core.seats (S.seen sockets.old) (S.seen sockets.new) }
-    ensures never { (result ≢ Then.Quit) × (result ≢ Then.KeeperFault) }
+    ensures sent { result ≡ Then.Quit → AllSent headless.new.core.seats (S.seen sockets.old) (S.seen sockets.new) }
+    ensures never { result ≢ Then.KeeperFault }
+    ensures quit { result ≡ Then.Quit → headless.new.core.quits ≡ true }
+    ensures going { result ≢ Then.Quit → result ≢ Then.ListenFault → headless.new.core.quits ≡ false }
     ensures all { result ≡ Then.GoOn → headless.new.turns ≡ turns }
     ensures fewer { result ≡ Then.WaitFault → headless.new.turns ≢ turns }
-    ensures some { result ≡ Then.ListenFault → 1 ≤ headless.new.turns }
+    ensures some { (result ≡ Then.ListenFault) ⊎ (result ≡ Then.Quit) → 1 ≤ headless.new.turns }
+    ensures most { headless.new.turns ≤ turns }
     ensures wait_fault { result ≡ Then.WaitFault → Rose (S.seen sockets.old).faults.waits (S.seen sockets.new).faults.waits }
     ensures listen_fault { result ≡ Then.ListenFault → Rose (S.seen sockets.old).faults.listens (S.seen sockets.new).faults.listens }
     ensures kept { K.contents keeper.new ≡ K.contents keeper.old }
@@ -92,16 +96,15 @@ fn take_turns<S: Sockets, K: Keeper>(
 
 /// Why the run ends behind its last turn.
 fn ending_of(then: Then) -> Ending
-    requires { (then ≢ Then.Quit) × (then ≢ Then.KeeperFault) }
-    ensures all { then ≡ Then.GoOn → result ≡ Ending.TurnsTaken }
-    ensures wait_fault { then ≡ Then.WaitFault → result ≡ Ending.WaitFailed }
-    ensures listen_fault { then ≡ Then.ListenFault → result ≡ Ending.ListenFailed }
+    requires { then ≢ Then.KeeperFault }
+    ensures { EndsAt then result }
 {
     match then {
         Then::GoOn => Ending::TurnsTaken,
+        Then::Quit => Ending::Quit,
         Then::WaitFault => Ending::WaitFailed,
         Then::ListenFault => Ending::ListenFailed,
-        Then::Quit | Then::KeeperFault => unreachable!(),
+        Then::KeeperFault => unreachable!(),
     }
 }
 
@@ -179,7 +182,7 @@ fn run_words<S: Sockets, K: Keeper>(
 fn end<O: Sink>(out: &mut O, outcome: Outcome) -> Ended
     ensures last { result.last ≡ outcome.last }
     ensures status { result.status ≢ 7 → result.status ≡ status_of outcome.ending }
-    ensures printed { result.status ≢ 7 → O.contents out.new ≡ append_known (O.contents out.old) (printed (status_of outcome.ending) (number_of outcome.ending)) }
+    ensures printed { result.status ≢ 7 → O.contents out.new ≡ append_known (O.contents out.old) (printed (tells_version outcome.ending) (status_of outcome.ending) (number_of outcome.ending)) }
     ensures count { result.status ≢ 7 → O.faults out.new ≡ O.faults out.old }
     ensures sink { result.status ≡ 7 → Rose (O.faults out.old) (O.faults out.new) }
 {
@@ -194,8 +197,8 @@ fn end<O: Sink>(out: &mut O, outcome: Outcome) -> Ended
 }
 
 /// Runs the program for these words: it reads the configuration, listens at 127.0.0.1:9000, and serves
-/// clients of the relay protocol `weechat` until as many waits returned as `--turns` asks for. The
-/// sockets are new. At its end it prints what is to be told.
+/// clients of the relay protocol `weechat` until as many waits returned as `--turns` asks for, or
+/// `/quit` is run. The sockets are new. At its end it prints what is to be told.
 ///
 /// A sink that fails gives the status 7 in place of the one that was to come.
 pub fn run_program<S: Sockets, K: Keeper, O: Sink>(
@@ -207,17 +210,21 @@ pub fn run_program<S: Sockets, K: Keeper, O: Sink>(
 ) -> Ended
     requires { IsNew (S.seen sockets.old) }
     ensures headline { IfSome result.last (Headline (K.contents keeper.old) (S.seen sockets.new)) }
+    ensures mirrored { IfSome result.last (Mirrored (K.contents keeper.old) (S.seen sockets.new)) }
     ensures status { result.status ≢ 7 → StatusOf (wish_of (map string_bytes words.now.items)) (K.contents keeper.old) (S.seen sockets.new) result.status result.last }
     ensures printed { result.status ≢ 7 → Prints (wish_of (map string_bytes words.now.items)) (K.contents keeper.old) result.status (O.contents out.old) (O.contents out.new) }
     ensures last { LastOf (S.seen sockets.new) result.last }
+    ensures waits { IfOk (wish_of (map string_bytes words.now.items)) (λ wish. WaitsAtMost wish.turns (S.seen sockets.new) result.last) }
     ensures stands { IfSome result.last (λ last. Stands last (S.seen sockets.new)) }
+    ensures calm { IfSome result.last (λ last. IsCalm last.core.seats) }
     ensures causes { IfSome result.last (λ last. All (IsCaused (S.seen sockets.old) (S.seen sockets.new)) last.links.closed.items) }
     ensures served { result.status ≡ 8 → IfSome result.last (λ last. AllServed last.core.seats (S.seen sockets.old) (S.seen sockets.new)) }
+    ensures sent { result.status ≡ 0 → IfSome result.last (λ last. AllSent last.core.seats (S.seen sockets.old) (S.seen sockets.new)) }
     ensures faults { HasCause (S.seen sockets.old).faults (S.seen sockets.new).faults (K.faults keeper.old) (K.faults keeper.new) result.status }
     ensures sink { result.status ≡ 7 → Rose (O.faults out.old) (O.faults out.new) }
     ensures sink_count { result.status ≢ 7 → O.faults out.new ≡ O.faults out.old }
-    ensures asked { result.status ≢ 7 → IsTrue (S.seen sockets.new).tells → (S.seen sockets.new).asked ≡ asked_by result.status }
-    ensures untouched { AsksNoTurn (wish_of (map string_bytes words.now.items)) → S.seen sockets.new ≡ S.seen sockets.old }
+    ensures asked { result.status ≢ 7 → IsTrue (S.seen sockets.new).tells → (S.seen sockets.new).asked ≡ asked_by (wish_of (map string_bytes words.now.items)) result.status }
+    ensures untouched { asks_turns (wish_of (map string_bytes words.now.items)) ≡ false → S.seen sockets.new ≡ S.seen sockets.old }
     ensures kept { K.contents keeper.new ≡ K.contents keeper.old }
 {
     let outcome = run_words(alloc, words.as_slice(), sockets, keeper);

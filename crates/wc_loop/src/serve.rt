@@ -1,18 +1,19 @@
-ghost use Rattle.std.specs.Prelude.{◌≡◌, ◌≢◌, ◌<◌, ◌≤◌, ℕ, None, IfSome, OnOk, OnErr, IsTrue, true, false, All, take};
+ghost use Rattle.std.specs.Prelude.{◌≡◌, ◌≢◌, ◌⊎◌, ◌<◌, ◌≤◌, ◌+◌, ℕ, None, Some, IfSome, OnOk, OnErr, IsTrue, true, false, take};
 ghost use Rattle.std.specs.List.{list_any};
 ghost use Rattle.wc_outside.specs.Faults.{Rose};
 ghost use Rattle.wc_outside.specs.Happenings.{is_link, is_listener};
 ghost use Rattle.wc_outside.specs.Keyed.{at_key};
-ghost use Rattle.wc_loop.specs.Links.{link_number};
 ghost use Rattle.wc_core.specs.Served.{seat_link};
-ghost use Rattle.wc_loop.specs.Sources.{Falls, IsServed, IsHeard, IsWritten, AllServed, flagged, has_unsent, is_left_over};
+ghost use Rattle.wc_loop.specs.Links.{link_number};
+ghost use Rattle.wc_loop.specs.Served.{IsCalm};
+ghost use Rattle.wc_loop.specs.Sources.{Falls, IsServed, IsHeard, IsWritten, AllServed, AllSent, ServesNamed, TakesWithin, TakesNothing, bytes_taken, arrivals, flagged, has_unsent, is_left_over};
 ghost use Rattle.wc_loop.specs.Turns.{Continues, Stands, faults_of};
 
 use crate::headless::Headless;
 use crate::link_state::LinkState;
-use crate::then::Then;
-use crate::turns::{accept_all, read_link, write_link};
-use wc_outside::{Failed, Keeper, Ready, Sockets, Token};
+use crate::turns::{accept_all, read_link, send_link, write_link};
+use wc_core::Seat;
+use wc_outside::{Failed, Ready, Sockets, Token};
 use wc_text::LinkId;
 
 /// The lesser one of two links, where it is above the last one.
@@ -21,6 +22,7 @@ fn lesser(next: Option<LinkId>, link: LinkId, last: u64) -> Option<LinkId>
     ensures other { IfSome result (λ least. (other : ℕ) → last < other → other < least.0 → link.0 ≢ other) }
     ensures before { IfSome result (λ least. IfSome next (λ known. least.0 ≤ known.0)) }
     ensures none { result ≡ None → (next ≡ None) × (link.0 ≤ last) }
+    ensures one { (result ≡ next) ⊎ (result ≡ Some link) }
 {
     if link.0 <= last {
         return next;
@@ -31,63 +33,60 @@ fn lesser(next: Option<LinkId>, link: LinkId, last: u64) -> Option<LinkId>
     }
 }
 
-/// Whether the client of a link has unsent bytes.
-fn has_unsent(headless: &Headless, link: LinkId) -> bool
-    ensures { result ≡ flagged has_unsent (at_key seat_link link.0 headless.now.core.seats) }
+/// Whether a client has unsent bytes.
+fn has_unsent(seat: &Seat) -> bool
+    ensures { result ≡ has_unsent seat.now }
 {
-    match headless.unsent(link) {
-        Some(unsent) => !unsent.is_empty(),
-        None => false,
-    }
+    !seat.session.unsent().is_empty()
 }
 
-/// The link with the least number above the last one whose client has unsent bytes.
-fn next_unsent(headless: &Headless, last: u64) -> Option<LinkId>
+/// The client with the least number above the last one that has unsent bytes.
+fn next_unsent(seats: &[Seat], last: u64) -> Option<LinkId>
     ensures above { IfSome result (λ link. last < link.0) }
+    ensures between { IfSome result (λ link. (other : ℕ) → last < other → other < link.0 → flagged has_unsent (at_key seat_link other seats.now) ≡ false) }
+    ensures none { result ≡ None → (other : ℕ) → last < other → flagged has_unsent (at_key seat_link other seats.now) ≡ false }
 {
     let mut next = None;
-    for state in headless.links() {
-        if has_unsent(headless, state.link) {
-            next = lesser(next, state.link, last);
+    for seat in seats {
+        if has_unsent(seat) {
+            next = lesser(next, seat.session.link(), last);
         }
     }
     next
 }
 
-/// Whether a wait reported a link.
-fn is_reported(ready: &Ready, link: LinkId) -> bool
-    ensures { result ≡ list_any (is_link link.0) (take ready.now.count ready.now.tokens) }
+/// Whether tokens name a link.
+fn is_named(tokens: &[Token], link: LinkId) -> bool
+    ensures { result ≡ list_any (is_link link.0) tokens.now }
 {
-    ready.tokens[..ready.count]
-        .iter()
-        .any(|token| *token == Token::Link(link))
+    tokens.iter().any(|token| *token == Token::Link(link))
 }
 
-/// Whether a wait reported the listener.
-fn is_listener_reported(ready: &Ready) -> bool
-    ensures { result ≡ list_any is_listener (take ready.now.count ready.now.tokens) }
+/// Whether tokens name the listener.
+fn is_listener_named(tokens: &[Token]) -> bool
+    ensures { result ≡ list_any is_listener tokens.now }
 {
-    ready.tokens[..ready.count]
-        .iter()
-        .any(|token| *token == Token::Listener)
+    tokens.iter().any(|token| *token == Token::Listener)
 }
 
-/// Whether a link is not drained, and a wait did not report it.
-fn is_left_over(state: &LinkState, ready: &Ready) -> bool
-    ensures { result ≡ is_left_over (take ready.now.count ready.now.tokens) state.now }
+/// Whether a link is not drained, and these tokens do not name it.
+fn is_left_over(state: &LinkState, tokens: &[Token]) -> bool
+    ensures { result ≡ is_left_over tokens.now state.now }
 {
-    state.undrained && !is_reported(ready, state.link)
+    state.undrained && !is_named(tokens, state.link)
 }
 
-/// The link with the least number above the last one that an earlier turn left undrained.
-fn next_undrained(states: &[LinkState], ready: &Ready, last: u64) -> Option<LinkId>
+/// The link with the least number above the last one that an earlier turn left undrained, and that
+/// these tokens do not name.
+fn next_undrained(states: &[LinkState], tokens: &[Token], last: u64) -> Option<LinkId>
     ensures above { IfSome result (λ link. last < link.0) }
-    ensures between { IfSome result (λ link. (other : ℕ) → last < other → other < link.0 → flagged (is_left_over (take ready.now.count ready.now.tokens)) (at_key link_number other states.now) ≡ false) }
-    ensures none { result ≡ None → (other : ℕ) → last < other → flagged (is_left_over (take ready.now.count ready.now.tokens)) (at_key link_number other states.now) ≡ false }
+    ensures between { IfSome result (λ link. (other : ℕ) → last < other → other < link.0 → flagged (is_left_over tokens.now) (at_key link_number other states.now) ≡ false) }
+    ensures none { result ≡ None → (other : ℕ) → last < other → flagged (is_left_over tokens.now) (at_key link_number other states.now) ≡ false }
+    ensures unnamed { IfSome result (λ link. list_any (is_link link.0) tokens.now ≡ false) }
 {
     let mut next = None;
     for state in states {
-        if is_left_over(state, ready) {
+        if is_left_over(state, tokens) {
             next = lesser(next, state.link, last);
         }
     }
@@ -96,143 +95,180 @@ fn next_undrained(states: &[LinkState], ready: &Ready, last: u64) -> Option<Link
 
 /// Writes the unsent bytes of each client, in the order of their numbers.
 fn write_all<S: Sockets>(headless: &mut Headless, sockets: &mut S)
+    requires calm { IsCalm headless.old.core.seats }
+    requires going { headless.old.core.quits ≡ false }
     ensures continues { Continues true 0 0 headless.old headless.new (S.seen sockets.old) (S.seen sockets.new) }
+    ensures calm { IsCalm headless.new.core.seats }
+    ensures going { headless.new.core.quits ≡ false }
     ensures falls { Falls (S.seen sockets.old) (S.seen sockets.new) }
     ensures written { (link : ℕ) → 1 ≤ link → IsWritten link headless.new.core.seats (S.seen sockets.new) }
+    ensures nothing { TakesNothing (S.seen sockets.old) (S.seen sockets.new) }
 {
     let mut last = 0;
-    while let Some(link) = next_unsent(headless, last) {
+    while let Some(link) = next_unsent(headless.core.seats(), last) {
         write_link(headless, sockets, link);
         last = link.0;
     }
 }
 
-/// Reads the links that an earlier turn left undrained, in the order of their numbers.
-fn read_rest<S: Sockets>(headless: &mut Headless, sockets: &mut S, ready: &Ready)
+/// Sends the unsent bytes of each client behind `/quit`, in the order of their numbers.
+fn send_all<S: Sockets>(headless: &mut Headless, sockets: &mut S)
+    requires calm { IsCalm headless.old.core.seats }
+    requires quit { headless.old.core.quits ≡ true }
     ensures continues { Continues true 0 0 headless.old headless.new (S.seen sockets.old) (S.seen sockets.new) }
-    ensures falls { Falls (S.seen sockets.old) (S.seen sockets.new) }
-    ensures served { Stands headless.old (S.seen sockets.old) → (link : ℕ) → 1 ≤ link → list_any (is_link link) (take ready.now.count ready.now.tokens) ≡ false → IsServed link (S.seen sockets.old) (S.seen sockets.new) }
+    ensures calm { IsCalm headless.new.core.seats }
+    ensures quits { headless.new.core.quits ≡ headless.old.core.quits }
+    ensures sent { AllSent headless.new.core.seats (S.seen sockets.old) (S.seen sockets.new) }
+    ensures nothing { TakesNothing (S.seen sockets.old) (S.seen sockets.new) }
 {
     let mut last = 0;
-    while let Some(link) = next_undrained(headless.links(), ready, last) {
+    while let Some(link) = next_unsent(headless.core.seats(), last) {
+        send_link(headless, sockets, link);
+        last = link.0;
+    }
+}
+
+/// Reads the links that an earlier turn left undrained and that these tokens do not name, in the
+/// order of their numbers, unless `/quit` is run.
+fn read_rest<S: Sockets>(headless: &mut Headless, sockets: &mut S, tokens: &[Token])
+    requires calm { IsCalm headless.old.core.seats }
+    requires going { headless.old.core.quits ≡ false }
+    ensures continues { Continues true 0 0 headless.old headless.new (S.seen sockets.old) (S.seen sockets.new) }
+    ensures calm { IsCalm headless.new.core.seats }
+    ensures falls { Falls (S.seen sockets.old) (S.seen sockets.new) }
+    ensures served { Stands headless.old (S.seen sockets.old) → headless.new.core.quits ≡ false → (link : ℕ) → 1 ≤ link → list_any (is_link link) tokens.now ≡ false → IsServed link (S.seen sockets.old) (S.seen sockets.new) }
+    ensures most { IsTrue (S.seen sockets.new).tells → (link : ℕ) → bytes_taken link (S.seen sockets.new).taken ≤ bytes_taken link (S.seen sockets.old).taken + 1048576 }
+    ensures named { IsTrue (S.seen sockets.new).tells → (link : ℕ) → IsTrue (list_any (is_link link) tokens.now) → bytes_taken link (S.seen sockets.new).taken ≡ bytes_taken link (S.seen sockets.old).taken }
+    ensures clients { IsTrue (S.seen sockets.new).tells → arrivals (S.seen sockets.new).taken ≡ arrivals (S.seen sockets.old).taken }
+{
+    let mut last = 0;
+    while let Some(link) = next_undrained(headless.links(), tokens, last) {
+        if headless.core.quits() {
+            return;
+        }
         read_link(headless, sockets, link);
         last = link.0;
     }
 }
 
-/// Serves the sources that a wait reported, in order.
-fn serve_tokens<S: Sockets>(
+/// Serves the sources that tokens name, in order and each once, unless `/quit` is run. The listener
+/// may fail.
+pub(crate) fn serve_tokens<S: Sockets>(
     headless: &mut Headless,
     sockets: &mut S,
-    ready: &Ready,
+    tokens: &[Token],
 ) -> Result<(), Failed>
-    ensures continues { Continues true 0 (faults_of result) headless.old headless.new (S.seen sockets.old) (S.seen sockets.new) }
-    ensures falls { Falls (S.seen sockets.old) (S.seen sockets.new) }
-    ensures served { Stands headless.old (S.seen sockets.old) → (link : ℕ) → IsTrue (list_any (is_link link) (take ready.now.count ready.now.tokens)) → IsServed link (S.seen sockets.old) (S.seen sockets.new) }
-    ensures heard { OnOk result (IsTrue (list_any is_listener (take ready.now.count ready.now.tokens)) → IsHeard (S.seen sockets.old) (S.seen sockets.new)) }
-    ensures failed { OnErr result (Rose (S.seen sockets.old).faults.listens (S.seen sockets.new).faults.listens) }
+    requires calm { IsCalm headless.old.core.seats }
+    requires going { headless.old.core.quits ≡ false }
+    ensures { ServesNamed tokens.now (faults_of result) headless.old headless.new (S.seen sockets.old) (S.seen sockets.new) }
 {
     let mut listened = Ok(());
-    for place in 0..ready.count {
-        match ready.tokens[place] {
+    for place in 0..tokens.len() {
+        if headless.core.quits() {
+            return listened;
+        }
+        let before = &tokens[..place];
+        match tokens[place] {
             Token::Listener => {
-                if listened.is_ok() {
+                if !is_listener_named(before) {
                     listened = accept_all(headless, sockets);
                 }
             }
-            Token::Link(link) => read_link(headless, sockets, link),
+            Token::Link(link) => {
+                if !is_named(before, link) {
+                    read_link(headless, sockets, link);
+                }
+            }
         }
     }
     listened
 }
 
-/// Takes the arrivals that an earlier turn left.
+/// Takes the arrivals that an earlier turn left, where these tokens do not name the listener.
 fn accept_rest<S: Sockets>(
     headless: &mut Headless,
     sockets: &mut S,
-    ready: &Ready,
+    tokens: &[Token],
 ) -> Result<(), Failed>
+    requires calm { IsCalm headless.old.core.seats }
+    requires going { headless.old.core.quits ≡ false }
     ensures continues { Continues true 0 (faults_of result) headless.old headless.new (S.seen sockets.old) (S.seen sockets.new) }
+    ensures calm { IsCalm headless.new.core.seats }
+    ensures going { headless.new.core.quits ≡ false }
     ensures falls { Falls (S.seen sockets.old) (S.seen sockets.new) }
-    ensures heard { OnOk result (Stands headless.old (S.seen sockets.old) → list_any is_listener (take ready.now.count ready.now.tokens) ≡ false → IsHeard (S.seen sockets.old) (S.seen sockets.new)) }
+    ensures heard { OnOk result (Stands headless.old (S.seen sockets.old) → list_any is_listener tokens.now ≡ false → IsHeard (S.seen sockets.old) (S.seen sockets.new)) }
     ensures failed { OnErr result (Rose (S.seen sockets.old).faults.listens (S.seen sockets.new).faults.listens) }
+    ensures clients { IsTrue (S.seen sockets.new).tells → arrivals (S.seen sockets.new).taken ≤ arrivals (S.seen sockets.old).taken + 1024 }
+    ensures named { IsTrue (S.seen sockets.new).tells → IsTrue (list_any is_listener tokens.now) → arrivals (S.seen sockets.new).taken ≡ arrivals (S.seen sockets.old).taken }
+    ensures bytes { IsTrue (S.seen sockets.new).tells → (link : ℕ) → bytes_taken link (S.seen sockets.new).taken ≡ bytes_taken link (S.seen sockets.old).taken }
 {
-    if !headless.listening || is_listener_reported(ready) {
+    if !headless.listening || is_listener_named(tokens) {
         return Ok(());
     }
     accept_all(headless, sockets)
 }
 
-/// Serves the sources that a wait reported, and then those that an earlier turn left undrained.
+/// Serves the sources that tokens name, and then those that an earlier turn left undrained, unless
+/// `/quit` is run.
 fn serve_sources<S: Sockets>(
     headless: &mut Headless,
     sockets: &mut S,
-    ready: &Ready,
+    tokens: &[Token],
 ) -> Result<(), Failed>
+    requires calm { IsCalm headless.old.core.seats }
+    requires going { headless.old.core.quits ≡ false }
     ensures continues { Continues true 0 (faults_of result) headless.old headless.new (S.seen sockets.old) (S.seen sockets.new) }
-    ensures falls { Falls (S.seen sockets.old) (S.seen sockets.new) }
-    ensures served { Stands headless.old (S.seen sockets.old) → (link : ℕ) → 1 ≤ link → IsServed link (S.seen sockets.old) (S.seen sockets.new) }
-    ensures heard { OnOk result (Stands headless.old (S.seen sockets.old) → IsHeard (S.seen sockets.old) (S.seen sockets.new)) }
+    ensures calm { IsCalm headless.new.core.seats }
+    ensures served { Stands headless.old (S.seen sockets.old) → headless.new.core.quits ≡ false → (link : ℕ) → 1 ≤ link → IsServed link (S.seen sockets.old) (S.seen sockets.new) }
+    ensures heard { OnOk result (Stands headless.old (S.seen sockets.old) → headless.new.core.quits ≡ false → IsHeard (S.seen sockets.old) (S.seen sockets.new)) }
     ensures failed { OnErr result (Rose (S.seen sockets.old).faults.listens (S.seen sockets.new).faults.listens) }
+    ensures within { TakesWithin (S.seen sockets.old) (S.seen sockets.new) }
 {
-    let listened = serve_tokens(headless, sockets, ready);
-    read_rest(headless, sockets, ready);
-    if listened.is_err() {
+    let listened = serve_tokens(headless, sockets, tokens);
+    if headless.core.quits() {
         return listened;
     }
-    accept_rest(headless, sockets, ready)
+    read_rest(headless, sockets, tokens);
+    if listened.is_err() || headless.core.quits() {
+        return listened;
+    }
+    accept_rest(headless, sockets, tokens)
+}
+
+/// Writes what is unsent, or sends it behind `/quit`.
+fn write_unsent<S: Sockets>(headless: &mut Headless, sockets: &mut S)
+    requires calm { IsCalm headless.old.core.seats }
+    ensures continues { Continues true 0 0 headless.old headless.new (S.seen sockets.old) (S.seen sockets.new) }
+    ensures calm { IsCalm headless.new.core.seats }
+    ensures quits { headless.new.core.quits ≡ headless.old.core.quits }
+    ensures falls { headless.new.core.quits ≡ false → Falls (S.seen sockets.old) (S.seen sockets.new) }
+    ensures written { headless.new.core.quits ≡ false → (link : ℕ) → 1 ≤ link → IsWritten link headless.new.core.seats (S.seen sockets.new) }
+    ensures sent { headless.new.core.quits ≡ true → AllSent headless.new.core.seats (S.seen sockets.old) (S.seen sockets.new) }
+    ensures nothing { TakesNothing (S.seen sockets.old) (S.seen sockets.new) }
+{
+    if headless.core.quits() {
+        send_all(headless, sockets);
+        return;
+    }
+    write_all(headless, sockets);
 }
 
 /// Serves the sources that are ready, and then writes what is unsent.
-fn serve_ready<S: Sockets>(
+pub fn serve_ready<S: Sockets>(
     headless: &mut Headless,
     sockets: &mut S,
     ready: &Ready,
 ) -> Result<(), Failed>
+    requires calm { IsCalm headless.old.core.seats }
+    requires going { headless.old.core.quits ≡ false }
     ensures continues { Continues true 0 (faults_of result) headless.old headless.new (S.seen sockets.old) (S.seen sockets.new) }
-    ensures served { OnOk result (Stands headless.old (S.seen sockets.old) → AllServed headless.new.core.seats (S.seen sockets.old) (S.seen sockets.new)) }
+    ensures calm { IsCalm headless.new.core.seats }
+    ensures served { OnOk result (Stands headless.old (S.seen sockets.old) → headless.new.core.quits ≡ false → AllServed headless.new.core.seats (S.seen sockets.old) (S.seen sockets.new)) }
+    ensures sent { headless.new.core.quits ≡ true → AllSent headless.new.core.seats (S.seen sockets.old) (S.seen sockets.new) }
     ensures failed { OnErr result (Rose (S.seen sockets.old).faults.listens (S.seen sockets.new).faults.listens) }
+    ensures within { TakesWithin (S.seen sockets.old) (S.seen sockets.new) }
 {
-    let listened = serve_sources(headless, sockets, ready);
-    write_all(headless, sockets);
+    let listened = serve_sources(headless, sockets, &ready.tokens[..ready.count]);
+    write_unsent(headless, sockets);
     listened
-}
-
-impl Headless {
-    ghost use Rattle.wc_loop.specs.Turns.{Stands, Continues, IsCaused, ClosesExactly, waits_then, faults_then};
-
-    /// One turn: a wait, and what follows from it. Sources that are ready are read, each link up to
-    /// 1,048,576 bytes, at most 1,024 arrivals are taken, and then unsent bytes are written. The
-    /// wait does not block where a source was left undrained, and else for 100 ms at most.
-    ///
-    /// The sockets are those that this state was made with. The keeper is not used yet.
-    pub fn turn<S: Sockets, K: Keeper>(&mut self, sockets: &mut S, keeper: &mut K) -> Then
-        requires { Stands self.old (S.seen sockets.old) }
-        ensures continues { Continues false (waits_then result) (faults_then result) self.old self.new (S.seen sockets.old) (S.seen sockets.new) }
-        ensures stands { Stands self.new (S.seen sockets.new) }
-        ensures causes { All (IsCaused (S.seen sockets.old) (S.seen sockets.new)) self.new.links.closed.items }
-        ensures served { result ≡ Then.GoOn → AllServed self.new.core.seats (S.seen sockets.old) (S.seen sockets.new) }
-        ensures closes { ClosesExactly self.old self.new (S.seen sockets.old) (S.seen sockets.new) }
-        ensures never { (result ≢ Then.Quit) × (result ≢ Then.KeeperFault) }
-        ensures wait_fault { result ≡ Then.WaitFault → Rose (S.seen sockets.old).faults.waits (S.seen sockets.new).faults.waits }
-        ensures listen_fault { result ≡ Then.ListenFault → Rose (S.seen sockets.old).faults.listens (S.seen sockets.new).faults.listens }
-        ensures kept { keeper.new ≡ keeper.old }
-    {
-        let timeout = if self.turns == 0 || self.has_undrained() {
-            0
-        } else {
-            100
-        };
-        let mut ready = Ready::new();
-        let Ok(moment) = sockets.wait(timeout, &mut ready) else {
-            self.links.begin_turn();
-            return Then::WaitFault;
-        };
-        self.begin_turn(moment);
-        self.report(&ready);
-        match serve_ready(self, sockets, &ready) {
-            Ok(()) => Then::GoOn,
-            Err(Failed) => Then::ListenFault,
-        }
-    }
 }

@@ -1,10 +1,10 @@
-ghost use Rattle.std.specs.Prelude.{◌≡◌, ◌≢◌, ◌+◌, ◌<◌, ◌≤◌, ◌⊎◌, ℕ, None, Some, Ok, IfSome, IsSome, OnOk, OnErr, IsTrue, true, false, length, All};
+ghost use Rattle.std.specs.Prelude.{◌≡◌, ◌≢◌, ◌+◌, ◌<◌, ◌≤◌, ℕ, None, Some, Ok, IfSome, IsSome, OnOk, OnErr, IsTrue, true, false, length};
 ghost use Rattle.wc_outside.specs.Faults.{Rose};
-ghost use Rattle.wc_outside.specs.Keyed.{at_key};
-ghost use Rattle.wc_core.specs.Served.{seat_link, leaving_on, unsent_on};
+ghost use Rattle.wc_core.specs.Served.{unsent_on, departure_of};
+ghost use Rattle.wc_loop.specs.Parts.{Misses, SendsOn, Parts, HasFailed, ReadsOn, ReadBytes, came_of};
 ghost use Rattle.wc_loop.specs.Served.{IsCalm, leaving_closes};
 ghost use Rattle.wc_loop.specs.Sources.{Falls, IsServed, IsHeard, IsWritten, IsSent, TakesNothing, bytes_taken, arrivals};
-ghost use Rattle.wc_loop.specs.Turns.{Continues, Stands, IsSettled, HasFailedIf, faults_of};
+ghost use Rattle.wc_loop.specs.Turns.{Continues, Stands, IsSettled, faults_of};
 
 use crate::headless::Headless;
 use wc_core::Departure;
@@ -22,7 +22,11 @@ const PIECE: usize = 16_384;
 
 /// Sends unsent bytes of a client once, at which a failure changes nothing. Whether more may be sent.
 fn send_once<S: Sockets>(headless: &mut Headless, sockets: &mut S, link: LinkId) -> bool
+    requires missed { Misses link.0 headless.old.core }
     ensures continues { Continues true 0 0 headless.old headless.new (S.seen sockets.old) (S.seen sockets.new) }
+    ensures sends { SendsOn link.0 headless.old headless.new (S.seen sockets.old) (S.seen sockets.new) }
+    ensures done { result ≡ false → IsSent link.0 headless.new.core.seats (S.seen sockets.old) (S.seen sockets.new) }
+    ensures less { result ≡ true → length (unsent_on link.0 headless.new.core.seats) < length (unsent_on link.0 headless.old.core.seats) }
 {
     let Some(unsent) = headless.core.unsent(link) else {
         return false;
@@ -43,34 +47,64 @@ fn send_once<S: Sockets>(headless: &mut Headless, sockets: &mut S, link: LinkId)
     }
 }
 
-/// Sends what a client that is leaving is owed, until it is gone, there is no room, or its link failed.
-/// Nothing is sent on a link that failed before.
-fn settle<S: Sockets>(headless: &mut Headless, sockets: &mut S, departure: Departure)
-    ensures continues { Continues true 0 0 headless.old headless.new (S.seen sockets.old) (S.seen sockets.new) }
+/// Whether a link is the one that was lost.
+fn is_lost(lost: Option<LinkId>, link: LinkId) -> bool
+    ensures { result ≡ true → lost ≡ Some link }
 {
-    if departure.cause == Cause::Failed {
+    match lost {
+        Some(failed) => failed == link,
+        None => false,
+    }
+}
+
+/// Sends what a client that is leaving is owed, until it is gone, there is no room, or its link failed.
+/// Nothing is sent on the link that was lost, if one was.
+fn settle<S: Sockets>(
+    headless: &mut Headless,
+    sockets: &mut S,
+    departure: Departure,
+    lost: Option<LinkId>,
+)
+    requires first { departure_of headless.old.core.seats ≡ Some departure }
+    requires failed { HasFailed lost (S.seen sockets.old) }
+    ensures continues { Continues true 0 0 headless.old headless.new (S.seen sockets.old) (S.seen sockets.new) }
+    ensures sends { SendsOn departure.link.0 headless.old headless.new (S.seen sockets.old) (S.seen sockets.new) }
+    ensures done { IsSettled departure.link.0 headless.new.core.seats (S.seen sockets.new) }
+{
+    if is_lost(lost, departure.link) {
         return;
     }
     send_link(headless, sockets, departure.link);
 }
 
 /// Closes the link of a client that is leaving, behind a last try to send what it is owed.
-fn part<S: Sockets>(headless: &mut Headless, sockets: &mut S, departure: Departure)
+fn part<S: Sockets>(
+    headless: &mut Headless,
+    sockets: &mut S,
+    departure: Departure,
+    lost: Option<LinkId>,
+)
+    requires first { departure_of headless.old.core.seats ≡ Some departure }
+    requires failed { HasFailed lost (S.seen sockets.old) }
     ensures continues { Continues true 0 0 headless.old headless.new (S.seen sockets.old) (S.seen sockets.new) }
+    ensures parts { Parts headless.old headless.new (S.seen sockets.old) (S.seen sockets.new) }
+    ensures fewer { length headless.new.core.seats < length headless.old.core.seats }
 {
-    settle(headless, sockets, departure);
+    settle(headless, sockets, departure, lost);
     sockets.close(departure.link);
     headless.links.close(departure.link, departure.cause);
     headless.core.forget(departure.link);
 }
 
 /// Closes the links of all clients that are leaving.
-fn part_all<S: Sockets>(headless: &mut Headless, sockets: &mut S)
+fn part_all<S: Sockets>(headless: &mut Headless, sockets: &mut S, lost: Option<LinkId>)
+    requires failed { HasFailed lost (S.seen sockets.old) }
     ensures continues { Continues true 0 0 headless.old headless.new (S.seen sockets.old) (S.seen sockets.new) }
+    ensures parts { Parts headless.old headless.new (S.seen sockets.old) (S.seen sockets.new) }
     ensures calm { IsCalm headless.new.core.seats }
 {
     while let Some(departure) = headless.core.departure() {
-        part(headless, sockets, departure);
+        part(headless, sockets, departure, lost);
     }
 }
 
@@ -86,6 +120,12 @@ fn read_once<S: Sockets>(
     requires room { 0 < length buffer.old }
     ensures continues { Continues true 0 0 headless.old headless.new (S.seen sockets.old) (S.seen sockets.new) }
     ensures calm { IsCalm headless.new.core.seats }
+    ensures going { IsSome result → headless.new.core.quits ≡ false }
+    ensures reads { ReadsOn link.0 (S.seen sockets.old) (S.seen sockets.new) }
+    ensures drained { result ≡ None → Stands headless.old (S.seen sockets.old) → headless.new.core.quits ≡ false → (S.seen sockets.new).undrained link.0 ≡ false }
+    ensures bytes { IfSome result (λ count. ReadBytes link.0 count (S.seen sockets.old) (S.seen sockets.new)) }
+    ensures within { IsTrue (S.seen sockets.new).tells → bytes_taken link.0 (S.seen sockets.new).taken ≤ bytes_taken link.0 (S.seen sockets.old).taken + length buffer.old }
+    ensures count { IfSome result (λ count. (1 ≤ count) × (count ≤ length buffer.old)) }
 {
     let Some(place) = headless.links.place(link) else {
         return None;
@@ -97,7 +137,7 @@ fn read_once<S: Sockets>(
         }
         Ok(Got::Bytes(count)) => {
             headless.bytes_came(place, link, &buffer[..count]);
-            part_all(headless, sockets);
+            part_all(headless, sockets, None);
             if headless.core.quits() || !headless.core.is_open(link) {
                 return None;
             }
@@ -105,12 +145,12 @@ fn read_once<S: Sockets>(
         }
         Ok(Got::End) => {
             headless.link_gone(link, Cause::Ended);
-            part_all(headless, sockets);
+            part_all(headless, sockets, None);
             None
         }
         Err(Failed) => {
             headless.link_gone(link, Cause::Failed);
-            part_all(headless, sockets);
+            part_all(headless, sockets, Some(link));
             None
         }
     }
@@ -146,6 +186,11 @@ fn accept_once<S: Sockets>(headless: &mut Headless, sockets: &mut S) -> Result<b
     ensures continues { Continues true 0 (faults_of result) headless.old headless.new (S.seen sockets.old) (S.seen sockets.new) }
     ensures calm { IsCalm headless.new.core.seats }
     ensures going { headless.new.core.quits ≡ false }
+    ensures falls { Falls (S.seen sockets.old) (S.seen sockets.new) }
+    ensures drained { result ≡ Ok false → (S.seen sockets.new).listening ≡ false }
+    ensures arrived { IsTrue (S.seen sockets.new).tells → arrivals (S.seen sockets.new).taken ≡ arrivals (S.seen sockets.old).taken + came_of result }
+    ensures bytes { IsTrue (S.seen sockets.new).tells → (link : ℕ) → bytes_taken link (S.seen sockets.new).taken ≡ bytes_taken link (S.seen sockets.old).taken }
+    ensures failed { OnErr result (Rose (S.seen sockets.old).faults.listens (S.seen sockets.new).faults.listens) }
 {
     match sockets.accept() {
         Ok(None) => {
@@ -195,6 +240,11 @@ fn write_once<S: Sockets>(headless: &mut Headless, sockets: &mut S, link: LinkId
     ensures continues { Continues true 0 0 headless.old headless.new (S.seen sockets.old) (S.seen sockets.new) }
     ensures calm { IsCalm headless.new.core.seats }
     ensures going { headless.new.core.quits ≡ false }
+    ensures falls { Falls (S.seen sockets.old) (S.seen sockets.new) }
+    ensures done { result ≡ false → IsWritten link.0 headless.new.core.seats (S.seen sockets.new) }
+    ensures others { (other : ℕ) → other ≢ link.0 → IsWritten other headless.old.core.seats (S.seen sockets.old) → IsWritten other headless.new.core.seats (S.seen sockets.new) }
+    ensures less { result ≡ true → length (unsent_on link.0 headless.new.core.seats) < length (unsent_on link.0 headless.old.core.seats) }
+    ensures nothing { TakesNothing (S.seen sockets.old) (S.seen sockets.new) }
 {
     let Some(unsent) = headless.core.unsent(link) else {
         return false;
@@ -210,7 +260,7 @@ fn write_once<S: Sockets>(headless: &mut Headless, sockets: &mut S, link: LinkId
         Ok(Put::NotYet) => false,
         Err(Failed) => {
             headless.link_gone(link, Cause::Failed);
-            part_all(headless, sockets);
+            part_all(headless, sockets, Some(link));
             false
         }
     }
@@ -238,11 +288,14 @@ pub fn write_link<S: Sockets>(headless: &mut Headless, sockets: &mut S, link: Li
 /// Sends the unsent bytes of a client until they are gone, there is no room, or the link fails. A client whose link
 /// fails stays, so it is leaving already, or `/quit` was run.
 pub fn send_link<S: Sockets>(headless: &mut Headless, sockets: &mut S, link: LinkId)
-    requires missed { (headless.old.core.quits ≡ true) ⊎ IsSome (leaving_on link.0 headless.old.core.seats) }
+    requires missed { Misses link.0 headless.old.core }
     ensures continues { Continues true 0 0 headless.old headless.new (S.seen sockets.old) (S.seen sockets.new) }
-    ensures quits { headless.new.core.quits ≡ headless.old.core.quits }
-    ensures leaving { leaving_closes headless.new.core.seats ≡ leaving_closes headless.old.core.seats }
+    ensures sends { SendsOn link.0 headless.old headless.new (S.seen sockets.old) (S.seen sockets.new) }
     ensures done { IsSent link.0 headless.new.core.seats (S.seen sockets.old) (S.seen sockets.new) }
+    ensures leaving { leaving_closes headless.new.core.seats ≡ leaving_closes headless.old.core.seats }
+    ensures quits { headless.new.core.quits ≡ headless.old.core.quits }
+    ensures falls { Falls (S.seen sockets.old) (S.seen sockets.new) }
+    ensures unsent { (other : ℕ) → other ≢ link.0 → unsent_on other headless.new.core.seats ≡ unsent_on other headless.old.core.seats }
     ensures others { (other : ℕ) → other ≢ link.0 → (S.seen sockets.new).blocked other ≡ (S.seen sockets.old).blocked other }
     ensures nothing { TakesNothing (S.seen sockets.old) (S.seen sockets.new) }
 {

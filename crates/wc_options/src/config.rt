@@ -11,7 +11,7 @@ use std::alloc::Global;
 use wc_text::NoMemory;
 
 /// The line that tells the version of the file.
-pub(crate) const VERSION_LINE: &[u8] = b"config_version = 1";
+pub const VERSION_LINE: &[u8] = b"config_version = 1";
 
 /// Why a line is not taken.
 pub(crate) enum LineRefused {
@@ -114,7 +114,7 @@ impl Options {
 }
 
 /// Whether a line is empty or a comment.
-fn is_passed_over(line: &[u8]) -> bool
+pub fn is_passed_over(line: &[u8]) -> bool
     ensures { result ≡ is_passed_over line.now }
 {
     match line {

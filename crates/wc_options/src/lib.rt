@@ -14,9 +14,10 @@ mod table;
 mod write;
 
 pub use address::read_address;
-pub use config::read_config;
+pub use config::{VERSION_LINE, is_passed_over, read_config};
 pub use file::{first_line, part_line};
 pub use kind::{Kind, LONGEST_VALUE};
+pub use number::number_in;
 pub use options::{Changed, MOST_SERVERS, Options};
 pub use refusal::{ConfigRefused, SetRefused};
 

@@ -4,8 +4,9 @@ ghost use Rattle.wc_options.specs.Number.{decimal_from, number_in, number_of, wi
 /// The number that decimal digits write, with no sign and no leading zero, where it is from the
 /// lowest to the highest.
 #[tactic(auto, unfolding(crate::specs::Number::number_in))]
-pub(crate) fn number_in(text: &[u8], lowest: u32, highest: u32) -> Option<u32>
+pub fn number_in(text: &[u8], lowest: u32, highest: u32) -> Option<u32>
     ensures number { result ≡ number_in lowest highest text.now }
+    ensures at_least { IfSome result (λ number. lowest ≤ number) }
     ensures in_range { IfSome result (λ number. number ≤ highest) }
 {
     match text {
@@ -19,6 +20,7 @@ pub(crate) fn number_in(text: &[u8], lowest: u32, highest: u32) -> Option<u32>
 #[tactic(auto, using(crate::proofs::NumberLemmas::number_steps))]
 fn digits_in(text: &[u8], lowest: u32, highest: u32) -> Option<u32>
     ensures number { result ≡ within lowest highest (decimal_from 0 text.now) }
+    ensures at_least { IfSome result (λ number. lowest ≤ number) }
     ensures in_range { IfSome result (λ number. number ≤ highest) }
 {
     let mut value = 0u32;

@@ -1,6 +1,5 @@
 -- The clients of a link, of which the first alone is told lines.
-use Rattle.std.proofs.Common.{◌≡◌, ◌≢◌, ℕ, Bool, true, false, cond, ◌&&◌, ◌||◌, List, [], ◌∷◌, ◌++◌, Option, Some, None, refl, sym, ap, subst, ◌∙◌, arith, eqb, append-nil, filter, not}
-use Rattle.std.specs.Prelude.{map}
+use Rattle.std.proofs.Common.{◌≡◌, ℕ, Bool, true, false, cond, ◌&&◌, ◌||◌, List, [], ◌∷◌, ◌++◌, Some, None, refl, sym, ap, ◌∙◌, arith, eqb, append-nil, not}
 use Rattle.std.specs.List.{flat_map}
 use Rattle.std.proofs.lemmas.Bool.{false≢true}
 use Rattle.std.proofs.lemmas.Bool.Decides.{nat_tests}
@@ -10,7 +9,6 @@ use Rattle.wc_objects.specs.declared.object.WireMessage.{WireMessage}
 use Rattle.wc_session.specs.declared.client.Client.{Client}
 use Rattle.wc_session.specs.Reply.{line_told}
 use Rattle.wc_session.specs.Sync.{follows_core}
-use Rattle.wc_core.specs.State.{Act, Sends}
 use Rattle.wc_core.specs.Step.{client_link, sends, told_to}
 use Rattle.wc_core.specs.Served.{messages_to}
 use Rattle.wc_core.proofs.MessageLemmas.{messages_to-append}

@@ -17,7 +17,7 @@ use Rattle.wc_core.specs.State.{State, Stepped, Closes}
 use Rattle.wc_core.specs.Step.{client_link, client_limit, stays, asked, line_came, lost, step}
 use Rattle.wc_settled.specs.Settled.{Asked, asked_by, asked_with, asked_in, client_on, is_following, TakesDump}
 use Rattle.wc_settled.specs.Kept.{IsKept}
-use Rattle.wc_settled.specs.Mirrors.{mirror_after, HasCoreLines, IsWithin, IsFair, StepMirrors, DumpMirrors}
+use Rattle.wc_settled.specs.Mirrors.{mirror_after, HasCoreLines, IsFair, StepMirrors, DumpMirrors}
 use Rattle.wc_settled.proofs.IdLemmas.{request_free}
 use Rattle.wc_settled.proofs.ReplyLemmas.{dump_right, reply_right, sends_right}
 use Rattle.wc_settled.proofs.StepLemmas.{asked_here, reply_link, right-answers}

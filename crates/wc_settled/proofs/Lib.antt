@@ -6,3 +6,6 @@ pub mod StepLemmas
 pub mod ReplyLemmas
 pub mod EventLemmas
 pub mod RunLemmas
+pub mod SpeltLemmas
+pub mod BytesLemmas
+pub mod ExampleLemmas

@@ -1,10 +1,9 @@
 -- Lines that are printed reach the client that follows them.
-use Rattle.std.proofs.Common.{◌≡◌, ℕ, ◌+◌, ◌-◌, ◌^◌, ◌<◌, ◌≤◌, Bool, true, false, cond, List, [], ◌∷◌, ◌++◌, length, take, drop, codes, Option, Some, None, refl, sym, ap, subst, ◌∙◌, arith, append-nil, nat_lt, bytes_eq}
-use Rattle.std.specs.Prelude.{All}
+use Rattle.std.proofs.Common.{◌≡◌, ℕ, ◌-◌, ◌^◌, ◌<◌, ◌≤◌, Bool, true, false, cond, List, [], ◌∷◌, ◌++◌, length, take, codes, Option, Some, None, refl, sym, ap, subst, ◌∙◌, arith, nat_lt}
 use Rattle.std.specs.List.{flat_map}
 use Rattle.std.proofs.lemmas.Bool.{false≢true}
 use Rattle.std.proofs.lemmas.Bool.Decides.{nat_tests}
-use Rattle.std.proofs.lemmas.List.{length-append, length-drop, length-take}
+use Rattle.std.proofs.lemmas.List.{length-drop, length-take}
 use Rattle.std.proofs.lemmas.List.Elements.{All-push, All-drop}
 use Rattle.wc_text.specs.Cut.{cut_of}
 use Rattle.wc_text.proofs.CutLemmas.{cut_within}
@@ -27,8 +26,9 @@ use Rattle.wc_core.specs.Step.{client_link, stays, then_does, told_to, prints, p
 use Rattle.wc_core.specs.Typed.{Typed, Nothing, Prints, Quits, typed_line}
 use Rattle.wc_core.specs.Served.{messages_to}
 use Rattle.wc_core.proofs.MessageLemmas.{messages_to-append}
+use Rattle.wc_core.proofs.CoreLemmas.{line_text}
 use Rattle.wc_settled.specs.Printed.{IsPrinted}
-use Rattle.wc_settled.specs.Settled.{client_on, follows_all, is_following}
+use Rattle.wc_settled.specs.Settled.{client_on, is_following}
 use Rattle.wc_settled.specs.Kept.{IsKept}
 use Rattle.wc_settled.specs.Mirrors.{fold_all, mirror_after, HasCoreLines}
 use Rattle.wc_settled.proofs.SizeLemmas.{event_fits}
@@ -58,10 +58,10 @@ Tells-then limit link id state first others a b = record {
   clients = b.clients ∙ a.clients;
   kept = b.kept;
   right = λ follows part had.
-    let between = ap (λ clients. is_following (at_key client_link link clients)) a.clients ∙ follows in
-    let last = (others first.state).state in
-    subst (λ part. HasCoreLines part last) (sym (mirror-append limit link id part first.acts (others first.state).acts))
-    (b.right between (mirror_after limit link id part first.acts) (a.right follows part had));
+      let between = ap (λ clients. is_following (at_key client_link link clients)) a.clients ∙ follows in
+      let last = (others first.state).state in
+      subst (λ part. HasCoreLines part last) (sym (mirror-append limit link id part first.acts (others first.state).acts))
+      (b.right between (mirror_after limit link id part first.acts) (a.right follows part had));
 }
 
 -- ---- a line
@@ -104,23 +104,25 @@ Tells-prints limit link id state line free kept is = record {
   clients = refl;
   kept = kept-prints limit link state line kept is;
   right = λ follows part had.
-    let all = state.lines ++ line ∷ [] in
-    let shown = event_shows limit id part core_buffer state.lines line (event_apart (codes "buffer_line_added") id free) had in
-    let told : mirror_after limit link id part (prints state line).acts ≡ fold_lines limit id part (line_added core_buffer line) = ap (fold_all limit id part) (told_line limit link state line kept is follows) in
-    subst (λ part. HasLines part 1 (last_of state.limit all)) (sym told)
-    (subst (λ n. HasLines (fold_lines limit id part (line_added core_buffer line)) 1 (last_of n all)) (sym kept.same) shown.0);
+      let all = state.lines ++ line ∷ [] in
+      let shown = event_shows limit id part core_buffer state.lines line (event_apart (codes "buffer_line_added") id free) had in
+      let told : mirror_after limit link id part (prints state line).acts ≡ fold_lines limit id part (line_added core_buffer line) = ap (fold_all limit id part) (told_line limit link state line kept is follows) in
+      subst (λ part. HasLines part 1 (last_of state.limit all)) (sym told)
+      (subst (λ n. HasLines (fold_lines limit id part (line_added core_buffer line)) 1 (last_of n all)) (sym kept.same) shown.0);
 }
 
 cut_size : (text : List ℕ) (limit : ℕ) → length (take (cut_of text limit) text) ≤ limit
 cut_size text limit = omega (arith, length-take (cut_of text limit) text, cut_within text limit)
 
-next_printed : (state : State) (prefix message : List ℕ) → state.next < 2 ^ 62 → IsPrinted (next_line state prefix message)
+pub next_printed : (state : State) (prefix message : List ℕ) → state.next < 2 ^ 62 → IsPrinted (next_line state prefix message)
 next_printed state prefix message left = record {
   handle = omega arith;
   content = omega arith;
+  notify = refl;
   tags = refl;
   prefix = cut_size prefix 128;
   message = cut_size message 1024;
+  text = line_text state.next state.moment prefix message (next_line state prefix message) refl;
 }
 
 -- ---- what is typed

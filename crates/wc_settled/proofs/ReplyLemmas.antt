@@ -18,12 +18,11 @@ use Rattle.wc_session.specs.Reply.{core_buffer, core_lines, is_open, replies, le
 use Rattle.wc_session.specs.Sending.{message, fits, reply}
 use Rattle.wc_session.proofs.OneReplyLaws.{one_reply}
 use Rattle.wc_view.specs.Parts.{Part}
-use Rattle.wc_view.specs.Fold.{fold_lines, fold_dump, fold_added}
-use Rattle.wc_view.specs.Views.{HasLines}
+use Rattle.wc_view.specs.Fold.{fold_dump, fold_added}
 use Rattle.wc_view.proofs.LawLemmas.{dump_shows}
 use Rattle.wc_core.specs.State.{State}
 use Rattle.wc_core.specs.Step.{sends}
-use Rattle.wc_settled.specs.Settled.{Asked, asks_dump, TakesDump}
+use Rattle.wc_settled.specs.Settled.{asks_dump, TakesDump}
 use Rattle.wc_settled.specs.Kept.{IsKept}
 use Rattle.wc_settled.specs.Mirrors.{fold_all, mirror_after, HasCoreLines, IsFair}
 use Rattle.wc_settled.proofs.SizeLemmas.{dump_fits}

@@ -1,5 +1,5 @@
 -- A client that settled has the lines after all events.
-use Rattle.std.proofs.Common.{◌≡◌, ℕ, ◌≤◌, true, false, List, [], ◌∷◌, ◌++◌, Option, Some, None, refl, sym, ap, subst, ◌∙◌, arith}
+use Rattle.std.proofs.Common.{◌≡◌, ℕ, ◌≤◌, true, false, List, [], ◌∷◌, ◌++◌, Option, None, refl, sym, ap, subst, ◌∙◌, arith}
 use Rattle.std.specs.List.{AllByRecursion}
 use Rattle.std.proofs.lemmas.Bool.{false≢true}
 use Rattle.std.proofs.lemmas.List.Elements.{All-nil}
@@ -9,9 +9,9 @@ use Rattle.wc_core.specs.Events.{Event}
 use Rattle.wc_core.specs.State.{State, first_state}
 use Rattle.wc_core.specs.Step.{step, run}
 use Rattle.wc_settled.specs.Printed.{IsPrinted}
-use Rattle.wc_settled.specs.Settled.{Asked, asked_in, asked_on, client_on, follows_all, is_following, has_id, TakesDump, Settled}
+use Rattle.wc_settled.specs.Settled.{Asked, asked_in, asked_on, client_on, follows_all, is_following, has_id, TakesDump}
 use Rattle.wc_settled.specs.Kept.{IsKept}
-use Rattle.wc_settled.specs.Mirrors.{mirror_after, HasCoreLines, IsWithin, IsFair, Mirrors, RunKeeps}
+use Rattle.wc_settled.specs.Mirrors.{mirror_after, HasCoreLines, IsShortLine, IsFair, Mirrors, RunKeeps}
 use Rattle.wc_settled.proofs.PrintLemmas.{mirror-append}
 use Rattle.wc_settled.proofs.StepLemmas.{step_keeps, followed}
 use Rattle.wc_settled.proofs.EventLemmas.{asked_one, step_mirrors, dump_mirrors}
@@ -63,7 +63,7 @@ stood limit link state (event ∷ events) kept all after =
     by [] e all then = followed limit link state event kept e then
     by (first ∷ others) e all then = ap is_following (asked_one link state event first others e).client ∙ all.0
 
-mirrored : (limit link : ℕ) (id : List ℕ) (state : State) (events : List Event) (part : Option Part) → IsKept limit link state → BeginsWithout 95 id → AllByRecursion IsWithin events
+mirrored : (limit link : ℕ) (id : List ℕ) (state : State) (events : List Event) (part : Option Part) → IsKept limit link state → BeginsWithout 95 id → AllByRecursion IsShortLine events
     → AllByRecursion (HasOther id) (asked_on link state events) → AllByRecursion Follows (asked_on link state events) → is_following (client_on link (run state events).state) ≡ true
     → HasCoreLines part state → HasAfter limit link id part state events
 mirrored limit link id state [] part kept free within other follows still had = had
@@ -92,7 +92,7 @@ never [] behind dump e = cc
 never (first ∷ before) behind dump e = cc
 
 has-dump : (limit link : ℕ) (id : List ℕ) (part : Option Part) (state : State) (event : Event) (events : List Event) (dump : Asked) (behind : List Asked) → IsKept limit link state
-    → AllByRecursion IsWithin (event ∷ events) → IsTaken id dump behind → asked_in link state event ≡ dump ∷ [] → asked_on link (step state event).state events ≡ behind
+    → AllByRecursion IsShortLine (event ∷ events) → IsTaken id dump behind → asked_in link state event ≡ dump ∷ [] → asked_on link (step state event).state events ≡ behind
     → is_following (client_on link (run (step state event).state events).state) ≡ true → HasAfter limit link id part state (event ∷ events)
 has-dump limit link id part state event events dump behind kept within taken here is still =
     let next = (step state event).state in
@@ -106,7 +106,7 @@ has-dump limit link id part state event events dump behind kept within taken her
     has-then limit link id part state event events (mirrored limit link id next events part' then free within.1 other follows still shown)
 
 settles : (limit link : ℕ) (id : List ℕ) (state : State) (events : List Event) (part : Option Part) (before behind : List Asked) (dump : Asked) → IsKept limit link state
-    → AllByRecursion IsWithin events → IsTaken id dump behind → asked_on link state events ≡ before ++ dump ∷ behind → is_following (client_on link (run state events).state) ≡ true
+    → AllByRecursion IsShortLine events → IsTaken id dump behind → asked_on link state events ≡ before ++ dump ∷ behind → is_following (client_on link (run state events).state) ≡ true
     → HasAfter limit link id part state events
 settles limit link id state [] part before behind dump kept within taken e still = absurd (never before behind dump e)
 settles limit link id state (event ∷ events) part before behind dump kept within taken e still =
@@ -134,7 +134,7 @@ settles limit link id state (event ∷ events) part before behind dump kept with
 
 -- ---- from the start
 
-start_kept : (limit link : ℕ) (password : List ℕ) → limit ≤ 4096 → IsKept limit link (first_state password limit)
+pub start_kept : (limit link : ℕ) (password : List ℕ) → limit ≤ 4096 → IsKept limit link (first_state password limit)
 start_kept limit link password most = record { same = refl; most = most; within = omega arith; printed = All-nil IsPrinted; first = refl }
 
 kept_on : (limit link : ℕ) (state : State) (events : List Event) → IsKept limit link state → IsKept limit link (run state events).state

@@ -14,14 +14,14 @@ use Rattle.wc_lines.specs.declared.line.Line.{Line}
 use Rattle.wc_objects.specs.declared.kind.Kind.TheVariants as k
 use Rattle.wc_objects.specs.declared.object.Object.{Object}
 use Rattle.wc_objects.specs.declared.object.Object.TheVariants as o
-use Rattle.wc_objects.specs.declared.object.Object.TheViews.{out-Object, out-roll-Object, out-roll-Hda, out-roll-HdaItem}
+use Rattle.wc_objects.specs.declared.object.Object.TheViews.{out-Object, out-roll-Object, out-roll-Hda}
 use Rattle.wc_objects.specs.declared.object.HdaItem.{HdaItem}
 use Rattle.wc_objects.specs.Hex.{hex, glyph}
-use Rattle.wc_objects.specs.Spelling.{be32, text_bytes, pointer_bytes, simple_bytes, value_bytes, counted, item_bytes, hda_bytes, object_bytes, body_bytes, message_bytes}
+use Rattle.wc_objects.specs.Spelling.{be32, text_bytes, pointer_bytes, simple_bytes, value_bytes, counted, item_bytes, hda_bytes, object_bytes, message_bytes}
 use Rattle.wc_objects.proofs.Rooms.{length-be32, length-message_bytes}
 use Rattle.wc_told.specs.LineObjects.{moment, truth, texts, line_keys, line_values, on_path, added_item, dumped_item, line_dump, line_added}
 use Rattle.wc_session.specs.Reply.{core_buffer, core_lines}
-use Rattle.wc_session.specs.Sending.{message, fits, spelling}
+use Rattle.wc_session.specs.Sending.{message, fits}
 use Rattle.wc_session.proofs.SendingLemmas.{fits_within}
 use Rattle.wc_settled.specs.Printed.{IsPrinted}
 
@@ -78,8 +78,22 @@ values_short : (line : Line) → IsPrinted line → AllByRecursion IsShort (line
 unfolding line_values
 values_short line is = (
   pointer_short 1 (omega arith),
-  (date_short line.date, (date_short line.date_printed, (number_short (truth line.displayed), (number_short line.notify, (number_short (truth line.highlight),
-  (tags_short line.tags is.tags, (text_short line.prefix (let h = is.prefix in omega arith), (text_short line.message is.message, tt))))))))
+  (
+    date_short line.date,
+    (
+      date_short line.date_printed,
+      (
+        number_short (truth line.displayed),
+        (
+          number_short line.notify,
+          (
+            number_short (truth line.highlight),
+            (tags_short line.tags is.tags, (text_short line.prefix (let h = is.prefix in omega arith), (text_short line.message is.message, tt))),
+          ),
+        ),
+      ),
+    ),
+  ),
 )
 
 -- ---- items

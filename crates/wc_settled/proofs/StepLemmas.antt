@@ -1,6 +1,5 @@
 -- What one event leaves of the core and of its clients.
-use Rattle.std.proofs.Common.{◌≡◌, ◌≢◌, ℕ, ◌≤◌, Bool, true, false, cond, List, [], ◌∷◌, ◌++◌, length, codes, Option, Some, None, refl, sym, ap, subst, ◌∙◌, arith, eqb, nat_lt, bytes_eq}
-use Rattle.std.specs.List.{AllByRecursion}
+use Rattle.std.proofs.Common.{◌≡◌, ◌≢◌, ℕ, Bool, true, false, cond, List, [], ◌∷◌, ◌++◌, length, Option, Some, None, refl, sym, ap, subst, ◌∙◌, arith, eqb, nat_lt}
 use Rattle.std.proofs.lemmas.Bool.{false≢true}
 use Rattle.std.proofs.lemmas.Bool.Decides.{nat_tests}
 use Rattle.wc_text.specs.declared.names.Cause.{Cause}
@@ -8,9 +7,6 @@ use Rattle.wc_text.specs.declared.names.Cause.TheVariants as cause
 use Rattle.wc_text.specs.declared.names.LinkId.{LinkId}
 use Rattle.wc_outside.specs.Keyed.{at_key, put_at, without}
 use Rattle.wc_outside.proofs.KeyedLemmas.{at_key-key, at_key-put_other, at_key-without_other, at_key-filter_same}
-use Rattle.wc_objects.specs.declared.object.WireMessage.{WireMessage}
-use Rattle.wc_relaycmd.specs.declared.request.Command.{Command}
-use Rattle.wc_relaycmd.specs.declared.request.Command.TheVariants as ask
 use Rattle.wc_relaycmd.specs.declared.request.Request.{Request}
 use Rattle.wc_relaycmd.specs.Answers.{request_of}
 use Rattle.wc_relaycmd.specs.Cuts.{BeginsWithout}
@@ -20,24 +16,18 @@ use Rattle.wc_session.specs.declared.client.Client.{Client}
 use Rattle.wc_session.specs.declared.outcome.Outcome.{Outcome}
 use Rattle.wc_session.specs.declared.outcome.Outcome.TheVariants as outcome
 use Rattle.wc_session.specs.Known.{new_client}
-use Rattle.wc_session.specs.OneReply.{AtMostOne, id_of_reply}
 use Rattle.wc_session.specs.Reply.{Answer, reply_of}
-use Rattle.wc_session.proofs.OneReplyLaws.{one_reply}
 use Rattle.wc_view.specs.Parts.{Part}
-use Rattle.wc_view.specs.Fold.{fold_lines, fold_dump, fold_added}
-use Rattle.wc_view.specs.Views.{HasLines}
 use Rattle.wc_core.specs.Events.{Event, Start, Tick, Arrives, Line as LineCame, Ends, Fails, ListenFails}
-use Rattle.wc_core.specs.State.{State, Stepped, Closes}
-use Rattle.wc_core.specs.Step.{client_link, client_limit, stays, then_does, sends, runs, leaves, follows, answers, asked, line_came, lost, arrives, step}
+use Rattle.wc_core.specs.State.{State, Closes}
+use Rattle.wc_core.specs.Step.{client_link, client_limit, stays, sends, leaves, follows, answers, asked, line_came, lost, step}
 use Rattle.wc_core.specs.Typed.{parted}
-use Rattle.wc_core.specs.Served.{messages_to}
 use Rattle.wc_core.proofs.ReplyLemmas.{reply_fits}
-use Rattle.wc_settled.specs.Settled.{Asked, asked_by, asked_with, asked_in, client_on, is_following, has_id}
+use Rattle.wc_settled.specs.Settled.{asked_by, asked_with, asked_in, client_on, is_following}
 use Rattle.wc_settled.specs.Kept.{is_first_alone, IsKept}
 use Rattle.wc_settled.specs.Mirrors.{mirror_after, HasCoreLines, StepKeeps}
-use Rattle.wc_settled.proofs.IdLemmas.{request_free, event_apart, apart_event}
-use Rattle.wc_settled.proofs.ClientLemmas.{following-push, first-push, first-put, first-without, messages-sends}
-use Rattle.wc_settled.proofs.PrintLemmas.{mirror-append, Tells, Tells-runs}
+use Rattle.wc_settled.proofs.ClientLemmas.{following-push, first-push, first-put, first-without}
+use Rattle.wc_settled.proofs.PrintLemmas.{mirror-append, Tells-runs}
 
 kept-clients : (limit link : ℕ) (state : State) (clients : List Client) → IsKept limit link state → is_first_alone link clients ≡ true → IsKept limit link (record state { clients = clients })
 kept-clients limit link state clients kept e = record { same = kept.same; most = kept.most; within = kept.within; printed = kept.printed; first = e }

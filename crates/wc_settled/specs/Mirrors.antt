@@ -28,14 +28,14 @@ abbrev pub HasCoreLines : Option Part → State → Type 0
 HasCoreLines part state = HasLines part core_buffer.0 state.lines
 
 -- a line of a client is no longer than one may be
-abbrev pub IsWithin : Event → Type 0
-IsWithin (Line link line) = length line ≤ 65536
-IsWithin _ = Unit {0}
+abbrev pub IsShortLine : Event → Type 0
+IsShortLine (Line link line) = length line ≤ 65536
+IsShortLine _ = Unit {0}
 
 -- Whoever settled has exactly the lines that the core buffer holds, by all messages that it was sent.
 abbrev pub Mirrors : Type 0
 Mirrors = (password : List ℕ) (limit : ℕ) (events : List Event) (link : ℕ) (id : List ℕ)
-    → limit ≤ 4096 → AllByRecursion IsWithin events → Settled link id (first_state password limit) events
+    → limit ≤ 4096 → AllByRecursion IsShortLine events → Settled link id (first_state password limit) events
     → HasCoreLines (mirror_after limit link id None (run (first_state password limit) events).acts) (run (first_state password limit) events).state
 
 -- a request has the id of the dump only where it is the dump
@@ -45,14 +45,14 @@ IsFair id asked = has_id id asked ≡ true → asks_dump asked.request.command �
 -- One event: a client that had the lines, and that is open and follows all events afterwards, has them still.
 abbrev pub StepMirrors : Type 0
 StepMirrors = (limit link : ℕ) (id : List ℕ) (state : State) (event : Event) (part : Option Part)
-    → IsKept limit link state → BeginsWithout 95 id → IsWithin event → AllByRecursion (IsFair id) (asked_in link state event)
+    → IsKept limit link state → BeginsWithout 95 id → IsShortLine event → AllByRecursion (IsFair id) (asked_in link state event)
     → is_following (client_on link (step state event).state) ≡ true → HasCoreLines part state
     → HasCoreLines (mirror_after limit link id part (step state event).acts) (step state event).state
 
 -- The dump: a client has the lines behind it, whatever it had.
 abbrev pub DumpMirrors : Type 0
 DumpMirrors = (limit link : ℕ) (id : List ℕ) (state : State) (event : Event) (part : Option Part) (dump : Asked)
-    → IsKept limit link state → IsWithin event → asked_in link state event ≡ dump ∷ [] → TakesDump id dump
+    → IsKept limit link state → IsShortLine event → asked_in link state event ≡ dump ∷ [] → TakesDump id dump
     → is_following (client_on link (step state event).state) ≡ true
     → HasCoreLines (mirror_after limit link id part (step state event).acts) (step state event).state
 

@@ -4,4 +4,10 @@
 
 mod laws;
 
-pub use laws::{core_keeps, event_keeps_lines, settled_client_has_lines};
+pub use laws::{
+    core_keeps, event_keeps_lines, sent_bytes_show_lines, settled_client_has_lines,
+    three_lines_settle,
+};
+
+#[cfg(test)]
+mod tests;

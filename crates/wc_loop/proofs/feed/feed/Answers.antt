@@ -1,40 +1,34 @@
-use Rattle.std.proofs.Common.{◌∙◌, refl, arith}
-use Rattle.wc_loop.proofs.FeedLemmas.{Fed-line, Fed-tail, Fed-serves}
+use Rattle.std.proofs.Common.{refl, sym, ◌∙◌}
+use Rattle.wc_loop.proofs.FeedLemmas.{Fed-none, Fed-line, Fed-tail, Fed-takes, Fed-quit}
 use Rattle.wc_loop.proofs.feed.feed.Goals as goal
 
-pub loop-line-preserved-in-Some-end_line : goal.loop-line-preserved-in-Some-end_line
-loop-line-preserved-in-Some-end_line c =
-    let kept = c.loop-line.invariant in
-    let e = c.end_line.ensures in
-    record {
-      password = e.password ∙ kept.password;
-      rises = (let p = e.rises in let q = kept.rises in omega arith);
-      cause = rw c.in-Some-end_line.is at e.cause;
-      fed = rw c.in-Some-end_line.is at (Fed-line _ _ _ _ _ c.end_line.result _ _ _ _ _ _ _ _ _ _ _ _ _ _ kept.fed c.in-Some.ensures.some c.in-Some.ensures.line e.begins (λ line h. record { serves = rw kept.password at (e.serves line h); leaves = e.left; links = e.links; counts = e.ran line h }) e.unknown e.left e.links);
-    }
+pub loop-line-init : goal.loop-line-init
+loop-line-init c = record { going = c.requires.going; fed = Fed-none c.args.core.now c.args.link.0 c.args.tail.now c.args.ran.now c.args.bytes.now c.type_inv._ran.fits }
 
 pub loop-line-preserved : goal.loop-line-preserved
 loop-line-preserved c =
-    let kept = c.loop-line.invariant in
     let e = c.end_line.ensures in
     record {
-      password = e.password ∙ kept.password;
-      rises = (let p = e.rises in let q = kept.rises in omega arith);
-      cause = kept.cause;
-      fed = rw c.in_default-end_line.is at (Fed-line _ _ _ _ _ c.end_line.result _ _ _ _ _ _ _ _ _ _ _ _ _ _ kept.fed c.in-Some.ensures.some c.in-Some.ensures.line e.begins (λ line h. record { serves = rw kept.password at (e.serves line h); leaves = e.left; links = e.links; counts = e.ran line h }) e.unknown e.left e.links);
+      going = sym c.quits.ensures ∙ c.if-quits.false;
+      fed = Fed-line _ _ _ _ _ _ _ _ _ _ _ _ _ _ c.loop-line.invariant.fed c.in-Some.ensures.some c.in-Some.ensures.line e.begins (λ line h. record { takes = e.does line h; counts = e.ran line h }) e.causes;
     }
 
+pub returns-then-quits-clause-takes : goal.returns-then-quits-clause-takes
+returns-then-quits-clause-takes c =
+    let e = c.end_line.ensures in
+    Fed-quit c.args.core.now c.end_line.new.core c.args.link.0 c.args.tail.now c.end_line.new.tail c.args.ran.now c.end_line.new.ran c.args.bytes.now c.in-Some.behind.now c.requires.going (sym c.quits.ensures ∙ c.if-quits.true)
+    (Fed-line _ _ _ _ _ _ _ _ _ _ _ _ _ _ c.loop-line.invariant.fed c.in-Some.ensures.some c.in-Some.ensures.line e.begins (λ line h. record { takes = e.does line h; counts = e.ran line h }) e.causes)
+
+pub returns-then-quits-clause-causes : goal.returns-then-quits-clause-causes
+returns-then-quits-clause-causes c =
+    let e = c.end_line.ensures in
+    (Fed-line _ _ _ _ _ _ _ _ _ _ _ _ _ _ c.loop-line.invariant.fed c.in-Some.ensures.some c.in-Some.ensures.line e.begins (λ line h. record { takes = e.does line h; counts = e.ran line h }) e.causes).causes
+
 pub returns-clause-tail : goal.returns-clause-tail
-returns-clause-tail c = Fed-tail _ _ _ _ _ _ _ _ _ _ _ _ _ _ c.loop-line.invariant.fed (c.in_default.ensures.none refl) c.extend.ensures
+returns-clause-tail c = λ going. Fed-tail _ _ _ _ _ _ _ _ _ _ c.loop-line.invariant.fed (c.in_default.ensures.none refl) c.extend.ensures
 
-pub returns-clause-serves : goal.returns-clause-serves
-returns-clause-serves c = λ line h. (Fed-serves _ _ _ _ _ _ _ _ _ _ _ _ _ c.loop-line.invariant.fed (c.in_default.ensures.none refl) line h).serves
+pub returns-clause-takes : goal.returns-clause-takes
+returns-clause-takes c = Fed-takes _ _ _ _ _ _ _ _ _ c.requires.going c.loop-line.invariant.fed (c.in_default.ensures.none refl)
 
-pub returns-clause-left : goal.returns-clause-left
-returns-clause-left c = c.loop-line.invariant.fed.leaves
-
-pub returns-clause-links : goal.returns-clause-links
-returns-clause-links c = c.loop-line.invariant.fed.links
-
-pub returns-clause-ran : goal.returns-clause-ran
-returns-clause-ran c = λ line h. (Fed-serves _ _ _ _ _ _ _ _ _ _ _ _ _ c.loop-line.invariant.fed (c.in_default.ensures.none refl) line h).counts
+pub returns-clause-causes : goal.returns-clause-causes
+returns-clause-causes c = c.loop-line.invariant.fed.causes

@@ -1,9 +1,10 @@
+use Rattle.std.proofs.Common.{arith}
 use Rattle.wc_loop.proofs.CloseLemmas.{Continues-refl}
-use Rattle.wc_loop.proofs.SourceLemmas.{OnOk-map}
+use Rattle.wc_loop.proofs.ServeLemmas.{OnOk-map}
 use Rattle.wc_loop.proofs.serve.accept_rest.Goals as goal
 
 pub returns-clause-heard : goal.returns-clause-heard
 returns-clause-heard g c = OnOk-map c.accept_all.result _ _ c.accept_all.ensures.heard (λ heard stands out. heard)
 
 pub returns-then-not-headless-clause-continues : goal.returns-then-not-headless-clause-continues
-returns-then-not-headless-clause-continues g c = Continues-refl _ _ _
+returns-then-not-headless-clause-continues g c = Continues-refl _ _

@@ -1,29 +1,29 @@
-use Rattle.std.proofs.Common.{sym, ◌∙◌, arith}
-use Rattle.wc_loop.specs.Served.{session_link}
+use Rattle.std.proofs.Common.{sym, ap, ◌∙◌, arith}
+use Rattle.wc_core.specs.Served.{seat_link}
 use Rattle.wc_loop.specs.Sources.{has_unsent}
 use Rattle.wc_loop.proofs.LeastLemmas.{least_between, passed_between, other_between, none_more}
 use Rattle.wc_loop.proofs.serve.next_unsent.Goals as goal
 use Rattle.wc_loop.proofs.serve.next_unsent.Goals.{then-has_unsent, else-has_unsent}
 
-pub loop-session-preserved : goal.loop-session-preserved
-loop-session-preserved c =
-    let i = c.loop-session.invariant in
-    let at = c.loop-session.session-index in
-    let inside = c.loop-session-test.true in
-    let here = sym c.session-item.is in
+pub loop-seat-preserved : goal.loop-seat-preserved
+loop-seat-preserved c =
+    let i = c.loop-seat.invariant in
+    let at = c.loop-seat.seat-index in
+    let inside = c.loop-seat-test.true in
+    let here = sym c.seat-item.is in
     elim c.if-has_unsent.branch [
       | then-has_unsent w ↦ rw w.next-is (
-          let lesser = w.lesser-next.ensures in
+          let lesser = rw w.link.ensures at w.lesser-next.ensures in
           record {
             above = lesser.above i.above;
-            between = least_between session_link has_unsent c.args.last at c.args.sessions.now _ c.session-item.result c.loop-session.next w.lesser-next.result here inside (other_between session_link has_unsent c.args.last c.session-item.result w.lesser-next.result lesser.other) lesser.before i.between i.none;
-            none = λ e o low. (let known = lesser.none e in none_more session_link has_unsent o at c.args.sessions.now _ c.session-item.result here inside (λ same. absurd (let q = known.1 in omega arith)) (i.none known.0 o low));
+            between = least_between seat_link has_unsent c.args.last at c.args.seats.now _ c.seat-item.result c.loop-seat.next w.lesser-next.result here inside (other_between seat_link has_unsent c.args.last c.seat-item.result w.lesser-next.result lesser.other) lesser.before i.between i.none;
+            none = λ e o low. (let known = lesser.none e in none_more seat_link has_unsent o at c.args.seats.now _ c.seat-item.result here inside (λ same. absurd (let q = known.1 in omega arith)) (i.none known.0 o low));
           })
       | else-has_unsent w ↦ rw w.next-is (
           let quiet = sym c.has_unsent.ensures ∙ w.if-has_unsent.false in
           record {
             above = i.above;
-            between = passed_between session_link has_unsent c.args.last at c.args.sessions.now _ c.session-item.result c.loop-session.next here inside quiet i.between;
-            none = λ e o low. none_more session_link has_unsent o at c.args.sessions.now _ c.session-item.result here inside (λ same. quiet) (i.none e o low);
+            between = passed_between seat_link has_unsent c.args.last at c.args.seats.now _ c.seat-item.result c.loop-seat.next here inside quiet i.between;
+            none = λ e o low. none_more seat_link has_unsent o at c.args.seats.now _ c.seat-item.result here inside (λ same. quiet) (i.none e o low);
           })
     ]

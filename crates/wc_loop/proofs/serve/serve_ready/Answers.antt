@@ -1,21 +1,33 @@
-use Rattle.std.proofs.Common.{None}
+use Rattle.std.proofs.Common.{◌≡◌, ◌∙◌, sym, false, true}
 use Rattle.wc_loop.proofs.TurnLemmas.{Continues-trans}
-use Rattle.wc_loop.proofs.SourceLemmas.{IsServed-later, IsHeard-later, later-of, OnOk-map}
+use Rattle.wc_loop.proofs.SourceLemmas.{IsServed-later, IsHeard-later, later-of}
+use Rattle.wc_loop.proofs.ServeLemmas.{OnOk-map, AllSent-behind, Within-nothing}
 use Rattle.wc_loop.proofs.serve.serve_ready.Goals as goal
 
 pub returns-clause-continues : goal.returns-clause-continues
 returns-clause-continues g c =
-    Continues-trans _ None c.serve_sources-listened.new.headless None _ None _ (g.S.Sockets.seen c.serve_sources-listened.new.sockets) _ c.serve_sources-listened.ensures.continues c.write_all.ensures.continues
+    let seen = g.S.Sockets.seen in
+    Continues-trans c.args.headless.now c.serve_sources-listened.new.headless c.write_unsent.new.headless (seen c.args.sockets.now) (seen c.serve_sources-listened.new.sockets) (seen c.write_unsent.new.sockets) c.serve_sources-listened.ensures.continues c.write_unsent.ensures.continues
 
 pub returns-clause-served : goal.returns-clause-served
 returns-clause-served g c =
     let s = c.serve_sources-listened.ensures in
-    let e = c.write_all.ensures in
+    let e = c.write_unsent.ensures in
     let before = g.S.Sockets.seen c.args.sockets.now in
     let between = g.S.Sockets.seen c.serve_sources-listened.new.sockets in
-    let after = g.S.Sockets.seen c.write_all.new.sockets in
-    OnOk-map c.serve_sources-listened.result _ _ s.heard (λ heard stands. record {
-      links = λ k one. IsServed-later k before between after (s.served stands k one) e.falls (later-of _ _ e.continues);
-      listener = IsHeard-later before between after (heard stands) e.falls (later-of _ _ e.continues);
-      written = e.written;
+    let after = g.S.Sockets.seen c.write_unsent.new.sockets in
+    OnOk-map c.serve_sources-listened.result _ _ s.heard (λ heard stands on. record {
+      links = λ k one. IsServed-later k before between after (s.served stands (sym e.quits ∙ on) k one) (e.falls on) (later-of _ _ e.continues);
+      listener = IsHeard-later before between after (heard stands (sym e.quits ∙ on)) (e.falls on) (later-of _ _ e.continues);
+      written = e.written on;
     })
+
+pub returns-clause-sent : goal.returns-clause-sent
+returns-clause-sent g c = λ over.
+    let seen = g.S.Sockets.seen in
+    AllSent-behind c.write_unsent.new.headless.core.seats (seen c.args.sockets.now) (seen c.serve_sources-listened.new.sockets) (seen c.write_unsent.new.sockets) (later-of _ _ c.serve_sources-listened.ensures.continues) (later-of _ _ c.write_unsent.ensures.continues) c.serve_sources-listened.ensures.continues.counts (c.write_unsent.ensures.sent over)
+
+pub returns-clause-within : goal.returns-clause-within
+returns-clause-within g c =
+    let seen = g.S.Sockets.seen in
+    Within-nothing (seen c.args.sockets.now) (seen c.serve_sources-listened.new.sockets) (seen c.write_unsent.new.sockets) (later-of _ _ c.write_unsent.ensures.continues) c.serve_sources-listened.ensures.within c.write_unsent.ensures.nothing

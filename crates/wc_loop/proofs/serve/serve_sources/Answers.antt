@@ -1,44 +1,53 @@
-use Rattle.std.proofs.Common.{None, take, sym, ◌∙◌}
-use Rattle.std.specs.List.{list_any}
-use Rattle.wc_outside.specs.Happenings.{is_link, is_listener}
-use Rattle.wc_loop.proofs.TurnLemmas.{Continues-trans, Continues-behind}
-use Rattle.wc_loop.proofs.LeaveLemmas.{Continues-good}
-use Rattle.wc_loop.proofs.SourceLemmas.{IsServed-later, IsServed-behind, IsHeard-later, IsHeard-behind, later-of, OnOk-map, OnOk-get, ok-of, reported-or}
+use Rattle.std.proofs.Common.{◌≡◌, ◌∙◌, sym, false}
+use Rattle.wc_loop.specs.Turns.{faults_of}
+use Rattle.wc_loop.proofs.TurnLemmas.{Continues-trans, Continues-behind, Continues-good}
+use Rattle.wc_loop.proofs.SourceLemmas.{IsServed-later, later-of}
+use Rattle.wc_loop.proofs.ServeLemmas.{Within-named, Within-rest, Within-all, served-all, heard-all, heard-of, ok-faults, OnOk-map, is_ok-of}
 use Rattle.wc_loop.proofs.serve.serve_sources.Goals as goal
 
+pub returns-then-quits-clause-within : goal.returns-then-quits-clause-within
+returns-then-quits-clause-within g c = Within-named _ _ _ _ _ _ c.serve_tokens-listened.ensures
+
 pub returns-then-is_err-clause-continues : goal.returns-then-is_err-clause-continues
-returns-then-is_err-clause-continues g c = Continues-trans _ None c.serve_tokens-listened.new.headless None _ None _ (g.S.Sockets.seen c.serve_tokens-listened.new.sockets) _ c.serve_tokens-listened.ensures.continues c.read_rest.ensures.continues
+returns-then-is_err-clause-continues g c =
+    let seen = g.S.Sockets.seen in
+    Continues-trans c.args.headless.now c.serve_tokens-listened.new.headless c.read_rest.new.headless (seen c.args.sockets.now) (seen c.serve_tokens-listened.new.sockets) (seen c.read_rest.new.sockets) c.serve_tokens-listened.ensures.continues c.read_rest.ensures.continues
 
 pub returns-then-is_err-clause-served : goal.returns-then-is_err-clause-served
-returns-then-is_err-clause-served g c = λ stands k one.
+returns-then-is_err-clause-served g c = λ stands on k one.
     let s = c.serve_tokens-listened.ensures in
     let e = c.read_rest.ensures in
-    let before = g.S.Sockets.seen c.args.sockets.now in
-    let between = g.S.Sockets.seen c.serve_tokens-listened.new.sockets in
-    let after = g.S.Sockets.seen c.read_rest.new.sockets in
-    reported-or (list_any (is_link k) (take c.args.ready.now.count c.args.ready.now.tokens)) _
-    (λ named. IsServed-later k before between after (s.served stands k named) e.falls (later-of _ _ e.continues))
-    (λ other. IsServed-behind k before between after (later-of _ _ s.continues) (later-of _ _ e.continues) (e.served (s.continues.stands stands) k one other))
+    let seen = g.S.Sockets.seen in
+    let going : c.serve_tokens-listened.new.headless.core.quits ≡ false = sym c.quits.ensures ∙ c.if-quits.false in
+    served-all c.args.tokens.now k (seen c.args.sockets.now) (seen c.serve_tokens-listened.new.sockets) (seen c.read_rest.new.sockets) (later-of _ _ s.continues) (later-of _ _ e.continues) e.falls (s.served stands going k) (λ out. e.served (s.continues.stands stands) on k one out)
+
+pub returns-then-is_err-clause-within : goal.returns-then-is_err-clause-within
+returns-then-is_err-clause-within g c =
+    let e = c.read_rest.ensures in
+    let seen = g.S.Sockets.seen in
+    Within-rest c.args.tokens.now _ _ _ (seen c.args.sockets.now) (seen c.serve_tokens-listened.new.sockets) (seen c.read_rest.new.sockets) c.serve_tokens-listened.ensures (later-of _ _ e.continues) e.most e.named e.clients
 
 pub returns-clause-continues : goal.returns-clause-continues
 returns-clause-continues g c =
+    let seen = g.S.Sockets.seen in
     let tokens = c.serve_tokens-listened in
-    let good = Continues-good tokens.result _ None tokens.new.headless None _ (g.S.Sockets.seen tokens.new.sockets) (ok-of tokens.result (sym c.is_err.ensures.value ∙ c.if-is_err.false)) tokens.ensures.continues in
-    Continues-behind _ None c.read_rest.new.headless None _ None _ (g.S.Sockets.seen c.read_rest.new.sockets) _
-    (Continues-trans _ None tokens.new.headless None _ None _ (g.S.Sockets.seen tokens.new.sockets) _ good c.read_rest.ensures.continues) c.accept_rest.ensures.continues
+    let before = seen c.args.sockets.now in
+    let between = seen tokens.new.sockets in
+    let after = seen c.read_rest.new.sockets in
+    let good = Continues-good tokens.result c.args.headless.now tokens.new.headless before between (is_ok-of tokens.result (sym c.is_err.ensures.value ∙ c.if-is_err.false)) tokens.ensures.continues in
+    Continues-behind c.args.headless.now c.read_rest.new.headless c.accept_rest.new.headless before after (seen c.accept_rest.new.sockets)
+    (Continues-trans c.args.headless.now tokens.new.headless c.read_rest.new.headless before between after good c.read_rest.ensures.continues) c.accept_rest.ensures.continues
 
 pub returns-clause-served : goal.returns-clause-served
-returns-clause-served g c = λ stands k one.
+returns-clause-served g c = λ stands on k one.
     let s = c.serve_tokens-listened.ensures in
     let e = c.read_rest.ensures in
     let l = c.accept_rest.ensures in
-    let before = g.S.Sockets.seen c.args.sockets.now in
-    let between = g.S.Sockets.seen c.serve_tokens-listened.new.sockets in
-    let after = g.S.Sockets.seen c.read_rest.new.sockets in
-    IsServed-later k before after (g.S.Sockets.seen c.accept_rest.new.sockets)
-    (reported-or (list_any (is_link k) (take c.args.ready.now.count c.args.ready.now.tokens)) _
-    (λ named. IsServed-later k before between after (s.served stands k named) e.falls (later-of _ _ e.continues))
-    (λ other. IsServed-behind k before between after (later-of _ _ s.continues) (later-of _ _ e.continues) (e.served (s.continues.stands stands) k one other)))
+    let seen = g.S.Sockets.seen in
+    let going : c.serve_tokens-listened.new.headless.core.quits ≡ false = sym c.quits.ensures ∙ c.if-quits.false in
+    let goes : c.read_rest.new.headless.core.quits ≡ false = sym c.quits-else-is_err.ensures ∙ c.if-quits-2.false in
+    IsServed-later k (seen c.args.sockets.now) (seen c.read_rest.new.sockets) (seen c.accept_rest.new.sockets)
+    (served-all c.args.tokens.now k (seen c.args.sockets.now) (seen c.serve_tokens-listened.new.sockets) (seen c.read_rest.new.sockets) (later-of _ _ s.continues) (later-of _ _ e.continues) e.falls (s.served stands going k) (λ out. e.served (s.continues.stands stands) goes k one out))
     l.falls (later-of _ _ l.continues)
 
 pub returns-clause-heard : goal.returns-clause-heard
@@ -47,12 +56,21 @@ returns-clause-heard g c =
     let s = tokens.ensures in
     let e = c.read_rest.ensures in
     let l = c.accept_rest.ensures in
-    let before = g.S.Sockets.seen c.args.sockets.now in
-    let between = g.S.Sockets.seen tokens.new.sockets in
-    let after = g.S.Sockets.seen c.read_rest.new.sockets in
-    let last = g.S.Sockets.seen c.accept_rest.new.sockets in
-    let good = ok-of tokens.result (sym c.is_err.ensures.value ∙ c.if-is_err.false) in
-    let front = Continues-trans _ None tokens.new.headless None _ None before between after s.continues e.continues in
-    OnOk-map c.accept_rest.result _ _ l.heard (λ heard stands. reported-or (list_any is_listener (take c.args.ready.now.count c.args.ready.now.tokens)) _
-    (λ named. IsHeard-later before after last (IsHeard-later before between after (OnOk-get tokens.result _ good s.heard named) e.falls (later-of _ _ e.continues)) l.falls (later-of _ _ l.continues))
-    (λ other. IsHeard-behind before after last (later-of before after front) (later-of _ _ l.continues) (heard (front.stands stands) other)))
+    let seen = g.S.Sockets.seen in
+    let before = seen c.args.sockets.now in
+    let between = seen tokens.new.sockets in
+    let after = seen c.read_rest.new.sockets in
+    let going : tokens.new.headless.core.quits ≡ false = sym c.quits.ensures ∙ c.if-quits.false in
+    let none = ok-faults tokens.result (sym c.is_err.ensures.value ∙ c.if-is_err.false) in
+    let front = Continues-trans c.args.headless.now tokens.new.headless c.read_rest.new.headless before between after s.continues e.continues in
+    OnOk-map c.accept_rest.result _ _ l.heard (λ heard stands on. heard-all c.args.tokens.now before between after (seen c.accept_rest.new.sockets) (later-of _ _ s.continues) (later-of _ _ e.continues) (later-of _ _ l.continues) e.falls l.falls
+    (s.heard none going) (heard (front.stands stands)) (later-of _ _ front))
+
+pub returns-clause-within : goal.returns-clause-within
+returns-clause-within g c =
+    let s = c.serve_tokens-listened.ensures in
+    let e = c.read_rest.ensures in
+    let l = c.accept_rest.ensures in
+    let seen = g.S.Sockets.seen in
+    let rest = Within-rest c.args.tokens.now _ _ _ (seen c.args.sockets.now) (seen c.serve_tokens-listened.new.sockets) (seen c.read_rest.new.sockets) s (later-of _ _ e.continues) e.most e.named e.clients in
+    Within-all c.args.tokens.now _ _ _ (seen c.args.sockets.now) (seen c.serve_tokens-listened.new.sockets) (seen c.read_rest.new.sockets) (seen c.accept_rest.new.sockets) s (later-of _ _ e.continues) (later-of _ _ l.continues) rest e.clients l.bytes l.clients l.named

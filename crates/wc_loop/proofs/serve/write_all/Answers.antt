@@ -1,18 +1,28 @@
-use Rattle.std.proofs.Common.{None, arith}
+use Rattle.std.proofs.Common.{arith}
 use Rattle.wc_loop.proofs.TurnLemmas.{Continues-trans}
 use Rattle.wc_loop.proofs.CloseLemmas.{Continues-refl}
-use Rattle.wc_loop.proofs.SourceLemmas.{Falls-refl, Falls-trans, written-next}
+use Rattle.wc_loop.proofs.SourceLemmas.{Falls-refl, Falls-trans, later-of}
+use Rattle.wc_loop.proofs.ServeLemmas.{written-next, written-rest, Nothing-refl, Nothing-trans}
 use Rattle.wc_loop.proofs.serve.write_all.Goals as goal
 
 pub loop-link-init : goal.loop-link-init
-loop-link-init g c = record { continues = Continues-refl _ _ _; falls = Falls-refl _; written = λ k one low. absurd (omega arith) }
+loop-link-init g c = record { continues = Continues-refl _ _; calm = c.requires.calm; going = c.requires.going; falls = Falls-refl _; written = λ k one low. absurd (omega arith); nothing = Nothing-refl _ }
 
 pub loop-link-preserved : goal.loop-link-preserved
 loop-link-preserved g c =
     let i = c.loop-link.invariant in
     let e = c.write_link.ensures in
+    let seen = g.S.Sockets.seen in
     record {
-      continues = Continues-trans _ None c.loop-link.headless None _ None _ (g.S.Sockets.seen c.loop-link.sockets) _ i.continues e.continues;
-      falls = Falls-trans _ (g.S.Sockets.seen c.loop-link.sockets) _ i.falls e.falls;
-      written = λ k one most. written-next k c.loop-link.last c.in-Some.link.0 c.loop-link.headless.core.sessions.items _ (g.S.Sockets.seen c.loop-link.sockets) (g.S.Sockets.seen c.write_link.new.sockets) (i.written k one) (λ p q. rw c.sessions.ensures at (c.in-Some.ensures.between k p q)) (λ n. e.others k n) e.done most;
+      continues = Continues-trans c.args.headless.now c.loop-link.headless c.write_link.new.headless (seen c.args.sockets.now) (seen c.loop-link.sockets) (seen c.write_link.new.sockets) i.continues e.continues;
+      calm = e.calm;
+      going = e.going;
+      falls = Falls-trans _ (seen c.loop-link.sockets) _ i.falls e.falls;
+      written = λ k one most. written-next k c.loop-link.last c.in-Some.link.0 c.loop-link.headless.core.seats c.write_link.new.headless.core.seats (seen c.loop-link.sockets) (seen c.write_link.new.sockets) (i.written k one) (λ p q. rw c.seats.ensures at (c.in-Some.ensures.between k p q)) (λ n. e.others k n) e.done most;
+      nothing = Nothing-trans _ (seen c.loop-link.sockets) _ (later-of _ _ e.continues) i.nothing e.nothing;
     }
+
+pub returns-clause-written : goal.returns-clause-written
+returns-clause-written g c = λ k one.
+    let i = c.loop-link.invariant in
+    written-rest k c.loop-link.last c.loop-link.headless.core.seats (g.S.Sockets.seen c.loop-link.sockets) (i.written k one) (λ above. rw c.seats.ensures at (c.next_unsent.ensures.none c.in_default.is k above))

@@ -1,13 +1,17 @@
-use Rattle.std.proofs.Common.{◌≤◌, ◌-◌, ◌^◌, ℕ, None, true}
-use Rattle.wc_loop.specs.Sources.{Falls, IsWritten}
+use Rattle.std.proofs.Common.{◌≡◌, ◌≤◌, ◌-◌, ◌^◌, ℕ, true, false}
+use Rattle.wc_loop.specs.Served.{IsCalm}
+use Rattle.wc_loop.specs.Sources.{Falls, IsWritten, TakesNothing}
 use Rattle.wc_loop.specs.Turns.{Continues}
 use Rattle.wc_loop.proofs.serve.write_all.Given as goal
 
 abbrev pub invariant-loop-link : goal.invariant-loop-link
 invariant-loop-link g l = record {
-  continues : Continues true 0 0 l.fn.headless None l.headless None (g.S.Sockets.seen l.fn.sockets) (g.S.Sockets.seen l.sockets);
+  continues : Continues true 0 0 l.fn.headless l.headless (g.S.Sockets.seen l.fn.sockets) (g.S.Sockets.seen l.sockets);
+  calm : IsCalm l.headless.core.seats;
+  going : l.headless.core.quits ≡ false;
   falls : Falls (g.S.Sockets.seen l.fn.sockets) (g.S.Sockets.seen l.sockets);
-  written : (link : ℕ) → 1 ≤ link → link ≤ l.last → IsWritten link l.headless.core.sessions.items (g.S.Sockets.seen l.sockets);
+  written : (link : ℕ) → 1 ≤ link → link ≤ l.last → IsWritten link l.headless.core.seats (g.S.Sockets.seen l.sockets);
+  nothing : TakesNothing (g.S.Sockets.seen l.fn.sockets) (g.S.Sockets.seen l.sockets);
 }
 
 abbrev pub decreases-loop-link : goal.decreases-loop-link

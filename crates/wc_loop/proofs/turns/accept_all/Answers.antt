@@ -1,33 +1,57 @@
-use Rattle.std.proofs.Common.{None, Ok, ap, arith}
+use Rattle.std.proofs.Common.{◌≡◌, Ok, refl, ap, ◌∙◌, arith}
+use Rattle.wc_loop.specs.Parts.{came_of}
 use Rattle.wc_loop.proofs.TurnLemmas.{Continues-behind}
 use Rattle.wc_loop.proofs.CloseLemmas.{Continues-refl}
 use Rattle.wc_loop.proofs.SourceLemmas.{Falls-refl, Falls-trans, IsHeard-drained}
 use Rattle.wc_loop.proofs.turns.accept_all.Goals as goal
 
 pub loop-init : goal.loop-init
-loop-init g c = record { continues = Continues-refl _ _ _; falls = Falls-refl _; arrived = λ t. omega arith }
+loop-init g c = record { continues = Continues-refl _ _; calm = c.requires.calm; going = c.requires.going; falls = Falls-refl _; arrived = λ t. omega arith; bytes = λ t k. refl }
 
-pub returns-in-Ok-false-clause-continues : goal.returns-in-Ok-false-clause-continues
-returns-in-Ok-false-clause-continues g c = Continues-behind _ None c.loop.headless None _ None _ (g.S.Sockets.seen c.loop.sockets) _ c.loop.invariant.continues c.in-Ok-false.ensures.continues
+pub returns-in-Ok-false : goal.returns-in-Ok-false
+returns-in-Ok-false g c =
+    let i = c.loop.invariant in
+    let e = c.in-Ok-false.ensures in
+    let seen = g.S.Sockets.seen in
+    let below = c.loop.auto.counter-end in
+    record {
+      continues = Continues-behind c.args.headless.now c.loop.headless c.accept_once.new.headless (seen c.args.sockets.now) (seen c.loop.sockets) (seen c.accept_once.new.sockets) i.continues e.continues;
+      calm = e.calm;
+      going = e.going;
+      falls = Falls-trans _ (seen c.loop.sockets) _ i.falls e.falls;
+      heard = IsHeard-drained (seen c.args.sockets.now) (seen c.accept_once.new.sockets) (e.drained (ap Ok c.in-Ok-false.field-0-test));
+      failed = tt;
+      within = λ t. (let before = i.arrived (e.continues.told t) in let now = e.arrived t in let none : came_of (Ok c.in-Ok-false.field-0) ≡ 0 = ap (λ b. came_of (Ok b)) c.in-Ok-false.field-0-test in omega arith);
+      bytes = λ t k. e.bytes t k ∙ i.bytes (e.continues.told t) k;
+    }
 
-pub returns-in-Ok-false-clause-falls : goal.returns-in-Ok-false-clause-falls
-returns-in-Ok-false-clause-falls g c = Falls-trans _ (g.S.Sockets.seen c.loop.sockets) _ c.loop.invariant.falls c.in-Ok-false.ensures.falls
-
-pub returns-in-Ok-false-clause-heard : goal.returns-in-Ok-false-clause-heard
-returns-in-Ok-false-clause-heard g c = IsHeard-drained (g.S.Sockets.seen c.args.sockets.now) (g.S.Sockets.seen c.accept_once.new.sockets) (c.in-Ok-false.ensures.drained (ap Ok c.in-Ok-false.field-0-test))
-
-pub returns-in-Err-clause-continues : goal.returns-in-Err-clause-continues
-returns-in-Err-clause-continues g c = Continues-behind _ None c.loop.headless None _ None _ (g.S.Sockets.seen c.loop.sockets) _ c.loop.invariant.continues c.in-Err.ensures.continues
-
-pub returns-in-Err-clause-falls : goal.returns-in-Err-clause-falls
-returns-in-Err-clause-falls g c = Falls-trans _ (g.S.Sockets.seen c.loop.sockets) _ c.loop.invariant.falls c.in-Err.ensures.falls
+pub returns-in-Err : goal.returns-in-Err
+returns-in-Err g c =
+    let i = c.loop.invariant in
+    let e = c.in-Err.ensures in
+    let seen = g.S.Sockets.seen in
+    let below = c.loop.auto.counter-end in
+    record {
+      continues = Continues-behind c.args.headless.now c.loop.headless c.accept_once.new.headless (seen c.args.sockets.now) (seen c.loop.sockets) (seen c.accept_once.new.sockets) i.continues e.continues;
+      calm = e.calm;
+      going = e.going;
+      falls = Falls-trans _ (seen c.loop.sockets) _ i.falls e.falls;
+      heard = tt;
+      failed = (let rose = e.failed in let never = i.continues.counts.listens in omega arith);
+      within = λ t. (let before = i.arrived (e.continues.told t) in let now = e.arrived t in omega arith);
+      bytes = λ t k. e.bytes t k ∙ i.bytes (e.continues.told t) k;
+    }
 
 pub loop-preserved : goal.loop-preserved
 loop-preserved g c =
     let i = c.loop.invariant in
     let e = c.in-Ok-true.ensures in
+    let seen = g.S.Sockets.seen in
     record {
-      continues = Continues-behind _ None c.loop.headless None _ None _ (g.S.Sockets.seen c.loop.sockets) _ i.continues e.continues;
-      falls = Falls-trans _ (g.S.Sockets.seen c.loop.sockets) _ i.falls e.falls;
-      arrived = λ t. (let before = i.arrived (e.continues.told t) in let now = e.arrived (ap Ok c.in-Ok-true.field-0-test) t in omega arith);
+      continues = Continues-behind c.args.headless.now c.loop.headless c.accept_once.new.headless (seen c.args.sockets.now) (seen c.loop.sockets) (seen c.accept_once.new.sockets) i.continues e.continues;
+      calm = e.calm;
+      going = e.going;
+      falls = Falls-trans _ (seen c.loop.sockets) _ i.falls e.falls;
+      arrived = λ t. (let before = i.arrived (e.continues.told t) in let now = e.arrived t in let one : came_of (Ok c.in-Ok-true.field-0) ≡ 1 = ap (λ b. came_of (Ok b)) c.in-Ok-true.field-0-test in omega arith);
+      bytes = λ t k. e.bytes t k ∙ i.bytes (e.continues.told t) k;
     }

@@ -1,23 +1,30 @@
-use Rattle.std.proofs.Common.{refl, sym, ap, ◌∙◌, not, eqb, Some, None}
+use Rattle.std.proofs.Common.{refl, sym, ap, ◌∙◌, not, eqb, []}
 use Rattle.std.proofs.lemmas.List.{append-nil}
 use Rattle.wc_loop.proofs.TurnLemmas.{Continues-trans}
-use Rattle.wc_loop.proofs.ComeLemmas.{Continues-close}
-use Rattle.wc_loop.proofs.SourceLemmas.{Falls-trans, Falls-drained, kept-other, dropped-same}
+use Rattle.wc_loop.proofs.CloseLemmas.{Continues-close}
+use Rattle.wc_loop.proofs.SourceLemmas.{Falls-drained, TakesNothing-call, kept-other}
+use Rattle.wc_loop.proofs.PartLemmas.{Parts-first, fewer-parted, departure-same}
 use Rattle.wc_loop.proofs.turns.part.Goals as goal
 
 pub returns : goal.returns
 returns g c =
     let s = c.settle.ensures in
     let e = c.close.ensures in
-    let departure = c.settle.new.departure in
+    let d = c.args.departure in
+    let x = c.args.headless.now in
+    let y = c.settle.new.headless in
+    let a = g.S.Sockets.seen c.args.sockets.now in
+    let b = g.S.Sockets.seen c.settle.new.sockets in
+    let last = g.S.Sockets.seen c.close.new.self in
+    let first = departure-same x.core.seats y.core.seats d s.sends.leaving c.requires.first in
+    let whole = Continues-trans x y _ a b last s.continues
+    (Continues-close y _ d b last first
+    (record { core = c.forget.ensures; clock = refl; used = refl; listening = refl; turns = refl; ran = refl; opened = c.close-2.ensures.opened; closed = c.close-2.ensures.closed })
+    (record { told = e.told; taken = λ t. e.taken t ∙ sym (append-nil _); asked = e.asked; counts = e.counts })
+    e.sent e.choked e.used e.there e.undrained e.listening s.done) in
     record {
-      continues = Continues-trans _ _ c.settle.new.headless (Some departure) _ None _ (g.S.Sockets.seen c.settle.new.sockets) _ s.continues
-          (Continues-close c.settle.new.headless _ departure (g.S.Sockets.seen c.settle.new.sockets) (g.S.Sockets.seen c.close.new.self)
-          (record { core = refl; clock = refl; used = refl; listening = refl; turns = refl; ran = refl; opened = c.close-2.ensures.opened; closed = c.close-2.ensures.closed })
-          (record { told = e.told; taken = λ t. e.taken t ∙ sym (append-nil _); asked = e.asked; counts = e.counts })
-          e.sent e.choked e.used e.there e.undrained e.listening s.done);
-      falls = Falls-trans _ (g.S.Sockets.seen c.settle.new.sockets) _ s.falls (Falls-drained _ _ (λ k. not (eqb k c.settle.new.departure.link.0)) e.undrained e.listening);
-      core = s.core;
-      blocked = λ k n. e.blocked k ∙ kept-other k _ _ (rw (ap (λ l. l.0) s.link) n) ∙ s.blocked k n;
-      drained = rw (sym (ap (λ l. l.0) s.link)) (e.undrained c.settle.new.departure.link.0 ∙ dropped-same _ c.settle.new.departure.link.0);
+      continues = whole;
+      parts = Parts-first x y _ a b last d c.requires.first e.told s.sends c.forget.ensures
+          (Falls-drained b last (λ k. not (eqb k d.link.0)) e.undrained e.listening) (TakesNothing-call b last [] (λ t. e.taken t ∙ sym (append-nil _)) (λ k. refl) refl) (λ k n. e.blocked k ∙ kept-other k d.link.0 _ n);
+      fewer = fewer-parted x.core y.core c.forget.new.self d first s.sends.links c.forget.ensures;
     }

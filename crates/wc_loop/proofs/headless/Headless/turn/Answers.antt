@@ -1,71 +1,59 @@
-use Rattle.std.proofs.Common.{refl, ◌∙◌, take}
-use Rattle.wc_loop.proofs.WakeLemmas.{Continues-woke}
-use Rattle.wc_loop.proofs.TurnLemmas.{Continues-step}
-use Rattle.wc_loop.proofs.LeaveLemmas.{turn-continues, turn-causes, turn-closes-exactly}
-use Rattle.wc_loop.proofs.SourceLemmas.{AllServed-behind, later-of}
+use Rattle.std.proofs.Common.{sym, ◌∙◌}
+use Rattle.wc_loop.proofs.TurnLemmas.{turn-continues, turn-causes, turn-closes-exactly}
+use Rattle.wc_loop.proofs.SourceLemmas.{later-of}
+use Rattle.wc_loop.proofs.ServeLemmas.{AllServed-behind, AllSent-behind, Nothing-within}
+use Rattle.wc_loop.proofs.WaitLemmas.{Within-none, closes-unwoken, OnOk-get, OnErr-get, Continues-then, goes-on, quits-by}
 use Rattle.wc_loop.proofs.headless.Headless.turn.Goals as goal
 
-pub returns-in-Ok-serve_ready-clause-continues : goal.returns-in-Ok-serve_ready-clause-continues
-returns-in-Ok-serve_ready-clause-continues g c =
-    let e = c.in-Ok.ensures in
-    let woke = Continues-woke c.args.self.now c.begin_turn-2.new.self c.report.new.self (g.S.Sockets.seen c.args.sockets.now) (g.S.Sockets.seen c.wait.new.self) c.in-Ok.moment (take c.wait.new.ready.count c.wait.new.ready.tokens)
-    (record { told = e.told; taken = e.taken; asked = e.asked; counts = e.counts }) e.sent e.choked e.used e.there e.undrained e.listening e.tokens c.begin_turn-2.ensures.begins c.report.ensures in
-    turn-continues c.args.self.now c.report.new.self c.serve_ready.new.headless _ (g.S.Sockets.seen c.wait.new.self) _ woke c.in-Ok-serve_ready.ensures.continues
+pub returns-then-is_err-clause-within : goal.returns-then-is_err-clause-within
+returns-then-is_err-clause-within g c =
+    let woken = OnErr-get c.wake.result _ (sym c.is_err.ensures.value ∙ c.if-is_err.true) c.wake.ensures.failed in
+    Within-none _ _ woken.nothing
 
-pub returns-in-Ok-serve_ready-clause-stands : goal.returns-in-Ok-serve_ready-clause-stands
-returns-in-Ok-serve_ready-clause-stands g c =
-    let e = c.in-Ok.ensures in
-    let woke = Continues-woke c.args.self.now c.begin_turn-2.new.self c.report.new.self (g.S.Sockets.seen c.args.sockets.now) (g.S.Sockets.seen c.wait.new.self) c.in-Ok.moment (take c.wait.new.ready.count c.wait.new.ready.tokens)
-    (record { told = e.told; taken = e.taken; asked = e.asked; counts = e.counts }) e.sent e.choked e.used e.there e.undrained e.listening e.tokens c.begin_turn-2.ensures.begins c.report.ensures in
-    c.in-Ok-serve_ready.ensures.continues.stands (woke.stands c.requires)
+pub returns-then-is_err-clause-closes : goal.returns-then-is_err-clause-closes
+returns-then-is_err-clause-closes g c =
+    let woken = OnErr-get c.wake.result _ (sym c.is_err.ensures.value ∙ c.if-is_err.true) c.wake.ensures.failed in
+    closes-unwoken _ _ _ _ c.requires.stands woken
 
-pub returns-in-Ok-serve_ready-clause-causes : goal.returns-in-Ok-serve_ready-clause-causes
-returns-in-Ok-serve_ready-clause-causes g c =
-    let e = c.in-Ok.ensures in
-    let woke = Continues-woke c.args.self.now c.begin_turn-2.new.self c.report.new.self (g.S.Sockets.seen c.args.sockets.now) (g.S.Sockets.seen c.wait.new.self) c.in-Ok.moment (take c.wait.new.ready.count c.wait.new.ready.tokens)
-    (record { told = e.told; taken = e.taken; asked = e.asked; counts = e.counts }) e.sent e.choked e.used e.there e.undrained e.listening e.tokens c.begin_turn-2.ensures.begins c.report.ensures in
-    turn-causes c.args.self.now c.report.new.self c.serve_ready.new.headless (g.S.Sockets.seen c.args.sockets.now) (g.S.Sockets.seen c.wait.new.self) (g.S.Sockets.seen c.serve_ready.new.sockets) c.requires (c.report.ensures.closed ∙ c.begin_turn-2.ensures.closed) woke c.in-Ok-serve_ready.ensures.continues
+pub returns-clause-continues : goal.returns-clause-continues
+returns-clause-continues g c =
+    let woken = OnOk-get c.wake.result _ (sym c.is_err.ensures.value ∙ c.if-is_err.false) c.wake.ensures.woken in
+    let seen = g.S.Sockets.seen in
+    Continues-then c.serve_ready-listened.result _ c.then.result c.args.self.now c.serve_ready-listened.new.headless (seen c.args.sockets.now) (seen c.serve_ready-listened.new.sockets) c.then.ensures
+    (turn-continues c.args.self.now c.wake.new.self c.serve_ready-listened.new.headless (seen c.args.sockets.now) (seen c.wake.new.sockets) (seen c.serve_ready-listened.new.sockets) woken.continues c.serve_ready-listened.ensures.continues)
 
-pub returns-in-Ok-serve_ready-clause-closes : goal.returns-in-Ok-serve_ready-clause-closes
-unfolding Continues-woke Continues-step
-returns-in-Ok-serve_ready-clause-closes g c =
-    let e = c.in-Ok.ensures in
-    let woke = Continues-woke c.args.self.now c.begin_turn-2.new.self c.report.new.self (g.S.Sockets.seen c.args.sockets.now) (g.S.Sockets.seen c.wait.new.self) c.in-Ok.moment (take c.wait.new.ready.count c.wait.new.ready.tokens)
-    (record { told = e.told; taken = e.taken; asked = e.asked; counts = e.counts }) e.sent e.choked e.used e.there e.undrained e.listening e.tokens c.begin_turn-2.ensures.begins c.report.ensures in
-    turn-closes-exactly c.args.self.now c.report.new.self c.serve_ready.new.headless (g.S.Sockets.seen c.args.sockets.now) (g.S.Sockets.seen c.wait.new.self) (g.S.Sockets.seen c.serve_ready.new.sockets) c.requires (c.report.ensures.closed ∙ c.begin_turn-2.ensures.closed) woke refl c.in-Ok-serve_ready.ensures.continues
+pub returns-clause-causes : goal.returns-clause-causes
+returns-clause-causes g c =
+    let woken = OnOk-get c.wake.result _ (sym c.is_err.ensures.value ∙ c.if-is_err.false) c.wake.ensures.woken in
+    let seen = g.S.Sockets.seen in
+    turn-causes c.args.self.now c.wake.new.self c.serve_ready-listened.new.headless (seen c.args.sockets.now) (seen c.wake.new.sockets) (seen c.serve_ready-listened.new.sockets) c.requires.stands woken.closed woken.calm c.serve_ready-listened.ensures.calm woken.continues c.serve_ready-listened.ensures.continues
 
-pub returns-in-Err-clause-continues : goal.returns-in-Err-clause-continues
-returns-in-Err-clause-continues g c =
-    let e = c.in-Ok.ensures in
-    let woke = Continues-woke c.args.self.now c.begin_turn-2.new.self c.report.new.self (g.S.Sockets.seen c.args.sockets.now) (g.S.Sockets.seen c.wait.new.self) c.in-Ok.moment (take c.wait.new.ready.count c.wait.new.ready.tokens)
-    (record { told = e.told; taken = e.taken; asked = e.asked; counts = e.counts }) e.sent e.choked e.used e.there e.undrained e.listening e.tokens c.begin_turn-2.ensures.begins c.report.ensures in
-    turn-continues c.args.self.now c.report.new.self c.serve_ready.new.headless _ (g.S.Sockets.seen c.wait.new.self) _ woke c.in-Err.ensures.continues
+pub returns-clause-served : goal.returns-clause-served
+returns-clause-served g c = λ on.
+    let woken = OnOk-get c.wake.result _ (sym c.is_err.ensures.value ∙ c.if-is_err.false) c.wake.ensures.woken in
+    let e = c.serve_ready-listened.ensures in
+    let seen = g.S.Sockets.seen in
+    let goes = goes-on c.serve_ready-listened.result _ c.then.result c.then.ensures on in
+    AllServed-behind c.serve_ready-listened.new.headless.core.seats (seen c.args.sockets.now) (seen c.wake.new.sockets) (seen c.serve_ready-listened.new.sockets) (later-of _ _ woken.continues) (later-of _ _ e.continues)
+    (OnOk-get c.serve_ready-listened.result _ goes.0 e.served (woken.continues.stands c.requires.stands) goes.1)
 
-pub returns-in-Err-clause-stands : goal.returns-in-Err-clause-stands
-returns-in-Err-clause-stands g c =
-    let e = c.in-Ok.ensures in
-    let woke = Continues-woke c.args.self.now c.begin_turn-2.new.self c.report.new.self (g.S.Sockets.seen c.args.sockets.now) (g.S.Sockets.seen c.wait.new.self) c.in-Ok.moment (take c.wait.new.ready.count c.wait.new.ready.tokens)
-    (record { told = e.told; taken = e.taken; asked = e.asked; counts = e.counts }) e.sent e.choked e.used e.there e.undrained e.listening e.tokens c.begin_turn-2.ensures.begins c.report.ensures in
-    c.in-Err.ensures.continues.stands (woke.stands c.requires)
+pub returns-clause-sent : goal.returns-clause-sent
+returns-clause-sent g c = λ quit.
+    let woken = OnOk-get c.wake.result _ (sym c.is_err.ensures.value ∙ c.if-is_err.false) c.wake.ensures.woken in
+    let e = c.serve_ready-listened.ensures in
+    let seen = g.S.Sockets.seen in
+    AllSent-behind c.serve_ready-listened.new.headless.core.seats (seen c.args.sockets.now) (seen c.wake.new.sockets) (seen c.serve_ready-listened.new.sockets) (later-of _ _ woken.continues) (later-of _ _ e.continues) woken.continues.counts
+    (e.sent (quits-by c.serve_ready-listened.result _ c.then.result c.then.ensures quit))
 
-pub returns-in-Err-clause-causes : goal.returns-in-Err-clause-causes
-returns-in-Err-clause-causes g c =
-    let e = c.in-Ok.ensures in
-    let woke = Continues-woke c.args.self.now c.begin_turn-2.new.self c.report.new.self (g.S.Sockets.seen c.args.sockets.now) (g.S.Sockets.seen c.wait.new.self) c.in-Ok.moment (take c.wait.new.ready.count c.wait.new.ready.tokens)
-    (record { told = e.told; taken = e.taken; asked = e.asked; counts = e.counts }) e.sent e.choked e.used e.there e.undrained e.listening e.tokens c.begin_turn-2.ensures.begins c.report.ensures in
-    turn-causes c.args.self.now c.report.new.self c.serve_ready.new.headless (g.S.Sockets.seen c.args.sockets.now) (g.S.Sockets.seen c.wait.new.self) (g.S.Sockets.seen c.serve_ready.new.sockets) c.requires (c.report.ensures.closed ∙ c.begin_turn-2.ensures.closed) woke c.in-Err.ensures.continues
+pub returns-clause-within : goal.returns-clause-within
+returns-clause-within g c =
+    let woken = OnOk-get c.wake.result _ (sym c.is_err.ensures.value ∙ c.if-is_err.false) c.wake.ensures.woken in
+    let e = c.serve_ready-listened.ensures in
+    let seen = g.S.Sockets.seen in
+    Nothing-within (seen c.args.sockets.now) (seen c.wake.new.sockets) (seen c.serve_ready-listened.new.sockets) (later-of _ _ e.continues) woken.nothing e.within
 
-pub returns-in-Err-clause-closes : goal.returns-in-Err-clause-closes
-unfolding Continues-woke Continues-step
-returns-in-Err-clause-closes g c =
-    let e = c.in-Ok.ensures in
-    let woke = Continues-woke c.args.self.now c.begin_turn-2.new.self c.report.new.self (g.S.Sockets.seen c.args.sockets.now) (g.S.Sockets.seen c.wait.new.self) c.in-Ok.moment (take c.wait.new.ready.count c.wait.new.ready.tokens)
-    (record { told = e.told; taken = e.taken; asked = e.asked; counts = e.counts }) e.sent e.choked e.used e.there e.undrained e.listening e.tokens c.begin_turn-2.ensures.begins c.report.ensures in
-    turn-closes-exactly c.args.self.now c.report.new.self c.serve_ready.new.headless (g.S.Sockets.seen c.args.sockets.now) (g.S.Sockets.seen c.wait.new.self) (g.S.Sockets.seen c.serve_ready.new.sockets) c.requires (c.report.ensures.closed ∙ c.begin_turn-2.ensures.closed) woke refl c.in-Err.ensures.continues
-
-pub returns-in-Ok-serve_ready-clause-served : goal.returns-in-Ok-serve_ready-clause-served
-returns-in-Ok-serve_ready-clause-served g c = λ on.
-    let e = c.in-Ok.ensures in
-    let woke = Continues-woke c.args.self.now c.begin_turn-2.new.self c.report.new.self (g.S.Sockets.seen c.args.sockets.now) (g.S.Sockets.seen c.wait.new.self) c.in-Ok.moment (take c.wait.new.ready.count c.wait.new.ready.tokens)
-    (record { told = e.told; taken = e.taken; asked = e.asked; counts = e.counts }) e.sent e.choked e.used e.there e.undrained e.listening e.tokens c.begin_turn-2.ensures.begins c.report.ensures in
-    AllServed-behind c.serve_ready.new.headless.core.sessions.items (g.S.Sockets.seen c.args.sockets.now) (g.S.Sockets.seen c.wait.new.self) (g.S.Sockets.seen c.serve_ready.new.sockets) (later-of _ _ woke) (later-of _ _ c.in-Ok-serve_ready.ensures.continues) (c.in-Ok-serve_ready.ensures.served (woke.stands c.requires))
+pub returns-clause-closes : goal.returns-clause-closes
+returns-clause-closes g c =
+    let woken = OnOk-get c.wake.result _ (sym c.is_err.ensures.value ∙ c.if-is_err.false) c.wake.ensures.woken in
+    let seen = g.S.Sockets.seen in
+    turn-closes-exactly c.args.self.now c.wake.new.self c.serve_ready-listened.new.headless (seen c.args.sockets.now) (seen c.wake.new.sockets) (seen c.serve_ready-listened.new.sockets) c.requires.stands woken.closed woken.calm c.serve_ready-listened.ensures.calm woken.continues woken.none c.serve_ready-listened.ensures.continues

@@ -1,0 +1,106 @@
+-- How a turn waits, and how it ends.
+use Rattle.std.proofs.Common.{◌≡◌, ◌≢◌, ℕ, ◌+◌, ◌≤◌, Bool, true, false, cond, IsTrue, List, [], ◌∷◌, ◌++◌, Option, Result, Ok, Err, OnOk, OnErr, is_ok, is_err, refl, sym, ap, ◌∙◌, subst, arith}
+use Rattle.std.proofs.lemmas.Bool.{false≢true}
+use Rattle.std.proofs.lemmas.List.{append-nil}
+use Rattle.std.proofs.lemmas.List.Elements.{All-nil}
+use Rattle.wc_outside.specs.Seen.{Seen}
+use Rattle.wc_outside.specs.declared.failed.Failed.{Failed as Fault}
+use Rattle.wc_outside.specs.declared.happening.Happening.{Happening}
+use Rattle.wc_outside.specs.declared.happening.Happening.TheVariants.{Woke}
+use Rattle.wc_core.specs.Step.{stays}
+use Rattle.wc_core.specs.Served.{state_of}
+use Rattle.wc_loop.specs.declared.headless.Headless.{Headless}
+use Rattle.wc_loop.specs.declared.then.Then.{Then}
+use Rattle.wc_loop.specs.declared.then.Then.TheVariants.{GoOn, Quit}
+use Rattle.wc_loop.specs.Sources.{bytes_taken, arrivals, TakesNothing, TakesWithin}
+use Rattle.wc_loop.specs.Turns.{Stands, Continues, ClosesExactly, moment, waits_then, faults_then, faults_of}
+use Rattle.wc_loop.specs.Waits.{then_of, Wakes}
+use Rattle.wc_loop.proofs.PointLemmas.{Advances-same}
+use Rattle.wc_loop.proofs.RunLemmas.{Reaches-none}
+use Rattle.wc_loop.proofs.SourceLemmas.{bytes_taken-append, arrivals-append}
+use Rattle.wc_loop.proofs.StepLemmas.{SameSets, among-same}
+use Rattle.wc_loop.proofs.TurnLemmas.{Call, Continues-step}
+
+-- ---- nothing is taken
+
+nothing-of : (a b : Seen) (given : List Happening) → (IsTrue b.tells → b.taken ≡ a.taken ++ given) → ((k : ℕ) → bytes_taken k given ≡ 0) → arrivals given ≡ 0 → TakesNothing a b
+nothing-of a b given taken bytes clients = record {
+  bytes = λ t k. (let all = ap (bytes_taken k) (taken t) in let parts = bytes_taken-append k a.taken given in let none = bytes k in omega arith);
+  clients = λ t. (let all = ap arrivals (taken t) in let parts = arrivals-append a.taken given in omega arith);
+}
+
+pub Nothing-woke : (a b : Seen) (m : ℕ) → (IsTrue b.tells → b.taken ≡ a.taken ++ Woke m ∷ []) → TakesNothing a b
+Nothing-woke a b m taken = nothing-of a b (Woke m ∷ []) taken (λ k. refl) refl
+
+pub Nothing-none : (a b : Seen) → (IsTrue b.tells → b.taken ≡ a.taken ++ []) → TakesNothing a b
+Nothing-none a b taken = nothing-of a b [] taken (λ k. refl) refl
+
+pub Within-none : (a b : Seen) → TakesNothing a b → TakesWithin a b
+Within-none a b h = record {
+  bytes = λ t k one. (let same = h.bytes t k in omega arith);
+  clients = λ t. (let same = h.clients t in omega arith);
+}
+
+-- ---- a wait failed
+
+-- the links that the turn before closed are forgotten
+unfoldable pub Continues-unwoken : (x y : Headless) (a b : Seen) → y.core ≡ x.core → y.clock ≡ x.clock → y.used ≡ x.used → y.listening ≡ x.listening → y.turns ≡ x.turns → y.ran ≡ x.ran → y.links.opened.items ≡ x.links.opened.items
+    → Call a b [] → (IsTrue b.tells → (k : ℕ) → b.sent k ≡ a.sent k) → (IsTrue b.tells → (k : ℕ) → b.choked k ≡ a.choked k) → SameSets a b → Continues false 0 0 x y a b
+Continues-unwoken x y a b core clock used listening turns ran opened call sent choked same =
+    Continues-step false 0 0 x y a b [] [] call (λ below. omega arith) refl refl
+    (λ t s. absurd (false≢true t)) (λ s. All-nil _) (λ over. ap (λ c. c.quits) core ∙ over)
+    (λ s. rw (opened, ap (λ c. c.seats) core, used, listening) (among-same x.links.opened.items x.core.seats x.used x.listening a b same s))
+    (λ t s on. rw (append-nil a.taken, clock, opened, used, ran) (s.told (call.told t) (sym (ap (λ c. c.quits) core) ∙ on)))
+    (λ t s. record {
+      events = [];
+      reaches = rw ran (Reaches-none x.core.quits y.core.quits x.ran);
+      rises = (let q = ap (λ c. c.starved) core in omega arith);
+      advances = λ fed below. Advances-same (moment x a) (moment y b) (ap (λ c. c.seats) core) (ap (λ c. c.quits) core) used (sent t) (choked t) [] (call.taken t) [] (ap (λ c. stays (state_of c)) (sym core));
+    })
+
+closes-by : (x y : Headless) (a b : Seen) → Stands x a → Wakes 0 x y a b → (t : Bool) → b.tells ≡ t → ClosesExactly x y a b
+closes-by x y a b s w true told =
+    let goes = w.continues.goes told s in
+    record {
+      gained = w.continues.gained;
+      taken = w.continues.taken;
+      events = goes.events;
+      reaches = λ t. goes.reaches;
+      closed = λ t fed below. w.closed ∙ sym w.none ∙ sym (goes.advances fed below).closes;
+    }
+closes-by x y a b s w false told = record {
+  gained = w.continues.gained;
+  taken = w.continues.taken;
+  events = [];
+  reaches = λ t. absurd (false≢true (sym told ∙ t));
+  closed = λ t. absurd (false≢true (sym told ∙ t));
+}
+
+-- where the wait failed, nothing is closed
+pub closes-unwoken : (x y : Headless) (a b : Seen) → Stands x a → Wakes 0 x y a b → ClosesExactly x y a b
+closes-unwoken x y a b s w = closes-by x y a b s w b.tells refl
+
+-- ---- how the turn ends
+
+pub OnOk-get : {A : Type 0} (r : Result A Fault) (P : Type 0) → is_err r ≡ false → OnOk r P → P
+OnOk-get (Ok v) P e h = h
+OnOk-get (Err f) P e h = absurd (false≢true (sym e))
+
+pub OnErr-get : {A : Type 0} (r : Result A Fault) (P : Type 0) → is_err r ≡ true → OnErr r P → P
+OnErr-get (Ok v) P e h = absurd (false≢true e)
+OnErr-get (Err f) P e h = h
+
+pub Continues-then : {A : Type 0} (r : Result A Fault) (quits : Bool) (then : Then) (x z : Headless) (a c : Seen) → then ≡ then_of r quits → Continues false 1 (faults_of r) x z a c → Continues false (waits_then then) (faults_then then) x z a c
+Continues-then (Err f) quits then x z a c e h = rw e h
+Continues-then (Ok v) true then x z a c e h = rw e h
+Continues-then (Ok v) false then x z a c e h = rw e h
+
+pub goes-on : {A : Type 0} (r : Result A Fault) (quits : Bool) (then : Then) → then ≡ then_of r quits → then ≡ GoOn → (is_err r ≡ false) × (quits ≡ false)
+goes-on (Err f) quits then e q = cc
+goes-on (Ok v) true then e q = cc
+goes-on (Ok v) false then e q = (refl, refl)
+
+pub quits-by : {A : Type 0} (r : Result A Fault) (quits : Bool) (then : Then) → then ≡ then_of r quits → then ≡ Quit → quits ≡ true
+quits-by (Err f) quits then e q = cc
+quits-by (Ok v) true then e q = refl
+quits-by (Ok v) false then e q = cc

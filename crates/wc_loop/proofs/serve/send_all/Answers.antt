@@ -1,0 +1,32 @@
+use Rattle.std.proofs.Common.{inl, ◌∙◌, sym, arith}
+use Rattle.wc_loop.proofs.TurnLemmas.{Continues-trans}
+use Rattle.wc_loop.proofs.CloseLemmas.{Continues-refl}
+use Rattle.wc_loop.proofs.SourceLemmas.{later-of}
+use Rattle.wc_loop.proofs.ServeLemmas.{sent-next, sent-rest, Nothing-refl, Nothing-trans}
+use Rattle.wc_loop.proofs.serve.send_all.Goals as goal
+
+pub loop-link-init : goal.loop-link-init
+loop-link-init g c = record { continues = Continues-refl _ _; calm = c.requires.calm; quits = c.requires.quit; sent = λ k one low. absurd (omega arith); nothing = Nothing-refl _ }
+
+pub send_link-requires : goal.send_link-requires
+send_link-requires g c = record { missed = inl c.loop-link.invariant.quits }
+
+pub loop-link-preserved : goal.loop-link-preserved
+loop-link-preserved g c =
+    let i = c.loop-link.invariant in
+    let e = c.send_link.ensures in
+    let seen = g.S.Sockets.seen in
+    record {
+      continues = Continues-trans c.args.headless.now c.loop-link.headless c.send_link.new.headless (seen c.args.sockets.now) (seen c.loop-link.sockets) (seen c.send_link.new.sockets) i.continues e.continues;
+      calm = e.leaving ∙ i.calm;
+      quits = e.quits ∙ i.quits;
+      sent = λ k one most. sent-next k c.loop-link.last c.in-Some.link.0 c.loop-link.headless.core.seats c.send_link.new.headless.core.seats (seen c.args.sockets.now) (seen c.loop-link.sockets) (seen c.send_link.new.sockets)
+          (later-of _ _ i.continues) (later-of _ _ e.continues) i.continues.counts e.continues.counts (i.sent k one) (λ p q. rw c.seats.ensures at (c.in-Some.ensures.between k p q)) (λ n. (e.unsent k n, e.others k n)) e.done most;
+      nothing = Nothing-trans _ (seen c.loop-link.sockets) _ (later-of _ _ e.continues) i.nothing e.nothing;
+    }
+
+pub returns-clause-sent : goal.returns-clause-sent
+returns-clause-sent g c = λ k one.
+    let i = c.loop-link.invariant in
+    let seen = g.S.Sockets.seen in
+    sent-rest k c.loop-link.last c.loop-link.headless.core.seats (seen c.args.sockets.now) (seen c.loop-link.sockets) (i.sent k one) (λ above. rw c.seats.ensures at (c.next_unsent.ensures.none c.in_default.is k above))

@@ -1,0 +1,34 @@
+-- How a turn waits, and how it ends.
+use Rattle.std.specs.Prelude.{ℕ, ◌≡◌, ◌==◌, Bool, true, false, ◌||◌, if◌then◌else◌, [], Result, Ok, Err}
+use Rattle.std.specs.List.{list_any}
+use Rattle.wc_outside.specs.Seen.{Seen}
+use Rattle.wc_outside.specs.declared.failed.Failed.{Failed as Fault}
+use Rattle.wc_loop.specs.declared.headless.Headless.{Headless}
+use Rattle.wc_loop.specs.declared.then.Then.{Then}
+use Rattle.wc_loop.specs.declared.then.Then.TheVariants.{GoOn, Quit, ListenFault}
+use Rattle.wc_loop.specs.Served.{IsCalm}
+use Rattle.wc_loop.specs.Sources.{TakesNothing}
+use Rattle.wc_loop.specs.Turns.{Continues}
+
+-- whether a source was reported ready and is not drained
+abbrev pub has_undrained : Headless → Bool
+has_undrained headless = headless.listening || list_any (λ state. state.undrained) headless.links.opened.items
+
+-- how long a wait may take, in milliseconds
+abbrev pub timeout_of : Headless → ℕ
+timeout_of headless = if headless.turns == 0 || has_undrained headless then 0 else 100
+
+-- how a turn ends whose wait returned
+abbrev pub then_of : {A : Type 0} → Result A Fault → Bool → Then
+then_of (Err fault) quits = ListenFault
+then_of (Ok done) true = Quit
+then_of (Ok done) false = GoOn
+
+-- so many waits return, and a turn begins
+pub record Wakes (waits : ℕ) (old new : Headless) (before after : Seen) : Type 0 where
+  pub continues : Continues false waits 0 old new before after
+  pub none : continues.closed ≡ []
+  pub closed : new.links.closed.items ≡ []
+  pub calm : IsCalm new.core.seats
+  pub going : new.core.quits ≡ false
+  pub nothing : TakesNothing before after
