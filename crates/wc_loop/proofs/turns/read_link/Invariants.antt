@@ -1,0 +1,20 @@
+use Rattle.std.proofs.Common.{◌≡◌, ◌+◌, ◌≤◌, false, true, length, IsTrue}
+use Rattle.wc_loop.specs.Parts.{ReadsOn}
+use Rattle.wc_loop.specs.Served.{IsCalm}
+use Rattle.wc_loop.specs.Sources.{bytes_taken}
+use Rattle.wc_loop.specs.Turns.{Continues}
+use Rattle.wc_loop.proofs.turns.read_link.Given as goal
+
+abbrev pub invariant-loop-left : goal.invariant-loop-left
+invariant-loop-left g l = record {
+  continues : Continues true 0 0 l.fn.headless l.headless (g.S.Sockets.seen l.fn.sockets) (g.S.Sockets.seen l.sockets);
+  calm : IsCalm l.headless.core.seats;
+  going : l.headless.core.quits ≡ false;
+  reads : ReadsOn l.link.0 (g.S.Sockets.seen l.fn.sockets) (g.S.Sockets.seen l.sockets);
+  size : length l.buffer ≡ 16384;
+  most : l.left ≤ 1048576;
+  bytes : IsTrue (g.S.Sockets.seen l.sockets).tells → bytes_taken l.link.0 (g.S.Sockets.seen l.sockets).taken + l.left ≡ bytes_taken l.link.0 (g.S.Sockets.seen l.fn.sockets).taken + 1048576;
+}
+
+abbrev pub decreases-loop-left : goal.decreases-loop-left
+decreases-loop-left g l = l.left
