@@ -1,5 +1,5 @@
 -- Whom the steps close.
-use Rattle.std.proofs.Common.{◌≡◌, ℕ, Bool, true, false, cond, eqb, ◌⊎◌, inl, inr, List, [], ◌∷◌, ◌++◌, Option, Some, None, refl, ap, sym, ◌∙◌, nat_lt}
+use Rattle.std.proofs.Common.{◌≡◌, ℕ, Bool, true, false, cond, eqb, ◌⊎◌, inl, inr, List, [], ◌∷◌, Option, Some, None, refl, ap, sym, ◌∙◌, nat_lt}
 use Rattle.wc_text.specs.declared.names.Cause.{Cause}
 use Rattle.wc_text.specs.declared.names.Cause.TheVariants.{NoMemory}
 use Rattle.wc_objects.specs.declared.object.WireMessage.{WireMessage}
@@ -8,9 +8,9 @@ use Rattle.wc_session.specs.declared.outcome.Outcome.{Outcome}
 use Rattle.wc_session.specs.declared.outcome.Outcome.TheVariants as outcome
 use Rattle.wc_core.specs.Typed.{Typed, Nothing, Prints, Quits, typed_line, parted}
 use Rattle.wc_core.specs.State.{State, Stepped}
-use Rattle.wc_core.specs.Step.{stays, then_does, sends, prints, prints_text, next_line, last_handle, does, is_quit, runs, follows, lost}
-use Rattle.wc_core.specs.Served.{or_else, close_of, StaysOrStarves}
-use Rattle.wc_core.proofs.DidLemmas.{or_else-none, close_of-append, ClosesLater}
+use Rattle.wc_core.specs.Step.{stays, then_does, sends, prints, next_line, last_handle, does, is_quit, runs, follows, lost}
+use Rattle.wc_core.specs.Served.{or_else, close_of, StaysOrStarves, LeavesBy}
+use Rattle.wc_core.proofs.DidLemmas.{close_of-append, ClosesLater}
 use Rattle.wc_core.proofs.SeatLemmas.{close-sends, close-told}
 
 closes_none-if : (j : ℕ) (b : Bool) (x y : Stepped) → close_of j x.acts ≡ None → close_of j y.acts ≡ None → close_of j (cond b x y).acts ≡ None
@@ -59,3 +59,9 @@ lost-closes j k state (Some client) = by (eqb k j) where
 pub lost-starves : (j k : ℕ) (state : State) (o : Option Client) (before after : Option Cause) → (after ≡ or_else before (close_of j (lost state k NoMemory o).acts)) ⊎ StaysOrStarves before after → StaysOrStarves before after
 lost-starves j k state o before after (inl e) = starve_else before (close_of j (lost state k NoMemory o).acts) after (lost-closes j k state o) e
 lost-starves j k state o before after (inr e) = e
+
+-- the cause for which a client that was open is leaving
+pub leaves_for : (before closes after : Option Cause) (why : Cause) → LeavesBy before closes after → before ≡ None → after ≡ Some why → (closes ≡ Some why) ⊎ (why ≡ NoMemory)
+leaves_for before closes after why (inl e) none some = inl (ap (λ o. or_else o closes) (sym none) ∙ sym e ∙ some)
+leaves_for before closes after why (inr (inl e)) none some = absurd (cc)
+leaves_for before closes after why (inr (inr e)) none some = inr (cc)

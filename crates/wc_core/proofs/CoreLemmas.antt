@@ -1,5 +1,5 @@
 -- What each of the core's calls does.
-use Rattle.std.proofs.Common.{◌≡◌, ◌≢◌, ℕ, ◌+◌, ◌-◌, ◌^◌, ◌<◌, ◌≤◌, Bool, true, false, cond, eqb, List, [], ◌∷◌, ◌++◌, length, inl, inr, Option, Some, None, IsSome, refl, ap, sym, subst, ◌∙◌, arith, append-nil, nat_lt, set, get_or, min, filter, Result, Ok, Err, IfSome}
+use Rattle.std.proofs.Common.{◌≡◌, ℕ, ◌+◌, ◌-◌, ◌^◌, ◌<◌, ◌≤◌, true, false, List, [], ◌∷◌, ◌++◌, length, inl, inr, Option, Some, None, refl, ap, sym, subst, ◌∙◌, arith, append-nil, nat_lt, set, get_or, min, filter, IfSome}
 use Rattle.std.specs.Prelude.{map}
 use Rattle.std.proofs.lemmas.Bool.{false≢true}
 use Rattle.std.proofs.lemmas.Bool.Decides.{nat_tests}
@@ -26,14 +26,14 @@ use Rattle.wc_session.specs.Served.{OnServed, OnNoMemory, Answers}
 use Rattle.wc_core.specs.declared.seat.Seat.{Seat}
 use Rattle.wc_core.specs.Standing.{Standing}
 use Rattle.wc_core.specs.Typed.{Typed, Quits}
-use Rattle.wc_core.specs.State.{State, Stepped}
-use Rattle.wc_core.specs.Step.{client_link, client_limit, stays, sends, prints, prints_text, next_line, line_at, does, last_handle, leaves, lost, arrives, follows, answers, asked, line_came}
-use Rattle.wc_core.specs.Served.{seat_link, links_of, is_open, is_open_at, clients_of, state_of, unsent_in, unsent_on, leaving_in, leaving_on, Absent, Distinct, Did, StaysOrStarves, Keeps, MayDo, Came, MayCome, Starves, told_seat, SeatsKept, OutcomeUtf8}
+use Rattle.wc_core.specs.State.{Stepped}
+use Rattle.wc_core.specs.Step.{client_link, client_limit, sends, prints, prints_text, next_line, line_at, does, last_handle, leaves, lost, arrives, follows, answers, asked, line_came}
+use Rattle.wc_core.specs.Served.{seat_link, is_open, is_open_at, clients_of, state_of, unsent_on, leaving_on, Distinct, StaysOrStarves, MayDo, MayCome, Starves, told_seat, OutcomeUtf8}
 use Rattle.wc_core.proofs.CloseLemmas.{reply-later, lost-starves}
-use Rattle.wc_core.proofs.DidLemmas.{or_else-none, or-true, Did-stays, Did-then, Keeps-refl, Keeps-trans, Keeps-seats, MayDo-exact, MayDo-stays, MayDo-starved, MayDo-then}
-use Rattle.wc_core.proofs.SeatLemmas.{open-length, clients-push, links-push, unsent-push, leaving-push, kept-push, SeatsKept-causes, client-open, client-missing, client-leaving}
+use Rattle.wc_core.proofs.DidLemmas.{or_else-none, or-true, Did-stays, Keeps-refl, Keeps-trans, Keeps-seats, MayDo-exact, MayDo-stays, MayDo-starved, MayDo-then}
+use Rattle.wc_core.proofs.SeatLemmas.{SeatsKept, open-length, clients-push, links-push, unsent-push, leaving-push, kept-push, SeatsKept-causes, client-open, client-missing, client-leaving}
 use Rattle.wc_core.proofs.ServeLemmas.{open_none, Did-prints, Keeps-told, Keeps-put, Did-reply, Did-leave, leaving-put}
-use Rattle.wc_core.proofs.ReplyLemmas.{Fits, reply_fits}
+use Rattle.wc_core.proofs.ReplyLemmas.{reply_fits}
 
 -- ---- want of memory
 
@@ -266,16 +266,18 @@ came-surplus old link nonce full =
       rises = omega arith;
       seats = refl;
       kept = λ j some. refl;
+      cause = rw test (inl refl);
       comes = λ stay below. rw test (record { state = refl; bytes = λ j. refl; leaving = λ j. refl; quits = refl; acts = refl });
     }
 
-pub came-starved : (old new : Standing) (link : LinkId) (why : Cause) (nonce : List ℕ) → new ≡ record old { starved = min (old.starved + 1) (2 ^ 64 - 1) } → old.starved ≤ new.starved → MayCome link.0 old new (Some why) (arrives (state_of old) link.0 nonce)
-came-starved old new link why nonce e rises =
+pub came-starved : (old new : Standing) (link : LinkId) (nonce : List ℕ) → new ≡ record old { starved = min (old.starved + 1) (2 ^ 64 - 1) } → old.starved ≤ new.starved → MayCome link.0 old new (Some NoMemory) (arrives (state_of old) link.0 nonce)
+came-starved old new link nonce e rises =
     let count : new.starved ≡ min (old.starved + 1) (2 ^ 64 - 1) = ap (λ (c : Standing). c.starved) e in
     record {
       rises = rises;
       seats = ap (λ (c : Standing). c.seats) e;
       kept = λ j some. ap (λ (c : Standing). at_key seat_link j c.seats) e;
+      cause = inr refl;
       comes = λ same below. absurd (omega arith);
     }
 
@@ -289,6 +291,7 @@ came old link nonce few =
       rises = omega arith;
       seats = links-push old.seats seat;
       kept = λ j some. kept-push j old.seats seat some;
+      cause = tt;
       comes = λ stay below. rw test (record {
         state = rw (clients-push old.seats (new_session link nonce)) refl;
         bytes = λ j. unsent-push j old.seats seat refl;

@@ -1,5 +1,5 @@
 -- How what is done follows one another.
-use Rattle.std.proofs.Common.{◌≡◌, ℕ, ◌+◌, ◌-◌, ◌^◌, ◌<◌, ◌≤◌, Bool, true, false, List, [], ◌∷◌, ◌++◌, ◌⊎◌, inl, inr, Option, Some, None, IsSome, refl, ap, sym, subst, ◌∙◌, ◌||◌, arith, append-nil, append_assoc, min}
+use Rattle.std.proofs.Common.{◌≡◌, ℕ, ◌≤◌, Bool, true, false, List, [], ◌∷◌, ◌++◌, inl, inr, Option, Some, None, IsSome, refl, ap, sym, subst, ◌∙◌, ◌||◌, arith, append-nil, append_assoc}
 use Rattle.std.specs.Prelude.{map}
 use Rattle.wc_text.specs.declared.names.Cause.{Cause}
 use Rattle.wc_text.specs.declared.names.Cause.TheVariants.{NoMemory}

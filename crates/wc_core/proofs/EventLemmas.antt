@@ -1,5 +1,5 @@
 -- The event of a line, and the seats that it is told to.
-use Rattle.std.proofs.Common.{◌≡◌, ℕ, Bool, true, false, cond, ◌&&◌, ◌||◌, inl, inr, List, [], ◌∷◌, ◌++◌, Option, Some, None, refl, ap, sym, ◌∙◌, append-nil}
+use Rattle.std.proofs.Common.{◌≡◌, ℕ, Bool, true, false, cond, ◌&&◌, ◌||◌, inl, inr, List, [], ◌∷◌, ◌++◌, Some, refl, ap, sym, subst, ◌∙◌, append-nil}
 use Rattle.std.specs.Prelude.{map}
 use Rattle.std.specs.List.{flat_map, list_any}
 use Rattle.wc_text.specs.declared.names.Cause.TheVariants.{NoMemory}
@@ -11,8 +11,8 @@ use Rattle.wc_session.specs.Sending.{spelling}
 use Rattle.wc_session.specs.Sync.{follows_core}
 use Rattle.wc_session.proofs.SendingLemmas.{event_sends, told_none}
 use Rattle.wc_core.specs.declared.seat.Seat.{Seat}
-use Rattle.wc_core.specs.Served.{is_open, listens, heard_seat, starved_seat, told_seat, SeatKept, SeatsKept}
-use Rattle.wc_core.proofs.SeatLemmas.{SeatKept-refl}
+use Rattle.wc_core.specs.Served.{is_open, listens, heard_seat, starved_seat, told_seat, SeatServed, SeatsServed}
+use Rattle.wc_core.proofs.SeatLemmas.{SeatKept, SeatsKept, SeatKept-refl, told-link}
 
 -- ---- one seat
 
@@ -59,6 +59,12 @@ starved_kept seat = by (listens seat) refl where
   by true e = record { link = refl; kept = λ deaf. absurd (cc); cause = inr refl }
   by false e = SeatKept-refl seat
 
+told_kept : (line : Line) (seat : Seat) → SeatKept seat (told_seat line seat)
+told_kept line seat = record { link = told-link line seat; kept = told_deaf line seat; cause = inl (same (is_open seat)) } where
+  same : (b : Bool) → (cond b (record seat { session = record seat.session { unsent = seat.session.unsent ++ flat_map (λ m. spelling m) (line_told seat.session.client line) } }) seat).leaving ≡ seat.leaving
+  same true = refl
+  same false = refl
+
 -- ---- all seats
 
 pub all_deaf : (line : Line) (seats : List Seat) → list_any (λ seat. listens seat) seats ≡ false → seats ≡ map (told_seat line) seats
@@ -72,6 +78,32 @@ pub all_heard : (event : List ℕ) (line : Line) (seats : List Seat) → IsEvent
 all_heard event line [] is = refl
 all_heard event line (seat ∷ seats) is = ap (λ s. s ∷ map (heard_seat event) seats) (told_heard event line seat is) ∙ ap (λ ss. told_seat line seat ∷ ss) (all_heard event line seats is)
 
-pub starved_all : (seats : List Seat) → SeatsKept seats (map starved_seat seats)
-starved_all [] = tt
-starved_all (seat ∷ seats) = (starved_kept seat, starved_all seats)
+pub served_map : (service : Seat → Seat) (seats : List Seat) → SeatsServed service seats (map service seats)
+served_map service [] = tt
+served_map service (seat ∷ seats) = (inl refl, served_map service seats)
+
+pub served_starved : (service : Seat → Seat) (seats : List Seat) → SeatsServed service seats (map starved_seat seats)
+served_starved service [] = tt
+served_starved service (seat ∷ seats) = (inr refl, served_starved service seats)
+
+-- who was told the event was told the line
+pub served_heard : (event : List ℕ) (line : Line) (old new : List Seat) → IsEventOf event line → SeatsServed (heard_seat event) old new → SeatsServed (told_seat line) old new
+served_heard event line [] [] is served = tt
+served_heard event line [] (b ∷ new) is served = absurd served
+served_heard event line (a ∷ old) [] is served = absurd served
+served_heard event line (a ∷ old) (b ∷ new) is served = (one served.0, served_heard event line old new is served.1) where
+  one : SeatServed (heard_seat event) a b → SeatServed (told_seat line) a b
+  one (inl e) = inl (e ∙ told_heard event line a is)
+  one (inr e) = inr e
+
+pub served_kept : (line : Line) (old new : List Seat) → SeatsServed (told_seat line) old new → SeatsKept old new
+served_kept line [] [] served = tt
+served_kept line [] (b ∷ new) served = absurd served
+served_kept line (a ∷ old) [] served = absurd served
+served_kept line (a ∷ old) (b ∷ new) served = (one served.0, served_kept line old new served.1) where
+  P : Seat → Type 0
+  P s = SeatKept a s
+
+  one : SeatServed (told_seat line) a b → SeatKept a b
+  one (inl e) = subst P (sym e) (told_kept line a)
+  one (inr e) = subst P (sym e) (starved_kept a)

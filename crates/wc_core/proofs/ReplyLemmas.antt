@@ -1,8 +1,7 @@
 -- A request leaves its client on its link, and what it types is text.
-use Rattle.std.proofs.Common.{◌≡◌, ℕ, Bool, true, false, cond, not, ◌&&◌, ◌||◌, List, [], ◌∷◌, Option, Some, refl, sym, ap, subst}
+use Rattle.std.proofs.Common.{◌≡◌, ℕ, Bool, true, false, cond, not, ◌&&◌, ◌||◌, List, [], ◌∷◌, Option, refl}
 use Rattle.std.specs.Option.{is_none}
 use Rattle.std.specs.Str.{IsUtf8}
-use Rattle.wc_text.specs.declared.names.LinkId.{LinkId}
 use Rattle.wc_text.specs.declared.names.Pair.{Pair}
 use Rattle.wc_text.specs.declared.names.Cause.TheVariants as cause
 use Rattle.wc_lines.specs.declared.line.Line.{Line}
@@ -12,7 +11,6 @@ use Rattle.wc_relaycmd.specs.declared.request.Request.{Request}
 use Rattle.wc_relaycmd.specs.Utf8.{CommandUtf8, HasUtf8}
 use Rattle.wc_objects.specs.declared.object.WireMessage.{WireMessage}
 use Rattle.wc_session.specs.declared.client.Client.{Client}
-use Rattle.wc_session.specs.declared.outcome.Outcome.{Outcome}
 use Rattle.wc_session.specs.declared.outcome.Outcome.TheVariants as outcome
 use Rattle.wc_session.specs.Handshakes.{choice_in, asks_escapes}
 use Rattle.wc_session.specs.Logins.{pairs_let_in}

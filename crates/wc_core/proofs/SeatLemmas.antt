@@ -1,5 +1,5 @@
 -- Seats, and the clients that sit on them.
-use Rattle.std.proofs.Common.{◌≡◌, ◌≢◌, ℕ, ◌<◌, Bool, true, false, cond, ◌&&◌, eqb, List, [], ◌∷◌, ◌++◌, ◌⊎◌, inl, inr, Option, Some, None, IsSome, refl, ap, sym, subst, ◌∙◌, arith, zero, suc, length, filter, get_or, set, take, drop, ◌+◌, append-nil, append_assoc}
+use Rattle.std.proofs.Common.{◌≡◌, ℕ, ◌<◌, ◌≤◌, Bool, true, false, cond, ◌&&◌, eqb, List, [], ◌∷◌, ◌++◌, inl, inr, Option, Some, None, IsSome, refl, ap, sym, subst, ◌∙◌, arith, zero, suc, length, filter, get_or, set, take, drop, ◌+◌, append-nil}
 use Rattle.std.specs.Prelude.{map, not}
 use Rattle.std.specs.Option.{is_none}
 use Rattle.std.specs.List.{flat_map}
@@ -17,9 +17,9 @@ use Rattle.wc_session.specs.Reply.{line_told}
 use Rattle.wc_session.specs.Sync.{follows_core}
 use Rattle.wc_session.specs.Sending.{spelling}
 use Rattle.wc_core.specs.declared.seat.Seat.{Seat}
-use Rattle.wc_core.specs.State.{Act, Sends}
+use Rattle.wc_core.specs.State.{Act}
 use Rattle.wc_core.specs.Step.{client_link, sends, told_to}
-use Rattle.wc_core.specs.Served.{seat_link, is_open, StaysOrStarves, listens, heard_seat, clients_of, unsent_in, unsent_on, leaving_in, leaving_on, sent_by, sent_to, close_of, has_end, Absent, Distinct, told_seat, SeatKept, SeatsKept}
+use Rattle.wc_core.specs.Served.{seat_link, is_open, StaysOrStarves, listens, heard_seat, clients_of, unsent_in, unsent_on, leaving_in, leaving_on, sent_to, close_of, has_end, Absent, Distinct, starved_seat, told_seat, SeatServed, SeatsServed}
 use Rattle.wc_core.proofs.DidLemmas.{sent_to-append, close_of-append, has_end-append}
 
 -- ---- messages for one client
@@ -89,7 +89,7 @@ sent-absent j line (seat ∷ seats) absent = by (is_open seat) (sent-absent j li
   by true more = acts_more j line seat (clients_of seats) ∙ ap (λ t. cond t (told_text line seat) no_bytes ++ sent_to j (told_acts line seats)) (other_link (seat_link seat) j absent.0) ∙ more
   by false more = more
 
-told-link : (line : Line) (seat : Seat) → seat_link (told_seat line seat) ≡ seat_link seat
+pub told-link : (line : Line) (seat : Seat) → seat_link (told_seat line seat) ≡ seat_link seat
 told-link line seat = by (is_open seat) where
   by : (b : Bool) → seat_link (cond b (heard line seat) seat) ≡ seat_link seat
   by true = refl
@@ -150,6 +150,18 @@ told-bytes j line (seat ∷ seats) distinct = by (is_open seat) (told-bytes j li
   by false more = kept-bytes (eqb (seat_link seat) j) seat (at_key seat_link j (map (told_seat line) seats)) (at_key seat_link j seats) (sent_to j (told_acts line seats)) none more
 
 -- ---- seats where memory may have been refused
+
+-- a client that events are not for is left alone, and another one leaves for want of memory at most
+pub record SeatKept (old new : Seat) : Type 0 where
+  pub link : seat_link new ≡ seat_link old
+  pub kept : listens old ≡ false → new ≡ old
+  pub cause : StaysOrStarves old.leaving new.leaving
+
+abbrev pub SeatsKept : List Seat → List Seat → Type 0
+SeatsKept [] [] = Unit {0}
+SeatsKept [] (b ∷ new) = ⊥
+SeatsKept (a ∷ old) [] = ⊥
+SeatsKept (a ∷ old) (b ∷ new) = SeatKept a b × SeatsKept old new
 
 pub SeatsKept-links : (old new : List Seat) → SeatsKept old new → map seat_link new ≡ map seat_link old
 SeatsKept-links [] [] kept = refl
@@ -213,35 +225,45 @@ SeatsKept-causes j (a ∷ old) (b ∷ new) kept =
 pub SeatKept-refl : (a : Seat) → SeatKept a a
 SeatKept-refl a = record { link = refl; kept = λ deaf. refl; cause = inl refl }
 
-pub starves_more : (a b c : Option Cause) → StaysOrStarves a b → StaysOrStarves b c → StaysOrStarves a c
-starves_more a b c (inl f) (inl g) = inl (g ∙ f)
-starves_more a b c (inr f) (inl g) = inr (g ∙ f)
-starves_more a b c (inl f) (inr g) = inr g
-starves_more a b c (inr f) (inr g) = inr g
+-- the first seats are served, and the others as they were
+abbrev pub ServedTo : (Seat → Seat) → ℕ → List Seat → List Seat → Type 0
+ServedTo service zero old now = now ≡ old
+ServedTo service (suc i) [] [] = Unit {0}
+ServedTo service (suc i) [] (b ∷ now) = ⊥
+ServedTo service (suc i) (a ∷ old) [] = ⊥
+ServedTo service (suc i) (a ∷ old) (b ∷ now) = SeatServed service a b × ServedTo service i old now
 
-SeatKept-trans : (a b c : Seat) → SeatKept a b → SeatKept b c → SeatKept a c
-SeatKept-trans a b c f g = record {
-  link = g.link ∙ f.link;
-  kept = λ deaf.
-      let same = f.kept deaf in
-      let P : Seat → Type 0 = λ s. listens s ≡ false in
-      g.kept (subst P (sym same) deaf) ∙ same;
-  cause = starves_more a.leaving b.leaving c.leaving f.cause g.cause;
-}
+pub served_by : (service : Seat → Seat) (x y : Seat) (b : Bool) → (b ≡ true → y ≡ service x) → (b ≡ false → y ≡ starved_seat x) → SeatServed service x y
+served_by service x y true f g = inl (f refl)
+served_by service x y false f g = inr (g refl)
 
-pub SeatsKept-refl : (seats : List Seat) → SeatsKept seats seats
-SeatsKept-refl [] = tt
-SeatsKept-refl (a ∷ seats) = (SeatKept-refl a, SeatsKept-refl seats)
+served_more : (service : Seat → Seat) (i : ℕ) (old now : List Seat) (x y : Seat) → ServedTo service i old now → i < length now → x ≡ get_or now i x → SeatServed service x y → ServedTo service (suc i) old (set now i y)
+served_more service zero old [] x y to inside at one = absurd (omega arith)
+served_more service zero [] (b ∷ now) x y to inside at one = absurd (cc)
+served_more service zero (a ∷ old) (b ∷ now) x y to inside at one =
+    let same : x ≡ a = cc in
+    let P : Seat → Type 0 = λ s. SeatServed service s y in
+    (subst P same one, cc)
+served_more service (suc i) [] [] x y to inside at one = tt
+served_more service (suc i) [] (b ∷ now) x y to inside at one = absurd to
+served_more service (suc i) (a ∷ old) [] x y to inside at one = absurd to
+served_more service (suc i) (a ∷ old) (b ∷ now) x y to inside at one = (to.0, served_more service i old now x y to.1 (omega arith) at one)
 
--- one seat more was told
-pub SeatsKept-set : (old now : List Seat) (i : ℕ) (x y : Seat) → SeatsKept old now → i < length now → x ≡ get_or now i x → SeatKept x y → SeatsKept old (set now i y)
-SeatsKept-set [] [] i x y kept inside e one = tt
-SeatsKept-set [] (b ∷ now) i x y kept inside e one = absurd kept
-SeatsKept-set (a ∷ old) [] i x y kept inside e one = absurd kept
-SeatsKept-set (a ∷ old) (b ∷ now) zero x y kept inside e one =
-    let P : Seat → Type 0 = λ s. SeatKept s y in
-    (SeatKept-trans a b y kept.0 (subst P e one), kept.1)
-SeatsKept-set (a ∷ old) (b ∷ now) (suc i) x y kept inside e one = (kept.0, SeatsKept-set old now i x y kept.1 (omega arith) e one)
+-- one seat more was served
+pub served_next : (service : Seat → Seat) (i k : ℕ) (old now : List Seat) (x y : Seat) → k ≡ suc i → ServedTo service i old now → i < length now → x ≡ get_or now i x → SeatServed service x y → ServedTo service k old (set now i y)
+served_next service i k old now x y e to inside at one =
+    let P : ℕ → Type 0 = λ n. ServedTo service n old (set now i y) in
+    subst P (sym e) (served_more service i old now x y to inside at one)
+
+-- all were
+pub served_whole : (service : Seat → Seat) (i : ℕ) (old now : List Seat) → length old ≤ i → ServedTo service i old now → SeatsServed service old now
+served_whole service zero [] [] all to = tt
+served_whole service zero [] (b ∷ now) all to = absurd (cc)
+served_whole service zero (a ∷ old) now all to = absurd (omega arith)
+served_whole service (suc i) [] [] all to = tt
+served_whole service (suc i) [] (b ∷ now) all to = absurd to
+served_whole service (suc i) (a ∷ old) [] all to = absurd to
+served_whole service (suc i) (a ∷ old) (b ∷ now) all to = (to.0, served_whole service i old now (omega arith) to.1)
 
 -- what the seats are once one more was told an event
 pub tell_more : (event : List ℕ) (old now : List Seat) (i : ℕ) (x y : Seat) (told heard : Bool) → x ≡ get_or now i x

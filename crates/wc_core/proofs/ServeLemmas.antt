@@ -1,5 +1,5 @@
 -- What the core's calls do, against the steps.
-use Rattle.std.proofs.Common.{◌≡◌, ◌≢◌, ℕ, ◌+◌, ◌-◌, ◌<◌, ◌≤◌, Bool, true, false, cond, eqb, List, [], ◌∷◌, ◌++◌, length, Option, Some, None, IsSome, refl, ap, sym, subst, ◌∙◌, ◌||◌, arith, append-nil, append_assoc, nat_lt}
+use Rattle.std.proofs.Common.{◌≡◌, ◌≢◌, ℕ, ◌+◌, ◌≤◌, Bool, true, false, cond, eqb, List, [], ◌∷◌, ◌++◌, Option, Some, None, IsSome, refl, ap, sym, subst, ◌∙◌, ◌||◌, arith, append-nil}
 use Rattle.std.specs.Prelude.{map}
 use Rattle.std.specs.List.{flat_map}
 use Rattle.std.specs.Option.{is_none, option_copied}
@@ -9,26 +9,22 @@ use Rattle.std.specs.Borrow.{Bor}
 use Rattle.std.proofs.lemmas.Bool.{false≢true}
 use Rattle.std.proofs.lemmas.Bool.Decides.{nat_tests}
 use Rattle.wc_text.specs.declared.names.Cause.{Cause}
-use Rattle.wc_text.specs.declared.names.Cause.TheVariants.{Surplus}
-use Rattle.wc_outside.specs.Keyed.{at_key, put_at, without}
-use Rattle.wc_outside.proofs.KeyedLemmas.{at_key-key, at_key-put_other, at_key-put_same, at_key-push_other}
+use Rattle.wc_outside.specs.Keyed.{at_key, put_at}
+use Rattle.wc_outside.proofs.KeyedLemmas.{at_key-key, at_key-put_other, at_key-put_same}
 use Rattle.wc_lines.specs.declared.line.Line.{Line}
-use Rattle.wc_lines.specs.Held.{Held}
 use Rattle.wc_lines.specs.Ring.{with_line}
 use Rattle.wc_objects.specs.declared.object.WireMessage.{WireMessage}
-use Rattle.wc_session.specs.declared.client.Client.{Client}
-use Rattle.wc_session.specs.Known.{Known, new_session}
+use Rattle.wc_session.specs.Known.{Known}
 use Rattle.wc_session.specs.Sending.{spelling}
 use Rattle.wc_core.specs.declared.seat.Seat.{Seat}
 use Rattle.wc_core.specs.Standing.{Standing}
-use Rattle.wc_core.specs.Typed.{Typed, typed_line, parted}
+use Rattle.wc_core.specs.Typed.{typed_line}
 use Rattle.wc_core.specs.TypedSeen.{lines_left}
-use Rattle.wc_core.specs.State.{State, Act, Stepped, Sends, Closes}
-use Rattle.wc_core.specs.Step.{client_link, client_limit, stays, then_does, sends, told_to, prints, does, is_quit, runs, leaves, lost, arrives}
-use Rattle.wc_core.specs.Served.{seat_link, links_of, is_open, clients_of, state_of, unsent_in, unsent_on, leaving_in, leaving_on, sent_to, or_else, close_of, has_end, Absent, Distinct, Did, Keeps, MayDo, Came, MayCome, told_seat, SeatsKept}
-use Rattle.wc_core.proofs.DidLemmas.{or_else-none, or-false, Keeps-refl, Keeps-trans, MayDo-then, MayDo-exact}
+use Rattle.wc_core.specs.Step.{client_link, sends, prints, does, is_quit, runs, leaves}
+use Rattle.wc_core.specs.Served.{seat_link, links_of, is_open, clients_of, state_of, unsent_in, unsent_on, leaving_in, leaving_on, or_else, Distinct, Did, Keeps, MayDo, told_seat}
+use Rattle.wc_core.proofs.DidLemmas.{or_else-none, or-false, MayDo-then}
 use Rattle.wc_core.proofs.CloseLemmas.{typed-later}
-use Rattle.wc_core.proofs.SeatLemmas.{sent-sends, close-sends, end-sends, close-told, end-told, told-links, told-clients, told-leaving, told-bytes, SeatsKept-links, SeatsKept-leaving, absent-client, client-open, client-missing, client-leaving, clients-put, clients-leave}
+use Rattle.wc_core.proofs.SeatLemmas.{SeatsKept, sent-sends, close-sends, end-sends, close-told, end-told, told-clients, told-leaving, told-bytes, SeatsKept-links, SeatsKept-leaving, clients-put, clients-leave}
 
 -- ---- a line that is printed
 

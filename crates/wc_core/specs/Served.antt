@@ -1,5 +1,5 @@
 -- How the core follows what it is to do.
-use Rattle.std.specs.Prelude.{◌≡◌, ℕ, ◌+◌, ◌-◌, ◌^◌, ◌<◌, ◌≤◌, Bool, true, false, ◌||◌, ◌&&◌, ◌⊎◌, is_none, IsTrue, is_some, if◌then◌else◌, ◌==◌, List, [], ◌∷◌, ◌++◌, map, min, drop, Option, Some, None, IsSome}
+use Rattle.std.specs.Prelude.{◌≡◌, ℕ, ◌+◌, ◌-◌, ◌^◌, ◌<◌, ◌≤◌, Bool, true, false, ◌||◌, ◌&&◌, ◌⊎◌, is_none, IfSome, if◌then◌else◌, ◌==◌, List, [], ◌∷◌, ◌++◌, map, min, drop, Option, Some, None, IsSome}
 use Rattle.wc_text.specs.declared.names.LinkId.{LinkId}
 use Rattle.wc_text.specs.declared.names.Cause.{Cause}
 use Rattle.wc_text.specs.declared.names.Cause.TheVariants.{NoMemory}
@@ -203,6 +203,8 @@ pub record MayCome (link : ℕ) (old new : Standing) (refused : Option Cause) (s
   pub rises : old.starved ≤ new.starved
   pub seats : seats_after old.seats new.seats link refused
   pub kept : (other : ℕ) → IsSome (leaving_on other old.seats) → at_key seat_link other new.seats ≡ at_key seat_link other old.seats
+  -- it is refused for the cause that the step's acts give, or for want of memory
+  pub cause : IfSome refused (λ why. (stepped.acts ≡ Closes link why ∷ []) ⊎ (why ≡ NoMemory))
   pub comes : new.starved ≡ old.starved → old.starved < 2 ^ 64 - 1 → Came link old new refused stepped
 
 -- ---- a line that is told
@@ -215,7 +217,7 @@ listens seat = is_open seat && follows_core seat.session.client
 abbrev pub heard_seat : List ℕ → Seat → Seat
 heard_seat event seat = if is_open seat then record seat { session = with_event event seat.session } else seat
 
--- a seat where no memory is found for an event
+-- a seat where no memory is found for an event: its client leaves, where the event is for it
 abbrev pub starved_seat : Seat → Seat
 starved_seat seat = if listens seat then record seat { leaving = Some NoMemory } else seat
 
@@ -224,18 +226,15 @@ abbrev pub told_seat : Line → Seat → Seat
 told_seat line seat =
     if is_open seat then record seat { session = record seat.session { unsent = seat.session.unsent ++ flat_map (λ m. spelling m) (line_told seat.session.client line) } } else seat
 
--- a seat where memory may have been refused: a client that events are not for is left alone, and another one leaves for
--- want of memory at most
-pub record SeatKept (old new : Seat) : Type 0 where
-  pub link : seat_link new ≡ seat_link old
-  pub kept : listens old ≡ false → new ≡ old
-  pub cause : StaysOrStarves old.leaving new.leaving
+-- a seat behind this service of it, or one whose client leaves for want of memory, where the service was for it
+abbrev pub SeatServed : (Seat → Seat) → Seat → Seat → Type 0
+SeatServed service old new = (new ≡ service old) ⊎ (new ≡ starved_seat old)
 
-abbrev pub SeatsKept : List Seat → List Seat → Type 0
-SeatsKept [] [] = Unit {0}
-SeatsKept [] (b ∷ new) = ⊥
-SeatsKept (a ∷ old) [] = ⊥
-SeatsKept (a ∷ old) (b ∷ new) = SeatKept a b × SeatsKept old new
+abbrev pub SeatsServed : (Seat → Seat) → List Seat → List Seat → Type 0
+SeatsServed service [] [] = Unit {0}
+SeatsServed service [] (b ∷ new) = ⊥
+SeatsServed service (a ∷ old) [] = ⊥
+SeatsServed service (a ∷ old) (b ∷ new) = SeatServed service a b × SeatsServed service old new
 
 -- the text that was typed is UTF-8
 abbrev pub OutcomeUtf8 : Outcome → Type 0

@@ -2,7 +2,7 @@ ghost use Rattle.std.specs.Prelude.{◌≡◌, ◌==◌, true, false, length, fi
 ghost use Rattle.std.specs.List.{list_any};
 ghost use Rattle.wc_outside.specs.Keyed.{PlaceOf, without};
 ghost use Rattle.wc_lines.specs.LineText.{HasText};
-ghost use Rattle.wc_core.specs.Served.{seat_link, is_open, departure_of, listens, heard_seat, starved_seat, told_seat, SeatKept, SeatsKept};
+ghost use Rattle.wc_core.specs.Served.{seat_link, is_open, departure_of, listens, heard_seat, starved_seat, told_seat, SeatsServed};
 
 use std::alloc::Global;
 use wc_lines::Line;
@@ -41,7 +41,6 @@ impl Seat {
     fn tell(&mut self, event: &LineEvent) -> bool
         ensures told { result ≡ true → self.new ≡ heard_seat event.now self.old }
         ensures starved { result ≡ false → self.new ≡ starved_seat self.old }
-        ensures kept { SeatKept self.old self.new }
     {
         if !self.listens() {
             return true;
@@ -73,7 +72,7 @@ fn some_listens(seats: &[Seat]) -> bool
 /// Tells the event of a new line to each client that it is for. False where one finds no memory for it.
 fn tell_all(seats: &mut [Seat], event: &LineEvent) -> bool
     ensures told { result ≡ true → seats.new ≡ map (heard_seat event.now) seats.old }
-    ensures kept { SeatsKept seats.old seats.new }
+    ensures each { SeatsServed (heard_seat event.now) seats.old seats.new }
 {
     let mut told = true;
     for seat in seats.iter_mut() {
@@ -97,7 +96,7 @@ fn starve_all(seats: &mut [Seat])
 pub fn tell_line(seats: &mut [Seat], alloc: Global, line: &Line) -> bool
     requires { HasText line.now }
     ensures told { result ≡ true → seats.new ≡ map (told_seat line.now) seats.old }
-    ensures kept { SeatsKept seats.old seats.new }
+    ensures each { SeatsServed (told_seat line.now) seats.old seats.new }
 {
     if !some_listens(seats) {
         return true;

@@ -1,10 +1,17 @@
 -- The lines of a configuration, one behind another.
-use Rattle.std.proofs.Common.{◌≡◌, ℕ, ◌+◌, List, [], ◌∷◌, Some, None, Result, Ok, Err, IfOk, IsErrOf, sym, ap, ◌∙◌}
+use Rattle.std.proofs.Common.{◌≡◌, ℕ, ◌+◌, ◌≤◌, Bool, true, false, cond, nat_le, ◌&&◌, ◌||◌, List, [], ◌∷◌, Option, Some, None, Result, Ok, Err, IfOk, IfSome, IsErrOf, refl, sym, ap, ◌∙◌, arith}
+use Rattle.std.specs.Prelude.{bytes_eq, codes}
 use Rattle.std.specs.Option.{option_map_or}
-use Rattle.wc_options.specs.File.{lines_of}
+use Rattle.std.specs.Str.{is_utf8}
+use Rattle.std.proofs.lemmas.Bool.Decides.{nat_tests}
+use Rattle.wc_options.specs.Config.{is_passed_over}
+use Rattle.wc_options.specs.File.{lines_of, parted}
+use Rattle.wc_options.specs.Number.{number_in, number_of, within}
+use Rattle.wc_options.specs.Values.{value_fits}
+use Rattle.wc_options.specs.declared.kind.Kind.TheVariants.{Text}
 use Rattle.wc_options.specs.declared.refusal.ConfigRefused.TheVariants.{BadLine}
 use Rattle.wc_loop.specs.declared.configuration.Settings.{Settings}
-use Rattle.wc_loop.specs.Configuration.{behind_line, behind_lines}
+use Rattle.wc_loop.specs.Configuration.{behind_line, behind_lines, first_settings, is_version_line, settings_in, with_limit, with_line, with_parts, with_password}
 
 pub bad-line : (number : ℕ) (settings : Settings) (line bytes rest : List ℕ) (whole : Result Settings ℕ) → lines_of bytes ≡ line ∷ lines_of rest → None ≡ behind_line number settings line
     → behind_lines number settings (lines_of bytes) ≡ whole → whole ≡ Err number
@@ -21,3 +28,58 @@ ok-kept (Err x) given whole h e = h
 
 pub bad-number : {T : Type 0} (number n : ℕ) → IsErrOf {T = T} (Err (BadLine number)) (BadLine n) → number ≡ n
 bad-number number n e = cc
+
+-- ---- no limit is above 4,096
+
+within-most : (lowest highest n : ℕ) (o : Option ℕ) → within lowest highest o ≡ Some n → n ≤ highest
+within-most lowest highest n None e = cc
+within-most lowest highest n (Some m) e = go (nat_le lowest m) (nat_le m highest) refl e
+  where
+    go : (b c : Bool) → nat_le m highest ≡ c → cond (b && c) (Some m) None ≡ Some n → n ≤ highest
+    go true true f q = (let same : m ≡ n = cc in grind (arith, nat_tests))
+    go true false f q = cc
+    go false c f q = cc
+
+number-most : (lowest highest n : ℕ) (text : List ℕ) → number_in lowest highest text ≡ Some n → n ≤ highest
+unfolding number_in
+number-most lowest highest n text e = within-most lowest highest n (number_of text) e
+
+Most : Option Settings → Type 0
+Most o = IfSome o (λ settings. settings.limit ≤ 4096)
+
+most-if : (b : Bool) (o p : Option Settings) → Most o → Most p → Most (cond b o p)
+most-if true o p h g = h
+most-if false o p h g = g
+
+limit-most : (settings : Settings) (o : Option ℕ) → ((n : ℕ) → o ≡ Some n → n ≤ 4096) → Most (with_limit settings o)
+unfolding Most
+limit-most settings None h = tt
+limit-most settings (Some n) h = h n refl
+
+parts-most : (settings : Settings) (o : Option (List ℕ × List ℕ)) → settings.limit ≤ 4096 → Most (with_parts settings o)
+unfolding Most
+parts-most settings None h = tt
+parts-most settings (Some parts) h =
+    most-if (bytes_eq parts.0 (codes "relay.network.password")) (with_password settings parts.1) (cond (bytes_eq parts.0 (codes "weechat.history.max_buffer_lines_number")) (with_limit settings (number_in 1 4096 parts.1)) None)
+    (most-if (value_fits Text parts.1) (Some (record settings { password = parts.1 })) None h tt)
+    (most-if (bytes_eq parts.0 (codes "weechat.history.max_buffer_lines_number")) (with_limit settings (number_in 1 4096 parts.1)) None (limit-most settings (number_in 1 4096 parts.1) (λ n e. number-most 1 4096 n parts.1 e)) tt)
+
+line-most : (number : ℕ) (settings : Settings) (line : List ℕ) → settings.limit ≤ 4096 → Most (behind_line number settings line)
+unfolding Most
+line-most number settings line h =
+    most-if (is_passed_over line || is_version_line number line) (Some settings) (with_line settings line) h
+    (most-if (is_utf8 line) (with_parts settings (parted line)) None (parts-most settings (parted line) h) tt)
+
+lines-most : (number : ℕ) (settings : Settings) (lines : List (List ℕ)) → settings.limit ≤ 4096 → IfOk (behind_lines number settings lines) (λ settings. settings.limit ≤ 4096)
+unfolding Most
+lines-most number settings [] h = h
+lines-most number settings (line ∷ lines) h = go (behind_line number settings line) (line-most number settings line h) (λ behind most. lines-most (number + 1) behind lines most)
+  where
+    go : (o : Option Settings) → Most o → ((behind : Settings) → behind.limit ≤ 4096 → IfOk (behind_lines (number + 1) behind lines) (λ settings. settings.limit ≤ 4096))
+        → IfOk (option_map_or (λ behind. behind_lines (number + 1) behind lines) o (Err number)) (λ settings. settings.limit ≤ 4096)
+    go None most more = tt
+    go (Some behind) most more = more behind most
+
+pub settings-most : (text : List ℕ) → IfOk (settings_in text) (λ settings. settings.limit ≤ 4096)
+unfolding settings_in
+settings-most text = lines-most 1 first_settings (lines_of text) (omega arith)

@@ -13,6 +13,7 @@ pub mod KeyedLemmas
 pub mod LeastLemmas
 pub mod LineLemmas
 pub mod LinkLemmas
+pub mod MirrorLemmas
 pub mod OutcomeLemmas
 pub mod PartLemmas
 pub mod PointLemmas

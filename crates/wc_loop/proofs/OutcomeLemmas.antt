@@ -1,5 +1,5 @@
 -- What a run comes to, by its words.
-use Rattle.std.proofs.Common.{◌≡◌, ◌≢◌, ℕ, ◌≤◌, Bool, true, false, not, IsTrue, List, [], Option, Some, None, Result, Ok, Err, IfOk, IfSome, refl, sym, ap, subst, ◌∙◌, arith}
+use Rattle.std.proofs.Common.{◌≡◌, ◌≢◌, ℕ, ◌≤◌, Bool, true, false, not, IsTrue, All, List, [], Option, Some, None, Result, Ok, Err, IfOk, IfSome, refl, sym, ap, subst, ◌∙◌, arith}
 use Rattle.std.proofs.lemmas.Bool.{false≢true}
 use Rattle.std.specs.Io.KnownBytes.{append_known}
 use Rattle.wc_outside.specs.Seen.{Seen, IsNew}
@@ -8,7 +8,7 @@ use Rattle.wc_loop.specs.declared.ending.Ending.{Ending}
 use Rattle.wc_loop.specs.declared.words.Wish.{Wish}
 use Rattle.wc_loop.specs.Headline.{Headline}
 use Rattle.wc_loop.specs.Sources.{AllServed, AllSent}
-use Rattle.wc_loop.specs.Turns.{wakes}
+use Rattle.wc_loop.specs.Turns.{wakes, IsCaused}
 use Rattle.wc_loop.specs.Endings.{LastOf, StatusOf, StatusFor, IsNumber, IsLast, HasCause, WaitsAtMost, AsksNothing, RunsBy, RunsFor, asks_turns, asks_version, asked_in, asked_by, printed, status_of, number_of, tells_version}
 
 status_for : (b : Bool) (turns : ℕ) (contents : Option (List ℕ)) (k k' : ℕ) (before after : Seen) (ending : Ending) (last : Option Headless) → RunsFor b turns contents k k' before after ending last → StatusFor b turns contents after (status_of ending) last
@@ -77,6 +77,10 @@ untouched (Ok wish) contents k k' before after ending last r e = untouched_for w
 pub IfSome-headline : (last : Option Headless) (contents : Option (List ℕ)) (before after : Seen) → IfSome last (IsLast contents before after) → IfSome last (Headline contents after)
 IfSome-headline None contents before after left = tt
 IfSome-headline (Some last) contents before after left = left.headline
+
+pub IfSome-causes : (last : Option Headless) (contents : Option (List ℕ)) (before after : Seen) → IfSome last (IsLast contents before after) → IfSome last (λ last. All (IsCaused before after) last.links.closed.items)
+IfSome-causes None contents before after left = tt
+IfSome-causes (Some last) contents before after left = left.causes
 
 pub printed-by : (version version' : Bool) (status number : ℕ) (before after : Option (List ℕ)) → version ≡ version' → after ≡ append_known before (printed version status number) → after ≡ append_known before (printed version' status number)
 printed-by version version' status number before after e h = subst (λ v. after ≡ append_known before (printed v status number)) e h

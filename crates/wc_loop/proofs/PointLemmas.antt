@@ -106,7 +106,7 @@ fresh_by k came used false e next o o' h =
 
 -- a client comes, or its link is refused
 pub Advances-comes : (a b : Moment) (closed : List Closed) (events : List Event) → b.used ≡ a.used + 1 → state_of b.core ≡ (run (state_of a.core) events).state → ((k : ℕ) → sent_to k (run (state_of a.core) events).acts ≡ [])
-    → ((k : ℕ) → unsent_on k b.core.seats ≡ unsent_on k a.core.seats) → ((k : ℕ) → (nat_le k (a.used + 1) && is_none (at_key seat_link k b.core.seats)) ≡ (nat_le k a.used && is_none (at_key seat_link k a.core.seats)) ) → b.core.quits ≡ a.core.quits → has_end (run (state_of a.core) events).acts ≡ false
+    → ((k : ℕ) → unsent_on k b.core.seats ≡ unsent_on k a.core.seats) → ((k : ℕ) → (nat_le k (a.used + 1) && is_none (at_key seat_link k b.core.seats)) ≡ (nat_le k a.used && is_none (at_key seat_link k a.core.seats))) → b.core.quits ≡ a.core.quits → has_end (run (state_of a.core) events).acts ≡ false
     → ((k : ℕ) → b.sent k ≡ a.sent k) → ((k : ℕ) → b.choked k ≡ a.choked k) → (more : List Happening) → b.taken ≡ a.taken ++ more → closings (run (state_of a.core) events).acts ≡ closed → Advances a b closed events
 Advances-comes a b closed events used state owed bytes gone quits ends sent choked more taken closes = record {
   state = state;

@@ -8,7 +8,7 @@ use Rattle.wc_text.specs.declared.names.LinkId.{LinkId}
 use Rattle.wc_text.specs.declared.names.Cause.{Cause}
 use Rattle.wc_outside.specs.Seen.{Seen}
 use Rattle.wc_outside.specs.declared.happening.Happening.{Happening}
-use Rattle.wc_outside.specs.declared.happening.Happening.TheVariants.{Read}
+use Rattle.wc_outside.specs.declared.happening.Happening.TheVariants.{Read, Accepted, ListenFailed}
 use Rattle.wc_outside.specs.Keyed.{at_key}
 use Rattle.wc_core.specs.declared.seat.Seat.{Seat}
 use Rattle.wc_core.specs.Served.{seat_link, unsent_in, unsent_on, is_open, is_open_at, leaving_in, left_at}
@@ -85,3 +85,10 @@ spares-left link why seats k calm n = spares-by (at_key seat_link link.0 seats) 
     spares-by : (o : Option Seat) → at_key seat_link link.0 seats ≡ o → Spares k (leaving_closes (left_at link.0 why seats o))
     spares-by None e = rw (calm-left link why seats None e calm) (All-nil (λ (c : Closed). closed_number c ≢ k))
     spares-by (Some s) e = rw (calm-left link why seats (Some s) e calm) (All-cons (λ (c : Closed). closed_number c ≢ k) (record { link = link; cause = why }) [] (λ q. n (sym q)) (All-nil (λ (c : Closed). closed_number c ≢ k)))
+
+-- a client came, and none came where the listener failed
+pub arrived-one : (link : LinkId) (nonce : List ℕ) (before after : List Happening) → after ≡ before ++ Accepted link nonce ∷ [] → arrivals after ≡ arrivals before + 1
+arrived-one link nonce before after e = (let all = ap arrivals e in let parts = arrivals-append before (Accepted link nonce ∷ []) in omega arith)
+
+pub arrived-none : (before after : List Happening) → after ≡ before ++ ListenFailed ∷ [] → arrivals after ≡ arrivals before + 0
+arrived-none before after e = (let all = ap arrivals e in let parts = arrivals-append before (ListenFailed ∷ []) in omega arith)

@@ -7,15 +7,12 @@ use Rattle.wc_outside.specs.Seen.{Seen}
 use Rattle.wc_outside.specs.declared.failed.Failed.{Failed as Fault}
 use Rattle.wc_outside.specs.declared.happening.Happening.{Happening}
 use Rattle.wc_outside.specs.declared.happening.Happening.TheVariants.{Woke}
-use Rattle.wc_core.specs.Standing.{Standing}
 use Rattle.wc_core.specs.Step.{stays}
 use Rattle.wc_core.specs.Served.{state_of}
 use Rattle.wc_loop.specs.declared.headless.Headless.{Headless}
 use Rattle.wc_loop.specs.declared.then.Then.{Then}
 use Rattle.wc_loop.specs.declared.then.Then.TheVariants.{GoOn, Quit}
-use Rattle.wc_loop.specs.Events.{is_event}
 use Rattle.wc_loop.specs.Sources.{bytes_taken, arrivals, TakesNothing, TakesWithin}
-use Rattle.wc_loop.specs.Steps.{woken}
 use Rattle.wc_loop.specs.Turns.{Stands, Continues, ClosesExactly, moment, waits_then, faults_then, faults_of}
 use Rattle.wc_loop.specs.Waits.{then_of, Wakes}
 use Rattle.wc_loop.proofs.PointLemmas.{Advances-same}
@@ -44,23 +41,9 @@ Within-none a b h = record {
   clients = λ t. (let same = h.clients t in omega arith);
 }
 
--- ---- the core behind a wait
+-- ---- a wait failed
 
-pub woken-seats : (last : Option ℕ) (m : ℕ) (core : Standing) → (woken last m core).seats ≡ core.seats
-woken-seats last m core = go (is_event last m)
-  where
-    go : (b : Bool) → (cond b (record core { moment = m }) core).seats ≡ core.seats
-    go true = refl
-    go false = refl
-
-pub woken-quits : (last : Option ℕ) (m : ℕ) (core : Standing) → (woken last m core).quits ≡ core.quits
-woken-quits last m core = go (is_event last m)
-  where
-    go : (b : Bool) → (cond b (record core { moment = m }) core).quits ≡ core.quits
-    go true = refl
-    go false = refl
-
--- a wait failed, and the links that the turn before closed are forgotten
+-- the links that the turn before closed are forgotten
 unfoldable pub Continues-unwoken : (x y : Headless) (a b : Seen) → y.core ≡ x.core → y.clock ≡ x.clock → y.used ≡ x.used → y.listening ≡ x.listening → y.turns ≡ x.turns → y.ran ≡ x.ran → y.links.opened.items ≡ x.links.opened.items
     → Call a b [] → (IsTrue b.tells → (k : ℕ) → b.sent k ≡ a.sent k) → (IsTrue b.tells → (k : ℕ) → b.choked k ≡ a.choked k) → SameSets a b → Continues false 0 0 x y a b
 Continues-unwoken x y a b core clock used listening turns ran opened call sent choked same =

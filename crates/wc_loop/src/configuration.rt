@@ -3,7 +3,9 @@ ghost use Rattle.std.specs.Str.{is_utf8};
 ghost use Rattle.wc_loop.specs.Configuration.{seen_settings, with_value, with_parts, with_line, behind_line, is_version_line, settings_in};
 
 use std::alloc::Global;
-use wc_options::{ConfigRefused, Kind, VERSION_LINE, first_line, is_passed_over, number_in, part_line};
+use wc_options::{
+    ConfigRefused, Kind, VERSION_LINE, first_line, is_passed_over, number_in, part_line,
+};
 use wc_text::{NoMemory, Text};
 
 /// The option that holds the password of clients.

@@ -3,7 +3,7 @@ ghost use Rattle.std.specs.Io.KnownBytes.{append_known};
 ghost use Rattle.wc_outside.specs.Faults.{Rose};
 ghost use Rattle.wc_outside.specs.Seen.{IsNew};
 ghost use Rattle.wc_loop.specs.Endings.{LastOf, StatusOf, WaitsAtMost, Prints, IsEarly, HasCause, Runs, RunsBy, asks_turns, asked_by, EndsAt, kept_of, number_of, printed, status_of, tells_version};
-ghost use Rattle.wc_loop.specs.Headline.{Headline, IsFirst, IsConfigured};
+ghost use Rattle.wc_loop.specs.Headline.{Headline, Mirrored, IsFirst, IsConfigured};
 ghost use Rattle.wc_loop.specs.Served.{IsCalm};
 ghost use Rattle.wc_loop.specs.Sources.{AllServed, AllSent};
 ghost use Rattle.wc_loop.specs.Words.{wish_of};
@@ -210,6 +210,7 @@ pub fn run_program<S: Sockets, K: Keeper, O: Sink>(
 ) -> Ended
     requires { IsNew (S.seen sockets.old) }
     ensures headline { IfSome result.last (Headline (K.contents keeper.old) (S.seen sockets.new)) }
+    ensures mirrored { IfSome result.last (Mirrored (K.contents keeper.old) (S.seen sockets.new)) }
     ensures status { result.status ≢ 7 → StatusOf (wish_of (map string_bytes words.now.items)) (K.contents keeper.old) (S.seen sockets.new) result.status result.last }
     ensures printed { result.status ≢ 7 → Prints (wish_of (map string_bytes words.now.items)) (K.contents keeper.old) result.status (O.contents out.old) (O.contents out.new) }
     ensures last { LastOf (S.seen sockets.new) result.last }

@@ -1,7 +1,9 @@
+use crate::headless::Headless;
 use crate::program::run_program;
+use crate::serve::serve_tokens;
 use std::alloc::Global;
 use std::test::Fail;
-use wc_outside::{MemoryKeeper, MemorySink, MemorySockets, Scripted};
+use wc_outside::{MemoryKeeper, MemorySink, MemorySockets, Ready, Scripted, Sockets, Token};
 use wc_text::{Items, LinkId, NoMemory, Text};
 
 const PONG: &[u8] = b"\x00\x00\x00\x22\x00\x00\x00\x00\x05_pongstr\x00\x00\x00\x0d1480802456789";
@@ -9,6 +11,13 @@ const PONG: &[u8] = b"\x00\x00\x00\x22\x00\x00\x00\x00\x05_pongstr\x00\x00\x00\x
 const EMPTY_PONG: &[u8] = b"\x00\x00\x00\x15\x00\x00\x00\x00\x05_pongstr\x00\x00\x00\x00";
 
 const CONFIGURATION: &str = "relay.network.password = x\n";
+
+/// What each client is to salt its password with.
+const NONCE: [u8; 16] = *b"abcdbcdecdefdefg";
+
+/// The event of a first line that says `hello`.
+const HELLO: &[u8] =
+    b"\0\0\0\xdb\0\0\0\0\x12_buffer_line_addedhda\0\0\0\x09line_data\0\0\0\x77buffer:ptr,date:tim,date_printed:tim,displayed:chr,notify_level:chr,highlight:chr,tags_array:arr,prefix:str,message:str\0\0\0\x01\x016\x011\x0a1700000000\x0a1700000000\x01\0\0str\0\0\0\0\0\0\0\0\0\0\0\x05hello";
 
 /// A run: its words, its configuration, what comes on its sockets, and the numbers of the calls of
 /// each part of the outside that fail.
@@ -29,6 +38,7 @@ struct Seen {
     has_last: bool,
     turns: u64,
     starved: u64,
+    lines: u32,
     is_open: bool,
     sent: Text,
     printed: Text,
@@ -58,7 +68,7 @@ fn words(alloc: Global, text: &str) -> Result<Vec<String>, Fail> {
 fn one_client(alloc: Global, bytes: &[u8], piece: usize) -> Result<Items<Scripted>, NoMemory> {
     let mut script = Items::new(alloc);
     script.push(Scripted::Wake(1_700_000_000_000))?;
-    script.push(Scripted::Arrive([0; 16]))?;
+    script.push(Scripted::Arrive(NONCE))?;
     for part in bytes.chunks(piece.max(1)) {
         script.push(Scripted::Gives(LinkId(1), Text::from_slice(alloc, part)?))?;
         script.push(Scripted::Wake(1_700_000_000_050))?;
@@ -93,15 +103,16 @@ fn play(alloc: Global, stage: Stage) -> Result<Seen, Fail> {
     )?;
     let mut sink = MemorySink::new(alloc, failing(alloc, stage.sink_fault)?)?;
     let ended = run_program(alloc, &stage.words, &mut sockets, &mut keeper, &mut sink);
-    let (has_last, turns, starved) = match &ended.last {
-        Some(last) => (true, last.turns(), last.starved()),
-        None => (false, 0, 0),
+    let (has_last, turns, starved, lines) = match &ended.last {
+        Some(last) => (true, last.turns(), last.starved(), last.lines().len()),
+        None => (false, 0, 0, 0),
     };
     Ok(Seen {
         status: ended.status,
         has_last,
         turns,
         starved,
+        lines,
         is_open: sockets.is_open(LinkId(1)),
         sent: Text::from_slice(alloc, sockets.sent(LinkId(1)))?,
         printed: Text::from_slice(alloc, sink.contents())?,
@@ -117,7 +128,7 @@ struct Served {
     stays: bool,
 }
 
-const SERVED: [Served; 9] = [
+const SERVED: [Served; 15] = [
     Served {
         what: "a ping in whole lines",
         given: b"init password=x\nping 1480802456789\n",
@@ -145,6 +156,48 @@ const SERVED: [Served; 9] = [
         piece: 100,
         sent: b"",
         stays: true,
+    },
+    Served {
+        what: "one object of each kind",
+        given: b"init password=x\n(t) test\n",
+        piece: 100,
+        sent: b"\0\0\0\xb6\0\0\0\0\x01tchrAint\0\x01\xe2\x40int\xff\xfe\x1d\xc0lon\n1234567890lon\x0b-1234567890str\0\0\0\x08a stringstr\0\0\0\0str\xff\xff\xff\xffbuf\0\0\0\x06bufferbuf\xff\xff\xff\xffptr\x081234abcdptr\x010tim\n1321993456arrstr\0\0\0\x02\0\0\0\x03abc\0\0\0\x02dearrint\0\0\0\x03\0\0\0\x7b\0\0\x01\xc8\0\0\x03\x15",
+        stays: true,
+    },
+    Served {
+        what: "a dead pointer",
+        given: b"init password=x\n(h) hdata buffer:0xdead number\n",
+        piece: 100,
+        sent: b"\0\0\0\x19\0\0\0\0\x01hhda\xff\xff\xff\xff\xff\xff\xff\xff\0\0\0\0",
+        stays: true,
+    },
+    Served {
+        what: "the event of the first line",
+        given: b"init password=x\nsync\ninput core.weechat /print hello\n",
+        piece: 100,
+        sent: HELLO,
+        stays: true,
+    },
+    Served {
+        what: "the same byte by byte",
+        given: b"init password=x\nsync\ninput core.weechat /print hello\n",
+        piece: 1,
+        sent: HELLO,
+        stays: true,
+    },
+    Served {
+        what: "no algorithm that both have",
+        given: b"(h) handshake password_hash_algo=pbkdf2+sha256\nping\n",
+        piece: 100,
+        sent: b"\0\0\0\xc3\0\0\0\0\x01hhtbstrstr\0\0\0\x06\0\0\0\x12password_hash_algo\0\0\0\0\0\0\0\x18password_hash_iterations\0\0\0\x06100000\0\0\0\x04totp\0\0\0\x03off\0\0\0\x05nonce\0\0\0\x2061626364626364656364656664656667\0\0\0\x0bcompression\0\0\0\x03off\0\0\0\x0fescape_commands\0\0\0\x03off",
+        stays: false,
+    },
+    Served {
+        what: "a client that leaves, with what it was owed",
+        given: b"init password=x\nping\nquit\nping\n",
+        piece: 100,
+        sent: EMPTY_PONG,
+        stays: false,
     },
     Served {
         what: "a ping before the login",
@@ -222,7 +275,7 @@ struct Asked {
     printed: &'static str,
 }
 
-const ASKED: [Asked; 12] = [
+const ASKED: [Asked; 17] = [
     Asked {
         words: "-x",
         configuration: CONFIGURATION,
@@ -294,6 +347,36 @@ const ASKED: [Asked; 12] = [
         configuration: "config_version = 1\nrelay.network.password = ",
         status: 8,
         printed: "",
+    },
+    Asked {
+        words: "--turns 1",
+        configuration: "weechat.history.max_buffer_lines_number = 4096\nrelay.network.password = é",
+        status: 8,
+        printed: "",
+    },
+    Asked {
+        words: "--turns 1",
+        configuration: "relay.network.password = x\nweechat.history.max_buffer_lines_number = 0\n",
+        status: 4,
+        printed: "configuration line 2\n",
+    },
+    Asked {
+        words: "--turns 1",
+        configuration: "weechat.history.max_buffer_lines_number = 4097\n",
+        status: 4,
+        printed: "configuration line 1\n",
+    },
+    Asked {
+        words: "--turns 1",
+        configuration: "weechat.history.max_buffer_lines_number = 03\n",
+        status: 4,
+        printed: "configuration line 1\n",
+    },
+    Asked {
+        words: "--turns 1",
+        configuration: "relay.network.max_clients = 5\n",
+        status: 4,
+        printed: "configuration line 1\n",
     },
 ];
 
@@ -450,5 +533,106 @@ fn each_fault_of_the_outside_has_its_end(rt: HostRuntime) -> Result<(), Fail> {
         assert_eq!(rt; seen.is_open, row.is_open, "{what}");
         assert_eq!(rt; seen.printed.as_slice(), row.printed.as_bytes(), "{what}");
     }
+    Ok(())
+}
+
+/// A script of two clients, of which the first waits for events and the second gives these bytes.
+fn two_clients(alloc: Global, typed: &[u8]) -> Result<Items<Scripted>, NoMemory> {
+    let mut script = Items::new(alloc);
+    script.push(Scripted::Wake(1_700_000_000_000))?;
+    script.push(Scripted::Arrive(NONCE))?;
+    script.push(Scripted::Arrive(NONCE))?;
+    let follows = Text::from_slice(alloc, b"init password=x\nsync\n")?;
+    script.push(Scripted::Gives(LinkId(1), follows))?;
+    script.push(Scripted::Wake(1_700_000_000_050))?;
+    let typed = Text::from_slice(alloc, typed)?;
+    script.push(Scripted::Gives(LinkId(2), typed))?;
+    script.push(Scripted::Wake(1_700_000_000_060))?;
+    Ok(script)
+}
+
+#[test]
+fn what_one_client_types_is_told_to_another(rt: HostRuntime) -> Result<(), Fail> {
+    let alloc = rt.alloc();
+    let mut stage = serving(alloc, b"", 1)?;
+    stage.script = two_clients(alloc, b"init password=x\ninput core.weechat /print hello\n")?;
+    let seen = play(alloc, stage)?;
+    assert_eq!(rt; seen.status, 8);
+    assert_eq!(rt; seen.lines, 1);
+    assert_eq!(rt; seen.sent.as_slice(), HELLO);
+    Ok(())
+}
+
+#[test]
+fn quit_ends_the_run_behind_what_was_owed(rt: HostRuntime) -> Result<(), Fail> {
+    let alloc = rt.alloc();
+    let lines = b"init password=x\nping\ninput core.weechat /quit\nping\n";
+    let seen = play(alloc, serving(alloc, lines, 100)?)?;
+    assert_eq!(rt; seen.status, 0);
+    assert_eq!(rt; seen.turns, 2);
+    assert!(rt; seen.is_open);
+    assert_eq!(rt; seen.sent.as_slice(), EMPTY_PONG);
+    assert_eq!(rt; seen.printed.as_slice(), b"".as_slice());
+    Ok(())
+}
+
+#[test]
+fn as_many_lines_are_kept_as_the_configuration_says(rt: HostRuntime) -> Result<(), Fail> {
+    let alloc = rt.alloc();
+    let mut stage = serving(
+        alloc,
+        b"init password=x\ninput 0x1 a\ninput 0x1 b\ninput 0x1 c\ninput 0x1 d\n",
+        100,
+    )?;
+    stage.configuration = Text::from_slice(
+        alloc,
+        b"relay.network.password = x\nweechat.history.max_buffer_lines_number = 3\n",
+    )?;
+    let seen = play(alloc, stage)?;
+    assert_eq!(rt; seen.lines, 3);
+    Ok(())
+}
+
+/// A login by a salted hash, behind the handshake.
+const SALTED: &[u8] =
+    b"(h) handshake password_hash_algo=plain:sha256\ninit password_hash=sha256:6162636462636465636465666465666765666768666768696768696a68696a6b696a6b6c6a6b6c6d6b6c6d6e:248d6a61d20638b8e5c026930c3e6039a33ce45964ff2167f6ecedd419db06c1\nping\n";
+
+/// The reply to the handshake.
+const SHA256: &[u8] =
+    b"\0\0\0\xc9\0\0\0\0\x01hhtbstrstr\0\0\0\x06\0\0\0\x12password_hash_algo\0\0\0\x06sha256\0\0\0\x18password_hash_iterations\0\0\0\x06100000\0\0\0\x04totp\0\0\0\x03off\0\0\0\x05nonce\0\0\0\x2061626364626364656364656664656667\0\0\0\x0bcompression\0\0\0\x03off\0\0\0\x0fescape_commands\0\0\0\x03off";
+
+#[test]
+fn a_salted_hash_lets_in(rt: HostRuntime) -> Result<(), Fail> {
+    let alloc = rt.alloc();
+    let mut stage = serving(alloc, SALTED, 1000)?;
+    stage.configuration = Text::from_slice(alloc, b"relay.network.password = lmnomnopnopq")?;
+    let seen = play(alloc, stage)?;
+    let (handshake, rest) = seen.sent.as_slice().split_at(201);
+    assert_eq!(rt; handshake, SHA256);
+    assert_eq!(rt; rest, EMPTY_PONG);
+    assert!(rt; seen.is_open);
+    Ok(())
+}
+
+/// Sockets at which more clients wait than one turn takes.
+fn crowded(alloc: Global) -> Result<MemorySockets, NoMemory> {
+    let mut script = Items::new(alloc);
+    script.push(Scripted::Wake(1_700_000_000_000))?;
+    for _ in 0..1100u32 {
+        script.push(Scripted::Arrive(NONCE))?;
+    }
+    MemorySockets::new(alloc, script, Items::new(alloc), 0)
+}
+
+#[test]
+fn a_listener_that_is_named_twice_is_asked_once(rt: HostRuntime) -> Result<(), Fail> {
+    let alloc = rt.alloc();
+    let mut sockets = crowded(alloc)?;
+    let mut headless = Headless::new(alloc, Text::from_slice(alloc, b"x")?, 4096)?;
+    let mut ready = Ready::new();
+    assert!(rt; sockets.wait(0, &mut ready).is_ok());
+    let twice = [Token::Listener, Token::Listener];
+    assert!(rt; serve_tokens(&mut headless, &mut sockets, &twice).is_ok());
+    assert_eq!(rt; headless.ran(), 1024);
     Ok(())
 }

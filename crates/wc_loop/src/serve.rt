@@ -153,7 +153,7 @@ fn read_rest<S: Sockets>(headless: &mut Headless, sockets: &mut S, tokens: &[Tok
 
 /// Serves the sources that tokens name, in order and each once, unless `/quit` is run. The listener
 /// may fail.
-fn serve_tokens<S: Sockets>(
+pub(crate) fn serve_tokens<S: Sockets>(
     headless: &mut Headless,
     sockets: &mut S,
     tokens: &[Token],

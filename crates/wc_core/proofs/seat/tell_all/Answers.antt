@@ -1,20 +1,28 @@
-use Rattle.std.proofs.Common.{◌≡◌, ◌<◌, refl, arith, length, get_or, true}
+use Rattle.std.proofs.Common.{◌≡◌, ◌<◌, refl, arith, length, get_or, true, false}
 use Rattle.std.proofs.lemmas.List.{get_or_default}
-use Rattle.wc_core.specs.Served.{SeatKept, heard_seat}
-use Rattle.wc_core.proofs.SeatLemmas.{SeatsKept-refl, SeatsKept-set, tell_more}
+use Rattle.wc_core.specs.Served.{heard_seat, starved_seat}
+use Rattle.wc_core.proofs.SeatLemmas.{served_by, served_next, served_whole, tell_more}
 use Rattle.wc_core.proofs.seat.tell_all.Goals as goal
 
 pub loop-seat-init : goal.loop-seat-init
-loop-seat-init c = record { told = λ e. refl; kept = SeatsKept-refl _ }
+loop-seat-init c = record { told = λ e. refl; each = refl }
 
 pub loop-seat-preserved : goal.loop-seat-preserved
 loop-seat-preserved c =
-    let inside : c.loop-seat.seat-index < length c.loop-seat.seats = omega arith in
-    let x = get_or c.loop-seat.seats c.loop-seat.seat-index c.seat-item.result in
-    let at : x ≡ get_or c.loop-seat.seats c.loop-seat.seat-index x = get_or_default c.loop-seat.seats c.loop-seat.seat-index c.seat-item.result x inside in
-    let one : SeatKept x c.tell-heard.new.self = c.tell-heard.ensures.kept in
-    let hears : c.tell-heard.result ≡ true → c.tell-heard.new.self ≡ heard_seat c.args.event.now x = c.tell-heard.ensures.told in
+    let old = c.args.seats.now in
+    let now = c.loop-seat.seats in
+    let i = c.loop-seat.seat-index in
+    let service = heard_seat c.args.event.now in
+    let y = c.tell-heard.new.self in
+    let inside : i < length now = omega arith in
+    let x = get_or now i c.seat-item.result in
+    let at : x ≡ get_or now i x = get_or_default now i c.seat-item.result x inside in
+    let hears : c.tell-heard.result ≡ true → y ≡ service x = c.tell-heard.ensures.told in
+    let starves : c.tell-heard.result ≡ false → y ≡ starved_seat x = c.tell-heard.ensures.starved in
     record {
-      told = λ both. tell_more c.args.event.now c.args.seats.now c.loop-seat.seats c.loop-seat.seat-index x c.tell-heard.new.self c.loop-seat.told c.tell-heard.result at c.loop-seat.invariant.told hears (omega arith) both;
-      kept = SeatsKept-set c.args.seats.now c.loop-seat.seats c.loop-seat.seat-index x c.tell-heard.new.self c.loop-seat.invariant.kept inside at one;
+      told = λ both. tell_more c.args.event.now old now i x y c.loop-seat.told c.tell-heard.result at c.loop-seat.invariant.told hears (omega arith) both;
+      each = served_next service i _ old now x y (omega arith) c.loop-seat.invariant.each inside at (served_by service x y c.tell-heard.result hears starves);
     }
+
+pub returns-clause-each : goal.returns-clause-each
+returns-clause-each c = served_whole (heard_seat c.args.event.now) c.loop-seat.seat-index c.args.seats.now c.loop-seat.seats (omega arith) c.loop-seat.invariant.each

@@ -1,6 +1,7 @@
 use Rattle.std.proofs.Common.{ap, sym, ◌∙◌, arith}
-use Rattle.wc_loop.specs.Endings.{number_of}
-use Rattle.wc_loop.proofs.OutcomeLemmas.{IsNumber-runs, Common-runs, Waits-runs, IfSome-headline, printed-by}
+use Rattle.wc_loop.specs.Endings.{number_of, status_of}
+use Rattle.wc_loop.proofs.OutcomeLemmas.{IsNumber-runs, Common-runs, Waits-runs, IfSome-headline, IfSome-causes, printed-by}
+use Rattle.wc_loop.proofs.MirrorLemmas.{Mirrored-last}
 use Rattle.wc_loop.proofs.program.run_program.Goals as goal
 
 pub returns-clause-headline : goal.returns-clause-headline
@@ -9,15 +10,28 @@ returns-clause-headline g c =
     let common = Common-runs _ _ _ _ (seen c.args.sockets.now) (seen c.run_words-outcome.new.sockets) _ _ c.requires c.run_words-outcome.ensures.runs in
     rw c.end.ensures.last (IfSome-headline _ _ _ _ common.left)
 
+pub returns-clause-mirrored : goal.returns-clause-mirrored
+returns-clause-mirrored g c = Mirrored-last _ _ _
+
 pub returns-clause-waits : goal.returns-clause-waits
-returns-clause-waits g c = ?
+returns-clause-waits g c =
+    let seen = g.S.Sockets.seen in
+    let runs = rw c.as_slice.ensures.value at c.run_words-outcome.ensures.runs in
+    rw c.end.ensures.last (Waits-runs _ _ _ _ (seen c.args.sockets.now) (seen c.run_words-outcome.new.sockets) _ _ c.requires runs)
+
+pub returns-clause-causes : goal.returns-clause-causes
+returns-clause-causes g c =
+    let seen = g.S.Sockets.seen in
+    let common = Common-runs _ _ _ _ (seen c.args.sockets.now) (seen c.run_words-outcome.new.sockets) _ _ c.requires c.run_words-outcome.ensures.runs in
+    rw c.end.ensures.last (IfSome-causes _ _ _ _ common.left)
 
 pub returns-clause-printed : goal.returns-clause-printed
 returns-clause-printed g c = λ seven.
     let seen = g.S.Sockets.seen in
-    let common = Common-runs _ _ _ _ (seen c.args.sockets.now) (seen c.run_words-outcome.new.sockets) _ _ c.requires c.run_words-outcome.ensures.runs in
-    let is = IsNumber-runs _ _ _ _ _ _ _ _ (rw c.as_slice.ensures.value at c.run_words-outcome.ensures.runs) in
-    rw (c.end.ensures.status seven) (record { number = number_of c.run_words-outcome.result.ending; is = is; holds = ? })
+    let runs = rw c.as_slice.ensures.value at c.run_words-outcome.ensures.runs in
+    let common = Common-runs _ _ _ _ (seen c.args.sockets.now) (seen c.run_words-outcome.new.sockets) _ _ c.requires runs in
+    let is = IsNumber-runs _ _ _ _ _ _ _ _ runs in
+    rw (c.end.ensures.status seven) (record { number = number_of c.run_words-outcome.result.ending; is = is; holds = printed-by _ _ (status_of c.run_words-outcome.result.ending) (number_of c.run_words-outcome.result.ending) (g.O.Sink.contents c.args.out.now) (g.O.Sink.contents c.end.new.out) common.version (c.end.ensures.printed seven) })
 
 pub returns-clause-served : goal.returns-clause-served
 returns-clause-served g c = λ eight.

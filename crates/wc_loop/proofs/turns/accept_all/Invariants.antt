@@ -1,4 +1,4 @@
-use Rattle.std.proofs.Common.{◌≡◌, ◌+◌, ℕ, false, true, IsTrue}
+use Rattle.std.proofs.Common.{◌≡◌, ◌+◌, ℕ, true, false, IsTrue}
 use Rattle.wc_loop.specs.Served.{IsCalm}
 use Rattle.wc_loop.specs.Sources.{Falls, arrivals, bytes_taken}
 use Rattle.wc_loop.specs.Turns.{Continues}

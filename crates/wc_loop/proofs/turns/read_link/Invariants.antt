@@ -1,4 +1,4 @@
-use Rattle.std.proofs.Common.{◌≡◌, ◌+◌, ◌≤◌, false, true, length, IsTrue}
+use Rattle.std.proofs.Common.{◌≡◌, ◌+◌, ◌-◌, ◌≤◌, true, false, length, IsTrue}
 use Rattle.wc_loop.specs.Parts.{ReadsOn}
 use Rattle.wc_loop.specs.Served.{IsCalm}
 use Rattle.wc_loop.specs.Sources.{bytes_taken}
@@ -13,7 +13,7 @@ invariant-loop-left g l = record {
   reads : ReadsOn l.link.0 (g.S.Sockets.seen l.fn.sockets) (g.S.Sockets.seen l.sockets);
   size : length l.buffer ≡ 16384;
   most : l.left ≤ 1048576;
-  bytes : IsTrue (g.S.Sockets.seen l.sockets).tells → bytes_taken l.link.0 (g.S.Sockets.seen l.sockets).taken + l.left ≡ bytes_taken l.link.0 (g.S.Sockets.seen l.fn.sockets).taken + 1048576;
+  bytes : IsTrue (g.S.Sockets.seen l.sockets).tells → bytes_taken l.link.0 (g.S.Sockets.seen l.sockets).taken ≡ bytes_taken l.link.0 (g.S.Sockets.seen l.fn.sockets).taken + (1048576 - l.left);
 }
 
 abbrev pub decreases-loop-left : goal.decreases-loop-left

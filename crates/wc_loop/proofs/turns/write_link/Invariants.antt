@@ -1,4 +1,4 @@
-use Rattle.std.proofs.Common.{◌≡◌, ◌≢◌, ℕ, false, true, length}
+use Rattle.std.proofs.Common.{◌≡◌, ◌≢◌, ℕ, true, false, length}
 use Rattle.wc_core.specs.Served.{unsent_on}
 use Rattle.wc_loop.specs.Served.{IsCalm}
 use Rattle.wc_loop.specs.Sources.{Falls, IsWritten, TakesNothing}

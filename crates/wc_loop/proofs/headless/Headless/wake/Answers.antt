@@ -2,8 +2,8 @@ use Rattle.std.proofs.Common.{refl, ap, ◌∙◌, take}
 use Rattle.wc_loop.specs.Served.{leaving_closes}
 use Rattle.wc_loop.proofs.StepLemmas.{SameSets}
 use Rattle.wc_loop.proofs.TurnLemmas.{Continues-step}
-use Rattle.wc_loop.proofs.WaitLemmas.{Nothing-woke, Nothing-none, woken-seats, woken-quits, Continues-unwoken}
-use Rattle.wc_loop.proofs.WakeLemmas.{Continues-woke}
+use Rattle.wc_loop.proofs.WaitLemmas.{Nothing-woke, Nothing-none, Continues-unwoken}
+use Rattle.wc_loop.proofs.WakeLemmas.{Continues-woke, woken-seats, woken-quits}
 use Rattle.wc_loop.proofs.headless.Headless.wake.Goals as goal
 
 pub returns-in-Ok-clause-woken : goal.returns-in-Ok-clause-woken
@@ -13,9 +13,9 @@ returns-in-Ok-clause-woken g c =
     let seen = g.S.Sockets.seen in
     let core = c.report.ensures.core ∙ c.begin_turn.ensures.begins.core in
     record {
-      continues = Continues-woke c.args.self.now c.begin_turn.new.self c.report.new.self (seen c.args.sockets.now) (seen c.wait.new.self) c.in-Ok.moment (take c.wait.new.ready.count c.wait.new.ready.tokens) c.requires.going
-          (record { told = e.told; taken = e.taken; asked = e.asked; counts = e.counts }) e.sent e.choked e.used e.there e.undrained e.listening e.tokens c.begin_turn.ensures.begins c.report.ensures;
-      none = ?;
+      continues = Continues-woke c.args.self.now c.begin_turn.new.self c.report.new.self (seen c.args.sockets.now) (seen c.wait.new.self) c.in-Ok.moment (take c.wait.new.ready.count c.wait.new.ready.tokens)
+          (record { told = e.told; taken = e.taken; asked = e.asked; counts = e.counts }) e.sent e.choked e.used e.there e.undrained e.listening e.tokens c.requires.going c.begin_turn.ensures.begins c.report.ensures;
+      none = refl;
       closed = c.report.ensures.closed ∙ c.begin_turn.ensures.closed;
       calm = ap (λ s. leaving_closes s.seats) core ∙ ap leaving_closes (woken-seats c.args.self.now.clock c.in-Ok.moment c.args.self.now.core) ∙ c.requires.calm;
       going = ap (λ s. s.quits) core ∙ woken-quits c.args.self.now.clock c.in-Ok.moment c.args.self.now.core ∙ c.requires.going;

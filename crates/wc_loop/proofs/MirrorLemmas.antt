@@ -1,0 +1,102 @@
+-- What the clients that settled hold at the end of a run.
+use Rattle.std.proofs.Common.{◌≡◌, ◌≢◌, ℕ, ◌+◌, ◌-◌, ◌<◌, ◌≤◌, Bool, true, false, cond, eqb, nat_le, List, [], ◌∷◌, ◌++◌, length, take, slice_index, Option, Some, None, IfSome, IfOk, Result, Ok, Err, refl, sym, ap, ◌∙◌, subst, arith}
+use Rattle.std.specs.List.{AllByRecursion, flat_map}
+use Rattle.std.proofs.lemmas.Bool.{false≢true}
+use Rattle.std.proofs.lemmas.Bool.Decides.{nat_tests}
+use Rattle.std.proofs.lemmas.List.{length-take}
+use Rattle.wc_outside.specs.Seen.{Seen}
+use Rattle.wc_outside.specs.Keyed.{at_key}
+use Rattle.wc_outside.specs.declared.happening.Happening.{Happening}
+use Rattle.wc_outside.specs.declared.happening.Happening.TheVariants.{Woke, Accepted, Read, Ended, Failed, ListenFailed}
+use Rattle.wc_session.specs.declared.client.Client.{Client}
+use Rattle.wc_core.specs.Events.{Event, Start, Tick, Arrives, Line, Ends, Fails, ListenFails}
+use Rattle.wc_core.specs.State.{State, first_state}
+use Rattle.wc_core.specs.Step.{client_link, run}
+use Rattle.wc_core.specs.Served.{unsent_on, sent_to}
+use Rattle.wc_settled.specs.Bytes.{Shows}
+use Rattle.wc_settled.specs.Mirrors.{IsShortLine}
+use Rattle.wc_settled.specs.Settled.{Settled, follows_all, is_following}
+use Rattle.wc_settled.proofs.BytesLemmas.{bytes_show}
+use Rattle.wc_loop.specs.declared.configuration.Settings.{Settings}
+use Rattle.wc_loop.specs.declared.headless.Headless.{Headless}
+use Rattle.wc_loop.proofs.ConfigurationLemmas.{settings-most}
+use Rattle.wc_loop.specs.Configuration.{settings_in}
+use Rattle.wc_loop.specs.Events.{events_of, events_from, wake_events, line_events, read_events, is_tick, tail_on, clock}
+use Rattle.wc_loop.specs.Headline.{HandsOut, Mirrored}
+use Rattle.wc_loop.specs.Lines.{ended, without_cr, line_limit}
+
+-- ---- lines are no longer than one may be
+
+short-append : (xs ys : List Event) → AllByRecursion IsShortLine xs → AllByRecursion IsShortLine ys → AllByRecursion IsShortLine (xs ++ ys)
+short-append [] ys h g = g
+short-append (x ∷ xs) ys h g = (h.0, short-append xs ys h.1 g)
+
+short-front : (xs ys : List Event) → AllByRecursion IsShortLine (xs ++ ys) → AllByRecursion IsShortLine xs
+short-front [] ys h = tt
+short-front (x ∷ xs) ys h = (h.0, short-front xs ys h.1)
+
+short-wake : (last : Option ℕ) (m : ℕ) → AllByRecursion IsShortLine (wake_events last m)
+short-wake None m = (tt, tt)
+short-wake (Some last) m = go (is_tick last m)
+  where
+    go : (b : Bool) → AllByRecursion IsShortLine (cond b (Tick m ∷ []) [])
+    go true = (tt, tt)
+    go false = tt
+
+cut-short : (line : List ℕ) → length (without_cr line) ≤ length line
+cut-short line = go (eqb (slice_index line (length line - 1)) 13)
+  where
+    go : (b : Bool) → length (cond b (take (length line - 1) line) line) ≤ length line
+    go true = let few = length-take (length line - 1) line in omega arith
+    go false = omega arith
+
+short-line : (link : ℕ) (line : List ℕ) → AllByRecursion IsShortLine (line_events link line)
+short-line link line = go (nat_le (length line) line_limit) refl
+  where
+    go : (b : Bool) → nat_le (length line) line_limit ≡ b → AllByRecursion IsShortLine (cond b (Line link (without_cr line) ∷ []) [])
+    go true e = ((let few = cut-short line in grind (arith, nat_tests)), tt)
+    go false e = tt
+
+short-lines : (link : ℕ) (lines : List (List ℕ)) → AllByRecursion IsShortLine (flat_map (line_events link) lines)
+short-lines link [] = tt
+short-lines link (line ∷ lines) = short-append (line_events link line) (flat_map (line_events link) lines) (short-line link line) (short-lines link lines)
+
+short-of : (before : List Happening) (h : Happening) → AllByRecursion IsShortLine (events_of before h)
+short-of before (Woke m) = short-wake (clock before) m
+short-of before (Accepted link nonce) = (tt, tt)
+short-of before (Read link bytes) = short-lines link.0 (ended (tail_on link.0 before) bytes)
+short-of before (Ended link) = (tt, tt)
+short-of before (Failed link) = (tt, tt)
+short-of before ListenFailed = (tt, tt)
+
+pub short-from : (before happenings : List Happening) → AllByRecursion IsShortLine (events_from before happenings)
+short-from before [] = tt
+short-from before (h ∷ hs) = short-append (events_of before h) (events_from (before ++ h ∷ []) hs) (short-of before h) (short-from (before ++ h ∷ []) hs)
+
+-- ---- a client that settled is open
+
+open-client : (P : Type 0) (o : Option Client) → is_following o ≡ true → ((client : Client) → o ≡ Some client → P) → P
+open-client P None e f = absurd (false≢true e)
+open-client P (Some client) e f = f client refl
+
+shows-by : (password : List ℕ) (limit : ℕ) (seen : Seen) (last : Headless) → limit ≤ 4096 → (handed : HandsOut (first_state password limit) seen last) (link : ℕ) (id : List ℕ) → 1 ≤ link → Settled link id (first_state password limit) handed.events
+    → Shows limit id (seen.sent link ++ unsent_on link last.core.seats) last.core.lines.lines
+shows-by password limit seen last most handed link id one settled =
+    let first = first_state password limit in
+    let short = short-front handed.events handed.reaches.rest (subst (AllByRecursion IsShortLine) handed.reaches.front (short-from [] seen.taken)) in
+    let shows = bytes_show password limit handed.events link id most short settled in
+    let bytes = open-client _ (at_key client_link link (run first handed.events).state.clients) settled.still (λ client there. handed.opened link client one there) in
+    subst (λ sent. Shows limit id sent last.core.lines.lines) (sym bytes) (subst (λ lines. Shows limit id (sent_to link (run first handed.events).acts) lines) (sym (ap (λ (s : State). s.lines) handed.state)) shows)
+
+pub Mirrored-known : (contents : Option (List ℕ)) (seen : Seen) (last : Headless) → Mirrored contents seen last
+Mirrored-known None seen last = tt
+Mirrored-known (Some kept) seen last = go (settings_in kept) (settings-most kept)
+  where
+    go : (r : Result Settings ℕ) → IfOk r (λ settings. settings.limit ≤ 4096) → IfOk r (λ settings. (handed : HandsOut (first_state settings.password settings.limit) seen last) (link : ℕ) (id : List ℕ) → 1 ≤ link → Settled link id (first_state settings.password settings.limit) handed.events
+        → Shows settings.limit id (seen.sent link ++ unsent_on link last.core.seats) last.core.lines.lines)
+    go (Ok settings) h = λ handed link id one settled. shows-by settings.password settings.limit seen last h handed link id one settled
+    go (Err n) h = tt
+
+pub Mirrored-last : (contents : Option (List ℕ)) (seen : Seen) (last : Option Headless) → IfSome last (Mirrored contents seen)
+Mirrored-last contents seen None = tt
+Mirrored-last contents seen (Some last) = Mirrored-known contents seen last

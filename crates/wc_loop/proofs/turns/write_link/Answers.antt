@@ -1,0 +1,37 @@
+use Rattle.std.proofs.Common.{arith}
+use Rattle.wc_loop.proofs.TurnLemmas.{Continues-trans}
+use Rattle.wc_loop.proofs.CloseLemmas.{Continues-refl}
+use Rattle.wc_loop.proofs.SourceLemmas.{Falls-refl, Falls-trans, later-of}
+use Rattle.wc_loop.proofs.ServeLemmas.{Nothing-refl, Nothing-trans}
+use Rattle.wc_loop.proofs.turns.write_link.Goals as goal
+
+pub loop-link-init : goal.loop-link-init
+loop-link-init g c = record { continues = Continues-refl _ _; calm = c.requires.calm; going = c.requires.going; falls = Falls-refl _; others = λ k n h. h; nothing = Nothing-refl _ }
+
+pub returns-then-not-write_once-clause-continues : goal.returns-then-not-write_once-clause-continues
+returns-then-not-write_once-clause-continues g c =
+    let seen = g.S.Sockets.seen in
+    Continues-trans c.args.headless.now c.loop-link.headless c.write_once.new.headless (seen c.args.sockets.now) (seen c.loop-link.sockets) (seen c.write_once.new.sockets) c.loop-link.invariant.continues c.write_once.ensures.continues
+
+pub returns-then-not-write_once-clause-falls : goal.returns-then-not-write_once-clause-falls
+returns-then-not-write_once-clause-falls g c = Falls-trans _ (g.S.Sockets.seen c.loop-link.sockets) _ c.loop-link.invariant.falls c.write_once.ensures.falls
+
+pub returns-then-not-write_once-clause-others : goal.returns-then-not-write_once-clause-others
+returns-then-not-write_once-clause-others g c = λ k n h. c.write_once.ensures.others k n (c.loop-link.invariant.others k n h)
+
+pub returns-then-not-write_once-clause-nothing : goal.returns-then-not-write_once-clause-nothing
+returns-then-not-write_once-clause-nothing g c = Nothing-trans _ (g.S.Sockets.seen c.loop-link.sockets) _ (later-of _ _ c.write_once.ensures.continues) c.loop-link.invariant.nothing c.write_once.ensures.nothing
+
+pub loop-link-preserved : goal.loop-link-preserved
+loop-link-preserved g c =
+    let i = c.loop-link.invariant in
+    let e = c.write_once.ensures in
+    let seen = g.S.Sockets.seen in
+    record {
+      continues = Continues-trans c.args.headless.now c.loop-link.headless c.write_once.new.headless (seen c.args.sockets.now) (seen c.loop-link.sockets) (seen c.write_once.new.sockets) i.continues e.continues;
+      calm = e.calm;
+      going = e.going;
+      falls = Falls-trans _ (seen c.loop-link.sockets) _ i.falls e.falls;
+      others = λ k n h. e.others k n (i.others k n h);
+      nothing = Nothing-trans _ (seen c.loop-link.sockets) _ (later-of _ _ e.continues) i.nothing e.nothing;
+    }

@@ -1,0 +1,167 @@
+-- The bytes that are sent to a link spell messages, in one way.
+use Rattle.std.proofs.Common.{◌≡◌, ℕ, Bool, true, false, cond, List, [], ◌∷◌, ◌++◌, length, take, drop, Option, Some, None, refl, sym, ap, subst, ◌∙◌, arith, eqb, nat_lt}
+use Rattle.std.specs.List.{flat_map}
+use Rattle.std.proofs.Math.Seq.{take-append_seam, drop-append_seam}
+use Rattle.std.proofs.lemmas.List.{length-append}
+use Rattle.std.proofs.lemmas.Bool.Decides.{nat_tests}
+use Rattle.wc_text.specs.declared.names.Cause.{Cause}
+use Rattle.wc_text.specs.declared.names.Cause.TheVariants as cause
+use Rattle.wc_outside.specs.Keyed.{at_key, put_at}
+use Rattle.wc_lines.specs.declared.line.Line.{Line}
+use Rattle.wc_objects.specs.declared.object.WireMessage.{WireMessage}
+use Rattle.wc_objects.specs.Spells.{Spells}
+use Rattle.wc_objects.proofs.Rooms.{length-message_bytes}
+use Rattle.wc_objects.proofs.Spellings.{stated, states}
+use Rattle.wc_objects.proofs.Messages.{one_message}
+use Rattle.wc_relaycmd.specs.declared.request.Request.{Request}
+use Rattle.wc_relaycmd.specs.Answers.{request_of}
+use Rattle.wc_relaycmd.proofs.ReadLemmas.{reads-request_of}
+use Rattle.wc_relaycmd.proofs.RequestTexts.{HasUtf8-reads}
+use Rattle.wc_session.specs.declared.client.Client.{Client}
+use Rattle.wc_session.specs.declared.outcome.Outcome.{Outcome}
+use Rattle.wc_session.specs.declared.outcome.Outcome.TheVariants as outcome
+use Rattle.wc_session.specs.Known.{new_client}
+use Rattle.wc_session.specs.Reply.{reply_of}
+use Rattle.wc_session.specs.Sending.{spelling}
+use Rattle.wc_core.specs.Events.{Event, Start, Tick, Arrives, Line as LineCame, Ends, Fails, ListenFails}
+use Rattle.wc_core.specs.State.{State, Act, Stepped, Closes, first_state}
+use Rattle.wc_core.specs.Step.{client_link, client_limit, stays, then_does, sends, told_to, prints, prints_text, next_line, last_handle, does, is_quit, runs, follows, asked, line_came, lost, step, run}
+use Rattle.wc_core.specs.Typed.{Typed, Nothing, Prints, Quits, typed_line, parted}
+use Rattle.wc_core.specs.Served.{messages_to}
+use Rattle.wc_core.proofs.MessageLemmas.{sent_to-messages, messages_to-append}
+use Rattle.wc_settled.specs.Printed.{IsPrinted}
+use Rattle.wc_settled.specs.Kept.{IsKept}
+use Rattle.wc_settled.specs.Bytes.{IsSpelt, SpellOnce, RunSpells, BytesShow}
+use Rattle.wc_settled.proofs.ClientLemmas.{messages-sends}
+use Rattle.wc_settled.proofs.PrintLemmas.{next_printed}
+use Rattle.wc_settled.proofs.StepLemmas.{step_keeps}
+use Rattle.wc_settled.proofs.SpeltLemmas.{AllSpelt, told_spelt, answer_spelt}
+use Rattle.wc_settled.proofs.RunLemmas.{start_kept, mirrors}
+
+-- ---- the messages of acts
+
+both_spelt : (a b : List WireMessage) → AllSpelt a → AllSpelt b → AllSpelt (a ++ b)
+both_spelt [] b p q = q
+both_spelt (m ∷ a) b p q = (p.0, both_spelt a b p.1 q)
+
+acts_spelt : (link : ℕ) (a b : List Act) → AllSpelt (messages_to link a) → AllSpelt (messages_to link b) → AllSpelt (messages_to link (a ++ b))
+acts_spelt link a b p q = subst AllSpelt (sym (messages_to-append link a b)) (both_spelt (messages_to link a) (messages_to link b) p q)
+
+sends_spelt : (link k : ℕ) (messages : List WireMessage) → AllSpelt messages → AllSpelt (messages_to link (sends k messages))
+sends_spelt link k messages all = subst AllSpelt (sym (messages-sends link k messages)) (by (eqb k link)) where
+  by : (b : Bool) → AllSpelt (cond b messages [])
+  by true = all
+  by false = tt
+
+clients_spelt : (link : ℕ) (line : Line) (clients : List Client) → IsPrinted line → AllSpelt (messages_to link (flat_map (told_to line) clients))
+clients_spelt link line [] is = tt
+clients_spelt link line (client ∷ clients) is =
+    acts_spelt link (told_to line client) (flat_map (told_to line) clients)
+    (sends_spelt link (client_link client) _ (told_spelt client line is)) (clients_spelt link line clients is)
+
+text_spelt : (link : ℕ) (state : State) (prefix message : List ℕ) → AllSpelt (messages_to link (prints_text state prefix message).acts)
+text_spelt link state prefix message = by (nat_lt state.next last_handle) refl where
+  by : (b : Bool) → nat_lt state.next last_handle ≡ b → AllSpelt (messages_to link (cond b (prints state (next_line state prefix message)) (stays state)).acts)
+  by true e = clients_spelt link (next_line state prefix message) state.clients (next_printed state prefix message (grind (arith, nat_tests)))
+  by false e = tt
+
+typed_spelt : (link : ℕ) (state : State) (typed : Typed) → AllSpelt (messages_to link (does state typed).acts)
+typed_spelt link state Nothing = tt
+typed_spelt link state (Prints prefix message) = text_spelt link state prefix message
+typed_spelt link state Quits = tt
+
+runs_spelt : (link : ℕ) (state : State) (lines : List (List ℕ)) → AllSpelt (messages_to link (runs state lines).acts)
+runs_spelt link state [] = tt
+runs_spelt link state (line ∷ lines) = by (is_quit (typed_line line)) (typed_spelt link state (typed_line line)) (runs_spelt link (does state (typed_line line)).state lines) where
+  one : Stepped
+  one = does state (typed_line line)
+
+  by : (b : Bool) → AllSpelt (messages_to link one.acts) → AllSpelt (messages_to link (runs one.state lines).acts) → AllSpelt (messages_to link (cond b one (then_does one (λ next. runs next lines))).acts)
+  by true first others = first
+  by false first others = acts_spelt link one.acts (runs one.state lines).acts first others
+
+follows_spelt : (link : ℕ) (state : State) (k : ℕ) (o : Outcome) → AllSpelt (messages_to link (follows state k o).acts)
+follows_spelt link state k outcome.Replied = tt
+follows_spelt link state k outcome.Silent = tt
+follows_spelt link state k (outcome.Input buffer text) = runs_spelt link state (parted text)
+follows_spelt link state k (outcome.Leave why) = tt
+follows_spelt link state k outcome.NoMemory = tt
+
+line_spelt : (limit link : ℕ) (state : State) (k : ℕ) (line : List ℕ) → IsKept limit link state → AllSpelt (messages_to link (step state (LineCame k line)).acts)
+line_spelt limit link state k line kept = came (at_key client_link k state.clients) where
+  served : (client : Client) (o : Option Request) → request_of client.escaped line ≡ o → AllSpelt (messages_to link (asked state client o).acts)
+  served client None e = tt
+  served client (Some request) e =
+      let answer = reply_of state.lines state.password client request in
+      let next : State = record state { clients = put_at client_link (client_link client) answer.client state.clients } in
+      let utf8 = HasUtf8-reads line client.escaped request (reads-request_of line client.escaped request e) in
+      acts_spelt link (sends (client_link client) answer.messages) (follows next (client_link client) answer.outcome).acts
+      (sends_spelt link (client_link client) answer.messages (answer_spelt state.lines state.password client request kept.printed utf8))
+      (follows_spelt link next (client_link client) answer.outcome)
+
+  came : (o : Option Client) → AllSpelt (messages_to link (line_came state line o).acts)
+  came None = tt
+  came (Some client) = served client (request_of client.escaped line) refl
+
+lost_spelt : (link : ℕ) (state : State) (k : ℕ) (why : Cause) (o : Option Client) → AllSpelt (messages_to link (lost state k why o).acts)
+lost_spelt link state k why None = tt
+lost_spelt link state k why (Some client) = tt
+
+step_spelt : (limit link : ℕ) (state : State) (event : Event) → IsKept limit link state → AllSpelt (messages_to link (step state event).acts)
+step_spelt limit link state (Start moment) kept = tt
+step_spelt limit link state (Tick moment) kept = tt
+step_spelt limit link state (Arrives k nonce) kept = by (nat_lt (length state.clients) client_limit) where
+  by : (b : Bool) → AllSpelt (messages_to link (cond b (stays (record state { clients = state.clients ++ new_client (record { 0 = k }) nonce ∷ [] })) (record { state = state; acts = Closes k cause.Surplus ∷ [] })).acts)
+  by true = tt
+  by false = tt
+step_spelt limit link state (LineCame k line) kept = line_spelt limit link state k line kept
+step_spelt limit link state (Ends k) kept = lost_spelt link state k cause.Ended (at_key client_link k state.clients)
+step_spelt limit link state (Fails k) kept = lost_spelt link state k cause.Failed (at_key client_link k state.clients)
+step_spelt limit link state ListenFails kept = tt
+
+spelt_on : (limit link : ℕ) (state : State) (events : List Event) → IsKept limit link state → AllSpelt (messages_to link (run state events).acts)
+spelt_on limit link state [] kept = tt
+spelt_on limit link state (event ∷ events) kept =
+    let next = (step state event).state in
+    acts_spelt link (step state event).acts (run next events).acts (step_spelt limit link state event kept) (spelt_on limit link next events (step_keeps limit link state event kept))
+
+-- ---- the bytes
+
+pub run_spells : RunSpells
+run_spells password limit events link most =
+    let acts = (run (first_state password limit) events).acts in
+    record { each = spelt_on limit link (first_state password limit) events (start_kept limit link password most); whole = sent_to-messages link acts }
+
+pub bytes_show : BytesShow
+bytes_show password limit events link id most short settled = record {
+  messages = messages_to link (run (first_state password limit) events).acts;
+  spell = run_spells password limit events link most;
+  has = mirrors password limit events link id most short settled;
+}
+
+-- ---- bytes spell messages in one way
+
+some_bytes : (m : WireMessage) (rest : List ℕ) → [] ≡ spelling m ++ rest → ⊥
+some_bytes m rest e = omega (arith, ap length e, length-append (spelling m) rest, length-message_bytes m.id m.objects)
+
+-- the first message of bytes
+same_first : (m n : WireMessage) (a b : List ℕ) → IsSpelt m → IsSpelt n → spelling m ++ a ≡ spelling n ++ b → (m ≡ n) × (a ≡ b)
+same_first m n a b p q e =
+    let first : stated (spelling m ++ a) ≡ length (spelling m) = states m (spelling m) a p.spells in
+    let second : stated (spelling n ++ b) ≡ length (spelling n) = states n (spelling n) b q.spells in
+    let size : length (spelling m) ≡ length (spelling n) = sym first ∙ ap stated e ∙ second in
+    let same : spelling m ≡ spelling n = sym (take-append_seam (spelling m) a) ∙ ap (take (length (spelling m))) e ∙ ap (λ k. take k (spelling n ++ b)) size ∙ take-append_seam (spelling n) b in
+    let rest : a ≡ b = sym (drop-append_seam (spelling m) a) ∙ ap (drop (length (spelling m))) e ∙ ap (λ k. drop k (spelling n ++ b)) size ∙ drop-append_seam (spelling n) b in
+    (one_message m n (spelling m) p.within q.within p.spells (subst (Spells n) (sym same) q.spells), rest)
+
+once : (a b : List WireMessage) → AllSpelt a → AllSpelt b → flat_map (λ m. spelling m) a ≡ flat_map (λ m. spelling m) b → a ≡ b
+once [] [] p q e = refl
+once [] (n ∷ b) p q e = absurd (some_bytes n (flat_map (λ m. spelling m) b) e)
+once (m ∷ a) [] p q e = absurd (some_bytes m (flat_map (λ m. spelling m) a) (sym e))
+once (m ∷ a) (n ∷ b) p q e =
+    let both = same_first m n (flat_map (λ m. spelling m) a) (flat_map (λ m. spelling m) b) p.0 q.0 e in
+    let rest = once a b p.1 q.1 both.1 in
+    λ i. both.0 i ∷ rest i
+
+pub spell_once : SpellOnce
+spell_once bytes a b p q = once a b p.each q.each (sym p.whole ∙ q.whole)

@@ -1,0 +1,6 @@
+pub mod Printed
+pub mod Settled
+pub mod Kept
+pub mod Mirrors
+pub mod Bytes
+pub mod Example
