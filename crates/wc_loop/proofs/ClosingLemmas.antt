@@ -201,6 +201,12 @@ lines-of link (line ∷ lines) = All-append (IsOf link) (line_events link line) 
 pub read-of : (link : ℕ) (line bytes : List ℕ) → All (IsOf link) (read_events link line bytes)
 read-of link line bytes = lines-of link (ended line bytes)
 
+pub ended-of : (link : ℕ) → All (IsOf link) (Ends link ∷ [])
+ended-of link = All-cons (IsOf link) (Ends link) [] refl (All-nil (IsOf link))
+
+pub failed-of : (link : ℕ) → All (IsOf link) (Fails link ∷ [])
+failed-of link = All-cons (IsOf link) (Fails link) [] refl (All-nil (IsOf link))
+
 -- ---- causes
 
 abbrev pub LineCause : Option Cause → Type 0

@@ -9,14 +9,22 @@ use Rattle.wc_outside.specs.declared.happening.Happening.{Happening}
 use Rattle.wc_outside.specs.declared.happening.Happening.TheVariants.{Woke, Accepted, Read, Ended, Failed, ListenFailed}
 use Rattle.wc_loop.specs.Events.{bytes_on, tail_on, clock_from, clock, wake_events, read_events, events_of, events_from, whole}
 use Rattle.wc_loop.specs.Lines.{rest}
-use Rattle.wc_loop.specs.Run.{run, run_of, owed}
+use Rattle.wc_core.specs.Events.{Event}
+use Rattle.wc_core.specs.State.{State}
+use Rattle.wc_core.specs.Step.{run}
+use Rattle.wc_core.specs.Served.{sent_to}
+use Rattle.wc_loop.specs.Served.{Reaches}
 use Rattle.wc_loop.proofs.LineLemmas.{rest-append, read_events-append}
 use Rattle.wc_loop.proofs.RunLemmas.{events_from-append}
 
--- equal events: the same clients, and the same bytes owed to each link
-pub same_events : (password : List ℕ) (taken others : List Happening) → whole taken ≡ whole others
-    → (run_of password taken).seats ≡ (run_of password others).seats × ((link : ℕ) → owed link (run_of password taken).acts ≡ owed link (run_of password others).acts)
-same_events password taken others e = (ap (λ events. (run password [] events).seats) e, λ link. ap (λ events. owed link (run password [] events).acts) e)
+-- equal events: the same state, and the same bytes owed to each link
+pub same_events : (state : State) (taken others : List Happening) → whole taken ≡ whole others
+    → (run state (whole taken)).state ≡ (run state (whole others)).state × ((link : ℕ) → sent_to link (run state (whole taken)).acts ≡ sent_to link (run state (whole others)).acts)
+same_events state taken others e = (ap (λ events. (run state events).state) e, λ link. ap (λ events. sent_to link (run state events).acts) e)
+
+-- without `/quit` all of them are reached
+pub reached_all : (q : Bool) (n m : ℕ) (all events : List Event) → Reaches q false n m all events → events ≡ all
+reached_all q n m all events h = sym (append-nil events) ∙ ap (λ rest. events ++ rest) (sym (h.whole refl)) ∙ sym h.front
 
 clock_from-append : (last : Option ℕ) (hs gs : List Happening) → clock_from last (hs ++ gs) ≡ clock_from (clock_from last hs) gs
 clock_from-append last [] gs = refl

@@ -142,6 +142,14 @@ pub HasFailed-later : (lost : Option LinkId) (a b : Seen) → Later a b → HasF
 HasFailed-later None a b later h = tt
 HasFailed-later (Some link) a b later h = λ t. ap (has_failed link.0) (later.taken t) ∙ list_any-append (is_failure link.0) a.taken later.more ∙ ap (λ f. f || list_any (is_failure link.0) later.more) (h (later.told t))
 
+parted-by : (k link : ℕ) (t : Bool) → eqb k link ≡ t → (x y z : List Seat) → z ≡ without seat_link link y → (k ≢ link → at_key seat_link k y ≡ at_key seat_link k x)
+    → (at_key seat_link k z ≡ None) ⊎ ((leaving_on k z ≡ leaving_on k x) × (is_some (at_key seat_link k z) ≡ is_some (at_key seat_link k x)))
+parted-by k link true e x y z left same = inl (let here : k ≡ link = grind (arith, nat_tests) in ap (at_key seat_link k) left ∙ ap (λ i. at_key seat_link i (without seat_link link y)) here ∙ at_key-filter_same seat_link link y)
+parted-by k link false e x y z left same =
+    let other : k ≢ link = λ q. grind (arith, nat_tests) in
+    let kept : at_key seat_link k z ≡ at_key seat_link k x = ap (at_key seat_link k) left ∙ at_key-filter_other seat_link link k y other ∙ same other in
+    inr (ap leaving_in kept, ap is_some kept)
+
 -- the first one that is leaving is parted with
 pub Parts-first : (x y z : Headless) (a b c : Seen) (d : Departure) → departure_of x.core.seats ≡ Some d → (IsTrue c.tells → IsTrue b.tells) → SendsOn d.link.0 x y a b → z.core ≡ record y.core { seats = without seat_link d.link.0 y.core.seats }
     → Falls b c → TakesNothing b c → ((k : ℕ) → k ≢ d.link.0 → c.blocked k ≡ b.blocked k) → Parts x z a c
@@ -156,6 +164,7 @@ Parts-first x y z a b c d first told sends core falls nothing blocked =
       spared = λ k s. subst (Spares k) (sym left) (all-without (λ (close : Closed). closed_number close ≢ k) d.link.0 (leaving_closes x.core.seats) s);
       seats = λ k s. ap (at_key seat_link k) seats ∙ at_key-filter_other seat_link d.link.0 k y.core.seats (other k s) ∙ sends.seats k (other k s);
       blocked = λ k s. blocked k (other k s) ∙ sends.blocked k (other k s);
+      parted = λ k. parted-by k d.link.0 (eqb k d.link.0) refl x.core.seats y.core.seats z.core.seats seats (sends.seats k);
     }
 
 length-map-links : (seats : List Seat) → length (map seat_link seats) ≡ length seats
@@ -172,7 +181,14 @@ fewer-parted x y z d first links core =
     omega arith
 
 pub Parts-refl : (x : Headless) (a : Seen) → Parts x x a a
-Parts-refl x a = record { falls = Falls-refl a; nothing = TakesNothing-refl a; quits = refl; spared = λ k s. s; seats = λ k s. refl; blocked = λ k s. refl }
+Parts-refl x a = record { falls = Falls-refl a; nothing = TakesNothing-refl a; quits = refl; spared = λ k s. s; seats = λ k s. refl; blocked = λ k s. refl; parted = λ k. inr (refl, refl) }
+
+parted-then : (k : ℕ) (x y z : List Seat) → (at_key seat_link k y ≡ None) ⊎ ((leaving_on k y ≡ leaving_on k x) × (is_some (at_key seat_link k y) ≡ is_some (at_key seat_link k x)))
+    → (at_key seat_link k z ≡ None) ⊎ ((leaving_on k z ≡ leaving_on k y) × (is_some (at_key seat_link k z) ≡ is_some (at_key seat_link k y)))
+    → (at_key seat_link k z ≡ None) ⊎ ((leaving_on k z ≡ leaving_on k x) × (is_some (at_key seat_link k z) ≡ is_some (at_key seat_link k x)))
+parted-then k x y z h (inl none) = inl none
+parted-then k x y z (inl none) (inr g) = inl (none_of _ (g.1 ∙ ap is_some none))
+parted-then k x y z (inr h) (inr g) = inr (g.0 ∙ h.0, g.1 ∙ h.1)
 
 pub Parts-trans : (x y z : Headless) (a b c : Seen) → (IsTrue c.tells → IsTrue b.tells) → Parts x y a b → Parts y z b c → Parts x z a c
 Parts-trans x y z a b c told h g = record {
@@ -182,9 +198,20 @@ Parts-trans x y z a b c told h g = record {
   spared = λ k s. g.spared k (h.spared k s);
   seats = λ k s. g.seats k (h.spared k s) ∙ h.seats k s;
   blocked = λ k s. g.blocked k (h.spared k s) ∙ h.blocked k s;
+  parted = λ k. parted-then k x.core.seats y.core.seats z.core.seats (h.parted k) (g.parted k);
 }
 
 -- where `/quit` was not run, the client of the link is leaving
 pub misses-going : (link : ℕ) (core : Standing) → Misses link core → core.quits ≡ false → Distinct (links_of core) → IsSome (leaving_on link core.seats)
 misses-going link core (inl over) on distinct = absurd (false≢true (sym on ∙ over))
 misses-going link core (inr leaves) on distinct = leaves distinct
+
+or-last : (b : Bool) → (b || (true || false)) ≡ true
+or-last true = refl
+or-last false = refl
+
+-- a link that just failed
+pub HasFailed-now : (link : LinkId) (a b : Seen) → (IsTrue b.tells → b.taken ≡ a.taken ++ Failed link ∷ []) → HasFailed (Some link) b
+HasFailed-now link a b e = λ t.
+    let here : eqb link.0 link.0 ≡ true = grind (arith, nat_tests) in
+    ap (has_failed link.0) (e t) ∙ list_any-append (is_failure link.0) a.taken (Failed link ∷ []) ∙ ap (λ f. list_any (is_failure link.0) a.taken || (f || false)) here ∙ or-last _

@@ -1,5 +1,5 @@
 -- What one call takes of a link.
-use Rattle.std.proofs.Common.{◌≡◌, ◌≢◌, ℕ, ◌+◌, ◌≤◌, Bool, true, false, not, eqb, cond, ◌&&◌, IsTrue, List, [], ◌∷◌, ◌++◌, length, take, Option, Some, None, IsSome, is_some, is_none, refl, sym, ap, ◌∙◌, subst, arith}
+use Rattle.std.proofs.Common.{◌≡◌, ◌≢◌, ℕ, ◌+◌, ◌≤◌, ◌⊎◌, inl, inr, Bool, true, false, not, eqb, cond, ◌&&◌, IsTrue, List, [], ◌∷◌, ◌++◌, length, take, Option, Some, None, IsSome, is_some, is_none, refl, sym, ap, ◌∙◌, subst, arith}
 use Rattle.std.proofs.lemmas.Bool.{false≢true}
 use Rattle.std.proofs.lemmas.Bool.Decides.{nat_tests}
 use Rattle.std.proofs.lemmas.List.{append-nil, length-append, length-take}
@@ -11,7 +11,8 @@ use Rattle.wc_outside.specs.declared.happening.Happening.{Happening}
 use Rattle.wc_outside.specs.declared.happening.Happening.TheVariants.{Read, Accepted, ListenFailed}
 use Rattle.wc_outside.specs.Keyed.{at_key}
 use Rattle.wc_core.specs.declared.seat.Seat.{Seat}
-use Rattle.wc_core.specs.Served.{seat_link, unsent_in, unsent_on, is_open, is_open_at, leaving_in, left_at}
+use Rattle.wc_core.specs.Served.{seat_link, unsent_in, unsent_on, is_open, is_open_at, leaving_in, leaving_on, left_if, left_at}
+use Rattle.wc_core.specs.Standing.{Standing}
 use Rattle.wc_loop.specs.declared.link_state.Closed.{Closed}
 use Rattle.wc_loop.specs.declared.headless.Headless.{Headless}
 use Rattle.wc_loop.specs.Events.{bytes_on}
@@ -20,7 +21,7 @@ use Rattle.wc_loop.specs.Parts.{Spares, Parts, ReadsOn, ReadBytes}
 use Rattle.wc_loop.specs.Served.{closed_by, leaving_closes, IsCalm, closed_number}
 use Rattle.wc_loop.specs.Sources.{Falls, IsWritten, TakesNothing, bytes_taken, arrivals}
 use Rattle.wc_loop.specs.Turns.{Stands}
-use Rattle.wc_loop.proofs.KeyedLemmas.{none_of}
+use Rattle.wc_loop.proofs.KeyedLemmas.{none_of, at_key-key, at_key-put_other, at_key-put_same}
 use Rattle.wc_loop.proofs.SeatLemmas.{calm-left, calm-leaving}
 use Rattle.wc_loop.proofs.SourceLemmas.{Falls-refl, Falls-trans, bytes_taken-append, arrivals-append, IsWritten-later}
 
@@ -92,3 +93,58 @@ arrived-one link nonce before after e = (let all = ap arrivals e in let parts = 
 
 pub arrived-none : (before after : List Happening) → after ≡ before ++ ListenFailed ∷ [] → arrivals after ≡ arrivals before + 0
 arrived-none before after e = (let all = ap arrivals e in let parts = arrivals-append before (ListenFailed ∷ []) in omega arith)
+
+-- the seats of the other links stay
+left-other : (link k : ℕ) (why : Cause) (seats : List Seat) (o : Option Seat) → at_key seat_link link seats ≡ o → k ≢ link → at_key seat_link k (left_at link why seats o) ≡ at_key seat_link k seats
+left-other link k why seats None e n = refl
+left-other link k why seats (Some s) e n = left-by (is_open s)
+  where
+    left-by : (t : Bool) → at_key seat_link k (left_if t link why seats s) ≡ at_key seat_link k seats
+    left-by true = at_key-put_other seat_link link k (record s { leaving = Some why }) seats (at_key-key seat_link link seats s e) n
+    left-by false = refl
+
+pub seats-left : (link k : ℕ) (why : Cause) (x y : Standing) → y ≡ record x { seats = left_at link why x.seats (at_key seat_link link x.seats) } → k ≢ link → at_key seat_link k y.seats ≡ at_key seat_link k x.seats
+seats-left link k why x y e n = ap (λ (s : Standing). at_key seat_link k s.seats) e ∙ left-other link k why x.seats (at_key seat_link link x.seats) refl n
+
+left-here : (link : ℕ) (why : Cause) (seats : List Seat) (s : Seat) → at_key seat_link link seats ≡ Some s → s.leaving ≡ None → leaving_on link (left_at link why seats (Some s)) ≡ Some why
+left-here link why seats s e stays =
+    let test : is_open s ≡ true = open-by s.leaving stays in
+    rw test (ap leaving_in (at_key-put_same seat_link link s (record s { leaving = Some why }) seats (at_key-key seat_link link seats s e) e))
+
+-- a client that was lost and parted with has nothing unsent
+pub unsent-closed : (link : LinkId) (why : Cause) (x : List Seat) (y z : Headless) (b c : Seen) → IsCalm x → y.core.seats ≡ left_at link.0 why x (at_key seat_link link.0 x) → Parts y z b c → IsCalm z.core.seats → unsent_on link.0 z.core.seats ≡ []
+unsent-closed link why x y z b c calm left parts calm' = closed-by (at_key seat_link link.0 x) refl (parts.parted link.0)
+  where
+    closed-by : (o : Option Seat) → at_key seat_link link.0 x ≡ o
+        → (at_key seat_link link.0 z.core.seats ≡ None) ⊎ ((leaving_on link.0 z.core.seats ≡ leaving_on link.0 y.core.seats) × (is_some (at_key seat_link link.0 z.core.seats) ≡ is_some (at_key seat_link link.0 y.core.seats))) → unsent_on link.0 z.core.seats ≡ []
+    closed-by o e (inl none) = ap unsent_in none
+    closed-by None e (inr h) =
+        let same : y.core.seats ≡ x = left ∙ ap (left_at link.0 why x) e in
+        ap unsent_in (none_of _ (h.1 ∙ ap (λ ss. is_some (at_key seat_link link.0 ss)) same ∙ ap is_some e))
+    closed-by (Some s) e (inr h) =
+        let stays : s.leaving ≡ None = sym (ap leaving_in e) ∙ calm-leaving link.0 x calm in
+        let leaves : leaving_on link.0 y.core.seats ≡ Some why = ap (leaving_on link.0) (left ∙ ap (left_at link.0 why x) e) ∙ left-here link.0 why x s e stays in
+        absurd (let q : Some why ≡ None = sym (h.0 ∙ leaves) ∙ calm-leaving link.0 z.core.seats calm' in cc)
+
+-- and none of them is open any more
+pub closed-gone : (link : ℕ) (y z : Headless) (b c : Seen) → Parts y z b c → IsCalm z.core.seats → is_open_at (at_key seat_link link y.core.seats) ≡ false → is_open_at (at_key seat_link link z.core.seats) ≡ false
+closed-gone link y z b c parts calm closed = gone-by (at_key seat_link link y.core.seats) refl closed (parts.parted link)
+  where
+    gone-by : (o : Option Seat) → at_key seat_link link y.core.seats ≡ o → is_open_at o ≡ false
+        → (at_key seat_link link z.core.seats ≡ None) ⊎ ((leaving_on link z.core.seats ≡ leaving_on link y.core.seats) × (is_some (at_key seat_link link z.core.seats) ≡ is_some (at_key seat_link link y.core.seats))) → is_open_at (at_key seat_link link z.core.seats) ≡ false
+    gone-by o e f (inl none) = ap is_open_at none
+    gone-by None e f (inr h) = ap is_open_at (none_of _ (h.1 ∙ ap is_some e))
+    gone-by (Some s) e f (inr h) = absurd (false≢true (sym f ∙ open-by s.leaving (sym (ap leaving_in e) ∙ sym h.0 ∙ calm-leaving link z.core.seats calm)))
+
+pub and-not-none : (b t : Bool) → (b && not (t && false)) ≡ b
+and-not-none true true = refl
+and-not-none true false = refl
+and-not-none false t = refl
+
+-- happenings without bytes
+pub bytes-kept : (link n : ℕ) (a b c : Seen) (given : List Happening) → (IsTrue c.tells → IsTrue b.tells) → (IsTrue b.tells → b.taken ≡ a.taken ++ given) → bytes_taken link given ≡ 0 → TakesNothing b c → IsTrue c.tells → bytes_taken link c.taken ≤ bytes_taken link a.taken + n
+bytes-kept link n a b c given told taken none nothing t =
+    let e = nothing.bytes t link in
+    let q = ap (bytes_taken link) (taken (told t)) in
+    let parts = bytes_taken-append link a.taken given in
+    omega arith

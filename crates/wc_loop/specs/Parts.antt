@@ -1,5 +1,5 @@
 -- How the loop parts with clients, and what one call takes of a link.
-use Rattle.std.specs.Prelude.{ℕ, ◌+◌, ◌≡◌, ◌≢◌, ◌≤◌, ◌⊎◌, IsSome, Bool, true, if◌then◌else◌, List, map, All, Option, Some, None, Result, Ok, Err, IsTrue}
+use Rattle.std.specs.Prelude.{ℕ, ◌+◌, ◌≡◌, ◌≢◌, ◌≤◌, ◌⊎◌, IsSome, is_some, Bool, true, if◌then◌else◌, List, map, All, Option, Some, None, Result, Ok, Err, IsTrue}
 use Rattle.wc_text.specs.declared.names.LinkId.{LinkId}
 use Rattle.wc_outside.specs.Seen.{Seen}
 use Rattle.wc_outside.specs.Keyed.{at_key}
@@ -44,6 +44,9 @@ pub record Parts (x y : Headless) (before after : Seen) : Type 0 where
   pub spared : (other : ℕ) → Spares other (leaving_closes x.core.seats) → Spares other (leaving_closes y.core.seats)
   pub seats : (other : ℕ) → Spares other (leaving_closes x.core.seats) → at_key seat_link other y.core.seats ≡ at_key seat_link other x.core.seats
   pub blocked : (other : ℕ) → Spares other (leaving_closes x.core.seats) → after.blocked other ≡ before.blocked other
+  -- a client is forgotten, or stays as it is
+  pub parted : (other : ℕ) → (at_key seat_link other y.core.seats ≡ None)
+      ⊎ ((leaving_on other y.core.seats ≡ leaving_on other x.core.seats) × (is_some (at_key seat_link other y.core.seats) ≡ is_some (at_key seat_link other x.core.seats)))
 
 -- bytes are taken of one link at most, and no client comes
 pub record ReadsOn (link : ℕ) (before after : Seen) : Type 0 where

@@ -138,7 +138,10 @@ fn read_once<S: Sockets>(
         Ok(Got::Bytes(count)) => {
             headless.bytes_came(place, link, &buffer[..count]);
             part_all(headless, sockets, None);
-            if headless.core.quits() || !headless.core.is_open(link) {
+            if headless.core.quits() {
+                return None;
+            }
+            if !headless.core.is_open(link) {
                 return None;
             }
             Some(count)
