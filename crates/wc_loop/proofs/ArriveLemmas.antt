@@ -15,15 +15,16 @@ use Rattle.wc_core.specs.Served.{seat_link, links_of, state_of, is_open, left_if
 use Rattle.wc_core.proofs.SeatLemmas.{absent-seat}
 use Rattle.wc_loop.specs.declared.link_state.LinkState.{LinkState}
 use Rattle.wc_loop.specs.declared.link_state.Closed.{Closed}
+use Rattle.wc_loop.specs.Contained.{HasStarved}
 use Rattle.wc_loop.specs.Links.{link_number, new_state, listed}
 use Rattle.wc_loop.specs.Served.{closed_by, leaving_closes, IsCalm, closed_number}
 use Rattle.wc_loop.proofs.KeyedLemmas.{at_key-key, without-missing, without-put_at, at_key-push_same}
 use Rattle.wc_loop.proofs.SeatLemmas.{leaving-without}
 
-pub starved-more : (old mid new : ℕ) → old ≤ mid → new ≡ min (mid + 1) (2 ^ 64 - 1) → (old < new) ⊎ (new ≡ 2 ^ 64 - 1)
+pub starved-more : (old mid new : ℕ) → old ≤ mid → new ≡ min (mid + 1) (2 ^ 64 - 1) → HasStarved old new
 starved-more old mid new rises e = more-by (nat_lt mid (2 ^ 64 - 1)) refl
   where
-    more-by : (t : Bool) → nat_lt mid (2 ^ 64 - 1) ≡ t → (old < new) ⊎ (new ≡ 2 ^ 64 - 1)
+    more-by : (t : Bool) → nat_lt mid (2 ^ 64 - 1) ≡ t → HasStarved old new
     more-by true f = inl (let below : mid < 2 ^ 64 - 1 = grind (arith, nat_tests) in omega arith)
     more-by false f = inr (let above : 2 ^ 64 - 1 ≤ mid = grind (arith, nat_tests) in omega arith)
 
@@ -72,7 +73,7 @@ refused-opened link old mid new admitted closed none = closed ∙ ap (without li
 pub refused-closed : (link : LinkId) (old mid : List LinkState) (closed new : List Closed) (one : Closed) → mid ≡ old ++ new_state link ∷ [] → new ≡ listed (at_key link_number link.0 mid) closed one → at_key link_number link.0 old ≡ None → new ≡ closed ++ one ∷ []
 refused-closed link old mid closed new one admitted e none = e ∙ ap (λ o. listed o closed one) (ap (at_key link_number link.0) admitted ∙ at_key-push_same link_number (new_state link) old none)
 
-pub no-starving : {A : Type 0} (old new : ℕ) → (old < new) ⊎ (new ≡ 2 ^ 64 - 1) → new ≡ old → old < 2 ^ 64 - 1 → A
+pub no-starving : {A : Type 0} (old new : ℕ) → HasStarved old new → new ≡ old → old < 2 ^ 64 - 1 → A
 no-starving old new (inl more) same below = absurd (omega arith)
 no-starving old new (inr most) same below = absurd (omega arith)
 

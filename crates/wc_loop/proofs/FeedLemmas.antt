@@ -28,12 +28,12 @@ Took-more a b c r s t es fs h g = record { takes = MayRun-trans a b c es fs h.ta
 pub record Fed (before now : Standing) (link : ℕ) (old new : Tail) (ran ran' : ℕ) (bytes rest' : List ℕ) : Type 0 where
   pub done : List ℕ
   pub split : bytes ≡ done ++ rest'
-  pub causes : LeavesAtLine link before.seats now.seats
+  pub causes : LeavesAtLine link before now
   pub tail : (line : List ℕ) → IsTail line old → IsTail (rest line done) new
   pub takes : (line : List ℕ) → IsTail line old → Took before now ran ran' (read_events link line done)
 
 pub Fed-none : (core : Standing) (link : ℕ) (tail : Tail) (ran : ℕ) (bytes : List ℕ) → ran < 2 ^ 64 → Fed core core link tail tail ran ran bytes bytes
-Fed-none core link tail ran bytes fits = record { done = []; split = refl; causes = LeavesAtLine-refl link core.seats; tail = λ line h. h; takes = λ line h. Took-none core ran fits }
+Fed-none core link tail ran bytes fits = record { done = []; split = refl; causes = LeavesAtLine-refl link core; tail = λ line h. h; takes = λ line h. Took-none core ran fits }
 
 begun : (new : Tail) → new ≡ record { line = []; over = false } → IsTail [] new
 begun new e = rw e (record { bounded = omega arith; short = λ q. refl; long = λ q. absurd (false≢true q) })
@@ -41,12 +41,12 @@ begun new e = rw e (record { bounded = omega arith; short = λ q. refl; long = �
 -- one more line was served
 pub Fed-line : (a b c : Standing) (link : ℕ) (old mid new : Tail) (r s t : ℕ) (bytes rest' behind front : List ℕ)
     → Fed a b link old mid r s bytes rest' → rest' ≡ front ++ 10 ∷ behind → HasNoLf front → new ≡ record { line = []; over = false }
-    → ((line : List ℕ) → IsTail line mid → Took b c s t (line_events link (line ++ front))) → LeavesAtLine link b.seats c.seats
+    → ((line : List ℕ) → IsTail line mid → Took b c s t (line_events link (line ++ front))) → LeavesAtLine link b c
     → Fed a c link old new r t bytes behind
 Fed-line a b c link old mid new r s t bytes rest' behind front fed e clean is takes causes = record {
   done = fed.done ++ (front ++ 10 ∷ []);
   split = fed.split ∙ ap (λ xs. fed.done ++ xs) (e ∙ sym (append_assoc front (10 ∷ []) behind)) ∙ sym (append_assoc fed.done (front ++ 10 ∷ []) behind);
-  causes = LeavesAtLine-trans link a.seats b.seats c.seats fed.causes causes;
+  causes = LeavesAtLine-trans link a b c fed.causes causes;
   tail = λ line h. rw (rest-append line fed.done (front ++ 10 ∷ []), rest-ended (rest line fed.done) front clean) (begun new is);
   takes = λ line h. rw (read_events-append link line fed.done (front ++ 10 ∷ []), read_events-line link (rest line fed.done) front clean)
       (Took-more a b c r s t _ _ (fed.takes line h) (takes (rest line fed.done) (fed.tail line h)));

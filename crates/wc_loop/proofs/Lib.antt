@@ -4,6 +4,7 @@ pub mod CloseLemmas
 pub mod ClosingLemmas
 pub mod ComeLemmas
 pub mod ConfigurationLemmas
+pub mod ContainedLemmas
 pub mod CutLaws
 pub mod EndingLemmas
 pub mod FeedLemmas

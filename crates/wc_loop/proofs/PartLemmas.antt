@@ -21,6 +21,7 @@ use Rattle.wc_core.specs.Served.{seat_link, links_of, leaving_in, leaving_on, un
 use Rattle.wc_loop.specs.declared.link_state.LinkState.{LinkState}
 use Rattle.wc_loop.specs.declared.link_state.Closed.{Closed}
 use Rattle.wc_loop.specs.declared.headless.Headless.{Headless}
+use Rattle.wc_loop.specs.Contained.{Contained}
 use Rattle.wc_loop.specs.Links.{link_number, is_undrained}
 use Rattle.wc_loop.specs.Parts.{Misses, SendsOn, Parts, Spares, HasFailed}
 use Rattle.wc_loop.specs.Served.{closed_by, leaving_closes, IsCalm, IsOfLine, LeavesFor, LeavesAtLine, closed_number}
@@ -28,19 +29,23 @@ use Rattle.wc_loop.specs.Sources.{Falls, IsWritten, IsSent, TakesNothing}
 use Rattle.wc_loop.specs.Turns.{StandsAmong, Stands, HasGained, IsSettled, is_failure, has_failed, Continues}
 use Rattle.wc_loop.proofs.KeyedLemmas.{at_key-key, at_key-put_other, at_key-put_same, at_key-filter_other, at_key-filter_same, length-without, some_of, none_of}
 use Rattle.wc_loop.proofs.CauseLemmas.{gained-behind}
+use Rattle.wc_loop.proofs.ContainedLemmas.{Contained-refl, Contained-trans, Contained-same}
 use Rattle.wc_loop.proofs.SeatLemmas.{calm-leaving, departed-there, departed-all, departed-leaving, leaving-without, all-without, leaving-gone, links-gone, calm-left, closes-all}
 use Rattle.wc_loop.proofs.SourceLemmas.{Later, Falls-refl, Falls-trans, TakesNothing-refl, TakesNothing-trans}
 
 -- ---- bytes are sent
 
 pub SendsOn-refl : (link : ℕ) (x : Headless) (a : Seen) → SendsOn link x x a a
-SendsOn-refl link x a = record { falls = Falls-refl a; nothing = TakesNothing-refl a; quits = refl; links = refl; leaving = refl; why = refl; seats = λ k n. refl; blocked = λ k n. refl }
+SendsOn-refl link x a = record { falls = Falls-refl a; nothing = TakesNothing-refl a; quits = refl; starved = refl; used = refl; states = refl; links = refl; leaving = refl; why = refl; seats = λ k n. refl; blocked = λ k n. refl }
 
 pub SendsOn-trans : (link : ℕ) (x y z : Headless) (a b c : Seen) → (IsTrue c.tells → IsTrue b.tells) → SendsOn link x y a b → SendsOn link y z b c → SendsOn link x z a c
 SendsOn-trans link x y z a b c told h g = record {
   falls = Falls-trans a b c h.falls g.falls;
   nothing = TakesNothing-trans a b c told h.nothing g.nothing;
   quits = g.quits ∙ h.quits;
+  starved = g.starved ∙ h.starved;
+  used = g.used ∙ h.used;
+  states = g.states ∙ h.states;
   links = g.links ∙ h.links;
   leaving = g.leaving ∙ h.leaving;
   why = g.why ∙ h.why;
@@ -49,11 +54,14 @@ SendsOn-trans link x y z a b c told h g = record {
 }
 
 -- a call that leaves the clients as they are
-pub SendsOn-call : (link : ℕ) (x y : Headless) (a b : Seen) → y.core ≡ x.core → Falls a b → TakesNothing a b → ((k : ℕ) → k ≢ link → b.blocked k ≡ a.blocked k) → SendsOn link x y a b
-SendsOn-call link x y a b core falls nothing blocked = record {
+pub SendsOn-call : (link : ℕ) (x y : Headless) (a b : Seen) → y.core ≡ x.core → y.used ≡ x.used → y.links ≡ x.links → Falls a b → TakesNothing a b → ((k : ℕ) → k ≢ link → b.blocked k ≡ a.blocked k) → SendsOn link x y a b
+SendsOn-call link x y a b core used states falls nothing blocked = record {
   falls = falls;
   nothing = nothing;
   quits = ap (λ c. c.quits) core;
+  starved = ap (λ c. c.starved) core;
+  used = used;
+  states = states;
   links = ap (λ c. map seat_link c.seats) core;
   leaving = ap (λ c. leaving_closes c.seats) core;
   why = ap (λ c. leaving_on link c.seats) core;
@@ -77,12 +85,18 @@ SendsOn-took link count x a b o found falls nothing blocked = record {
   falls = falls;
   nothing = nothing;
   quits = refl;
+  starved = refl;
+  used = refl;
+  states = refl;
   links = links-gone link count x.core.seats o found;
   leaving = leaving-gone link count x.core.seats o found;
   why = why-gone link count x.core.seats o found;
   seats = λ k n. seats-gone link count k x.core.seats o found n;
   blocked = blocked;
 }
+
+pub Contained-sends : (link : ℕ) (x y : Headless) (a b : Seen) → SendsOn link x y a b → Contained x y
+Contained-sends link x y a b h = Contained-same x y h.used (let e = h.starved in omega arith) (λ k. ap (λ l. is_some (at_key link_number k l.opened.items)) h.states) (ap (λ l. l.closed.items) h.states)
 
 pub Misses-later : (link : ℕ) (x y : Headless) (a b : Seen) → SendsOn link x y a b → Misses link x.core → Misses link y.core
 Misses-later link x y a b h (inl over) = inl (h.quits ∙ over)
@@ -152,8 +166,8 @@ parted-by k link false e x y z left same =
 
 -- the first one that is leaving is parted with
 pub Parts-first : (x y z : Headless) (a b c : Seen) (d : Departure) → departure_of x.core.seats ≡ Some d → (IsTrue c.tells → IsTrue b.tells) → SendsOn d.link.0 x y a b → z.core ≡ record y.core { seats = without seat_link d.link.0 y.core.seats }
-    → Falls b c → TakesNothing b c → ((k : ℕ) → k ≢ d.link.0 → c.blocked k ≡ b.blocked k) → Parts x z a c
-Parts-first x y z a b c d first told sends core falls nothing blocked =
+    → Contained y z → Falls b c → TakesNothing b c → ((k : ℕ) → k ≢ d.link.0 → c.blocked k ≡ b.blocked k) → Parts x z a c
+Parts-first x y z a b c d first told sends core contained falls nothing blocked =
     let seats : z.core.seats ≡ without seat_link d.link.0 y.core.seats = ap (λ s. s.seats) core in
     let left : leaving_closes z.core.seats ≡ without closed_number d.link.0 (leaving_closes x.core.seats) = ap leaving_closes seats ∙ leaving-without d.link.0 y.core.seats ∙ ap (without closed_number d.link.0) sends.leaving in
     let other : (k : ℕ) → Spares k (leaving_closes x.core.seats) → k ≢ d.link.0 = λ k s q. departed-all (λ (close : Closed). closed_number close ≢ k) x.core.seats d first s (sym q) in
@@ -164,6 +178,7 @@ Parts-first x y z a b c d first told sends core falls nothing blocked =
       spared = λ k s. subst (Spares k) (sym left) (all-without (λ (close : Closed). closed_number close ≢ k) d.link.0 (leaving_closes x.core.seats) s);
       seats = λ k s. ap (at_key seat_link k) seats ∙ at_key-filter_other seat_link d.link.0 k y.core.seats (other k s) ∙ sends.seats k (other k s);
       blocked = λ k s. blocked k (other k s) ∙ sends.blocked k (other k s);
+      contained = Contained-trans x y z (Contained-sends d.link.0 x y a b sends) contained;
       parted = λ k. parted-by k d.link.0 (eqb k d.link.0) refl x.core.seats y.core.seats z.core.seats seats (sends.seats k);
     }
 
@@ -181,7 +196,7 @@ fewer-parted x y z d first links core =
     omega arith
 
 pub Parts-refl : (x : Headless) (a : Seen) → Parts x x a a
-Parts-refl x a = record { falls = Falls-refl a; nothing = TakesNothing-refl a; quits = refl; spared = λ k s. s; seats = λ k s. refl; blocked = λ k s. refl; parted = λ k. inr (refl, refl) }
+Parts-refl x a = record { falls = Falls-refl a; nothing = TakesNothing-refl a; quits = refl; spared = λ k s. s; seats = λ k s. refl; blocked = λ k s. refl; contained = Contained-refl x; parted = λ k. inr (refl, refl) }
 
 parted-then : (k : ℕ) (x y z : List Seat) → (at_key seat_link k y ≡ None) ⊎ ((leaving_on k y ≡ leaving_on k x) × (is_some (at_key seat_link k y) ≡ is_some (at_key seat_link k x)))
     → (at_key seat_link k z ≡ None) ⊎ ((leaving_on k z ≡ leaving_on k y) × (is_some (at_key seat_link k z) ≡ is_some (at_key seat_link k y)))
@@ -198,6 +213,7 @@ Parts-trans x y z a b c told h g = record {
   spared = λ k s. g.spared k (h.spared k s);
   seats = λ k s. g.seats k (h.spared k s) ∙ h.seats k s;
   blocked = λ k s. g.blocked k (h.spared k s) ∙ h.blocked k s;
+  contained = Contained-trans x y z h.contained g.contained;
   parted = λ k. parted-then k x.core.seats y.core.seats z.core.seats (h.parted k) (g.parted k);
 }
 

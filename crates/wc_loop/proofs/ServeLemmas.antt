@@ -17,12 +17,14 @@ use Rattle.wc_core.specs.declared.seat.Seat.{Seat}
 use Rattle.wc_core.specs.Served.{seat_link, unsent_in, unsent_on}
 use Rattle.wc_loop.specs.declared.headless.Headless.{Headless}
 use Rattle.wc_loop.specs.declared.link_state.LinkState.{LinkState}
+use Rattle.wc_loop.specs.Contained.{Contained}
 use Rattle.wc_loop.specs.Links.{link_number, is_undrained}
 use Rattle.wc_loop.specs.Served.{IsCalm}
 use Rattle.wc_loop.specs.Sources.{bytes_taken, arrivals, Falls, IsServed, IsHeard, IsWritten, IsSent, AllServed, AllSent, ServesNamed, TakesWithin, TakesNothing, flagged, has_unsent, is_left_over}
 use Rattle.wc_loop.specs.Turns.{HasGained, Stands, Continues, faults_of}
 use Rattle.wc_loop.proofs.KeyedLemmas.{at_key-key}
 use Rattle.wc_loop.proofs.CauseLemmas.{gained-later, gained-behind}
+use Rattle.wc_loop.proofs.ContainedLemmas.{Contained-refl, Contained-trans}
 use Rattle.wc_loop.proofs.CloseLemmas.{Continues-refl}
 use Rattle.wc_loop.proofs.TurnLemmas.{Continues-trans, Continues-behind}
 use Rattle.wc_loop.proofs.SourceLemmas.{Later, later-of, Falls-refl, Falls-trans, IsServed-later, IsServed-behind, IsServed-drained, IsHeard-later, IsHeard-behind}
@@ -272,6 +274,7 @@ Named-none x a calm = record {
   continues = Continues-refl x a;
   calm = calm;
   falls = Falls-refl a;
+  contained = λ s. Contained-refl x;
   served = λ s q k h. absurd (false≢true h);
   heard = λ f q h. absurd (false≢true h);
   failed = λ f. absurd (omega arith);
@@ -287,6 +290,7 @@ Named-listener-again front all faults x y a b more named h = record {
   continues = h.continues;
   calm = h.calm;
   falls = h.falls;
+  contained = h.contained;
   served = λ s q k i. in-more (is_link k) front all Listener _ more (h.served s q k) (λ e p. absurd (false≢true p)) i;
   heard = λ f q i. h.heard f q named;
   failed = λ f. ((h.failed f).0, still-more is_listener front all Listener more named);
@@ -302,6 +306,7 @@ Named-link-again front all link faults x y a b more named h = record {
   continues = h.continues;
   calm = h.calm;
   falls = h.falls;
+  contained = h.contained;
   served = λ s q k i. in-more (is_link k) front all (Link link) _ more (h.served s q k) (λ e p. h.served s q k (subst (λ j. IsTrue (list_any (is_link j) front)) (is_link-same k link.0 p) named)) i;
   heard = λ f q i. in-more is_listener front all (Link link) _ more (h.heard f q) (λ e p. absurd (false≢true p)) i;
   failed = λ f. ((h.failed f).0, still-more is_listener front all (Link link) more (h.failed f).1);
@@ -313,13 +318,14 @@ Named-link-again front all link faults x y a b more named h = record {
 
 -- a link is read
 pub Named-link : (front all : List Token) (link : LinkId) (faults : ℕ) (x y z : Headless) (a b c : Seen) → IsMore front all (Link link) → list_any (is_link link.0) front ≡ false → y.core.quits ≡ false → ServesNamed front faults x y a b
-    → Continues true 0 0 y z b c → IsCalm z.core.seats → Falls b c → (Stands y b → z.core.quits ≡ false → IsServed link.0 b c) → TakesOf link.0 b c → ServesNamed all faults x z a c
-Named-link front all link faults x y z a b c more out going h continues calm falls served takes =
+    → Continues true 0 0 y z b c → IsCalm z.core.seats → Falls b c → Contained y z → (Stands y b → z.core.quits ≡ false → IsServed link.0 b c) → TakesOf link.0 b c → ServesNamed all faults x z a c
+Named-link front all link faults x y z a b c more out going h continues calm falls contained served takes =
     let later = later-of b c continues in
     record {
       continues = Continues-trans x y z a b c h.continues continues;
       calm = calm;
       falls = Falls-trans a b c h.falls falls;
+      contained = λ s. Contained-trans x y z (h.contained s) contained;
       served = λ s q k i. in-more (is_link k) front all (Link link) _ more
           (λ p. IsServed-later k a b c (h.served s going k p) falls later)
           (λ e p. subst (λ j. IsServed j a c) (is_link-same k link.0 p) (IsServed-behind link.0 a b c (later-of a b h.continues) later (served (h.continues.stands s) q))) i;
@@ -347,9 +353,9 @@ Named-link front all link faults x y z a b c more out going h continues calm fal
 
 -- the listener is asked for arrivals
 pub Named-listener : {A : Type 0} (r : Result A Fault) (front all : List Token) (faults : ℕ) (x y z : Headless) (a b c : Seen) → IsMore front all Listener → list_any is_listener front ≡ false → y.core.quits ≡ false → ServesNamed front faults x y a b
-    → Continues true 0 (faults_of r) y z b c → IsCalm z.core.seats → Falls b c → OnOk r (IsHeard b c) → OnErr r (Rose b.faults.listens c.faults.listens) → (IsTrue c.tells → arrivals c.taken ≤ arrivals b.taken + 1024) → (IsTrue c.tells → (k : ℕ) → bytes_taken k c.taken ≡ bytes_taken k b.taken)
+    → Continues true 0 (faults_of r) y z b c → IsCalm z.core.seats → Falls b c → (Stands y b → Contained y z) → OnOk r (IsHeard b c) → OnErr r (Rose b.faults.listens c.faults.listens) → (IsTrue c.tells → arrivals c.taken ≤ arrivals b.taken + 1024) → (IsTrue c.tells → (k : ℕ) → bytes_taken k c.taken ≡ bytes_taken k b.taken)
     → ServesNamed all (faults_of r) x z a c
-Named-listener r front all faults x y z a b c more out going h continues calm falls heard failed clients bytes =
+Named-listener r front all faults x y z a b c more out going h continues calm falls contained heard failed clients bytes =
     let later = later-of b c continues in
     let first = later-of a b h.continues in
     let good : faults ≡ 0 = none faults h.failed in
@@ -357,6 +363,7 @@ Named-listener r front all faults x y z a b c more out going h continues calm fa
       continues = Continues-behind x y z a b c (subst (λ n. Continues true 0 n x y a b) good h.continues) continues;
       calm = calm;
       falls = Falls-trans a b c h.falls falls;
+      contained = λ s. Contained-trans x y z (h.contained s) (contained (h.continues.stands s));
       served = λ s q k i. in-more (is_link k) front all Listener _ more (λ p. IsServed-later k a b c (h.served s going k p) falls later) (λ e p. absurd (false≢true p)) i;
       heard = λ f q i. IsHeard-behind a b c first later (heard-of r _ f heard);
       failed = λ f. ((let p = failed-of r _ f failed in let q = h.continues.counts.listens in omega arith), more.any is_listener ∙ ap (λ b. b || true) out);
@@ -376,6 +383,7 @@ Named-quits front all faults x y a b more quits h = record {
   continues = h.continues;
   calm = h.calm;
   falls = h.falls;
+  contained = h.contained;
   served = λ s q k i. absurd (false≢true (sym q ∙ quits));
   heard = λ f q i. absurd (false≢true (sym q ∙ quits));
   failed = λ f. ((h.failed f).0, more is_listener (h.failed f).1);

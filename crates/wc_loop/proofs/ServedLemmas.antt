@@ -59,18 +59,19 @@ for-same : (link other : ℕ) (o : Option Cause) → LeavesFor link other o o
 for-same link other None = tt
 for-same link other (Some why) = refl
 
-pub LeavesAtLine-refl : (link : ℕ) (seats : List Seat) → LeavesAtLine link seats seats
-LeavesAtLine-refl link seats = record { links = refl; leaving = λ distinct other. for-same link other (leaving_on other seats) }
+pub LeavesAtLine-refl : (link : ℕ) (core : Standing) → LeavesAtLine link core core
+LeavesAtLine-refl link core = record { rises = omega arith; links = refl; leaving = λ distinct other. for-same link other (leaving_on other core.seats) }
 
 for-then : (link other : ℕ) (a b c : Option Cause) → LeavesFor link other a b → LeavesFor link other b c → LeavesFor link other a c
 for-then link other (Some why) b c h g = subst (λ o. LeavesFor link other o c) h g
 for-then link other None None c h g = g
 for-then link other None (Some why) c h g = rw g h
 
-pub LeavesAtLine-trans : (link : ℕ) (a b c : List Seat) → LeavesAtLine link a b → LeavesAtLine link b c → LeavesAtLine link a c
+pub LeavesAtLine-trans : (link : ℕ) (a b c : Standing) → LeavesAtLine link a b → LeavesAtLine link b c → LeavesAtLine link a c
 LeavesAtLine-trans link a b c h g = record {
+  rises = (let p = h.rises in let q = g.rises in omega arith);
   links = g.links ∙ h.links;
-  leaving = λ distinct other. for-then link other (leaving_on other a) (leaving_on other b) (leaving_on other c) (h.leaving distinct other) (g.leaving (subst Distinct (sym h.links) distinct) other);
+  leaving = λ distinct other. for-then link other (leaving_on other a.seats) (leaving_on other b.seats) (leaving_on other c.seats) (h.leaving distinct other) (g.leaving (subst Distinct (sym h.links) distinct) other);
 }
 
 for-line : (link : ℕ) (closes : Option Cause) → LineCause closes → LeavesFor link link None closes
@@ -90,8 +91,9 @@ for-step link other None closes after kept (inl e) g = rw e g
 for-step link other None closes after kept (inr (inl e)) g = rw e tt
 for-step link other None closes after kept (inr (inr e)) g = rw e tt
 
-pub LeavesAtLine-one : (link : ℕ) (a b : Standing) (line : List ℕ) → MayDo a b (step (state_of a) (Line link line)) → LeavesAtLine link a.seats b.seats
+pub LeavesAtLine-one : (link : ℕ) (a b : Standing) (line : List ℕ) → MayDo a b (step (state_of a) (Line link line)) → LeavesAtLine link a b
 LeavesAtLine-one link a b line h = record {
+  rises = h.keeps.rises;
   links = h.keeps.links;
   leaving = λ distinct other. for-step link other (leaving_on other a.seats) (close_of other (step (state_of a) (Line link line)).acts) (leaving_on other b.seats) (λ s. ap leaving_in (h.keeps.kept other s)) (h.causes distinct other)
       (for-closed link other (state_of a) line (eqb other link) refl);

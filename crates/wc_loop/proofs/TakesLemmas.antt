@@ -151,10 +151,10 @@ began link other None None why e f h = absurd (let q : None ≡ Some why = f in 
 began link other None (Some c) why e f h = let same : c ≡ why = (let q : Some c ≡ Some why = f in cc) in subst (IsOfLine link other) same h
 began link other (Some c) after why e f h = absurd (let q : Some c ≡ None = e in cc)
 
-pub causes-line : (link : LinkId) (bytes : List ℕ) (old new : List Seat) (a b : Seen) → IsCalm old → LeavesAtLine link.0 old new → (IsTrue b.tells → b.taken ≡ a.taken ++ Read link bytes ∷ []) → Distinct (map seat_link old) → All (IsCaused a b) (leaving_closes new)
+pub causes-line : (link : LinkId) (bytes : List ℕ) (old new : Standing) (a b : Seen) → IsCalm old.seats → LeavesAtLine link.0 old new → (IsTrue b.tells → b.taken ≡ a.taken ++ Read link bytes ∷ []) → Distinct (links_of old) → All (IsCaused a b) (leaving_closes new.seats)
 causes-line link bytes old new a b calm h e distinct =
-    closes-all (λ k why. CausedBy why k a b) new (subst Distinct (sym h.links) distinct)
-    (λ k why leaves. line-caused link k bytes why a b (began link.0 k (leaving_on k old) (leaving_on k new) why (calm-leaving k old calm) leaves (h.leaving distinct k)) e)
+    closes-all (λ k why. CausedBy why k a b) new.seats (subst Distinct (sym h.links) distinct)
+    (λ k why leaves. line-caused link k bytes why a b (began link.0 k (leaving_on k old.seats) (leaving_on k new.seats) why (calm-leaving k old.seats calm) leaves (h.leaving distinct k)) e)
 
 pub causes-lost : (link : LinkId) (why : Cause) (old : List Seat) (a b : Seen) → IsCalm old → CausedBy why link.0 a b → All (IsCaused a b) (leaving_closes (left_at link.0 why old (at_key seat_link link.0 old)))
 causes-lost link why old a b calm h = lost-by (at_key seat_link link.0 old) refl

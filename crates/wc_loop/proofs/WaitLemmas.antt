@@ -1,5 +1,5 @@
 -- How a turn waits, and how it ends.
-use Rattle.std.proofs.Common.{◌≡◌, ◌≢◌, ℕ, ◌+◌, ◌≤◌, Bool, true, false, cond, IsTrue, List, [], ◌∷◌, ◌++◌, Option, Result, Ok, Err, OnOk, OnErr, is_ok, is_err, refl, sym, ap, ◌∙◌, subst, arith}
+use Rattle.std.proofs.Common.{◌≡◌, ◌≢◌, ℕ, ◌+◌, ◌<◌, ◌≤◌, Bool, true, false, ◌||◌, IsTrue, List, [], ◌∷◌, ◌++◌, Option, is_some, Result, Ok, Err, OnOk, OnErr, is_ok, is_err, refl, sym, ap, ◌∙◌, subst, arith}
 use Rattle.std.proofs.lemmas.Bool.{false≢true}
 use Rattle.std.proofs.lemmas.List.{append-nil}
 use Rattle.std.proofs.lemmas.List.Elements.{All-nil}
@@ -12,9 +12,13 @@ use Rattle.wc_core.specs.Served.{state_of}
 use Rattle.wc_loop.specs.declared.headless.Headless.{Headless}
 use Rattle.wc_loop.specs.declared.then.Then.{Then}
 use Rattle.wc_loop.specs.declared.then.Then.TheVariants.{GoOn, Quit}
+use Rattle.wc_outside.specs.Keyed.{at_key}
+use Rattle.wc_loop.specs.Contained.{is_known, Contained}
+use Rattle.wc_loop.specs.Links.{link_number}
+use Rattle.wc_loop.specs.Served.{closed_number}
 use Rattle.wc_loop.specs.Sources.{bytes_taken, arrivals, TakesNothing, TakesWithin}
 use Rattle.wc_loop.specs.Turns.{Stands, Continues, ClosesExactly, moment, waits_then, faults_then, faults_of}
-use Rattle.wc_loop.specs.Waits.{then_of, Wakes}
+use Rattle.wc_loop.specs.Waits.{then_of, Wakes, LosesNone}
 use Rattle.wc_loop.proofs.PointLemmas.{Advances-same}
 use Rattle.wc_loop.proofs.RunLemmas.{Reaches-none}
 use Rattle.wc_loop.proofs.SourceLemmas.{bytes_taken-append, arrivals-append}
@@ -104,3 +108,14 @@ pub quits-by : {A : Type 0} (r : Result A Fault) (quits : Bool) (then : Then) �
 quits-by (Err f) quits then e q = cc
 quits-by (Ok v) true then e q = refl
 quits-by (Ok v) false then e q = cc
+
+-- ---- no link is lost
+
+open-known : (k : ℕ) (x y z : Headless) → Contained y z → is_some (at_key link_number k y.links.opened.items) ≡ is_some (at_key link_number k x.links.opened.items) → is_some (at_key link_number k x.links.opened.items) ≡ true → is_known k z ≡ true
+open-known k x y z h links there = h.known k (ap (λ b. b || is_some (at_key closed_number k y.links.closed.items)) (links ∙ there))
+
+pub loses-none : {n : ℕ} (x y z : Headless) (a b : Seen) → Wakes n x y a b → Contained y z → LosesNone x z
+loses-none x y z a b w h = record {
+  opened = λ k there. open-known k x y z h (w.links k) there;
+  came = λ k above below. rw w.starved at (h.came k (let u = w.used in omega arith) below);
+}

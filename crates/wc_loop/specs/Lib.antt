@@ -1,4 +1,5 @@
 pub mod Configuration
+pub mod Contained
 pub mod Endings
 pub mod Events
 pub mod Hands

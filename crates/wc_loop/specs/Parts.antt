@@ -8,6 +8,7 @@ use Rattle.wc_core.specs.Standing.{Standing}
 use Rattle.wc_core.specs.Served.{seat_link, links_of, leaving_on, Distinct}
 use Rattle.wc_loop.specs.declared.link_state.Closed.{Closed}
 use Rattle.wc_loop.specs.declared.headless.Headless.{Headless}
+use Rattle.wc_loop.specs.Contained.{Contained}
 use Rattle.wc_loop.specs.Served.{leaving_closes, closed_number}
 use Rattle.wc_loop.specs.Sources.{Falls, TakesNothing, bytes_taken, arrivals}
 use Rattle.wc_loop.specs.Turns.{has_failed}
@@ -21,6 +22,9 @@ pub record SendsOn (link : ℕ) (x y : Headless) (before after : Seen) : Type 0 
   pub falls : Falls before after
   pub nothing : TakesNothing before after
   pub quits : y.core.quits ≡ x.core.quits
+  pub starved : y.core.starved ≡ x.core.starved
+  pub used : y.used ≡ x.used
+  pub states : y.links ≡ x.links
   pub links : map seat_link y.core.seats ≡ map seat_link x.core.seats
   pub leaving : leaving_closes y.core.seats ≡ leaving_closes x.core.seats
   pub why : leaving_on link y.core.seats ≡ leaving_on link x.core.seats
@@ -44,6 +48,7 @@ pub record Parts (x y : Headless) (before after : Seen) : Type 0 where
   pub spared : (other : ℕ) → Spares other (leaving_closes x.core.seats) → Spares other (leaving_closes y.core.seats)
   pub seats : (other : ℕ) → Spares other (leaving_closes x.core.seats) → at_key seat_link other y.core.seats ≡ at_key seat_link other x.core.seats
   pub blocked : (other : ℕ) → Spares other (leaving_closes x.core.seats) → after.blocked other ≡ before.blocked other
+  pub contained : Contained x y
   -- a client is forgotten, or stays as it is
   pub parted : (other : ℕ) → (at_key seat_link other y.core.seats ≡ None)
       ⊎ ((leaving_on other y.core.seats ≡ leaving_on other x.core.seats) × (is_some (at_key seat_link other y.core.seats) ≡ is_some (at_key seat_link other x.core.seats)))

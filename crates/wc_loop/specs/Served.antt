@@ -1,5 +1,5 @@
 -- The clients of the core, as the loop serves them.
-use Rattle.std.specs.Prelude.{ℕ, ◌+◌, ◌-◌, ◌^◌, ◌≡◌, ◌<◌, Bool, true, false, min, List, [], ◌∷◌, ◌++◌, length, map, Option, Some, None}
+use Rattle.std.specs.Prelude.{ℕ, ◌+◌, ◌-◌, ◌^◌, ◌≡◌, ◌<◌, ◌≤◌, Bool, true, false, min, List, [], ◌∷◌, ◌++◌, length, map, Option, Some, None}
 use Rattle.wc_text.specs.declared.names.LinkId.{LinkId}
 use Rattle.wc_text.specs.declared.names.Cause.{Cause}
 use Rattle.wc_text.specs.declared.names.Cause.TheVariants.{Ended, Failed, LoginFailed, NoMemory, Surplus, Quit, Disconnected, NickTaken}
@@ -61,9 +61,10 @@ LeavesFor link other None (Some cause) = IsOfLine link other cause
 LeavesFor link other None None = Unit {0}
 
 -- the same links have clients, and those that began to leave could do so at a line of this link
-pub record LeavesAtLine (link : ℕ) (old new : List Seat) : Type 0 where
-  pub links : map seat_link new ≡ map seat_link old
-  pub leaving : Distinct (map seat_link old) → (other : ℕ) → LeavesFor link other (leaving_on other old) (leaving_on other new)
+pub record LeavesAtLine (link : ℕ) (old new : Standing) : Type 0 where
+  pub rises : old.starved ≤ new.starved
+  pub links : links_of new ≡ links_of old
+  pub leaving : Distinct (links_of old) → (other : ℕ) → LeavesFor link other (leaving_on other old.seats) (leaving_on other new.seats)
 
 -- a close goes by the number of its link
 abbrev pub closed_number : Closed → ℕ

@@ -5,6 +5,7 @@ use Rattle.wc_outside.specs.Happenings.{is_link, is_listener}
 use Rattle.wc_outside.specs.Seen.{Seen}
 use Rattle.wc_outside.specs.Faults.{Rose}
 use Rattle.wc_loop.specs.declared.headless.Headless.{Headless}
+use Rattle.wc_loop.specs.Contained.{Contained}
 use Rattle.wc_loop.specs.Served.{IsCalm}
 use Rattle.wc_loop.specs.Turns.{HasGained, Stands, Continues}
 use Rattle.wc_outside.specs.declared.happening.Happening.{Happening}
@@ -68,6 +69,7 @@ pub record ServesNamed (tokens : List Token) (faults : ℕ) (old new : Headless)
   pub continues : Continues true 0 faults old new before after
   pub calm : IsCalm new.core.seats
   pub falls : Falls before after
+  pub contained : Stands old before → Contained old new
   pub served : Stands old before → new.core.quits ≡ false → (link : ℕ) → IsTrue (list_any (is_link link) tokens) → IsServed link before after
   pub heard : faults ≡ 0 → new.core.quits ≡ false → IsTrue (list_any is_listener tokens) → IsHeard before after
   pub failed : 1 ≤ faults → Rose before.faults.listens after.faults.listens × IsTrue (list_any is_listener tokens)

@@ -8,6 +8,7 @@ use Rattle.wc_core.specs.Events.{Arrives}
 use Rattle.wc_core.specs.Standing.{Standing}
 use Rattle.wc_core.specs.Step.{step}
 use Rattle.wc_core.specs.Served.{state_of, links_of, new_seat, refusal, Absent, MayCome}
+use Rattle.wc_loop.specs.Contained.{HasStarved}
 use Rattle.wc_loop.specs.Served.{closed_by, IsCalm}
 use Rattle.wc_outside.specs.Happenings.{is_link, is_listener}
 use Rattle.wc_outside.specs.declared.sockets.Token.{Token}
@@ -51,6 +52,7 @@ pub record Refuses (x y : Headless) (link : LinkId) (nonce : List ℕ) : Type 0 
   pub closed : at_key link_number link.0 x.links.opened.items ≡ None → y.links.closed.items ≡ x.links.closed.items ++ closed_by link cause
   pub core : Absent link.0 (links_of x.core) → y.core ≡ record x.core { starved = y.core.starved }
   pub rises : x.core.starved ≤ y.core.starved
+  pub starves : cause ≡ None → HasStarved x.core.starved y.core.starved
   pub step : y.core.starved ≡ x.core.starved → x.core.starved < 2 ^ 64 - 1 → Absent link.0 (links_of x.core)
       → step (state_of x.core) (Arrives link.0 nonce) ≡ record { state = state_of x.core; acts = refusal link.0 cause }
 

@@ -1,11 +1,14 @@
 -- How a turn waits, and how it ends.
-use Rattle.std.specs.Prelude.{ℕ, ◌≡◌, ◌==◌, Bool, true, false, ◌||◌, if◌then◌else◌, [], Result, Ok, Err}
+use Rattle.std.specs.Prelude.{ℕ, ◌≡◌, ◌<◌, ◌≤◌, ◌⊎◌, ◌==◌, Bool, true, false, ◌||◌, if◌then◌else◌, is_some, [], Result, Ok, Err}
 use Rattle.std.specs.List.{list_any}
 use Rattle.wc_outside.specs.Seen.{Seen}
 use Rattle.wc_outside.specs.declared.failed.Failed.{Failed as Fault}
 use Rattle.wc_loop.specs.declared.headless.Headless.{Headless}
 use Rattle.wc_loop.specs.declared.then.Then.{Then}
 use Rattle.wc_loop.specs.declared.then.Then.TheVariants.{GoOn, Quit, ListenFault}
+use Rattle.wc_outside.specs.Keyed.{at_key}
+use Rattle.wc_loop.specs.Contained.{is_known, HasStarved}
+use Rattle.wc_loop.specs.Links.{link_number}
 use Rattle.wc_loop.specs.Served.{IsCalm}
 use Rattle.wc_loop.specs.Sources.{TakesNothing}
 use Rattle.wc_loop.specs.Turns.{Continues}
@@ -31,4 +34,12 @@ pub record Wakes (waits : ℕ) (old new : Headless) (before after : Seen) : Type
   pub closed : new.links.closed.items ≡ []
   pub calm : IsCalm new.core.seats
   pub going : new.core.quits ≡ false
+  pub used : new.used ≡ old.used
+  pub starved : new.core.starved ≡ old.core.starved
+  pub links : (link : ℕ) → is_some (at_key link_number link new.links.opened.items) ≡ is_some (at_key link_number link old.links.opened.items)
   pub nothing : TakesNothing before after
+
+-- In a turn no link is lost: one that was open before is open behind it or listed as closed, and so is one whose number came to be used, unless it was refused for want of memory.
+pub record LosesNone (x y : Headless) : Type 0 where
+  pub opened : (link : ℕ) → is_some (at_key link_number link x.links.opened.items) ≡ true → is_known link y ≡ true
+  pub came : (link : ℕ) → x.used < link → link ≤ y.used → (is_known link y ≡ true) ⊎ HasStarved x.core.starved y.core.starved

@@ -13,7 +13,7 @@ use wc_text::LinkId;
 /// Serves a line of a link, unless it is too long.
 fn serve_line(core: &mut Core, link: LinkId, line: &[u8], ran: &mut u64)
     ensures does { MayRun core.old core.new (line_events link.0 line.now) }
-    ensures causes { LeavesAtLine link.0 core.old.seats core.new.seats }
+    ensures causes { LeavesAtLine link.0 core.old core.new }
     ensures ran { ran.new ≡ min (ran.old + length (line_events link.0 line.now)) (2 ^ 64 - 1) }
 {
     let _ran = *ran;
@@ -28,7 +28,7 @@ fn serve_line(core: &mut Core, link: LinkId, line: &[u8], ran: &mut u64)
 fn serve_tail(core: &mut Core, link: LinkId, tail: &mut Tail, ran: &mut u64)
     ensures begins { tail.new ≡ record { line = []; over = false } }
     ensures does { (line : List ℕ) → IsTail line tail.old → MayRun core.old core.new (line_events link.0 line) }
-    ensures causes { LeavesAtLine link.0 core.old.seats core.new.seats }
+    ensures causes { LeavesAtLine link.0 core.old core.new }
     ensures ran { (line : List ℕ) → IsTail line tail.old → ran.new ≡ min (ran.old + length (line_events link.0 line)) (2 ^ 64 - 1) }
 {
     let _ran = *ran;
@@ -44,7 +44,7 @@ fn serve_tail(core: &mut Core, link: LinkId, tail: &mut Tail, ran: &mut u64)
 fn end_line(core: &mut Core, link: LinkId, tail: &mut Tail, front: &[u8], ran: &mut u64)
     ensures begins { tail.new ≡ record { line = []; over = false } }
     ensures does { (line : List ℕ) → IsTail line tail.old → MayRun core.old core.new (line_events link.0 (line ++ front.now)) }
-    ensures causes { LeavesAtLine link.0 core.old.seats core.new.seats }
+    ensures causes { LeavesAtLine link.0 core.old core.new }
     ensures ran { (line : List ℕ) → IsTail line tail.old → ran.new ≡ min (ran.old + length (line_events link.0 (line ++ front.now))) (2 ^ 64 - 1) }
 {
     if tail.is_empty() {
@@ -73,7 +73,7 @@ pub fn feed(core: &mut Core, link: LinkId, tail: &mut Tail, bytes: &[u8], ran: &
     requires going { core.old.quits ≡ false }
     ensures tail { core.new.quits ≡ false → (line : List ℕ) → IsTail line tail.old → IsTail (rest line bytes.now) tail.new }
     ensures takes { (line : List ℕ) → IsTail line tail.old → MayTake core.old core.new ran.old ran.new (read_events link.0 line bytes.now) }
-    ensures causes { LeavesAtLine link.0 core.old.seats core.new.seats }
+    ensures causes { LeavesAtLine link.0 core.old core.new }
 {
     let _ran = *ran;
     let mut rest = bytes;

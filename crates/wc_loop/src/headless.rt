@@ -41,6 +41,7 @@ fn is_tick(last: u64, moment: u64) -> bool
 }
 
 impl Headless {
+    ghost use Rattle.wc_loop.specs.Contained.{HasStarved};
     ghost use Rattle.wc_loop.specs.Turns.{Takes};
     ghost use Rattle.wc_loop.specs.Steps.{Comes, ServesArrival, Marks, Reports, Begins, missed};
 
@@ -72,7 +73,7 @@ impl Headless {
         requires place { IsPlace link_number link.0 self.old.links.opened.items place }
         requires going { self.old.core.quits ≡ false }
         ensures takes { Takes self.old self.new (Read link bytes.now) }
-        ensures causes { LeavesAtLine link.0 self.old.core.seats self.new.core.seats }
+        ensures causes { LeavesAtLine link.0 self.old.core self.new.core }
     {
         feed(
             &mut self.core,
@@ -131,7 +132,7 @@ impl Headless {
     /// Serves an arrival for whose link there is no memory.
     fn starve(&mut self, arrival: Arrival)
         ensures core { self.new ≡ record self.old { core = record self.old.core { seats = self.new.core.seats; starved = self.new.core.starved } } }
-        ensures starved { (self.old.core.starved < self.new.core.starved) ⊎ (self.new.core.starved ≡ 2 ^ 64 - 1) }
+        ensures starved { HasStarved self.old.core.starved self.new.core.starved }
         ensures rises { self.old.core.starved ≤ self.new.core.starved }
         ensures seats { Absent arrival.link.0 (links_of self.old.core) → self.new.core.seats ≡ self.old.core.seats }
         ensures calm { IsCalm self.old.core.seats → IsCalm self.new.core.seats }

@@ -4,6 +4,7 @@ ghost use Rattle.wc_outside.specs.Faults.{Rose};
 ghost use Rattle.wc_outside.specs.Happenings.{is_link, is_listener};
 ghost use Rattle.wc_outside.specs.Keyed.{at_key};
 ghost use Rattle.wc_core.specs.Served.{seat_link};
+ghost use Rattle.wc_loop.specs.Contained.{Contained};
 ghost use Rattle.wc_loop.specs.Links.{link_number};
 ghost use Rattle.wc_loop.specs.Served.{IsCalm};
 ghost use Rattle.wc_loop.specs.Sources.{Falls, IsServed, IsHeard, IsWritten, AllServed, AllSent, ServesNamed, TakesWithin, TakesNothing, bytes_taken, arrivals, flagged, has_unsent, is_left_over};
@@ -99,6 +100,7 @@ fn write_all<S: Sockets>(headless: &mut Headless, sockets: &mut S)
     requires going { headless.old.core.quits ≡ false }
     ensures continues { Continues true 0 0 headless.old headless.new (S.seen sockets.old) (S.seen sockets.new) }
     ensures calm { IsCalm headless.new.core.seats }
+    ensures contained { Contained headless.old headless.new }
     ensures going { headless.new.core.quits ≡ false }
     ensures falls { Falls (S.seen sockets.old) (S.seen sockets.new) }
     ensures written { (link : ℕ) → 1 ≤ link → IsWritten link headless.new.core.seats (S.seen sockets.new) }
@@ -117,6 +119,7 @@ fn send_all<S: Sockets>(headless: &mut Headless, sockets: &mut S)
     requires quit { headless.old.core.quits ≡ true }
     ensures continues { Continues true 0 0 headless.old headless.new (S.seen sockets.old) (S.seen sockets.new) }
     ensures calm { IsCalm headless.new.core.seats }
+    ensures contained { Contained headless.old headless.new }
     ensures quits { headless.new.core.quits ≡ headless.old.core.quits }
     ensures sent { AllSent headless.new.core.seats (S.seen sockets.old) (S.seen sockets.new) }
     ensures nothing { TakesNothing (S.seen sockets.old) (S.seen sockets.new) }
@@ -135,6 +138,7 @@ fn read_rest<S: Sockets>(headless: &mut Headless, sockets: &mut S, tokens: &[Tok
     requires going { headless.old.core.quits ≡ false }
     ensures continues { Continues true 0 0 headless.old headless.new (S.seen sockets.old) (S.seen sockets.new) }
     ensures calm { IsCalm headless.new.core.seats }
+    ensures contained { Contained headless.old headless.new }
     ensures falls { Falls (S.seen sockets.old) (S.seen sockets.new) }
     ensures served { Stands headless.old (S.seen sockets.old) → headless.new.core.quits ≡ false → (link : ℕ) → 1 ≤ link → list_any (is_link link) tokens.now ≡ false → IsServed link (S.seen sockets.old) (S.seen sockets.new) }
     ensures most { IsTrue (S.seen sockets.new).tells → (link : ℕ) → bytes_taken link (S.seen sockets.new).taken ≤ bytes_taken link (S.seen sockets.old).taken + 1048576 }
@@ -194,6 +198,7 @@ fn accept_rest<S: Sockets>(
     requires going { headless.old.core.quits ≡ false }
     ensures continues { Continues true 0 (faults_of result) headless.old headless.new (S.seen sockets.old) (S.seen sockets.new) }
     ensures calm { IsCalm headless.new.core.seats }
+    ensures contained { Stands headless.old (S.seen sockets.old) → Contained headless.old headless.new }
     ensures going { headless.new.core.quits ≡ false }
     ensures falls { Falls (S.seen sockets.old) (S.seen sockets.new) }
     ensures heard { OnOk result (Stands headless.old (S.seen sockets.old) → list_any is_listener tokens.now ≡ false → IsHeard (S.seen sockets.old) (S.seen sockets.new)) }
@@ -219,6 +224,7 @@ fn serve_sources<S: Sockets>(
     requires going { headless.old.core.quits ≡ false }
     ensures continues { Continues true 0 (faults_of result) headless.old headless.new (S.seen sockets.old) (S.seen sockets.new) }
     ensures calm { IsCalm headless.new.core.seats }
+    ensures contained { Stands headless.old (S.seen sockets.old) → Contained headless.old headless.new }
     ensures served { Stands headless.old (S.seen sockets.old) → headless.new.core.quits ≡ false → (link : ℕ) → 1 ≤ link → IsServed link (S.seen sockets.old) (S.seen sockets.new) }
     ensures heard { OnOk result (Stands headless.old (S.seen sockets.old) → headless.new.core.quits ≡ false → IsHeard (S.seen sockets.old) (S.seen sockets.new)) }
     ensures failed { OnErr result (Rose (S.seen sockets.old).faults.listens (S.seen sockets.new).faults.listens) }
@@ -240,6 +246,7 @@ fn write_unsent<S: Sockets>(headless: &mut Headless, sockets: &mut S)
     requires calm { IsCalm headless.old.core.seats }
     ensures continues { Continues true 0 0 headless.old headless.new (S.seen sockets.old) (S.seen sockets.new) }
     ensures calm { IsCalm headless.new.core.seats }
+    ensures contained { Contained headless.old headless.new }
     ensures quits { headless.new.core.quits ≡ headless.old.core.quits }
     ensures falls { headless.new.core.quits ≡ false → Falls (S.seen sockets.old) (S.seen sockets.new) }
     ensures written { headless.new.core.quits ≡ false → (link : ℕ) → 1 ≤ link → IsWritten link headless.new.core.seats (S.seen sockets.new) }
@@ -263,6 +270,7 @@ pub fn serve_ready<S: Sockets>(
     requires going { headless.old.core.quits ≡ false }
     ensures continues { Continues true 0 (faults_of result) headless.old headless.new (S.seen sockets.old) (S.seen sockets.new) }
     ensures calm { IsCalm headless.new.core.seats }
+    ensures contained { Stands headless.old (S.seen sockets.old) → Contained headless.old headless.new }
     ensures served { OnOk result (Stands headless.old (S.seen sockets.old) → headless.new.core.quits ≡ false → AllServed headless.new.core.seats (S.seen sockets.old) (S.seen sockets.new)) }
     ensures sent { headless.new.core.quits ≡ true → AllSent headless.new.core.seats (S.seen sockets.old) (S.seen sockets.new) }
     ensures failed { OnErr result (Rose (S.seen sockets.old).faults.listens (S.seen sockets.new).faults.listens) }

@@ -20,7 +20,7 @@ impl Headless {
     ghost use Rattle.wc_loop.specs.Served.{IsCalm};
     ghost use Rattle.wc_loop.specs.Sources.{AllServed, AllSent, TakesWithin};
     ghost use Rattle.wc_loop.specs.Turns.{Stands, Continues, IsCaused, ClosesExactly, waits_then, faults_then};
-    ghost use Rattle.wc_loop.specs.Waits.{has_undrained, timeout_of, then_of, Wakes};
+    ghost use Rattle.wc_loop.specs.Waits.{has_undrained, timeout_of, then_of, Wakes, LosesNone};
 
     /// Whether a source was reported ready and is not drained.
     fn has_undrained(&self) -> bool
@@ -57,6 +57,7 @@ impl Headless {
         ensures served { result ≡ Then.GoOn → AllServed self.new.core.seats (S.seen sockets.old) (S.seen sockets.new) }
         ensures sent { result ≡ Then.Quit → AllSent self.new.core.seats (S.seen sockets.old) (S.seen sockets.new) }
         ensures within { TakesWithin (S.seen sockets.old) (S.seen sockets.new) }
+        ensures contained { LosesNone self.old self.new }
         ensures closes { ClosesExactly self.old self.new (S.seen sockets.old) (S.seen sockets.new) }
         ensures never { result ≢ Then.KeeperFault }
         ensures quit { result ≡ Then.Quit → self.new.core.quits ≡ true }

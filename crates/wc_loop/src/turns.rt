@@ -1,6 +1,7 @@
 ghost use Rattle.std.specs.Prelude.{◌≡◌, ◌≢◌, ◌+◌, ◌<◌, ◌≤◌, ℕ, None, Some, Ok, IfSome, IsSome, OnOk, OnErr, IsTrue, true, false, length};
 ghost use Rattle.wc_outside.specs.Faults.{Rose};
 ghost use Rattle.wc_core.specs.Served.{unsent_on, departure_of};
+ghost use Rattle.wc_loop.specs.Contained.{Contained};
 ghost use Rattle.wc_loop.specs.Parts.{Misses, SendsOn, Parts, HasFailed, ReadsOn, ReadBytes, came_of};
 ghost use Rattle.wc_loop.specs.Served.{IsCalm, leaving_closes};
 ghost use Rattle.wc_loop.specs.Sources.{Falls, IsServed, IsHeard, IsWritten, IsSent, TakesNothing, bytes_taken, arrivals};
@@ -126,6 +127,7 @@ fn read_once<S: Sockets>(
     ensures bytes { IfSome result (λ count. ReadBytes link.0 count (S.seen sockets.old) (S.seen sockets.new)) }
     ensures within { IsTrue (S.seen sockets.new).tells → bytes_taken link.0 (S.seen sockets.new).taken ≤ bytes_taken link.0 (S.seen sockets.old).taken + length buffer.old }
     ensures count { IfSome result (λ count. (1 ≤ count) × (count ≤ length buffer.old)) }
+    ensures contained { Contained headless.old headless.new }
 {
     let Some(place) = headless.links.place(link) else {
         return None;
@@ -170,6 +172,7 @@ pub fn read_link<S: Sockets>(headless: &mut Headless, sockets: &mut S, link: Lin
     ensures within { IsTrue (S.seen sockets.new).tells → bytes_taken link.0 (S.seen sockets.new).taken ≤ bytes_taken link.0 (S.seen sockets.old).taken + 1048576 }
     ensures others { IsTrue (S.seen sockets.new).tells → (other : ℕ) → other ≢ link.0 → bytes_taken other (S.seen sockets.new).taken ≡ bytes_taken other (S.seen sockets.old).taken }
     ensures clients { IsTrue (S.seen sockets.new).tells → arrivals (S.seen sockets.new).taken ≡ arrivals (S.seen sockets.old).taken }
+    ensures contained { Contained headless.old headless.new }
 {
     let mut buffer = [0u8; PIECE];
     let mut left = READ_LIMIT;
@@ -194,6 +197,7 @@ fn accept_once<S: Sockets>(headless: &mut Headless, sockets: &mut S) -> Result<b
     ensures arrived { IsTrue (S.seen sockets.new).tells → arrivals (S.seen sockets.new).taken ≡ arrivals (S.seen sockets.old).taken + came_of result }
     ensures bytes { IsTrue (S.seen sockets.new).tells → (link : ℕ) → bytes_taken link (S.seen sockets.new).taken ≡ bytes_taken link (S.seen sockets.old).taken }
     ensures failed { OnErr result (Rose (S.seen sockets.old).faults.listens (S.seen sockets.new).faults.listens) }
+    ensures contained { Stands headless.old (S.seen sockets.old) → Contained headless.old headless.new }
 {
     match sockets.accept() {
         Ok(None) => {
@@ -225,6 +229,7 @@ pub fn accept_all<S: Sockets>(headless: &mut Headless, sockets: &mut S) -> Resul
     ensures failed { OnErr result (Rose (S.seen sockets.old).faults.listens (S.seen sockets.new).faults.listens) }
     ensures within { IsTrue (S.seen sockets.new).tells → arrivals (S.seen sockets.new).taken ≤ arrivals (S.seen sockets.old).taken + 1024 }
     ensures bytes { IsTrue (S.seen sockets.new).tells → (link : ℕ) → bytes_taken link (S.seen sockets.new).taken ≡ bytes_taken link (S.seen sockets.old).taken }
+    ensures contained { Stands headless.old (S.seen sockets.old) → Contained headless.old headless.new }
 {
     for _ in 0..ACCEPT_LIMIT {
         match accept_once(headless, sockets) {
@@ -248,6 +253,7 @@ fn write_once<S: Sockets>(headless: &mut Headless, sockets: &mut S, link: LinkId
     ensures others { (other : ℕ) → other ≢ link.0 → IsWritten other headless.old.core.seats (S.seen sockets.old) → IsWritten other headless.new.core.seats (S.seen sockets.new) }
     ensures less { result ≡ true → length (unsent_on link.0 headless.new.core.seats) < length (unsent_on link.0 headless.old.core.seats) }
     ensures nothing { TakesNothing (S.seen sockets.old) (S.seen sockets.new) }
+    ensures contained { Contained headless.old headless.new }
 {
     let Some(unsent) = headless.core.unsent(link) else {
         return false;
@@ -280,6 +286,7 @@ pub fn write_link<S: Sockets>(headless: &mut Headless, sockets: &mut S, link: Li
     ensures done { IsWritten link.0 headless.new.core.seats (S.seen sockets.new) }
     ensures others { (other : ℕ) → other ≢ link.0 → IsWritten other headless.old.core.seats (S.seen sockets.old) → IsWritten other headless.new.core.seats (S.seen sockets.new) }
     ensures nothing { TakesNothing (S.seen sockets.old) (S.seen sockets.new) }
+    ensures contained { Contained headless.old headless.new }
 {
     loop {
         if !write_once(headless, sockets, link) {
@@ -301,6 +308,7 @@ pub fn send_link<S: Sockets>(headless: &mut Headless, sockets: &mut S, link: Lin
     ensures unsent { (other : ℕ) → other ≢ link.0 → unsent_on other headless.new.core.seats ≡ unsent_on other headless.old.core.seats }
     ensures others { (other : ℕ) → other ≢ link.0 → (S.seen sockets.new).blocked other ≡ (S.seen sockets.old).blocked other }
     ensures nothing { TakesNothing (S.seen sockets.old) (S.seen sockets.new) }
+    ensures contained { Contained headless.old headless.new }
 {
     loop {
         if !send_once(headless, sockets, link) {

@@ -1,4 +1,5 @@
 use Rattle.std.proofs.Common.{arith}
+use Rattle.wc_loop.proofs.ContainedLemmas.{Contained-refl}
 use Rattle.wc_loop.proofs.CloseLemmas.{Continues-refl}
 use Rattle.wc_loop.proofs.ServeLemmas.{OnOk-map}
 use Rattle.wc_loop.proofs.serve.accept_rest.Goals as goal
@@ -8,3 +9,6 @@ returns-clause-heard g c = OnOk-map c.accept_all.result _ _ c.accept_all.ensures
 
 pub returns-then-not-headless-clause-continues : goal.returns-then-not-headless-clause-continues
 returns-then-not-headless-clause-continues g c = Continues-refl _ _
+
+pub returns-then-not-headless-clause-contained : goal.returns-then-not-headless-clause-contained
+returns-then-not-headless-clause-contained g c = λ stands. Contained-refl _

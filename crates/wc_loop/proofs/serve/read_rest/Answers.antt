@@ -3,13 +3,14 @@ use Rattle.std.specs.List.{list_any}
 use Rattle.std.proofs.lemmas.Bool.{false≢true}
 use Rattle.wc_outside.specs.Happenings.{is_link}
 use Rattle.wc_loop.proofs.TurnLemmas.{Continues-trans}
+use Rattle.wc_loop.proofs.ContainedLemmas.{Contained-refl, Contained-trans}
 use Rattle.wc_loop.proofs.CloseLemmas.{Continues-refl}
 use Rattle.wc_loop.proofs.SourceLemmas.{Falls-refl, Falls-trans, later-of}
 use Rattle.wc_loop.proofs.ServeLemmas.{served-next, served-rest, not-left-over, ReadsTo-first, ReadsTo-next}
 use Rattle.wc_loop.proofs.serve.read_rest.Goals as goal
 
 pub loop-link-init : goal.loop-link-init
-loop-link-init g c = record { continues = Continues-refl _ _; calm = c.requires.calm; falls = Falls-refl _; served = λ stands on k one low. absurd (omega arith); reads = ReadsTo-first _ _ }
+loop-link-init g c = record { continues = Continues-refl _ _; calm = c.requires.calm; contained = Contained-refl _; falls = Falls-refl _; served = λ stands on k one low. absurd (omega arith); reads = ReadsTo-first _ _ }
 
 pub returns-then-quits-clause-served : goal.returns-then-quits-clause-served
 returns-then-quits-clause-served g c = λ stands on. absurd (false≢true (sym on ∙ sym c.quits.ensures ∙ c.if-quits.true))
@@ -24,6 +25,7 @@ loop-link-preserved g c =
     record {
       continues = Continues-trans c.args.headless.now c.loop-link.headless c.read_link.new.headless (seen c.args.sockets.now) (seen c.loop-link.sockets) (seen c.read_link.new.sockets) i.continues e.continues;
       calm = e.calm;
+      contained = Contained-trans c.args.headless.now c.loop-link.headless c.read_link.new.headless i.contained e.contained;
       falls = Falls-trans _ (seen c.loop-link.sockets) _ i.falls e.falls;
       served = λ stands on' k one most out.
           let now = i.continues.stands stands in

@@ -1,4 +1,5 @@
 use Rattle.std.proofs.Common.{◌≡◌, ◌∙◌, sym, false, true}
+use Rattle.wc_loop.proofs.ContainedLemmas.{Contained-trans}
 use Rattle.wc_loop.proofs.TurnLemmas.{Continues-trans}
 use Rattle.wc_loop.proofs.SourceLemmas.{IsServed-later, IsHeard-later, later-of}
 use Rattle.wc_loop.proofs.ServeLemmas.{OnOk-map, AllSent-behind, Within-nothing}
@@ -26,6 +27,9 @@ pub returns-clause-sent : goal.returns-clause-sent
 returns-clause-sent g c = λ over.
     let seen = g.S.Sockets.seen in
     AllSent-behind c.write_unsent.new.headless.core.seats (seen c.args.sockets.now) (seen c.serve_sources-listened.new.sockets) (seen c.write_unsent.new.sockets) (later-of _ _ c.serve_sources-listened.ensures.continues) (later-of _ _ c.write_unsent.ensures.continues) c.serve_sources-listened.ensures.continues.counts (c.write_unsent.ensures.sent over)
+
+pub returns-clause-contained : goal.returns-clause-contained
+returns-clause-contained g c = λ stands. Contained-trans c.args.headless.now c.serve_sources-listened.new.headless c.write_unsent.new.headless (c.serve_sources-listened.ensures.contained stands) c.write_unsent.ensures.contained
 
 pub returns-clause-within : goal.returns-clause-within
 returns-clause-within g c =

@@ -1,5 +1,6 @@
 use Rattle.std.proofs.Common.{◌≡◌, ◌∙◌, sym, false}
 use Rattle.wc_loop.specs.Turns.{faults_of}
+use Rattle.wc_loop.proofs.ContainedLemmas.{Contained-trans}
 use Rattle.wc_loop.proofs.TurnLemmas.{Continues-trans, Continues-behind, Continues-good}
 use Rattle.wc_loop.proofs.SourceLemmas.{IsServed-later, later-of}
 use Rattle.wc_loop.proofs.ServeLemmas.{Within-named, Within-rest, Within-all, served-all, heard-all, heard-of, ok-faults, OnOk-map, is_ok-of}
@@ -20,6 +21,9 @@ returns-then-is_err-clause-served g c = λ stands on k one.
     let seen = g.S.Sockets.seen in
     let going : c.serve_tokens-listened.new.headless.core.quits ≡ false = sym c.quits.ensures ∙ c.if-quits.false in
     served-all c.args.tokens.now k (seen c.args.sockets.now) (seen c.serve_tokens-listened.new.sockets) (seen c.read_rest.new.sockets) (later-of _ _ s.continues) (later-of _ _ e.continues) e.falls (s.served stands going k) (λ out. e.served (s.continues.stands stands) on k one out)
+
+pub returns-then-is_err-clause-contained : goal.returns-then-is_err-clause-contained
+returns-then-is_err-clause-contained g c = λ stands. Contained-trans c.args.headless.now c.serve_tokens-listened.new.headless c.read_rest.new.headless (c.serve_tokens-listened.ensures.contained stands) c.read_rest.ensures.contained
 
 pub returns-then-is_err-clause-within : goal.returns-then-is_err-clause-within
 returns-then-is_err-clause-within g c =
@@ -65,6 +69,14 @@ returns-clause-heard g c =
     let front = Continues-trans c.args.headless.now tokens.new.headless c.read_rest.new.headless before between after s.continues e.continues in
     OnOk-map c.accept_rest.result _ _ l.heard (λ heard stands on. heard-all c.args.tokens.now before between after (seen c.accept_rest.new.sockets) (later-of _ _ s.continues) (later-of _ _ e.continues) (later-of _ _ l.continues) e.falls l.falls
     (s.heard none going) (heard (front.stands stands)) (later-of _ _ front))
+
+pub returns-clause-contained : goal.returns-clause-contained
+returns-clause-contained g c = λ stands.
+    let s = c.serve_tokens-listened.ensures in
+    let e = c.read_rest.ensures in
+    let l = c.accept_rest.ensures in
+    let both = Contained-trans c.args.headless.now c.serve_tokens-listened.new.headless c.read_rest.new.headless (s.contained stands) e.contained in
+    Contained-trans c.args.headless.now c.read_rest.new.headless c.accept_rest.new.headless both (l.contained (e.continues.stands (s.continues.stands stands)))
 
 pub returns-clause-within : goal.returns-clause-within
 returns-clause-within g c =

@@ -25,13 +25,13 @@ loop-place-preserved g c =
       | in-Listener+then-not-is_listener_named w ↦ rw (w.headless-is, w.sockets-is, w.listened-is) (
           let e = w.accept_all-listened.ensures in
           Named-listener w.accept_all-listened.result front all _ c.args.headless.now c.loop-place.headless w.accept_all-listened.new.headless (seen c.args.sockets.now) (seen c.loop-place.sockets) (seen w.accept_all-listened.new.sockets)
-          (subst (IsMore front all) w.in-Listener.is more) (sym w.is_listener_named.ensures ∙ w.if-not-is_listener_named.true) on i e.continues e.calm e.falls e.heard e.failed e.within e.bytes)
+          (subst (IsMore front all) w.in-Listener.is more) (sym w.is_listener_named.ensures ∙ w.if-not-is_listener_named.true) on i e.continues e.calm e.falls e.contained e.heard e.failed e.within e.bytes)
       | in-Listener+else-not-is_listener_named w ↦ rw (w.headless-is, w.sockets-is, w.listened-is) (
           Named-listener-again front all _ c.args.headless.now c.loop-place.headless (seen c.args.sockets.now) (seen c.loop-place.sockets) (subst (IsMore front all) w.in-Listener.is more) (sym w.is_listener_named.ensures ∙ w.if-not-is_listener_named.false) i)
       | in-Link+then-not-is_named w ↦ rw (w.headless-is, w.sockets-is, w.listened-is) (
           let e = w.read_link.ensures in
           Named-link front all w.in-Link.link _ c.args.headless.now c.loop-place.headless w.read_link.new.headless (seen c.args.sockets.now) (seen c.loop-place.sockets) (seen w.read_link.new.sockets)
-          (subst (IsMore front all) w.in-Link.is more) (sym w.is_named.ensures ∙ w.if-not-is_named.true) on i e.continues e.calm e.falls e.served (record { within = e.within; others = e.others; clients = e.clients }))
+          (subst (IsMore front all) w.in-Link.is more) (sym w.is_named.ensures ∙ w.if-not-is_named.true) on i e.continues e.calm e.falls e.contained e.served (record { within = e.within; others = e.others; clients = e.clients }))
       | in-Link+else-not-is_named w ↦ rw (w.headless-is, w.sockets-is, w.listened-is) (
           Named-link-again front all w.in-Link.link _ c.args.headless.now c.loop-place.headless (seen c.args.sockets.now) (seen c.loop-place.sockets) (subst (IsMore front all) w.in-Link.is more) (sym w.is_named.ensures ∙ w.if-not-is_named.false) i)
     ]

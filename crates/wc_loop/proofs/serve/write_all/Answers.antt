@@ -1,12 +1,13 @@
 use Rattle.std.proofs.Common.{arith}
 use Rattle.wc_loop.proofs.TurnLemmas.{Continues-trans}
+use Rattle.wc_loop.proofs.ContainedLemmas.{Contained-refl, Contained-trans}
 use Rattle.wc_loop.proofs.CloseLemmas.{Continues-refl}
 use Rattle.wc_loop.proofs.SourceLemmas.{Falls-refl, Falls-trans, later-of}
 use Rattle.wc_loop.proofs.ServeLemmas.{written-next, written-rest, Nothing-refl, Nothing-trans}
 use Rattle.wc_loop.proofs.serve.write_all.Goals as goal
 
 pub loop-link-init : goal.loop-link-init
-loop-link-init g c = record { continues = Continues-refl _ _; calm = c.requires.calm; going = c.requires.going; falls = Falls-refl _; written = λ k one low. absurd (omega arith); nothing = Nothing-refl _ }
+loop-link-init g c = record { continues = Continues-refl _ _; calm = c.requires.calm; contained = Contained-refl _; going = c.requires.going; falls = Falls-refl _; written = λ k one low. absurd (omega arith); nothing = Nothing-refl _ }
 
 pub loop-link-preserved : goal.loop-link-preserved
 loop-link-preserved g c =
@@ -16,6 +17,7 @@ loop-link-preserved g c =
     record {
       continues = Continues-trans c.args.headless.now c.loop-link.headless c.write_link.new.headless (seen c.args.sockets.now) (seen c.loop-link.sockets) (seen c.write_link.new.sockets) i.continues e.continues;
       calm = e.calm;
+      contained = Contained-trans c.args.headless.now c.loop-link.headless c.write_link.new.headless i.contained e.contained;
       going = e.going;
       falls = Falls-trans _ (seen c.loop-link.sockets) _ i.falls e.falls;
       written = λ k one most. written-next k c.loop-link.last c.in-Some.link.0 c.loop-link.headless.core.seats c.write_link.new.headless.core.seats (seen c.loop-link.sockets) (seen c.write_link.new.sockets) (i.written k one) (λ p q. rw c.seats.ensures at (c.in-Some.ensures.between k p q)) (λ n. e.others k n) e.done most;

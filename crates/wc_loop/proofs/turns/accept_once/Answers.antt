@@ -8,6 +8,8 @@ use Rattle.wc_loop.proofs.ReadLemmas.{arrived-one, arrived-none}
 use Rattle.wc_loop.proofs.StandsLemmas.{timeless-listen}
 use Rattle.wc_loop.proofs.StepLemmas.{Continues-missed}
 use Rattle.wc_loop.proofs.TurnLemmas.{NeverFall-trans}
+use Rattle.std.proofs.Common.{◌≡◌, ◌+◌, arith}
+use Rattle.wc_loop.proofs.ContainedLemmas.{Contained-same, Contained-came, Contained-refused}
 use Rattle.wc_loop.proofs.turns.accept_once.Goals as goal
 
 pub returns-in-Ok-None-clause-continues : goal.returns-in-Ok-None-clause-continues
@@ -60,3 +62,24 @@ returns-in-Err-clause-continues g c =
 
 pub returns-in-Err-clause-arrived : goal.returns-in-Err-clause-arrived
 returns-in-Err-clause-arrived g c = λ t. arrived-none _ _ (c.in-Err.ensures.taken t)
+
+pub returns-in-Ok-None-clause-contained : goal.returns-in-Ok-None-clause-contained
+returns-in-Ok-None-clause-contained g c = λ s. Contained-same c.args.headless.now _ refl (omega arith) (λ k. refl) refl
+
+pub returns-then-link_came-clause-contained : goal.returns-then-link_came-clause-contained
+returns-then-link_came-clause-contained g c = λ s.
+    let e = rw c.in-Ok-Some.field-0-is at c.in-Ok-Some.ensures in
+    let l = c.if-link_came.ensures in
+    let arrival = c.in-Ok-Some.arrival in
+    let next : arrival.link.0 ≡ c.args.headless.now.used + 1 = e.next ∙ ap (λ n. n + 1) (sym s.among.counted) in
+    Contained-refused c.args.headless.now c.link_came.new.self arrival.link arrival.nonce l.comes l.serves next (s.among.unknown arrival.link.0 (omega arith))
+
+pub returns-else-link_came-clause-contained : goal.returns-else-link_came-clause-contained
+returns-else-link_came-clause-contained g c = λ s.
+    let e = rw c.in-Ok-Some.field-0-is at c.in-Ok-Some.ensures in
+    let l = c.if-link_came.ensures in
+    let arrival = c.in-Ok-Some.arrival in
+    Contained-came c.args.headless.now c.link_came.new.self arrival.link arrival.nonce l.comes l.serves (e.next ∙ ap (λ n. n + 1) (sym s.among.counted))
+
+pub returns-in-Err-clause-contained : goal.returns-in-Err-clause-contained
+returns-in-Err-clause-contained g c = λ s. rw c.link_missed.ensures (Contained-same c.args.headless.now _ refl (omega arith) (λ k. refl) refl)

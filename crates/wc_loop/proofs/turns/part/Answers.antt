@@ -2,6 +2,7 @@ use Rattle.std.proofs.Common.{refl, sym, ap, ◌∙◌, not, eqb, []}
 use Rattle.std.proofs.lemmas.List.{append-nil}
 use Rattle.wc_loop.proofs.TurnLemmas.{Continues-trans}
 use Rattle.wc_loop.proofs.CloseLemmas.{Continues-close}
+use Rattle.wc_loop.proofs.ContainedLemmas.{Contained-close}
 use Rattle.wc_loop.proofs.SourceLemmas.{Falls-drained, TakesNothing-call, kept-other}
 use Rattle.wc_loop.proofs.PartLemmas.{Parts-first, fewer-parted, departure-same}
 use Rattle.wc_loop.proofs.turns.part.Goals as goal
@@ -24,7 +25,7 @@ returns g c =
     e.sent e.choked e.used e.there e.undrained e.listening s.done) in
     record {
       continues = whole;
-      parts = Parts-first x y _ a b last d c.requires.first e.told s.sends c.forget.ensures
+      parts = Parts-first x y _ a b last d c.requires.first e.told s.sends c.forget.ensures (Contained-close y _ d.link d.cause refl (ap (λ o. o.starved) c.forget.ensures) c.close-2.ensures.opened c.close-2.ensures.closed)
           (Falls-drained b last (λ k. not (eqb k d.link.0)) e.undrained e.listening) (TakesNothing-call b last [] (λ t. e.taken t ∙ sym (append-nil _)) (λ k. refl) refl) (λ k n. e.blocked k ∙ kept-other k d.link.0 _ n);
       fewer = fewer-parted x.core y.core c.forget.new.self d first s.sends.links c.forget.ensures;
     }

@@ -3,11 +3,12 @@ use Rattle.std.proofs.lemmas.List.{length-append, length-take, take-append-drop}
 use Rattle.wc_loop.proofs.TurnLemmas.{Continues-trans}
 use Rattle.wc_loop.proofs.CloseLemmas.{Continues-refl}
 use Rattle.wc_loop.proofs.SourceLemmas.{Falls-refl, Falls-trans, IsServed-drained}
+use Rattle.wc_loop.proofs.ContainedLemmas.{Contained-refl, Contained-trans}
 use Rattle.wc_loop.proofs.ReadLemmas.{ReadsOn-refl, ReadsOn-trans}
 use Rattle.wc_loop.proofs.turns.read_link.Goals as goal
 
 pub loop-left-init : goal.loop-left-init
-loop-left-init g c = record { continues = Continues-refl _ _; calm = c.requires.calm; going = c.requires.going; reads = ReadsOn-refl _ _; size = refl; most = omega arith; bytes = λ t. omega arith }
+loop-left-init g c = record { continues = Continues-refl _ _; calm = c.requires.calm; contained = Contained-refl _; going = c.requires.going; reads = ReadsOn-refl _ _; size = refl; most = omega arith; bytes = λ t. omega arith }
 
 pub loop-left-preserved : goal.loop-left-preserved
 loop-left-preserved g c =
@@ -17,6 +18,7 @@ loop-left-preserved g c =
     record {
       continues = Continues-trans c.args.headless.now c.loop-left.headless c.read_once.new.headless (seen c.args.sockets.now) (seen c.loop-left.sockets) (seen c.read_once.new.sockets) i.continues e.continues;
       calm = e.calm;
+      contained = Contained-trans c.args.headless.now c.loop-left.headless c.read_once.new.headless i.contained e.contained;
       going = e.going refl;
       reads = ReadsOn-trans c.args.link.0 (seen c.args.sockets.now) (seen c.loop-left.sockets) (seen c.read_once.new.sockets) e.continues.told i.reads e.reads;
       size =
@@ -36,6 +38,7 @@ returns-in-None g c =
     record {
       continues = Continues-trans c.args.headless.now c.loop-left.headless c.read_once.new.headless (seen c.args.sockets.now) (seen c.loop-left.sockets) (seen c.read_once.new.sockets) i.continues e.continues;
       calm = e.calm;
+      contained = Contained-trans c.args.headless.now c.loop-left.headless c.read_once.new.headless i.contained e.contained;
       falls = Falls-trans _ (seen c.loop-left.sockets) _ i.reads.falls e.reads.falls;
       served = λ stands on. IsServed-drained c.args.link.0 (seen c.args.sockets.now) (seen c.read_once.new.sockets) (e.drained c.in-None.is (i.continues.stands stands) on);
       within = λ t. (let before = i.bytes (e.continues.told t) in let now = e.within t in let most = i.most in let size = length-take c.min-room.result c.loop-left.buffer in omega arith);

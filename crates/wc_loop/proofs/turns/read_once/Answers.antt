@@ -9,6 +9,11 @@ use Rattle.wc_loop.proofs.TakesLemmas.{Continues-takes, causes-line, causes-lost
 use Rattle.wc_loop.proofs.SourceLemmas.{Falls-drained, Falls-same}
 use Rattle.wc_loop.proofs.PartLemmas.{HasFailed-now}
 use Rattle.wc_loop.proofs.ReadLemmas.{ReadsOn-call, ReadsOn-parts, other-bytes, bytes-read, closed-drained, closed-gone, and-not-none, bytes-kept}
+use Rattle.std.proofs.Common.{false, is_some}
+use Rattle.wc_outside.specs.Keyed.{at_key}
+use Rattle.wc_loop.specs.Links.{link_number}
+use Rattle.wc_loop.proofs.StepLemmas.{links-marked}
+use Rattle.wc_loop.proofs.ContainedLemmas.{Contained-refl, Contained-same, Contained-trans, Contained-takes}
 use Rattle.wc_loop.proofs.turns.read_once.Goals as goal
 
 pub returns-in_default-clause-continues : goal.returns-in_default-clause-continues
@@ -32,7 +37,7 @@ returns-then-quits-clause-continues g c =
     Continues-trans x c.bytes_came.new.self _ a b _
     (Continues-takes x c.bytes_came.new.self c.args.link a b (Read c.args.link bytes) refl (record { told = e.told; taken = e.taken; asked = e.asked; counts = e.counts })
     e.sent e.choked e.used e.there (λ k. e.undrained k ∙ and-not-none _ _) e.listening c.requires.calm c.requires.going l.takes
-    (λ taken. read-of c.args.link.0 (tail_on c.args.link.0 taken) bytes) (causes-line c.args.link bytes x.core.seats c.bytes_came.new.self.core.seats a b c.requires.calm l.causes e.taken))
+    (λ taken. read-of c.args.link.0 (tail_on c.args.link.0 taken) bytes) (causes-line c.args.link bytes x.core c.bytes_came.new.self.core a b c.requires.calm l.causes e.taken))
     c.part_all.ensures.continues
 
 pub returns-then-quits-clause-reads : goal.returns-then-quits-clause-reads
@@ -68,7 +73,7 @@ returns-then-not-is_open-clause-continues g c =
     Continues-trans x c.bytes_came.new.self _ a b _
     (Continues-takes x c.bytes_came.new.self c.args.link a b (Read c.args.link bytes) refl (record { told = e.told; taken = e.taken; asked = e.asked; counts = e.counts })
     e.sent e.choked e.used e.there (λ k. e.undrained k ∙ and-not-none _ _) e.listening c.requires.calm c.requires.going l.takes
-    (λ taken. read-of c.args.link.0 (tail_on c.args.link.0 taken) bytes) (causes-line c.args.link bytes x.core.seats c.bytes_came.new.self.core.seats a b c.requires.calm l.causes e.taken))
+    (λ taken. read-of c.args.link.0 (tail_on c.args.link.0 taken) bytes) (causes-line c.args.link bytes x.core c.bytes_came.new.self.core a b c.requires.calm l.causes e.taken))
     c.part_all.ensures.continues
 
 pub returns-then-not-is_open-clause-reads : goal.returns-then-not-is_open-clause-reads
@@ -90,7 +95,7 @@ returns-then-not-is_open-clause-drained g c = λ none s on.
     let bytes = take c.in-Ok-Bytes.count c.read.new.into in
     let first = Continues-takes x c.bytes_came.new.self c.args.link a b (Read c.args.link bytes) refl (record { told = e.told; taken = e.taken; asked = e.asked; counts = e.counts })
     e.sent e.choked e.used e.there (λ k. e.undrained k ∙ and-not-none _ _) e.listening c.requires.calm c.requires.going l.takes
-    (λ taken. read-of c.args.link.0 (tail_on c.args.link.0 taken) bytes) (causes-line c.args.link bytes x.core.seats c.bytes_came.new.self.core.seats a b c.requires.calm l.causes e.taken) in
+    (λ taken. read-of c.args.link.0 (tail_on c.args.link.0 taken) bytes) (causes-line c.args.link bytes x.core c.bytes_came.new.self.core a b c.requires.calm l.causes e.taken) in
     closed-drained c.args.link.0 c.part_all.new.headless (g.S.Sockets.seen c.part_all.new.sockets) (c.part_all.ensures.continues.stands (first.stands s)) c.part_all.ensures.calm (sym c.if-not-is_open.ensures)
 
 pub returns-then-not-is_open-clause-within : goal.returns-then-not-is_open-clause-within
@@ -114,7 +119,7 @@ returns-else-not-is_open-clause-continues g c =
     Continues-trans x c.bytes_came.new.self _ a b _
     (Continues-takes x c.bytes_came.new.self c.args.link a b (Read c.args.link bytes) refl (record { told = e.told; taken = e.taken; asked = e.asked; counts = e.counts })
     e.sent e.choked e.used e.there (λ k. e.undrained k ∙ and-not-none _ _) e.listening c.requires.calm c.requires.going l.takes
-    (λ taken. read-of c.args.link.0 (tail_on c.args.link.0 taken) bytes) (causes-line c.args.link bytes x.core.seats c.bytes_came.new.self.core.seats a b c.requires.calm l.causes e.taken))
+    (λ taken. read-of c.args.link.0 (tail_on c.args.link.0 taken) bytes) (causes-line c.args.link bytes x.core c.bytes_came.new.self.core a b c.requires.calm l.causes e.taken))
     c.part_all.ensures.continues
 
 pub returns-else-not-is_open-clause-reads : goal.returns-else-not-is_open-clause-reads
@@ -231,3 +236,38 @@ returns-in-Err-clause-within g c =
     let e = c.in-Err.ensures in
     let p = c.part_all-in-Err.ensures in
     bytes-kept c.args.link.0 _ (g.S.Sockets.seen c.args.sockets.now) (g.S.Sockets.seen c.read.new.self) _ (Failed c.args.link ∷ []) p.continues.told e.taken refl p.parts.nothing
+
+pub returns-in_default-clause-contained : goal.returns-in_default-clause-contained
+returns-in_default-clause-contained g c = Contained-refl _
+
+pub returns-in-Ok-NotYet-clause-contained : goal.returns-in-Ok-NotYet-clause-contained
+returns-in-Ok-NotYet-clause-contained g c =
+    let states = c.args.headless.now.links.opened.items in
+    Contained-same c.args.headless.now _ refl (omega arith) (λ k. ap (λ ss. is_some (at_key link_number k ss)) c.mark.ensures.opened ∙ links-marked c.args.link.0 k false states) (ap (λ v. v.items) c.mark.ensures.closed)
+
+pub returns-then-quits-clause-contained : goal.returns-then-quits-clause-contained
+returns-then-quits-clause-contained g c =
+    let l = c.bytes_came.ensures in
+    Contained-trans c.args.headless.now c.bytes_came.new.self _ (Contained-takes c.args.headless.now c.bytes_came.new.self _ l.takes l.causes.rises) c.part_all.ensures.parts.contained
+
+pub returns-then-not-is_open-clause-contained : goal.returns-then-not-is_open-clause-contained
+returns-then-not-is_open-clause-contained g c =
+    let l = c.bytes_came.ensures in
+    Contained-trans c.args.headless.now c.bytes_came.new.self _ (Contained-takes c.args.headless.now c.bytes_came.new.self _ l.takes l.causes.rises) c.part_all.ensures.parts.contained
+
+pub returns-else-not-is_open-clause-contained : goal.returns-else-not-is_open-clause-contained
+returns-else-not-is_open-clause-contained g c =
+    let l = c.bytes_came.ensures in
+    Contained-trans c.args.headless.now c.bytes_came.new.self _ (Contained-takes c.args.headless.now c.bytes_came.new.self _ l.takes l.causes.rises) c.part_all.ensures.parts.contained
+
+pub returns-in-Ok-End-clause-contained : goal.returns-in-Ok-End-clause-contained
+returns-in-Ok-End-clause-contained g c =
+    let l = c.link_gone.ensures in
+    let same = ap (λ s. s.starved) l.core in
+    Contained-trans c.args.headless.now c.link_gone.new.self _ (Contained-takes c.args.headless.now c.link_gone.new.self _ (l.ended refl) (omega arith)) c.part_all-in-Ok-End.ensures.parts.contained
+
+pub returns-in-Err-clause-contained : goal.returns-in-Err-clause-contained
+returns-in-Err-clause-contained g c =
+    let l = c.link_gone-in-Err.ensures in
+    let same = ap (λ s. s.starved) l.core in
+    Contained-trans c.args.headless.now c.link_gone-in-Err.new.self _ (Contained-takes c.args.headless.now c.link_gone-in-Err.new.self _ (l.failed refl) (omega arith)) c.part_all-in-Err.ensures.parts.contained

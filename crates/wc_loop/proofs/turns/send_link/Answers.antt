@@ -3,6 +3,7 @@ use Rattle.wc_loop.proofs.TurnLemmas.{Continues-trans}
 use Rattle.wc_loop.proofs.CloseLemmas.{Continues-refl}
 use Rattle.wc_loop.proofs.SourceLemmas.{later-of, TakesNothing-trans}
 use Rattle.wc_loop.proofs.PartLemmas.{SendsOn-refl, SendsOn-trans, Misses-later, IsSent-behind}
+use Rattle.wc_loop.proofs.PartLemmas.{Contained-sends}
 use Rattle.wc_loop.proofs.turns.send_link.Goals as goal
 
 pub loop-link-init : goal.loop-link-init
@@ -36,3 +37,8 @@ loop-link-preserved g c =
       missed = Misses-later c.args.link.0 c.loop-link.headless c.send_once.new.headless (g.S.Sockets.seen c.loop-link.sockets) (g.S.Sockets.seen c.send_once.new.sockets) e.sends i.missed;
       sends = SendsOn-trans c.args.link.0 _ c.loop-link.headless _ _ (g.S.Sockets.seen c.loop-link.sockets) _ e.continues.told i.sends e.sends;
     }
+
+pub returns-then-not-send_once-clause-contained : goal.returns-then-not-send_once-clause-contained
+returns-then-not-send_once-clause-contained g c =
+    let e = c.send_once.ensures in
+    Contained-sends c.args.link.0 _ _ _ _ (SendsOn-trans c.args.link.0 c.args.headless.now c.loop-link.headless c.send_once.new.headless (g.S.Sockets.seen c.args.sockets.now) (g.S.Sockets.seen c.loop-link.sockets) (g.S.Sockets.seen c.send_once.new.sockets) e.continues.told c.loop-link.invariant.sends e.sends)

@@ -55,7 +55,7 @@ returns-in-Err-clause-sends g c =
     let e = c.in-Err.ensures in
     let before = g.S.Sockets.seen c.args.sockets.now in
     let after = g.S.Sockets.seen c.write.new.self in
-    SendsOn-call c.args.link.0 c.args.headless.now c.link_missed.new.self before after (rw c.link_missed.ensures refl)
+    SendsOn-call c.args.link.0 c.args.headless.now c.link_missed.new.self before after (rw c.link_missed.ensures refl) (rw c.link_missed.ensures refl) (rw c.link_missed.ensures refl)
     (Falls-same before after e.undrained e.listening) (TakesNothing-call before after (Failed c.args.link ∷ []) e.taken (λ k. refl) refl) (λ k n. e.blocked k ∙ blocked-other k c.args.link.0 _ _ n)
 
 pub returns-in-Err-clause-done : goal.returns-in-Err-clause-done

@@ -1,12 +1,13 @@
 use Rattle.std.proofs.Common.{arith}
 use Rattle.wc_loop.proofs.TurnLemmas.{Continues-trans}
 use Rattle.wc_loop.proofs.CloseLemmas.{Continues-refl}
+use Rattle.wc_loop.proofs.ContainedLemmas.{Contained-refl, Contained-trans}
 use Rattle.wc_loop.proofs.SourceLemmas.{Falls-refl, Falls-trans, later-of}
 use Rattle.wc_loop.proofs.ServeLemmas.{Nothing-refl, Nothing-trans}
 use Rattle.wc_loop.proofs.turns.write_link.Goals as goal
 
 pub loop-link-init : goal.loop-link-init
-loop-link-init g c = record { continues = Continues-refl _ _; calm = c.requires.calm; going = c.requires.going; falls = Falls-refl _; others = λ k n h. h; nothing = Nothing-refl _ }
+loop-link-init g c = record { continues = Continues-refl _ _; calm = c.requires.calm; contained = Contained-refl _; going = c.requires.going; falls = Falls-refl _; others = λ k n h. h; nothing = Nothing-refl _ }
 
 pub returns-then-not-write_once-clause-continues : goal.returns-then-not-write_once-clause-continues
 returns-then-not-write_once-clause-continues g c =
@@ -30,8 +31,12 @@ loop-link-preserved g c =
     record {
       continues = Continues-trans c.args.headless.now c.loop-link.headless c.write_once.new.headless (seen c.args.sockets.now) (seen c.loop-link.sockets) (seen c.write_once.new.sockets) i.continues e.continues;
       calm = e.calm;
+      contained = Contained-trans c.args.headless.now c.loop-link.headless c.write_once.new.headless i.contained e.contained;
       going = e.going;
       falls = Falls-trans _ (seen c.loop-link.sockets) _ i.falls e.falls;
       others = λ k n h. e.others k n (i.others k n h);
       nothing = Nothing-trans _ (seen c.loop-link.sockets) _ (later-of _ _ e.continues) i.nothing e.nothing;
     }
+
+pub returns-then-not-write_once-clause-contained : goal.returns-then-not-write_once-clause-contained
+returns-then-not-write_once-clause-contained g c = Contained-trans c.args.headless.now c.loop-link.headless c.write_once.new.headless c.loop-link.invariant.contained c.write_once.ensures.contained

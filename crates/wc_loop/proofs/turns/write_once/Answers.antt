@@ -12,6 +12,7 @@ use Rattle.wc_loop.proofs.TakesLemmas.{Continues-takes, causes-lost}
 use Rattle.wc_loop.proofs.ClosingLemmas.{failed-of}
 use Rattle.wc_loop.proofs.PartLemmas.{HasFailed-now}
 use Rattle.wc_loop.proofs.ReadLemmas.{spares-left, seats-left, unsent-closed}
+use Rattle.wc_loop.proofs.ContainedLemmas.{Contained-refl, Contained-same, Contained-trans, Contained-takes}
 use Rattle.wc_loop.proofs.turns.write_once.Goals as goal
 
 pub returns-in_default-clause-continues : goal.returns-in_default-clause-continues
@@ -87,3 +88,21 @@ returns-in-Err-clause-nothing g c =
     let e = c.in-Err.ensures in
     TakesNothing-trans _ (g.S.Sockets.seen c.write.new.self) _ c.part_all.ensures.continues.told
     (TakesNothing-call (g.S.Sockets.seen c.args.sockets.now) (g.S.Sockets.seen c.write.new.self) (Failed c.args.link ∷ []) e.taken (λ k. refl) refl) c.part_all.ensures.parts.nothing
+
+pub returns-in_default-clause-contained : goal.returns-in_default-clause-contained
+returns-in_default-clause-contained g c = Contained-refl _
+
+pub returns-then-is_empty-clause-contained : goal.returns-then-is_empty-clause-contained
+returns-then-is_empty-clause-contained g c = Contained-refl _
+
+pub returns-in-Ok-Took-clause-contained : goal.returns-in-Ok-Took-clause-contained
+returns-in-Ok-Took-clause-contained g c = rw c.gone.ensures (Contained-same c.args.headless.now _ refl (omega arith) (λ k. refl) refl)
+
+pub returns-in-Ok-NotYet-clause-contained : goal.returns-in-Ok-NotYet-clause-contained
+returns-in-Ok-NotYet-clause-contained g c = Contained-refl _
+
+pub returns-in-Err-clause-contained : goal.returns-in-Err-clause-contained
+returns-in-Err-clause-contained g c =
+    let l = c.link_gone.ensures in
+    let same = ap (λ s. s.starved) l.core in
+    Contained-trans c.args.headless.now c.link_gone.new.self _ (Contained-takes c.args.headless.now c.link_gone.new.self _ (l.failed refl) (omega arith)) c.part_all.ensures.parts.contained

@@ -1,4 +1,4 @@
-use Rattle.std.proofs.Common.{◌≡◌, ◌++◌, ◌∷◌, [], Some, refl, ap, sym, ◌∙◌}
+use Rattle.std.proofs.Common.{◌≡◌, ◌++◌, ◌∷◌, [], Some, None, refl, ap, sym, ◌∙◌}
 use Rattle.wc_loop.specs.Links.{new_state}
 use Rattle.wc_loop.specs.Served.{leaving_closes}
 use Rattle.wc_loop.proofs.ArriveLemmas.{refused-step, refused-opened, refused-closed, calm-push, admitted-of}
@@ -17,6 +17,7 @@ returns-in-Some-clause-serves c =
           ∙ ap (λ cs. cs ++ record { link = c.args.arrival.link; cause = c.in-Some.cause } ∷ []) c.admit.ensures.closed;
       core = λ absent. e.refused;
       rises = e.rises;
+      starves = λ q. absurd (let none : Some c.in-Some.cause ≡ None = q in cc);
       step = refused-step old.core c.accepted.new.self c.args.arrival.link.0 c.args.arrival.nonce c.in-Some.cause e.refused e.comes;
     }
 

@@ -1,14 +1,20 @@
 use Rattle.std.proofs.Common.{sym, ◌∙◌}
+use Rattle.wc_loop.proofs.ContainedLemmas.{Contained-refl}
 use Rattle.wc_loop.proofs.TurnLemmas.{turn-continues, turn-causes, turn-closes-exactly}
 use Rattle.wc_loop.proofs.SourceLemmas.{later-of}
 use Rattle.wc_loop.proofs.ServeLemmas.{AllServed-behind, AllSent-behind, Nothing-within}
-use Rattle.wc_loop.proofs.WaitLemmas.{Within-none, closes-unwoken, OnOk-get, OnErr-get, Continues-then, goes-on, quits-by}
+use Rattle.wc_loop.proofs.WaitLemmas.{Within-none, closes-unwoken, OnOk-get, OnErr-get, Continues-then, goes-on, quits-by, loses-none}
 use Rattle.wc_loop.proofs.headless.Headless.turn.Goals as goal
 
 pub returns-then-is_err-clause-within : goal.returns-then-is_err-clause-within
 returns-then-is_err-clause-within g c =
     let woken = OnErr-get c.wake.result _ (sym c.is_err.ensures.value ∙ c.if-is_err.true) c.wake.ensures.failed in
     Within-none _ _ woken.nothing
+
+pub returns-then-is_err-clause-contained : goal.returns-then-is_err-clause-contained
+returns-then-is_err-clause-contained g c =
+    let woken = OnErr-get c.wake.result _ (sym c.is_err.ensures.value ∙ c.if-is_err.true) c.wake.ensures.failed in
+    loses-none _ _ _ _ _ woken (Contained-refl _)
 
 pub returns-then-is_err-clause-closes : goal.returns-then-is_err-clause-closes
 returns-then-is_err-clause-closes g c =
@@ -51,6 +57,11 @@ returns-clause-within g c =
     let e = c.serve_ready-listened.ensures in
     let seen = g.S.Sockets.seen in
     Nothing-within (seen c.args.sockets.now) (seen c.wake.new.sockets) (seen c.serve_ready-listened.new.sockets) (later-of _ _ e.continues) woken.nothing e.within
+
+pub returns-clause-contained : goal.returns-clause-contained
+returns-clause-contained g c =
+    let woken = OnOk-get c.wake.result _ (sym c.is_err.ensures.value ∙ c.if-is_err.false) c.wake.ensures.woken in
+    loses-none _ _ _ _ _ woken (c.serve_ready-listened.ensures.contained (woken.continues.stands c.requires.stands))
 
 pub returns-clause-closes : goal.returns-clause-closes
 returns-clause-closes g c =

@@ -1,9 +1,11 @@
-use Rattle.std.proofs.Common.{refl, ap, ◌∙◌, take}
+use Rattle.std.proofs.Common.{refl, ap, ◌∙◌, take, is_some}
+use Rattle.wc_outside.specs.Keyed.{at_key}
+use Rattle.wc_loop.specs.Links.{link_number}
 use Rattle.wc_loop.specs.Served.{leaving_closes}
 use Rattle.wc_loop.proofs.StepLemmas.{SameSets}
 use Rattle.wc_loop.proofs.TurnLemmas.{Continues-step}
 use Rattle.wc_loop.proofs.WaitLemmas.{Nothing-woke, Nothing-none, Continues-unwoken}
-use Rattle.wc_loop.proofs.WakeLemmas.{Continues-woke, woken-seats, woken-quits}
+use Rattle.wc_loop.proofs.WakeLemmas.{Continues-woke, woken-seats, woken-quits, woken-starved}
 use Rattle.wc_loop.proofs.headless.Headless.wake.Goals as goal
 
 pub returns-in-Ok-clause-woken : goal.returns-in-Ok-clause-woken
@@ -19,6 +21,9 @@ returns-in-Ok-clause-woken g c =
       closed = c.report.ensures.closed ∙ c.begin_turn.ensures.closed;
       calm = ap (λ s. leaving_closes s.seats) core ∙ ap leaving_closes (woken-seats c.args.self.now.clock c.in-Ok.moment c.args.self.now.core) ∙ c.requires.calm;
       going = ap (λ s. s.quits) core ∙ woken-quits c.args.self.now.clock c.in-Ok.moment c.args.self.now.core ∙ c.requires.going;
+      used = c.report.ensures.used ∙ c.begin_turn.ensures.begins.used;
+      starved = ap (λ s. s.starved) core ∙ woken-starved c.args.self.now.clock c.in-Ok.moment c.args.self.now.core;
+      links = λ k. c.report.ensures.links k ∙ ap (λ states. is_some (at_key link_number k states)) c.begin_turn.ensures.begins.opened;
       nothing = Nothing-woke (seen c.args.sockets.now) (seen c.wait.new.self) c.in-Ok.moment e.taken;
     }
 
@@ -34,5 +39,8 @@ returns-in-Err-clause-failed g c =
       closed = c.begin_turn-in-Err.ensures.closed;
       calm = c.requires.calm;
       going = c.requires.going;
+      used = refl;
+      starved = refl;
+      links = λ k. ap (λ v. is_some (at_key link_number k v.items)) c.begin_turn-in-Err.ensures.opened;
       nothing = Nothing-none (seen c.args.sockets.now) (seen c.wait.new.self) e.taken;
     }
