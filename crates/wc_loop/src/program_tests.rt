@@ -607,7 +607,9 @@ fn a_salted_hash_lets_in(rt: HostRuntime) -> Result<(), Fail> {
     let mut stage = serving(alloc, SALTED, 1000)?;
     stage.configuration = Text::from_slice(alloc, b"relay.network.password = lmnomnopnopq")?;
     let seen = play(alloc, stage)?;
-    let (handshake, rest) = seen.sent.as_slice().split_at(201);
+    let sent = seen.sent.as_slice();
+    assert!(rt; sent.len() >= 201);
+    let (handshake, rest) = sent.split_at(201);
     assert_eq!(rt; handshake, SHA256);
     assert_eq!(rt; rest, EMPTY_PONG);
     assert!(rt; seen.is_open);
