@@ -1,8 +1,8 @@
 -- What one call takes of a link.
-use Rattle.std.proofs.Common.{◌≡◌, ◌≢◌, ℕ, ◌+◌, ◌≤◌, ◌⊎◌, inl, inr, Bool, true, false, not, eqb, cond, ◌&&◌, IsTrue, List, [], ◌∷◌, ◌++◌, length, take, All, Option, Some, None, IsSome, is_some, is_none, refl, sym, ap, ◌∙◌, subst, arith}
+use Rattle.std.proofs.Common.{◌≡◌, ◌≢◌, ℕ, ◌+◌, ◌≤◌, ◌⊎◌, inl, inr, Bool, true, false, not, eqb, ◌&&◌, IsTrue, List, [], ◌∷◌, ◌++◌, length, take, All, Option, Some, None, is_some, is_none, refl, sym, ap, ◌∙◌, subst, arith}
 use Rattle.std.proofs.lemmas.Bool.{false≢true}
 use Rattle.std.proofs.lemmas.Bool.Decides.{nat_tests}
-use Rattle.std.proofs.lemmas.List.{append-nil, length-append, length-take}
+use Rattle.std.proofs.lemmas.List.{length-append, length-take}
 use Rattle.std.proofs.lemmas.List.Elements.{All-nil, All-cons}
 use Rattle.wc_text.specs.declared.names.LinkId.{LinkId}
 use Rattle.wc_text.specs.declared.names.Cause.{Cause}
@@ -15,11 +15,11 @@ use Rattle.wc_core.specs.Served.{seat_link, unsent_in, unsent_on, is_open, is_op
 use Rattle.wc_core.specs.Standing.{Standing}
 use Rattle.wc_loop.specs.declared.link_state.Closed.{Closed}
 use Rattle.wc_loop.specs.declared.headless.Headless.{Headless}
-use Rattle.wc_loop.specs.Events.{bytes_on, tail_on, events_of}
-use Rattle.wc_loop.specs.Links.{link_number, is_undrained}
-use Rattle.wc_loop.specs.Parts.{Spares, Parts, ReadsOn, ReadBytes}
-use Rattle.wc_loop.specs.Served.{closed_by, leaving_closes, IsCalm, closed_number, LeavesAtLine}
-use Rattle.wc_loop.specs.Sources.{Falls, IsWritten, TakesNothing, bytes_taken, arrivals}
+use Rattle.wc_loop.specs.Events.{tail_on, events_of}
+use Rattle.wc_loop.specs.Links.{is_undrained}
+use Rattle.wc_loop.specs.Parts.{Spares, Parts, ReadsOn}
+use Rattle.wc_loop.specs.Served.{leaving_closes, IsCalm, closed_number, LeavesAtLine}
+use Rattle.wc_loop.specs.Sources.{Falls, TakesNothing, bytes_taken, arrivals}
 use Rattle.wc_loop.specs.Turns.{Stands, CausedBy, Continues, Takes, is_wake, is_listen_fault}
 use Rattle.wc_loop.proofs.KeyedLemmas.{none_of, at_key-key, at_key-put_other, at_key-put_same}
 use Rattle.wc_loop.proofs.SeatLemmas.{calm-left, calm-leaving}
@@ -27,7 +27,7 @@ use Rattle.wc_loop.proofs.TurnLemmas.{Call}
 use Rattle.wc_loop.proofs.StepLemmas.{SameSets}
 use Rattle.wc_loop.proofs.ClosingLemmas.{IsOf, read-of}
 use Rattle.wc_loop.proofs.TakesLemmas.{Continues-takes, causes-line, causes-lost}
-use Rattle.wc_loop.proofs.SourceLemmas.{Falls-refl, Falls-trans, Falls-same, bytes_taken-append, arrivals-append, IsWritten-later}
+use Rattle.wc_loop.proofs.SourceLemmas.{Falls-refl, Falls-trans, Falls-same, bytes_taken-append, arrivals-append}
 
 pub ReadsOn-refl : (link : ℕ) (a : Seen) → ReadsOn link a a
 ReadsOn-refl link a = record { falls = Falls-refl a; others = λ t k n. refl; clients = λ t. refl }

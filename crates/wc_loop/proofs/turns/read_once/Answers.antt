@@ -1,10 +1,10 @@
-use Rattle.std.proofs.Common.{refl, ap, sym, ◌∙◌, take, [], ◌∷◌, arith}
+use Rattle.std.proofs.Common.{refl, ap, sym, ◌∙◌, [], ◌∷◌, arith}
 use Rattle.std.proofs.lemmas.Bool.{false≢true}
-use Rattle.wc_outside.specs.declared.happening.Happening.TheVariants.{Read, Ended, Failed}
+use Rattle.wc_outside.specs.declared.happening.Happening.TheVariants.{Ended, Failed}
 use Rattle.wc_loop.proofs.TurnLemmas.{Continues-trans}
 use Rattle.wc_loop.proofs.CloseLemmas.{Continues-refl, Continues-drained}
 use Rattle.wc_loop.proofs.ClosingLemmas.{ended-of, failed-of}
-use Rattle.wc_loop.proofs.SourceLemmas.{Falls-drained, Falls-same}
+use Rattle.wc_loop.proofs.SourceLemmas.{Falls-same}
 use Rattle.wc_loop.proofs.PartLemmas.{HasFailed-now}
 use Rattle.wc_loop.proofs.ReadLemmas.{Continues-read, Continues-lost, ReadsOn-read, ReadsOn-call, ReadsOn-parts, bytes-read, closed-drained, closed-gone, and-not-none, bytes-kept}
 use Rattle.std.proofs.Common.{false, is_some}

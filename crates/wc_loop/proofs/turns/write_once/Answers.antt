@@ -1,4 +1,4 @@
-use Rattle.std.proofs.Common.{◌≡◌, ◌≤◌, refl, ap, sym, ◌∙◌, inl, inr, [], ◌∷◌, length, rules, arith}
+use Rattle.std.proofs.Common.{◌≤◌, refl, ap, ◌∙◌, inl, [], ◌∷◌, length, rules, arith}
 use Rattle.wc_outside.specs.declared.happening.Happening.TheVariants.{Failed}
 use Rattle.wc_outside.specs.Keyed.{at_key}
 use Rattle.wc_core.specs.Served.{seat_link, unsent_in}
@@ -7,7 +7,7 @@ use Rattle.wc_loop.specs.Served.{leaving_closes}
 use Rattle.wc_loop.proofs.TurnLemmas.{Continues-trans}
 use Rattle.wc_loop.proofs.CloseLemmas.{Continues-refl, Continues-quiet, Continues-sent, fewer-sent, nothing_sent}
 use Rattle.wc_loop.proofs.SeatLemmas.{leaving-gone}
-use Rattle.wc_loop.proofs.SourceLemmas.{Falls-same, Falls-trans, IsWritten-later, others-unsent, TakesNothing-call, TakesNothing-trans, blocked-other}
+use Rattle.wc_loop.proofs.SourceLemmas.{IsWritten-later, others-unsent, TakesNothing-call, TakesNothing-trans, blocked-other}
 use Rattle.wc_loop.proofs.ClosingLemmas.{failed-of}
 use Rattle.wc_loop.proofs.PartLemmas.{HasFailed-now}
 use Rattle.wc_loop.proofs.ReadLemmas.{Continues-lost, spares-left, seats-left, unsent-closed}
