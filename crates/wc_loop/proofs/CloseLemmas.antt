@@ -1,5 +1,5 @@
 -- Bytes are sent, and links are closed.
-use Rattle.std.proofs.Common.{◌≡◌, ◌≢◌, ℕ, ◌+◌, ◌<◌, ◌≤◌, nat_le, Bool, true, false, not, cond, eqb, ◌&&◌, ◌||◌, IsTrue, List, [], ◌∷◌, ◌++◌, map, length, take, drop, Option, Some, None, is_some, is_none, refl, sym, ap, ◌∙◌, subst, arith, append_assoc}
+use Rattle.std.proofs.Common.{◌≡◌, ◌≢◌, ℕ, ◌<◌, ◌≤◌, nat_le, Bool, true, false, not, cond, eqb, ◌&&◌, ◌||◌, IsTrue, List, [], ◌∷◌, ◌++◌, map, length, take, drop, Option, Some, None, is_some, is_none, refl, sym, ap, ◌∙◌, subst, arith, append_assoc}
 use Rattle.std.proofs.lemmas.Bool.{false≢true}
 use Rattle.std.proofs.lemmas.Bool.Decides.{nat_tests}
 use Rattle.std.proofs.lemmas.List.{append-nil, take-append-drop, length-drop}
@@ -14,7 +14,7 @@ use Rattle.wc_loop.specs.declared.headless.Headless.{Headless}
 use Rattle.wc_loop.specs.Hands.{Hands}
 use Rattle.wc_loop.specs.Links.{link_number, is_undrained, listed, marked_at}
 use Rattle.wc_loop.specs.Served.{leaving_closes}
-use Rattle.wc_loop.specs.Turns.{StandsAmong, Moment, moment, point, Continues, IsSettled, has_failed}
+use Rattle.wc_loop.specs.Turns.{Moment, moment, point, Continues, IsSettled, has_failed}
 use Rattle.wc_loop.proofs.HandsLemmas.{Hands-stays, Hands-close}
 use Rattle.wc_loop.proofs.KeyedLemmas.{at_key-key, at_key-put_same, at_key-put_other, at_key-filter_same, at_key-filter_other, none_of, or-false, same-keys}
 use Rattle.wc_loop.proofs.PointLemmas.{Advances-none, Advances-same, spoils-more, gone-none, none-same, or_left, or_right}

@@ -2,15 +2,13 @@
 use Rattle.std.proofs.Common.{◌≡◌, ◌≢◌, ℕ, ◌⊎◌, inl, inr, Bool, true, false, ◌&&◌, ◌||◌, not, cond, eqb, nat_le, List, [], ◌∷◌, ◌++◌, length, All, Option, Some, None, refl, sym, ap, ◌∙◌, subst, arith}
 use Rattle.std.specs.List.{flat_map}
 use Rattle.std.specs.Option.{is_none}
-use Rattle.std.proofs.lemmas.Bool.{false≢true}
 use Rattle.std.proofs.lemmas.Bool.Decides.{nat_tests}
 use Rattle.std.proofs.lemmas.List.{append-nil}
 use Rattle.std.proofs.lemmas.List.Elements.{All-nil, All-cons, All-head, All-tail, All-append}
-use Rattle.wc_text.specs.declared.names.LinkId.{LinkId}
 use Rattle.wc_text.specs.declared.names.Pair.{Pair}
 use Rattle.wc_text.specs.declared.names.Cause.{Cause}
 use Rattle.wc_text.specs.declared.names.Cause.TheVariants.{Ended, Failed, LoginFailed, Quit}
-use Rattle.wc_outside.specs.Keyed.{at_key, put_at, without}
+use Rattle.wc_outside.specs.Keyed.{at_key, put_at}
 use Rattle.wc_lines.specs.declared.line.Line.{Line}
 use Rattle.wc_objects.specs.declared.object.WireMessage.{WireMessage}
 use Rattle.wc_relaycmd.specs.Answers.{request_of}
@@ -23,18 +21,18 @@ use Rattle.wc_session.specs.declared.outcome.Outcome.TheVariants as outcome
 use Rattle.wc_session.specs.Handshakes.{choice_in}
 use Rattle.wc_session.specs.Logins.{pairs_let_in}
 use Rattle.wc_session.specs.Names.{names_core}
-use Rattle.wc_session.specs.Reply.{Answer, silent, replies, leaves as drops, core_buffer, shaken, handshake_reply, handshake_answer, init_answer, input_answer, is_open, served, reply_of}
+use Rattle.wc_session.specs.Reply.{Answer, silent, replies, leaves as drops, core_buffer, shaken, handshake_reply, handshake_answer, init_answer, is_open, served, reply_of}
 use Rattle.wc_core.specs.Events.{Event, Start, Tick, Arrives, Line as LineCame, Ends, Fails, ListenFails}
 use Rattle.wc_core.specs.Typed.{parted}
 use Rattle.wc_core.specs.State.{State, Act, Sends, Closes, Quits, Stepped}
 use Rattle.wc_core.specs.Step.{step, run, stays, follows, leaves, sends, asked, answers, line_came, lost, client_link}
-use Rattle.wc_core.specs.Served.{or_else, close_by, close_of}
-use Rattle.wc_core.proofs.DidLemmas.{or_else-none, close_of-append}
+use Rattle.wc_core.specs.Served.{or_else, close_of}
+use Rattle.wc_core.proofs.DidLemmas.{close_of-append}
 use Rattle.wc_core.proofs.SeatLemmas.{close-sends}
 use Rattle.wc_core.proofs.CloseLemmas.{runs-closes}
 use Rattle.wc_loop.specs.Lines.{ended, without_cr, line_limit}
 use Rattle.wc_loop.specs.Events.{line_events, read_events}
-use Rattle.wc_loop.specs.Run.{act_closes, closings}
+use Rattle.wc_loop.specs.Run.{closings}
 use Rattle.wc_loop.specs.Served.{closed_by}
 use Rattle.wc_loop.proofs.KeyedLemmas.{at_key-filter_same}
 use Rattle.wc_loop.proofs.RunLemmas.{closings-append}

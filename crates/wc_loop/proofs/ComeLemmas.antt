@@ -1,35 +1,31 @@
 -- Arrivals are served.
-use Rattle.std.proofs.Common.{◌≡◌, ◌≢◌, ℕ, ◌+◌, ◌-◌, ◌^◌, ◌<◌, ◌≤◌, ◌⊎◌, inl, inr, min, nat_le, Bool, true, false, not, eqb, ◌&&◌, ◌||◌, IsTrue, List, [], ◌∷◌, ◌++◌, map, Option, Some, None, IfSome, is_some, is_none, All, refl, sym, ap, ◌∙◌, subst, arith}
-use Rattle.std.proofs.lemmas.Bool.{false≢true}
+use Rattle.std.proofs.Common.{◌≡◌, ◌≢◌, ℕ, ◌+◌, ◌<◌, inl, inr, nat_le, Bool, true, false, not, eqb, ◌&&◌, ◌||◌, IsTrue, List, [], ◌∷◌, ◌++◌, map, Option, Some, None, IfSome, is_some, is_none, All, refl, sym, ap, ◌∙◌, subst, arith}
 use Rattle.std.proofs.lemmas.Bool.Decides.{nat_tests}
 use Rattle.std.proofs.lemmas.List.{append-nil}
 use Rattle.std.proofs.lemmas.List.Elements.{All-nil, All-cons}
 use Rattle.wc_text.specs.declared.names.LinkId.{LinkId}
 use Rattle.wc_text.specs.declared.names.Cause.{Cause}
-use Rattle.wc_text.specs.declared.names.Cause.TheVariants.{Surplus, NoMemory}
 use Rattle.wc_outside.specs.Seen.{Seen}
 use Rattle.wc_outside.specs.declared.happening.Happening.{Happening}
 use Rattle.wc_outside.specs.declared.happening.Happening.TheVariants.{Accepted}
-use Rattle.wc_outside.specs.Keyed.{at_key, without}
+use Rattle.wc_outside.specs.Keyed.{at_key}
 use Rattle.wc_core.specs.declared.seat.Seat.{Seat}
-use Rattle.wc_core.specs.Events.{Event, Arrives}
-use Rattle.wc_core.specs.State.{State, Act}
-use Rattle.wc_core.specs.Step.{step, run}
-use Rattle.wc_core.specs.Served.{seat_link, links_of, state_of, unsent_in, unsent_on, sent_to, has_end, new_seat, refusal, Absent, Distinct}
+use Rattle.wc_core.specs.Events.{Arrives}
+use Rattle.wc_core.specs.Step.{run}
+use Rattle.wc_core.specs.Served.{seat_link, state_of, unsent_in, unsent_on, sent_to, has_end, new_seat, refusal, Distinct}
 use Rattle.wc_core.proofs.SeatLemmas.{links-push}
 use Rattle.wc_loop.specs.declared.link_state.LinkState.{LinkState}
-use Rattle.wc_loop.specs.declared.link_state.Closed.{Closed}
 use Rattle.wc_loop.specs.declared.headless.Headless.{Headless}
 use Rattle.wc_loop.specs.Hands.{Hands}
 use Rattle.wc_loop.specs.Links.{link_number, is_undrained, new_state}
 use Rattle.wc_loop.specs.Run.{closings}
 use Rattle.wc_loop.specs.Served.{closed_by, leaving_closes, IsCalm}
 use Rattle.wc_loop.specs.Steps.{Comes, Admits, Refuses, IsRefusal}
-use Rattle.wc_loop.specs.Turns.{StandsAmong, Moment, moment, point, Advances, CausedBy, IsCaused, Continues, has_failed}
+use Rattle.wc_loop.specs.Turns.{StandsAmong, Moment, moment, point, CausedBy, IsCaused, Continues}
 use Rattle.wc_loop.proofs.KeyedLemmas.{or-false, none_of, is_some-push, at_key-push_same, at_key-push_other}
 use Rattle.wc_loop.proofs.HandsLemmas.{Hands-stays, Hands-close}
 use Rattle.wc_loop.proofs.RunLemmas.{Reaches-all}
-use Rattle.wc_loop.proofs.PointLemmas.{Advances-comes, Advances-same, fresh_by, spoils-more, gone-none}
+use Rattle.wc_loop.proofs.PointLemmas.{Advances-comes, Advances-same, fresh_by, spoils-more}
 use Rattle.wc_loop.proofs.SeatLemmas.{absent-missing, distinct-push}
 use Rattle.wc_loop.proofs.StandsLemmas.{For-came, For-refused}
 use Rattle.wc_loop.proofs.CloseLemmas.{and-not-true, and-not-false}

@@ -1,13 +1,12 @@
 -- What bytes leave of a tail and of the core.
-use Rattle.std.proofs.Common.{◌≡◌, ℕ, ◌+◌, ◌-◌, ◌^◌, ◌<◌, Bool, true, false, List, [], ◌∷◌, ◌++◌, length, min, refl, sym, ap, ◌∙◌, arith, append_assoc}
+use Rattle.std.proofs.Common.{◌≡◌, ℕ, ◌+◌, ◌-◌, ◌^◌, ◌<◌, true, false, List, [], ◌∷◌, ◌++◌, length, min, refl, sym, ap, ◌∙◌, arith, append_assoc}
 use Rattle.std.proofs.lemmas.Bool.{false≢true}
-use Rattle.std.proofs.lemmas.List.{append-nil, length-append}
 use Rattle.wc_core.specs.Events.{Event}
 use Rattle.wc_core.specs.Standing.{Standing}
 use Rattle.wc_loop.specs.declared.tail.Tail.{Tail}
 use Rattle.wc_loop.specs.Lines.{rest, HasNoLf}
 use Rattle.wc_loop.specs.Events.{read_events, line_events}
-use Rattle.wc_loop.specs.Served.{Reaches, MayRun, MayTake, LeavesAtLine}
+use Rattle.wc_loop.specs.Served.{MayRun, MayTake, LeavesAtLine}
 use Rattle.wc_loop.specs.Tails.{IsTail}
 use Rattle.wc_loop.proofs.LineLemmas.{rest-append, rest-line, rest-ended, read_events-append, read_events-line, read_events-none}
 use Rattle.wc_loop.proofs.RunLemmas.{ran-more}

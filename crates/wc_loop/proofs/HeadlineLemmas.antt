@@ -1,6 +1,5 @@
 -- What a whole run hands to its clients.
-use Rattle.std.proofs.Common.{◌≡◌, ℕ, ◌≤◌, List, [], ◌∷◌, ◌++◌, IsTrue, Bool, true, false, cond, eqb, nat_le, ◌&&◌, ◌||◌, refl, sym, ap, ◌∙◌, subst, arith, Option, Some, None, IfSome, IfOk, is_some, is_none, option_map, Ok}
-use Rattle.std.proofs.lemmas.Bool.{false≢true}
+use Rattle.std.proofs.Common.{◌≡◌, ℕ, ◌≤◌, List, [], ◌∷◌, ◌++◌, IsTrue, Bool, true, false, cond, eqb, nat_le, ◌&&◌, ◌||◌, refl, sym, ap, ◌∙◌, subst, arith, Option, Some, None, IfSome, is_some, is_none, option_map}
 use Rattle.std.proofs.lemmas.Bool.Decides.{nat_tests}
 use Rattle.std.proofs.lemmas.List.{append-nil}
 use Rattle.wc_text.specs.declared.names.LinkId.{LinkId}
@@ -11,12 +10,11 @@ use Rattle.wc_outside.specs.declared.happening.Happening.{Happening}
 use Rattle.wc_session.specs.declared.client.Client.{Client}
 use Rattle.wc_core.specs.declared.seat.Seat.{Seat}
 use Rattle.wc_core.specs.Events.{Event}
-use Rattle.wc_core.specs.State.{State, first_state}
+use Rattle.wc_core.specs.State.{State}
 use Rattle.wc_core.specs.Step.{client_link, run}
 use Rattle.wc_core.specs.Served.{seat_link, clients_of, state_of, unsent_on, sent_to, has_end}
 use Rattle.wc_loop.specs.declared.headless.Headless.{Headless}
 use Rattle.wc_loop.specs.declared.link_state.Closed.{Closed}
-use Rattle.wc_loop.specs.Configuration.{settings_in}
 use Rattle.wc_loop.specs.Endings.{kept_of}
 use Rattle.wc_loop.specs.Events.{events_from}
 use Rattle.wc_loop.specs.Hands.{IsFrontOf}

@@ -1,5 +1,5 @@
 -- What the clients that settled hold at the end of a run.
-use Rattle.std.proofs.Common.{◌≡◌, ◌≢◌, ℕ, ◌+◌, ◌-◌, ◌<◌, ◌≤◌, Bool, true, false, cond, eqb, nat_le, List, [], ◌∷◌, ◌++◌, length, take, slice_index, Option, Some, None, IfSome, IfOk, Result, Ok, Err, refl, sym, ap, ◌∙◌, subst, arith}
+use Rattle.std.proofs.Common.{◌≡◌, ℕ, ◌-◌, ◌≤◌, Bool, true, false, cond, eqb, nat_le, List, [], ◌∷◌, ◌++◌, length, take, slice_index, Option, Some, None, IfSome, IfOk, Result, Ok, Err, refl, sym, ap, subst, arith}
 use Rattle.std.specs.List.{AllByRecursion, flat_map}
 use Rattle.std.proofs.lemmas.Bool.{false≢true}
 use Rattle.std.proofs.lemmas.Bool.Decides.{nat_tests}
@@ -9,19 +9,19 @@ use Rattle.wc_outside.specs.Keyed.{at_key}
 use Rattle.wc_outside.specs.declared.happening.Happening.{Happening}
 use Rattle.wc_outside.specs.declared.happening.Happening.TheVariants.{Woke, Accepted, Read, Ended, Failed, ListenFailed}
 use Rattle.wc_session.specs.declared.client.Client.{Client}
-use Rattle.wc_core.specs.Events.{Event, Start, Tick, Arrives, Line, Ends, Fails, ListenFails}
+use Rattle.wc_core.specs.Events.{Event, Tick, Line}
 use Rattle.wc_core.specs.State.{State, first_state}
 use Rattle.wc_core.specs.Step.{client_link, run}
 use Rattle.wc_core.specs.Served.{unsent_on, sent_to}
 use Rattle.wc_settled.specs.Bytes.{Shows}
 use Rattle.wc_settled.specs.Mirrors.{IsShortLine}
-use Rattle.wc_settled.specs.Settled.{Settled, follows_all, is_following}
+use Rattle.wc_settled.specs.Settled.{Settled, is_following}
 use Rattle.wc_settled.proofs.BytesLemmas.{bytes_show}
 use Rattle.wc_loop.specs.declared.configuration.Settings.{Settings}
 use Rattle.wc_loop.specs.declared.headless.Headless.{Headless}
 use Rattle.wc_loop.proofs.ConfigurationLemmas.{settings-most}
 use Rattle.wc_loop.specs.Configuration.{settings_in}
-use Rattle.wc_loop.specs.Events.{events_of, events_from, wake_events, line_events, read_events, is_tick, tail_on, clock}
+use Rattle.wc_loop.specs.Events.{events_of, events_from, wake_events, line_events, is_tick, tail_on, clock}
 use Rattle.wc_loop.specs.Headline.{HandsOut, Mirrored}
 use Rattle.wc_loop.specs.Lines.{ended, without_cr, line_limit}
 

@@ -1,36 +1,31 @@
 -- Clients that are leaving are parted with.
-use Rattle.std.proofs.Common.{◌≡◌, ◌≢◌, ℕ, ◌+◌, ◌<◌, ◌≤◌, ◌⊎◌, inl, inr, Bool, true, false, not, cond, eqb, ◌&&◌, ◌||◌, IsTrue, List, [], ◌∷◌, ◌++◌, length, map, drop, All, Option, Some, None, IsSome, is_some, refl, sym, ap, ◌∙◌, subst, arith}
+use Rattle.std.proofs.Common.{◌≡◌, ◌≢◌, ℕ, ◌<◌, ◌⊎◌, inl, inr, Bool, true, false, eqb, ◌||◌, IsTrue, List, [], ◌∷◌, ◌++◌, length, map, drop, Option, Some, None, IsSome, is_some, refl, sym, ap, ◌∙◌, subst, arith}
 use Rattle.std.specs.List.{list_any}
 use Rattle.std.proofs.lemmas.Bool.{false≢true}
 use Rattle.std.proofs.lemmas.Bool.Decides.{nat_tests}
-use Rattle.std.proofs.lemmas.List.{append-nil}
-use Rattle.std.proofs.lemmas.List.Elements.{All-nil, All-cons, All-weaker}
 use Rattle.std.proofs.lemmas.List.Folds.{list_any-append}
 use Rattle.wc_text.specs.declared.names.LinkId.{LinkId}
 use Rattle.wc_text.specs.declared.names.Cause.{Cause}
-use Rattle.wc_text.specs.declared.names.Cause.TheVariants.{Failed as CauseFailed, LoginFailed, Quit, NoMemory, Ended as CauseEnded, Surplus, Disconnected, NickTaken}
 use Rattle.wc_outside.specs.Seen.{Seen}
 use Rattle.wc_outside.specs.Faults.{NeverFall}
-use Rattle.wc_outside.specs.declared.happening.Happening.{Happening}
 use Rattle.wc_outside.specs.declared.happening.Happening.TheVariants.{Failed}
-use Rattle.wc_outside.specs.Keyed.{at_key, put_at, without}
+use Rattle.wc_outside.specs.Keyed.{at_key, without}
 use Rattle.wc_core.specs.declared.seat.Seat.{Seat}
 use Rattle.wc_core.specs.declared.seat.Departure.{Departure}
 use Rattle.wc_core.specs.Standing.{Standing}
-use Rattle.wc_core.specs.Served.{seat_link, links_of, leaving_in, leaving_on, unsent_in, unsent_on, gone_at, left_at, departure_by, departure_of, is_open, is_open_at, Distinct}
-use Rattle.wc_loop.specs.declared.link_state.LinkState.{LinkState}
+use Rattle.wc_core.specs.Served.{seat_link, links_of, leaving_in, leaving_on, gone_at, departure_by, departure_of, Distinct}
 use Rattle.wc_loop.specs.declared.link_state.Closed.{Closed}
 use Rattle.wc_loop.specs.declared.headless.Headless.{Headless}
 use Rattle.wc_loop.specs.Contained.{Contained}
-use Rattle.wc_loop.specs.Links.{link_number, is_undrained}
+use Rattle.wc_loop.specs.Links.{link_number}
 use Rattle.wc_loop.specs.Parts.{Misses, SendsOn, Parts, Spares, HasFailed}
-use Rattle.wc_loop.specs.Served.{closed_by, leaving_closes, IsCalm, IsOfLine, LeavesFor, LeavesAtLine, closed_number}
-use Rattle.wc_loop.specs.Sources.{Falls, IsWritten, IsSent, TakesNothing}
-use Rattle.wc_loop.specs.Turns.{StandsAmong, Stands, HasGained, IsSettled, is_failure, has_failed, Continues}
+use Rattle.wc_loop.specs.Served.{closed_by, leaving_closes, closed_number}
+use Rattle.wc_loop.specs.Sources.{Falls, IsSent, TakesNothing}
+use Rattle.wc_loop.specs.Turns.{HasGained, IsSettled, is_failure, has_failed}
 use Rattle.wc_loop.proofs.KeyedLemmas.{at_key-key, at_key-put_other, at_key-put_same, at_key-filter_other, at_key-filter_same, length-without, some_of, none_of}
 use Rattle.wc_loop.proofs.CauseLemmas.{gained-behind}
 use Rattle.wc_loop.proofs.ContainedLemmas.{Contained-refl, Contained-trans, Contained-same}
-use Rattle.wc_loop.proofs.SeatLemmas.{calm-leaving, departed-there, departed-all, departed-leaving, leaving-without, all-without, leaving-gone, links-gone, calm-left, closes-all}
+use Rattle.wc_loop.proofs.SeatLemmas.{departed-there, departed-all, departed-leaving, leaving-without, all-without, leaving-gone, links-gone}
 use Rattle.wc_loop.proofs.SourceLemmas.{Later, Falls-refl, Falls-trans, TakesNothing-refl, TakesNothing-trans}
 
 -- ---- bytes are sent

@@ -1,5 +1,5 @@
 -- What is seen of one link from moment to moment.
-use Rattle.std.proofs.Common.{◌≡◌, ◌≢◌, ℕ, ◌+◌, ◌<◌, ◌≤◌, nat_le, Bool, true, false, not, eqb, ◌&&◌, ◌||◌, List, [], ◌∷◌, ◌++◌, map, Option, Some, None, is_some, is_none, refl, sym, ap, ◌∙◌, subst, arith, append_assoc}
+use Rattle.std.proofs.Common.{◌≡◌, ◌≢◌, ℕ, ◌+◌, nat_le, Bool, true, false, eqb, ◌&&◌, ◌||◌, List, [], ◌∷◌, ◌++◌, map, Option, Some, None, is_some, is_none, refl, sym, ap, ◌∙◌, subst, arith, append_assoc}
 use Rattle.std.proofs.lemmas.Bool.{false≢true}
 use Rattle.std.proofs.lemmas.Bool.Decides.{nat_tests}
 use Rattle.std.proofs.lemmas.List.{append-nil}
@@ -7,7 +7,6 @@ use Rattle.std.proofs.lemmas.List.Folds.{list_any-append}
 use Rattle.wc_outside.specs.declared.happening.Happening.{Happening}
 use Rattle.wc_core.specs.declared.seat.Seat.{Seat}
 use Rattle.wc_core.specs.Events.{Event}
-use Rattle.wc_core.specs.State.{Act, Stepped}
 use Rattle.wc_core.specs.Step.{run, stays}
 use Rattle.wc_core.specs.Served.{seat_link, state_of, unsent_in, unsent_on, sent_to, has_end, Did}
 use Rattle.wc_outside.specs.Keyed.{at_key}
@@ -15,7 +14,7 @@ use Rattle.wc_loop.specs.declared.link_state.Closed.{Closed}
 use Rattle.wc_loop.specs.Hands.{Hands}
 use Rattle.wc_loop.specs.Run.{closings}
 use Rattle.wc_loop.specs.Turns.{Moment, point, Advances, is_failure, has_failed}
-use Rattle.wc_loop.proofs.KeyedLemmas.{or-false, none_of, same-keys, is_some-push}
+use Rattle.wc_loop.proofs.KeyedLemmas.{or-false, none_of, same-keys}
 use Rattle.wc_loop.proofs.HandsLemmas.{Hands-stays}
 
 pub or_left : (a b : Bool) → (a || b) ≡ false → a ≡ false

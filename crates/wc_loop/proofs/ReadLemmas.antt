@@ -1,8 +1,8 @@
 -- What one call takes of a link.
-use Rattle.std.proofs.Common.{◌≡◌, ◌≢◌, ℕ, ◌+◌, ◌≤◌, ◌⊎◌, inl, inr, Bool, true, false, not, eqb, cond, ◌&&◌, IsTrue, List, [], ◌∷◌, ◌++◌, length, take, Option, Some, None, IsSome, is_some, is_none, refl, sym, ap, ◌∙◌, subst, arith}
+use Rattle.std.proofs.Common.{◌≡◌, ◌≢◌, ℕ, ◌+◌, ◌≤◌, ◌⊎◌, inl, inr, Bool, true, false, not, eqb, ◌&&◌, IsTrue, List, [], ◌∷◌, ◌++◌, length, take, All, Option, Some, None, is_some, is_none, refl, sym, ap, ◌∙◌, subst, arith}
 use Rattle.std.proofs.lemmas.Bool.{false≢true}
 use Rattle.std.proofs.lemmas.Bool.Decides.{nat_tests}
-use Rattle.std.proofs.lemmas.List.{append-nil, length-append, length-take}
+use Rattle.std.proofs.lemmas.List.{length-append, length-take}
 use Rattle.std.proofs.lemmas.List.Elements.{All-nil, All-cons}
 use Rattle.wc_text.specs.declared.names.LinkId.{LinkId}
 use Rattle.wc_text.specs.declared.names.Cause.{Cause}
@@ -15,15 +15,19 @@ use Rattle.wc_core.specs.Served.{seat_link, unsent_in, unsent_on, is_open, is_op
 use Rattle.wc_core.specs.Standing.{Standing}
 use Rattle.wc_loop.specs.declared.link_state.Closed.{Closed}
 use Rattle.wc_loop.specs.declared.headless.Headless.{Headless}
-use Rattle.wc_loop.specs.Events.{bytes_on}
-use Rattle.wc_loop.specs.Links.{link_number, is_undrained}
-use Rattle.wc_loop.specs.Parts.{Spares, Parts, ReadsOn, ReadBytes}
-use Rattle.wc_loop.specs.Served.{closed_by, leaving_closes, IsCalm, closed_number}
-use Rattle.wc_loop.specs.Sources.{Falls, IsWritten, TakesNothing, bytes_taken, arrivals}
-use Rattle.wc_loop.specs.Turns.{Stands}
+use Rattle.wc_loop.specs.Events.{tail_on, events_of}
+use Rattle.wc_loop.specs.Links.{is_undrained}
+use Rattle.wc_loop.specs.Parts.{Spares, Parts, ReadsOn}
+use Rattle.wc_loop.specs.Served.{leaving_closes, IsCalm, closed_number, LeavesAtLine}
+use Rattle.wc_loop.specs.Sources.{Falls, TakesNothing, bytes_taken, arrivals}
+use Rattle.wc_loop.specs.Turns.{Stands, CausedBy, Continues, Takes, is_wake, is_listen_fault}
 use Rattle.wc_loop.proofs.KeyedLemmas.{none_of, at_key-key, at_key-put_other, at_key-put_same}
 use Rattle.wc_loop.proofs.SeatLemmas.{calm-left, calm-leaving}
-use Rattle.wc_loop.proofs.SourceLemmas.{Falls-refl, Falls-trans, bytes_taken-append, arrivals-append, IsWritten-later}
+use Rattle.wc_loop.proofs.TurnLemmas.{Call}
+use Rattle.wc_loop.proofs.StepLemmas.{SameSets}
+use Rattle.wc_loop.proofs.ClosingLemmas.{IsOf, read-of}
+use Rattle.wc_loop.proofs.TakesLemmas.{Continues-takes, causes-line, causes-lost}
+use Rattle.wc_loop.proofs.SourceLemmas.{Falls-refl, Falls-trans, Falls-same, bytes_taken-append, arrivals-append}
 
 pub ReadsOn-refl : (link : ℕ) (a : Seen) → ReadsOn link a a
 ReadsOn-refl link a = record { falls = Falls-refl a; others = λ t k n. refl; clients = λ t. refl }
@@ -148,3 +152,28 @@ bytes-kept link n a b c given told taken none nothing t =
     let q = ap (bytes_taken link) (taken (told t)) in
     let parts = bytes_taken-append link a.taken given in
     omega arith
+
+-- a call gave a happening, and sent nothing
+pub record Gave (a b : Seen) (h : Happening) : Type 0 where
+  pub call : Call a b (h ∷ [])
+  pub sent : IsTrue b.tells → (k : ℕ) → b.sent k ≡ a.sent k
+  pub choked : IsTrue b.tells → (k : ℕ) → b.choked k ≡ a.choked k
+  pub same : SameSets a b
+
+-- bytes were read and served
+pub Continues-read : (x y : Headless) (link : LinkId) (bytes : List ℕ) (a b : Seen) → Gave a b (Read link bytes) → IsCalm x.core.seats → x.core.quits ≡ false → Takes x y (Read link bytes) → LeavesAtLine link.0 x.core y.core → Continues true 0 0 x y a b
+Continues-read x y link bytes a b gave calm going takes causes =
+    Continues-takes x y link a b (Read link bytes) refl gave.call gave.sent gave.choked gave.same.used gave.same.there gave.same.undrained gave.same.listening calm going takes
+    (λ taken. read-of link.0 (tail_on link.0 taken) bytes) (causes-line link bytes x.core y.core a b calm causes gave.call.taken)
+
+pub ReadsOn-read : (x y : Headless) (link : LinkId) (bytes : List ℕ) (a b c : Seen) → Gave a b (Read link bytes) → (IsTrue c.tells → IsTrue b.tells) → Parts x y b c → ReadsOn link.0 a c
+ReadsOn-read x y link bytes a b c gave told parts =
+    ReadsOn-parts link.0 x y a b c told (ReadsOn-call link.0 a b (Read link bytes ∷ []) (Falls-same a b gave.same.undrained gave.same.listening) gave.call.taken (other-bytes link bytes) refl) parts
+
+-- a client was lost
+pub Continues-lost : (x y : Headless) (link : LinkId) (h : Happening) (why : Cause) (a b : Seen) → Gave a b h → is_wake h ≡ 0 → is_listen_fault h ≡ 0 → IsCalm x.core.seats → x.core.quits ≡ false → Takes x y h → ((taken : List Happening) → All (IsOf link.0) (events_of taken h))
+    → y.core.seats ≡ left_at link.0 why x.core.seats (at_key seat_link link.0 x.core.seats) → CausedBy why link.0 a b → Continues true 0 0 x y a b
+Continues-lost x y link h why a b gave wake listen calm going takes of seats cause =
+    subst (λ n. Continues true 0 n x y a b) listen
+    (Continues-takes x y link a b h wake gave.call gave.sent gave.choked gave.same.used gave.same.there gave.same.undrained gave.same.listening calm going takes of
+    (λ distinct. rw seats (causes-lost link why x.core.seats a b calm cause)))

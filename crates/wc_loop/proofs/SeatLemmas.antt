@@ -1,5 +1,5 @@
 -- Clients that are leaving.
-use Rattle.std.proofs.Common.{◌≡◌, ◌≢◌, ℕ, ◌+◌, ◌<◌, ◌≤◌, Bool, true, false, not, cond, eqb, List, [], ◌∷◌, ◌++◌, length, map, drop, take, All, Option, Some, None, IsSome, IfSome, is_some, is_none, refl, sym, ap, ◌∙◌, subst, arith}
+use Rattle.std.proofs.Common.{◌≡◌, ◌≢◌, ℕ, Bool, true, false, cond, eqb, List, [], ◌∷◌, ◌++◌, map, drop, All, Option, Some, None, is_some, is_none, refl, sym, ap, ◌∙◌, subst, arith}
 use Rattle.std.proofs.lemmas.Bool.{false≢true}
 use Rattle.std.proofs.lemmas.Bool.Decides.{nat_tests}
 use Rattle.std.proofs.lemmas.List.{append-nil}
@@ -9,7 +9,6 @@ use Rattle.wc_text.specs.declared.names.Cause.{Cause}
 use Rattle.wc_outside.specs.Keyed.{at_key, put_at, without}
 use Rattle.wc_core.specs.declared.seat.Seat.{Seat}
 use Rattle.wc_core.specs.declared.seat.Departure.{Departure}
-use Rattle.wc_session.specs.declared.client.Client.{Client}
 use Rattle.wc_core.specs.Served.{seat_link, is_open, clients_of, leaving_in, leaving_on, left_at, left_if, gone_at, departure_by, departure_of, Absent, Distinct}
 use Rattle.wc_core.proofs.SeatLemmas.{absent-seat}
 use Rattle.wc_loop.specs.declared.link_state.Closed.{Closed}

@@ -1,5 +1,5 @@
 -- How the sources that a wait named are served, and those that an earlier turn left.
-use Rattle.std.proofs.Common.{◌≡◌, ◌≢◌, ℕ, zero, suc, ◌+◌, ◌<◌, ◌≤◌, ◌⊎◌, inl, inr, Bool, true, false, not, eqb, nat_lt, ◌&&◌, ◌||◌, List, [], ◌∷◌, ◌++◌, length, take, slice_index_or, Option, Some, None, IfSome, Result, Ok, Err, OnOk, OnErr, is_ok, is_err, IsTrue, refl, sym, ap, ◌∙◌, subst, arith}
+use Rattle.std.proofs.Common.{◌≡◌, ◌≢◌, ℕ, zero, suc, ◌+◌, ◌<◌, ◌≤◌, ◌⊎◌, inl, inr, Bool, true, false, not, eqb, nat_lt, ◌&&◌, ◌||◌, List, [], ◌∷◌, length, take, slice_index_or, Option, Some, None, IfSome, Result, Ok, Err, OnOk, OnErr, is_ok, is_err, IsTrue, refl, sym, ap, ◌∙◌, subst, arith}
 use Rattle.std.specs.List.{list_any}
 use Rattle.std.proofs.lemmas.Bool.{false≢true}
 use Rattle.std.proofs.lemmas.Bool.Decides.{nat_tests}
@@ -10,7 +10,6 @@ use Rattle.wc_outside.specs.Happenings.{is_link, is_listener}
 use Rattle.wc_outside.specs.Keyed.{at_key}
 use Rattle.wc_outside.specs.Seen.{Seen}
 use Rattle.wc_outside.specs.declared.failed.Failed.{Failed as Fault}
-use Rattle.wc_outside.specs.declared.happening.Happening.TheVariants.{Failed}
 use Rattle.wc_outside.specs.declared.sockets.Token.{Token}
 use Rattle.wc_outside.specs.declared.sockets.Token.TheVariants.{Listener, Link}
 use Rattle.wc_core.specs.declared.seat.Seat.{Seat}
@@ -21,7 +20,7 @@ use Rattle.wc_loop.specs.Contained.{Contained}
 use Rattle.wc_loop.specs.Links.{link_number, is_undrained}
 use Rattle.wc_loop.specs.Served.{IsCalm}
 use Rattle.wc_loop.specs.Sources.{bytes_taken, arrivals, Falls, IsServed, IsHeard, IsWritten, IsSent, AllServed, AllSent, ServesNamed, TakesWithin, TakesNothing, flagged, has_unsent, is_left_over}
-use Rattle.wc_loop.specs.Turns.{HasGained, Stands, Continues, faults_of}
+use Rattle.wc_loop.specs.Turns.{Stands, Continues, faults_of}
 use Rattle.wc_loop.proofs.KeyedLemmas.{at_key-key}
 use Rattle.wc_loop.proofs.CauseLemmas.{gained-later, gained-behind}
 use Rattle.wc_loop.proofs.ContainedLemmas.{Contained-refl, Contained-trans}
@@ -70,12 +69,6 @@ reported-or true P named other = named refl
 reported-or false P named other = other refl
 
 -- ---- what is taken
-
-pub Nothing-refl : (a : Seen) → TakesNothing a a
-Nothing-refl a = record { bytes = λ t k. refl; clients = λ t. refl }
-
-pub Nothing-trans : (a b c : Seen) → Later b c → TakesNothing a b → TakesNothing b c → TakesNothing a c
-Nothing-trans a b c later h g = record { bytes = λ t k. g.bytes t k ∙ h.bytes (later.told t) k; clients = λ t. g.clients t ∙ h.clients (later.told t) }
 
 pub Within-nothing : (a b c : Seen) → Later b c → TakesWithin a b → TakesNothing b c → TakesWithin a c
 Within-nothing a b c later h g = record {

@@ -1,19 +1,15 @@
 -- The core takes one event after another.
-use Rattle.std.proofs.Common.{◌≡◌, ◌≢◌, ℕ, ◌+◌, ◌-◌, ◌^◌, ◌<◌, ◌⊎◌, inl, inr, min, Bool, true, false, ◌||◌, eqb, List, [], ◌∷◌, ◌++◌, length, map, Option, Some, None, IsSome, refl, sym, ap, ◌∙◌, subst, arith}
-use Rattle.std.proofs.lemmas.Bool.{false≢true}
+use Rattle.std.proofs.Common.{◌≡◌, ℕ, inl, inr, Bool, true, false, ◌||◌, eqb, List, [], ◌∷◌, ◌++◌, Option, Some, None, IsSome, refl, sym, ap, ◌∙◌, subst, arith}
 use Rattle.std.proofs.lemmas.Bool.Decides.{nat_tests}
 use Rattle.std.proofs.lemmas.List.{append-nil}
 use Rattle.wc_text.specs.declared.names.Cause.{Cause}
-use Rattle.wc_text.specs.declared.names.Cause.TheVariants.{NoMemory, LoginFailed, Quit}
-use Rattle.wc_outside.specs.Keyed.{at_key}
-use Rattle.wc_core.specs.declared.seat.Seat.{Seat}
 use Rattle.wc_core.specs.Events.{Event, Line}
 use Rattle.wc_core.specs.Standing.{Standing}
-use Rattle.wc_core.specs.State.{State, Act, Stepped}
-use Rattle.wc_core.specs.Step.{step, run, stays}
-use Rattle.wc_core.specs.Served.{seat_link, links_of, state_of, leaving_in, leaving_on, unsent_on, sent_to, close_of, or_else, has_end, Distinct, Did, Keeps, MayDo, StaysOrStarves, LeavesBy}
+use Rattle.wc_core.specs.State.{State, Act}
+use Rattle.wc_core.specs.Step.{step, run}
+use Rattle.wc_core.specs.Served.{state_of, leaving_in, leaving_on, unsent_on, sent_to, close_of, or_else, has_end, Distinct, Did, MayDo, LeavesBy}
 use Rattle.wc_core.proofs.DidLemmas.{Did-stays, Did-then, Keeps-refl, Keeps-trans}
-use Rattle.wc_loop.specs.Served.{MayRun, IsOfLine, LeavesFor, LeavesAtLine}
+use Rattle.wc_loop.specs.Served.{MayRun, LeavesFor, LeavesAtLine}
 use Rattle.wc_loop.proofs.RunLemmas.{run-append-state, run-append-acts}
 use Rattle.wc_loop.proofs.ClosingLemmas.{LineCause, line-cause, line-others}
 

@@ -1,29 +1,22 @@
 -- How the sources that are ready are served.
-use Rattle.std.proofs.Common.{◌≡◌, ◌≢◌, ℕ, ◌+◌, ◌<◌, ◌≤◌, inl, inr, Bool, true, false, not, cond, eqb, nat_lt, ◌&&◌, ◌||◌, List, [], ◌∷◌, ◌++◌, length, take, drop, slice_index_or, Option, Some, None, IfSome, is_some, Result, Ok, Err, OnOk, is_ok, is_err, IsTrue, refl, sym, ap, ◌∙◌, subst, arith}
-use Rattle.std.specs.List.{flat_map, list_any}
+use Rattle.std.proofs.Common.{◌≡◌, ◌≢◌, ℕ, ◌+◌, ◌≤◌, inl, inr, Bool, true, false, not, cond, eqb, ◌&&◌, List, [], ◌∷◌, ◌++◌, length, take, drop, Option, Some, None, IsTrue, refl, sym, ap, ◌∙◌, arith}
+use Rattle.std.specs.List.{flat_map}
 use Rattle.std.proofs.lemmas.Bool.{false≢true}
 use Rattle.std.proofs.lemmas.Bool.Decides.{nat_tests}
 use Rattle.std.proofs.lemmas.Grind.{flat_map-append}
 use Rattle.std.proofs.lemmas.List.{length-append, length-take}
-use Rattle.std.proofs.lemmas.List.Folds.{list_any_more}
 use Rattle.wc_text.specs.declared.names.LinkId.{LinkId}
-use Rattle.wc_outside.specs.Happenings.{is_link, is_listener}
-use Rattle.wc_outside.specs.Keyed.{at_key, without}
+use Rattle.wc_outside.specs.Keyed.{at_key}
 use Rattle.wc_outside.specs.Seen.{Seen}
 use Rattle.wc_outside.specs.declared.happening.Happening.{Happening}
 use Rattle.wc_outside.specs.declared.happening.Happening.TheVariants.{Read, Accepted}
-use Rattle.wc_outside.specs.declared.sockets.Token.{Token}
-use Rattle.wc_outside.specs.declared.sockets.Token.TheVariants.{Listener, Link}
-use Rattle.wc_outside.specs.declared.failed.Failed.{Failed as Fault}
 use Rattle.wc_loop.specs.declared.headless.Headless.{Headless}
-use Rattle.wc_loop.specs.declared.link_state.LinkState.{LinkState}
 use Rattle.wc_core.specs.declared.seat.Seat.{Seat}
 use Rattle.wc_core.specs.Served.{seat_link, unsent_at, unsent_in, unsent_on, gone_at}
 use Rattle.wc_loop.specs.Events.{bytes_on}
-use Rattle.wc_loop.specs.Links.{link_number, is_undrained}
-use Rattle.wc_loop.specs.Sources.{bytes_taken, arrivals, Falls, IsServed, IsHeard, IsWritten, IsSent, TakesNothing}
+use Rattle.wc_loop.specs.Sources.{bytes_taken, arrivals, Falls, IsServed, IsHeard, IsWritten, TakesNothing}
 use Rattle.wc_loop.specs.Turns.{Continues}
-use Rattle.wc_loop.proofs.KeyedLemmas.{at_key-key, at_key-put_other, at_key-filter_other}
+use Rattle.wc_loop.proofs.KeyedLemmas.{at_key-key, at_key-put_other}
 
 -- what was taken goes on
 pub record Later (before after : Seen) : Type 0 where

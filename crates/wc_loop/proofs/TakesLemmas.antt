@@ -1,37 +1,36 @@
 -- One happening is taken.
-use Rattle.std.proofs.Common.{◌≡◌, ◌≢◌, ℕ, ◌+◌, ◌-◌, ◌^◌, ◌<◌, ◌≤◌, min, Bool, true, false, eqb, IsTrue, List, [], ◌∷◌, ◌++◌, length, map, All, Option, Some, None, is_some, get_or, set, refl, sym, ap, ◌∙◌, subst, arith}
+use Rattle.std.proofs.Common.{◌≡◌, ◌≢◌, ℕ, ◌+◌, ◌-◌, ◌^◌, min, Bool, true, false, eqb, IsTrue, List, [], ◌∷◌, ◌++◌, length, map, All, Option, Some, None, is_some, get_or, set, refl, sym, ap, ◌∙◌, subst, arith}
 use Rattle.std.proofs.lemmas.Bool.{false≢true}
 use Rattle.std.proofs.lemmas.Bool.Decides.{nat_tests}
 use Rattle.std.proofs.lemmas.List.{append-nil}
-use Rattle.std.proofs.lemmas.List.Elements.{All-nil, All-cons, All-append}
+use Rattle.std.proofs.lemmas.List.Elements.{All-nil, All-cons}
 use Rattle.wc_text.specs.declared.names.LinkId.{LinkId}
 use Rattle.wc_text.specs.declared.names.Cause.{Cause}
 use Rattle.wc_text.specs.declared.names.Cause.TheVariants.{NoMemory, LoginFailed, Surplus, Quit, Ended as CauseEnded, Failed as CauseFailed, Disconnected, NickTaken}
 use Rattle.wc_outside.specs.Seen.{Seen}
 use Rattle.wc_outside.specs.declared.happening.Happening.{Happening}
-use Rattle.wc_outside.specs.declared.happening.Happening.TheVariants.{Read, Ended, Failed}
+use Rattle.wc_outside.specs.declared.happening.Happening.TheVariants.{Read}
 use Rattle.wc_outside.specs.Keyed.{at_key, put_at, IsPlace}
 use Rattle.wc_core.specs.declared.seat.Seat.{Seat}
 use Rattle.wc_core.specs.Events.{Event}
 use Rattle.wc_core.specs.Standing.{Standing}
 use Rattle.wc_core.specs.State.{Act}
-use Rattle.wc_core.specs.Step.{run, step, client_link}
-use Rattle.wc_core.specs.Served.{seat_link, links_of, state_of, leaving_in, leaving_on, left_at, close_of, or_else, Distinct, Did, Keeps, MayDo}
+use Rattle.wc_core.specs.Step.{run, step}
+use Rattle.wc_core.specs.Served.{seat_link, links_of, state_of, leaving_on, left_at, close_of, or_else, Distinct, MayDo}
 use Rattle.wc_loop.specs.declared.link_state.LinkState.{LinkState}
-use Rattle.wc_loop.specs.declared.link_state.Closed.{Closed}
 use Rattle.wc_loop.specs.declared.headless.Headless.{Headless}
 use Rattle.wc_loop.specs.Lines.{rest}
 use Rattle.wc_loop.specs.Links.{link_number, is_undrained}
-use Rattle.wc_loop.specs.Events.{bytes_on, tail_on, events_of, events_from, read_events}
+use Rattle.wc_loop.specs.Events.{bytes_on, tail_on, events_of, read_events}
 use Rattle.wc_loop.specs.Run.{closings}
-use Rattle.wc_loop.specs.Served.{closed_by, leaving_closes, IsCalm, MayRun, MayTake, IsOfLine, LeavesFor, LeavesAtLine}
+use Rattle.wc_loop.specs.Served.{closed_by, leaving_closes, IsCalm, MayTake, IsOfLine, LeavesFor, LeavesAtLine}
 use Rattle.wc_loop.specs.Tails.{IsTail}
-use Rattle.wc_loop.specs.Turns.{StandsAmong, Stands, moment, Goes, CausedBy, IsCaused, is_wake, is_listen_fault, Continues, Takes}
+use Rattle.wc_loop.specs.Turns.{StandsAmong, moment, CausedBy, IsCaused, is_wake, is_listen_fault, Continues, Takes}
 use Rattle.wc_loop.proofs.KeyedLemmas.{at_key-key, at_key-put_same, at_key-put_other, is_some-put_at, none_of, same-keys}
 use Rattle.wc_loop.proofs.RunLemmas.{Reaches-all}
 use Rattle.wc_loop.proofs.PointLemmas.{Advances-takes}
 use Rattle.wc_loop.proofs.SeatLemmas.{calm-leaving, one-closes, calm-left, closes-all}
-use Rattle.wc_loop.proofs.ClosingLemmas.{IsOf, OneLink, run-one, all-front, read-of}
+use Rattle.wc_loop.proofs.ClosingLemmas.{IsOf, OneLink, run-one, all-front}
 use Rattle.wc_loop.proofs.ServedLemmas.{MayRun-one}
 use Rattle.wc_loop.proofs.StandsLemmas.{For-read, For-quiet, IsTail-at, IsTimeless}
 use Rattle.wc_loop.proofs.TurnLemmas.{Call, Continues-step}

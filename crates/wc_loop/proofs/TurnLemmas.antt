@@ -1,5 +1,5 @@
 -- How a loop goes on.
-use Rattle.std.proofs.Common.{◌≡◌, ℕ, ◌+◌, ◌-◌, ◌^◌, ◌<◌, ◌≤◌, Bool, true, false, ◌||◌, IsTrue, List, [], ◌∷◌, ◌++◌, map, Option, None, is_some, All, Result, Ok, Err, OnErr, is_ok, refl, sym, ap, ◌∙◌, subst, arith, append_assoc}
+use Rattle.std.proofs.Common.{◌≡◌, ℕ, ◌+◌, ◌^◌, ◌<◌, ◌≤◌, Bool, true, false, ◌||◌, IsTrue, List, [], ◌∷◌, ◌++◌, All, Result, Ok, Err, OnErr, is_ok, refl, sym, ap, ◌∙◌, subst, arith, append_assoc}
 use Rattle.std.proofs.lemmas.Bool.{false≢true}
 use Rattle.std.proofs.lemmas.List.{append-nil}
 use Rattle.std.proofs.lemmas.List.Elements.{All-nil, All-append}
@@ -13,13 +13,11 @@ use Rattle.wc_core.specs.Served.{state_of, sent_to, has_end}
 use Rattle.wc_core.proofs.DidLemmas.{sent_to-append, has_end-append}
 use Rattle.wc_loop.specs.declared.link_state.Closed.{Closed}
 use Rattle.wc_loop.specs.declared.headless.Headless.{Headless}
-use Rattle.wc_loop.specs.Events.{events_of, events_from}
-use Rattle.wc_loop.specs.Hands.{Hands}
+use Rattle.wc_loop.specs.Events.{events_from}
 use Rattle.wc_loop.specs.Run.{closings}
 use Rattle.wc_loop.specs.Served.{leaving_closes, IsCalm, Reaches}
-use Rattle.wc_loop.specs.Turns.{StandsFor, StandsAmong, Stands, Moment, moment, point, Advances, Goes, IsCaused, wakes, listen_faults, is_wake, is_listen_fault, faults_of, closed_so_far, Continues, ClosesExactly}
-use Rattle.wc_loop.proofs.RunLemmas.{run-append-state, run-append-acts, closings-append, events_from-append, Reaches-trans, Reaches-none, Reaches-over}
-use Rattle.wc_loop.proofs.KeyedLemmas.{or-false}
+use Rattle.wc_loop.specs.Turns.{StandsFor, StandsAmong, Stands, Moment, moment, point, Advances, Goes, IsCaused, wakes, listen_faults, faults_of, closed_so_far, Continues, ClosesExactly}
+use Rattle.wc_loop.proofs.RunLemmas.{run-append-state, run-append-acts, closings-append, events_from-append, Reaches-trans, Reaches-none}
 use Rattle.wc_loop.proofs.HandsLemmas.{Hands-trans}
 use Rattle.wc_loop.proofs.CauseLemmas.{caused-later, caused-behind}
 

@@ -1,11 +1,10 @@
 -- How a turn waits, and how it ends.
-use Rattle.std.proofs.Common.{◌≡◌, ◌≢◌, ℕ, ◌+◌, ◌<◌, ◌≤◌, Bool, true, false, ◌||◌, IsTrue, List, [], ◌∷◌, ◌++◌, Option, is_some, Result, Ok, Err, OnOk, OnErr, is_ok, is_err, refl, sym, ap, ◌∙◌, subst, arith}
+use Rattle.std.proofs.Common.{◌≡◌, ℕ, Bool, true, false, ◌||◌, IsTrue, [], ◌∷◌, ◌++◌, is_some, Result, Ok, Err, OnOk, OnErr, is_err, refl, sym, ap, ◌∙◌, arith}
 use Rattle.std.proofs.lemmas.Bool.{false≢true}
 use Rattle.std.proofs.lemmas.List.{append-nil}
 use Rattle.std.proofs.lemmas.List.Elements.{All-nil}
 use Rattle.wc_outside.specs.Seen.{Seen}
 use Rattle.wc_outside.specs.declared.failed.Failed.{Failed as Fault}
-use Rattle.wc_outside.specs.declared.happening.Happening.{Happening}
 use Rattle.wc_outside.specs.declared.happening.Happening.TheVariants.{Woke}
 use Rattle.wc_core.specs.Step.{stays}
 use Rattle.wc_core.specs.Served.{state_of}
@@ -16,28 +15,22 @@ use Rattle.wc_outside.specs.Keyed.{at_key}
 use Rattle.wc_loop.specs.Contained.{is_known, Contained}
 use Rattle.wc_loop.specs.Links.{link_number}
 use Rattle.wc_loop.specs.Served.{closed_number}
-use Rattle.wc_loop.specs.Sources.{bytes_taken, arrivals, TakesNothing, TakesWithin}
+use Rattle.wc_loop.specs.Sources.{TakesNothing, TakesWithin}
 use Rattle.wc_loop.specs.Turns.{Stands, Continues, ClosesExactly, moment, waits_then, faults_then, faults_of}
 use Rattle.wc_loop.specs.Waits.{then_of, Wakes, LosesNone}
 use Rattle.wc_loop.proofs.PointLemmas.{Advances-same}
 use Rattle.wc_loop.proofs.RunLemmas.{Reaches-none}
-use Rattle.wc_loop.proofs.SourceLemmas.{bytes_taken-append, arrivals-append}
+use Rattle.wc_loop.proofs.SourceLemmas.{TakesNothing-call}
 use Rattle.wc_loop.proofs.StepLemmas.{SameSets, among-same}
 use Rattle.wc_loop.proofs.TurnLemmas.{Call, Continues-step}
 
 -- ---- nothing is taken
 
-nothing-of : (a b : Seen) (given : List Happening) → (IsTrue b.tells → b.taken ≡ a.taken ++ given) → ((k : ℕ) → bytes_taken k given ≡ 0) → arrivals given ≡ 0 → TakesNothing a b
-nothing-of a b given taken bytes clients = record {
-  bytes = λ t k. (let all = ap (bytes_taken k) (taken t) in let parts = bytes_taken-append k a.taken given in let none = bytes k in omega arith);
-  clients = λ t. (let all = ap arrivals (taken t) in let parts = arrivals-append a.taken given in omega arith);
-}
-
 pub Nothing-woke : (a b : Seen) (m : ℕ) → (IsTrue b.tells → b.taken ≡ a.taken ++ Woke m ∷ []) → TakesNothing a b
-Nothing-woke a b m taken = nothing-of a b (Woke m ∷ []) taken (λ k. refl) refl
+Nothing-woke a b m taken = TakesNothing-call a b (Woke m ∷ []) taken (λ k. refl) refl
 
 pub Nothing-none : (a b : Seen) → (IsTrue b.tells → b.taken ≡ a.taken ++ []) → TakesNothing a b
-Nothing-none a b taken = nothing-of a b [] taken (λ k. refl) refl
+Nothing-none a b taken = TakesNothing-call a b [] taken (λ k. refl) refl
 
 pub Within-none : (a b : Seen) → TakesNothing a b → TakesWithin a b
 Within-none a b h = record {

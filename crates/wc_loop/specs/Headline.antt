@@ -15,7 +15,7 @@ use Rattle.wc_session.specs.declared.client.Client.{Client}
 use Rattle.wc_settled.specs.Bytes.{Shows}
 use Rattle.wc_settled.specs.Settled.{Settled}
 use Rattle.wc_loop.specs.Events.{whole}
-use Rattle.wc_loop.specs.Served.{Reaches, IsCalm}
+use Rattle.wc_loop.specs.Served.{Reaches}
 use Rattle.wc_loop.specs.Turns.{moment, point}
 
 -- The state is that of the run over the events that were reached, from this one on; what is sent and then unsent on each open link is what the run owes; and what was sent on a closed link is a front of that, all of it unless there was no room as it was closed, or it failed.

@@ -1,5 +1,5 @@
 -- How the loop parts with clients, and what one call takes of a link.
-use Rattle.std.specs.Prelude.{ℕ, ◌+◌, ◌≡◌, ◌≢◌, ◌≤◌, ◌⊎◌, IsSome, is_some, Bool, true, if◌then◌else◌, List, map, All, Option, Some, None, Result, Ok, Err, IsTrue}
+use Rattle.std.specs.Prelude.{ℕ, ◌+◌, ◌≡◌, ◌≢◌, ◌⊎◌, IsSome, is_some, Bool, true, if◌then◌else◌, List, map, All, Option, Some, None, Result, Ok, Err, IsTrue}
 use Rattle.wc_text.specs.declared.names.LinkId.{LinkId}
 use Rattle.wc_outside.specs.Seen.{Seen}
 use Rattle.wc_outside.specs.Keyed.{at_key}

@@ -1,5 +1,5 @@
 -- What the acts of the core close.
-use Rattle.std.specs.Prelude.{ℕ, List, [], ◌∷◌}
+use Rattle.std.specs.Prelude.{List, [], ◌∷◌}
 use Rattle.std.specs.List.{flat_map}
 use Rattle.wc_core.specs.State.{Act, Sends, Closes, Quits}
 use Rattle.wc_loop.specs.declared.link_state.Closed.{Closed}

@@ -1,5 +1,5 @@
 -- The clients of the core, as the loop serves them.
-use Rattle.std.specs.Prelude.{ℕ, ◌+◌, ◌-◌, ◌^◌, ◌≡◌, ◌<◌, ◌≤◌, Bool, true, false, min, List, [], ◌∷◌, ◌++◌, length, map, Option, Some, None}
+use Rattle.std.specs.Prelude.{ℕ, ◌+◌, ◌-◌, ◌^◌, ◌≡◌, ◌<◌, ◌≤◌, Bool, true, false, min, List, [], ◌∷◌, ◌++◌, length, Option, Some, None}
 use Rattle.wc_text.specs.declared.names.LinkId.{LinkId}
 use Rattle.wc_text.specs.declared.names.Cause.{Cause}
 use Rattle.wc_text.specs.declared.names.Cause.TheVariants.{Ended, Failed, LoginFailed, NoMemory, Surplus, Quit, Disconnected, NickTaken}
@@ -7,7 +7,7 @@ use Rattle.wc_core.specs.declared.seat.Seat.{Seat}
 use Rattle.wc_core.specs.Events.{Event}
 use Rattle.wc_core.specs.Standing.{Standing}
 use Rattle.wc_core.specs.Step.{run}
-use Rattle.wc_core.specs.Served.{seat_link, links_of, leaving_on, state_of, Distinct, Keeps, Did}
+use Rattle.wc_core.specs.Served.{links_of, leaving_on, state_of, Distinct, Keeps, Did}
 use Rattle.wc_loop.specs.declared.link_state.Closed.{Closed}
 
 -- the close that a client asks for, if it is leaving

@@ -1,4 +1,4 @@
-use Rattle.std.proofs.Common.{ap, sym, ◌∙◌, arith}
+use Rattle.std.proofs.Common.{sym, ◌∙◌, arith}
 use Rattle.wc_loop.specs.Endings.{number_of, status_of}
 use Rattle.wc_loop.proofs.OutcomeLemmas.{IsNumber-runs, Common-runs, Waits-runs, IfSome-headline, IfSome-causes, printed-by}
 use Rattle.wc_loop.proofs.MirrorLemmas.{Mirrored-last}

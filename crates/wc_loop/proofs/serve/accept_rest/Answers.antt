@@ -1,4 +1,3 @@
-use Rattle.std.proofs.Common.{arith}
 use Rattle.wc_loop.proofs.ContainedLemmas.{Contained-refl}
 use Rattle.wc_loop.proofs.CloseLemmas.{Continues-refl}
 use Rattle.wc_loop.proofs.ServeLemmas.{OnOk-map}

@@ -1,4 +1,4 @@
-use Rattle.std.proofs.Common.{sym, ap, ◌∙◌, arith}
+use Rattle.std.proofs.Common.{sym, ◌∙◌, arith}
 use Rattle.wc_core.specs.Served.{seat_link}
 use Rattle.wc_loop.specs.Sources.{has_unsent}
 use Rattle.wc_loop.proofs.LeastLemmas.{least_between, passed_between, other_between, none_more}

@@ -1,13 +1,13 @@
-use Rattle.std.proofs.Common.{inl, ◌∙◌, sym, arith}
+use Rattle.std.proofs.Common.{inl, ◌∙◌, arith}
 use Rattle.wc_loop.proofs.TurnLemmas.{Continues-trans}
 use Rattle.wc_loop.proofs.ContainedLemmas.{Contained-refl, Contained-trans}
 use Rattle.wc_loop.proofs.CloseLemmas.{Continues-refl}
-use Rattle.wc_loop.proofs.SourceLemmas.{later-of}
-use Rattle.wc_loop.proofs.ServeLemmas.{sent-next, sent-rest, Nothing-refl, Nothing-trans}
+use Rattle.wc_loop.proofs.SourceLemmas.{later-of, TakesNothing-refl, TakesNothing-trans}
+use Rattle.wc_loop.proofs.ServeLemmas.{sent-next, sent-rest}
 use Rattle.wc_loop.proofs.serve.send_all.Goals as goal
 
 pub loop-link-init : goal.loop-link-init
-loop-link-init g c = record { continues = Continues-refl _ _; calm = c.requires.calm; contained = Contained-refl _; quits = c.requires.quit; sent = λ k one low. absurd (omega arith); nothing = Nothing-refl _ }
+loop-link-init g c = record { continues = Continues-refl _ _; calm = c.requires.calm; contained = Contained-refl _; quits = c.requires.quit; sent = λ k one low. absurd (omega arith); nothing = TakesNothing-refl _ }
 
 pub send_link-requires : goal.send_link-requires
 send_link-requires g c = record { missed = inl c.loop-link.invariant.quits }
@@ -24,7 +24,7 @@ loop-link-preserved g c =
       quits = e.quits ∙ i.quits;
       sent = λ k one most. sent-next k c.loop-link.last c.in-Some.link.0 c.loop-link.headless.core.seats c.send_link.new.headless.core.seats (seen c.args.sockets.now) (seen c.loop-link.sockets) (seen c.send_link.new.sockets)
           (later-of _ _ i.continues) (later-of _ _ e.continues) i.continues.counts e.continues.counts (i.sent k one) (λ p q. rw c.seats.ensures at (c.in-Some.ensures.between k p q)) (λ n. (e.unsent k n, e.others k n)) e.done most;
-      nothing = Nothing-trans _ (seen c.loop-link.sockets) _ (later-of _ _ e.continues) i.nothing e.nothing;
+      nothing = TakesNothing-trans _ (seen c.loop-link.sockets) _ e.continues.told i.nothing e.nothing;
     }
 
 pub returns-clause-sent : goal.returns-clause-sent

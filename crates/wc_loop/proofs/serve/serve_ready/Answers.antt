@@ -1,4 +1,4 @@
-use Rattle.std.proofs.Common.{◌≡◌, ◌∙◌, sym, false, true}
+use Rattle.std.proofs.Common.{◌∙◌, sym}
 use Rattle.wc_loop.proofs.ContainedLemmas.{Contained-trans}
 use Rattle.wc_loop.proofs.TurnLemmas.{Continues-trans}
 use Rattle.wc_loop.proofs.SourceLemmas.{IsServed-later, IsHeard-later, later-of}

@@ -1,9 +1,8 @@
 use Rattle.std.proofs.Common.{◌≡◌, ◌∙◌, sym, false}
-use Rattle.wc_loop.specs.Turns.{faults_of}
 use Rattle.wc_loop.proofs.ContainedLemmas.{Contained-trans}
 use Rattle.wc_loop.proofs.TurnLemmas.{Continues-trans, Continues-behind, Continues-good}
 use Rattle.wc_loop.proofs.SourceLemmas.{IsServed-later, later-of}
-use Rattle.wc_loop.proofs.ServeLemmas.{Within-named, Within-rest, Within-all, served-all, heard-all, heard-of, ok-faults, OnOk-map, is_ok-of}
+use Rattle.wc_loop.proofs.ServeLemmas.{Within-named, Within-rest, Within-all, served-all, heard-all, ok-faults, OnOk-map, is_ok-of}
 use Rattle.wc_loop.proofs.serve.serve_sources.Goals as goal
 
 pub returns-then-quits-clause-within : goal.returns-then-quits-clause-within

@@ -1,6 +1,6 @@
-use Rattle.std.proofs.Common.{◌≡◌, ◌+◌, sym, ap, ◌∙◌, false, length, take, slice_index_or, subst, arith}
+use Rattle.std.proofs.Common.{◌≡◌, ◌+◌, sym, ◌∙◌, false, take, subst, arith}
 use Rattle.std.proofs.lemmas.List.{take_all}
-use Rattle.wc_outside.specs.declared.sockets.Token.TheVariants.{Listener, Link}
+use Rattle.wc_outside.specs.declared.sockets.Token.TheVariants.{Listener}
 use Rattle.wc_loop.specs.Sources.{ServesNamed}
 use Rattle.wc_loop.specs.Turns.{faults_of}
 use Rattle.wc_loop.proofs.ServeLemmas.{IsMore, more-at, Named-none, Named-listener-again, Named-link-again, Named-link, Named-listener, Named-quits, any-take}

@@ -2,12 +2,12 @@ use Rattle.std.proofs.Common.{arith}
 use Rattle.wc_loop.proofs.TurnLemmas.{Continues-trans}
 use Rattle.wc_loop.proofs.ContainedLemmas.{Contained-refl, Contained-trans}
 use Rattle.wc_loop.proofs.CloseLemmas.{Continues-refl}
-use Rattle.wc_loop.proofs.SourceLemmas.{Falls-refl, Falls-trans, later-of}
-use Rattle.wc_loop.proofs.ServeLemmas.{written-next, written-rest, Nothing-refl, Nothing-trans}
+use Rattle.wc_loop.proofs.SourceLemmas.{Falls-refl, Falls-trans, TakesNothing-refl, TakesNothing-trans}
+use Rattle.wc_loop.proofs.ServeLemmas.{written-next, written-rest}
 use Rattle.wc_loop.proofs.serve.write_all.Goals as goal
 
 pub loop-link-init : goal.loop-link-init
-loop-link-init g c = record { continues = Continues-refl _ _; calm = c.requires.calm; contained = Contained-refl _; going = c.requires.going; falls = Falls-refl _; written = λ k one low. absurd (omega arith); nothing = Nothing-refl _ }
+loop-link-init g c = record { continues = Continues-refl _ _; calm = c.requires.calm; contained = Contained-refl _; going = c.requires.going; falls = Falls-refl _; written = λ k one low. absurd (omega arith); nothing = TakesNothing-refl _ }
 
 pub loop-link-preserved : goal.loop-link-preserved
 loop-link-preserved g c =
@@ -21,7 +21,7 @@ loop-link-preserved g c =
       going = e.going;
       falls = Falls-trans _ (seen c.loop-link.sockets) _ i.falls e.falls;
       written = λ k one most. written-next k c.loop-link.last c.in-Some.link.0 c.loop-link.headless.core.seats c.write_link.new.headless.core.seats (seen c.loop-link.sockets) (seen c.write_link.new.sockets) (i.written k one) (λ p q. rw c.seats.ensures at (c.in-Some.ensures.between k p q)) (λ n. e.others k n) e.done most;
-      nothing = Nothing-trans _ (seen c.loop-link.sockets) _ (later-of _ _ e.continues) i.nothing e.nothing;
+      nothing = TakesNothing-trans _ (seen c.loop-link.sockets) _ e.continues.told i.nothing e.nothing;
     }
 
 pub returns-clause-written : goal.returns-clause-written

@@ -1,8 +1,8 @@
-use Rattle.std.proofs.Common.{refl, ap, sym, ◌∙◌, ◌+◌, ◌≤◌, length, take, drop, arith}
+use Rattle.std.proofs.Common.{refl, ap, sym, ◌∙◌, ◌+◌, length, take, drop, arith}
 use Rattle.std.proofs.lemmas.List.{length-append, length-take, take-append-drop}
 use Rattle.wc_loop.proofs.TurnLemmas.{Continues-trans}
 use Rattle.wc_loop.proofs.CloseLemmas.{Continues-refl}
-use Rattle.wc_loop.proofs.SourceLemmas.{Falls-refl, Falls-trans, IsServed-drained}
+use Rattle.wc_loop.proofs.SourceLemmas.{Falls-trans, IsServed-drained}
 use Rattle.wc_loop.proofs.ContainedLemmas.{Contained-refl, Contained-trans}
 use Rattle.wc_loop.proofs.ReadLemmas.{ReadsOn-refl, ReadsOn-trans}
 use Rattle.wc_loop.proofs.turns.read_link.Goals as goal

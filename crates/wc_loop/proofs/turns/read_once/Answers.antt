@@ -1,14 +1,12 @@
-use Rattle.std.proofs.Common.{refl, ap, sym, ◌∙◌, take, [], ◌∷◌, arith}
+use Rattle.std.proofs.Common.{refl, ap, sym, ◌∙◌, [], ◌∷◌, arith}
 use Rattle.std.proofs.lemmas.Bool.{false≢true}
-use Rattle.wc_outside.specs.declared.happening.Happening.TheVariants.{Read, Ended, Failed}
-use Rattle.wc_loop.specs.Events.{tail_on}
+use Rattle.wc_outside.specs.declared.happening.Happening.TheVariants.{Ended, Failed}
 use Rattle.wc_loop.proofs.TurnLemmas.{Continues-trans}
 use Rattle.wc_loop.proofs.CloseLemmas.{Continues-refl, Continues-drained}
-use Rattle.wc_loop.proofs.ClosingLemmas.{read-of, ended-of, failed-of}
-use Rattle.wc_loop.proofs.TakesLemmas.{Continues-takes, causes-line, causes-lost}
-use Rattle.wc_loop.proofs.SourceLemmas.{Falls-drained, Falls-same}
+use Rattle.wc_loop.proofs.ClosingLemmas.{ended-of, failed-of}
+use Rattle.wc_loop.proofs.SourceLemmas.{Falls-same}
 use Rattle.wc_loop.proofs.PartLemmas.{HasFailed-now}
-use Rattle.wc_loop.proofs.ReadLemmas.{ReadsOn-call, ReadsOn-parts, other-bytes, bytes-read, closed-drained, closed-gone, and-not-none, bytes-kept}
+use Rattle.wc_loop.proofs.ReadLemmas.{Continues-read, Continues-lost, ReadsOn-read, ReadsOn-call, ReadsOn-parts, bytes-read, closed-drained, closed-gone, and-not-none, bytes-kept}
 use Rattle.std.proofs.Common.{false, is_some}
 use Rattle.wc_outside.specs.Keyed.{at_key}
 use Rattle.wc_loop.specs.Links.{link_number}
@@ -29,25 +27,18 @@ returns-in-Ok-NotYet-clause-continues g c =
 pub returns-then-quits-clause-continues : goal.returns-then-quits-clause-continues
 returns-then-quits-clause-continues g c =
     let e = rw c.in-Ok-Bytes.field-0-is at c.in-Ok-Bytes.ensures in
-    let l = c.bytes_came.ensures in
-    let x = c.args.headless.now in
-    let a = g.S.Sockets.seen c.args.sockets.now in
-    let b = g.S.Sockets.seen c.read.new.self in
-    let bytes = take c.in-Ok-Bytes.count c.read.new.into in
-    Continues-trans x c.bytes_came.new.self _ a b _
-    (Continues-takes x c.bytes_came.new.self c.args.link a b (Read c.args.link bytes) refl (record { told = e.told; taken = e.taken; asked = e.asked; counts = e.counts })
-    e.sent e.choked e.used e.there (λ k. e.undrained k ∙ and-not-none _ _) e.listening c.requires.calm c.requires.going l.takes
-    (λ taken. read-of c.args.link.0 (tail_on c.args.link.0 taken) bytes) (causes-line c.args.link bytes x.core c.bytes_came.new.self.core a b c.requires.calm l.causes e.taken))
+    let seen = g.S.Sockets.seen in
+    Continues-trans c.args.headless.now c.bytes_came.new.self _ (seen c.args.sockets.now) (seen c.read.new.self) _
+    (Continues-read c.args.headless.now c.bytes_came.new.self c.args.link _ (seen c.args.sockets.now) (seen c.read.new.self)
+    (record { call = record { told = e.told; taken = e.taken; asked = e.asked; counts = e.counts }; sent = e.sent; choked = e.choked; same = record { used = e.used; there = e.there; undrained = λ k. e.undrained k ∙ and-not-none _ _; listening = e.listening } }) c.requires.calm c.requires.going c.bytes_came.ensures.takes c.bytes_came.ensures.causes)
     c.part_all.ensures.continues
 
 pub returns-then-quits-clause-reads : goal.returns-then-quits-clause-reads
 returns-then-quits-clause-reads g c =
     let e = rw c.in-Ok-Bytes.field-0-is at c.in-Ok-Bytes.ensures in
-    let a = g.S.Sockets.seen c.args.sockets.now in
-    let b = g.S.Sockets.seen c.read.new.self in
-    let bytes = take c.in-Ok-Bytes.count c.read.new.into in
-    ReadsOn-parts c.args.link.0 c.bytes_came.new.self c.part_all.new.headless a b _ c.part_all.ensures.continues.told
-    (ReadsOn-call c.args.link.0 a b (Read c.args.link bytes ∷ []) (Falls-same a b (λ k. e.undrained k ∙ and-not-none _ _) e.listening) e.taken (other-bytes c.args.link bytes) refl) c.part_all.ensures.parts
+    let p = c.part_all.ensures in
+    ReadsOn-read c.bytes_came.new.self c.part_all.new.headless c.args.link _ (g.S.Sockets.seen c.args.sockets.now) (g.S.Sockets.seen c.read.new.self) _
+    (record { call = record { told = e.told; taken = e.taken; asked = e.asked; counts = e.counts }; sent = e.sent; choked = e.choked; same = record { used = e.used; there = e.there; undrained = λ k. e.undrained k ∙ and-not-none _ _; listening = e.listening } }) p.continues.told p.parts
 
 pub returns-then-quits-clause-drained : goal.returns-then-quits-clause-drained
 returns-then-quits-clause-drained g c = λ none s on. absurd (false≢true (sym on ∙ sym c.quits.ensures ∙ c.if-quits.true))
@@ -65,38 +56,26 @@ returns-then-quits-clause-within g c = λ t.
 pub returns-then-not-is_open-clause-continues : goal.returns-then-not-is_open-clause-continues
 returns-then-not-is_open-clause-continues g c =
     let e = rw c.in-Ok-Bytes.field-0-is at c.in-Ok-Bytes.ensures in
-    let l = c.bytes_came.ensures in
-    let x = c.args.headless.now in
-    let a = g.S.Sockets.seen c.args.sockets.now in
-    let b = g.S.Sockets.seen c.read.new.self in
-    let bytes = take c.in-Ok-Bytes.count c.read.new.into in
-    Continues-trans x c.bytes_came.new.self _ a b _
-    (Continues-takes x c.bytes_came.new.self c.args.link a b (Read c.args.link bytes) refl (record { told = e.told; taken = e.taken; asked = e.asked; counts = e.counts })
-    e.sent e.choked e.used e.there (λ k. e.undrained k ∙ and-not-none _ _) e.listening c.requires.calm c.requires.going l.takes
-    (λ taken. read-of c.args.link.0 (tail_on c.args.link.0 taken) bytes) (causes-line c.args.link bytes x.core c.bytes_came.new.self.core a b c.requires.calm l.causes e.taken))
+    let seen = g.S.Sockets.seen in
+    Continues-trans c.args.headless.now c.bytes_came.new.self _ (seen c.args.sockets.now) (seen c.read.new.self) _
+    (Continues-read c.args.headless.now c.bytes_came.new.self c.args.link _ (seen c.args.sockets.now) (seen c.read.new.self)
+    (record { call = record { told = e.told; taken = e.taken; asked = e.asked; counts = e.counts }; sent = e.sent; choked = e.choked; same = record { used = e.used; there = e.there; undrained = λ k. e.undrained k ∙ and-not-none _ _; listening = e.listening } }) c.requires.calm c.requires.going c.bytes_came.ensures.takes c.bytes_came.ensures.causes)
     c.part_all.ensures.continues
 
 pub returns-then-not-is_open-clause-reads : goal.returns-then-not-is_open-clause-reads
 returns-then-not-is_open-clause-reads g c =
     let e = rw c.in-Ok-Bytes.field-0-is at c.in-Ok-Bytes.ensures in
-    let a = g.S.Sockets.seen c.args.sockets.now in
-    let b = g.S.Sockets.seen c.read.new.self in
-    let bytes = take c.in-Ok-Bytes.count c.read.new.into in
-    ReadsOn-parts c.args.link.0 c.bytes_came.new.self c.part_all.new.headless a b _ c.part_all.ensures.continues.told
-    (ReadsOn-call c.args.link.0 a b (Read c.args.link bytes ∷ []) (Falls-same a b (λ k. e.undrained k ∙ and-not-none _ _) e.listening) e.taken (other-bytes c.args.link bytes) refl) c.part_all.ensures.parts
+    let p = c.part_all.ensures in
+    ReadsOn-read c.bytes_came.new.self c.part_all.new.headless c.args.link _ (g.S.Sockets.seen c.args.sockets.now) (g.S.Sockets.seen c.read.new.self) _
+    (record { call = record { told = e.told; taken = e.taken; asked = e.asked; counts = e.counts }; sent = e.sent; choked = e.choked; same = record { used = e.used; there = e.there; undrained = λ k. e.undrained k ∙ and-not-none _ _; listening = e.listening } }) p.continues.told p.parts
 
 pub returns-then-not-is_open-clause-drained : goal.returns-then-not-is_open-clause-drained
 returns-then-not-is_open-clause-drained g c = λ none s on.
     let e = rw c.in-Ok-Bytes.field-0-is at c.in-Ok-Bytes.ensures in
-    let l = c.bytes_came.ensures in
-    let x = c.args.headless.now in
-    let a = g.S.Sockets.seen c.args.sockets.now in
-    let b = g.S.Sockets.seen c.read.new.self in
-    let bytes = take c.in-Ok-Bytes.count c.read.new.into in
-    let first = Continues-takes x c.bytes_came.new.self c.args.link a b (Read c.args.link bytes) refl (record { told = e.told; taken = e.taken; asked = e.asked; counts = e.counts })
-    e.sent e.choked e.used e.there (λ k. e.undrained k ∙ and-not-none _ _) e.listening c.requires.calm c.requires.going l.takes
-    (λ taken. read-of c.args.link.0 (tail_on c.args.link.0 taken) bytes) (causes-line c.args.link bytes x.core c.bytes_came.new.self.core a b c.requires.calm l.causes e.taken) in
-    closed-drained c.args.link.0 c.part_all.new.headless (g.S.Sockets.seen c.part_all.new.sockets) (c.part_all.ensures.continues.stands (first.stands s)) c.part_all.ensures.calm (sym c.if-not-is_open.ensures)
+    let seen = g.S.Sockets.seen in
+    let first = Continues-read c.args.headless.now c.bytes_came.new.self c.args.link _ (seen c.args.sockets.now) (seen c.read.new.self)
+    (record { call = record { told = e.told; taken = e.taken; asked = e.asked; counts = e.counts }; sent = e.sent; choked = e.choked; same = record { used = e.used; there = e.there; undrained = λ k. e.undrained k ∙ and-not-none _ _; listening = e.listening } }) c.requires.calm c.requires.going c.bytes_came.ensures.takes c.bytes_came.ensures.causes in
+    closed-drained c.args.link.0 c.part_all.new.headless (seen c.part_all.new.sockets) (c.part_all.ensures.continues.stands (first.stands s)) c.part_all.ensures.calm (sym c.if-not-is_open.ensures)
 
 pub returns-then-not-is_open-clause-within : goal.returns-then-not-is_open-clause-within
 returns-then-not-is_open-clause-within g c = λ t.
@@ -111,34 +90,18 @@ returns-then-not-is_open-clause-within g c = λ t.
 pub returns-else-not-is_open-clause-continues : goal.returns-else-not-is_open-clause-continues
 returns-else-not-is_open-clause-continues g c =
     let e = rw c.in-Ok-Bytes.field-0-is at c.in-Ok-Bytes.ensures in
-    let l = c.bytes_came.ensures in
-    let x = c.args.headless.now in
-    let a = g.S.Sockets.seen c.args.sockets.now in
-    let b = g.S.Sockets.seen c.read.new.self in
-    let bytes = take c.in-Ok-Bytes.count c.read.new.into in
-    Continues-trans x c.bytes_came.new.self _ a b _
-    (Continues-takes x c.bytes_came.new.self c.args.link a b (Read c.args.link bytes) refl (record { told = e.told; taken = e.taken; asked = e.asked; counts = e.counts })
-    e.sent e.choked e.used e.there (λ k. e.undrained k ∙ and-not-none _ _) e.listening c.requires.calm c.requires.going l.takes
-    (λ taken. read-of c.args.link.0 (tail_on c.args.link.0 taken) bytes) (causes-line c.args.link bytes x.core c.bytes_came.new.self.core a b c.requires.calm l.causes e.taken))
+    let seen = g.S.Sockets.seen in
+    Continues-trans c.args.headless.now c.bytes_came.new.self _ (seen c.args.sockets.now) (seen c.read.new.self) _
+    (Continues-read c.args.headless.now c.bytes_came.new.self c.args.link _ (seen c.args.sockets.now) (seen c.read.new.self)
+    (record { call = record { told = e.told; taken = e.taken; asked = e.asked; counts = e.counts }; sent = e.sent; choked = e.choked; same = record { used = e.used; there = e.there; undrained = λ k. e.undrained k ∙ and-not-none _ _; listening = e.listening } }) c.requires.calm c.requires.going c.bytes_came.ensures.takes c.bytes_came.ensures.causes)
     c.part_all.ensures.continues
 
 pub returns-else-not-is_open-clause-reads : goal.returns-else-not-is_open-clause-reads
 returns-else-not-is_open-clause-reads g c =
     let e = rw c.in-Ok-Bytes.field-0-is at c.in-Ok-Bytes.ensures in
-    let a = g.S.Sockets.seen c.args.sockets.now in
-    let b = g.S.Sockets.seen c.read.new.self in
-    let bytes = take c.in-Ok-Bytes.count c.read.new.into in
-    ReadsOn-parts c.args.link.0 c.bytes_came.new.self c.part_all.new.headless a b _ c.part_all.ensures.continues.told
-    (ReadsOn-call c.args.link.0 a b (Read c.args.link bytes ∷ []) (Falls-same a b (λ k. e.undrained k ∙ and-not-none _ _) e.listening) e.taken (other-bytes c.args.link bytes) refl) c.part_all.ensures.parts
-
-pub returns-else-not-is_open-clause-bytes : goal.returns-else-not-is_open-clause-bytes
-returns-else-not-is_open-clause-bytes g c = λ t.
-    let e = rw c.in-Ok-Bytes.field-0-is at c.in-Ok-Bytes.ensures in
     let p = c.part_all.ensures in
-    let within = e.within.1 in
-    let size = c.read.auto.into in
-    p.parts.nothing.bytes t c.args.link.0
-    ∙ bytes-read c.args.link c.in-Ok-Bytes.count c.read.new.into (g.S.Sockets.seen c.args.sockets.now).taken (g.S.Sockets.seen c.read.new.self).taken (e.taken (p.continues.told t)) (omega arith)
+    ReadsOn-read c.bytes_came.new.self c.part_all.new.headless c.args.link _ (g.S.Sockets.seen c.args.sockets.now) (g.S.Sockets.seen c.read.new.self) _
+    (record { call = record { told = e.told; taken = e.taken; asked = e.asked; counts = e.counts }; sent = e.sent; choked = e.choked; same = record { used = e.used; there = e.there; undrained = λ k. e.undrained k ∙ and-not-none _ _; listening = e.listening } }) p.continues.told p.parts
 
 pub returns-else-not-is_open-clause-within : goal.returns-else-not-is_open-clause-within
 returns-else-not-is_open-clause-within g c = λ t.
@@ -150,17 +113,23 @@ returns-else-not-is_open-clause-within g c = λ t.
     let read = bytes-read c.args.link c.in-Ok-Bytes.count c.read.new.into (g.S.Sockets.seen c.args.sockets.now).taken (g.S.Sockets.seen c.read.new.self).taken (e.taken (p.continues.told t)) (omega arith) in
     omega arith
 
+pub returns-else-not-is_open-clause-bytes : goal.returns-else-not-is_open-clause-bytes
+returns-else-not-is_open-clause-bytes g c = λ t.
+    let e = rw c.in-Ok-Bytes.field-0-is at c.in-Ok-Bytes.ensures in
+    let p = c.part_all.ensures in
+    let within = e.within.1 in
+    let size = c.read.auto.into in
+    p.parts.nothing.bytes t c.args.link.0
+    ∙ bytes-read c.args.link c.in-Ok-Bytes.count c.read.new.into (g.S.Sockets.seen c.args.sockets.now).taken (g.S.Sockets.seen c.read.new.self).taken (e.taken (p.continues.told t)) (omega arith)
+
 pub returns-in-Ok-End-clause-continues : goal.returns-in-Ok-End-clause-continues
 returns-in-Ok-End-clause-continues g c =
     let e = rw c.in-Ok-End.field-0-is at c.in-Ok-End.ensures in
     let l = c.link_gone.ensures in
-    let x = c.args.headless.now in
-    let a = g.S.Sockets.seen c.args.sockets.now in
-    let b = g.S.Sockets.seen c.read.new.self in
-    Continues-trans x c.link_gone.new.self _ a b _
-    (Continues-takes x c.link_gone.new.self c.args.link a b (Ended c.args.link) refl (record { told = e.told; taken = e.taken; asked = e.asked; counts = e.counts })
-    e.sent e.choked e.used e.there (λ k. e.undrained k ∙ and-not-none _ _) e.listening c.requires.calm c.requires.going (l.ended refl) (λ taken. ended-of c.args.link.0)
-    (λ distinct. rw (ap (λ s. s.seats) l.core) (causes-lost c.args.link _ x.core.seats a b c.requires.calm (λ t. record { front = []; rest = []; taken = e.taken t }))))
+    let seen = g.S.Sockets.seen in
+    Continues-trans c.args.headless.now c.link_gone.new.self _ (seen c.args.sockets.now) (seen c.read.new.self) _
+    (Continues-lost c.args.headless.now c.link_gone.new.self c.args.link (Ended c.args.link) _ (seen c.args.sockets.now) (seen c.read.new.self)
+    (record { call = record { told = e.told; taken = e.taken; asked = e.asked; counts = e.counts }; sent = e.sent; choked = e.choked; same = record { used = e.used; there = e.there; undrained = λ k. e.undrained k ∙ and-not-none _ _; listening = e.listening } }) refl refl c.requires.calm c.requires.going (l.ended refl) (λ taken. ended-of c.args.link.0) (ap (λ s. s.seats) l.core) (λ t. record { front = []; rest = []; taken = e.taken t }))
     c.part_all-in-Ok-End.ensures.continues
 
 pub returns-in-Ok-End-clause-reads : goal.returns-in-Ok-End-clause-reads
@@ -176,15 +145,12 @@ pub returns-in-Ok-End-clause-drained : goal.returns-in-Ok-End-clause-drained
 returns-in-Ok-End-clause-drained g c = λ none s on.
     let e = rw c.in-Ok-End.field-0-is at c.in-Ok-End.ensures in
     let l = c.link_gone.ensures in
-    let x = c.args.headless.now in
-    let a = g.S.Sockets.seen c.args.sockets.now in
-    let b = g.S.Sockets.seen c.read.new.self in
+    let seen = g.S.Sockets.seen in
     let p = c.part_all-in-Ok-End.ensures in
-    let last = g.S.Sockets.seen c.part_all-in-Ok-End.new.sockets in
-    let first = Continues-takes x c.link_gone.new.self c.args.link a b (Ended c.args.link) refl (record { told = e.told; taken = e.taken; asked = e.asked; counts = e.counts })
-    e.sent e.choked e.used e.there (λ k. e.undrained k ∙ and-not-none _ _) e.listening c.requires.calm c.requires.going (l.ended refl) (λ taken. ended-of c.args.link.0)
-    (λ distinct. rw (ap (λ s. s.seats) l.core) (causes-lost c.args.link _ x.core.seats a b c.requires.calm (λ t. record { front = []; rest = []; taken = e.taken t }))) in
-    closed-drained c.args.link.0 c.part_all-in-Ok-End.new.headless last (p.continues.stands (first.stands s)) p.calm (closed-gone c.args.link.0 c.link_gone.new.self c.part_all-in-Ok-End.new.headless b last p.parts p.calm l.gone)
+    let first = Continues-lost c.args.headless.now c.link_gone.new.self c.args.link (Ended c.args.link) _ (seen c.args.sockets.now) (seen c.read.new.self)
+    (record { call = record { told = e.told; taken = e.taken; asked = e.asked; counts = e.counts }; sent = e.sent; choked = e.choked; same = record { used = e.used; there = e.there; undrained = λ k. e.undrained k ∙ and-not-none _ _; listening = e.listening } }) refl refl c.requires.calm c.requires.going (l.ended refl) (λ taken. ended-of c.args.link.0) (ap (λ s. s.seats) l.core) (λ t. record { front = []; rest = []; taken = e.taken t }) in
+    closed-drained c.args.link.0 c.part_all-in-Ok-End.new.headless (seen c.part_all-in-Ok-End.new.sockets) (p.continues.stands (first.stands s)) p.calm
+    (closed-gone c.args.link.0 c.link_gone.new.self c.part_all-in-Ok-End.new.headless (seen c.read.new.self) (seen c.part_all-in-Ok-End.new.sockets) p.parts p.calm l.gone)
 
 pub returns-in-Ok-End-clause-within : goal.returns-in-Ok-End-clause-within
 returns-in-Ok-End-clause-within g c =
@@ -199,13 +165,10 @@ pub returns-in-Err-clause-continues : goal.returns-in-Err-clause-continues
 returns-in-Err-clause-continues g c =
     let e = c.in-Err.ensures in
     let l = c.link_gone-in-Err.ensures in
-    let x = c.args.headless.now in
-    let a = g.S.Sockets.seen c.args.sockets.now in
-    let b = g.S.Sockets.seen c.read.new.self in
-    Continues-trans x c.link_gone-in-Err.new.self _ a b _
-    (Continues-takes x c.link_gone-in-Err.new.self c.args.link a b (Failed c.args.link) refl (record { told = e.told; taken = e.taken; asked = e.asked; counts = e.counts })
-    e.sent e.choked e.used e.there (λ k. e.undrained k ∙ and-not-none _ _) e.listening c.requires.calm c.requires.going (l.failed refl) (λ taken. failed-of c.args.link.0)
-    (λ distinct. rw (ap (λ s. s.seats) l.core) (causes-lost c.args.link _ x.core.seats a b c.requires.calm (e.failed, λ t. record { front = []; rest = []; taken = e.taken t }))))
+    let seen = g.S.Sockets.seen in
+    Continues-trans c.args.headless.now c.link_gone-in-Err.new.self _ (seen c.args.sockets.now) (seen c.read.new.self) _
+    (Continues-lost c.args.headless.now c.link_gone-in-Err.new.self c.args.link (Failed c.args.link) _ (seen c.args.sockets.now) (seen c.read.new.self)
+    (record { call = record { told = e.told; taken = e.taken; asked = e.asked; counts = e.counts }; sent = e.sent; choked = e.choked; same = record { used = e.used; there = e.there; undrained = λ k. e.undrained k ∙ and-not-none _ _; listening = e.listening } }) refl refl c.requires.calm c.requires.going (l.failed refl) (λ taken. failed-of c.args.link.0) (ap (λ s. s.seats) l.core) (e.failed, λ t. record { front = []; rest = []; taken = e.taken t }))
     c.part_all-in-Err.ensures.continues
 
 pub returns-in-Err-clause-reads : goal.returns-in-Err-clause-reads
@@ -221,15 +184,12 @@ pub returns-in-Err-clause-drained : goal.returns-in-Err-clause-drained
 returns-in-Err-clause-drained g c = λ none s on.
     let e = c.in-Err.ensures in
     let l = c.link_gone-in-Err.ensures in
-    let x = c.args.headless.now in
-    let a = g.S.Sockets.seen c.args.sockets.now in
-    let b = g.S.Sockets.seen c.read.new.self in
+    let seen = g.S.Sockets.seen in
     let p = c.part_all-in-Err.ensures in
-    let last = g.S.Sockets.seen c.part_all-in-Err.new.sockets in
-    let first = Continues-takes x c.link_gone-in-Err.new.self c.args.link a b (Failed c.args.link) refl (record { told = e.told; taken = e.taken; asked = e.asked; counts = e.counts })
-    e.sent e.choked e.used e.there (λ k. e.undrained k ∙ and-not-none _ _) e.listening c.requires.calm c.requires.going (l.failed refl) (λ taken. failed-of c.args.link.0)
-    (λ distinct. rw (ap (λ s. s.seats) l.core) (causes-lost c.args.link _ x.core.seats a b c.requires.calm (e.failed, λ t. record { front = []; rest = []; taken = e.taken t }))) in
-    closed-drained c.args.link.0 c.part_all-in-Err.new.headless last (p.continues.stands (first.stands s)) p.calm (closed-gone c.args.link.0 c.link_gone-in-Err.new.self c.part_all-in-Err.new.headless b last p.parts p.calm l.gone)
+    let first = Continues-lost c.args.headless.now c.link_gone-in-Err.new.self c.args.link (Failed c.args.link) _ (seen c.args.sockets.now) (seen c.read.new.self)
+    (record { call = record { told = e.told; taken = e.taken; asked = e.asked; counts = e.counts }; sent = e.sent; choked = e.choked; same = record { used = e.used; there = e.there; undrained = λ k. e.undrained k ∙ and-not-none _ _; listening = e.listening } }) refl refl c.requires.calm c.requires.going (l.failed refl) (λ taken. failed-of c.args.link.0) (ap (λ s. s.seats) l.core) (e.failed, λ t. record { front = []; rest = []; taken = e.taken t }) in
+    closed-drained c.args.link.0 c.part_all-in-Err.new.headless (seen c.part_all-in-Err.new.sockets) (p.continues.stands (first.stands s)) p.calm
+    (closed-gone c.args.link.0 c.link_gone-in-Err.new.self c.part_all-in-Err.new.headless (seen c.read.new.self) (seen c.part_all-in-Err.new.sockets) p.parts p.calm l.gone)
 
 pub returns-in-Err-clause-within : goal.returns-in-Err-clause-within
 returns-in-Err-clause-within g c =

@@ -1,4 +1,4 @@
-use Rattle.std.proofs.Common.{◌≡◌, ◌≤◌, refl, ap, sym, ◌∙◌, inr, [], ◌∷◌, length, rules, arith}
+use Rattle.std.proofs.Common.{◌≤◌, refl, ◌∙◌, inr, [], ◌∷◌, length, rules}
 use Rattle.wc_outside.specs.declared.happening.Happening.TheVariants.{Failed}
 use Rattle.wc_outside.specs.Keyed.{at_key}
 use Rattle.wc_core.specs.Served.{seat_link}

@@ -1,13 +1,11 @@
-use Rattle.std.proofs.Common.{arith}
 use Rattle.wc_loop.proofs.TurnLemmas.{Continues-trans}
 use Rattle.wc_loop.proofs.CloseLemmas.{Continues-refl}
 use Rattle.wc_loop.proofs.ContainedLemmas.{Contained-refl, Contained-trans}
-use Rattle.wc_loop.proofs.SourceLemmas.{Falls-refl, Falls-trans, later-of}
-use Rattle.wc_loop.proofs.ServeLemmas.{Nothing-refl, Nothing-trans}
+use Rattle.wc_loop.proofs.SourceLemmas.{Falls-refl, Falls-trans, TakesNothing-refl, TakesNothing-trans}
 use Rattle.wc_loop.proofs.turns.write_link.Goals as goal
 
 pub loop-link-init : goal.loop-link-init
-loop-link-init g c = record { continues = Continues-refl _ _; calm = c.requires.calm; contained = Contained-refl _; going = c.requires.going; falls = Falls-refl _; others = λ k n h. h; nothing = Nothing-refl _ }
+loop-link-init g c = record { continues = Continues-refl _ _; calm = c.requires.calm; contained = Contained-refl _; going = c.requires.going; falls = Falls-refl _; others = λ k n h. h; nothing = TakesNothing-refl _ }
 
 pub returns-then-not-write_once-clause-continues : goal.returns-then-not-write_once-clause-continues
 returns-then-not-write_once-clause-continues g c =
@@ -21,7 +19,7 @@ pub returns-then-not-write_once-clause-others : goal.returns-then-not-write_once
 returns-then-not-write_once-clause-others g c = λ k n h. c.write_once.ensures.others k n (c.loop-link.invariant.others k n h)
 
 pub returns-then-not-write_once-clause-nothing : goal.returns-then-not-write_once-clause-nothing
-returns-then-not-write_once-clause-nothing g c = Nothing-trans _ (g.S.Sockets.seen c.loop-link.sockets) _ (later-of _ _ c.write_once.ensures.continues) c.loop-link.invariant.nothing c.write_once.ensures.nothing
+returns-then-not-write_once-clause-nothing g c = TakesNothing-trans _ (g.S.Sockets.seen c.loop-link.sockets) _ c.write_once.ensures.continues.told c.loop-link.invariant.nothing c.write_once.ensures.nothing
 
 pub loop-link-preserved : goal.loop-link-preserved
 loop-link-preserved g c =
@@ -35,7 +33,7 @@ loop-link-preserved g c =
       going = e.going;
       falls = Falls-trans _ (seen c.loop-link.sockets) _ i.falls e.falls;
       others = λ k n h. e.others k n (i.others k n h);
-      nothing = Nothing-trans _ (seen c.loop-link.sockets) _ (later-of _ _ e.continues) i.nothing e.nothing;
+      nothing = TakesNothing-trans _ (seen c.loop-link.sockets) _ e.continues.told i.nothing e.nothing;
     }
 
 pub returns-then-not-write_once-clause-contained : goal.returns-then-not-write_once-clause-contained

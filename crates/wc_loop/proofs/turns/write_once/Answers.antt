@@ -1,4 +1,4 @@
-use Rattle.std.proofs.Common.{◌≡◌, ◌≤◌, refl, ap, sym, ◌∙◌, inl, inr, [], ◌∷◌, length, rules, arith}
+use Rattle.std.proofs.Common.{◌≤◌, refl, ap, ◌∙◌, inl, [], ◌∷◌, length, rules, arith}
 use Rattle.wc_outside.specs.declared.happening.Happening.TheVariants.{Failed}
 use Rattle.wc_outside.specs.Keyed.{at_key}
 use Rattle.wc_core.specs.Served.{seat_link, unsent_in}
@@ -7,11 +7,10 @@ use Rattle.wc_loop.specs.Served.{leaving_closes}
 use Rattle.wc_loop.proofs.TurnLemmas.{Continues-trans}
 use Rattle.wc_loop.proofs.CloseLemmas.{Continues-refl, Continues-quiet, Continues-sent, fewer-sent, nothing_sent}
 use Rattle.wc_loop.proofs.SeatLemmas.{leaving-gone}
-use Rattle.wc_loop.proofs.SourceLemmas.{Falls-same, Falls-trans, IsWritten-later, others-unsent, TakesNothing-call, TakesNothing-trans, blocked-other}
-use Rattle.wc_loop.proofs.TakesLemmas.{Continues-takes, causes-lost}
+use Rattle.wc_loop.proofs.SourceLemmas.{IsWritten-later, others-unsent, TakesNothing-call, TakesNothing-trans, blocked-other}
 use Rattle.wc_loop.proofs.ClosingLemmas.{failed-of}
 use Rattle.wc_loop.proofs.PartLemmas.{HasFailed-now}
-use Rattle.wc_loop.proofs.ReadLemmas.{spares-left, seats-left, unsent-closed}
+use Rattle.wc_loop.proofs.ReadLemmas.{Continues-lost, spares-left, seats-left, unsent-closed}
 use Rattle.wc_loop.proofs.ContainedLemmas.{Contained-refl, Contained-same, Contained-trans, Contained-takes}
 use Rattle.wc_loop.proofs.turns.write_once.Goals as goal
 
@@ -57,14 +56,11 @@ pub returns-in-Err-clause-continues : goal.returns-in-Err-clause-continues
 returns-in-Err-clause-continues g c =
     let e = c.in-Err.ensures in
     let l = c.link_gone.ensures in
-    let x = c.args.headless.now in
-    let a = g.S.Sockets.seen c.args.sockets.now in
-    let b = g.S.Sockets.seen c.write.new.self in
-    Continues-trans x c.link_gone.new.self _ a b _
-    (Continues-takes x c.link_gone.new.self c.args.link a b (Failed c.args.link) refl (record { told = e.told; taken = e.taken; asked = e.asked; counts = e.counts })
-    (λ t k. e.sent t k ∙ nothing_sent _ _) e.choked e.used e.there e.undrained e.listening c.requires.calm c.requires.going (l.failed refl)
-    (λ taken. failed-of c.args.link.0)
-    (λ distinct. rw (ap (λ s. s.seats) l.core) (causes-lost c.args.link _ x.core.seats a b c.requires.calm (e.failed, λ t. record { front = []; rest = []; taken = e.taken t }))))
+    let seen = g.S.Sockets.seen in
+    Continues-trans c.args.headless.now c.link_gone.new.self _ (seen c.args.sockets.now) (seen c.write.new.self) _
+    (Continues-lost c.args.headless.now c.link_gone.new.self c.args.link (Failed c.args.link) _ (seen c.args.sockets.now) (seen c.write.new.self)
+    (record { call = record { told = e.told; taken = e.taken; asked = e.asked; counts = e.counts }; sent = λ t k. e.sent t k ∙ nothing_sent _ _; choked = e.choked; same = record { used = e.used; there = e.there; undrained = e.undrained; listening = e.listening } })
+    refl refl c.requires.calm c.requires.going (l.failed refl) (λ taken. failed-of c.args.link.0) (ap (λ s. s.seats) l.core) (e.failed, λ t. record { front = []; rest = []; taken = e.taken t }))
     c.part_all.ensures.continues
 
 pub returns-in-Err-clause-done : goal.returns-in-Err-clause-done

@@ -1,5 +1,4 @@
 use Rattle.std.proofs.Common.{◌≡◌, ◌++◌, ◌∷◌, [], Some, None, refl, ap, sym, ◌∙◌}
-use Rattle.wc_loop.specs.Links.{new_state}
 use Rattle.wc_loop.specs.Served.{leaving_closes}
 use Rattle.wc_loop.proofs.ArriveLemmas.{refused-step, refused-opened, refused-closed, calm-push, admitted-of}
 use Rattle.wc_loop.proofs.headless.Headless.link_came.Goals as goal

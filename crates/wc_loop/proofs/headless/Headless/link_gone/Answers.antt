@@ -1,4 +1,4 @@
-use Rattle.std.proofs.Common.{refl, ap, subst}
+use Rattle.std.proofs.Common.{refl}
 use Rattle.wc_outside.specs.declared.happening.Happening.TheVariants.{Ended, Failed}
 use Rattle.wc_core.specs.Events.{Ends, Fails}
 use Rattle.wc_loop.proofs.StandsLemmas.{timeless-ended, timeless-failed}

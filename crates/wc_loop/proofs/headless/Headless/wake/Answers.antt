@@ -2,7 +2,6 @@ use Rattle.std.proofs.Common.{refl, ap, ◌∙◌, take, is_some}
 use Rattle.wc_outside.specs.Keyed.{at_key}
 use Rattle.wc_loop.specs.Links.{link_number}
 use Rattle.wc_loop.specs.Served.{leaving_closes}
-use Rattle.wc_loop.proofs.StepLemmas.{SameSets}
 use Rattle.wc_loop.proofs.TurnLemmas.{Continues-step}
 use Rattle.wc_loop.proofs.WaitLemmas.{Nothing-woke, Nothing-none, Continues-unwoken}
 use Rattle.wc_loop.proofs.WakeLemmas.{Continues-woke, woken-seats, woken-quits, woken-starved}
