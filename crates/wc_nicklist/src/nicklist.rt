@@ -3,6 +3,8 @@ ghost use Rattle.wc_nicklist.specs.Calls.{is_bad_name, name_refusal, add_refusal
 ghost use Rattle.wc_nicklist.specs.Order.{key_at};
 ghost use Rattle.wc_nicklist.specs.Rows.{find_row, remove_row, change_row, path_below, is_root, has_child, below, TextsAreUtf8, IsRows, Nicks};
 
+use crate::digest::Digest;
+use crate::entry::{Entry, slot};
 use crate::index::Index;
 use crate::item::{Item, Key, Row};
 use crate::iter::RowIter;
@@ -85,7 +87,7 @@ impl Nicklist {
         ensures { option_copied result ≡ item_of (find_row key.now self.now.rows) }
     {
         match self.stored(key.is_group, key.name.as_slice()) {
-            Some(row) => Some(&row.item),
+            Some(row) => Some(row.item()),
             None => None,
         }
     }
@@ -101,15 +103,17 @@ impl Nicklist {
         }
     }
 
-    fn stored(&self, is_group: bool, name: &[u8]) -> Option<&Row>
+    fn stored(&self, is_group: bool, name: &[u8]) -> Option<&Entry>
         ensures row { option_copied result ≡ find_row (key_at is_group name.now) self.now.rows }
         ensures held { IsRows self.now.rows }
     {
-        let path = self.index.find(is_group, name)?;
+        let path = self.index.find(is_group, name)?.as_slice();
+        let digest = Digest::of(path, is_group, name);
         self.rows.get(&Address {
-            path: path.as_slice(),
+            path,
             is_group,
             name,
+            digest,
         })
     }
 
@@ -244,12 +248,14 @@ impl Nicklist {
         let path = self.below(alloc, parent.as_slice())?;
         let index_path = path.copy(alloc)?;
         let name = Vec::with_capacity(alloc, NAME_LIMIT)?;
+        let slot = slot(alloc)?;
         let parent = parent.copy(alloc)?;
         Ok(Room {
             parent,
             path,
             index_path,
             name,
+            slot,
         })
     }
 
@@ -282,10 +288,12 @@ impl Nicklist {
             path,
             index_path,
             name,
+            slot,
         } = room;
         let name = filled(name, item.name.as_slice());
         self.index.insert(is_group, name, index_path);
-        self.rows.insert(new_row(is_group, path, item));
+        self.rows
+            .insert(Entry::new(slot, new_row(is_group, path, item)));
     }
 
     /// Takes a group out that has no nicks and no groups. A refusal changes nothing: `IsRoot`,
@@ -335,7 +343,7 @@ impl Nicklist {
     }
 
     /// Whether it is a group, and a row stands right below it.
-    fn is_filled(&self, is_group: bool, row: &Row) -> bool
+    fn is_filled(&self, is_group: bool, row: &Entry) -> bool
         requires { find_row (key_at is_group row.now.item.name) self.now.rows ≡ Some row.now }
         ensures { result ≡ (is_group && has_child (below row.now) self.now.rows) }
     {
@@ -352,14 +360,17 @@ impl Nicklist {
         let Some(path) = self.index.find(is_group, name) else {
             unreachable!()
         };
+        let path = path.as_slice();
+        let digest = Digest::of(path, is_group, name);
         let row = self.rows.remove(&Address {
-            path: path.as_slice(),
+            path,
             is_group,
             name,
+            digest,
         });
         self.index.remove(is_group, name);
         self.room = None;
-        row.item
+        row.into_item()
     }
 
     /// Gives the group of the item's name its other fields, but for the level. A refusal changes

@@ -1,7 +1,9 @@
 ghost use Rattle.std.specs.Prelude.{◌≡◌, ◌≤◌, ◌<◌, length, drop, min};
 ghost use Rattle.wc_nicklist.specs.Order.{key_at, key_cmp, address_cmp, address_of, is_before};
+ghost use Rattle.wc_nicklist.specs.Digest.{IsDigest};
 
-use crate::item::Row;
+use crate::digest::{Digest, NO_PLACE};
+use crate::entry::Entry;
 use std::cmp::Ordering;
 use wc_text::{Text, fold_cmp};
 
@@ -11,18 +13,20 @@ pub(crate) struct Address<'a> {
     pub(crate) path: &'a [Text],
     pub(crate) is_group: bool,
     pub(crate) name: &'a [u8],
+    pub(crate) digest: Digest,
+    ghost exact: { IsDigest digest path.now is_group name.now },
 }
 
 /// Whether a row stands before an address in canonical order.
-pub(crate) fn stands_before(row: &Row, address: &Address<'_>) -> bool
+pub(crate) fn stands_before(row: &Entry, address: &Address<'_>) -> bool
     ensures { result ≡ is_before row.now (address_of address.now.path.now (key_at address.now.is_group address.now.name.now)) }
 {
-    let own = Address {
-        path: row.path.as_slice(),
-        is_group: row.item.is_group,
-        name: row.item.name.as_slice(),
-    };
-    compare(&own, address) == Ordering::Less
+    let digest = row.digest();
+    let is_told = digest.place == address.digest.place && digest.place != NO_PLACE;
+    if is_told && digest.name != address.digest.name {
+        return digest.name < address.digest.name;
+    }
+    compare(&row.address(), address) == Ordering::Less
 }
 
 /// The canonical order: name by name along the paths, and a nick before a group.

@@ -1,3 +1,4 @@
+use crate::item::Row;
 use wc_text::{Items, Text};
 
 /// The memory of a row that is still to come under a parent.
@@ -7,4 +8,5 @@ pub(crate) struct Room {
     pub(crate) path: Items<Text>,
     pub(crate) index_path: Items<Text>,
     pub(crate) name: Vec<u8>,
+    pub(crate) slot: Box<Row>,
 }

@@ -1,0 +1,39 @@
+-- The front of an address as two numbers.
+use Rattle.std.specs.Prelude.{◌≡◌, ℕ, suc, zero, ◌+◌, ◌*◌, ◌^◌, ◌<◌, Bool, true, false, List, [], ◌∷◌, length, if◌then◌else◌, nat_le}
+use Rattle.wc_text.specs.Order.{folded}
+use Rattle.wc_nicklist.specs.declared.digest.Digest.{Digest}
+use Rattle.wc_nicklist.specs.Order.{kind}
+
+-- the first n bytes as one number, the first of them highest, with zeros behind the last
+abbrev pub front : ℕ → List ℕ → ℕ
+front zero xs = 0
+front (suc n) [] = 0
+front (suc n) (x ∷ xs) = x * 256 ^ n + front n xs
+
+abbrev pub AreBytes : ℕ → List ℕ → Type 0
+AreBytes zero xs = Unit {0}
+AreBytes (suc n) [] = Unit {0}
+AreBytes (suc n) (x ∷ xs) = (x < 256) × AreBytes n xs
+
+-- the bytes of a text, in lower case where its case is not kept
+abbrev pub cased : Bool → List ℕ → List ℕ
+cased true bytes = bytes
+cased false bytes = folded bytes
+
+-- The kind and the path in one number, where the path has no name or one that is short; and else 255.
+unfoldable pub place_of : List (List ℕ) → Bool → ℕ
+place_of [] g = kind g
+place_of (n ∷ []) g = if nat_le (length n) 15 then front 15 n * 256 + (2 + 2 * length n + kind g) else 255
+place_of (n ∷ m ∷ ms) g = 255
+
+unfoldable pub PathIsBytes : List (List ℕ) → Type 0
+PathIsBytes [] = Unit {0}
+PathIsBytes (n ∷ []) = AreBytes 15 n
+PathIsBytes (n ∷ m ∷ ms) = Unit {0}
+
+-- the numbers of an address
+pub record IsDigest (d : Digest) (path : List (List ℕ)) (is_group : Bool) (name : List ℕ) : Type 0 where
+  pub place : d.place ≡ place_of path is_group
+  pub path_bytes : PathIsBytes path
+  pub name : d.name ≡ front 16 (folded name)
+  pub name_bytes : AreBytes 16 (folded name)
