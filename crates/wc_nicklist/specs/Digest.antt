@@ -1,5 +1,5 @@
 -- The front of an address as two numbers.
-use Rattle.std.specs.Prelude.{◌≡◌, ℕ, suc, zero, ◌+◌, ◌*◌, ◌^◌, ◌<◌, Bool, true, false, List, [], ◌∷◌, length, if◌then◌else◌, nat_le}
+use Rattle.std.specs.Prelude.{◌≡◌, ℕ, suc, zero, ◌+◌, ◌*◌, ◌^◌, ◌<◌, Bool, true, false, List, [], ◌∷◌, length, if◌then◌else◌, nat_le, get_or}
 use Rattle.wc_text.specs.Order.{folded}
 use Rattle.wc_nicklist.specs.declared.digest.Digest.{Digest}
 use Rattle.wc_nicklist.specs.Order.{kind}
@@ -10,10 +10,8 @@ front zero xs = 0
 front (suc n) [] = 0
 front (suc n) (x ∷ xs) = x * 256 ^ n + front n xs
 
-abbrev pub AreBytes : ℕ → List ℕ → Type 0
-AreBytes zero xs = Unit {0}
-AreBytes (suc n) [] = Unit {0}
-AreBytes (suc n) (x ∷ xs) = (x < 256) × AreBytes n xs
+abbrev pub IsBytes : List ℕ → Type 0
+IsBytes xs = (i : ℕ) → get_or xs i 0 < 256
 
 -- the bytes of a text, in lower case where its case is not kept
 abbrev pub cased : Bool → List ℕ → List ℕ
@@ -26,14 +24,9 @@ place_of [] g = kind g
 place_of (n ∷ []) g = if nat_le (length n) 15 then front 15 n * 256 + (2 + 2 * length n + kind g) else 255
 place_of (n ∷ m ∷ ms) g = 255
 
-unfoldable pub PathIsBytes : List (List ℕ) → Type 0
-PathIsBytes [] = Unit {0}
-PathIsBytes (n ∷ []) = AreBytes 15 n
-PathIsBytes (n ∷ m ∷ ms) = Unit {0}
-
 -- the numbers of an address
-pub record IsDigest (d : Digest) (path : List (List ℕ)) (is_group : Bool) (name : List ℕ) : Type 0 where
-  pub place : d.place ≡ place_of path is_group
-  pub path_bytes : PathIsBytes path
-  pub name : d.name ≡ front 16 (folded name)
-  pub name_bytes : AreBytes 16 (folded name)
+pub record IsDigest (d : Digest) (groups : List (List ℕ)) (g : Bool) (bytes : List ℕ) : Type 0 where
+  pub place : d.place ≡ place_of groups g
+  pub path_bytes : (n : List ℕ) → groups ≡ n ∷ [] → IsBytes n
+  pub name : d.name ≡ front 16 (folded bytes)
+  pub name_bytes : IsBytes bytes

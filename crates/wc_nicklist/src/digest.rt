@@ -1,5 +1,6 @@
-ghost use Rattle.std.specs.Prelude.{◌≡◌, ◌≤◌, ◌<◌, ◌^◌, get_or, nat_le, if◌then◌else◌};
-ghost use Rattle.wc_nicklist.specs.Digest.{front, cased, place_of, AreBytes, IsDigest, PathIsBytes};
+ghost use Rattle.std.specs.Prelude.{◌≡◌, ◌≤◌, ◌<◌, ◌^◌, ◌∷◌, [], List, ℕ, get_or};
+ghost use Rattle.wc_nicklist.specs.Digest.{front, cased, place_of, IsBytes, IsDigest};
+ghost use Rattle.wc_nicklist.specs.Order.{kind};
 
 use wc_text::Text;
 
@@ -35,32 +36,41 @@ impl Digest {
 
 fn place(path: &[Text], is_group: bool) -> u128
     ensures place { result ≡ place_of path.now is_group }
-    ensures bytes { PathIsBytes path.now }
+    ensures bytes { (n : List ℕ) → path.now ≡ n ∷ [] → IsBytes n }
 {
     match path {
-        [] => u128::from(is_group),
+        [] => kind(is_group),
         [name] => place_below(name.as_slice(), is_group),
         _ => NO_PLACE,
     }
 }
 
+/// 1 for a group and 0 for a nick.
+fn kind(is_group: bool) -> u128
+    ensures kind { result ≡ kind is_group }
+    ensures few { result ≤ 1 }
+{
+    if is_group { 1 } else { 0 }
+}
+
 /// The place of what stands right below a group of the root.
 fn place_below(name: &[u8], is_group: bool) -> u128
     ensures place { result ≡ place_of (name.now ∷ []) is_group }
-    ensures bytes { AreBytes 15 name.now }
+    ensures bytes { IsBytes name.now }
 {
     let bytes = front(name, PATH_BYTES, true);
     if name.len() > PATH_BYTES {
         return NO_PLACE;
     }
-    bytes * 256 + (2 + 2 * name.len() as u128 + u128::from(is_group))
+    bytes * 256 + (2 + 2 * name.len() as u128 + kind(is_group))
 }
 
 /// The first bytes of a text as one number, the first of them highest.
 fn front(bytes: &[u8], count: usize, keeps_case: bool) -> u128
     requires { count ≤ 16 }
     ensures front { result ≡ front count (cased keeps_case bytes.now) }
-    ensures bytes { AreBytes count (cased keeps_case bytes.now) }
+    ensures bytes { IsBytes bytes.now }
+    ensures bound { result < 256 ^ count }
 {
     let mut front = 0;
     for i in 0..count {

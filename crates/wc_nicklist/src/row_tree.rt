@@ -136,7 +136,16 @@ fn has_child(leaves: &[Vec<Entry>], group: &Entry) -> bool
     requires stands { find_row (key_at true group.now.item.name) (rows_in leaves.now) ≡ Some group.now }
     ensures { result ≡ has_child (below group.now) (rows_in leaves.now) }
 {
-    let Some((at, n)) = find(leaves, &group.address()) else {
+    let path = group.path();
+    let name = group.item().name.as_slice();
+    let digest = Digest::of(path, true, name);
+    let address = Address {
+        path,
+        is_group: true,
+        name,
+        digest,
+    };
+    let Some((at, n)) = find(leaves, &address) else {
         unreachable!()
     };
     begins_with_child(rows_behind(leaves, at, n), group)

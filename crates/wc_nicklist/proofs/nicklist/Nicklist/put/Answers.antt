@@ -21,6 +21,6 @@ invariant_of-self c =
     let room : RoomStands c.self.inside.rows c.self.inside.index c.in-Some.room = subst (IfRoom c.self.inside.rows c.self.inside.index) (sym c.take.ensures.value ∙ c.in-Some.is) c.self.invariant.prepared in
     let absent : find_row (key_at c.args.is_group c.args.item.name) c.self.inside.rows.rows ≡ None = ap (λ s. find_row (key_at c.args.is_group c.args.item.name) s.rows) c.self.view_is ∙ c.requires.absent in
     subst (IsKept c.insert-2.new.self c.insert.new.self) (sym c.take.ensures.after)
-    (put_kept c.self.inside.rows c.insert-2.new.self c.self.inside.index c.insert.new.self c.in-Some.room c.args.is_group c.args.item c.filled-name.result.items c.new_row.result
+    (put_kept c.self.inside.rows c.insert-2.new.self c.self.inside.index c.insert.new.self c.in-Some.room c.args.is_group c.args.item c.filled-name.result.items c.new.result
     c.self.invariant.held c.self.invariant.indexed room absent c.requires.named c.requires.utf8
-    (c.filled-name.ensures ∙ c.as_slice.ensures) c.new_row.ensures c.insert-2.ensures c.insert.ensures)
+    (c.filled-name.ensures ∙ c.as_slice.ensures) (c.new.ensures ∙ c.new_row.ensures) c.insert-2.ensures c.insert.ensures)
