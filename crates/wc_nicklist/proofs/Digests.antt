@@ -94,9 +94,9 @@ front_less (suc n) [] (y ∷ ys) h l e = refl
 front_less (suc n) (x ∷ xs) [] h l e = absurd (omega arith)
 front_less (suc n) (x ∷ xs) (y ∷ ys) h l e = elim (cases_order x y) [
   | inl same ↦
-    (let shift : x * 256 ^ n ≡ y * 256 ^ n = ap (λ z. z * 256 ^ n) same in
-    let rest : front n xs < front n ys = omega (arith, e, shift) in
-    ap (λ o. ordering_then o (slice_cmp nat_cmp xs ys)) (sym (nat_cmp_is x y Equal same)) ∙ front_less n xs ys h.1 l.1 rest)
+      (let shift : x * 256 ^ n ≡ y * 256 ^ n = ap (λ z. z * 256 ^ n) same in
+      let rest : front n xs < front n ys = omega (arith, e, shift) in
+      ap (λ o. ordering_then o (slice_cmp nat_cmp xs ys)) (sym (nat_cmp_is x y Equal same)) ∙ front_less n xs ys h.1 l.1 rest)
   | inr other ↦ elim other [
     | inl less ↦ ap (λ o. ordering_then o (slice_cmp nat_cmp xs ys)) (sym (nat_cmp_is x y Less less))
     | inr more ↦ absurd (above (256 ^ n) x y (front n xs) (front n ys) more (front_bound n ys l.1) (omega (arith, e)))
@@ -110,10 +110,10 @@ front_same n (x ∷ xs) [] h l s i e = absurd (omega arith)
 front_same zero (x ∷ xs) (y ∷ ys) h l s i e = absurd (omega arith)
 front_same (suc n) (x ∷ xs) (y ∷ ys) h l s i e = elim (cases_order x y) [
   | inl same ↦
-    (let shift : x * 256 ^ n ≡ y * 256 ^ n = ap (λ z. z * 256 ^ n) same in
-    let rest : front n xs ≡ front n ys = omega (arith, e, shift) in
-    let tails = front_same n xs ys h.1 l.1 (omega (arith, s)) (omega (arith, i)) rest in
-    λ j. same j ∷ tails j)
+      (let shift : x * 256 ^ n ≡ y * 256 ^ n = ap (λ z. z * 256 ^ n) same in
+      let rest : front n xs ≡ front n ys = omega (arith, e, shift) in
+      let tails = front_same n xs ys h.1 l.1 (omega (arith, s)) (omega (arith, i)) rest in
+      λ j. same j ∷ tails j)
   | inr other ↦ elim other [
     | inl less ↦ absurd (above (256 ^ n) y x (front n ys) (front n xs) less (front_bound n xs h.1) (omega (arith, e)))
     | inr more ↦ absurd (above (256 ^ n) x y (front n xs) (front n ys) more (front_bound n ys l.1) (omega (arith, e)))
@@ -213,8 +213,8 @@ fold_told a b h l n = elim (cases_order (front 16 (folded a)) (front 16 (folded 
   | inr other ↦ elim other [
     | inl less ↦ (let t : nat_lt (front 16 (folded a)) (front 16 (folded b)) ≡ true = grind (arith, nat_tests) in t ∙ ap is_lt (sym (fold_less a b (folded_bytes 16 a h) (folded_bytes 16 b l) less)))
     | inr more ↦
-      (let t : nat_lt (front 16 (folded a)) (front 16 (folded b)) ≡ false = grind (arith, nat_tests) in
-      t ∙ ap is_lt (sym (fold_total.antisymm a b ∙ ap ordering_reverse (fold_less b a (folded_bytes 16 b l) (folded_bytes 16 a h) more))))
+        (let t : nat_lt (front 16 (folded a)) (front 16 (folded b)) ≡ false = grind (arith, nat_tests) in
+        t ∙ ap is_lt (sym (fold_total.antisymm a b ∙ ap ordering_reverse (fold_less b a (folded_bytes 16 b l) (folded_bytes 16 a h) more))))
   ]
 ]
 

@@ -5,16 +5,27 @@ ghost use Rattle.wc_nicklist.specs.Rows.{changed_item, changed_row};
 use crate::digest::Digest;
 use crate::item::{Item, Row};
 use crate::order::Address;
+use crate::path::Path;
 use std::alloc::Global;
 use std::marker::Model;
-use wc_text::{Handle, Items, NoMemory, Text};
+use wc_text::{Handle, NoMemory, Text};
+
+/// A path and an item in memory of their own.
+#[derive(Drop)]
+pub(crate) struct Stored {
+    path: Path,
+    item: Item,
+}
+
+/// Memory for a row.
+pub(crate) type Slot = Box<Stored>;
 
 /// A row as a leaf keeps it: in memory of its own, beside its digest, so that a leaf is short and a
 /// search in it reads few rows. Contracts see the row.
 #[derive(Drop)]
 pub(crate) struct Entry {
     digest: Digest,
-    row: Box<Row>,
+    row: Slot,
 }
 
 impl Model for Entry {
@@ -23,22 +34,19 @@ impl Model for Entry {
 
     ghost Value = { Row };
 
-    ghost view = { λ e. e.row.value };
+    ghost view = { λ e. record { path = e.row.value.path; item = e.row.value.item } };
 
     ghost invariant = { λ e. IsDigest e.digest e.row.value.path e.row.value.item.is_group e.row.value.item.name };
 }
 
 impl Entry {
     /// Puts a row into memory that was taken for it.
-    pub(crate) fn new(mut slot: Box<Row>, row: Row) -> Entry
-        ensures { result ≡ row }
+    pub(crate) fn new(mut slot: Slot, path: Path, item: Item) -> Entry
+        ensures path { result.path ≡ path }
+        ensures item { result.item ≡ item }
     {
-        let digest = Digest::of(
-            row.path.as_slice(),
-            row.item.is_group,
-            row.item.name.as_slice(),
-        );
-        *slot = row;
+        let digest = Digest::of(path.as_slice(), item.is_group, item.name.as_slice());
+        *slot = Stored { path, item };
         Entry { digest, row: slot }
     }
 
@@ -81,7 +89,7 @@ impl Entry {
     pub(crate) fn into_item(self) -> Item
         ensures { result ≡ self.item }
     {
-        let Row { path: _, item } = Box::into_inner(self.row);
+        let Stored { path: _, item } = Box::into_inner(self.row);
         item
     }
 
@@ -89,7 +97,9 @@ impl Entry {
     pub(crate) fn copy(&self, alloc: Global) -> Result<Row, NoMemory>
         ensures { IfOk result (λ row. row ≡ self.now) }
     {
-        self.row.copy(alloc)
+        let path = self.row.path.copy(alloc)?;
+        let item = self.row.item.copy(alloc)?;
+        Ok(Row { path, item })
     }
 
     /// Gives the row other fields. The kind, the name and the level stay.
@@ -111,8 +121,8 @@ fn change_item(old: &mut Item, new: Item)
     old.prefix_color = new.prefix_color;
 }
 
-/// Memory for a row that is still to come.
-pub(crate) fn slot(alloc: Global) -> Result<Box<Row>, NoMemory> {
+/// Memory for a row that is still to come, below that path or another.
+pub(crate) fn slot(alloc: Global, path: Path) -> Result<Slot, NoMemory> {
     let item = Item {
         handle: Handle(0),
         is_group: false,
@@ -123,8 +133,7 @@ pub(crate) fn slot(alloc: Global) -> Result<Box<Row>, NoMemory> {
         prefix: Text::new(alloc),
         prefix_color: Text::new(alloc),
     };
-    let path = Items::new(alloc);
-    match Box::new(alloc, Row { path, item }) {
+    match Box::new(alloc, Stored { path, item }) {
         Ok(slot) => Ok(slot),
         Err(_) => Err(NoMemory),
     }

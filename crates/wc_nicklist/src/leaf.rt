@@ -105,7 +105,8 @@ pub(crate) fn is_child(row: &Entry, group: &Entry) -> bool
     is_below(row.path(), group.path(), group.item().name.as_slice())
 }
 
-fn is_below(path: &[Text], above: &[Text], name: &[u8]) -> bool
+/// Whether a path is that of what stands right below a group.
+pub(crate) fn is_below(path: &[Text], above: &[Text], name: &[u8]) -> bool
     ensures { result ≡ path_eq path.now (above.now ++ name.now ∷ []) }
 {
     match path.split_last() {

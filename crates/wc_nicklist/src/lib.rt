@@ -12,6 +12,7 @@ mod leaf;
 mod name;
 mod nicklist;
 mod order;
+mod path;
 mod refused;
 mod room;
 mod row_tree;

@@ -1,4 +1,4 @@
-ghost use Rattle.std.specs.Prelude.{[], ◌≡◌, ◌≢◌, ◌≤◌, ◌<◌, Some, None, false, ◌&&◌, OnOk, OnErr, IfOk, IfErr, IsSome, length, unwrap_or, option_copied, is_some, IsOk, IsTrue, ◌↔◌, true, vec_capacity};
+ghost use Rattle.std.specs.Prelude.{[], ◌≡◌, ◌≢◌, ◌≤◌, ◌<◌, Some, None, false, ◌&&◌, OnOk, OnErr, IfOk, IfErr, IfSome, IsSome, length, unwrap_or, option_copied, is_some, IsOk, IsTrue, ◌↔◌, true, vec_capacity};
 ghost use Rattle.wc_nicklist.specs.Calls.{is_bad_name, name_refusal, add_refusal, remove_refusal, change_refusal, add_row, item_of, with_rows, has_children, row_under};
 ghost use Rattle.wc_nicklist.specs.Order.{key_at};
 ghost use Rattle.wc_nicklist.specs.Rows.{find_row, remove_row, change_row, path_below, is_root, has_child, below, TextsAreUtf8, IsRows, Nicks};
@@ -8,8 +8,10 @@ use crate::entry::{Entry, slot};
 use crate::index::Index;
 use crate::item::{Item, Key, Row};
 use crate::iter::RowIter;
+use crate::leaf::is_below;
 use crate::name::{NAME_LIMIT, Name};
 use crate::order::Address;
+use crate::path::Path;
 use crate::refused::NickRefused;
 use crate::room::Room;
 use crate::row_tree::RowTree;
@@ -31,6 +33,8 @@ pub struct Nicklist {
     rows: RowTree,
     index: Index,
     room: Option<Room>,
+    /// The path of the row that came last. One that comes below the same group shares it.
+    latest: Option<Path>,
 }
 
 impl Model for Nicklist {
@@ -56,6 +60,7 @@ impl Nicklist {
             rows: RowTree::new(alloc),
             index: Index::new(alloc),
             room: None,
+            latest: None,
         })
     }
 
@@ -239,16 +244,17 @@ impl Nicklist {
         }
     }
 
-    fn room_below(&self, alloc: Global, parent: &Text) -> Result<Room, NoMemory>
-        requires { IsSome (path_below parent.now self.now.rows) }
-        ensures path { IfOk result (λ r. path_below r.parent self.now.rows ≡ Some r.path) }
+    fn room_below(&mut self, alloc: Global, parent: &Text) -> Result<Room, NoMemory>
+        requires { IsSome (path_below parent.now self.old.rows) }
+        ensures path { IfOk result (λ r. path_below r.parent self.old.rows ≡ Some r.path) }
         ensures parent { IfOk result (λ r. r.parent ≡ parent.now) }
         ensures parts { IfOk result IsRoom }
+        ensures same { self.new ≡ self.old }
     {
         let path = self.below(alloc, parent.as_slice())?;
-        let index_path = path.copy(alloc)?;
+        let index_path = path.share()?;
         let name = Vec::with_capacity(alloc, NAME_LIMIT)?;
-        let slot = slot(alloc)?;
+        let slot = slot(alloc, path.share()?)?;
         let parent = parent.copy(alloc)?;
         Ok(Room {
             parent,
@@ -259,7 +265,46 @@ impl Nicklist {
         })
     }
 
-    fn below(&self, alloc: Global, parent: &[u8]) -> Result<Items<Text>, NoMemory>
+    /// The path of what stands right below a parent, which rows of it share.
+    fn below(&mut self, alloc: Global, parent: &[u8]) -> Result<Path, NoMemory>
+        requires { IsSome (path_below parent.now self.old.rows) }
+        ensures path { IfOk result (λ path. path_below parent.now self.old.rows ≡ Some path) }
+        ensures same { self.new ≡ self.old }
+    {
+        if let Some(path) = self.latest_below(parent) {
+            return path.share();
+        }
+        let names = self.names_below(alloc, parent)?;
+        let path = Path::new(alloc, names)?;
+        self.latest = Some(path.share()?);
+        Ok(path)
+    }
+
+    /// The path of the row that came last, where it is that of what stands right below a parent.
+    fn latest_below(&self, parent: &[u8]) -> Option<&Path>
+        requires { IsSome (path_below parent.now self.now.rows) }
+        ensures { IfSome result (λ path. path_below parent.now self.now.rows ≡ Some path.now) }
+    {
+        let latest = self.latest.as_ref()?;
+        if self.leads_below(latest.as_slice(), parent) {
+            Some(latest)
+        } else {
+            None
+        }
+    }
+
+    /// Whether a path is that of what stands right below a parent.
+    fn leads_below(&self, path: &[Text], parent: &[u8]) -> bool
+        requires { IsSome (path_below parent.now self.now.rows) }
+        ensures { IsTrue result → path_below parent.now self.now.rows ≡ Some path.now }
+    {
+        match self.index.find(true, parent) {
+            Some(above) => is_below(path, above.as_slice(), parent),
+            None => path.is_empty(),
+        }
+    }
+
+    fn names_below(&self, alloc: Global, parent: &[u8]) -> Result<Items<Text>, NoMemory>
         requires { IsSome (path_below parent.now self.now.rows) }
         ensures { IfOk result (λ path. path_below parent.now self.now.rows ≡ Some path) }
     {
@@ -292,8 +337,8 @@ impl Nicklist {
         } = room;
         let name = filled(name, item.name.as_slice());
         self.index.insert(is_group, name, index_path);
-        self.rows
-            .insert(Entry::new(slot, new_row(is_group, path, item)));
+        let item = placed(is_group, path.as_slice(), item);
+        self.rows.insert(Entry::new(slot, path, item));
     }
 
     /// Takes a group out that has no nicks and no groups. A refusal changes nothing: `IsRoot`,
@@ -485,21 +530,14 @@ fn filled(mut spare: Vec<u8>, name: &[u8]) -> Vec<u8>
     spare
 }
 
-/// The row of an item below this path, with the kind and the level that it then has.
-fn new_row(is_group: bool, path: Items<Text>, item: Item) -> Row
-    ensures { result ≡ row_under is_group path item }
+/// An item below this path, with the kind and the level that it then has.
+fn placed(is_group: bool, path: &[Text], item: Item) -> Item
+    ensures { (row_under is_group path.now item).item ≡ result }
 {
-    let level = if is_group {
-        path.as_slice().len() as u64 + 1
-    } else {
-        0
-    };
-    Row {
-        path,
-        item: Item {
-            is_group,
-            level,
-            ..item
-        },
+    let level = if is_group { path.len() as u64 + 1 } else { 0 };
+    Item {
+        is_group,
+        level,
+        ..item
     }
 }
