@@ -5,11 +5,16 @@ Puts the program of bench/nicklist/main.txt over the crate wc_nicklist into a fo
 prove and build it there. For each number of nicks it then runs the program with none of the acts, with the first,
 with the first two and so on, and takes the differences of the processor times, so that other work on the machine
 counts little. It prints nanoseconds per nick, and the greatest of these times as a multiple of the least; and it
-ends with 1 where such a multiple of an act other than the pass is above 3. The nicks come in no order, as from a
-server, and then in the order of their names. The first build takes some minutes, a later one in the same folder
-seconds. Linux and Python 3, standard library only. Example:
+ends with 1 where such a multiple of the time of an act other than the pass is above 3. The nicks come in no order,
+as from a server, and then in the order of their names. What drops the nicklist at the end counts as part of `add`
+and is taken off `remove`, which leaves nothing to drop. The first build takes some minutes, a later one in the same
+folder seconds. Linux and Python 3, standard library only. Examples:
 
     bench/nicklist.py --folder /tmp/nicklist-bench 1000 10000 100000
+    bench/nicklist.py --counts 1000 100000
+
+With --counts, valgrind counts instructions and reads and writes that miss a cache of 1 MiB, per nick, in place
+of the times: they are the same on a busy machine.
 """
 import argparse
 import os
@@ -58,31 +63,55 @@ def processor_time(words):
     return usage.ru_utime + usage.ru_stime
 
 
-def measure(binary, count, in_order, runs):
-    """The nanoseconds per nick of each act."""
+def counted(words, event):
+    """How often an event came as a program ran: instructions, or misses of the cache."""
+    tool = ["valgrind", "--tool=cachegrind", "--cache-sim=yes", "--LL=1048576,16,64", "--cachegrind-out-file=/dev/null"]
+    done = subprocess.run(tool + [str(word) for word in words], stderr=subprocess.PIPE, text=True)
+    line = [line for line in done.stderr.splitlines() if event in line]
+    if done.returncode != 0 or not line:
+        sys.exit("valgrind did not count: " + done.stderr)
+    return int(line[0].split(":")[1].split("(")[0].strip().replace(",", ""))
+
+
+def per_nick(probe, binary, count, in_order):
+    """What each act costs per nick: the differences of what a probe gives for one act more."""
     times = max(1, NICKS // count)
-    least = []
-    for acts in range(len(ACTS) + 1):
-        least.append(min(processor_time([binary, acts, count, times, in_order]) for _ in range(runs)))
-    return [max(0.0, after - before) * 1e9 / (count * times) for before, after in zip(least, least[1:])]
+    costs = [probe([binary, acts, count, times, in_order]) for acts in range(len(ACTS) + 1)]
+    return [max(0.0, after - before) / (count * times) for before, after in zip(costs, costs[1:])]
+
+
+def show(title, counts, columns):
+    """Prints what each act costs, and gives the multiples of the least that the greatest are."""
+    print("%-24s" % title + "".join("%10d" % count for count in counts) + "   greatest/least")
+    multiples = {}
+    for act, costs in zip(ACTS, zip(*columns)):
+        multiples[act] = max(costs) / max(1.0, min(costs))
+        print("%-24s" % act + "".join("%10.0f" % cost for cost in costs) + "%14.1f" % multiples[act])
+    return multiples
 
 
 def main():
     words = argparse.ArgumentParser(description=__doc__, formatter_class=argparse.RawDescriptionHelpFormatter)
-    words.add_argument("counts", nargs="*", type=int, default=[1000, 10000, 100000], help="numbers of nicks")
+    words.add_argument("counts", nargs="*", type=int, default=[1000, 10000, 100000], metavar="nicks", help="numbers of nicks")
     words.add_argument("--folder", default="/tmp/nicklist-bench", help="where it is built")
     words.add_argument("--runs", type=int, default=3)
+    words.add_argument("--counts", action="store_true", dest="by_valgrind", help="count by valgrind in place of times")
     words = words.parse_args()
     binary = build(prepare(words.folder))
+
+    def least_nanoseconds(command):
+        return min(processor_time(command) for _ in range(words.runs)) * 1e9
+
+    probes = {"ns": least_nanoseconds}
+    if words.by_valgrind:
+        probes = {"instructions": lambda command: counted(command, "I   refs"), "misses": lambda command: counted(command, "LLd misses")}
     steep = []
     for in_order, order in enumerate(ORDERS):
-        print("%-12s" % order + "".join("%10d" % count for count in words.counts) + "   greatest/least")
-        columns = [measure(binary, count, in_order, words.runs) for count in words.counts]
-        for act, times in zip(ACTS, zip(*columns)):
-            multiple = max(times) / max(1.0, min(times))
-            if act != "pass" and multiple > MOST:
-                steep.append("%s %s" % (act, order))
-            print("%-12s" % act + "".join("%10.0f" % time for time in times) + "%14.1f" % multiple)
+        for unit, probe in probes.items():
+            columns = [per_nick(probe, binary, count, in_order) for count in words.counts]
+            multiples = show(order + ", " + unit, words.counts, columns)
+            if unit == "ns":
+                steep += ["%s %s" % (act, order) for act, multiple in multiples.items() if act != "pass" and multiple > MOST]
     if steep:
         sys.exit("above %.0f: %s" % (MOST, ", ".join(steep)))
 

@@ -1,7 +1,8 @@
 -- What a nicklist keeps of its parts is kept by each edit.
-use Rattle.std.proofs.Common.{◌≡◌, ℕ, Bool, true, false, cond, ◌&&◌, Option, Some, None, List, [], ◌∷◌, ◌++◌, length, refl, sym, ap, ◌∙◌, subst}
-use Rattle.std.specs.Prelude.{IsSome, is_some}
+use Rattle.std.proofs.Common.{◌≡◌, ℕ, Bool, true, false, cond, ◌&&◌, Option, Some, None, List, [], ◌∷◌, ◌++◌, length, refl, sym, ap, ◌∙◌, subst, arith}
+use Rattle.std.specs.Prelude.{◌==◌, IsSome, is_some}
 use Rattle.std.proofs.lemmas.Bool.{true≢false}
+use Rattle.std.proofs.lemmas.Bool.Decides.{nat_tests}
 use Rattle.wc_nicklist.specs.declared.index.Index.{Index}
 use Rattle.wc_nicklist.specs.declared.item.Item.{Item}
 use Rattle.wc_nicklist.specs.declared.item.Key.{Key}
@@ -124,3 +125,7 @@ not_memory g name e h m = go (g && is_root name) (is_bad_name name) h
     go true bad i = let j : Some IsRoot ≡ Some NoMemory = i ∙ ap Some m in cc
     go false true i = let j : Some (BadName (length name)) ≡ Some NoMemory = i ∙ ap Some m in cc
     go false false i = cc
+
+pub no_names : (path : List (List ℕ)) → (length path == 0) ≡ true → [] ≡ path
+no_names [] e = refl
+no_names (n ∷ ns) e = let none : length (n ∷ ns) ≡ 0 = grind (arith, nat_tests) in absurd (omega (arith, none))

@@ -1,5 +1,6 @@
 pub mod Addresses
 pub mod Children
+pub mod Digests
 pub mod Halves
 pub mod Held
 pub mod Joined

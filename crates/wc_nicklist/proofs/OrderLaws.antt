@@ -62,11 +62,11 @@ by_bool true P at_true at_false = at_true refl
 by_bool false P at_true at_false = at_false refl
 
 -- the orders
-fold_total : IsTotalOrder fold_order
+pub fold_total : IsTotalOrder fold_order
 unfolding fold_order
 fold_total = then_total (on_total folded nat_list_cmp_total) nat_list_cmp_total
 
-key_total : IsTotalOrder key_cmp
+pub key_total : IsTotalOrder key_cmp
 key_total = then_total (on_total (λ k. kind k.is_group) nat_cmp_total) (on_total (λ k. k.name) fold_total)
 
 then_parts : (r s : Ordering) → ordering_then r s ≡ Equal → (r ≡ Equal) × (s ≡ Equal)
@@ -74,7 +74,7 @@ then_parts Less s e = absurd cc
 then_parts Equal s e = (refl, e)
 then_parts Greater s e = absurd cc
 
-kind_exact : (a b : Bool) → kind a ≡ kind b → a ≡ b
+pub kind_exact : (a b : Bool) → kind a ≡ kind b → a ≡ b
 kind_exact true true e = refl
 kind_exact true false e = absurd (omega arith)
 kind_exact false true e = absurd (omega arith)

@@ -1,4 +1,5 @@
 pub mod Calls
+pub mod Digest
 pub mod Index
 pub mod Kept
 pub mod Order

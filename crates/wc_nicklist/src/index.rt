@@ -2,12 +2,13 @@ ghost use Rattle.std.specs.Prelude.{◌≡◌, ◌≤◌, ◌<◌, ℕ, List, No
 ghost use Rattle.std.specs.HashMap.{spare};
 ghost use Rattle.wc_nicklist.specs.Index.{at_name};
 
+use crate::path::Path;
 use std::alloc::Global;
 use std::collections::HashMap;
-use wc_text::{Items, NoMemory, Text};
+use wc_text::NoMemory;
 
 /// The paths of groups, or of nicks, by name.
-type Paths = HashMap<Vec<u8>, Items<Text>>;
+type Paths = HashMap<Vec<u8>, Path>;
 
 /// The path of each row, by its key.
 #[derive(Drop)]
@@ -33,7 +34,7 @@ impl Index {
     }
 
     /// The path of the row of a key.
-    pub(crate) fn find(&self, is_group: bool, name: &[u8]) -> Option<&Items<Text>>
+    pub(crate) fn find(&self, is_group: bool, name: &[u8]) -> Option<&Path>
         ensures { option_copied result ≡ path_in self.now (key_at is_group name.now) }
     {
         if is_group {
@@ -54,7 +55,7 @@ impl Index {
     }
 
     /// Notes the path of a key. It takes no memory.
-    pub(crate) fn insert(&mut self, is_group: bool, name: Vec<u8>, path: Items<Text>)
+    pub(crate) fn insert(&mut self, is_group: bool, name: Vec<u8>, path: Path)
         requires { IndexHasRoom self.old }
         ensures { (k : Key) → path_in self.new k ≡ (if key_eq (key_at is_group name.items) k then Some path else path_in self.old k) }
     {
@@ -86,7 +87,7 @@ fn reserve(paths: &mut Paths) -> Result<(), NoMemory>
     Ok(())
 }
 
-fn insert(paths: &mut Paths, name: Vec<u8>, path: Items<Text>)
+fn insert(paths: &mut Paths, name: Vec<u8>, path: Path)
     requires { 0 < spare paths.old }
     ensures { (q : List ℕ) → at_name paths.new q ≡ (if bytes_eq name.items q then Some path else at_name paths.old q) }
 {

@@ -3,14 +3,15 @@ ghost use Rattle.std.specs.Iterator.{YieldsFirstBy, item_count};
 ghost use Rattle.wc_nicklist.specs.Rows.{below, parent_of, path_eq};
 ghost use Rattle.wc_nicklist.specs.Tree.{rows_in};
 
-use crate::item::{Item, Row};
+use crate::entry::Entry;
+use crate::item::Item;
 use crate::leaf::is_child;
 use std::marker::Model;
 
 /// A row that is lent by its nicklist.
 #[derive(Drop)]
 pub struct RowView<'a> {
-    row: &'a Row,
+    row: &'a Entry,
 }
 
 impl<'a> Model for RowView<'a> {
@@ -23,7 +24,7 @@ impl<'a> Model for RowView<'a> {
 
 impl<'a> RowView<'a> {
     /// Whether it stands right below a group.
-    pub(crate) fn is_child_of(&self, group: &Row) -> bool
+    pub(crate) fn is_child_of(&self, group: &Entry) -> bool
         ensures { result ≡ path_eq self.now.path (below group.now) }
     {
         is_child(self.row, group)
@@ -33,14 +34,14 @@ impl<'a> RowView<'a> {
     pub fn item(&self) -> &Item
         ensures { result.now ≡ self.now.item }
     {
-        &self.row.item
+        self.row.item()
     }
 
     /// The name of the row's parent.
     pub fn parent(&self) -> &[u8]
         ensures { result.now ≡ parent_of self.now }
     {
-        match self.row.path.as_slice().last() {
+        match self.row.path().last() {
             Some(name) => name.as_slice(),
             None => b"root",
         }
@@ -50,8 +51,8 @@ impl<'a> RowView<'a> {
 /// The rows of a nicklist in canonical order, which contracts see as the list of those that are left.
 #[derive(Drop)]
 pub struct RowIter<'a> {
-    leaf: &'a [Row],
-    leaves: &'a [Vec<Row>],
+    leaf: &'a [Entry],
+    leaves: &'a [Vec<Entry>],
 }
 
 impl<'a> Model for RowIter<'a> {
@@ -66,14 +67,14 @@ impl<'a> Model for RowIter<'a> {
 
 impl<'a> RowIter<'a> {
     /// The rows of these leaves.
-    pub(crate) fn new(leaves: &'a [Vec<Row>]) -> RowIter<'a>
+    pub(crate) fn new(leaves: &'a [Vec<Entry>]) -> RowIter<'a>
         ensures { result ≡ rows_in leaves.now }
     {
         RowIter { leaf: &[], leaves }
     }
 
     /// The rows that are left of a leaf, and those of the leaves behind it.
-    pub(crate) fn from_leaf(leaf: &'a [Row], leaves: &'a [Vec<Row>]) -> RowIter<'a>
+    pub(crate) fn from_leaf(leaf: &'a [Entry], leaves: &'a [Vec<Entry>]) -> RowIter<'a>
         ensures { result ≡ leaf.now ++ rows_in leaves.now }
     {
         RowIter { leaf, leaves }

@@ -4,7 +4,8 @@ ghost use Rattle.wc_nicklist.specs.Rows.{below, changed_item, changed_row, key_e
 ghost use Rattle.wc_nicklist.specs.declared.item.Row.{Row as RowValue};
 ghost use Rattle.wc_nicklist.specs.Stored.{IsPlace};
 
-use crate::item::{Item, Row};
+use crate::entry::Entry;
+use crate::item::Item;
 use crate::order::{Address, stands_before};
 use wc_text::Text;
 
@@ -15,7 +16,7 @@ pub(crate) const LEAF_ROWS: usize = 64;
 pub(crate) const HALF: usize = LEAF_ROWS / 2;
 
 /// The place of an address: the number of rows that stand before it.
-pub(crate) fn place(rows: &[Row], address: &Address<'_>) -> usize
+pub(crate) fn place(rows: &[Entry], address: &Address<'_>) -> usize
     requires { Ascending rows.now }
     ensures { IsPlace rows.now (address_of address.now.path.now (key_at address.now.is_group address.now.name.now)) result }
 {
@@ -33,26 +34,21 @@ pub(crate) fn place(rows: &[Row], address: &Address<'_>) -> usize
 }
 
 /// Puts a row at its place in a leaf that has room.
-pub(crate) fn put(leaf: &mut Vec<Row>, row: Row)
+pub(crate) fn put(leaf: &mut Vec<Entry>, row: Entry)
     requires order { Ascending leaf.old.items }
     requires room { vec_len leaf.old < vec_capacity leaf.old }
     ensures place { (n : ℕ) × IsPlace leaf.old.items (address row) n × (leaf.new.items ≡ insert leaf.old.items n row) }
     ensures len { vec_len leaf.new ≡ vec_len leaf.old + 1 }
     ensures capacity { vec_capacity leaf.old ≤ vec_capacity leaf.new }
 {
-    let address = Address {
-        path: row.path.as_slice(),
-        is_group: row.item.is_group,
-        name: row.item.name.as_slice(),
-    };
-    let at = place(leaf.as_slice(), &address);
+    let at = place(leaf.as_slice(), &row.address());
     let Ok(()) = leaf.insert(at, row) else {
         unreachable!()
     };
 }
 
 /// Moves the second half of a full leaf into an empty one.
-pub(crate) fn move_half(lower: &mut Vec<Row>, upper: &mut Vec<Row>)
+pub(crate) fn move_half(lower: &mut Vec<Entry>, upper: &mut Vec<Entry>)
     requires full { vec_len lower.old ≡ 64 }
     requires empty { upper.old.items ≡ [] }
     requires roomy { 64 ≤ vec_capacity upper.old }
@@ -69,32 +65,23 @@ pub(crate) fn move_half(lower: &mut Vec<Row>, upper: &mut Vec<Row>)
 }
 
 /// Gives the row at a place of a leaf other fields.
-pub(crate) fn change_at(leaf: &mut Vec<Row>, at: usize, item: Item)
+pub(crate) fn change_at(leaf: &mut Vec<Entry>, at: usize, item: Item)
     requires { at < vec_len leaf.old }
     ensures rows { (r : RowValue) → slice_get leaf.old.items at ≡ Some r → leaf.new.items ≡ slice_set leaf.old.items at (changed_row r item) }
     ensures len { vec_len leaf.new ≡ vec_len leaf.old }
     ensures capacity { vec_capacity leaf.new ≡ vec_capacity leaf.old }
 {
-    change_item(&mut leaf[at].item, item);
-}
-
-/// The kind, the name and the level stay.
-fn change_item(old: &mut Item, new: Item)
-    ensures { old.new ≡ changed_item old.old new }
-{
-    old.handle = new.handle;
-    old.visible = new.visible;
-    old.color = new.color;
-    old.prefix = new.prefix;
-    old.prefix_color = new.prefix_color;
+    let row = &mut leaf[at];
+    row.change(item);
 }
 
 /// Whether the row has the key of the address.
 #[tactic(auto, unfolding(crate::specs::Rows::key_eq))]
-pub(crate) fn has_key(row: &Row, address: &Address<'_>) -> bool
+pub(crate) fn has_key(row: &Entry, address: &Address<'_>) -> bool
     ensures { result ≡ key_eq (key row.now) (key_at address.now.is_group address.now.name.now) }
 {
-    row.item.is_group == address.is_group && row.item.name.as_slice() == address.name
+    let item = row.item();
+    item.is_group == address.is_group && item.name.as_slice() == address.name
 }
 
 fn same_path(a: &[Text], b: &[Text]) -> bool
@@ -112,17 +99,14 @@ fn same_path(a: &[Text], b: &[Text]) -> bool
 }
 
 /// Whether a row stands right below a group.
-pub(crate) fn is_child(row: &Row, group: &Row) -> bool
+pub(crate) fn is_child(row: &Entry, group: &Entry) -> bool
     ensures { result ≡ path_eq row.now.path (below group.now) }
 {
-    is_below(
-        row.path.as_slice(),
-        group.path.as_slice(),
-        group.item.name.as_slice(),
-    )
+    is_below(row.path(), group.path(), group.item().name.as_slice())
 }
 
-fn is_below(path: &[Text], above: &[Text], name: &[u8]) -> bool
+/// Whether a path is that of what stands right below a group.
+pub(crate) fn is_below(path: &[Text], above: &[Text], name: &[u8]) -> bool
     ensures { result ≡ path_eq path.now (above.now ++ name.now ∷ []) }
 {
     match path.split_last() {

@@ -1,6 +1,8 @@
 //! Nicklists: groups with their nicks, which contracts see as one flat list of rows.
 #![tactic(auto)]
 
+mod digest;
+mod entry;
 #[cfg(test)]
 mod flat_tests;
 mod index;
@@ -10,6 +12,7 @@ mod leaf;
 mod name;
 mod nicklist;
 mod order;
+mod path;
 mod refused;
 mod room;
 mod row_tree;

@@ -1,13 +1,17 @@
-ghost use Rattle.std.specs.Prelude.{[], ◌≡◌, ◌≢◌, ◌≤◌, ◌<◌, Some, None, false, ◌&&◌, OnOk, OnErr, IfOk, IfErr, IsSome, length, unwrap_or, option_copied, is_some, IsOk, IsTrue, ◌↔◌, true, vec_capacity};
+ghost use Rattle.std.specs.Prelude.{[], ◌≡◌, ◌≢◌, ◌≤◌, ◌<◌, Some, None, false, ◌&&◌, OnOk, OnErr, IfOk, IfErr, IfSome, IsSome, length, unwrap_or, option_copied, is_some, IsOk, IsTrue, ◌↔◌, true, vec_capacity};
 ghost use Rattle.wc_nicklist.specs.Calls.{is_bad_name, name_refusal, add_refusal, remove_refusal, change_refusal, add_row, item_of, with_rows, has_children, row_under};
 ghost use Rattle.wc_nicklist.specs.Order.{key_at};
 ghost use Rattle.wc_nicklist.specs.Rows.{find_row, remove_row, change_row, path_below, is_root, has_child, below, TextsAreUtf8, IsRows, Nicks};
 
+use crate::digest::Digest;
+use crate::entry::{Entry, slot};
 use crate::index::Index;
 use crate::item::{Item, Key, Row};
 use crate::iter::RowIter;
+use crate::leaf::is_below;
 use crate::name::{NAME_LIMIT, Name};
 use crate::order::Address;
+use crate::path::Path;
 use crate::refused::NickRefused;
 use crate::room::Room;
 use crate::row_tree::RowTree;
@@ -29,6 +33,8 @@ pub struct Nicklist {
     rows: RowTree,
     index: Index,
     room: Option<Room>,
+    /// The path of the row that came last. One that comes below the same group shares it.
+    latest: Option<Path>,
 }
 
 impl Model for Nicklist {
@@ -54,6 +60,7 @@ impl Nicklist {
             rows: RowTree::new(alloc),
             index: Index::new(alloc),
             room: None,
+            latest: None,
         })
     }
 
@@ -85,7 +92,7 @@ impl Nicklist {
         ensures { option_copied result ≡ item_of (find_row key.now self.now.rows) }
     {
         match self.stored(key.is_group, key.name.as_slice()) {
-            Some(row) => Some(&row.item),
+            Some(row) => Some(row.item()),
             None => None,
         }
     }
@@ -101,15 +108,17 @@ impl Nicklist {
         }
     }
 
-    fn stored(&self, is_group: bool, name: &[u8]) -> Option<&Row>
+    fn stored(&self, is_group: bool, name: &[u8]) -> Option<&Entry>
         ensures row { option_copied result ≡ find_row (key_at is_group name.now) self.now.rows }
         ensures held { IsRows self.now.rows }
     {
-        let path = self.index.find(is_group, name)?;
+        let path = self.index.find(is_group, name)?.as_slice();
+        let digest = Digest::of(path, is_group, name);
         self.rows.get(&Address {
-            path: path.as_slice(),
+            path,
             is_group,
             name,
+            digest,
         })
     }
 
@@ -235,25 +244,67 @@ impl Nicklist {
         }
     }
 
-    fn room_below(&self, alloc: Global, parent: &Text) -> Result<Room, NoMemory>
-        requires { IsSome (path_below parent.now self.now.rows) }
-        ensures path { IfOk result (λ r. path_below r.parent self.now.rows ≡ Some r.path) }
+    fn room_below(&mut self, alloc: Global, parent: &Text) -> Result<Room, NoMemory>
+        requires { IsSome (path_below parent.now self.old.rows) }
+        ensures path { IfOk result (λ r. path_below r.parent self.old.rows ≡ Some r.path) }
         ensures parent { IfOk result (λ r. r.parent ≡ parent.now) }
         ensures parts { IfOk result IsRoom }
+        ensures same { self.new ≡ self.old }
     {
         let path = self.below(alloc, parent.as_slice())?;
-        let index_path = path.copy(alloc)?;
+        let index_path = path.share()?;
         let name = Vec::with_capacity(alloc, NAME_LIMIT)?;
+        let slot = slot(alloc, path.share()?)?;
         let parent = parent.copy(alloc)?;
         Ok(Room {
             parent,
             path,
             index_path,
             name,
+            slot,
         })
     }
 
-    fn below(&self, alloc: Global, parent: &[u8]) -> Result<Items<Text>, NoMemory>
+    /// The path of what stands right below a parent, which rows of it share.
+    fn below(&mut self, alloc: Global, parent: &[u8]) -> Result<Path, NoMemory>
+        requires { IsSome (path_below parent.now self.old.rows) }
+        ensures path { IfOk result (λ path. path_below parent.now self.old.rows ≡ Some path) }
+        ensures same { self.new ≡ self.old }
+    {
+        if let Some(path) = self.latest_below(parent) {
+            return path.share();
+        }
+        let names = self.names_below(alloc, parent)?;
+        let path = Path::new(alloc, names)?;
+        self.latest = Some(path.share()?);
+        Ok(path)
+    }
+
+    /// The path of the row that came last, where it is that of what stands right below a parent.
+    fn latest_below(&self, parent: &[u8]) -> Option<&Path>
+        requires { IsSome (path_below parent.now self.now.rows) }
+        ensures { IfSome result (λ path. path_below parent.now self.now.rows ≡ Some path.now) }
+    {
+        let latest = self.latest.as_ref()?;
+        if self.leads_below(latest.as_slice(), parent) {
+            Some(latest)
+        } else {
+            None
+        }
+    }
+
+    /// Whether a path is that of what stands right below a parent.
+    fn leads_below(&self, path: &[Text], parent: &[u8]) -> bool
+        requires { IsSome (path_below parent.now self.now.rows) }
+        ensures { IsTrue result → path_below parent.now self.now.rows ≡ Some path.now }
+    {
+        match self.index.find(true, parent) {
+            Some(above) => is_below(path, above.as_slice(), parent),
+            None => path.is_empty(),
+        }
+    }
+
+    fn names_below(&self, alloc: Global, parent: &[u8]) -> Result<Items<Text>, NoMemory>
         requires { IsSome (path_below parent.now self.now.rows) }
         ensures { IfOk result (λ path. path_below parent.now self.now.rows ≡ Some path) }
     {
@@ -282,10 +333,12 @@ impl Nicklist {
             path,
             index_path,
             name,
+            slot,
         } = room;
         let name = filled(name, item.name.as_slice());
         self.index.insert(is_group, name, index_path);
-        self.rows.insert(new_row(is_group, path, item));
+        let item = placed(is_group, path.as_slice(), item);
+        self.rows.insert(Entry::new(slot, path, item));
     }
 
     /// Takes a group out that has no nicks and no groups. A refusal changes nothing: `IsRoot`,
@@ -335,7 +388,7 @@ impl Nicklist {
     }
 
     /// Whether it is a group, and a row stands right below it.
-    fn is_filled(&self, is_group: bool, row: &Row) -> bool
+    fn is_filled(&self, is_group: bool, row: &Entry) -> bool
         requires { find_row (key_at is_group row.now.item.name) self.now.rows ≡ Some row.now }
         ensures { result ≡ (is_group && has_child (below row.now) self.now.rows) }
     {
@@ -352,14 +405,17 @@ impl Nicklist {
         let Some(path) = self.index.find(is_group, name) else {
             unreachable!()
         };
+        let path = path.as_slice();
+        let digest = Digest::of(path, is_group, name);
         let row = self.rows.remove(&Address {
-            path: path.as_slice(),
+            path,
             is_group,
             name,
+            digest,
         });
         self.index.remove(is_group, name);
         self.room = None;
-        row.item
+        row.into_item()
     }
 
     /// Gives the group of the item's name its other fields, but for the level. A refusal changes
@@ -474,21 +530,14 @@ fn filled(mut spare: Vec<u8>, name: &[u8]) -> Vec<u8>
     spare
 }
 
-/// The row of an item below this path, with the kind and the level that it then has.
-fn new_row(is_group: bool, path: Items<Text>, item: Item) -> Row
-    ensures { result ≡ row_under is_group path item }
+/// An item below this path, with the kind and the level that it then has.
+fn placed(is_group: bool, path: &[Text], item: Item) -> Item
+    ensures { (row_under is_group path.now item).item ≡ result }
 {
-    let level = if is_group {
-        path.as_slice().len() as u64 + 1
-    } else {
-        0
-    };
-    Row {
-        path,
-        item: Item {
-            is_group,
-            level,
-            ..item
-        },
+    let level = if is_group { path.len() as u64 + 1 } else { 0 };
+    Item {
+        is_group,
+        level,
+        ..item
     }
 }

@@ -1,7 +1,10 @@
 ghost use Rattle.std.specs.Prelude.{◌≡◌, ◌≤◌, ◌<◌, length, drop, min};
+ghost use Rattle.wc_text.specs.Order.{fold_order};
 ghost use Rattle.wc_nicklist.specs.Order.{key_at, key_cmp, address_cmp, address_of, is_before};
+ghost use Rattle.wc_nicklist.specs.Digest.{IsDigest};
 
-use crate::item::Row;
+use crate::digest::{Digest, NO_PLACE};
+use crate::entry::Entry;
 use std::cmp::Ordering;
 use wc_text::{Text, fold_cmp};
 
@@ -11,18 +14,22 @@ pub(crate) struct Address<'a> {
     pub(crate) path: &'a [Text],
     pub(crate) is_group: bool,
     pub(crate) name: &'a [u8],
+    pub(crate) digest: Digest,
+    ghost exact: { IsDigest digest path.now is_group name.now },
 }
 
 /// Whether a row stands before an address in canonical order.
-pub(crate) fn stands_before(row: &Row, address: &Address<'_>) -> bool
+pub(crate) fn stands_before(row: &Entry, address: &Address<'_>) -> bool
     ensures { result ≡ is_before row.now (address_of address.now.path.now (key_at address.now.is_group address.now.name.now)) }
 {
-    let own = Address {
-        path: row.path.as_slice(),
-        is_group: row.item.is_group,
-        name: row.item.name.as_slice(),
-    };
-    compare(&own, address) == Ordering::Less
+    let digest = row.digest();
+    if digest.place != address.digest.place || digest.place == NO_PLACE {
+        return compare(&row.address(), address).is_lt();
+    }
+    if digest.name != address.digest.name {
+        return digest.name < address.digest.name;
+    }
+    name_cmp(row.item().name.as_slice(), address.name).is_lt()
 }
 
 /// The canonical order: name by name along the paths, and a nick before a group.
@@ -31,7 +38,7 @@ fn compare(a: &Address<'_>, b: &Address<'_>) -> Ordering
 {
     let shared = a.path.len().min(b.path.len());
     for i in 0..shared {
-        let of_groups = fold_cmp(a.path[i].as_slice(), b.path[i].as_slice());
+        let of_groups = name_cmp(a.path[i].as_slice(), b.path[i].as_slice());
         if of_groups != Ordering::Equal {
             return of_groups;
         }
@@ -60,10 +67,21 @@ fn compare_keys(a_is_group: bool, a: &[u8], b_is_group: bool, b: &[u8]) -> Order
     ensures { result ≡ key_cmp (key_at a_is_group a.now) (key_at b_is_group b.now) }
 {
     if a_is_group == b_is_group {
-        fold_cmp(a, b)
+        name_cmp(a, b)
     } else if a_is_group {
         Ordering::Greater
     } else {
         Ordering::Less
+    }
+}
+
+/// The order of two names, which mostly are the same where they are compared.
+fn name_cmp(a: &[u8], b: &[u8]) -> Ordering
+    ensures { result ≡ fold_order a.now b.now }
+{
+    if a == b {
+        Ordering::Equal
+    } else {
+        fold_cmp(a, b)
     }
 }

@@ -1,10 +1,13 @@
-use wc_text::{Items, Text};
+use crate::entry::Slot;
+use crate::path::Path;
+use wc_text::Text;
 
 /// The memory of a row that is still to come under a parent.
 #[derive(Drop)]
 pub(crate) struct Room {
     pub(crate) parent: Text,
-    pub(crate) path: Items<Text>,
-    pub(crate) index_path: Items<Text>,
+    pub(crate) path: Path,
+    pub(crate) index_path: Path,
     pub(crate) name: Vec<u8>,
+    pub(crate) slot: Slot,
 }

@@ -4,7 +4,9 @@ ghost use Rattle.wc_nicklist.specs.Rows.{find_row, insert_row, remove_row, chang
 ghost use Rattle.wc_nicklist.specs.Stored.{IsPlace, AllBefore, begins_below};
 ghost use Rattle.wc_nicklist.specs.Tree.{rows_in, AreLeaves, IsLeaf, IsLeafPlace, IsRoomyPlace, IsFullAt, AreNearlyLeaves, AreFewAt, StandsIn};
 
-use crate::item::{Item, Row};
+use crate::digest::Digest;
+use crate::entry::Entry;
+use crate::item::Item;
 use crate::iter::RowIter;
 use crate::leaf::{HALF, LEAF_ROWS, change_at, has_key, move_half, place, put};
 use crate::order::{Address, stands_before};
@@ -16,9 +18,9 @@ use wc_text::{NoMemory, Text};
 /// Rows in canonical order, as a tree of two levels: leaves of at most 64 rows each, one after the other.
 #[derive(Drop)]
 pub(crate) struct RowTree {
-    leaves: Vec<Vec<Row>>,
+    leaves: Vec<Vec<Entry>>,
     /// The memory of a leaf that is still to come.
-    spare: Vec<Row>,
+    spare: Vec<Entry>,
     count: usize,
     alloc: Global,
 }
@@ -76,7 +78,7 @@ impl RowTree {
     }
 
     /// Puts a row at its place. It takes no memory.
-    pub(crate) fn insert(&mut self, row: Row)
+    pub(crate) fn insert(&mut self, row: Entry)
         requires room { IsTrue self.old.has_room }
         requires held { IsRows self.old.rows }
         requires absent { find_row (key row) self.old.rows ≡ None }
@@ -87,7 +89,7 @@ impl RowTree {
     }
 
     /// The row of a key whose path is known.
-    pub(crate) fn get(&self, address: &Address<'_>) -> Option<&Row>
+    pub(crate) fn get(&self, address: &Address<'_>) -> Option<&Entry>
         requires held { IsRows self.now.rows }
         requires known { IfSome (find_row (key_at address.now.is_group address.now.name.now) self.now.rows) (λ r. r.path ≡ address.now.path.now) }
         ensures { option_copied result ≡ find_row (key_at address.now.is_group address.now.name.now) self.now.rows }
@@ -96,7 +98,7 @@ impl RowTree {
     }
 
     /// Takes the row of a key out, whose path is known.
-    pub(crate) fn remove(&mut self, address: &Address<'_>) -> Row
+    pub(crate) fn remove(&mut self, address: &Address<'_>) -> Entry
         requires held { IsRows self.old.rows }
         requires known { IsSomeAnd (find_row (key_at address.now.is_group address.now.name.now) self.old.rows) (λ r. r.path ≡ address.now.path.now) }
         ensures row { find_row (key_at address.now.is_group address.now.name.now) self.old.rows ≡ Some result }
@@ -117,7 +119,7 @@ impl RowTree {
     }
 
     /// Whether a row stands right below a group of these rows.
-    pub(crate) fn has_child_of(&self, group: &Row) -> bool
+    pub(crate) fn has_child_of(&self, group: &Entry) -> bool
         requires held { IsRows self.now.rows }
         requires stands { find_row (key_at true group.now.item.name) self.now.rows ≡ Some group.now }
         ensures { result ≡ has_child (below group.now) self.now.rows }
@@ -128,16 +130,20 @@ impl RowTree {
 
 /// Whether a row stands right below a group. Its children stand right behind it, so that the next
 /// row tells.
-fn has_child(leaves: &[Vec<Row>], group: &Row) -> bool
+fn has_child(leaves: &[Vec<Entry>], group: &Entry) -> bool
     requires held { IsRows (rows_in leaves.now) }
     requires leaves { AreLeaves leaves.now }
     requires stands { find_row (key_at true group.now.item.name) (rows_in leaves.now) ≡ Some group.now }
     ensures { result ≡ has_child (below group.now) (rows_in leaves.now) }
 {
+    let path = group.path();
+    let name = group.item().name.as_slice();
+    let digest = Digest::of(path, true, name);
     let address = Address {
-        path: group.path.as_slice(),
+        path,
         is_group: true,
-        name: group.item.name.as_slice(),
+        name,
+        digest,
     };
     let Some((at, n)) = find(leaves, &address) else {
         unreachable!()
@@ -146,7 +152,7 @@ fn has_child(leaves: &[Vec<Row>], group: &Row) -> bool
 }
 
 /// The rows behind one of a leaf.
-fn rows_behind(leaves: &[Vec<Row>], at: usize, n: usize) -> RowIter<'_>
+fn rows_behind(leaves: &[Vec<Entry>], at: usize, n: usize) -> RowIter<'_>
     requires outer { at < length leaves.now }
     requires inner { IfSome (slice_get leaves.now at) (λ l. n < vec_len l) }
     ensures { IfSome (slice_get leaves.now at) (λ l. result ≡ drop (suc n) l.items ++ rows_in (drop (suc at) leaves.now)) }
@@ -154,7 +160,7 @@ fn rows_behind(leaves: &[Vec<Row>], at: usize, n: usize) -> RowIter<'_>
     RowIter::from_leaf(&leaves[at][n + 1..], &leaves[at + 1..])
 }
 
-fn begins_with_child(mut rows: RowIter<'_>, group: &Row) -> bool
+fn begins_with_child(mut rows: RowIter<'_>, group: &Entry) -> bool
     ensures { result ≡ begins_below (below group.now) rows.entry }
 {
     match rows.next() {
@@ -164,7 +170,7 @@ fn begins_with_child(mut rows: RowIter<'_>, group: &Row) -> bool
 }
 
 /// The leaf into which an address belongs.
-fn leaf_of(leaves: &[Vec<Row>], address: &Address<'_>) -> usize
+fn leaf_of(leaves: &[Vec<Entry>], address: &Address<'_>) -> usize
     requires some { 0 < length leaves.now }
     requires leaves { AreLeaves leaves.now }
     requires order { Ascending (rows_in leaves.now) }
@@ -184,7 +190,7 @@ fn leaf_of(leaves: &[Vec<Row>], address: &Address<'_>) -> usize
 }
 
 /// Whether the rows of a leaf, so the last one, stand before an address.
-fn ends_before(leaf: &[Row], address: &Address<'_>) -> bool
+fn ends_before(leaf: &[Entry], address: &Address<'_>) -> bool
     requires filled { 0 < length leaf.now }
     requires order { Ascending leaf.now }
     ensures all { IsTrue result → AllBefore leaf.now (address_of address.now.path.now (key_at address.now.is_group address.now.name.now)) }
@@ -197,7 +203,7 @@ fn ends_before(leaf: &[Row], address: &Address<'_>) -> bool
 }
 
 /// The leaf and the place in it of the row of a key whose path is known.
-fn find(leaves: &[Vec<Row>], address: &Address<'_>) -> Option<(usize, usize)>
+fn find(leaves: &[Vec<Entry>], address: &Address<'_>) -> Option<(usize, usize)>
     requires held { IsRows (rows_in leaves.now) }
     requires leaves { AreLeaves leaves.now }
     requires known { IfSome (find_row (key_at address.now.is_group address.now.name.now) (rows_in leaves.now)) (λ r. r.path ≡ address.now.path.now) }
@@ -215,7 +221,7 @@ fn find(leaves: &[Vec<Row>], address: &Address<'_>) -> Option<(usize, usize)>
     }
 }
 
-fn get<'a>(leaves: &'a [Vec<Row>], address: &Address<'_>) -> Option<&'a Row>
+fn get<'a>(leaves: &'a [Vec<Entry>], address: &Address<'_>) -> Option<&'a Entry>
     requires held { IsRows (rows_in leaves.now) }
     requires leaves { AreLeaves leaves.now }
     requires known { IfSome (find_row (key_at address.now.is_group address.now.name.now) (rows_in leaves.now)) (λ r. r.path ≡ address.now.path.now) }
@@ -227,17 +233,20 @@ fn get<'a>(leaves: &'a [Vec<Row>], address: &Address<'_>) -> Option<&'a Row>
     }
 }
 
-fn change(leaves: &mut Vec<Vec<Row>>, path: &[Text], is_group: bool, item: Item)
+fn change(leaves: &mut Vec<Vec<Entry>>, path: &[Text], is_group: bool, item: Item)
     requires held { IsRows (rows_in leaves.old.items) }
     requires leaves { AreLeaves leaves.old.items }
     requires known { IsSomeAnd (find_row (key_at is_group item.name) (rows_in leaves.old.items)) (λ r. r.path ≡ path.now) }
     ensures rows { rows_in leaves.new.items ≡ change_row (key_at is_group item.name) item (rows_in leaves.old.items) }
     ensures leaves { AreLeaves leaves.new.items }
 {
+    let name = item.name.as_slice();
+    let digest = Digest::of(path, is_group, name);
     let address = Address {
         path,
         is_group,
-        name: item.name.as_slice(),
+        name,
+        digest,
     };
     let Some((at, n)) = find(leaves.as_slice(), &address) else {
         unreachable!()
@@ -245,7 +254,7 @@ fn change(leaves: &mut Vec<Vec<Row>>, path: &[Text], is_group: bool, item: Item)
     change_at(&mut leaves[at], n, item);
 }
 
-fn remove(leaves: &mut Vec<Vec<Row>>, address: &Address<'_>) -> Row
+fn remove(leaves: &mut Vec<Vec<Entry>>, address: &Address<'_>) -> Entry
     requires held { IsRows (rows_in leaves.old.items) }
     requires leaves { AreLeaves leaves.old.items }
     requires known { IsSomeAnd (find_row (key_at address.now.is_group address.now.name.now) (rows_in leaves.old.items)) (λ r. r.path ≡ address.now.path.now) }
@@ -263,7 +272,7 @@ fn remove(leaves: &mut Vec<Vec<Row>>, address: &Address<'_>) -> Row
 }
 
 /// Drops a leaf that has lost its last row.
-fn drop_empty(leaves: &mut Vec<Vec<Row>>, at: usize)
+fn drop_empty(leaves: &mut Vec<Vec<Entry>>, at: usize)
     requires within { at < vec_len leaves.old }
     requires nearly { AreNearlyLeaves leaves.old.items at }
     ensures rows { rows_in leaves.new.items ≡ rows_in leaves.old.items }
@@ -276,7 +285,7 @@ fn drop_empty(leaves: &mut Vec<Vec<Row>>, at: usize)
 
 /// Joins a leaf with its neighbours where they have few rows, so that rows which go leave no run of
 /// nearly empty leaves.
-fn join_around(leaves: &mut Vec<Vec<Row>>, at: usize)
+fn join_around(leaves: &mut Vec<Vec<Entry>>, at: usize)
     requires leaves { AreLeaves leaves.old.items }
     ensures rows { rows_in leaves.new.items ≡ rows_in leaves.old.items }
     ensures leaves { AreLeaves leaves.new.items }
@@ -288,7 +297,7 @@ fn join_around(leaves: &mut Vec<Vec<Row>>, at: usize)
 }
 
 /// Joins a leaf with the next one where they have few rows together.
-fn join(leaves: &mut Vec<Vec<Row>>, at: usize)
+fn join(leaves: &mut Vec<Vec<Entry>>, at: usize)
     requires leaves { AreLeaves leaves.old.items }
     ensures rows { rows_in leaves.new.items ≡ rows_in leaves.old.items }
     ensures leaves { AreLeaves leaves.new.items }
@@ -304,7 +313,7 @@ fn join(leaves: &mut Vec<Vec<Row>>, at: usize)
 
 /// Whether a leaf and the next one have few rows together. A full leaf is split into two that have
 /// twice as many, so that they are not joined again at once.
-fn are_few(leaves: &[Vec<Row>], at: usize) -> bool
+fn are_few(leaves: &[Vec<Entry>], at: usize) -> bool
     ensures { IsTrue result → AreFewAt leaves.now at }
 {
     let Some(leaf) = leaves.get(at) else {
@@ -316,7 +325,7 @@ fn are_few(leaves: &[Vec<Row>], at: usize) -> bool
     }
 }
 
-fn insert(leaves: &mut Vec<Vec<Row>>, spare: &mut Vec<Row>, alloc: Global, row: Row)
+fn insert(leaves: &mut Vec<Vec<Entry>>, spare: &mut Vec<Entry>, alloc: Global, row: Entry)
     requires room { vec_len leaves.old < vec_capacity leaves.old }
     requires spare_empty { spare.old.items ≡ [] }
     requires roomy { 64 ≤ vec_capacity spare.old }
@@ -333,19 +342,14 @@ fn insert(leaves: &mut Vec<Vec<Row>>, spare: &mut Vec<Row>, alloc: Global, row: 
         leaves.push_reserved(leaf);
         return;
     }
-    let address = Address {
-        path: row.path.as_slice(),
-        is_group: row.item.is_group,
-        name: row.item.name.as_slice(),
-    };
-    let at = roomy_leaf(leaves, spare, alloc, &address);
+    let at = roomy_leaf(leaves, spare, alloc, &row.address());
     put(&mut leaves[at], row);
 }
 
 /// A leaf with room into which an address belongs; a full one is split.
 fn roomy_leaf(
-    leaves: &mut Vec<Vec<Row>>,
-    spare: &mut Vec<Row>,
+    leaves: &mut Vec<Vec<Entry>>,
+    spare: &mut Vec<Entry>,
     alloc: Global,
     address: &Address<'_>,
 ) -> usize
@@ -369,7 +373,12 @@ fn roomy_leaf(
 }
 
 /// Splits a full leaf, and answers the half into which an address belongs.
-fn split(leaves: &mut Vec<Vec<Row>>, at: usize, mut upper: Vec<Row>, address: &Address<'_>) -> usize
+fn split(
+    leaves: &mut Vec<Vec<Entry>>,
+    at: usize,
+    mut upper: Vec<Entry>,
+    address: &Address<'_>,
+) -> usize
     requires place { IsLeafPlace leaves.old.items (address_of address.now.path.now (key_at address.now.is_group address.now.name.now)) at }
     requires full { IsFullAt leaves.old.items at }
     requires room { vec_len leaves.old < vec_capacity leaves.old }

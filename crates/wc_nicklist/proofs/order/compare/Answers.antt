@@ -20,8 +20,8 @@ returns-then-ne c =
     let rest = address_cmp (address_of (drop (n + 1) p) j) (address_of (drop (n + 1) q) k) in
     let ex : c.as_slice.result.now ≡ x = c.as_slice.ensures ∙ sym c.index-a-i.is in
     let ey : c.as_slice-in-loop-i.result.now ≡ y = c.as_slice-in-loop-i.ensures ∙ sym c.index-b-i.is in
-    decided c.fold_cmp-of_groups.result rest c.if-ne.ensures
-    ∙ ap (λ o. ordering_then o rest) (c.fold_cmp-of_groups.ensures ∙ (λ i. fold_order (ex i) (ey i)))
+    decided c.name_cmp-of_groups.result rest c.if-ne.ensures
+    ∙ ap (λ o. ordering_then o rest) (c.name_cmp-of_groups.ensures ∙ (λ i. fold_order (ex i) (ey i)))
     ∙ sym (both_go_on p q j k n x y h l c.index-a-i.is c.index-b-i.is)
     ∙ sym c.loop-i.invariant
 
@@ -42,5 +42,5 @@ loop-i-preserved c =
     let ey : c.as_slice-in-loop-i.result.now ≡ y = c.as_slice-in-loop-i.ensures ∙ sym c.index-b-i.is in
     c.loop-i.invariant
     ∙ both_go_on p q j k n x y h l c.index-a-i.is c.index-b-i.is
-    ∙ ap (λ o. ordering_then o rest) (sym (c.fold_cmp-of_groups.ensures ∙ (λ i. fold_order (ex i) (ey i))))
-    ∙ tied c.fold_cmp-of_groups.result rest c.if-ne.ensures
+    ∙ ap (λ o. ordering_then o rest) (sym (c.name_cmp-of_groups.ensures ∙ (λ i. fold_order (ex i) (ey i))))
+    ∙ tied c.name_cmp-of_groups.result rest c.if-ne.ensures

@@ -6,5 +6,5 @@ use Rattle.wc_nicklist.proofs.iter.RowView.parent.Goals as goal
 -- the last name of the path
 pub returns-in-Some : goal.returns-in-Some
 returns-in-Some c =
-    c.as_slice-in-Some.ensures ∙ sym (last_or-last root_name c.as_slice.result.now c.in-Some.name.now (sym c.in-Some.ensures.value)) ∙ ap (last_or root_name) c.as_slice.ensures
+    c.as_slice.ensures ∙ sym (last_or-last root_name c.path.result.now c.in-Some.name.now (sym c.in-Some.ensures.value)) ∙ ap (last_or root_name) c.path.ensures
     ∙ ap (λ r. last_or root_name r.path) c.self.view_is

@@ -4,7 +4,7 @@ use Rattle.wc_nicklist.specs.Kept.{path_of}
 use Rattle.wc_nicklist.specs.Order.{group_key}
 use Rattle.wc_nicklist.specs.Rows.{find_row, path_below}
 use Rattle.wc_nicklist.proofs.Keeps.{below_root, below_group}
-use Rattle.wc_nicklist.proofs.nicklist.Nicklist.below.Goals as goal
+use Rattle.wc_nicklist.proofs.nicklist.Nicklist.names_below.Goals as goal
 
 pub returns-in_default : goal.returns-in_default
 returns-in_default c =
