@@ -1,0 +1,15 @@
+use wc_text::{Handle, Text};
+
+/// What is kept of a buffer beside its variables.
+#[derive(Drop)]
+pub struct BufferRow {
+    pub handle: Handle,
+    /// The handle of its own lines.
+    pub own_lines: Handle,
+    /// The handle of the lines of its group.
+    pub mixed_lines: Handle,
+    pub full_name: Text,
+    pub short_name: Text,
+    pub title: Text,
+    pub hidden: bool,
+}
