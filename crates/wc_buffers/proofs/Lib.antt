@@ -1,0 +1,4 @@
+pub mod GroupLaws
+pub mod TableLemmas
+pub mod VarLemmas
+pub mod Shown

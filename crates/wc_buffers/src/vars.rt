@@ -1,4 +1,4 @@
-ghost use Rattle.std.specs.Prelude.{◌≡◌, ◌<◌, ◌≤◌, ◌+◌, ◌==◌, length, IfOk, OnOk, OnErr, is_none, All};
+ghost use Rattle.std.specs.Prelude.{◌≡◌, ◌<◌, ◌≤◌, ◌+◌, ◌==◌, length, IfOk, OnOk, OnErr, is_none, position, All};
 ghost use Rattle.std.specs.List.{before_first, after_first};
 ghost use Rattle.std.specs.Option.{option_copied};
 ghost use Rattle.std.specs.Iterator.{YieldsFirstBy, item_count};
@@ -38,6 +38,7 @@ impl Model for Vars {
 
 impl Vars {
     /// The variables of a new buffer.
+    #[tactic(auto, unfolding(crate::specs::Vars::vars_of))]
     pub(crate) fn of(alloc: Global, full_name: &[u8], vars: &[Pair]) -> Result<Vars, NoMemory>
         requires { All IsText vars.now }
         ensures { IfOk result (λ kept. kept ≡ vars_of full_name.now vars.now) }
@@ -164,6 +165,7 @@ fn put(vars: &mut IndexMap<Vec<u8>, Pair>, entry: Entry) -> bool
 }
 
 /// The front of a value that is kept.
+#[tactic(auto, using(wc_text::proofs::CutLemmas::cut_inside))]
 pub(crate) fn cut_value(value: &[u8]) -> &[u8]
     requires { IsUtf8 value.now }
     ensures { result.now ≡ cut_to 1024 value.now }
@@ -171,13 +173,23 @@ pub(crate) fn cut_value(value: &[u8]) -> &[u8]
     value.split_at(cut(value, VALUE_LIMIT)).0
 }
 
+/// The place of the first dot.
+fn dot_place(text: &[u8]) -> Option<usize>
+    ensures { result ≡ position (λ b. b == 46) text.now }
+{
+    text.iter().position(|byte| *byte == b'.')
+}
+
 /// The part of a full name before its first dot, and the part behind it, which is empty without one.
 fn part_at_dot(full_name: &[u8]) -> (&[u8], &[u8])
     ensures before { result.0.now ≡ before_first (λ b. b == 46) full_name.now }
     ensures behind { result.1.now ≡ after_first (λ b. b == 46) full_name.now }
 {
-    match full_name.iter().position(|byte| *byte == b'.') {
-        Some(place) => (full_name.split_at(place).0, full_name.split_at(place + 1).1),
+    match dot_place(full_name) {
+        Some(place) => (
+            full_name.split_at(place).0,
+            full_name.split_at(place + 1).1,
+        ),
         None => (full_name, &[]),
     }
 }
