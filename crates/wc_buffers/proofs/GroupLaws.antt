@@ -26,7 +26,7 @@ filter-map f p q same (x ∷ xs) = rw (same x) (elim (q x) as (λ b. map f (cond
   | false ↦ filter-map f p q same xs
 ])
 
-list_any-map : {A B : Type 0} (f : A → B) (p : B → Bool) (q : A → Bool) → ((x : A) → p (f x) ≡ q x) → (xs : List A) → list_any p (map f xs) ≡ list_any q xs
+pub list_any-map : {A B : Type 0} (f : A → B) (p : B → Bool) (q : A → Bool) → ((x : A) → p (f x) ≡ q x) → (xs : List A) → list_any p (map f xs) ≡ list_any q xs
 list_any-map f p q same [] = refl
 list_any-map f p q same (x ∷ xs) = rw (same x, list_any-map f p q same xs) refl
 

@@ -9,11 +9,11 @@ use Rattle.std.specs.declared.alloc.Global.{Global}
 use Rattle.std.specs.declared.vec.Vec.{Vec}
 use Rattle.wc_text.specs.declared.names.Handle.{Handle}
 use Rattle.wc_buffers.specs.declared.entry.BufferEntry.{BufferEntry}
-use Rattle.wc_buffers.specs.Calls.{handle_of, entry_of, number, is_there, named, is_named, other_named}
+use Rattle.wc_buffers.specs.Calls.{handle_of, entry_of, number, is_there, are_together, is_alone}
 use Rattle.wc_buffers.specs.Groups.{rows, in_group, has, place, row_of, take_out, merge, move_group, unmerge, update, times}
 use Rattle.wc_buffers.specs.Kept.{at_handle, at_name, blank, entry_at, shown, IsKept, handles, IsChangedAt}
 use Rattle.wc_buffers.specs.Table.{key, AreGroups}
-use Rattle.wc_buffers.proofs.GroupLaws.{by_bool, in_group-map, has-map, place-map, row_of-map, rows-map}
+use Rattle.wc_buffers.proofs.GroupLaws.{by_bool, list_any-map, in_group-map, has-map, place-map, row_of-map, rows-map}
 
 -- the entry of a handle has that handle
 pub key_at : {S : Type 0} (entries : HashMap ℕ BufferEntry S) → ((h : ℕ) (e : BufferEntry) → at_handle entries h ≡ Some e → e.row.handle.0 ≡ h) → (h : Handle) → handle_of (entry_at entries h) ≡ key h
@@ -36,7 +36,7 @@ no_handle : (h : ℕ) (hs : List Handle) → in_group key h hs ≡ false → fin
 no_handle h [] e = refl
 no_handle h (x ∷ xs) e = let o = or_parts (eqb x.0 h) (in_group key h xs) e in rw o.0 (no_handle h xs o.1)
 
-in_rows : (h : ℕ) (gs : List (List Handle)) → in_group key h (rows gs) ≡ has key h gs
+pub in_rows : (h : ℕ) (gs : List (List Handle)) → in_group key h (rows gs) ≡ has key h gs
 in_rows h [] = refl
 in_rows h (g ∷ gs) = list_any-append (λ x. eqb (key x) h) g (rows gs) ∙ ap (λ b. in_group key h g || b) (in_rows h gs)
 
@@ -83,3 +83,15 @@ module _ {S T : Type 0} (gs : List (List Handle)) (entries : HashMap ℕ BufferE
       each : (hs : List (List Handle)) → hs ≡ handles (shown entries hs)
       each [] = refl
       each (g ∷ hs) = λ i. one g i ∷ each hs i
+
+  pub together-shown : (h into : Handle) → list_any (λ g. in_group key h.0 g && in_group key into.0 g) gs ≡ are_together h into (shown entries gs)
+  together-shown h into = sym (list_any-map (map (entry_at entries)) (λ g. in_group handle_of h.0 g && in_group handle_of into.0 g) (λ g. in_group key h.0 g && in_group key into.0 g) both gs)
+    where
+      both : (g : List Handle) → (in_group handle_of h.0 (map (entry_at entries) g) && in_group handle_of into.0 (map (entry_at entries) g)) ≡ (in_group key h.0 g && in_group key into.0 g)
+      both g = rw (in_group-map (entry_at entries) key handle_of same h.0 g, in_group-map (entry_at entries) key handle_of same into.0 g) refl
+
+  pub alone-shown : (h : Handle) → list_any (λ g. in_group key h.0 g && eqb (length g) 1) gs ≡ is_alone h (shown entries gs)
+  alone-shown h = sym (list_any-map (map (entry_at entries)) (λ g. in_group handle_of h.0 g && eqb (length g) 1) (λ g. in_group key h.0 g && eqb (length g) 1) both gs)
+    where
+      both : (g : List Handle) → (in_group handle_of h.0 (map (entry_at entries) g) && eqb (length (map (entry_at entries) g)) 1) ≡ (in_group key h.0 g && eqb (length g) 1)
+      both g = rw (in_group-map (entry_at entries) key handle_of same h.0 g, length-map g (entry_at entries)) refl

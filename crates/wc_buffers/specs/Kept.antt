@@ -11,7 +11,7 @@ use Rattle.wc_buffers.specs.declared.entry.BufferEntry.{BufferEntry}
 use Rattle.wc_buffers.specs.Calls.{handle_of, entry_of, named}
 use Rattle.wc_buffers.specs.Groups.{rows, has, times, AllFilled}
 use Rattle.wc_buffers.specs.Table.{key}
-use Rattle.wc_buffers.specs.Vars.{set_fixed}
+use Rattle.wc_buffers.specs.Vars.{plugin_var, name_var}
 
 -- the texts of a variable are text
 pub record IsVar (v : Pair) : Type 0 where
@@ -36,7 +36,7 @@ pub record IsBuffer (e : BufferEntry) : Type 0 where
   pub vars : AreVars e.vars
   pub few : length e.vars ≤ 64
   -- the variables `plugin` and `name` stand first
-  pub first : take 2 e.vars ≡ set_fixed e.row.full_name []
+  pub first : take 2 e.vars ≡ plugin_var e.row.full_name ∷ name_var e.row.full_name ∷ []
 
 -- what stands under a handle, and under the bytes of a name
 abbrev pub at_handle : {X S : Type 0} → HashMap ℕ X S → ℕ → Option X

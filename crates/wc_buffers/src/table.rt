@@ -72,7 +72,8 @@ impl GroupTable {
     }
 
     pub(crate) fn iter(&self) -> GroupIter<'_>
-        ensures { result ≡ self.now }
+        ensures all { result ≡ self.now }
+        ensures groups { AreGroups self.now }
     {
         GroupIter::new(self.groups.as_slice())
     }

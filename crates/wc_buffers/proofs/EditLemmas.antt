@@ -1,0 +1,30 @@
+-- Edits of the buffers, at a buffer that is there.
+use Rattle.std.proofs.Common.{◌≡◌, ℕ, Bool, true, false, List, Option, Some, is_some, length, map, refl, ap, sym, subst, ◌∙◌}
+use Rattle.std.specs.HashMap.{HashMap}
+use Rattle.std.specs.declared.alloc.Global.{Global}
+use Rattle.std.specs.declared.vec.Vec.{Vec}
+use Rattle.wc_text.specs.declared.names.Handle.{Handle}
+use Rattle.wc_buffers.specs.declared.entry.BufferEntry.{BufferEntry}
+use Rattle.wc_buffers.specs.Calls.{handle_of, is_there, changed}
+use Rattle.wc_buffers.specs.Groups.{has, take_out, merge, move_group, unmerge, times}
+use Rattle.wc_buffers.specs.Kept.{at_handle, at_name, entry_at, shown, IsKept, IsBuffer, IsChangedAt}
+use Rattle.wc_buffers.specs.Table.{key, AreGroups}
+use Rattle.wc_buffers.proofs.GroupLaws.{has_from_times, times-move_group, times-unmerge, times-take_out, times-append_to}
+use Rattle.wc_buffers.proofs.Keeps.{kept_changed, shown_changed}
+use Rattle.wc_buffers.proofs.Shown.{there-shown, has-shown}
+
+pub is_stored : {S T : Type 0} (gs : List (List Handle)) (es : HashMap ℕ BufferEntry S) (ns : HashMap (Vec ℕ Global) Handle T) → IsKept gs es ns → (h : Handle) → is_there h (shown es gs) ≡ true → is_some (at_handle es h.0) ≡ true
+is_stored gs es ns kept h there = there-shown gs es ns kept h.0 ∙ there
+
+pub is_grouped : {S T : Type 0} (gs : List (List Handle)) (es : HashMap ℕ BufferEntry S) (ns : HashMap (Vec ℕ Global) Handle T) → IsKept gs es ns → (h : Handle) → is_there h (shown es gs) ≡ true → has key h.0 gs ≡ true
+is_grouped gs es ns kept h there = sym (has-shown gs es ns kept h.0) ∙ there
+
+pub is_not_grouped : {S T : Type 0} (gs : List (List Handle)) (es : HashMap ℕ BufferEntry S) (ns : HashMap (Vec ℕ Global) Handle T) → IsKept gs es ns → (h : Handle) → is_there h (shown es gs) ≡ false → has key h.0 gs ≡ false
+is_not_grouped gs es ns kept h there = sym (has-shown gs es ns kept h.0) ∙ there
+
+pub kept_changed_at : {S T : Type 0} (h : Handle) (f : BufferEntry → BufferEntry) (gs : List (List Handle)) (es es2 : HashMap ℕ BufferEntry S) (ns : HashMap (Vec ℕ Global) Handle T) → ((e : BufferEntry) → (f e).row.handle ≡ e.row.handle) → ((e : BufferEntry) → (f e).row.full_name ≡ e.row.full_name)
+    → ((e : BufferEntry) → IsBuffer e → IsBuffer (f e)) → IsChangedAt h.0 f es es2 → IsKept gs es ns → IsKept gs es2 ns
+kept_changed_at h f gs es es2 ns handle name fits new kept = kept_changed h.0 f gs es es2 ns handle name (λ e i is. fits e is) new kept
+
+pub shown_changed_at : {S T : Type 0} (h : Handle) (f : BufferEntry → BufferEntry) (gs : List (List Handle)) (es es2 : HashMap ℕ BufferEntry S) (ns : HashMap (Vec ℕ Global) Handle T) → IsKept gs es ns → IsChangedAt h.0 f es es2 → is_there h (shown es gs) ≡ true → shown es2 gs ≡ changed h f (shown es gs)
+shown_changed_at h f gs es es2 ns kept new there = shown_changed h.0 f gs es es2 ns kept new (is_stored gs es ns kept h there)
