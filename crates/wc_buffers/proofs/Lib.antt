@@ -8,3 +8,4 @@ pub mod Keeps
 pub mod Named
 pub mod Held
 pub mod EditLemmas
+pub mod RefusalLemmas

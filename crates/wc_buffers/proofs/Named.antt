@@ -1,6 +1,6 @@
 -- The buffers of a name, as the index of names tells them.
 use Rattle.std.proofs.Common.{◌≡◌, ℕ, Bool, true, false, cond, not, ◌&&◌, ◌||◌, eqb, List, [], ◌∷◌, Option, Some, None, option_map, unwrap_or, find, map, is_some, refl, ap, sym, subst, ◌∙◌, bytes_eq, eqb-true, eq-eqb}
-use Rattle.std.proofs.lemmas.Bool.{false≢true, or_parts, or_cases, false_from_ne_true}
+use Rattle.std.proofs.lemmas.Bool.{false≢true, or_parts, not-false, false_from_ne_true}
 use Rattle.std.specs.Cmp.Lexicographic.{bytes_decides}
 use Rattle.std.specs.HashMap.{HashMap}
 use Rattle.std.specs.List.{list_any}
@@ -121,3 +121,18 @@ module _ {S T : Type 0} (gs : List (List Handle)) (entries : HashMap ℕ BufferE
 
   pub taken_by : (own h : Handle) → at_name names name ≡ Some h → not (eqb h.0 own.0) ≡ list_any (other_named name own) (rows (shown entries gs))
   taken_by own h e = sym (ap (list_any (other_named name own)) rows-shown ∙ any_other h e own (rows gs) all_there ∙ ap (λ b. b && not (eqb h.0 own.0)) (here h e))
+
+  -- where no other buffer has the name, it leads to this one or to none
+  pub free_but : (own other : Handle) → list_any (other_named name own) (rows (shown entries gs)) ≡ false → at_name names name ≡ Some other → other.0 ≡ own.0
+  free_but own other free e = let n = not-false (eqb other.0 own.0) (taken_by own other e ∙ free) in eqb-true other.0 own.0 n
+
+  pub free_for_new : (own : Handle) → has key own.0 gs ≡ false → list_any (other_named name own) (rows (shown entries gs)) ≡ false → at_name names name ≡ None
+  free_for_new own absent free = by (at_name names name) refl
+    where
+      by : (o : Option Handle) → at_name names name ≡ o → o ≡ None
+      by None e = refl
+      by (Some other) e =
+          let same = free_but own other free e in
+          let r = kept.led name other e in
+          let there : has key other.0 gs ≡ true = sym (kept.stored other.0) ∙ ap is_some r.1 in
+          absurd (false≢true (sym absent ∙ subst (λ q. has key q gs ≡ true) same there))

@@ -10,7 +10,7 @@ use Rattle.std.proofs.lemmas.List.Folds.{list_any-append}
 use Rattle.wc_text.specs.declared.names.Handle.{Handle}
 use Rattle.wc_buffers.specs.Groups.{filled, AllFilled, rows, in_group, has, place, times_in, times, only, without, take_out, pick, append_to, merge, others, own, move_group, part, unmerge}
 use Rattle.wc_buffers.specs.Table.{key, AllEmpty, AreGroups}
-use Rattle.wc_buffers.proofs.GroupLaws.{by_bool, filled-some, times_in-append, times-append, in_group_tells, has_tells, times_in-without, times-take_out, times-append_to, times-move_group, times-unmerge, times_in-pick}
+use Rattle.wc_buffers.proofs.GroupLaws.{by_bool, filled-some, times_in-append, times-append, in_group_tells, has_tells, times_in-without, times-take_out, times-append_to, times-move_group, times-unmerge, times_in-pick, has_from_times}
 
 -- ---- the first element that passes a test
 
@@ -473,3 +473,15 @@ rows-parted h gs are e merged =
     let f = found h.0 gs e in
     let s = stands h.0 f.0 gs are f.1 in
     rows-unmerged h f.0 gs are s (leaves_others h.0 f.0 gs s merged)
+
+pub merged_has : (q : ℕ) (h : Handle) (into : ℕ) (gs : List (List Handle)) → AreGroups gs → has key h.0 gs ≡ true → has key into gs ≡ true → eqb h.0 into ≡ false → has key q (append_to key into (h ∷ []) (take_out key h.0 gs)) ≡ has key q gs
+merged_has q h into gs are there target apart =
+    let rest = take_out key h.0 gs in
+    let stays = taken_has h.0 into gs apart target in
+    let once : times key into rest ≤ 1 = (taken_are h.0 gs are).once into in
+    let one : times key h.0 gs ≡ 1 = grind (arith, are.once h.0, has_tells key h.0 gs) in
+    let new : times key q (append_to key into (h ∷ []) rest) ≡ times key q rest + cond (has key into rest) (times_in key q (h ∷ [])) 0 = times-append_to key q into (h ∷ []) rest once in
+    let all : times key q (append_to key into (h ∷ []) rest) ≡ times key q rest + times_in key q (h ∷ []) = new ∙ rw stays refl in
+    has_from_times key q gs (append_to key into (h ∷ []) rest) (all ∙ by_bool (eqb h.0 q) _
+    (λ t. let same : h.0 ≡ q = eqb-true h.0 q t in let count : times key q gs ≡ 1 = subst (λ n. times key n gs ≡ 1) same one in grind (arith, nat_tests, times-take_out key q h.0 gs))
+    (λ t. grind (arith, nat_tests, times-take_out key q h.0 gs)))

@@ -24,7 +24,7 @@ impl Buffers {
         ensures err { OnErr result (self.new ≡ self.old) }
     {
         let h = entry.row.handle;
-        let name = entry.row.full_name.as_slice().to_vec(alloc)?;
+        let name = names::key_of(alloc, entry.row.full_name.as_slice())?;
         names::reserve(&mut self.names)?;
         entries::reserve(&mut self.entries)?;
         names::insert(&mut self.names, name, h);
@@ -97,7 +97,7 @@ impl Buffers {
         ensures ok { OnOk result (self.new ≡ changed h (with_full_name name.now) self.old) }
         ensures err { OnErr result (self.new ≡ self.old) }
     {
-        let key = name.as_slice().to_vec(alloc)?;
+        let key = names::key_of(alloc, name.as_slice())?;
         let name = name.copy(alloc)?;
         names::reserve(&mut self.names)?;
         let old = entries::set_full_name(&mut self.entries, alloc, h, name)?;
@@ -141,7 +141,8 @@ impl Buffers {
         ensures new { IfOk result (λ new. new ≡ lacks_var name.now (entry_of h self.old)) }
         ensures err { OnErr result (self.new ≡ self.old) }
     {
-        entries::set_var(&mut self.entries, alloc, h, name, value)
+        let new = entries::set_var(&mut self.entries, alloc, h, name, value)?;
+        Ok(new)
     }
 
     pub(crate) fn drop_var(&mut self, h: Handle, name: &[u8])

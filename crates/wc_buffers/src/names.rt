@@ -1,12 +1,21 @@
-ghost use Rattle.std.specs.Prelude.{◌≡◌, ◌<◌, ◌≤◌, OnOk, Some, None, List, ℕ, if◌then◌else◌, bytes_eq};
+ghost use Rattle.std.specs.Prelude.{◌≡◌, ◌<◌, ◌≤◌, IfOk, OnOk, Some, None, List, ℕ, if◌then◌else◌, bytes_eq};
 ghost use Rattle.std.specs.HashMap.{spare};
 ghost use Rattle.wc_buffers.specs.Kept.{at_name};
 
+use std::alloc::Global;
 use std::collections::HashMap;
 use wc_text::{Handle, NoMemory};
 
 /// The buffers by their full names.
 pub(crate) type Names = HashMap<Vec<u8>, Handle>;
+
+/// The bytes of a name in memory of their own.
+pub(crate) fn key_of(alloc: Global, name: &[u8]) -> Result<Vec<u8>, NoMemory>
+    ensures { IfOk result (λ key. key.items ≡ name.now) }
+{
+    let key = name.to_vec(alloc)?;
+    Ok(key)
+}
 
 /// Takes the memory for one name more.
 pub(crate) fn reserve(names: &mut Names) -> Result<(), NoMemory>

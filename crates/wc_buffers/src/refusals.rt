@@ -1,4 +1,5 @@
-ghost use Rattle.std.specs.Prelude.{◌≡◌, ◌==◌, ◌&&◌, not, length, option_map, find, Some, true, false};
+ghost use Rattle.std.specs.Prelude.{◌≡◌, ◌≢◌, length, find, option_copied, Some};
+ghost use Rattle.wc_text.specs.declared.names.Pair.{Pair};
 ghost use Rattle.std.specs.List.{list_any};
 ghost use Rattle.wc_buffers.specs.Groups.{rows};
 ghost use Rattle.wc_buffers.specs.Calls.{Answers, no_buffer, is_bad_name, bad_name, bad_names, is_fixed, fixed_var, name_taken, other_named, add_refusal_so_far, close_refusal, move_refusal, merge_refusal, unmerge_refusal, rename_refusal, short_name_refusal, set_var_refusal, remove_var_refusal, lacks_var, is_full, no_room, bad_var_names, fixed_vars, are_together, is_alone, entry_of};
@@ -48,14 +49,20 @@ fn is_fixed(name: &[u8]) -> bool
     name == b"plugin".as_slice() || name == b"name".as_slice()
 }
 
+fn refused_fixed(alloc: Global, name: &Text) -> BufferRefused
+    ensures { result ≢ BufferRefused.NoMemory → result ≡ BufferRefused.FixedVar name.now }
+{
+    match name.copy(alloc) {
+        Ok(name) => BufferRefused::FixedVar { name },
+        Err(NoMemory) => BufferRefused::NoMemory,
+    }
+}
+
 fn fixed_var(alloc: Global, name: &Text) -> Option<BufferRefused>
     ensures { Answers (fixed_var name.now) result }
 {
     if is_fixed(name.as_slice()) {
-        return match name.copy(alloc) {
-            Ok(name) => Some(BufferRefused::FixedVar { name }),
-            Err(NoMemory) => Some(BufferRefused::NoMemory),
-        };
+        return Some(refused_fixed(alloc, name));
     }
     None
 }
@@ -73,12 +80,18 @@ fn bad_var_names(vars: &[Pair]) -> Option<BufferRefused>
     }
 }
 
+fn first_fixed(vars: &[Pair]) -> Option<&Pair>
+    ensures { option_copied result ≡ find (λ (v : Pair). is_fixed v.name) vars.now }
+{
+    vars.iter().find(|var| is_fixed(var.name.as_slice()))
+}
+
 /// The first variable that every buffer has by itself.
 fn fixed_vars(alloc: Global, vars: &[Pair]) -> Option<BufferRefused>
     ensures { Answers (fixed_vars vars.now) result }
 {
-    match vars.iter().find(|var| is_fixed(var.name.as_slice())) {
-        Some(var) => fixed_var(alloc, &var.name),
+    match first_fixed(vars) {
+        Some(var) => Some(refused_fixed(alloc, &var.name)),
         None => None,
     }
 }

@@ -1,7 +1,7 @@
-ghost use Rattle.std.specs.Prelude.{◌≡◌, ◌≢◌, ◌≤◌, ◌<◌, ◌++◌, ◌∷◌, ◌&&◌, ◌==◌, [], length, true, false, IfOk, IfSome, option_map, ◌+◌};
+ghost use Rattle.std.specs.Prelude.{◌≡◌, ℕ, ◌<◌, ◌++◌, ◌∷◌, ◌&&◌, ◌==◌, [], length, true, false, IfOk, option_map, ◌+◌};
 ghost use Rattle.std.specs.List.{list_any};
 ghost use Rattle.wc_buffers.specs.Groups.{rows, has, in_group, place, take_out, append_to, merge, move_group, unmerge};
-ghost use Rattle.wc_buffers.specs.Table.{key, AreGroups, IsStored, AllEmpty};
+ghost use Rattle.wc_buffers.specs.Table.{key, AreGroups, IsStored};
 
 use crate::group::{Group, MOST_BUFFERS};
 use crate::iter::GroupIter;
@@ -135,7 +135,8 @@ impl GroupTable {
         requires there { has key h.0 self.old ≡ true }
         requires target { has key into.0 self.old ≡ true }
         requires apart { (h.0 == into.0) ≡ false }
-        ensures { self.new ≡ merge key h.0 into.0 self.old }
+        ensures merged { self.new ≡ merge key h.0 into.0 self.old }
+        ensures same { (q : ℕ) → has key q self.new ≡ has key q self.old }
     {
         remove(&mut self.groups, &mut self.spare, h);
         append(&mut self.groups, &mut self.spare, into, h);

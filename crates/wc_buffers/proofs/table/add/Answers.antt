@@ -29,7 +29,7 @@ returns-clause-stored c =
     let gs = c.args.groups.now.items in
     let shared = c.requires.stored.shared in
     record {
-      groups_are = subst AreGroups (sym (returns-clause-added c)) (added_are c.args.h gs c.requires.stored.groups_are c.requires.absent c.requires.room);
+      groups_are = subst AreGroups (sym {A = List (List Handle)} (returns-clause-added c)) (added_are c.args.h gs c.requires.stored.groups_are c.requires.absent c.requires.room);
       emptied = spare.1;
       shared = omega (arith, ap length (returns-clause-added c), length-append gs ((c.args.h ∷ []) ∷ []), ap length c.in-Some.ensures.items, length-append c.pop.new.self.items (c.in-Some.group ∷ []));
       room = (let r = c.requires.stored.room in omega (arith, c.push_reserved.ensures.capacity));

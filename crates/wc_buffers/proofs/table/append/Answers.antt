@@ -33,7 +33,7 @@ returns-clause-stored c =
     let are = c.requires.stored.groups_are in
     let shared = c.requires.stored.shared in
     record {
-      groups_are = subst AreGroups (sym (returns-clause-appended c)) (appended_are c.args.into.0 c.in-Some.place c.args.h gs are (at c.args.into.0 c.in-Some.place gs are e) c.requires.absent c.requires.room);
+      groups_are = subst AreGroups (sym {A = List (List Handle)} (returns-clause-appended c)) (appended_are c.args.into.0 c.in-Some.place c.args.h gs are (at c.args.into.0 c.in-Some.place gs are e) c.requires.absent c.requires.room);
       emptied = c.requires.stored.emptied;
       shared = omega (arith, length-set gs c.in-Some.place c.push.new.self);
       room = c.requires.stored.room;

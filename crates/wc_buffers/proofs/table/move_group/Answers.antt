@@ -1,4 +1,5 @@
 use Rattle.std.proofs.Common.{◌≡◌, ◌++◌, ◌∷◌, [], ◌∙◌, List, Some, ap, sym, subst, length, arith, length-append, insert}
+use Rattle.wc_text.specs.declared.names.Handle.{Handle}
 use Rattle.wc_buffers.specs.Groups.{place, move_group}
 use Rattle.wc_buffers.specs.Table.{key, AreGroups}
 use Rattle.wc_buffers.proofs.TableLemmas.{never_nowhere, at, moved_there, moved_length, moved_are}
@@ -22,7 +23,7 @@ returns-clause-stored c =
     let are = c.requires.stored.groups_are in
     let shared = c.requires.stored.shared in
     record {
-      groups_are = subst AreGroups (sym (returns-clause-moved c)) (moved_are c.args.h.0 c.in-Some.place c.args.before gs are (at c.args.h.0 c.in-Some.place gs are e));
+      groups_are = subst AreGroups (sym {A = List (List Handle)} (returns-clause-moved c)) (moved_are c.args.h.0 c.in-Some.place c.args.before gs are (at c.args.h.0 c.in-Some.place gs are e));
       emptied = c.requires.stored.emptied;
       shared = omega (arith, ap length (returns-clause-moved c), moved_length c.args.h.0 c.in-Some.place gs are e c.args.before);
       room = (let r = c.requires.stored.room in omega (arith, c.remove-group.ensures.capacity, c.in-Ok.ensures.capacity));

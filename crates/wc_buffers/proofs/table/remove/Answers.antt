@@ -22,7 +22,7 @@ returns-else-len-eq0-clause-stored c =
     let gs = c.args.groups.now.items in
     let shared = c.requires.stored.shared in
     record {
-      groups_are = subst AreGroups (sym (returns-else-len-eq0-clause-removed c)) (taken_are c.args.h.0 gs c.requires.stored.groups_are);
+      groups_are = subst AreGroups (sym {A = List (List Handle)} (returns-else-len-eq0-clause-removed c)) (taken_are c.args.h.0 gs c.requires.stored.groups_are);
       emptied = c.requires.stored.emptied;
       shared = omega (arith, length-set gs c.in-Some.place c.remove.new.self);
       room = c.requires.stored.room;
@@ -45,7 +45,7 @@ returns-then-len-eq0-clause-stored c =
     let empty = empty_there c.args.h.0 c.in-Some.place gs are e c.remove.new.self c.remove-empty.result (omega (arith, c.len.ensures, c.if-len-eq0.true)) c.remove-empty.ensures.value in
     let shared = c.requires.stored.shared in
     record {
-      groups_are = subst AreGroups (sym (returns-then-len-eq0-clause-removed c)) (taken_are c.args.h.0 gs are);
+      groups_are = subst AreGroups (sym {A = List (List Handle)} (returns-then-len-eq0-clause-removed c)) (taken_are c.args.h.0 gs are);
       emptied = subst AllEmpty (sym c.push_reserved.ensures.items) (AllEmpty-push c.args.spare.now.items c.remove-empty.result c.requires.stored.emptied empty);
       shared = omega (arith, ap length c.remove-empty.ensures.items, removed_length c.args.h.0 c.in-Some.place gs are e c.remove.new.self, ap length c.push_reserved.ensures.items, length-append c.args.spare.now.items (c.remove-empty.result ∷ []));
       room = (let r = c.requires.stored.room in omega (arith, c.remove-empty.ensures.capacity));

@@ -53,7 +53,7 @@ returns-clause-stored c =
     let long = ap length (c.in-Ok.ensures.items ∙ ap (λ g. insert (set gs c.in-Some.place c.remove.new.self) (c.in-Some.place + 1) g) alone) in
     let shared = c.requires.stored.shared in
     record {
-      groups_are = subst AreGroups (sym (returns-clause-unmerged c)) (unmerged_are c.args.h c.in-Some.place gs are s rest);
+      groups_are = subst AreGroups (sym {A = List (List Handle)} (returns-clause-unmerged c)) (unmerged_are c.args.h c.in-Some.place gs are s rest);
       emptied = spare.1;
       shared = omega (arith, long, unmerged_length c.args.h c.in-Some.place gs are e c.remove.new.self, ap length c.in-Some-pop.ensures.items, length-append c.pop.new.self.items (c.in-Some-pop.alone ∷ []));
       room = (let r = c.requires.stored.room in omega (arith, c.in-Ok.ensures.capacity));

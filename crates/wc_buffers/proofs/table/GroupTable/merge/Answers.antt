@@ -1,7 +1,7 @@
-use Rattle.std.proofs.Common.{◌≡◌, ◌∙◌, ◌∷◌, [], ap, sym, subst, arith, length}
+use Rattle.std.proofs.Common.{◌≡◌, ◌∙◌, ◌∷◌, [], true, ap, sym, arith, length}
 use Rattle.wc_buffers.specs.Groups.{rows, has, append_to, merge, take_out}
 use Rattle.wc_buffers.specs.Table.{key}
-use Rattle.wc_buffers.proofs.TableLemmas.{rows-taken, taken_has, taken_lacks, picked, rows-put}
+use Rattle.wc_buffers.proofs.TableLemmas.{rows-taken, taken_has, taken_lacks, picked, rows-put, merged_has}
 use Rattle.wc_buffers.proofs.table.GroupTable.merge.Goals as goal
 
 pub append-requires-clause-there : goal.append-requires-clause-there
@@ -25,8 +25,17 @@ invariant_of-self c = record {
   );
 }
 
-pub returns : goal.returns
-returns c =
+pub returns-clause-merged : goal.returns-clause-merged
+returns-clause-merged c =
     c.append.ensures.appended ∙ ap (append_to key c.args.into.0 (c.args.h ∷ [])) c.remove.ensures.removed
     ∙ ap (λ new. append_to key c.args.into.0 new (take_out key c.args.h.0 c.self.inside.groups.items)) (sym (picked c.args.h c.self.inside.groups.items c.self.invariant.stored.groups_are (rw c.self.view_is c.requires.there)))
     ∙ ap (merge key c.args.h.0 c.args.into.0) c.self.view_is
+
+pub returns-clause-same : goal.returns-clause-same
+returns-clause-same c = λ q.
+    let gs = c.self.inside.groups.items in
+    let are = c.self.invariant.stored.groups_are in
+    let there : has key c.args.h.0 gs ≡ true = rw c.self.view_is c.requires.there in
+    let target : has key c.args.into.0 gs ≡ true = rw c.self.view_is c.requires.target in
+    ap (has key q) (c.append.ensures.appended ∙ ap (append_to key c.args.into.0 (c.args.h ∷ [])) c.remove.ensures.removed)
+    ∙ merged_has q c.args.h c.args.into.0 gs are there target c.requires.apart ∙ ap (has key q) c.self.view_is
