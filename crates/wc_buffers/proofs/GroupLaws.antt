@@ -210,6 +210,20 @@ module _ {A : Type 0} (key : A → ℕ) where
       let later : times key n gs ≤ 1 = omega arith in
       grind (arith, nat_tests, times-append_to h n new gs later, times_in-append h g new, in_group_tells n g, has_tells n gs)
 
+  -- a row that is put behind those of another group
+  pub times-merge : (h n into : ℕ) (gs : List (List A)) → times key into gs ≤ 1 → has key into gs ≡ true → eqb n into ≡ false → times key h (merge key n into gs) ≡ times key h gs
+  times-merge h n into gs once there apart =
+      let rest = take_out key n gs in
+      let same : times key into rest ≡ times key into gs = times-take_out into n gs ∙ rw apart refl in
+      let stays : has key into rest ≡ true = has_from_times into gs rest same ∙ there in
+      let put : times key h (append_to key into (pick key n gs) rest) ≡ times key h rest + cond (has key into rest) (times_in key h (pick key n gs)) 0 = times-append_to h into (pick key n gs) rest (omega arith) in
+      let all : times key h (append_to key into (pick key n gs) rest) ≡ times key h rest + times_in key h (pick key n gs) = put ∙ rw stays refl in
+      all ∙ by (eqb n h) (times-take_out h n gs) (times_in-pick h n gs)
+    where
+      by : (t : Bool) → times key h (take_out key n gs) ≡ cond t 0 (times key h gs) → times_in key h (pick key n gs) ≡ cond t (times key h gs) 0 → times key h (take_out key n gs) + times_in key h (pick key n gs) ≡ times key h gs
+      by true a b = omega arith
+      by false a b = omega arith
+
   -- a change that keeps the keys
   times_in-update : (h n : ℕ) (F : A → A) → ((x : A) → key (F x) ≡ key x) → (g : List A) → times_in key h (map (λ x. cond (eqb (key x) n) (F x) x) g) ≡ times_in key h g
   times_in-update h n F keeps [] = refl

@@ -1,5 +1,5 @@
 -- What is kept of the buffers after an edit, and the groups that it shows.
-use Rattle.std.proofs.Common.{◌≡◌, ℕ, ◌≤◌, Bool, true, false, cond, not, ◌&&◌, ◌||◌, eqb, List, [], ◌∷◌, ◌++◌, Option, Some, None, option_map, unwrap_or, map, length, is_some, refl, ap, sym, subst, ◌∙◌, bytes_eq, arith, eqb-true, eq-eqb}
+use Rattle.std.proofs.Common.{◌≡◌, ℕ, ◌<◌, ◌≤◌, Bool, true, false, cond, not, ◌&&◌, ◌||◌, eqb, List, [], ◌∷◌, ◌++◌, Option, Some, None, option_map, unwrap_or, map, length, is_some, refl, ap, sym, subst, ◌∙◌, bytes_eq, arith, eqb-true, eq-eqb}
 use Rattle.std.proofs.lemmas.Bool.{false≢true, true≢false, or_parts, cond-true, cond-false}
 use Rattle.std.proofs.lemmas.Bool.Decides.{nat_tests}
 use Rattle.std.proofs.lemmas.List.{map-append}
@@ -31,6 +31,7 @@ kept_same gs es es2 ns ns2 e n kept = record {
   stored = λ h. ap is_some (e h) ∙ kept.stored h;
   keyed = λ h x i. kept.keyed h x (sym (e h) ∙ i);
   fit = λ h x i. kept.fit h x (sym (e h) ∙ i);
+  never_null = e 0 ∙ kept.never_null;
   leads = λ h x i. n x.row.full_name ∙ kept.leads h x (sym (e h) ∙ i);
   led = λ name h i. let r = kept.led name h (sym (n name) ∙ i) in (r.0, e h.0 ∙ r.1, r.2);
 }
@@ -47,6 +48,7 @@ kept_moved gs gs2 es ns same kept = record {
   stored = λ h. kept.stored h ∙ sym (same h);
   keyed = kept.keyed;
   fit = kept.fit;
+  never_null = kept.never_null;
   leads = kept.leads;
   led = kept.led;
 }
@@ -97,14 +99,15 @@ shown_added e gs es es2 absent new =
 abbrev pub IsFree : {T : Type 0} → List ℕ → Names T → Type 0
 IsFree name ns = at_name ns name ≡ None
 
-pub kept_added : {S T : Type 0} → (e : BufferEntry) (gs : List (List Handle)) (es es2 : Entries S) (ns ns2 : Names T) → has key e.row.handle.0 gs ≡ false → IsBuffer e → IsFree e.row.full_name ns
+pub kept_added : {S T : Type 0} → (e : BufferEntry) (gs : List (List Handle)) (es es2 : Entries S) (ns ns2 : Names T) → 0 < e.row.handle.0 → has key e.row.handle.0 gs ≡ false → IsBuffer e → IsFree e.row.full_name ns
     → ((q : ℕ) → at_handle es2 q ≡ cond (eqb e.row.handle.0 q) (Some e) (at_handle es q))
     → ((s : List ℕ) → at_name ns2 s ≡ cond (bytes_eq e.row.full_name s) (Some e.row.handle) (at_name ns s))
     → IsKept gs es ns → IsKept (gs ++ (e.row.handle ∷ []) ∷ []) es2 ns2
-kept_added e gs es es2 ns ns2 absent fits free new names kept = record {
+kept_added e gs es es2 ns ns2 above absent fits free new names kept = record {
   stored = λ q. stored q (eqb e.row.handle.0 q) refl;
   keyed = λ q x i. keyed q x i (eqb e.row.handle.0 q) refl;
   fit = λ q x i. fit q x i (eqb e.row.handle.0 q) refl;
+  never_null = set_there e.row.handle.0 es es2 (Some e) new 0 (grind (arith, nat_tests)) ∙ kept.never_null;
   leads = λ q x i. leads q x i (eqb e.row.handle.0 q) refl;
   led = λ s h i. led s h i (bytes_eq e.row.full_name s) refl;
 }
@@ -183,10 +186,15 @@ kept_taken h e gs es es2 ns ns2 is new names kept = record {
   stored = λ q. stored q (eqb h q) refl;
   keyed = λ q x i. let o = there q x i in kept.keyed q x o.1;
   fit = λ q x i. let o = there q x i in kept.fit q x o.1;
+  never_null = new 0 ∙ ap (cond (eqb h 0) None) kept.never_null ∙ none (eqb h 0);
   leads = λ q x i. leads q x (there q x i);
   led = λ s k i. led s k i (bytes_eq e.row.full_name s) refl;
 }
   where
+    none : (t : Bool) → ◌≡◌ {A = Option BufferEntry} (cond t None None) None
+    none true = refl
+    none false = refl
+
     there : (q : ℕ) (x : BufferEntry) → at_handle es2 q ≡ Some x → (eqb h q ≡ false) × (at_handle es q ≡ Some x)
     there q x i = by_bool (eqb h q) _
         (λ t. let none : at_handle es2 q ≡ None = new q ∙ cond-true (eqb h q) None (at_handle es q) t in absurd cc)
@@ -284,6 +292,7 @@ kept_changed h f gs es es2 ns same_handle same_name fits new kept = record {
   stored = λ q. stored q (at_handle es q) refl;
   keyed = λ q x i. let o = was h f es es2 new q x i in subst (λ (y : BufferEntry). y.row.handle.0 ≡ q) (sym o.2) (ap (λ (k : Handle). k.0) (handle o.0 (eqb h q)) ∙ kept.keyed q o.0 o.1);
   fit = λ q x i. let o = was h f es es2 new q x i in subst IsBuffer (sym o.2) (fit q o.0 o.1 (eqb h q) refl);
+  never_null = changed_nowhere h f es es2 new 0 kept.never_null;
   leads = λ q x i. let o = was h f es es2 new q x i in subst (λ (y : BufferEntry). at_name ns y.row.full_name ≡ Some y.row.handle) (sym o.2) (ap (at_name ns) (name o.0 (eqb h q)) ∙ kept.leads q o.0 o.1 ∙ ap Some (sym (handle o.0 (eqb h q))));
   led = λ s k i. let r = kept.led s k i in (cond (eqb h k.0) (f r.0) r.0, changed_here h f es es2 new k.0 r.0 r.1, name r.0 (eqb h k.0) ∙ r.2);
 }
@@ -326,6 +335,7 @@ kept_renamed {S} {T} k e name gs es es2 ns ns1 ns2 is fits free new left put kep
   stored = λ q. stored q (at_handle es q) refl;
   keyed = λ q x i. let o = was k.0 f es es2 new q x i in subst (λ (y : BufferEntry). y.row.handle.0 ≡ q) (sym o.2) (ap (λ (j : Handle). j.0) (handle o.0 (eqb k.0 q)) ∙ kept.keyed q o.0 o.1);
   fit = λ q x i. let o = was k.0 f es es2 new q x i in subst IsBuffer (sym o.2) (fit q o.0 o.1 (eqb k.0 q) refl);
+  never_null = changed_nowhere k.0 f es es2 new 0 kept.never_null;
   leads = λ q x i. let o = was k.0 f es es2 new q x i in subst (λ (y : BufferEntry). at_name ns2 y.row.full_name ≡ Some y.row.handle) (sym o.2) (leads q o.0 o.1 (eqb k.0 q) refl);
   led = λ s j i. led s j i (bytes_eq name s) refl;
 }
@@ -359,10 +369,10 @@ kept_renamed {S} {T} k e name gs es es2 ns ns1 ns2 is fits free new left put kep
     leads q x i false t =
         let old = kept.leads q x i in
         let apart : (j : Handle) → at_name ns x.row.full_name ≡ Some j → j.0 ≡ k.0 → ⊥ = λ j a b.
-            let p : Some j ≡ Some x.row.handle = sym a ∙ old in
-            let r : j ≡ x.row.handle = cc in
-            let m : k.0 ≡ q = sym b ∙ ap (λ (y : Handle). y.0) r ∙ kept.keyed q x i in
-            false≢true (sym t ∙ eq-eqb k.0 q m) in
+        let p : Some j ≡ Some x.row.handle = sym a ∙ old in
+        let r : j ≡ x.row.handle = cc in
+        let m : k.0 ≡ q = sym b ∙ ap (λ (y : Handle). y.0) r ∙ kept.keyed q x i in
+        false≢true (sym t ∙ eq-eqb k.0 q m) in
         by_bool (bytes_eq name x.row.full_name) _
         (λ u.
         let same = (bytes_decides name x.row.full_name).0 u in

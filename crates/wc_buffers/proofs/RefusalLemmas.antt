@@ -9,7 +9,7 @@ use Rattle.wc_buffers.specs.declared.row.BufferRow.{BufferRow}
 use Rattle.wc_buffers.specs.declared.entry.BufferEntry.{BufferEntry}
 use Rattle.wc_buffers.specs.declared.refused.BufferRefused.{BufferRefused}
 use Rattle.wc_buffers.specs.declared.refused.BufferRefused.TheVariants.{NoMemory, NameTaken, SameGroup, TooMany}
-use Rattle.wc_buffers.specs.Calls.{Groups, Answers, handle_of, is_there, entry_of, number, other_named, when, or_else, no_buffer, is_bad_name, bad_name, is_fixed, fixed_var, bad_names, name_taken, no_room, too_many_vars, add_refusal_so_far, add_refusal, close_refusal, move_refusal, are_together, same_group, merge_refusal, is_alone, unmerge_refusal, rename_refusal, short_name_refusal, lacks_var, is_full, set_var_refusal, remove_var_refusal}
+use Rattle.wc_buffers.specs.Calls.{Groups, Answers, handle_of, is_there, entry_of, number, other_named, when, or_else, no_buffer, is_bad_name, bad_name, is_fixed, fixed_var, bad_names, name_taken, no_room, too_many_vars, add_refusal_so_far, add_refusal, close_refusal, move_refusal, are_together, same_group, merge_refusal, is_alone, unmerge_refusal, rename_refusal, short_name_refusal, lacks_var, is_full, var_refusal, set_var_refusal, remove_var_refusal}
 use Rattle.wc_buffers.specs.Groups.{rows, in_group, place}
 use Rattle.wc_buffers.specs.Vars.{vars_of}
 use Rattle.wc_buffers.proofs.Fits.{or_none, when_none}
@@ -67,21 +67,23 @@ pub short_name_good : (h : Handle) (name : List ℕ) (gs : Groups) → short_nam
 unfolding short_name_refusal
 short_name_good h name gs e = let a = or_none (no_buffer h gs) _ e in (there_good h gs a.0, when_none _ _ a.1)
 
+var_good : (h : Handle) (name : List ℕ) (gs : Groups) → var_refusal h name gs ≡ None → (is_there h gs ≡ true) × (is_fixed name ≡ false)
+unfolding var_refusal
+var_good h name gs e =
+    let a = or_none (no_buffer h gs) _ e in
+    let b = or_none (bad_name 64 name) (fixed_var name) a.1 in
+    (there_good h gs a.0, when_none _ _ b.1)
+
 pub set_var_good : (h : Handle) (name : List ℕ) (gs : Groups) → set_var_refusal h name gs ≡ None → (is_there h gs ≡ true) × (is_fixed name ≡ false) × ((lacks_var name (entry_of h gs) && is_full (entry_of h gs)) ≡ false)
 unfolding set_var_refusal
 set_var_good h name gs e =
-    let a = or_none (no_buffer h gs) _ e in
-    let b = or_none (bad_name 64 name) _ a.1 in
-    let d = or_none (fixed_var name) _ b.1 in
-    (there_good h gs a.0, when_none _ _ d.0, when_none _ _ d.1)
+    let a = or_none (var_refusal h name gs) _ e in
+    let b = var_good h name gs a.0 in
+    (b.0, b.1, when_none _ _ a.1)
 
 pub remove_var_good : (h : Handle) (name : List ℕ) (gs : Groups) → remove_var_refusal h name gs ≡ None → (is_there h gs ≡ true) × (is_fixed name ≡ false)
 unfolding remove_var_refusal
-remove_var_good h name gs e =
-    let a = or_none (no_buffer h gs) _ e in
-    let b = or_none (bad_name 64 name) _ a.1 in
-    let d = or_none (fixed_var name) _ b.1 in
-    (there_good h gs a.0, when_none _ _ d.0)
+remove_var_good h name gs e = var_good h name gs (or_none (var_refusal h name gs) _ e).0
 
 pub add_good : (row : BufferRow) (vars : List Pair) (gs : Groups) → add_refusal_so_far row vars gs ≡ None → (bad_names row vars ≡ None) × (list_any (other_named row.full_name row.handle) (rows gs) ≡ false) × (length (rows gs) < 256)
 unfolding add_refusal_so_far no_room

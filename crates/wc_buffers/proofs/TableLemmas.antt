@@ -178,8 +178,17 @@ stands h n gs are e =
     let sum = times-append key h f.front (f.x ∷ f.back) in
     let here = in_group_tells key h f.x in
     let later = has_tells key h f.back in
-    record { front = f.front; group = f.x; back = f.back; whole = f.whole; long = f.long; before = f.before; here = f.here;
-      after = (let i = f.here in grind (arith, sum, once, here, later)); alone = (let i = f.here in grind (arith, sum, once, here)) }
+    record {
+      front = f.front;
+      group = f.x;
+      back = f.back;
+      whole = f.whole;
+      long = f.long;
+      before = f.before;
+      here = f.here;
+      after = (let i = f.here in grind (arith, sum, once, here, later));
+      alone = (let i = f.here in grind (arith, sum, once, here));
+    }
 
 pub never_nowhere : (h : ℕ) (gs : List (List Handle)) → has key h gs ≡ true → place key h gs ≡ None → ⊥
 never_nowhere h gs e n = false≢true (sym (position_none (in_group key h) gs n) ∙ e)
@@ -473,15 +482,3 @@ rows-parted h gs are e merged =
     let f = found h.0 gs e in
     let s = stands h.0 f.0 gs are f.1 in
     rows-unmerged h f.0 gs are s (leaves_others h.0 f.0 gs s merged)
-
-pub merged_has : (q : ℕ) (h : Handle) (into : ℕ) (gs : List (List Handle)) → AreGroups gs → has key h.0 gs ≡ true → has key into gs ≡ true → eqb h.0 into ≡ false → has key q (append_to key into (h ∷ []) (take_out key h.0 gs)) ≡ has key q gs
-merged_has q h into gs are there target apart =
-    let rest = take_out key h.0 gs in
-    let stays = taken_has h.0 into gs apart target in
-    let once : times key into rest ≤ 1 = (taken_are h.0 gs are).once into in
-    let one : times key h.0 gs ≡ 1 = grind (arith, are.once h.0, has_tells key h.0 gs) in
-    let new : times key q (append_to key into (h ∷ []) rest) ≡ times key q rest + cond (has key into rest) (times_in key q (h ∷ [])) 0 = times-append_to key q into (h ∷ []) rest once in
-    let all : times key q (append_to key into (h ∷ []) rest) ≡ times key q rest + times_in key q (h ∷ []) = new ∙ rw stays refl in
-    has_from_times key q gs (append_to key into (h ∷ []) rest) (all ∙ by_bool (eqb h.0 q) _
-    (λ t. let same : h.0 ≡ q = eqb-true h.0 q t in let count : times key q gs ≡ 1 = subst (λ n. times key n gs ≡ 1) same one in grind (arith, nat_tests, times-take_out key q h.0 gs))
-    (λ t. grind (arith, nat_tests, times-take_out key q h.0 gs)))

@@ -147,19 +147,15 @@ abbrev pub is_full : Option BufferEntry → Bool
 is_full None = true
 is_full (Some e) = nat_le 64 (length e.vars)
 
+-- what is refused of any variable that is set or removed
+unfoldable pub var_refusal : Handle → List ℕ → Groups → Option BufferRefused
+var_refusal h name gs = or_else (no_buffer h gs) (or_else (bad_name 64 name) (fixed_var name))
+
 unfoldable pub set_var_refusal : Handle → List ℕ → Groups → Option BufferRefused
-set_var_refusal h name gs =
-    or_else (no_buffer h gs)
-    (or_else (bad_name 64 name)
-    (or_else (fixed_var name)
-    (when (lacks_var name (entry_of h gs) && is_full (entry_of h gs)) (TooMany 64))))
+set_var_refusal h name gs = or_else (var_refusal h name gs) (when (lacks_var name (entry_of h gs) && is_full (entry_of h gs)) (TooMany 64))
 
 unfoldable pub remove_var_refusal : Handle → List ℕ → Groups → Option BufferRefused
-remove_var_refusal h name gs =
-    or_else (no_buffer h gs)
-    (or_else (bad_name 64 name)
-    (or_else (fixed_var name)
-    (when (lacks_var name (entry_of h gs)) (NoVar name))))
+remove_var_refusal h name gs = or_else (var_refusal h name gs) (when (lacks_var name (entry_of h gs)) (NoVar name))
 
 -- ---- the groups after each call
 

@@ -64,6 +64,7 @@ pub record IsKept {S T : Type 0} (gs : List (List Handle)) (entries : HashMap �
   pub stored : (h : ℕ) → is_some (at_handle entries h) ≡ has key h gs
   pub keyed : (h : ℕ) (e : BufferEntry) → at_handle entries h ≡ Some e → e.row.handle.0 ≡ h
   pub fit : (h : ℕ) (e : BufferEntry) → at_handle entries h ≡ Some e → IsBuffer e
+  pub never_null : at_handle entries 0 ≡ None
   -- the full name of each buffer leads to it, and no other name to one
   pub leads : (h : ℕ) (e : BufferEntry) → at_handle entries h ≡ Some e → at_name names e.row.full_name ≡ Some e.row.handle
   pub led : (name : List ℕ) (h : Handle) → at_name names name ≡ Some h → (e : BufferEntry) × (at_handle entries h.0 ≡ Some e) × (e.row.full_name ≡ name)
@@ -73,6 +74,7 @@ pub record AreBuffers (gs : List (List BufferEntry)) : Type 0 where
   pub once : (h : ℕ) → times handle_of h gs ≤ 1
   pub filled : AllFilled gs
   pub few : length (rows gs) ≤ 256
+  pub never_null : has handle_of 0 gs ≡ false
   pub fit : (h : Handle) (e : BufferEntry) → entry_of h gs ≡ Some e → IsBuffer e
   pub names : (h : Handle) (e : BufferEntry) → entry_of h gs ≡ Some e → named e.row.full_name gs ≡ Some h
 

@@ -212,12 +212,7 @@ impl Buffers {
 
     /// Gives a buffer another title, which is cut at 1024 bytes. A refusal changes nothing:
     /// `NoBuffer`.
-    pub fn set_title(
-        &mut self,
-        alloc: Global,
-        h: Handle,
-        title: &Text,
-    ) -> Result<(), BufferRefused>
+    pub fn set_title(&mut self, alloc: Global, h: Handle, title: &Text) -> Result<(), BufferRefused>
         requires { IsUtf8 title.now }
         ensures accepted { OnOk result (no_buffer h self.old ≡ None) }
         ensures after { OnOk result (self.new ≡ changed h (with_title (cut_to 1024 title.now)) self.old) }
@@ -260,12 +255,7 @@ impl Buffers {
 
     /// Takes a variable out, and the others close up. A refusal changes nothing: `NoBuffer`,
     /// `BadName` where the name is empty or above 64 bytes, `FixedVar`, `NoVar`, in this order.
-    pub fn remove_var(
-        &mut self,
-        alloc: Global,
-        h: Handle,
-        name: &Text,
-    ) -> Result<(), BufferRefused>
+    pub fn remove_var(&mut self, alloc: Global, h: Handle, name: &Text) -> Result<(), BufferRefused>
         ensures accepted { OnOk result (remove_var_refusal h name.now self.old ≡ None) }
         ensures after { OnOk result (self.new ≡ changed h (without_var name.now) self.old) }
         ensures refused { IfErr result (λ e. e ≢ BufferRefused.NoMemory → remove_var_refusal h name.now self.old ≡ Some e) }

@@ -6,16 +6,16 @@ ghost use Rattle.wc_buffers.specs.Groups.{rows};
 ghost use Rattle.wc_buffers.specs.Kept.{IsBuffer};
 
 use crate::buffers::Buffers;
-use crate::entries;
 use crate::entry::BufferEntry;
-use crate::names;
 use crate::row::BufferRow;
+use crate::{entries, names};
 use std::alloc::Global;
 use wc_text::{Handle, NoMemory, Text};
 
 impl Buffers {
     /// Puts a buffer in as a group of its own at the end.
     pub(crate) fn put(&mut self, alloc: Global, entry: BufferEntry) -> Result<(), NoMemory>
+        requires handle { 0 < entry.row.handle.0 }
         requires absent { is_there entry.row.handle self.old ≡ false }
         requires fits { IsBuffer entry }
         requires room { length (rows self.old) < 256 }

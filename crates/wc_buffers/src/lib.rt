@@ -6,6 +6,8 @@ mod calls;
 mod edits;
 mod entries;
 mod entry;
+#[cfg(test)]
+mod flat_tests;
 mod group;
 mod iter;
 mod names;
@@ -13,11 +15,13 @@ mod refusals;
 mod refused;
 mod row;
 mod table;
+#[cfg(test)]
+mod tests;
 mod vars;
 
 pub use buffers::Buffers;
 pub use entry::BufferEntry;
 pub use iter::GroupIter;
 pub use refused::BufferRefused;
-pub use row::BufferRow;
+pub use row::{BufferRow, BufferSpec};
 pub use vars::{VarIter, Vars};

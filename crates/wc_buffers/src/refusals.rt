@@ -2,7 +2,7 @@ ghost use Rattle.std.specs.Prelude.{◌≡◌, ◌≢◌, length, find, option_c
 ghost use Rattle.wc_text.specs.declared.names.Pair.{Pair};
 ghost use Rattle.std.specs.List.{list_any};
 ghost use Rattle.wc_buffers.specs.Groups.{rows};
-ghost use Rattle.wc_buffers.specs.Calls.{Answers, no_buffer, is_bad_name, bad_name, bad_names, is_fixed, fixed_var, name_taken, other_named, add_refusal_so_far, close_refusal, move_refusal, merge_refusal, unmerge_refusal, rename_refusal, short_name_refusal, set_var_refusal, remove_var_refusal, lacks_var, is_full, no_room, bad_var_names, fixed_vars, are_together, is_alone, entry_of};
+ghost use Rattle.wc_buffers.specs.Calls.{Answers, no_buffer, is_bad_name, bad_name, bad_names, is_fixed, fixed_var, name_taken, other_named, add_refusal_so_far, close_refusal, move_refusal, merge_refusal, unmerge_refusal, rename_refusal, short_name_refusal, var_refusal, set_var_refusal, remove_var_refusal, lacks_var, is_full, no_room, bad_var_names, fixed_vars, are_together, is_alone, entry_of};
 
 use crate::buffers::Buffers;
 use crate::group::MOST_BUFFERS;
@@ -252,6 +252,20 @@ impl Buffers {
         bad_name(SHORT_NAME_LIMIT, name)
     }
 
+    /// The first reason not to set or remove any variable of this name.
+    #[tactic(auto, unfolding(crate::specs::Calls::var_refusal))]
+    fn var_refusal(&self, alloc: Global, h: Handle, name: &Text) -> Option<BufferRefused>
+        ensures { Answers (var_refusal h name.now self.now) result }
+    {
+        if let Some(refused) = self.no_buffer(h) {
+            return Some(refused);
+        }
+        if let Some(refused) = bad_name(VAR_NAME_LIMIT, name.as_slice()) {
+            return Some(refused);
+        }
+        fixed_var(alloc, name)
+    }
+
     #[tactic(auto, unfolding(crate::specs::Calls::set_var_refusal))]
     pub(crate) fn set_var_refusal(
         &self,
@@ -261,13 +275,7 @@ impl Buffers {
     ) -> Option<BufferRefused>
         ensures { Answers (set_var_refusal h name.now self.now) result }
     {
-        if let Some(refused) = self.no_buffer(h) {
-            return Some(refused);
-        }
-        if let Some(refused) = bad_name(VAR_NAME_LIMIT, name.as_slice()) {
-            return Some(refused);
-        }
-        if let Some(refused) = fixed_var(alloc, name) {
+        if let Some(refused) = self.var_refusal(alloc, h, name) {
             return Some(refused);
         }
         if self.lacks_var(h, name.as_slice()) && self.is_full(h) {
@@ -287,13 +295,7 @@ impl Buffers {
     ) -> Option<BufferRefused>
         ensures { Answers (remove_var_refusal h name.now self.now) result }
     {
-        if let Some(refused) = self.no_buffer(h) {
-            return Some(refused);
-        }
-        if let Some(refused) = bad_name(VAR_NAME_LIMIT, name.as_slice()) {
-            return Some(refused);
-        }
-        if let Some(refused) = fixed_var(alloc, name) {
+        if let Some(refused) = self.var_refusal(alloc, h, name) {
             return Some(refused);
         }
         if !self.lacks_var(h, name.as_slice()) {

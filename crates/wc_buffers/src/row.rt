@@ -1,4 +1,4 @@
-use wc_text::{Handle, Text};
+use wc_text::{Handle, Items, Pair, Text};
 
 /// What is kept of a buffer beside its variables.
 #[derive(Drop)]
@@ -12,4 +12,14 @@ pub struct BufferRow {
     pub short_name: Text,
     pub title: Text,
     pub hidden: bool,
+}
+
+/// What a new buffer is made of, before its handles are drawn. The variables `plugin` and `name`
+/// are not among its variables, since they follow from the full name.
+#[derive(Drop)]
+pub struct BufferSpec {
+    pub full_name: Text,
+    pub short_name: Text,
+    pub title: Text,
+    pub vars: Items<Pair>,
 }

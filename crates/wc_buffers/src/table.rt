@@ -92,14 +92,18 @@ impl GroupTable {
     pub(crate) fn are_together(&self, h: Handle, into: Handle) -> bool
         ensures { result ≡ list_any (λ g. in_group key h.0 g && in_group key into.0 g) self.now }
     {
-        self.groups.iter().any(|group| group.has(h) && group.has(into))
+        self.groups
+            .iter()
+            .any(|group| group.has(h) && group.has(into))
     }
 
     /// Whether a buffer is the only one of its group.
     pub(crate) fn is_alone(&self, h: Handle) -> bool
         ensures { result ≡ list_any (λ g. in_group key h.0 g && (length g == 1)) self.now }
     {
-        self.groups.iter().any(|group| group.has(h) && group.len() == 1)
+        self.groups
+            .iter()
+            .any(|group| group.has(h) && group.len() == 1)
     }
 
     /// A buffer as a group of its own at the end.

@@ -88,12 +88,7 @@ impl Vars {
     }
 
     /// Sets a variable: a new one goes last, a changed one keeps its place. True where it is new.
-    pub(crate) fn set(
-        &mut self,
-        alloc: Global,
-        name: &[u8],
-        value: &[u8],
-    ) -> Result<bool, NoMemory>
+    pub(crate) fn set(&mut self, alloc: Global, name: &[u8], value: &[u8]) -> Result<bool, NoMemory>
         requires { IsUtf8 value.now }
         ensures ok { OnOk result (self.new ≡ set_var (var name.now value.now) self.old) }
         ensures new { IfOk result (λ new. new ≡ is_none (var_of name.now self.old)) }
@@ -186,10 +181,7 @@ fn part_at_dot(full_name: &[u8]) -> (&[u8], &[u8])
     ensures behind { result.1.now ≡ after_first (λ b. b == 46) full_name.now }
 {
     match dot_place(full_name) {
-        Some(place) => (
-            full_name.split_at(place).0,
-            full_name.split_at(place + 1).1,
-        ),
+        Some(place) => (full_name.split_at(place).0, full_name.split_at(place + 1).1),
         None => (full_name, &[]),
     }
 }

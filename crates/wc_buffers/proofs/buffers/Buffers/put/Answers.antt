@@ -22,7 +22,7 @@ invariant_of-self-2 c =
     let gs = c.self.inside.table in
     let absent = is_not_grouped gs c.self.inside.entries c.self.inside.names c.self.invariant e.row.handle (rw c.self.view_is c.requires.absent) in
     subst (λ g. IsKept g c.insert-2.new.entries c.insert.new.names) (sym c.add.ensures)
-    (kept_added e gs c.self.inside.entries c.insert-2.new.entries c.self.inside.names c.insert.new.names absent c.requires.fits
+    (kept_added e gs c.self.inside.entries c.insert-2.new.entries c.self.inside.names c.insert.new.names c.requires.handle absent c.requires.fits
     (free_for_new gs c.self.inside.entries c.self.inside.names c.self.invariant e.row.full_name e.row.handle absent (rw c.self.view_is c.requires.free))
     (λ q. c.insert-2.ensures q ∙ ap (cond (eqb e.row.handle.0 q) (Some e)) (c.reserve-2.ensures.same q))
     (λ s. c.insert.ensures s ∙ ap (λ name. cond (bytes_eq name s) (Some e.row.handle) (at_name c.reserve.new.names s)) (c.in_ok-name.ensures ∙ c.as_slice.ensures) ∙ ap (cond (bytes_eq e.row.full_name s) (Some e.row.handle)) (c.reserve.ensures.same s))
