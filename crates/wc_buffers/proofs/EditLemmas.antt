@@ -1,5 +1,5 @@
 -- Edits of the buffers, at a buffer that is there.
-use Rattle.std.proofs.Common.{◌≡◌, ℕ, ◌<◌, Bool, true, false, ◌&&◌, ◌||◌, eqb, eqb-true, [], ◌∷◌, List, Option, Some, None, is_some, IsSomeAnd, length, map, refl, ap, sym, subst, ◌∙◌}
+use Rattle.std.proofs.Common.{◌≡◌, ℕ, ◌<◌, Bool, true, false, ◌&&◌, ◌||◌, eqb, eqb-true, [], ◌∷◌, List, Option, Some, None, is_some, IsSomeAnd, length, map, refl, sym, subst, ◌∙◌}
 use Rattle.std.proofs.lemmas.List.{length-map}
 use Rattle.std.proofs.lemmas.Bool.{false≢true, false_from_ne_true}
 use Rattle.std.specs.HashMap.{HashMap}
@@ -8,11 +8,10 @@ use Rattle.std.specs.declared.alloc.Global.{Global}
 use Rattle.std.specs.declared.vec.Vec.{Vec}
 use Rattle.wc_text.specs.declared.names.Handle.{Handle}
 use Rattle.wc_buffers.specs.declared.entry.BufferEntry.{BufferEntry}
-use Rattle.wc_buffers.specs.Calls.{handle_of, is_there, changed}
-use Rattle.wc_buffers.specs.Groups.{rows, in_group, has, take_out, merge, move_group, unmerge, times}
-use Rattle.wc_buffers.specs.Kept.{at_handle, at_name, entry_at, shown, IsKept, IsBuffer, IsChangedAt}
-use Rattle.wc_buffers.specs.Table.{key, AreGroups}
-use Rattle.wc_buffers.proofs.GroupLaws.{has_from_times, times-move_group, times-unmerge, times-take_out, times-append_to}
+use Rattle.wc_buffers.specs.Calls.{is_there, changed}
+use Rattle.wc_buffers.specs.Groups.{rows, in_group, has}
+use Rattle.wc_buffers.specs.Kept.{at_handle, entry_at, shown, IsKept, IsBuffer, IsChangedAt}
+use Rattle.wc_buffers.specs.Table.{key}
 use Rattle.wc_buffers.proofs.Keeps.{kept_changed, shown_changed}
 use Rattle.wc_buffers.proofs.Shown.{there-shown, has-shown, rows-shown}
 

@@ -1,12 +1,11 @@
 -- A buffer that was changed keeps its limits, and its texts are text.
-use Rattle.std.proofs.Common.{◌≡◌, ℕ, zero, suc, ◌+◌, ◌-◌, ◌≤◌, ◌<◌, Bool, true, false, cond, not, ◌&&◌, ◌||◌, ltb, leb, eqb, ◌⊎◌, inl, inr, List, [], ◌∷◌, ◌++◌, Option, Some, None, option_map, find, take, drop, length, get_or, fold, codes, bytes_eq, is_none, All, refl, ap, sym, subst, ◌∙◌, arith, length-take, length-drop, take_all, IsUtf8, IsAscii}
+use Rattle.std.proofs.Common.{◌≡◌, ℕ, zero, suc, ◌+◌, ◌≤◌, ◌<◌, Bool, true, false, cond, ◌&&◌, ltb, leb, eqb, ◌⊎◌, inl, inr, List, [], ◌∷◌, Option, Some, None, option_map, find, take, drop, length, get_or, codes, bytes_eq, is_none, All, refl, ap, sym, subst, ◌∙◌, arith, length-take, length-drop, take_all, IsUtf8, IsAscii}
 use Rattle.std.specs.List.{position_or_len, before_first, after_first, list_all}
-use Rattle.std.specs.Cmp.Lexicographic.{bytes_decides}
 use Rattle.std.proofs.lemmas.Bool.{true≢false, or_parts, and_parts, ltb-true, ltb-false, leb-false, and_cases, eqb-true}
 use Rattle.std.proofs.lemmas.Bool.Decides.{nat_tests}
 use Rattle.std.proofs.lemmas.List.{drop_all}
-use Rattle.std.proofs.lemmas.List.Elements.{recursion_from_All, All-head, All-tail}
-use Rattle.std.proofs.lemmas.List.Sums.{passes_at_first, prefix_len-le-length}
+use Rattle.std.proofs.lemmas.List.Elements.{All-head, All-tail}
+use Rattle.std.proofs.lemmas.List.Sums.{passes_at_first}
 use Rattle.std.proofs.lemmas.Str.{IsUtf8-nil, IsUtf8-take, IsUtf8-drop, IsUtf8-from_ascii, IsCharBoundary-before_ascii, IsCharBoundary-after_ascii}
 use Rattle.wc_text.specs.Cut.{cut_of}
 use Rattle.wc_text.specs.declared.names.Pair.{Pair}
@@ -14,10 +13,10 @@ use Rattle.wc_text.proofs.CutLemmas.{cut_within, cut_utf8}
 use Rattle.wc_buffers.specs.declared.row.BufferRow.{BufferRow}
 use Rattle.wc_buffers.specs.declared.entry.BufferEntry.{BufferEntry}
 use Rattle.wc_buffers.specs.declared.refused.BufferRefused.{BufferRefused}
-use Rattle.wc_buffers.specs.Calls.{is_bad_name, bad_name, is_fixed, fixed_var, bad_var_names, fixed_vars, bad_names, or_else, when, too_many_vars, opened, with_hidden, with_full_name, with_short_name, with_title, with_var, without_var, lacks_var, is_full}
+use Rattle.wc_buffers.specs.Calls.{is_bad_name, bad_name, is_fixed, bad_var_names, fixed_vars, bad_names, or_else, when, too_many_vars, opened, with_hidden, with_full_name, with_short_name, with_title, with_var, without_var, lacks_var, is_full}
 use Rattle.wc_buffers.specs.Entries.{IsText}
 use Rattle.wc_buffers.specs.Kept.{IsVar, AreVars, HasText, IsBuffer}
-use Rattle.wc_buffers.specs.Vars.{cut_to, pair, var, var_of, set_var, remove_var, plugin_var, name_var, set_fixed, set_all, vars_of}
+use Rattle.wc_buffers.specs.Vars.{cut_to, var, var_of, set_var, remove_var, plugin_var, name_var, set_fixed, set_all, vars_of}
 use Rattle.wc_buffers.proofs.GroupLaws.{by_bool}
 
 -- ---- variables

@@ -1,6 +1,6 @@
 -- The laws of the edits of groups: they commute with a map that keeps the keys, and keys stay distinct.
-use Rattle.std.proofs.Common.{◌≡◌, ℕ, ◌+◌, ◌≤◌, Bool, true, false, cond, not, ◌||◌, ltb, eqb, List, [], ◌∷◌, ◌++◌, ◌⊎◌, map, take, drop, length, filter, position, find, flat_map, Option, Some, None, option_map, refl, ap, sym, ◌∙◌, inl, inr, arith, take-append-drop, suc, lt-ltb}
-use Rattle.std.specs.List.{list_any, prefix_len, position_or_len}
+use Rattle.std.proofs.Common.{◌≡◌, ℕ, ◌+◌, ◌≤◌, Bool, true, false, cond, not, ltb, eqb, List, [], ◌∷◌, ◌++◌, ◌⊎◌, map, take, drop, length, filter, position, find, flat_map, Some, option_map, refl, ap, sym, ◌∙◌, inr, arith, take-append-drop, suc, lt-ltb}
+use Rattle.std.specs.List.{list_any, prefix_len}
 use Rattle.std.proofs.lemmas.Bool.Decides.{nat_tests}
 use Rattle.std.proofs.lemmas.List.{take-map, drop-map, map-append, length-map}
 use Rattle.wc_buffers.specs.Groups.{filled, AllFilled, rows, in_group, has, row_of, place, times_in, times, only, without, update, take_out, pick, append_to, merge, others, own, move_group, part, unmerge}

@@ -1,11 +1,11 @@
 -- What holds of the groups that are shown.
-use Rattle.std.proofs.Common.{◌≡◌, ℕ, ◌≤◌, List, Some, is_some, length, sym, subst, ap, ◌∙◌, arith}
+use Rattle.std.proofs.Common.{◌≡◌, ℕ, List, Some, is_some, sym, ap, ◌∙◌, arith}
 use Rattle.std.specs.HashMap.{HashMap}
 use Rattle.std.specs.declared.alloc.Global.{Global}
 use Rattle.std.specs.declared.vec.Vec.{Vec}
 use Rattle.wc_text.specs.declared.names.Handle.{Handle}
 use Rattle.wc_buffers.specs.declared.entry.BufferEntry.{BufferEntry}
-use Rattle.wc_buffers.specs.Calls.{handle_of, entry_of, named}
+use Rattle.wc_buffers.specs.Calls.{handle_of}
 use Rattle.wc_buffers.specs.Kept.{at_handle, entry_at, shown, IsKept, AreBuffers}
 use Rattle.wc_buffers.specs.Table.{key, AreGroups}
 use Rattle.wc_buffers.proofs.GroupLaws.{times-map, AllFilled-map}

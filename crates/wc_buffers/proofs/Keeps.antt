@@ -1,20 +1,19 @@
 -- What is kept of the buffers after an edit, and the groups that it shows.
-use Rattle.std.proofs.Common.{◌≡◌, ℕ, ◌<◌, ◌≤◌, Bool, true, false, cond, not, ◌&&◌, ◌||◌, eqb, List, [], ◌∷◌, ◌++◌, Option, Some, None, option_map, unwrap_or, map, length, is_some, refl, ap, sym, subst, ◌∙◌, bytes_eq, arith, eqb-true, eq-eqb}
+use Rattle.std.proofs.Common.{◌≡◌, ℕ, ◌<◌, Bool, true, false, cond, ◌||◌, eqb, List, [], ◌∷◌, ◌++◌, Option, Some, None, option_map, unwrap_or, map, is_some, refl, ap, sym, subst, ◌∙◌, bytes_eq, arith, eqb-true, eq-eqb}
 use Rattle.std.proofs.lemmas.Bool.{false≢true, true≢false, or_parts, cond-true, cond-false}
 use Rattle.std.proofs.lemmas.Bool.Decides.{nat_tests}
 use Rattle.std.proofs.lemmas.List.{map-append}
 use Rattle.std.proofs.lemmas.List.Folds.{list_any-append}
 use Rattle.std.specs.HashMap.{HashMap}
-use Rattle.std.specs.List.{list_any}
 use Rattle.std.specs.Cmp.Lexicographic.{bytes_decides}
 use Rattle.std.specs.declared.alloc.Global.{Global}
 use Rattle.std.specs.declared.vec.Vec.{Vec}
 use Rattle.wc_text.specs.declared.names.Handle.{Handle}
 use Rattle.wc_buffers.specs.declared.entry.BufferEntry.{BufferEntry}
 use Rattle.wc_buffers.specs.Calls.{handle_of, with_full_name}
-use Rattle.wc_buffers.specs.Groups.{rows, in_group, has, take_out, merge, move_group, unmerge, update, times}
+use Rattle.wc_buffers.specs.Groups.{in_group, has, take_out, update}
 use Rattle.wc_buffers.specs.Kept.{at_handle, at_name, blank, entry_at, shown, IsKept, IsBuffer, IsChangedAt}
-use Rattle.wc_buffers.specs.Table.{key, AreGroups}
+use Rattle.wc_buffers.specs.Table.{key}
 use Rattle.wc_buffers.proofs.GroupLaws.{by_bool, take_out-map, has_tells, times-take_out}
 use Rattle.wc_buffers.proofs.Shown.{key_at}
 

@@ -1,5 +1,5 @@
 -- The buffers of a name, as the index of names tells them.
-use Rattle.std.proofs.Common.{◌≡◌, ℕ, Bool, true, false, cond, not, ◌&&◌, ◌||◌, eqb, List, [], ◌∷◌, Option, Some, None, option_map, unwrap_or, find, map, is_some, refl, ap, sym, subst, ◌∙◌, bytes_eq, eqb-true, eq-eqb}
+use Rattle.std.proofs.Common.{◌≡◌, ℕ, Bool, true, false, not, ◌&&◌, ◌||◌, eqb, List, [], ◌∷◌, Option, Some, None, option_map, unwrap_or, find, map, is_some, refl, ap, sym, subst, ◌∙◌, eqb-true, eq-eqb}
 use Rattle.std.proofs.lemmas.Bool.{false≢true, or_parts, not-false, false_from_ne_true}
 use Rattle.std.specs.Cmp.Lexicographic.{bytes_decides}
 use Rattle.std.specs.HashMap.{HashMap}

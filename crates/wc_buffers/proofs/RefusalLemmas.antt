@@ -1,19 +1,17 @@
 -- What holds where a call is not refused.
-use Rattle.std.proofs.Common.{◌≡◌, ◌≢◌, ℕ, ◌+◌, ◌-◌, ◌<◌, ◌≤◌, Bool, true, false, cond, not, ◌&&◌, ◌||◌, ltb, leb, eqb, List, Option, Some, None, option_map, find, length, is_none, refl, ap, sym, ◌∙◌, arith, All}
+use Rattle.std.proofs.Common.{◌≡◌, ◌≢◌, ℕ, ◌+◌, ◌-◌, ◌<◌, ◌≤◌, Bool, true, false, cond, not, ◌&&◌, ltb, eqb, List, Option, Some, None, option_map, length, refl, ap, sym, ◌∙◌, arith}
 use Rattle.std.proofs.lemmas.Bool.{false≢true, or_parts, not-false, leb-false, lt-ltb, le-ltb}
 use Rattle.std.proofs.lemmas.Bool.Decides.{nat_tests}
 use Rattle.std.specs.List.{list_any}
 use Rattle.wc_text.specs.declared.names.Handle.{Handle}
 use Rattle.wc_text.specs.declared.names.Pair.{Pair}
 use Rattle.wc_buffers.specs.declared.row.BufferRow.{BufferRow}
-use Rattle.wc_buffers.specs.declared.entry.BufferEntry.{BufferEntry}
 use Rattle.wc_buffers.specs.declared.refused.BufferRefused.{BufferRefused}
-use Rattle.wc_buffers.specs.declared.refused.BufferRefused.TheVariants.{NoMemory, NameTaken, SameGroup, TooMany}
+use Rattle.wc_buffers.specs.declared.refused.BufferRefused.TheVariants.{NoMemory, TooMany}
 use Rattle.wc_buffers.specs.Calls.{Groups, Answers, handle_of, is_there, entry_of, number, other_named, when, or_else, no_buffer, is_bad_name, bad_name, is_fixed, fixed_var, bad_names, name_taken, no_room, too_many_vars, add_refusal_so_far, add_refusal, close_refusal, move_refusal, are_together, same_group, merge_refusal, is_alone, unmerge_refusal, rename_refusal, short_name_refusal, lacks_var, is_full, var_refusal, set_var_refusal, remove_var_refusal}
 use Rattle.wc_buffers.specs.Groups.{rows, in_group, place}
 use Rattle.wc_buffers.specs.Vars.{vars_of}
 use Rattle.wc_buffers.proofs.Fits.{or_none, when_none}
-use Rattle.wc_buffers.proofs.GroupLaws.{by_bool}
 use Rattle.wc_buffers.proofs.TableLemmas.{position_none}
 
 pub not_due : (due answer : Option BufferRefused) → Answers due answer → answer ≡ None → due ≡ None

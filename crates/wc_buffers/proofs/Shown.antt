@@ -1,6 +1,6 @@
 -- What the groups of buffers are, as the handles and what is stored under them show them.
-use Rattle.std.proofs.Common.{◌≡◌, ◌≢◌, ℕ, ◌≤◌, ◌<◌, Bool, true, false, cond, not, ◌&&◌, ◌||◌, ◌+◌, eqb, List, [], ◌∷◌, ◌++◌, Option, Some, None, option_map, unwrap_or, find, map, length, is_some, refl, ap, sym, subst, ◌∙◌, bytes_eq, arith, eqb-true, eq-eqb, true≢false}
-use Rattle.std.proofs.lemmas.Bool.{false≢true, or_parts, false_from_ne_true}
+use Rattle.std.proofs.Common.{◌≡◌, ℕ, Bool, true, false, ◌&&◌, ◌||◌, ◌+◌, eqb, List, [], ◌∷◌, Option, Some, None, option_map, unwrap_or, find, map, length, is_some, refl, ap, sym, ◌∙◌, eqb-true}
+use Rattle.std.proofs.lemmas.Bool.{false≢true, or_parts}
 use Rattle.std.proofs.lemmas.List.{length-map}
 use Rattle.std.proofs.lemmas.List.Folds.{list_any-append}
 use Rattle.std.specs.HashMap.{HashMap}
@@ -9,10 +9,10 @@ use Rattle.std.specs.declared.alloc.Global.{Global}
 use Rattle.std.specs.declared.vec.Vec.{Vec}
 use Rattle.wc_text.specs.declared.names.Handle.{Handle}
 use Rattle.wc_buffers.specs.declared.entry.BufferEntry.{BufferEntry}
-use Rattle.wc_buffers.specs.Calls.{handle_of, entry_of, number, is_there, are_together, is_alone}
-use Rattle.wc_buffers.specs.Groups.{rows, in_group, has, place, row_of, take_out, merge, move_group, unmerge, update, times}
-use Rattle.wc_buffers.specs.Kept.{at_handle, at_name, blank, entry_at, shown, IsKept, handles, IsChangedAt}
-use Rattle.wc_buffers.specs.Table.{key, AreGroups}
+use Rattle.wc_buffers.specs.Calls.{handle_of, number, are_together, is_alone}
+use Rattle.wc_buffers.specs.Groups.{rows, in_group, has, place, row_of}
+use Rattle.wc_buffers.specs.Kept.{at_handle, blank, entry_at, shown, IsKept, handles}
+use Rattle.wc_buffers.specs.Table.{key}
 use Rattle.wc_buffers.proofs.GroupLaws.{by_bool, list_any-map, in_group-map, has-map, place-map, row_of-map, rows-map}
 
 -- the entry of a handle has that handle

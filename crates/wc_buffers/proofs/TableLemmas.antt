@@ -1,16 +1,16 @@
 -- Groups of handles, each handle once: where a handle stands, and what an edit there leaves.
-use Rattle.std.proofs.Common.{◌≡◌, ℕ, zero, suc, ◌+◌, ◌-◌, ◌≤◌, ◌<◌, Bool, true, false, cond, not, ◌&&◌, ◌||◌, ltb, eqb, List, [], ◌∷◌, ◌++◌, map, take, drop, set, get_or, length, filter, insert, remove, position, flat_map, Option, Some, None, refl, ap, sym, subst, ◌∙◌, arith, append_assoc, append-nil, take_at, drop_at, length-append, lt-ltb, le-ltb, eqb-true, take-append-drop}
+use Rattle.std.proofs.Common.{◌≡◌, ℕ, suc, ◌+◌, ◌≤◌, ◌<◌, Bool, true, false, cond, not, ◌&&◌, ◌||◌, ltb, eqb, List, [], ◌∷◌, ◌++◌, map, take, drop, set, get_or, length, insert, remove, position, Option, Some, None, refl, ap, sym, subst, ◌∙◌, arith, append_assoc, append-nil, take_at, drop_at, length-append, lt-ltb, le-ltb, eqb-true, take-append-drop}
 use Rattle.std.specs.List.{list_any, position_or_len}
-use Rattle.std.proofs.lemmas.Bool.{false≢true, true≢false, or_parts, and_cases}
+use Rattle.std.proofs.lemmas.Bool.{false≢true, or_parts}
 use Rattle.std.proofs.lemmas.Bool.Decides.{nat_tests}
 use Rattle.std.proofs.lemmas.List.{set_at, get_or_at, map-append}
 use Rattle.std.proofs.lemmas.List.Concat.{flat_map-append}
 use Rattle.std.proofs.lemmas.List.Elements.{filter-append}
 use Rattle.std.proofs.lemmas.List.Folds.{list_any-append}
 use Rattle.wc_text.specs.declared.names.Handle.{Handle}
-use Rattle.wc_buffers.specs.Groups.{filled, AllFilled, rows, in_group, has, place, times_in, times, only, without, take_out, pick, append_to, merge, others, own, move_group, part, unmerge}
+use Rattle.wc_buffers.specs.Groups.{filled, AllFilled, rows, in_group, has, place, times_in, times, only, without, take_out, pick, append_to, others, own, move_group, part, unmerge}
 use Rattle.wc_buffers.specs.Table.{key, AllEmpty, AreGroups}
-use Rattle.wc_buffers.proofs.GroupLaws.{by_bool, filled-some, times_in-append, times-append, in_group_tells, has_tells, times_in-without, times-take_out, times-append_to, times-move_group, times-unmerge, times_in-pick, has_from_times}
+use Rattle.wc_buffers.proofs.GroupLaws.{by_bool, filled-some, times-append, in_group_tells, has_tells, times-take_out, times-append_to, times-move_group, times-unmerge}
 
 -- ---- the first element that passes a test
 

@@ -1,5 +1,5 @@
 -- Variables as they are stored, each under the bytes of its name.
-use Rattle.std.proofs.Common.{◌≡◌, ℕ, ◌≤◌, Bool, true, false, cond, List, [], ◌∷◌, Option, Some, None, option_map, find, take, length, refl, ap, sym, subst, ◌∙◌, bytes_eq, is_none, is_some, not, get_or, ◌<◌, All}
+use Rattle.std.proofs.Common.{◌≡◌, ℕ, Bool, true, false, cond, List, [], ◌∷◌, Option, Some, None, option_map, length, refl, ap, sym, subst, ◌∙◌, bytes_eq, is_none, is_some, not, get_or, ◌<◌, All}
 use Rattle.std.specs.Str.{IsUtf8}
 use Rattle.std.proofs.lemmas.List.Elements.{All-get_or}
 use Rattle.std.proofs.lemmas.Bool.{false≢true}
@@ -10,7 +10,7 @@ use Rattle.std.specs.declared.vec.Vec.{Vec}
 use Rattle.indexmap.specs.IndexMap.{insert_entry}
 use Rattle.wc_text.specs.declared.names.Pair.{Pair}
 use Rattle.wc_buffers.specs.Entries.{AreNamed, IsText}
-use Rattle.wc_buffers.specs.Vars.{pair, var, var_of, value_of, set_var, remove_var, set_all}
+use Rattle.wc_buffers.specs.Vars.{var_of, value_of, set_var, remove_var}
 use Rattle.wc_buffers.proofs.GroupLaws.{by_bool}
 
 abbrev Stored : Type 0

@@ -1,4 +1,4 @@
-use Rattle.std.proofs.Common.{◌≡◌, ◌++◌, ◌∷◌, [], ◌∙◌, List, ap, sym, subst, length, arith, length-append}
+use Rattle.std.proofs.Common.{◌++◌, ◌∷◌, [], ◌∙◌, List, ap, sym, subst, length, arith, length-append}
 use Rattle.wc_text.specs.declared.names.Handle.{Handle}
 use Rattle.wc_buffers.specs.Table.{AllEmpty, AreGroups}
 use Rattle.wc_buffers.proofs.TableLemmas.{groups-le-rows, added_are, AllEmpty-pop}

@@ -1,6 +1,6 @@
-use Rattle.std.proofs.Common.{◌≡◌, ◌++◌, ◌∷◌, [], ◌∙◌, List, Some, ap, sym, subst, length, arith, length-append, length-set, set}
+use Rattle.std.proofs.Common.{◌≡◌, ◌++◌, ◌∷◌, [], ◌∙◌, List, Some, ap, sym, subst, length, arith, length-set}
 use Rattle.wc_text.specs.declared.names.Handle.{Handle}
-use Rattle.wc_buffers.specs.Groups.{place, append_to}
+use Rattle.wc_buffers.specs.Groups.{place}
 use Rattle.wc_buffers.specs.Table.{key, AreGroups}
 use Rattle.wc_buffers.proofs.TableLemmas.{never_nowhere, at, read_there, appended_there, appended_are, group-le-rows}
 use Rattle.wc_buffers.proofs.table.append.Goals as goal

@@ -1,6 +1,6 @@
-use Rattle.std.proofs.Common.{◌≡◌, ◌++◌, ◌∷◌, [], ◌∙◌, List, Some, ap, sym, subst, length, arith, length-append, insert}
+use Rattle.std.proofs.Common.{◌≡◌, ◌∙◌, List, Some, ap, sym, subst, length, arith, insert}
 use Rattle.wc_text.specs.declared.names.Handle.{Handle}
-use Rattle.wc_buffers.specs.Groups.{place, move_group}
+use Rattle.wc_buffers.specs.Groups.{place}
 use Rattle.wc_buffers.specs.Table.{key, AreGroups}
 use Rattle.wc_buffers.proofs.TableLemmas.{never_nowhere, at, moved_there, moved_length, moved_are}
 use Rattle.wc_buffers.proofs.table.move_group.Goals as goal

@@ -1,8 +1,8 @@
-use Rattle.std.proofs.Common.{◌≡◌, ◌++◌, ◌∷◌, [], ◌∙◌, List, Some, ap, sym, subst, length, arith, length-append, length-set, set}
+use Rattle.std.proofs.Common.{◌≡◌, ◌∷◌, [], ◌∙◌, List, Some, ap, sym, subst, length, arith, length-append, length-set}
 use Rattle.wc_text.specs.declared.names.Handle.{Handle}
 use Rattle.wc_buffers.specs.Groups.{place, without}
 use Rattle.wc_buffers.specs.Table.{key, AllEmpty, AreGroups}
-use Rattle.wc_buffers.proofs.TableLemmas.{never_nowhere, at, read_there, set_left, removed_left, removed_length, empty_there, taken_are, AllEmpty-push}
+use Rattle.wc_buffers.proofs.TableLemmas.{never_nowhere, read_there, set_left, removed_left, removed_length, empty_there, taken_are, AllEmpty-push}
 use Rattle.wc_buffers.proofs.table.remove.Goals as goal
 
 pub unreachable-requires : goal.unreachable-requires

@@ -1,6 +1,6 @@
 use Rattle.std.proofs.Common.{◌≡◌, ◌+◌, ◌++◌, ◌∷◌, [], ◌∙◌, List, Some, ap, sym, subst, length, arith, length-append, insert, set}
 use Rattle.wc_text.specs.declared.names.Handle.{Handle}
-use Rattle.wc_buffers.specs.Groups.{place, without, unmerge}
+use Rattle.wc_buffers.specs.Groups.{place, without}
 use Rattle.wc_buffers.specs.Table.{key, AllEmpty, AreGroups}
 use Rattle.wc_buffers.proofs.TableLemmas.{never_nowhere, at, read_there, unmerged_there, unmerged_length, unmerged_are, leaves_others, fewer, AllEmpty-pop}
 use Rattle.wc_buffers.proofs.table.unmerge.Goals as goal

@@ -1,7 +1,6 @@
-use Rattle.std.proofs.Common.{◌≡◌, ◌∙◌, sym, ap, subst, is_none, is_some, not}
+use Rattle.std.proofs.Common.{◌∙◌, sym, ap, subst}
 use Rattle.std.specs.Map.{values_of}
 use Rattle.wc_buffers.specs.Entries.{AreNamed}
-use Rattle.wc_buffers.specs.Vars.{var_of}
 use Rattle.wc_buffers.proofs.VarLemmas.{put_var, named_put, put_new, none_new}
 use Rattle.wc_buffers.proofs.vars.put.Goals as goal
 

@@ -1,14 +1,10 @@
-use Rattle.std.proofs.Common.{◌≡◌, ◌≢◌, ◌∙◌, ◌<◌, Some, None, ap, sym, subst, length, All, arith, ltb, true, false}
-use Rattle.std.proofs.lemmas.Bool.{lt-ltb, le-ltb}
+use Rattle.std.proofs.Common.{◌≡◌, ◌∙◌, None, ap, sym, subst, length, All, arith}
 use Rattle.std.specs.List.{list_any}
-use Rattle.wc_text.specs.declared.names.Pair.{Pair}
 use Rattle.wc_buffers.specs.declared.entry.BufferEntry.{BufferEntry}
-use Rattle.wc_buffers.specs.declared.refused.BufferRefused.{BufferRefused}
-use Rattle.wc_buffers.specs.Calls.{add_refusal_so_far, opened, too_many_vars, other_named}
+use Rattle.wc_buffers.specs.Calls.{add_refusal_so_far, opened, other_named}
 use Rattle.wc_buffers.specs.Entries.{IsText}
 use Rattle.wc_buffers.specs.Groups.{rows}
 use Rattle.wc_buffers.specs.Kept.{IsBuffer}
-use Rattle.wc_buffers.specs.Vars.{vars_of}
 use Rattle.wc_buffers.proofs.Fits.{opened_fits}
 use Rattle.wc_buffers.proofs.RefusalLemmas.{not_due, add_good, add_refused, add_rest, vars_refused, vars_good}
 use Rattle.wc_buffers.proofs.buffers.Buffers.add.Goals as goal

@@ -1,4 +1,4 @@
-use Rattle.std.proofs.Common.{◌≡◌, ◌∙◌, ap, false}
+use Rattle.std.proofs.Common.{◌∙◌, ap}
 use Rattle.wc_buffers.specs.Calls.{handle_of, are_together, merged}
 use Rattle.wc_buffers.specs.Kept.{entry_at, shown}
 use Rattle.wc_buffers.specs.Table.{key}

@@ -1,4 +1,4 @@
-use Rattle.std.proofs.Common.{◌≡◌, ◌∙◌, ap}
+use Rattle.std.proofs.Common.{◌∙◌, ap}
 use Rattle.wc_buffers.specs.Calls.{are_together}
 use Rattle.wc_buffers.proofs.Shown.{together-shown}
 use Rattle.wc_buffers.proofs.buffers.Buffers.are_together.Goals as goal

@@ -1,4 +1,4 @@
-use Rattle.std.proofs.Common.{◌≡◌, ◌∙◌, ap, length}
+use Rattle.std.proofs.Common.{◌∙◌, ap, length}
 use Rattle.wc_buffers.specs.Groups.{rows}
 use Rattle.wc_buffers.proofs.Shown.{rows-shown}
 use Rattle.wc_buffers.proofs.buffers.Buffers.count.Goals as goal

@@ -1,4 +1,4 @@
-use Rattle.std.proofs.Common.{◌≡◌, ◌∙◌, ap}
+use Rattle.std.proofs.Common.{◌∙◌, ap}
 use Rattle.wc_buffers.specs.Calls.{entry_of}
 use Rattle.wc_buffers.proofs.Shown.{entry-shown}
 use Rattle.wc_buffers.proofs.buffers.Buffers.entry.Goals as goal

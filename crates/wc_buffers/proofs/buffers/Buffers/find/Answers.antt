@@ -1,4 +1,4 @@
-use Rattle.std.proofs.Common.{◌≡◌, ◌∙◌, ap, sym, Some, None}
+use Rattle.std.proofs.Common.{◌∙◌, ap, sym, Some, None}
 use Rattle.wc_buffers.specs.Calls.{named}
 use Rattle.wc_buffers.proofs.Named.{named-shown}
 use Rattle.wc_buffers.proofs.buffers.Buffers.find.Goals as goal

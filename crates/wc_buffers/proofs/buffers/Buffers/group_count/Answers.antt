@@ -1,4 +1,4 @@
-use Rattle.std.proofs.Common.{◌≡◌, ◌∙◌, ap, sym, map, length}
+use Rattle.std.proofs.Common.{◌∙◌, ap, sym, map, length}
 use Rattle.std.proofs.lemmas.List.{length-map}
 use Rattle.wc_buffers.specs.Kept.{entry_at}
 use Rattle.wc_buffers.proofs.buffers.Buffers.group_count.Goals as goal

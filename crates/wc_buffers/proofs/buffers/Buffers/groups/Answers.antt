@@ -1,4 +1,4 @@
-use Rattle.std.proofs.Common.{◌≡◌, ◌∙◌, ap, subst}
+use Rattle.std.proofs.Common.{◌∙◌, ap, subst}
 use Rattle.wc_buffers.specs.Kept.{handles, AreBuffers}
 use Rattle.wc_buffers.proofs.Held.{are_buffers}
 use Rattle.wc_buffers.proofs.Shown.{handles-shown}

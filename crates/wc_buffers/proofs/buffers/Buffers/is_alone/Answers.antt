@@ -1,4 +1,4 @@
-use Rattle.std.proofs.Common.{◌≡◌, ◌∙◌, ap}
+use Rattle.std.proofs.Common.{◌∙◌, ap}
 use Rattle.wc_buffers.specs.Calls.{is_alone}
 use Rattle.wc_buffers.proofs.Shown.{alone-shown}
 use Rattle.wc_buffers.proofs.buffers.Buffers.is_alone.Goals as goal

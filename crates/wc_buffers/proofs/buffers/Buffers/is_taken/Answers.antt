@@ -1,4 +1,4 @@
-use Rattle.std.proofs.Common.{◌≡◌, ◌∙◌, ap, sym}
+use Rattle.std.proofs.Common.{◌∙◌, ap, sym}
 use Rattle.std.specs.List.{list_any}
 use Rattle.wc_buffers.specs.Calls.{other_named}
 use Rattle.wc_buffers.specs.Groups.{rows}

@@ -1,4 +1,4 @@
-use Rattle.std.proofs.Common.{◌≡◌, ◌∙◌, ap}
+use Rattle.std.proofs.Common.{◌∙◌, ap}
 use Rattle.wc_buffers.specs.Calls.{is_there}
 use Rattle.wc_buffers.proofs.Shown.{there-shown}
 use Rattle.wc_buffers.proofs.buffers.Buffers.is_there.Goals as goal

@@ -1,4 +1,4 @@
-use Rattle.std.proofs.Common.{◌≡◌, ◌∙◌, ◌-◌, ap, sym, subst}
+use Rattle.std.proofs.Common.{◌∙◌, ◌-◌, ap}
 use Rattle.wc_buffers.specs.Calls.{handle_of, moved}
 use Rattle.wc_buffers.specs.Groups.{has, move_group}
 use Rattle.wc_buffers.specs.Kept.{entry_at, shown}

@@ -1,4 +1,4 @@
-use Rattle.std.proofs.Common.{◌≡◌, ◌∙◌, ap}
+use Rattle.std.proofs.Common.{◌∙◌, ap}
 use Rattle.wc_buffers.specs.Calls.{number}
 use Rattle.wc_buffers.proofs.Shown.{number-shown}
 use Rattle.wc_buffers.proofs.buffers.Buffers.number.Goals as goal

@@ -1,4 +1,4 @@
-use Rattle.std.proofs.Common.{◌≡◌, ◌∙◌, ap, sym}
+use Rattle.std.proofs.Common.{◌∙◌, ap}
 use Rattle.wc_buffers.specs.Calls.{handle_of, is_alone, unmerged}
 use Rattle.wc_buffers.specs.Groups.{has, unmerge}
 use Rattle.wc_buffers.specs.Kept.{entry_at, shown}

@@ -1,7 +1,6 @@
-use Rattle.std.proofs.Common.{◌≡◌, ◌∙◌, ◌<◌, ◌++◌, ◌∷◌, [], List, Some, None, cond, eqb, bytes_eq, ap, sym, subst, length}
+use Rattle.std.proofs.Common.{◌∙◌, ◌++◌, ◌∷◌, [], List, Some, cond, eqb, bytes_eq, ap, sym, subst}
 use Rattle.wc_buffers.specs.declared.entry.BufferEntry.{BufferEntry}
-use Rattle.wc_buffers.specs.Groups.{rows}
-use Rattle.wc_buffers.specs.Kept.{at_handle, at_name, shown, IsKept}
+use Rattle.wc_buffers.specs.Kept.{at_name, shown, IsKept}
 use Rattle.wc_buffers.proofs.EditLemmas.{is_not_grouped, room_shown}
 use Rattle.wc_buffers.proofs.Keeps.{kept_same, kept_added, shown_added}
 use Rattle.wc_buffers.proofs.Named.{free_for_new}

@@ -1,6 +1,4 @@
-use Rattle.std.proofs.Common.{◌≡◌, ◌∙◌, List, ℕ, Some, None, cond, bytes_eq, is_some, ap, sym, subst, refl, true}
-use Rattle.std.proofs.lemmas.Bool.{false≢true}
-use Rattle.wc_buffers.specs.declared.entry.BufferEntry.{BufferEntry}
+use Rattle.std.proofs.Common.{◌∙◌, List, ℕ, Some, None, cond, bytes_eq, ap, sym, subst}
 use Rattle.wc_buffers.specs.Calls.{with_full_name, changed}
 use Rattle.wc_buffers.specs.Kept.{at_handle, at_name, IsChangedAt}
 use Rattle.wc_buffers.proofs.EditLemmas.{is_stored, shown_changed_at, stored_entry}

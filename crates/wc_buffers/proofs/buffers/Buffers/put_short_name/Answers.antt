@@ -1,4 +1,4 @@
-use Rattle.std.proofs.Common.{◌≡◌, ◌∙◌, ap, refl}
+use Rattle.std.proofs.Common.{◌∙◌, ap, refl}
 use Rattle.wc_buffers.specs.Calls.{with_short_name, changed}
 use Rattle.wc_buffers.proofs.EditLemmas.{is_stored, kept_changed_at, shown_changed_at}
 use Rattle.wc_buffers.proofs.Fits.{short_name_fits}

@@ -2,7 +2,7 @@ use Rattle.std.proofs.Common.{◌≡◌, ◌∙◌, ◌&&◌, Some, ap, sym, ref
 use Rattle.wc_buffers.specs.Calls.{with_var, changed, lacks_var, is_full, entry_of}
 use Rattle.wc_buffers.proofs.EditLemmas.{is_stored, shown_changed_at}
 use Rattle.wc_buffers.proofs.Fits.{var_fits}
-use Rattle.wc_buffers.proofs.Keeps.{kept_changed, kept_same, shown_same, unchanged}
+use Rattle.wc_buffers.proofs.Keeps.{kept_changed, kept_same, unchanged}
 use Rattle.wc_buffers.proofs.Shown.{entry-shown}
 use Rattle.wc_buffers.proofs.buffers.Buffers.put_var.Goals as goal
 

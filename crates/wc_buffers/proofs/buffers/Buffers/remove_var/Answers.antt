@@ -1,5 +1,5 @@
 use Rattle.std.proofs.Common.{◌∙◌, ap}
-use Rattle.wc_buffers.specs.Calls.{is_fixed, remove_var_refusal}
+use Rattle.wc_buffers.specs.Calls.{is_fixed}
 use Rattle.wc_buffers.proofs.RefusalLemmas.{not_due, remove_var_good}
 use Rattle.wc_buffers.proofs.buffers.Buffers.remove_var.Goals as goal
 

@@ -1,4 +1,3 @@
-use Rattle.std.proofs.Common.{◌∙◌, ap}
 use Rattle.wc_buffers.proofs.RefusalLemmas.{not_due, rename_good}
 use Rattle.wc_buffers.proofs.buffers.Buffers.rename.Goals as goal
 

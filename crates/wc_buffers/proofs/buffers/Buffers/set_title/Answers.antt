@@ -1,5 +1,4 @@
-use Rattle.std.proofs.Common.{◌≤◌, ◌∙◌, ap, sym, subst, length, IsUtf8, List}
-use Rattle.wc_buffers.specs.Vars.{cut_to}
+use Rattle.std.proofs.Common.{◌≤◌, ◌∙◌, sym, subst, length, IsUtf8}
 use Rattle.wc_buffers.proofs.Fits.{cut_short, cut_is_utf8}
 use Rattle.wc_buffers.proofs.buffers.Buffers.set_title.Goals as goal
 

@@ -1,5 +1,5 @@
-use Rattle.std.proofs.Common.{◌≡◌, ◌∙◌, ◌&&◌, ap}
-use Rattle.wc_buffers.specs.Calls.{entry_of, is_fixed, is_full, lacks_var, set_var_refusal}
+use Rattle.std.proofs.Common.{◌∙◌, ◌&&◌, ap}
+use Rattle.wc_buffers.specs.Calls.{entry_of, is_fixed, is_full, lacks_var}
 use Rattle.wc_buffers.proofs.RefusalLemmas.{not_due, set_var_good}
 use Rattle.wc_buffers.proofs.buffers.Buffers.set_var.Goals as goal
 

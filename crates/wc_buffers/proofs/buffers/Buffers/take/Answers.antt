@@ -1,9 +1,7 @@
-use Rattle.std.proofs.Common.{◌≡◌, ◌∙◌, Some, None, cond, bytes_eq, ap, sym, subst, option_map}
+use Rattle.std.proofs.Common.{◌∙◌, None, cond, bytes_eq, ap, sym, subst, option_map}
 use Rattle.wc_buffers.specs.declared.entry.BufferEntry.{BufferEntry}
-use Rattle.wc_buffers.specs.Calls.{buffer_of, closed, handle_of}
-use Rattle.wc_buffers.specs.Groups.{take_out}
-use Rattle.wc_buffers.specs.Kept.{at_name, entry_at, shown, IsKept}
-use Rattle.wc_buffers.specs.Table.{key}
+use Rattle.wc_buffers.specs.Calls.{buffer_of, closed}
+use Rattle.wc_buffers.specs.Kept.{at_name, shown, IsKept}
 use Rattle.wc_buffers.proofs.EditLemmas.{is_stored, is_grouped}
 use Rattle.wc_buffers.proofs.Keeps.{kept_taken, shown_taken}
 use Rattle.wc_buffers.proofs.Shown.{entry-shown}

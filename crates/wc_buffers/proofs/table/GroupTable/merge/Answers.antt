@@ -1,4 +1,4 @@
-use Rattle.std.proofs.Common.{◌≡◌, ◌∙◌, ◌∷◌, [], true, ap, sym, arith, length}
+use Rattle.std.proofs.Common.{◌∙◌, ◌∷◌, [], ap, sym, arith, length}
 use Rattle.wc_buffers.specs.Groups.{rows, has, append_to, merge, take_out}
 use Rattle.wc_buffers.specs.Table.{key}
 use Rattle.wc_buffers.proofs.TableLemmas.{rows-taken, taken_has, taken_lacks, picked, rows-put}

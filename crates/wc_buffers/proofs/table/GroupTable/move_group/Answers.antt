@@ -1,4 +1,4 @@
-use Rattle.std.proofs.Common.{◌≡◌, ◌∙◌, Some, None, ap, sym, length}
+use Rattle.std.proofs.Common.{◌∙◌, ap, sym, length}
 use Rattle.wc_buffers.specs.Groups.{rows}
 use Rattle.wc_buffers.proofs.TableLemmas.{rows-moved_group}
 use Rattle.wc_buffers.proofs.table.GroupTable.move_group.Goals as goal

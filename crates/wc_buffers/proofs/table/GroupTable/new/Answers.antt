@@ -1,4 +1,4 @@
-use Rattle.std.proofs.Common.{◌≡◌, ◌∷◌, [], ap, sym, subst, arith, length, length-append}
+use Rattle.std.proofs.Common.{◌∷◌, [], ap, sym, subst, arith, length, length-append}
 use Rattle.wc_buffers.specs.Table.{AllEmpty}
 use Rattle.wc_buffers.proofs.TableLemmas.{AllEmpty-push}
 use Rattle.wc_buffers.proofs.table.GroupTable.new.Goals as goal

@@ -1,4 +1,4 @@
-use Rattle.std.proofs.Common.{◌≡◌, ◌≤◌, vec_capacity, [], length}
+use Rattle.std.proofs.Common.{◌≡◌, ◌≤◌, vec_capacity, length}
 use Rattle.wc_buffers.specs.Table.{AllEmpty}
 use Rattle.wc_buffers.proofs.table.GroupTable.new.Given as goal
 

@@ -1,4 +1,4 @@
-use Rattle.std.proofs.Common.{◌≡◌, ◌∙◌, ap, sym, length}
+use Rattle.std.proofs.Common.{◌∙◌, ap, sym, length}
 use Rattle.wc_buffers.specs.Groups.{rows}
 use Rattle.wc_buffers.proofs.TableLemmas.{rows-parted}
 use Rattle.wc_buffers.proofs.table.GroupTable.unmerge.Goals as goal

@@ -1,5 +1,4 @@
-use Rattle.std.proofs.Common.{◌≡◌, ◌∙◌, ap, refl, Some, None}
-use Rattle.std.specs.Map.{values_of}
+use Rattle.std.proofs.Common.{◌∙◌, ap, refl, Some, None}
 use Rattle.wc_buffers.specs.Vars.{value_of}
 use Rattle.wc_buffers.proofs.VarLemmas.{got_value}
 use Rattle.wc_buffers.proofs.vars.Vars.get.Goals as goal

@@ -1,4 +1,4 @@
-use Rattle.std.proofs.Common.{◌≡◌, ◌∙◌, ap, subst, sym}
+use Rattle.std.proofs.Common.{◌∙◌, ap, subst, sym}
 use Rattle.std.specs.Map.{values_of}
 use Rattle.wc_buffers.specs.Entries.{AreNamed}
 use Rattle.wc_buffers.specs.Vars.{remove_var}
