@@ -21,8 +21,7 @@ fn has(groups: &[Vec<u64>], handle: u64) -> bool {
 }
 
 fn take_out(groups: &mut Flat, handle: u64) {
-    for i in 0..groups.len() {
-        let group = &mut groups[i];
+    for group in groups.iter_mut() {
         group.retain(|other| *other != handle);
     }
     groups.retain(|group| !group.is_empty());
