@@ -166,7 +166,7 @@ fn many_calls_act_as_on_lists_of_groups(rt: HostRuntime) -> Result<(), Fail> {
     let mut state = 20_260;
     for i in 0..900u32 {
         let act = choose(&mut state);
-        let handle = u64::from(next(&mut state, 11) + 1);
+        let handle = u64::from(next(&mut state, 11)) + 1;
         let number = next(&mut state, 12);
         let due = flat_answer(&mut groups, alloc, act, handle, number)?;
         let answer = word(answer_to(&mut buffers, alloc, act, handle, number));
