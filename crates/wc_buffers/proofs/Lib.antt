@@ -1,0 +1,11 @@
+pub mod GroupLaws
+pub mod TableLemmas
+pub mod VarLemmas
+pub mod Shown
+pub mod Fits
+pub mod NameLemmas
+pub mod Keeps
+pub mod Named
+pub mod Held
+pub mod EditLemmas
+pub mod RefusalLemmas

@@ -1,0 +1,27 @@
+//! The buffers, in groups that share a number, with their variables.
+#![tactic(auto)]
+
+mod buffers;
+mod calls;
+mod edits;
+mod entries;
+mod entry;
+#[cfg(test)]
+mod flat_tests;
+mod group;
+mod iter;
+mod names;
+mod refusals;
+mod refused;
+mod row;
+mod table;
+#[cfg(test)]
+mod tests;
+mod vars;
+
+pub use buffers::Buffers;
+pub use entry::BufferEntry;
+pub use iter::GroupIter;
+pub use refused::BufferRefused;
+pub use row::{BufferRow, BufferSpec};
+pub use vars::{VarIter, Vars};
