@@ -1,0 +1,112 @@
+-- A change of the world: the refusal, where there is one, and the world after it.
+use Rattle.std.specs.Prelude.{ℕ, ◌+◌, false, true, not, Bool, nat_lt, Option, Some, None, List, [], ◌∷◌, ◌++◌, map, find, fold, option_map, if◌then◌else◌}
+use Rattle.std.specs.List.{list_any}
+use Rattle.std.specs.FinMap.{insert, remove, entries, from_entries}
+use Rattle.wc_text.specs.declared.names.Handle.{Handle}
+use Rattle.wc_lines.specs.declared.line.Line.{Line}
+use Rattle.wc_lines.specs.Ring.{last_of, has_content, set_displayed}
+use Rattle.wc_buffers.specs.declared.row.BufferRow.{BufferRow}
+use Rattle.wc_buffers.specs.declared.refused.BufferRefused.{BufferRefused}
+use Rattle.wc_buffers.specs.Calls.{Groups, no_buffer, add_refusal, close_refusal, move_refusal, merge_refusal, unmerge_refusal, rename_refusal, short_name_refusal, set_var_refusal, remove_var_refusal, added, closed, moved, merged, unmerged, changed, with_hidden, with_full_name, with_short_name, with_title, with_var, without_var}
+use Rattle.wc_buffers.specs.Vars.{cut_to}
+use Rattle.wc_buffers.specs.declared.row.BufferSpec.{BufferSpec}
+use Rattle.wc_model.specs.declared.change.Change.{Change}
+use Rattle.wc_model.specs.declared.change.Flip.{Flip}
+use Rattle.wc_model.specs.declared.change.What.{What}
+use Rattle.wc_model.specs.declared.change.What.TheVariants.{Add, Close, MoveTo, MergeInto, Unmerge, Hide, Unhide, Rename, ShortName, Title, SetVar, RemoveVar, Print, Clear, Flips}
+use Rattle.wc_model.specs.declared.refused.ChangeRefused.{ChangeRefused}
+use Rattle.wc_model.specs.declared.refused.ChangeRefused.TheVariants.{Buffer, NoLine, Spent}
+use Rattle.wc_model.specs.World.{World, lines_at, last_handle}
+use Rattle.wc_model.specs.Order.{order}
+use Rattle.wc_model.specs.LineCuts.{line_of}
+
+-- the row of a buffer whose first handle is this one
+abbrev pub row_of : ℕ → BufferSpec → BufferRow
+row_of handle spec = record {
+  handle = record { 0 = handle };
+  own_lines = record { 0 = handle + 1 };
+  mixed_lines = record { 0 = handle + 2 };
+  full_name = spec.full_name;
+  short_name = spec.short_name;
+  title = spec.title;
+  hidden = false;
+}
+
+-- ---- refusals
+
+abbrev pub or_else : Option ChangeRefused → Option ChangeRefused → Option ChangeRefused
+or_else None b = b
+or_else (Some a) b = Some a
+
+abbrev pub of_buffers : Option BufferRefused → Option ChangeRefused
+of_buffers refusal = option_map Buffer refusal
+
+-- handles from the next one on, so many of them, are not all left
+abbrev pub spent : ℕ → World → Option ChangeRefused
+spent count world = if nat_lt (last_handle + 1) (world.next + count) then Some Spent else None
+
+-- whether some buffer holds a line with this content
+abbrev pub is_held : Handle → World → Bool
+is_held content world = list_any (λ buffer. has_content content (lines_at world buffer)) (order world.groups)
+
+-- the first flip of a line that is not held
+abbrev pub no_line : List Flip → World → Option ChangeRefused
+no_line flips world = option_map (λ (flip : Flip). NoLine flip.content) (find (λ (flip : Flip). not (is_held flip.content world)) flips)
+
+unfoldable pub refusal_of : World → Handle → What → Option ChangeRefused
+refusal_of world buffer (Add spec) = or_else (of_buffers (add_refusal (row_of world.next spec) spec.vars world.groups)) (spent 4 world)
+refusal_of world buffer Close = of_buffers (close_refusal buffer world.groups)
+refusal_of world buffer (MoveTo number) = of_buffers (move_refusal buffer number world.groups)
+refusal_of world buffer (MergeInto into) = of_buffers (merge_refusal buffer into world.groups)
+refusal_of world buffer Unmerge = of_buffers (unmerge_refusal buffer world.groups)
+refusal_of world buffer Hide = of_buffers (no_buffer buffer world.groups)
+refusal_of world buffer Unhide = of_buffers (no_buffer buffer world.groups)
+refusal_of world buffer (Rename name flips) = or_else (of_buffers (rename_refusal buffer name world.groups)) (no_line flips world)
+refusal_of world buffer (ShortName name) = of_buffers (short_name_refusal buffer name world.groups)
+refusal_of world buffer (Title title) = of_buffers (no_buffer buffer world.groups)
+refusal_of world buffer (SetVar var) = of_buffers (set_var_refusal buffer var.name world.groups)
+refusal_of world buffer (RemoveVar name) = of_buffers (remove_var_refusal buffer name world.groups)
+refusal_of world buffer (Print line) = or_else (of_buffers (no_buffer buffer world.groups)) (spent 2 world)
+refusal_of world buffer Clear = of_buffers (no_buffer buffer world.groups)
+refusal_of world buffer (Flips flips) = no_line flips world
+
+-- why a change is refused, by the first reason that holds, but for want of memory
+abbrev pub refusal : World → Change → Option ChangeRefused
+refusal world change = refusal_of world change.buffer change.what
+
+-- ---- the world after a change that is not refused
+
+-- the lines of all buffers with the flags that flips set, one after another
+abbrev pub flipped : List Flip → List Line → List Line
+flipped flips lines = fold (λ lines (flip : Flip). set_displayed flip.content flip.displayed lines) lines flips
+
+abbrev pub flip_all : List Flip → World → World
+flip_all flips world = record world { lines = from_entries (map (λ e. (e.0, flipped flips e.1)) (entries world.lines)) }
+
+abbrev pub with_groups : World → Groups → World
+with_groups world groups = record world { groups = groups }
+
+abbrev pub with_lines : World → Handle → List Line → World
+with_lines world buffer lines = record world { lines = insert world.lines buffer.0 lines }
+
+unfoldable pub after_of : World → Handle → What → World
+after_of world buffer (Add spec) =
+    record world { groups = added (row_of world.next spec) spec.vars world.groups; lines = insert world.lines world.next []; next = world.next + 4 }
+after_of world buffer Close = record world { groups = closed buffer world.groups; lines = remove world.lines buffer.0 }
+after_of world buffer (MoveTo number) = with_groups world (moved buffer number world.groups)
+after_of world buffer (MergeInto into) = with_groups world (merged buffer into world.groups)
+after_of world buffer Unmerge = with_groups world (unmerged buffer world.groups)
+after_of world buffer Hide = with_groups world (changed buffer (with_hidden true) world.groups)
+after_of world buffer Unhide = with_groups world (changed buffer (with_hidden false) world.groups)
+after_of world buffer (Rename name flips) = flip_all flips (with_groups world (changed buffer (with_full_name name) world.groups))
+after_of world buffer (ShortName name) = with_groups world (changed buffer (with_short_name name) world.groups)
+after_of world buffer (Title title) = with_groups world (changed buffer (with_title (cut_to 1024 title)) world.groups)
+after_of world buffer (SetVar var) = with_groups world (changed buffer (with_var var.name var.value) world.groups)
+after_of world buffer (RemoveVar name) = with_groups world (changed buffer (without_var name) world.groups)
+after_of world buffer (Print line) =
+    record (with_lines world buffer (last_of world.limit (lines_at world buffer.0 ++ line_of world.next line ∷ []))) { next = world.next + 2 }
+after_of world buffer Clear = with_lines world buffer []
+after_of world buffer (Flips flips) = flip_all flips world
+
+abbrev pub after : World → Change → World
+after world change = after_of world change.buffer change.what

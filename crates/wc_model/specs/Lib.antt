@@ -1,0 +1,6 @@
+pub mod Apply
+pub mod Laws
+pub mod LineCuts
+pub mod Notices
+pub mod Order
+pub mod World

@@ -1,0 +1,112 @@
+-- What is noticed of a change.
+use Rattle.std.specs.Prelude.{◌≡◌, ℕ, Bool, true, false, not, ◌==◌, Option, Some, None, List, [], ◌∷◌, map, filter, unwrap_or, Result, Ok, Err}
+use Rattle.std.specs.List.{flat_map, find as find_first}
+use Rattle.wc_text.specs.declared.names.Handle.{Handle}
+use Rattle.wc_lines.specs.declared.line.Line.{Line}
+use Rattle.wc_buffers.specs.declared.row.BufferRow.{BufferRow}
+use Rattle.wc_buffers.specs.Calls.{Groups, buffer_of, entry_of, number, lacks_var}
+use Rattle.wc_model.specs.declared.change.Change.{Change}
+use Rattle.wc_model.specs.declared.change.What.{What}
+use Rattle.wc_model.specs.declared.change.What.TheVariants.{Add, Close, MoveTo, MergeInto, Unmerge, Hide, Unhide, Rename, ShortName, Title, SetVar, RemoveVar, Print, Clear, Flips}
+use Rattle.wc_model.specs.declared.notice.EventKind.{EventKind}
+use Rattle.wc_model.specs.declared.notice.EventKind.TheVariants as kind
+use Rattle.wc_model.specs.declared.notice.Notice.{Notice}
+use Rattle.wc_model.specs.declared.refused.ChangeRefused.{ChangeRefused}
+use Rattle.wc_model.specs.declared.refused.ChangeRefused.TheVariants.{NoMemory}
+use Rattle.wc_model.specs.World.{World, lines_at}
+use Rattle.wc_model.specs.Order.{order, prev_of, next_of}
+use Rattle.wc_model.specs.Apply.{refusal, after}
+
+-- a variable that is new is added, and else changed
+abbrev pub var_kind : Bool → EventKind
+var_kind true = kind.VarAdded
+var_kind false = kind.VarChanged
+
+abbrev pub kind_of : World → Handle → What → EventKind
+kind_of world buffer (Add spec) = kind.Opened
+kind_of world buffer Close = kind.Closing
+kind_of world buffer (MoveTo number) = kind.Moved
+kind_of world buffer (MergeInto into) = kind.Merged
+kind_of world buffer Unmerge = kind.Unmerged
+kind_of world buffer Hide = kind.Hidden
+kind_of world buffer Unhide = kind.Unhidden
+kind_of world buffer (Rename name flips) = kind.Renamed
+kind_of world buffer (ShortName name) = kind.Renamed
+kind_of world buffer (Title title) = kind.TitleChanged
+kind_of world buffer (SetVar var) = var_kind (lacks_var var.name (entry_of buffer world.groups))
+kind_of world buffer (RemoveVar name) = kind.VarRemoved
+kind_of world buffer (Print line) = kind.LineAdded
+kind_of world buffer Clear = kind.Cleared
+kind_of world buffer (Flips flips) = kind.LineDataChanged
+
+-- the buffer that is told of, and the groups in which it is told: those behind the change, and before it for a close
+abbrev pub about : World → Handle → What → Handle
+about world buffer (Add spec) = record { 0 = world.next }
+about world buffer (Flips flips) = record { 0 = 0 }
+about world buffer _ = buffer
+
+abbrev pub told_groups : World → World → What → Groups
+told_groups before behind Close = before.groups
+told_groups before behind _ = behind.groups
+
+-- the own handle of the printed line
+abbrev pub printed : World → What → List Handle
+printed world (Print line) = record { 0 = world.next } ∷ []
+printed world _ = []
+
+-- ---- the lines whose flag differs
+
+abbrev pub bool_eq : Bool → Bool → Bool
+bool_eq true b = b
+bool_eq false b = not b
+
+abbrev pub same_flag : Line → Option Line → Bool
+same_flag line None = true
+same_flag line (Some other) = bool_eq line.displayed other.displayed
+
+-- whether a line stands in both and its flag differs
+abbrev pub is_flipped : List Line → Line → Bool
+is_flipped before line = not (same_flag line (find_first (λ other. other.content.0 == line.content.0) before))
+
+abbrev pub flips_in : List Line → List Line → List Handle
+flips_in before behind = map (λ (line : Line). line.content) (filter (is_flipped before) behind)
+
+abbrev pub flips_between : World → World → List Handle
+flips_between before behind = flat_map (λ buffer. flips_in (lines_at before buffer) (lines_at behind buffer)) (order behind.groups)
+
+-- ---- the notice
+
+abbrev pub name_in : Option BufferRow → List ℕ
+name_in None = []
+name_in (Some row) = row.full_name
+
+-- what is noticed of a buffer in these groups; of the null handle nothing is told
+abbrev pub notice_at : EventKind → Handle → Groups → List Handle → List Handle → Notice
+notice_at kind buffer groups lines flips = record {
+  kind = kind;
+  buffer = buffer;
+  number = unwrap_or (number buffer groups) 0;
+  full_name = name_in (buffer_of buffer groups);
+  prev = record { 0 = prev_of buffer.0 groups };
+  next = record { 0 = next_of buffer.0 groups };
+  lines = lines;
+  flips = flips;
+}
+
+abbrev pub notice_of : World → World → Handle → What → Notice
+notice_of before behind buffer what =
+    notice_at (kind_of before buffer what) (about before buffer what) (told_groups before behind what) (printed before what) (flips_between before behind)
+
+abbrev pub notice : World → Change → Notice
+notice world change = notice_of world (after world change) change.buffer change.what
+
+-- what a change comes to: it is refused, and the world is as it was, or it is made
+pub record Accepted (before : World) (change : Change) (behind : World) (told : Notice) : Type 0 where
+  pub accepted : refusal before change ≡ None
+  pub after : behind ≡ after before change
+  pub notice : told ≡ notice before change
+
+abbrev pub Outcome : World → Change → World → Result Notice ChangeRefused → Type 0
+Outcome before change behind (Ok told) = Accepted before change behind told
+Outcome before change behind (Err NoMemory) = behind ≡ before
+Outcome before change behind (Err reason) = (behind ≡ before) × (refusal before change ≡ Some reason)

@@ -1,0 +1,12 @@
+//! What the world is, what changes it, and what is noticed of a change.
+#![tactic(auto)]
+
+mod change;
+mod laws;
+mod notice;
+mod refused;
+
+pub use change::{Change, Flip, LineSpec, What};
+pub use laws::{lines_leave_buffers, notice_of_new_buffer};
+pub use notice::{EventKind, Notice};
+pub use refused::ChangeRefused;

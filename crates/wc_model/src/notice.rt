@@ -1,0 +1,40 @@
+use wc_text::{Handle, Items, Text};
+
+/// What happened, as an event of the relay protocol tells it.
+#[derive(Clone, Copy, Debug, PartialEq, Eq)]
+pub enum EventKind {
+    Opened,
+    Moved,
+    Merged,
+    Unmerged,
+    Hidden,
+    Unhidden,
+    Renamed,
+    TitleChanged,
+    VarAdded,
+    VarChanged,
+    VarRemoved,
+    Cleared,
+    Closing,
+    LineAdded,
+    LineDataChanged,
+}
+
+/// What is noticed of an accepted change. But for a close the values are those behind it; for a close they are those
+/// before it.
+#[derive(Drop)]
+pub struct Notice {
+    pub kind: EventKind,
+    /// Null for flips, and then `number`, `full_name`, `prev` and `next` say nothing.
+    pub buffer: Handle,
+    /// One plus the place of the buffer's group.
+    pub number: u32,
+    pub full_name: Text,
+    /// The buffers before and behind, in the order of groups; null at the ends.
+    pub prev: Handle,
+    pub next: Handle,
+    /// The printed line by its own handle, and else nothing.
+    pub lines: Items<Handle>,
+    /// The contents of the lines whose flag differs, in the order of buffers and from the oldest.
+    pub flips: Items<Handle>,
+}

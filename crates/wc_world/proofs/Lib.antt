@@ -1,0 +1,10 @@
+pub mod NearLemmas
+pub mod GroupRows
+pub mod FlipLemmas
+pub mod HeldLemmas
+pub mod There
+pub mod Done
+pub mod Opened
+pub mod CutTags
+pub mod First
+pub mod Refused

@@ -1,0 +1,27 @@
+-- The order of buffers, group by group.
+use Rattle.std.proofs.Common.{◌≡◌, ℕ, ◌++◌, ◌∷◌, [], List, Bool, true, false, eqb, map, flat_map, refl, ◌∙◌, sym}
+use Rattle.std.proofs.lemmas.List.{map-append}
+use Rattle.wc_text.specs.declared.names.Handle.{Handle}
+use Rattle.wc_buffers.specs.declared.entry.BufferEntry.{BufferEntry}
+use Rattle.wc_buffers.specs.Calls.{Groups, handle_of}
+use Rattle.wc_buffers.specs.Groups.{rows}
+use Rattle.wc_buffers.specs.Kept.{handles}
+use Rattle.wc_buffers.proofs.GroupLaws.{by_bool}
+use Rattle.wc_model.specs.Order.{order, before_in, first_of, behind_in}
+use Rattle.wc_world.specs.Near.{numbers, all_numbers, behind_seen}
+
+one_group : (g : List BufferEntry) → map handle_of g ≡ numbers (map (λ (e : BufferEntry). e.row.handle) g)
+one_group [] = refl
+one_group (e ∷ es) = λ i. handle_of e ∷ one_group es i
+
+pub order_handles : (gs : Groups) → order gs ≡ all_numbers (handles gs)
+order_handles [] = refl
+order_handles (g ∷ gs) = map-append handle_of g (rows gs) ∙ (λ i. one_group g i ++ order_handles gs i)
+
+firsts : (n : ℕ) (ms : List ℕ) → first_of ms ≡ behind_seen true n ms
+firsts n [] = refl
+firsts n (m ∷ ms) = refl
+
+pub behind_first : (n : ℕ) (ms : List ℕ) → behind_in n ms ≡ behind_seen false n ms
+behind_first n [] = refl
+behind_first n (m ∷ ms) = by_bool (eqb m n) _ (λ t. rw t (firsts n ms)) (λ t. rw t (behind_first n ms))

@@ -1,0 +1,24 @@
+use Rattle.std.proofs.Common.{◌≡◌, ◌∙◌, ◌-◌, true, false, Some, [], refl, ap, sym, subst}
+use Rattle.wc_buffers.specs.Calls.{handle_of, with_hidden, with_short_name, with_title, with_var, without_var}
+use Rattle.wc_buffers.specs.Groups.{has}
+use Rattle.wc_buffers.specs.Vars.{cut_to}
+use Rattle.wc_model.specs.declared.change.What.TheVariants.{Title}
+use Rattle.wc_model.specs.declared.refused.ChangeRefused.{ChangeRefused}
+use Rattle.wc_model.specs.Apply.{refusal_of, of_buffers}
+use Rattle.wc_model.specs.Notices.{var_kind}
+use Rattle.wc_world.specs.Kept.{world_of}
+use Rattle.wc_world.specs.Told.{told_at}
+use Rattle.wc_world.proofs.Done.{are_apart, kept_groups, title_done}
+use Rattle.wc_world.proofs.GroupRows.{has-move, has-merge, has-unmerge, has-update, merged_apart}
+use Rattle.wc_world.proofs.Refused.{refusing, same_groups, by_world}
+use Rattle.wc_world.proofs.world.World.set_title.Goals as goal
+
+pub returns-in-Err : goal.returns-in-Err
+unfolding refusal_of
+returns-in-Err c = refusing c.args.self.now _ (record { buffer = c.args.h; what = Title c.args.title }) c.in-Err.refused c.refused_by.result c.refused_by.ensures (same_groups c.self.inside.buffers c.set_title.new.self c.self.inside.held c.self.inside.limit c.self.inside.next c.args.self.now c.in-Err.ensures.err c.self.view_is) (λ n. by_world (world_of c.self.inside.buffers c.self.inside.held c.self.inside.limit c.self.inside.next) c.args.self.now c.args.h (Title c.args.title) _ c.self.view_is (ap of_buffers (c.in-Err.ensures.refused n)))
+
+pub invariant_of-self-2 : goal.invariant_of-self-2
+invariant_of-self-2 c = kept_groups c.self.inside.buffers c.set_title.new.self c.self.inside.held c.self.inside.limit c.self.inside.next (λ q. ap (has handle_of q) c.in-Ok.ensures.after ∙ has-update handle_of c.args.h.0 (with_title (cut_to 1024 c.args.title)) (λ x. refl) q c.self.inside.buffers) c.self.invariant
+
+pub returns : goal.returns
+returns c = title_done (world_of c.self.inside.buffers c.self.inside.held c.self.inside.limit c.self.inside.next) c.args.self.now c.args.h c.set_title.new.self c.in_ok-full_name.full_name [] [] c.told.result c.self.view_is (are_apart c.self.inside.buffers c.self.inside.held c.self.inside.limit c.self.inside.next c.self.invariant) c.in_ok-full_name.ensures refl refl c.args.title c.in-Ok.ensures.after c.in-Ok.ensures.accepted c.told.ensures

@@ -1,0 +1,4 @@
+pub mod Kept
+pub mod Near
+pub mod Texts
+pub mod Told

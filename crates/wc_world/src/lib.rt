@@ -1,0 +1,12 @@
+//! The world: the buffers and the lines of each, changed as a whole.
+#![tactic(auto)]
+
+mod cut;
+mod held;
+mod near;
+mod noticed;
+mod on_buffers;
+mod on_lines;
+mod world;
+
+pub use world::World;

@@ -1,0 +1,128 @@
+ghost use Rattle.std.specs.Prelude.{◌≡◌, [], ◌∷◌, IfOk};
+ghost use Rattle.wc_buffers.specs.Calls.{buffer_of, is_there, no_buffer};
+ghost use Rattle.wc_buffers.specs.Kept.{AreBuffers};
+ghost use Rattle.wc_model.specs.Notices.{name_in};
+ghost use Rattle.wc_model.specs.declared.notice.EventKind.TheVariants as kinds;
+ghost use Rattle.wc_world.specs.Told.{told_at, refused_by};
+
+use crate::near::{next_of, prev_of};
+use std::alloc::Global;
+use wc_buffers::{BufferRefused, Buffers};
+use wc_model::{ChangeRefused, EventKind, Notice};
+use wc_text::{Handle, Items, NoMemory, Text};
+
+/// The full name of a buffer in memory of its own; empty where the buffer is not there.
+pub(crate) fn name_of(buffers: &Buffers, alloc: Global, h: Handle) -> Result<Text, NoMemory>
+    ensures { IfOk result (λ name. name ≡ name_in (buffer_of h buffers.now)) }
+{
+    match buffers.get(h) {
+        Some(row) => row.full_name.copy(alloc),
+        None => Ok(Text::new(alloc)),
+    }
+}
+
+/// What is noticed of a buffer as it stands. It takes no memory.
+pub(crate) fn noticed(
+    buffers: &Buffers,
+    kind: EventKind,
+    h: Handle,
+    full_name: Text,
+    lines: Items<Handle>,
+    flips: Items<Handle>,
+) -> Notice
+    ensures { result ≡ told_at kind h buffers.now full_name lines flips }
+{
+    let number = buffers.number(h).unwrap_or(0);
+    let prev = prev_of(buffers, h);
+    let next = next_of(buffers, h);
+    Notice {
+        kind,
+        buffer: h,
+        number,
+        full_name,
+        prev,
+        next,
+        lines,
+        flips,
+    }
+}
+
+/// What is noticed of a buffer as it stands, without lines. It takes no memory.
+pub(crate) fn told(
+    buffers: &Buffers,
+    alloc: Global,
+    kind: EventKind,
+    h: Handle,
+    full_name: Text,
+) -> Notice
+    ensures { result ≡ told_at kind h buffers.now full_name [] [] }
+{
+    let none = Items::new(alloc);
+    noticed(buffers, kind, h, full_name, Items::new(alloc), none)
+}
+
+/// Whether a buffer is there.
+pub(crate) fn is_there(buffers: &Buffers, h: Handle) -> bool
+    ensures { result ≡ is_there h buffers.now }
+{
+    match buffers.get(h) {
+        Some(_) => true,
+        None => false,
+    }
+}
+
+/// Why nothing can be done at a buffer: it is not there.
+pub(crate) fn no_buffer(buffers: &Buffers, h: Handle) -> Option<BufferRefused>
+    ensures { result ≡ no_buffer h buffers.now }
+{
+    if is_there(buffers, h) {
+        return None;
+    }
+    Some(BufferRefused::NoBuffer { handle: h })
+}
+
+/// The refusal of a change that the buffers refused.
+pub(crate) fn refused_by(refused: BufferRefused) -> ChangeRefused
+    ensures { result ≡ refused_by refused }
+{
+    match refused {
+        BufferRefused::NoMemory => ChangeRefused::NoMemory,
+        refused => ChangeRefused::Buffer(refused),
+    }
+}
+
+/// A list of one handle.
+pub(crate) fn one(alloc: Global, handle: Handle) -> Result<Items<Handle>, NoMemory>
+    ensures { IfOk result (λ items. items ≡ handle ∷ []) }
+{
+    let mut items = Items::new(alloc);
+    items.push(handle)?;
+    Ok(items)
+}
+
+/// What is noticed of a line that was printed. It takes no memory.
+pub(crate) fn told_line(
+    buffers: &Buffers,
+    alloc: Global,
+    h: Handle,
+    full_name: Text,
+    lines: Items<Handle>,
+) -> Notice
+    ensures { result ≡ told_at kinds.LineAdded h buffers.now full_name lines [] }
+{
+    noticed(
+        buffers,
+        EventKind::LineAdded,
+        h,
+        full_name,
+        lines,
+        Items::new(alloc),
+    )
+}
+
+/// Calls on what holds of all buffers. It does nothing.
+pub(crate) fn are_buffers(buffers: &Buffers)
+    ensures { AreBuffers buffers.now }
+{
+    let _ = buffers.groups();
+}

@@ -1,0 +1,105 @@
+ghost use Rattle.std.specs.Prelude.{◌≡◌, ◌≤◌, IfOk, option_copied};
+ghost use Rattle.wc_world.specs.Kept.{held_in};
+ghost use Rattle.wc_model.specs.World.{core_row, first_world};
+
+use crate::held::{self, Held as HeldLines};
+use std::alloc::Global;
+use std::collections::HashMap;
+use std::marker::Model;
+use wc_buffers::{BufferRow, Buffers};
+use wc_lines::Lines;
+use wc_text::{Handle, Items, NoMemory, Text};
+
+/// Handles are numbers up to this one.
+pub(crate) const LAST_HANDLE: u64 = 1 << 62;
+
+/// The buffers in groups, and the lines of each. It changes as a whole: a refused change leaves
+/// it as it was.
+#[derive(Drop)]
+pub struct World {
+    pub(crate) buffers: Buffers,
+    pub(crate) held: HeldLines,
+    pub(crate) limit: u32,
+    pub(crate) next: u64,
+}
+
+impl Model for World {
+    ghost use Rattle.std.specs.Coded.{codes};
+    ghost use Rattle.std.specs.FinMap as map;
+    ghost use Rattle.wc_model.specs.World as model;
+    ghost use Rattle.wc_world.specs.Kept.{world_of, IsWorld};
+
+    ghost Value = { model.World };
+
+    ghost coded = { Prim.hlevel (codes, map.code) };
+
+    ghost view = { λ a. world_of a.buffers a.held a.limit a.next };
+
+    ghost invariant = { λ a. IsWorld a.buffers a.held a.limit a.next };
+}
+
+/// What is kept of the core buffer.
+fn core_row(alloc: Global) -> Result<BufferRow, NoMemory>
+    ensures { IfOk result (λ row. row ≡ core_row) }
+{
+    let full_name = Text::from_slice(alloc, b"core.weechat")?;
+    let short_name = Text::from_slice(alloc, b"weechat")?;
+    let title = Text::from_slice(alloc, b"WeeChat headless")?;
+    Ok(BufferRow {
+        handle: Handle(1),
+        own_lines: Handle(2),
+        mixed_lines: Handle(3),
+        full_name,
+        short_name,
+        title,
+        hidden: false,
+    })
+}
+
+impl World {
+    /// The core buffer alone, whose handles are 1 to 4. A buffer holds as many lines as the limit.
+    pub fn new(alloc: Global, limit: u32) -> Result<World, NoMemory>
+        requires some { 1 ≤ limit }
+        requires most { limit ≤ 4096 }
+        ensures { IfOk result (λ world. world ≡ first_world limit) }
+    {
+        let mut buffers = Buffers::new(alloc)?;
+        let row = core_row(alloc)?;
+        match buffers.add(alloc, row, &Items::new(alloc)) {
+            Ok(()) => {}
+            Err(_) => return Err(NoMemory),
+        }
+        let lines = Lines::new(alloc, limit)?;
+        let mut held = HashMap::new(alloc);
+        held::reserve(&mut held)?;
+        held::insert(&mut held, Handle(1), lines);
+        Ok(World {
+            buffers,
+            held,
+            limit,
+            next: 5,
+        })
+    }
+
+    /// The buffers.
+    pub fn buffers(&self) -> &Buffers
+        ensures { result.now ≡ self.now.groups }
+    {
+        &self.buffers
+    }
+
+    /// The lines of a buffer. None exactly where it is not there.
+    pub fn lines(&self, h: Handle) -> Option<&Lines>
+        ensures { option_copied result ≡ held_in self.now h.0 }
+    {
+        let _ = &self.buffers;
+        self.held.get(&h.0)
+    }
+
+    /// How many lines a buffer holds at most.
+    pub fn limit(&self) -> u32
+        ensures { result ≡ self.now.limit }
+    {
+        self.limit
+    }
+}
