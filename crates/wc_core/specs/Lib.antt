@@ -1,7 +1,8 @@
 pub mod Events
-pub mod Typed
+pub mod Resolved
+pub mod Served
+pub mod Standing
 pub mod State
 pub mod Step
-pub mod Standing
-pub mod Served
+pub mod Typed
 pub mod TypedSeen

@@ -4,17 +4,18 @@ use Rattle.wc_text.specs.declared.names.LinkId.{LinkId}
 use Rattle.wc_text.specs.declared.names.Cause.{Cause}
 use Rattle.wc_text.specs.declared.names.Cause.TheVariants.{NoMemory}
 use Rattle.wc_outside.specs.Keyed.{at_key, put_at}
-use Rattle.wc_lines.specs.declared.line.Line.{Line}
+use Rattle.wc_model.specs.declared.notice.EventKind.{EventKind}
+use Rattle.wc_model.specs.declared.notice.Notice.{Notice}
+use Rattle.wc_model.specs.World.{World}
 use Rattle.wc_objects.specs.declared.object.WireMessage.{WireMessage}
 use Rattle.std.specs.Str.{IsUtf8}
 use Rattle.wc_session.specs.declared.outcome.Outcome.{Outcome}
 use Rattle.wc_session.specs.declared.outcome.Outcome.TheVariants as outcome
 use Rattle.wc_session.specs.declared.client.Client.{Client}
-use Rattle.wc_session.specs.Event.{with_event}
+use Rattle.wc_session.specs.Event.{Spelled, with_event, notice_told}
 use Rattle.wc_session.specs.Known.{new_session}
-use Rattle.wc_session.specs.Reply.{line_told}
 use Rattle.wc_session.specs.Sending.{spelling}
-use Rattle.wc_session.specs.Sync.{follows_core}
+use Rattle.wc_session.specs.Sync.{follows, heard}
 use Rattle.std.specs.List.{flat_map}
 use Rattle.wc_core.specs.declared.seat.Seat.{Seat}
 use Rattle.wc_core.specs.declared.seat.Departure.{Departure}
@@ -36,7 +37,7 @@ clients_of [] = []
 clients_of (seat ∷ seats) = if is_open seat then seat.session.client ∷ clients_of seats else clients_of seats
 
 abbrev pub state_of : Standing → State
-state_of core = record { password = core.password; clients = clients_of core.seats; lines = core.lines.lines; limit = core.lines.limit; next = core.next; moment = core.moment }
+state_of core = record { password = core.password; clients = clients_of core.seats; world = core.world; moment = core.moment }
 
 -- ---- what is seen of a link
 
@@ -207,34 +208,39 @@ pub record MayCome (link : ℕ) (old new : Standing) (refused : Option Cause) (s
   pub cause : IfSome refused (λ why. (stepped.acts ≡ Closes link why ∷ []) ⊎ (why ≡ NoMemory))
   pub comes : new.starved ≡ old.starved → old.starved < 2 ^ 64 - 1 → Came link old new refused stepped
 
--- ---- a line that is told
+-- ---- a notice that is told
 
--- events of the core buffer are for an open client that asked for them
-abbrev pub listens : Seat → Bool
-listens seat = is_open seat && follows_core seat.session.client
+-- an event is for an open client that asked for it
+abbrev pub listens : EventKind → ℕ → Seat → Bool
+listens kind buffer seat = is_open seat && follows kind buffer seat.session.client
 
--- a seat behind the event of a line
-abbrev pub heard_seat : List ℕ → Seat → Seat
+-- a seat behind an event
+abbrev pub heard_seat : Spelled → Seat → Seat
 heard_seat event seat = if is_open seat then record seat { session = with_event event seat.session } else seat
 
 -- a seat where no memory is found for an event: its client leaves, where the event is for it
-abbrev pub starved_seat : Seat → Seat
-starved_seat seat = if listens seat then record seat { leaving = Some NoMemory } else seat
+abbrev pub starved_seat : EventKind → ℕ → Seat → Seat
+starved_seat kind buffer seat =
+    if listens kind buffer seat then record seat { leaving = Some NoMemory } else (
+    if is_open seat then record seat { session = record seat.session { client = heard kind buffer seat.session.client } } else seat)
 
--- a seat once a line is told
-abbrev pub told_seat : Line → Seat → Seat
-told_seat line seat =
-    if is_open seat then record seat { session = record seat.session { unsent = seat.session.unsent ++ flat_map (λ m. spelling m) (line_told seat.session.client line) } } else seat
+-- a seat once a notice is told, in the world behind the change
+abbrev pub told_seat : World → Notice → Seat → Seat
+told_seat world notice seat =
+    if is_open seat then record seat { session = record {
+      client = heard notice.kind notice.buffer.0 seat.session.client;
+      unsent = seat.session.unsent ++ flat_map (λ m. spelling m) (notice_told world notice seat.session.client);
+    } } else seat
 
 -- a seat behind this service of it, or one whose client leaves for want of memory, where the service was for it
-abbrev pub SeatServed : (Seat → Seat) → Seat → Seat → Type 0
-SeatServed service old new = (new ≡ service old) ⊎ (new ≡ starved_seat old)
+abbrev pub SeatServed : EventKind → ℕ → (Seat → Seat) → Seat → Seat → Type 0
+SeatServed kind buffer service old new = (new ≡ service old) ⊎ (new ≡ starved_seat kind buffer old)
 
-abbrev pub SeatsServed : (Seat → Seat) → List Seat → List Seat → Type 0
-SeatsServed service [] [] = Unit {0}
-SeatsServed service [] (b ∷ new) = ⊥
-SeatsServed service (a ∷ old) [] = ⊥
-SeatsServed service (a ∷ old) (b ∷ new) = SeatServed service a b × SeatsServed service old new
+abbrev pub SeatsServed : EventKind → ℕ → (Seat → Seat) → List Seat → List Seat → Type 0
+SeatsServed kind buffer service [] [] = Unit {0}
+SeatsServed kind buffer service [] (b ∷ new) = ⊥
+SeatsServed kind buffer service (a ∷ old) [] = ⊥
+SeatsServed kind buffer service (a ∷ old) (b ∷ new) = SeatServed kind buffer service a b × SeatsServed kind buffer service old new
 
 -- the text that was typed is UTF-8
 abbrev pub OutcomeUtf8 : Outcome → Type 0

@@ -1,14 +1,13 @@
 -- What contracts see of the core.
 use Rattle.std.specs.Prelude.{ℕ, Bool, List}
-use Rattle.wc_lines.specs.Held.{Held}
+use Rattle.wc_model.specs.World.{World}
 use Rattle.wc_core.specs.declared.seat.Seat.{Seat}
 
 pub record Standing : Type 0 where
   pub password : List ℕ
-  pub lines : Held
+  pub world : World
   -- the clients that are open and those that are leaving, in the order in which they came
   pub seats : List Seat
-  pub next : ℕ
   -- the last moment, in milliseconds since 1970
   pub moment : ℕ
   -- how often memory was refused

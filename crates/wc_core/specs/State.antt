@@ -1,7 +1,7 @@
 -- What the core is, seen flat.
 use Rattle.std.specs.Prelude.{ℕ, List, []}
 use Rattle.wc_text.specs.declared.names.Cause.{Cause}
-use Rattle.wc_lines.specs.declared.line.Line.{Line}
+use Rattle.wc_model.specs.World.{World, first_world}
 use Rattle.wc_objects.specs.declared.object.WireMessage.{WireMessage}
 use Rattle.wc_session.specs.declared.client.Client.{Client}
 
@@ -10,11 +10,8 @@ pub record State : Type 0 where
   pub password : List ℕ
   -- the clients that are open, in the order in which they came
   pub clients : List Client
-  -- the lines of the core buffer, from the oldest, and how many it holds at most
-  pub lines : List Line
-  pub limit : ℕ
-  -- the next handle
-  pub next : ℕ
+  -- the buffers and their lines
+  pub world : World
   -- the last moment, in milliseconds since 1970
   pub moment : ℕ
 
@@ -30,6 +27,6 @@ pub record Stepped : Type 0 where
   pub state : State
   pub acts : List Act
 
--- handles 1 to 4 are those of the core buffer
+-- no client, and the core buffer alone
 abbrev pub first_state : List ℕ → ℕ → State
-first_state password limit = record { password = password; clients = []; lines = []; limit = limit; next = 5; moment = 0 }
+first_state password limit = record { password = password; clients = []; world = first_world limit; moment = 0 }

@@ -1,22 +1,31 @@
 -- What the core does at each event.
-use Rattle.std.specs.Prelude.{ℕ, pos, ◌+◌, ◌-◌, ◌/◌, ◌^◌, Bool, true, false, List, [], ◌∷◌, ◌++◌, map, length, take, drop, nat_lt, if◌then◌else◌, Option, Some, None}
+use Rattle.std.specs.Prelude.{ℕ, Bool, true, false, not, List, [], ◌∷◌, ◌++◌, map, length, nat_lt, if◌then◌else◌, Option, Some, None}
 use Rattle.std.specs.List.{flat_map}
-use Rattle.wc_text.specs.Cut.{cut_of}
+use Rattle.wc_text.specs.declared.names.Handle.{Handle}
 use Rattle.wc_text.specs.declared.names.Cause.{Cause}
 use Rattle.wc_text.specs.declared.names.Cause.TheVariants.{Ended, Failed, Surplus}
 use Rattle.wc_outside.specs.Keyed.{at_key, put_at, without}
-use Rattle.wc_lines.specs.declared.line.Line.{Line}
+use Rattle.wc_buffers.specs.Calls.{is_there}
+use Rattle.wc_model.specs.declared.change.Change.{Change}
+use Rattle.wc_model.specs.declared.notice.Notice.{Notice}
+use Rattle.wc_model.specs.declared.refused.ChangeRefused.{ChangeRefused}
+use Rattle.wc_model.specs.World.{World}
+use Rattle.wc_model.specs.Apply.{refusal, after}
+use Rattle.wc_model.specs.Notices.{notice}
 use Rattle.wc_objects.specs.declared.object.WireMessage.{WireMessage}
 use Rattle.wc_relaycmd.specs.Answers.{request_of}
 use Rattle.wc_relaycmd.specs.declared.request.Request.{Request}
 use Rattle.wc_session.specs.declared.client.Client.{Client}
 use Rattle.wc_session.specs.declared.outcome.Outcome.{Outcome}
 use Rattle.wc_session.specs.declared.outcome.Outcome.TheVariants as outcome
+use Rattle.wc_session.specs.Event.{notice_told}
 use Rattle.wc_session.specs.Known.{new_client}
-use Rattle.wc_session.specs.Reply.{Answer, reply_of, line_told}
+use Rattle.wc_session.specs.Reply.{Answer, reply_of}
+use Rattle.wc_session.specs.Sync.{heard}
 use Rattle.wc_core.specs.Events.{Event, Start, Tick, Arrives, Line as LineCame, Ends, Fails, ListenFails}
+use Rattle.wc_core.specs.Resolved.{Resolved, Stays, Ends as ResolvedEnds, Tells, Asks, resolved, refusal_text, told_refusal}
 use Rattle.wc_core.specs.State.{State, Act, Sends, Closes, Quits, Stepped}
-use Rattle.wc_core.specs.Typed.{Typed, Nothing, Prints, Quits as TypedQuits, typed_line, parted}
+use Rattle.wc_core.specs.Typed.{Typed, Quits as TypedQuits, typed_line, parted}
 
 abbrev pub client_link : Client → ℕ
 client_link client = client.link.0
@@ -35,67 +44,62 @@ then_does first others = record { state = (others first.state).state; acts = fir
 abbrev pub sends : ℕ → List WireMessage → List Act
 sends link messages = map (Sends link) messages
 
--- ---- lines
+-- ---- changes
 
--- a line with this handle, the next one for its content, and this moment, which it has in seconds
-abbrev pub line_at : ℕ → ℕ → List ℕ → List ℕ → Line
-line_at handle moment prefix message = record {
-  handle = record { 0 = handle };
-  content = record { 0 = handle + 1 };
-  date = moment / 1000;
-  date_printed = moment / 1000;
-  displayed = true;
-  notify = pos 0;
-  highlight = false;
-  tags = [];
-  prefix = take (cut_of prefix 128) prefix;
-  message = take (cut_of message 1024) message;
+abbrev pub told_to : World → Notice → Client → List Act
+told_to world notice client = sends (client_link client) (notice_told world notice client)
+
+-- the world behind a change of which this is noticed, and what each client is told of it
+abbrev pub told_all : State → World → Notice → Stepped
+told_all state world notice = record {
+  state = record state { world = world; clients = map (heard notice.kind notice.buffer.0) state.clients };
+  acts = flat_map (told_to world notice) state.clients;
 }
 
--- the line that is printed next
-abbrev pub next_line : State → List ℕ → List ℕ → Line
-next_line state prefix message = line_at state.next state.moment prefix message
+-- an accepted change
+abbrev pub changes : State → Change → Stepped
+changes state change = told_all state (after state.world change) (notice state.world change)
 
--- the last ones of these lines
-abbrev pub last_lines : ℕ → List Line → List Line
-last_lines limit lines = drop (length lines - limit) lines
+abbrev pub changes_if : State → Change → Option ChangeRefused → Stepped
+changes_if state change None = changes state change
+changes_if state change (Some reason) = stays state
 
-abbrev pub told_to : Line → Client → List Act
-told_to line client = sends (client_link client) (line_told client line)
+-- a refusal is told by a line of the core buffer, where there are handles for it
+abbrev pub tells : State → List ℕ → Stepped
+tells state text = changes_if state (told_refusal state.moment text) (refusal state.world (told_refusal state.moment text))
 
--- a line stands in the buffer, and is told to each client that asked for it
-abbrev pub prints : State → Line → Stepped
-prints state line = record {
-  state = record state { lines = last_lines state.limit (state.lines ++ line ∷ []); next = state.next + 2 };
-  acts = flat_map (told_to line) state.clients;
-}
+-- a change, or why it is refused
+abbrev pub asks_if : State → Change → Option ChangeRefused → Stepped
+asks_if state change None = changes state change
+asks_if state change (Some reason) = tells state (refusal_text reason)
 
--- handles are numbers up to this one
-abbrev pub last_handle : ℕ
-last_handle = 2 ^ 62
-
--- the same, where the two handles of a line are left; a line that would tell that none are would find none either
-abbrev pub prints_text : State → List ℕ → List ℕ → Stepped
-prints_text state prefix message = if nat_lt state.next last_handle then prints state (next_line state prefix message) else stays state
+abbrev pub asks : State → Change → Stepped
+asks state change = asks_if state change (refusal state.world change)
 
 -- ---- what is typed
 
--- one line that is typed; behind a `/quit` nothing is done
-abbrev pub does : State → Typed → Stepped
-does state Nothing = stays state
-does state (Prints prefix message) = prints_text state prefix message
-does state TypedQuits = record { state = state; acts = Quits ∷ [] }
+abbrev pub does_resolved : State → Resolved → Stepped
+does_resolved state Stays = stays state
+does_resolved state ResolvedEnds = record { state = state; acts = Quits ∷ [] }
+does_resolved state (Tells text) = tells state text
+does_resolved state (Asks change) = asks state change
+
+-- one line that is typed into a buffer
+abbrev pub does : State → Handle → Typed → Stepped
+does state buffer typed = does_resolved state (resolved state.world state.moment buffer typed)
 
 abbrev pub is_quit : Typed → Bool
-is_quit Nothing = false
-is_quit (Prints prefix message) = false
 is_quit TypedQuits = true
+is_quit _ = false
 
-abbrev pub runs : State → List (List ℕ) → Stepped
-runs state [] = stays state
-runs state (line ∷ lines) =
+-- The lines that are typed into a buffer, one after another. Behind a `/quit` nothing is done, and once the buffer is
+-- closed neither.
+abbrev pub runs : State → Handle → List (List ℕ) → Stepped
+runs state buffer [] = stays state
+runs state buffer (line ∷ lines) =
     let typed = typed_line line in
-    if is_quit typed then does state typed else then_does (does state typed) (λ next. runs next lines)
+    if not (is_there buffer state.world.groups) then stays state else (
+    if is_quit typed then does state buffer typed else then_does (does state buffer typed) (λ next. runs next buffer lines))
 
 -- ---- clients
 
@@ -106,7 +110,7 @@ leaves state link cause = record { state = record state { clients = without clie
 abbrev pub follows : State → ℕ → Outcome → Stepped
 follows state link outcome.Replied = stays state
 follows state link outcome.Silent = stays state
-follows state link (outcome.Input buffer text) = runs state (parted text)
+follows state link (outcome.Input buffer text) = runs state buffer (parted text)
 follows state link (outcome.Leave cause) = leaves state link cause
 follows state link outcome.NoMemory = stays state
 
@@ -118,7 +122,7 @@ answers state link answer =
 -- a line of a client, where it is open and its line is a request
 abbrev pub asked : State → Client → Option Request → Stepped
 asked state client None = stays state
-asked state client (Some request) = answers state (client_link client) (reply_of state.lines state.password client request)
+asked state client (Some request) = answers state (client_link client) (reply_of state.world state.password client request)
 
 abbrev pub line_came : State → List ℕ → Option Client → Stepped
 line_came state line None = stays state

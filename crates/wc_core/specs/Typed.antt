@@ -1,14 +1,32 @@
--- What a text that is typed into the core buffer asks for.
-use Rattle.std.specs.Prelude.{ℕ, List, [], ◌∷◌, ◌++◌, codes, if◌then◌else◌, ◌==◌, Option, Some, None}
+-- What a text that is typed into a buffer asks for, by its bytes alone.
+use Rattle.std.specs.Prelude.{ℕ, ◌^◌, ◌-◌, min, Bool, List, [], ◌∷◌, ◌++◌, codes, drop, length, filter, nat_eq, nat_lt, if◌then◌else◌, ◌==◌, Option, Some, None}
+use Rattle.std.specs.List.{slice_split, starts_with}
 use Rattle.std.specs.Str.{bytes_eq, IsUtf8}
+use Rattle.std.specs.Str.Parse.{digits_value}
+use Rattle.wc_text.specs.Integer.{is_numeral}
+use Rattle.wc_text.specs.Words.{is_filled}
 use Rattle.wc_relaycmd.specs.Cuts.{before, behind}
 use Rattle.wc_relaycmd.specs.Words.{word_of, rest_of}
+use Rattle.wc_model.specs.declared.change.What.{What}
+use Rattle.wc_model.specs.declared.change.What.TheVariants as what
 
 pub data Typed : Type 0 where
   Nothing : Typed
-  -- a line with this prefix and this message
-  Prints : List ℕ → List ℕ → Typed
   Quits : Typed
+  -- a refusal, which is told on the core buffer
+  Refused : List ℕ → Typed
+  -- a line of the buffer that is named, or else of the one into which it was typed: its tags, prefix and message
+  Prints : Option (List ℕ) → List (List ℕ) → List ℕ → List ℕ → Typed
+  -- a new buffer
+  Adds : List ℕ → Typed
+  -- the buffer that is named is closed, or else the one into which it was typed
+  Closes : Option (List ℕ) → Typed
+  -- the buffer is merged into the one that is named
+  Merges : List ℕ → Typed
+  -- the buffer gets another name behind the first dot of its full name
+  Names : List ℕ → Typed
+  -- another change of the buffer
+  Changes : What → Typed
 
 -- the lines of a text, which LFs part, where `line` stands before the text
 abbrev pub parted_from : List ℕ → List ℕ → List (List ℕ)
@@ -18,28 +36,111 @@ parted_from line (b ∷ text) = if b == 10 then line ∷ parted_from [] text els
 abbrev pub parted : List ℕ → List (List ℕ)
 parted text = parted_from [] text
 
--- a line that tells a refusal
-abbrev pub refused : List ℕ → Typed
-refused text = Prints (codes "=!=") text
-
 abbrev pub unknown_command : List ℕ → Typed
-unknown_command name = refused (codes "unknown command: /" ++ name)
+unknown_command name = Refused (codes "unknown command: /" ++ name)
 
 abbrev pub wrong_arguments : List ℕ → Typed
-wrong_arguments name = refused (codes "wrong arguments: /" ++ name)
+wrong_arguments name = Refused (codes "wrong arguments: /" ++ name)
+
+abbrev pub no_text_here : Typed
+no_text_here = Refused (codes "no text here")
+
+-- ---- `/print`
 
 -- a tab parts the prefix of a line from its message
-abbrev pub printed_by : List ℕ → Option (List ℕ) → Typed
-printed_by text None = Prints [] text
-printed_by text (Some message) = Prints (before 9 text) message
+abbrev pub printed_by : Option (List ℕ) → List (List ℕ) → List ℕ → Option (List ℕ) → Typed
+printed_by buffer tags text None = Prints buffer tags [] text
+printed_by buffer tags text (Some message) = Prints buffer tags (before 9 text) message
 
-abbrev pub printed : List ℕ → Typed
-printed text = printed_by text (behind 9 text)
+-- the text of a line is not empty
+abbrev pub printed : Option (List ℕ) → List (List ℕ) → List ℕ → Typed
+printed buffer tags [] = wrong_arguments (codes "print")
+printed buffer tags (b ∷ text) = printed_by buffer tags (b ∷ text) (behind 9 (b ∷ text))
 
--- `/print` and a text, whose first word does not begin with `-`
+-- the tags of a word, which commas part
+abbrev pub tags_of : List ℕ → List (List ℕ)
+tags_of word = filter is_filled (slice_split (λ b. b == 44) word)
+
+abbrev pub is_first : List ℕ → List ℕ → Bool
+is_first word text = bytes_eq (word_of text) word
+
+-- the second word of a text, and what stands behind it
+abbrev pub second_of : List ℕ → List ℕ
+second_of text = word_of (rest_of text)
+
+abbrev pub behind_second : List ℕ → List ℕ
+behind_second text = rest_of (rest_of text)
+
+-- behind the buffer there may be tags, and behind the tags a buffer; another first word is the start of the text
+abbrev pub print_tagged : Option (List ℕ) → List ℕ → Typed
+print_tagged buffer text =
+    if is_first (codes "-tags") text then printed buffer (tags_of (second_of text)) (behind_second text) else printed buffer [] text
+
+abbrev pub print_on : List (List ℕ) → List ℕ → Typed
+print_on tags text =
+    if is_first (codes "-buffer") text then printed (Some (second_of text)) tags (behind_second text) else printed None tags text
+
 abbrev pub print_command : List ℕ → Typed
-print_command [] = wrong_arguments (codes "print")
-print_command (b ∷ text) = if b == 45 then wrong_arguments (codes "print") else printed (b ∷ text)
+print_command text =
+    if is_first (codes "-buffer") text then print_tagged (Some (second_of text)) (behind_second text) else (
+    if is_first (codes "-tags") text then print_on (tags_of (second_of text)) (behind_second text) else printed None [] text)
+
+-- ---- `/buffer`
+
+abbrev pub wrong_buffer : Typed
+wrong_buffer = wrong_arguments (codes "buffer")
+
+-- one word, and nothing behind it
+abbrev pub one_word : (List ℕ → Typed) → List ℕ → Typed
+one_word typed [] = wrong_buffer
+one_word typed (b ∷ text) = if nat_lt 0 (length (rest_of (b ∷ text))) then wrong_buffer else typed (word_of (b ∷ text))
+
+-- no word
+abbrev pub without_words : Typed → List ℕ → Typed
+without_words typed [] = typed
+without_words typed (b ∷ text) = wrong_buffer
+
+-- a text up to the end, which is not empty
+abbrev pub some_text : (List ℕ → Typed) → List ℕ → Typed
+some_text typed [] = wrong_buffer
+some_text typed (b ∷ text) = typed (b ∷ text)
+
+-- a number; one that is too large for a number of a buffer counts as the largest
+abbrev pub moves_to : List ℕ → Typed
+moves_to word = if is_numeral word then Changes (what.MoveTo (min (digits_value 10 word) (2 ^ 32 - 1))) else wrong_buffer
+
+abbrev pub close_command : List ℕ → Typed
+close_command [] = Closes None
+close_command (b ∷ text) = one_word (λ name. Closes (Some name)) (b ∷ text)
+
+abbrev pub starts : List ℕ → List ℕ → Bool
+starts front word = starts_with nat_eq word front
+
+-- a property of the buffer: `localvar_set_X` and `localvar_del_X` name a variable by what stands behind
+abbrev pub set_property : List ℕ → List ℕ → Typed
+set_property word text =
+    if bytes_eq word (codes "name") then some_text (λ value. Names value) text else (
+    if bytes_eq word (codes "short_name") then some_text (λ value. Changes (what.ShortName value)) text else (
+    if bytes_eq word (codes "title") then some_text (λ value. Changes (what.Title value)) text else (
+    if starts (codes "localvar_set_") word then some_text (λ value. Changes (what.SetVar (record { name = drop 13 word; value = value }))) text else (
+    if starts (codes "localvar_del_") word then without_words (Changes (what.RemoveVar (drop 13 word))) text else wrong_buffer))))
+
+abbrev pub buffer_word : List ℕ → List ℕ → Typed
+buffer_word word text =
+    if bytes_eq word (codes "add") then one_word (λ name. Adds name) text else (
+    if bytes_eq word (codes "close") then close_command text else (
+    if bytes_eq word (codes "move") then one_word moves_to text else (
+    if bytes_eq word (codes "merge") then one_word (λ name. Merges name) text else (
+    if bytes_eq word (codes "unmerge") then without_words (Changes what.Unmerge) text else (
+    if bytes_eq word (codes "hide") then without_words (Changes what.Hide) text else (
+    if bytes_eq word (codes "unhide") then without_words (Changes what.Unhide) text else (
+    if bytes_eq word (codes "clear") then without_words (Changes what.Clear) text else (
+    if bytes_eq word (codes "set") then set_property (word_of text) (rest_of text) else wrong_buffer))))))))
+
+abbrev pub buffer_command : List ℕ → Typed
+buffer_command text = buffer_word (word_of text) (rest_of text)
+
+-- ---- commands
 
 -- `/quit` has no words behind it
 abbrev pub quit_command : List ℕ → Typed
@@ -49,20 +150,15 @@ quit_command (b ∷ text) = wrong_arguments (codes "quit")
 abbrev pub command : List ℕ → List ℕ → Typed
 command name rest =
     if bytes_eq name (codes "print") then print_command rest else (
-    if bytes_eq name (codes "quit") then quit_command rest else unknown_command name)
+    if bytes_eq name (codes "buffer") then buffer_command rest else (
+    if bytes_eq name (codes "quit") then quit_command rest else unknown_command name))
 
 -- what one line asks for behind a `/`
 abbrev pub slashed : List ℕ → Typed
 slashed [] = command [] []
-slashed (b ∷ text) = if b == 47 then refused (codes "no text here") else command (word_of (b ∷ text)) (rest_of (b ∷ text))
+slashed (b ∷ text) = if b == 47 then no_text_here else command (word_of (b ∷ text)) (rest_of (b ∷ text))
 
--- what one line asks for: a command behind a `/`, and else nothing that the core buffer can take
+-- what one line asks for: a command behind a `/`, and else nothing that a buffer can take
 unfoldable pub typed_line : List ℕ → Typed
 typed_line [] = Nothing
-typed_line (b ∷ text) = if b == 47 then slashed text else refused (codes "no text here")
-
--- the texts that are printed are UTF-8
-abbrev pub TypedUtf8 : Typed → Type 0
-TypedUtf8 Nothing = Unit {0}
-TypedUtf8 (Prints prefix message) = IsUtf8 prefix × IsUtf8 message
-TypedUtf8 Quits = Unit {0}
+typed_line (b ∷ text) = if b == 47 then slashed text else no_text_here

@@ -1,16 +1,47 @@
--- The event of a new line, which is spelled once for all clients.
-use Rattle.std.specs.Prelude.{ℕ, List, [], ◌++◌, if◌then◌else◌}
-use Rattle.wc_lines.specs.declared.line.Line.{Line}
-use Rattle.wc_told.specs.LineObjects.{line_added}
+-- The event of a notice, which is spelled once for all clients.
+use Rattle.std.specs.Prelude.{◌≡◌, ℕ, List, [], ◌++◌, Option, Some, None, if◌then◌else◌}
+use Rattle.wc_text.specs.declared.names.Handle.{Handle}
+use Rattle.wc_objects.specs.declared.object.WireMessage.{WireMessage}
+use Rattle.wc_model.specs.declared.notice.EventKind.{EventKind}
+use Rattle.wc_model.specs.declared.notice.Notice.{Notice}
+use Rattle.wc_model.specs.World.{World}
+use Rattle.wc_told.specs.BufferObjects.{event_of}
+use Rattle.wc_session.specs.declared.client.Client.{Client}
 use Rattle.wc_session.specs.Known.{Known}
-use Rattle.wc_session.specs.Reply.{core_buffer}
 use Rattle.wc_session.specs.Sending.{fitting, Sends}
-use Rattle.wc_session.specs.Sync.{follows_core}
+use Rattle.wc_session.specs.Sync.{follows, heard}
 
--- these bytes are the event of a line, or none where it is too long for a message
-abbrev pub IsEventOf : List ℕ → Line → Type 0
-IsEventOf event line = Sends [] event (fitting (line_added core_buffer line))
+-- an event as it is sent: what happened, to which buffer, and the bytes of its message
+pub record Spelled : Type 0 where
+  pub kind : EventKind
+  pub buffer : Handle
+  pub bytes : List ℕ
 
--- a session behind an event of the core buffer, which is for a client that asked for it
-abbrev pub with_event : List ℕ → Known → Known
-with_event event session = if follows_core session.client then record session { unsent = session.unsent ++ event } else session
+-- the message of a notice, in the world behind the change, where it is not too long for one
+abbrev pub if_fits : Option WireMessage → List WireMessage
+if_fits None = []
+if_fits (Some message) = fitting message
+
+abbrev pub event_messages : World → Notice → List WireMessage
+event_messages world notice = if_fits (event_of world notice)
+
+-- this is the event of a notice
+pub record IsEventOf (event : Spelled) (world : World) (notice : Notice) : Type 0 where
+  pub kind : event.kind ≡ notice.kind
+  pub buffer : event.buffer ≡ notice.buffer
+  pub bytes : Sends [] event.bytes (event_messages world notice)
+
+-- the bytes of an event, where it is for the client
+abbrev pub bytes_for : Spelled → Client → List ℕ
+bytes_for event client = if follows event.kind event.buffer.0 client then event.bytes else []
+
+-- a session behind an event
+abbrev pub with_event : Spelled → Known → Known
+with_event event session = record {
+  client = heard event.kind event.buffer.0 session.client;
+  unsent = session.unsent ++ bytes_for event session.client;
+}
+
+-- what a client is told of a notice
+unfoldable pub notice_told : World → Notice → Client → List WireMessage
+notice_told world notice client = if follows notice.kind notice.buffer.0 client then event_messages world notice else []

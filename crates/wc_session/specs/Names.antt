@@ -1,9 +1,10 @@
 -- How a client names a buffer.
-use Rattle.std.specs.Prelude.{ℕ, ◌^◌, Bool, false, ◌&&◌, ◌||◌, ◌==◌, nat_lt, nat_eq, List, length, drop, Option, Some, None, codes, if◌then◌else◌}
+use Rattle.std.specs.Prelude.{ℕ, ◌^◌, Bool, ◌&&◌, nat_lt, nat_eq, List, length, drop, Option, Some, None, codes, if◌then◌else◌}
 use Rattle.std.specs.List.{list_all, starts_with}
 use Rattle.std.specs.Char.{digit_value}
-use Rattle.std.specs.Str.{bytes_eq}
 use Rattle.std.specs.Str.Parse.{digits_value}
+use Rattle.wc_text.specs.declared.names.Handle.{Handle}
+use Rattle.wc_buffers.specs.Calls.{Groups, is_there, named}
 
 -- one hex digit or more, of either case, and nothing else
 abbrev pub is_hex_numeral : List ℕ → Bool
@@ -17,10 +18,14 @@ hex_number digits = if is_hex_numeral digits && nat_lt (digits_value 16 digits) 
 abbrev pub handle_named : List ℕ → Option ℕ
 handle_named name = if starts_with nat_eq name (codes "0x") then hex_number (drop 2 name) else None
 
-abbrev pub is_core : Option ℕ → Bool
-is_core None = false
-is_core (Some handle) = handle == 1
+-- the buffer of a handle, where it is there
+abbrev pub if_there : Groups → ℕ → Option Handle
+if_there groups handle = if is_there (record { 0 = handle }) groups then Some (record { 0 = handle }) else None
 
--- the core buffer is named by its full name, or by its handle
-unfoldable pub names_core : List ℕ → Bool
-names_core name = bytes_eq name (codes "core.weechat") || is_core (handle_named name)
+abbrev pub named_by : Groups → List ℕ → Option ℕ → Option Handle
+named_by groups name None = named name groups
+named_by groups name (Some handle) = if_there groups handle
+
+-- the buffer that a text names, by its handle or by its full name
+unfoldable pub buffer_named : Groups → List ℕ → Option Handle
+buffer_named groups name = named_by groups name (handle_named name)

@@ -1,11 +1,12 @@
 -- What each request gets.
-use Rattle.std.specs.Prelude.{ℕ, pos, negsuc, Bool, true, false, not, ◌&&◌, ◌||◌, List, [], ◌∷◌, Some, None, is_none, codes, if◌then◌else◌}
+use Rattle.std.specs.Prelude.{ℕ, pos, negsuc, Bool, true, false, not, ◌&&◌, ◌||◌, List, [], ◌∷◌, Option, Some, None, is_none, codes, if◌then◌else◌}
 use Rattle.std.specs.Str.{bytes_eq}
 use Rattle.wc_text.specs.declared.names.Handle.{Handle}
 use Rattle.wc_text.specs.declared.names.Pair.{Pair}
 use Rattle.wc_text.specs.declared.names.Cause.{Cause}
 use Rattle.wc_text.specs.declared.names.Cause.TheVariants as cause
-use Rattle.wc_lines.specs.declared.line.Line.{Line}
+use Rattle.wc_buffers.specs.Calls.{Groups}
+use Rattle.wc_model.specs.World.{World}
 use Rattle.wc_relaycmd.specs.declared.request.Command.{Command}
 use Rattle.wc_relaycmd.specs.declared.request.Command.TheVariants as ask
 use Rattle.wc_relaycmd.specs.declared.request.Request.{Request}
@@ -13,15 +14,16 @@ use Rattle.wc_objects.specs.declared.kind.Kind.TheVariants as k
 use Rattle.wc_objects.specs.declared.object.Object.{Object}
 use Rattle.wc_objects.specs.declared.object.Object.TheVariants as o
 use Rattle.wc_objects.specs.declared.object.WireMessage.{WireMessage}
-use Rattle.wc_told.specs.LineObjects.{line_dump, line_added}
+use Rattle.wc_told.specs.LineObjects.{line_dump}
+use Rattle.wc_told.specs.BufferObjects.{buffer_dump}
 use Rattle.wc_session.specs.declared.client.Client.{Client}
 use Rattle.wc_session.specs.declared.outcome.Outcome.{Outcome}
 use Rattle.wc_session.specs.declared.outcome.Outcome.TheVariants as outcome
-use Rattle.wc_session.specs.Sending.{reply, fitting, null_hdata}
+use Rattle.wc_session.specs.Sending.{reply, null_hdata}
 use Rattle.wc_session.specs.Handshakes.{choice_in, asks_escapes, handshake_objects}
 use Rattle.wc_session.specs.Logins.{pairs_let_in}
-use Rattle.wc_session.specs.Names.{names_core}
-use Rattle.wc_session.specs.Sync.{synchronized, desynchronized, follows_core}
+use Rattle.wc_session.specs.Names.{buffer_named}
+use Rattle.wc_session.specs.Sync.{synchronized, desynchronized}
 
 -- what a request gets: the messages that are sent, in order, what is answered to who asked, and what is known of
 -- the client from then on
@@ -56,21 +58,20 @@ test_objects =
     o.Str (Some (codes "a string")) ∷ o.Str (Some []) ∷ o.Str None ∷ o.Buf (Some (codes "buffer")) ∷ o.Buf None ∷
     o.Ptr 305441741 ∷ o.Ptr 0 ∷ o.Tim (pos 1321993456) ∷ o.Arr k.Str test_texts ∷ o.Arr k.Int test_numbers ∷ []
 
--- the core buffer, and its own lines
-abbrev pub core_buffer : Handle
-core_buffer = record { 0 = 1 }
-
-abbrev pub core_lines : Handle
-core_lines = record { 0 = 2 }
+abbrev pub is_buffer_dump : List ℕ → List ℕ → Bool
+is_buffer_dump path keys =
+    bytes_eq path (codes "buffer:gui_buffers(*)") && bytes_eq keys (codes "number,full_name,short_name,hidden,title,local_variables")
 
 abbrev pub is_line_dump : List ℕ → List ℕ → Bool
 is_line_dump path keys =
     bytes_eq path (codes "buffer:gui_buffers(*)/own_lines/first_line(*)/data")
     && bytes_eq keys (codes "buffer,date,date_printed,displayed,notify_level,highlight,tags_array,prefix,message")
 
--- the reply to `hdata`: the lines of the core buffer, and else the null hdata
-unfoldable pub hdata_objects : List Line → List ℕ → List ℕ → List Object
-hdata_objects lines path keys = if is_line_dump path keys then line_dump core_buffer core_lines lines else null_hdata
+-- the reply to `hdata`: the buffers, their lines, and else the null hdata
+unfoldable pub hdata_objects : World → List ℕ → List ℕ → List Object
+hdata_objects world path keys =
+    if is_line_dump path keys then line_dump world else (
+    if is_buffer_dump path keys then buffer_dump world.groups else null_hdata)
 
 -- an information that is unknown
 abbrev pub info_objects : List ℕ → List Object
@@ -107,9 +108,12 @@ init_answer password client pairs =
 
 -- ---- requests
 
-abbrev pub input_answer : Client → List ℕ → List ℕ → Answer
-input_answer client buffer text =
-    if names_core buffer then record { messages = []; outcome = outcome.Input core_buffer text; client = client } else silent client
+abbrev pub typed_into : Client → List ℕ → Option Handle → Answer
+typed_into client text None = silent client
+typed_into client text (Some buffer) = record { messages = []; outcome = outcome.Input buffer text; client = client }
+
+abbrev pub input_answer : Groups → Client → List ℕ → List ℕ → Answer
+input_answer groups client buffer text = typed_into client text (buffer_named groups buffer)
 
 -- what is served before login
 abbrev pub is_open : Command → Bool
@@ -119,28 +123,24 @@ is_open ask.Quit = true
 is_open _ = false
 
 -- what a request gets that is served
-unfoldable pub served : List Line → List ℕ → Client → List ℕ → Command → Answer
-served lines password client id (ask.Handshake pairs) = handshake_answer client id pairs
-served lines password client id (ask.Init pairs) = init_answer password client pairs
-served lines password client id (ask.Hdata path keys) = replies client (reply id (hdata_objects lines path keys))
-served lines password client id (ask.Info name) = replies client (reply id (info_objects name))
-served lines password client id (ask.Infolist name) = replies client (reply id (infolist_objects name))
-served lines password client id (ask.Nicklist buffer) = replies client (reply id null_hdata)
-served lines password client id (ask.Input buffer text) = input_answer client buffer text
-served lines password client id (ask.Completion buffer position text) = replies client (reply id null_hdata)
-served lines password client id (ask.Sync buffers options) = silent (synchronized client buffers options)
-served lines password client id (ask.Desync buffers options) = silent (desynchronized client buffers options)
-served lines password client id ask.Test = replies client (reply id test_objects)
-served lines password client id (ask.Ping text) = replies client (reply (codes "_pong") (pong_objects text))
-served lines password client id ask.Quit = leaves client cause.Quit
+unfoldable pub served : World → List ℕ → Client → List ℕ → Command → Answer
+served world password client id (ask.Handshake pairs) = handshake_answer client id pairs
+served world password client id (ask.Init pairs) = init_answer password client pairs
+served world password client id (ask.Hdata path keys) = replies client (reply id (hdata_objects world path keys))
+served world password client id (ask.Info name) = replies client (reply id (info_objects name))
+served world password client id (ask.Infolist name) = replies client (reply id (infolist_objects name))
+served world password client id (ask.Nicklist buffer) = replies client (reply id null_hdata)
+served world password client id (ask.Input buffer text) = input_answer world.groups client buffer text
+served world password client id (ask.Completion buffer position text) = replies client (reply id null_hdata)
+served world password client id (ask.Sync buffers options) = silent (synchronized world.groups client buffers options)
+served world password client id (ask.Desync buffers options) = silent (desynchronized world.groups client buffers options)
+served world password client id ask.Test = replies client (reply id test_objects)
+served world password client id (ask.Ping text) = replies client (reply (codes "_pong") (pong_objects text))
+served world password client id ask.Quit = leaves client cause.Quit
 
--- What a request gets, where the core buffer has these lines and this is the password that is set. Before login a
+-- What a request gets in this world, where this is the password that is set. Before login a
 -- handshake, `init` and `quit` are served, and any other request drops the client.
-unfoldable pub reply_of : List Line → List ℕ → Client → Request → Answer
-reply_of lines password client request =
-    if client.logged_in || is_open request.command then served lines password client request.id request.command
+unfoldable pub reply_of : World → List ℕ → Client → Request → Answer
+reply_of world password client request =
+    if client.logged_in || is_open request.command then served world password client request.id request.command
     else leaves client cause.LoginFailed
-
--- the event of a new line of the core buffer, for a client that asked for it
-unfoldable pub line_told : Client → Line → List WireMessage
-line_told client line = if follows_core client then fitting (line_added core_buffer line) else []

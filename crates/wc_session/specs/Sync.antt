@@ -1,10 +1,15 @@
 -- Which events a client asked for.
-use Rattle.std.specs.Prelude.{ℕ, Bool, true, false, not, ◌&&◌, ◌||◌, List, Option, Some, None, codes, if◌then◌else◌}
+use Rattle.std.specs.Prelude.{ℕ, Bool, true, false, not, ◌==◌, ◌&&◌, ◌||◌, List, [], ◌∷◌, filter, fold, Option, Some, None, codes, if◌then◌else◌}
 use Rattle.std.specs.List.{list_any}
 use Rattle.std.specs.Str.{bytes_eq}
+use Rattle.wc_text.specs.declared.names.Handle.{Handle}
+use Rattle.wc_buffers.specs.Calls.{Groups}
+use Rattle.wc_model.specs.declared.notice.EventKind.{EventKind}
+use Rattle.wc_model.specs.declared.notice.EventKind.TheVariants as kind
 use Rattle.wc_session.specs.declared.sync_set.SyncSet.{SyncSet}
+use Rattle.wc_session.specs.declared.sync_set.BufferSet.{BufferSet}
 use Rattle.wc_session.specs.declared.client.Client.{Client}
-use Rattle.wc_session.specs.Names.{names_core}
+use Rattle.wc_session.specs.Names.{buffer_named}
 
 abbrev pub has : List ℕ → List (List ℕ) → Bool
 has name names = list_any (λ other. bytes_eq other name) names
@@ -34,20 +39,77 @@ union a b = record { buffers = a.buffers || b.buffers; upgrade = a.upgrade || b.
 abbrev pub difference : SyncSet → SyncSet → SyncSet
 difference a b = record { buffers = a.buffers && not b.buffers; upgrade = a.upgrade && not b.upgrade; buffer = a.buffer && not b.buffer; nicklist = a.nicklist && not b.nicklist }
 
--- The set for `*` is changed where `*` is among the buffers, and the set for the core buffer where that is.
--- Other buffers are passed over.
-abbrev pub with_sets : (SyncSet → SyncSet → SyncSet) → Client → List (List ℕ) → SyncSet → Client
-with_sets change client buffers options = record client {
-  everywhere = if has (codes "*") buffers then change client.everywhere options else client.everywhere;
-  on_core = if list_any (λ name. names_core name) buffers then change client.on_core (of_buffer options) else client.on_core;
+-- ---- the sets for single buffers
+
+abbrev pub set_at : ℕ → List BufferSet → SyncSet
+set_at buffer [] = no_options
+set_at buffer (s ∷ sets) = if s.buffer.0 == buffer then s.set else set_at buffer sets
+
+-- options put to the set of a buffer; the first ones make a set behind the others
+abbrev pub put_to : SyncSet → Handle → List BufferSet → List BufferSet
+put_to options buffer [] = record { buffer = buffer; set = options } ∷ []
+put_to options buffer (s ∷ sets) =
+    if s.buffer.0 == buffer.0 then record { buffer = s.buffer; set = union s.set options } ∷ sets else s ∷ put_to options buffer sets
+
+-- options taken from the set of a buffer, where it has one
+abbrev pub taken_from : SyncSet → Handle → List BufferSet → List BufferSet
+taken_from options buffer [] = []
+taken_from options buffer (s ∷ sets) =
+    if s.buffer.0 == buffer.0 then record { buffer = s.buffer; set = difference s.set options } ∷ sets else s ∷ taken_from options buffer sets
+
+-- what is done for a buffer that is named; one that is not there is passed over
+abbrev pub at_named : (Handle → List BufferSet → List BufferSet) → List BufferSet → Option Handle → List BufferSet
+at_named change sets None = sets
+at_named change sets (Some buffer) = change buffer sets
+
+abbrev pub at_each : Groups → (Handle → List BufferSet → List BufferSet) → List BufferSet → List (List ℕ) → List BufferSet
+at_each groups change sets names = fold (λ sets name. at_named change sets (buffer_named groups name)) sets names
+
+-- The set for `*` is changed where `*` is among the buffers, and the sets of the buffers that are named.
+unfoldable pub synchronized : Groups → Client → List (List ℕ) → Option (List (List ℕ)) → Client
+synchronized groups client buffers options = record client {
+  everywhere = if has (codes "*") buffers then union client.everywhere (options_asked options) else client.everywhere;
+  sets = at_each groups (put_to (of_buffer (options_asked options))) client.sets buffers;
 }
 
-unfoldable pub synchronized : Client → List (List ℕ) → Option (List (List ℕ)) → Client
-synchronized client buffers options = with_sets union client buffers (options_asked options)
+unfoldable pub desynchronized : Groups → Client → List (List ℕ) → Option (List (List ℕ)) → Client
+desynchronized groups client buffers options = record client {
+  everywhere = if has (codes "*") buffers then difference client.everywhere (options_asked options) else client.everywhere;
+  sets = at_each groups (taken_from (of_buffer (options_asked options))) client.sets buffers;
+}
 
-unfoldable pub desynchronized : Client → List (List ℕ) → Option (List (List ℕ)) → Client
-desynchronized client buffers options = with_sets difference client buffers (options_asked options)
+-- ---- which events are for a client
 
--- events of the core buffer are sent where either set has the option
-abbrev pub follows_core : Client → Bool
-follows_core client = client.everywhere.buffer || client.on_core.buffer
+-- the options of which an event needs one
+abbrev pub wants : EventKind → SyncSet → Bool
+wants kind.Opened set = set.buffers
+wants kind.Moved set = set.buffers || set.buffer
+wants kind.Merged set = set.buffers || set.buffer
+wants kind.Unmerged set = set.buffers || set.buffer
+wants kind.Hidden set = set.buffers || set.buffer
+wants kind.Unhidden set = set.buffers || set.buffer
+wants kind.Renamed set = set.buffers || set.buffer
+wants kind.TitleChanged set = set.buffer
+wants kind.VarAdded set = set.buffer
+wants kind.VarChanged set = set.buffer
+wants kind.VarRemoved set = set.buffer
+wants kind.Cleared set = set.buffer
+wants kind.Closing set = set.buffers || set.buffer
+wants kind.LineAdded set = set.buffer
+wants kind.LineDataChanged set = set.buffer
+
+-- an event of a buffer is for a client where either set has an option that it needs
+abbrev pub follows : EventKind → ℕ → Client → Bool
+follows kind buffer client = wants kind (union client.everywhere (set_at buffer client.sets))
+
+-- a closed buffer has no set
+abbrev pub without_set : ℕ → List BufferSet → List BufferSet
+without_set buffer sets = filter (λ (s : BufferSet). not (s.buffer.0 == buffer)) sets
+
+abbrev pub sets_behind : EventKind → ℕ → List BufferSet → List BufferSet
+sets_behind kind.Closing buffer sets = without_set buffer sets
+sets_behind _ buffer sets = sets
+
+-- what is known of a client behind an event, be it for the client or not
+abbrev pub heard : EventKind → ℕ → Client → Client
+heard kind buffer client = record client { sets = sets_behind kind buffer client.sets }

@@ -1,13 +1,13 @@
 ghost use Rattle.std.specs.Prelude.{◌≡◌};
 ghost use Rattle.wc_session.specs.Known.{new_client};
-ghost use Rattle.wc_session.specs.Sync.{follows_core};
 
-use crate::sync_set::SyncSet;
+use crate::sync_set::{BufferSet, SyncSet};
+use std::alloc::Global;
 use wc_relaycmd::Algorithm;
-use wc_text::LinkId;
+use wc_text::{Items, LinkId};
 
 /// What is known of a client.
-#[derive(Clone, Copy)]
+#[derive(Drop)]
 pub struct Client {
     pub link: LinkId,
     /// The bytes that a salt has to begin with.
@@ -19,13 +19,13 @@ pub struct Client {
     pub logged_in: bool,
     /// The events that it asked for of all buffers.
     pub everywhere: SyncSet,
-    /// The events that it asked for of the core buffer by name.
-    pub on_core: SyncSet,
+    /// The events that it asked for of single buffers, which are there.
+    pub sets: Items<BufferSet>,
 }
 
 impl Client {
     /// A client that has said nothing: without a handshake `plain` is chosen.
-    pub fn new(link: LinkId, nonce: [u8; 16]) -> Client
+    pub fn new(alloc: Global, link: LinkId, nonce: [u8; 16]) -> Client
         ensures { result ≡ new_client link nonce }
     {
         Client {
@@ -35,14 +35,7 @@ impl Client {
             escaped: false,
             logged_in: false,
             everywhere: SyncSet::none(),
-            on_core: SyncSet::none(),
+            sets: Items::new(alloc),
         }
-    }
-
-    /// Whether events of the core buffer are sent to it.
-    pub fn follows_core(&self) -> bool
-        ensures { result ≡ follows_core self.now }
-    {
-        self.everywhere.buffer || self.on_core.buffer
     }
 }

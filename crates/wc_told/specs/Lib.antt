@@ -1,1 +1,2 @@
+pub mod BufferObjects
 pub mod LineObjects

@@ -1,7 +1,11 @@
 -- What a client is told of lines: the event of a new line, and the dump of the lines that are held.
 use Rattle.std.specs.Prelude.{ℕ, ◌^◌, ◌-◌, ℤ, pos, Bool, nat_le, List, [], ◌∷◌, map, Option, Some, codes, if◌then◌else◌}
 use Rattle.wc_text.specs.declared.names.Handle.{Handle}
+use Rattle.std.specs.List.{flat_map}
 use Rattle.wc_lines.specs.declared.line.Line.{Line}
+use Rattle.wc_buffers.specs.declared.entry.BufferEntry.{BufferEntry}
+use Rattle.wc_buffers.specs.Groups.{rows}
+use Rattle.wc_model.specs.World.{World, lines_at}
 use Rattle.wc_objects.specs.declared.kind.Kind.TheVariants as k
 use Rattle.wc_objects.specs.declared.object.Object.{Object}
 use Rattle.wc_objects.specs.declared.object.Object.TheVariants as o
@@ -55,6 +59,10 @@ dumped_item buffer own line =
 abbrev pub dump_of : List HdaItem → List Object
 dump_of items = o.Hda (on_path (codes "buffer/lines/line/line_data") items) ∷ []
 
--- the dump of the lines of one buffer, from the oldest
-abbrev pub line_dump : Handle → Handle → List Line → List Object
-line_dump buffer own lines = dump_of (map (dumped_item buffer own) lines)
+-- the lines of one buffer, from the oldest
+abbrev pub dumped_lines : World → BufferEntry → List HdaItem
+dumped_lines world e = map (dumped_item e.row.handle e.row.own_lines) (lines_at world e.row.handle.0)
+
+-- the dump of the lines of all buffers, in their order
+abbrev pub line_dump : World → List Object
+line_dump world = dump_of (flat_map (dumped_lines world) (rows world.groups))

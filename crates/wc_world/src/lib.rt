@@ -1,6 +1,7 @@
 //! The world: the buffers and the lines of each, changed as a whole.
 #![tactic(auto)]
 
+mod changes;
 mod cut;
 mod held;
 mod near;

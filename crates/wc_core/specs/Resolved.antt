@@ -1,0 +1,131 @@
+-- What a text that is typed into a buffer comes to in a world.
+use Rattle.std.specs.Prelude.{ℕ, pos, ◌+◌, ◌-◌, ◌/◌, ◌++◌, ◌==◌, suc, true, false, List, [], ◌∷◌, codes, if◌then◌else◌, Option, Some, None}
+use Rattle.std.specs.List.{slice_get, before_first}
+use Rattle.std.specs.Str.Parse.{digits_value}
+use Rattle.wc_text.specs.declared.names.Handle.{Handle}
+use Rattle.wc_text.specs.Integer.{is_numeral}
+use Rattle.wc_buffers.specs.declared.entry.BufferEntry.{BufferEntry}
+use Rattle.wc_buffers.specs.declared.row.BufferSpec.{BufferSpec}
+use Rattle.wc_buffers.specs.declared.refused.BufferRefused.{BufferRefused}
+use Rattle.wc_buffers.specs.declared.refused.BufferRefused.TheVariants as buffers
+use Rattle.wc_buffers.specs.Calls.{Groups, buffer_of}
+use Rattle.wc_buffers.specs.declared.row.BufferRow.{BufferRow}
+use Rattle.wc_model.specs.declared.change.Change.{Change}
+use Rattle.wc_model.specs.declared.change.What.{What}
+use Rattle.wc_model.specs.declared.change.What.TheVariants as what
+use Rattle.wc_model.specs.declared.change.LineSpec.{LineSpec}
+use Rattle.wc_model.specs.declared.refused.ChangeRefused.{ChangeRefused}
+use Rattle.wc_model.specs.declared.refused.ChangeRefused.TheVariants as refused
+use Rattle.wc_model.specs.World.{World}
+use Rattle.wc_session.specs.Names.{buffer_named}
+use Rattle.wc_core.specs.Typed.{Typed, Nothing, Quits, Refused, Prints, Adds, Closes, Merges, Names, Changes}
+
+pub data Resolved : Type 0 where
+  Stays : Resolved
+  -- the run is to end
+  Ends : Resolved
+  -- a refusal is told
+  Tells : List ℕ → Resolved
+  Asks : Change → Resolved
+
+-- ---- buffers that a command names
+
+abbrev pub first_in : List BufferEntry → Option Handle
+first_in [] = None
+first_in (e ∷ group) = Some e.row.handle
+
+abbrev pub first_in_group : Option (List BufferEntry) → Option Handle
+first_in_group None = None
+first_in_group (Some group) = first_in group
+
+-- the first buffer of the group of this number
+abbrev pub numbered : Groups → ℕ → Option Handle
+numbered groups 0 = None
+numbered groups (suc n) = first_in_group (slice_get groups n)
+
+-- a buffer by the number of its group, its full name or its handle
+unfoldable pub buffer_meant : Groups → List ℕ → Option Handle
+buffer_meant groups word = if is_numeral word then numbered groups (digits_value 10 word) else buffer_named groups word
+
+abbrev pub no_such_buffer : List ℕ
+no_such_buffer = codes "buffer: no such buffer"
+
+-- what is asked of the buffer that is meant, where it is there
+abbrev pub of_meant : (Handle → Change) → Option Handle → Resolved
+of_meant change None = Tells no_such_buffer
+of_meant change (Some buffer) = Asks (change buffer)
+
+abbrev pub of_named : Groups → Handle → (Handle → Change) → Option (List ℕ) → Resolved
+of_named groups buffer change None = Asks (change buffer)
+of_named groups buffer change (Some word) = of_meant change (buffer_meant groups word)
+
+-- ---- changes
+
+abbrev pub change_of : Handle → What → Change
+change_of buffer w = record { buffer = buffer; what = w }
+
+-- a line that is printed at this moment, which it has in seconds
+abbrev pub line_spec : ℕ → List (List ℕ) → List ℕ → List ℕ → LineSpec
+line_spec moment tags prefix message = record {
+  date = moment / 1000;
+  date_printed = moment / 1000;
+  displayed = true;
+  notify = pos 0;
+  highlight = false;
+  tags = tags;
+  prefix = prefix;
+  message = message;
+}
+
+-- a buffer of the core
+abbrev pub core_spec : List ℕ → BufferSpec
+core_spec name = record { full_name = codes "core." ++ name; short_name = name; title = []; vars = [] }
+
+abbrev pub null : Handle
+null = record { 0 = 0 }
+
+-- what stands before the first dot of a buffer's full name, or all of it
+abbrev pub plugin_in : Option BufferRow → List ℕ
+plugin_in None = []
+plugin_in (Some row) = before_first (λ b. b == 46) row.full_name
+
+abbrev pub renamed : Groups → Handle → List ℕ → What
+renamed groups buffer name = what.Rename (plugin_in (buffer_of buffer groups) ++ codes "." ++ name) []
+
+unfoldable pub resolved : World → ℕ → Handle → Typed → Resolved
+resolved world moment buffer Nothing = Stays
+resolved world moment buffer Quits = Ends
+resolved world moment buffer (Refused text) = Tells text
+resolved world moment buffer (Prints name tags prefix message) =
+    of_named world.groups buffer (λ b. change_of b (what.Print (line_spec moment tags prefix message))) name
+resolved world moment buffer (Adds name) = Asks (change_of null (what.Add (core_spec name)))
+resolved world moment buffer (Closes name) = of_named world.groups buffer (λ b. change_of b what.Close) name
+resolved world moment buffer (Merges name) = of_meant (λ into. change_of buffer (what.MergeInto into)) (buffer_meant world.groups name)
+resolved world moment buffer (Names name) = Asks (change_of buffer (renamed world.groups buffer name))
+resolved world moment buffer (Changes w) = Asks (change_of buffer w)
+
+-- ---- the texts of refusals
+
+abbrev pub buffer_text : BufferRefused → List ℕ
+buffer_text (buffers.NoBuffer h) = codes "no such buffer"
+buffer_text buffers.IsCore = codes "core buffer"
+buffer_text (buffers.BadName n) = codes "bad name"
+buffer_text (buffers.FixedVar name) = codes "fixed variable"
+buffer_text (buffers.NameTaken name) = codes "name taken: " ++ name
+buffer_text (buffers.NoVar name) = codes "no such variable: " ++ name
+buffer_text (buffers.SameGroup n) = codes "same group"
+buffer_text buffers.NotMerged = codes "not merged"
+buffer_text (buffers.BadNumber n) = codes "bad number"
+buffer_text (buffers.TooMany n) = codes "too many"
+buffer_text buffers.NoMemory = []
+
+-- No command sets flags of lines, and want of memory is told by no line.
+abbrev pub refusal_text : ChangeRefused → List ℕ
+refusal_text (refused.Buffer reason) = codes "buffer: " ++ buffer_text reason
+refusal_text (refused.NoLine h) = []
+refusal_text refused.Spent = codes "no handle left"
+refusal_text refused.NoMemory = []
+
+-- the change that tells a refusal: a line of the core buffer
+abbrev pub told_refusal : ℕ → List ℕ → Change
+told_refusal moment text = change_of (record { 0 = 1 }) (what.Print (line_spec moment [] (codes "=!=") text))
