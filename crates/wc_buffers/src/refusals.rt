@@ -224,8 +224,9 @@ impl Buffers {
         None
     }
 
+    /// Why `rename` would refuse this full name, if it would. None otherwise; nothing changes.
     #[tactic(auto, unfolding(crate::specs::Calls::rename_refusal))]
-    pub(crate) fn rename_refusal(
+    pub fn rename_refusal(
         &self,
         alloc: Global,
         h: Handle,
