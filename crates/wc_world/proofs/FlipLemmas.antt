@@ -16,7 +16,7 @@ same_bool true = refl
 same_bool false = refl
 
 -- the flips among lines behind a line of another content
-skip_flips : (l : Line) (ls xs : List Line) → has_content l.content xs ≡ false → flips_in (l ∷ ls) xs ≡ flips_in ls xs
+pub skip_flips : (l : Line) (ls xs : List Line) → has_content l.content xs ≡ false → flips_in (l ∷ ls) xs ≡ flips_in ls xs
 skip_flips l ls [] e = refl
 skip_flips l ls (x ∷ xs) e =
     let o = or_parts (eqb x.content.0 l.content.0) (has_content l.content xs) e in

@@ -112,7 +112,7 @@ set_next flags content on n (line ∷ lines) a =
     (λ t.
       let here : eqb content.0 line.content.0 ≡ true = (let z = t in grind (arith, nat_tests)) in
       let absent : has_content content lines ≡ false = ap (λ c. has_content (record { 0 = c }) lines) (sym (eqb-true line.content.0 content.0 t)) ∙ a.1 in
-      rw (own ∙ t, here) (λ i. set_over (flags line.content.0) on line i ∷ not_set flags content on lines absent (~ i)))
+      rw (own ∙ t, here) (λ i. set_over (flags line.content.0) on line i ∷ sym (not_set flags content on lines absent) i))
     (λ t.
       let other : eqb content.0 line.content.0 ≡ false = (let z = t in grind (arith, nat_tests)) in
       rw (own ∙ t, other) (ap (λ ls. flagged flags line ∷ ls) (set_next flags content on n lines a.2)))

@@ -9,3 +9,4 @@ pub mod CutTags
 pub mod First
 pub mod Refused
 pub mod LastFlags
+pub mod FlipsDone
