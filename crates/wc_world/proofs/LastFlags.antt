@@ -110,12 +110,12 @@ set_next flags content on n (line ∷ lines) a =
     let own : eqb (flagged flags line).content.0 content.0 ≡ eqb line.content.0 content.0 = ap (λ (h : Handle). eqb h.0 content.0) (same_content (flags line.content.0) line) in
     by_bool (eqb line.content.0 content.0) _
     (λ t.
-      let here : eqb content.0 line.content.0 ≡ true = (let z = t in grind (arith, nat_tests)) in
-      let absent : has_content content lines ≡ false = ap (λ c. has_content (record { 0 = c }) lines) (sym (eqb-true line.content.0 content.0 t)) ∙ a.1 in
-      rw (own ∙ t, here) (λ i. set_over (flags line.content.0) on line i ∷ sym (not_set flags content on lines absent) i))
+    let here : eqb content.0 line.content.0 ≡ true = (let z = t in grind (arith, nat_tests)) in
+    let absent : has_content content lines ≡ false = ap (λ c. has_content (record { 0 = c }) lines) (sym (eqb-true line.content.0 content.0 t)) ∙ a.1 in
+    rw (own ∙ t, here) (λ i. set_over (flags line.content.0) on line i ∷ sym (not_set flags content on lines absent) i))
     (λ t.
-      let other : eqb content.0 line.content.0 ≡ false = (let z = t in grind (arith, nat_tests)) in
-      rw (own ∙ t, other) (ap (λ ls. flagged flags line ∷ ls) (set_next flags content on n lines a.2)))
+    let other : eqb content.0 line.content.0 ≡ false = (let z = t in grind (arith, nat_tests)) in
+    rw (own ∙ t, other) (ap (λ ls. flagged flags line ∷ ls) (set_next flags content on n lines a.2)))
 
 flipped_from : (flags : ℕ → Option Bool) (n : ℕ) (flips : List Flip) (lines : List Line) → AreApart n lines → flipped flips (map (flagged flags) lines) ≡ map (flagged (λ c. last_from (flags c) c flips)) lines
 flipped_from flags n [] lines a = refl

@@ -14,3 +14,6 @@ mod on_lines;
 mod world;
 
 pub use world::World;
+
+#[cfg(test)]
+mod tests;
