@@ -1,8 +1,8 @@
 -- From what was set at all buffers to the clause on the world.
-use Rattle.std.proofs.Common.{◌≡◌, ◌≢◌, ℕ, ◌<◌, Bool, true, false, cond, not, ◌||◌, eqb, List, [], ◌∷◌, ◌++◌, map, find, flat_map, Option, Some, None, option_map, unwrap_or, is_some, refl, ap, sym, subst, ◌∙◌}
-use Rattle.std.specs.Prelude.{Result, Ok, Err}
+use Rattle.std.proofs.Common.{◌≡◌, ◌≢◌, ℕ, Bool, true, false, cond, not, eqb, List, [], ◌∷◌, ◌++◌, map, find, flat_map, Option, Some, None, option_map, unwrap_or, is_some, refl, ap, sym, subst, ◌∙◌}
+use Rattle.std.specs.Prelude.{Result, Err}
 use Rattle.std.specs.List.{list_any}
-use Rattle.std.specs.FinMap.{FinMap, get, entries, from_entries, find as find_entry, get-entries, get-from_entries, same_map, nat_cmp-IsAntisymmetric}
+use Rattle.std.specs.FinMap.{get, entries, find as find_entry, get-entries, get-from_entries, same_map, nat_cmp-IsAntisymmetric}
 use Rattle.std.specs.HashMap.{HashMap}
 use Rattle.std.specs.Ordering.{nat_cmp, eq_by_cmp}
 use Rattle.std.specs.Cmp.{nat_cmp_total}
@@ -14,10 +14,9 @@ use Rattle.wc_lines.specs.Flags.{flagged, with_flags}
 use Rattle.wc_lines.specs.Held.{Held}
 use Rattle.wc_lines.specs.Ring.{has_content}
 use Rattle.wc_buffers.specs.declared.entry.BufferEntry.{BufferEntry}
-use Rattle.wc_buffers.specs.declared.row.BufferRow.{BufferRow}
 use Rattle.wc_buffers.specs.declared.refused.BufferRefused.{BufferRefused}
 use Rattle.wc_buffers.specs.Calls.{Groups, Answers, handle_of, is_there, buffer_of, changed, rename_refusal, with_full_name}
-use Rattle.wc_buffers.specs.Groups.{rows, has, in_group}
+use Rattle.wc_buffers.specs.Groups.{rows, has}
 use Rattle.wc_buffers.proofs.GroupLaws.{by_bool, list_any-map}
 use Rattle.wc_buffers.proofs.RefusalLemmas.{rename_good}
 use Rattle.wc_model.specs.declared.change.Change.{Change}

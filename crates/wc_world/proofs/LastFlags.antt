@@ -1,7 +1,6 @@
 -- The lines of one buffer, with the flags that flips set last.
-use Rattle.std.proofs.Common.{◌≡◌, ℕ, ◌+◌, ◌<◌, Bool, true, false, cond, not, ◌||◌, eqb, List, [], ◌∷◌, ◌++◌, map, filter, find, Option, Some, None, option_map, is_some, refl, ap, sym, subst, ◌∙◌, arith, eq-eqb, eqb-true}
-use Rattle.std.specs.List.{list_any}
-use Rattle.std.proofs.lemmas.Bool.{false≢true, true≢false, or_parts}
+use Rattle.std.proofs.Common.{◌≡◌, ℕ, ◌<◌, Bool, true, false, cond, not, ◌||◌, eqb, List, [], ◌∷◌, map, find, Option, Some, None, option_map, is_some, refl, ap, sym, subst, ◌∙◌, arith, eq-eqb, eqb-true}
+use Rattle.std.proofs.lemmas.Bool.{or_parts}
 use Rattle.std.proofs.lemmas.Bool.Decides.{nat_tests}
 use Rattle.wc_text.specs.declared.names.Handle.{Handle}
 use Rattle.wc_lines.specs.declared.line.Line.{Line}
@@ -11,7 +10,7 @@ use Rattle.wc_lines.specs.Ring.{has_content, set_displayed}
 use Rattle.wc_buffers.proofs.GroupLaws.{by_bool}
 use Rattle.wc_model.specs.declared.change.Flip.{Flip}
 use Rattle.wc_model.specs.Apply.{flipped}
-use Rattle.wc_model.specs.Notices.{bool_eq, same_flag, is_flipped, flips_in}
+use Rattle.wc_model.specs.Notices.{bool_eq, is_flipped, flips_in}
 use Rattle.wc_world.specs.Flips.{last_from, last_flag, is_other, differs, differing}
 use Rattle.wc_world.specs.Kept.{AreApart}
 use Rattle.wc_world.proofs.FlipLemmas.{skip_flips}

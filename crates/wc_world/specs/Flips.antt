@@ -1,5 +1,5 @@
 -- What flips come to: each content gets the flag of the last flip that names it.
-use Rattle.std.specs.Prelude.{◌≡◌, ◌≢◌, ℕ, Bool, false, not, nat_eq, is_some, Option, Some, None, List, [], ◌∷◌, map, filter, find, option_map, unwrap_or, if◌then◌else◌, Result, Ok, Err}
+use Rattle.std.specs.Prelude.{◌≡◌, ◌≢◌, ℕ, Bool, false, not, nat_eq, Option, Some, None, List, [], ◌∷◌, map, filter, option_map, unwrap_or, if◌then◌else◌, Result, Ok, Err}
 use Rattle.std.specs.HashMap.{HashMap}
 use Rattle.std.specs.List.{list_any, flat_map}
 use Rattle.wc_text.specs.declared.names.Handle.{Handle}

@@ -1,5 +1,5 @@
-ghost use Rattle.std.specs.Prelude.{IfOk};
-ghost use Rattle.wc_model.specs.declared.refused.ChangeRefused.{ChangeRefused as RefusedValue};
+ghost use Rattle.std.specs.Prelude.{IfOk, None};
+ghost use Rattle.std.specs.Str.{IsUtf8};
 ghost use Rattle.wc_world.specs.Texts.{IsChangeText, IsLineText};
 
 use super::*;
@@ -15,7 +15,7 @@ use wc_text::{Handle, Items, NoMemory, Pair, Text};
 struct Untouched;
 
 impl Touch for Untouched {
-    ghost first = { λ _ _ _. Rattle.std.specs.Prelude.None };
+    ghost first = { λ _ _ _. None };
 
     fn touch(&mut self, _buffer: Handle, _key: &Key, _before: Option<Row>) -> Result<(), NoMemory> {
         Err(NoMemory)
@@ -39,7 +39,7 @@ enum Act<'a> {
 }
 
 fn text(alloc: Global, text: &str) -> Result<Text, NoMemory>
-    ensures { IfOk result Rattle.std.specs.Str.IsUtf8 }
+    ensures { IfOk result IsUtf8 }
 {
     Text::from_slice(alloc, text.as_bytes())
 }

@@ -1,4 +1,4 @@
-use Rattle.std.proofs.Common.{◌≡◌, ◌∙◌, ◌<◌, length, get_or, set, ap, sym, arith}
+use Rattle.std.proofs.Common.{◌∙◌, get_or, set, ap, sym}
 use Rattle.wc_lines.specs.Flags.{flag_at, flagged}
 use Rattle.wc_lines.proofs.FlagLemmas.{next}
 use Rattle.wc_lines.proofs.lines.set_flags.Goals as goal

@@ -1,4 +1,4 @@
-use Rattle.std.proofs.Common.{◌≡◌, ◌∙◌, option_map, ap}
+use Rattle.std.proofs.Common.{◌∙◌, option_map, ap}
 use Rattle.wc_lines.specs.Flags.{flag_at}
 use Rattle.wc_model.specs.declared.change.Flip.{Flip}
 use Rattle.wc_world.specs.Flips.{is_stored}

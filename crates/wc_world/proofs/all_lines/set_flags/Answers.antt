@@ -1,4 +1,4 @@
-use Rattle.std.proofs.Common.{◌≡◌, ◌∙◌, ◌+◌, ℕ, cond, eqb, List, Option, drop, get_or, option_map, ap, sym}
+use Rattle.std.proofs.Common.{◌∙◌, ◌+◌, cond, eqb, drop, get_or, option_map, ap, sym}
 use Rattle.std.proofs.lemmas.List.{drop_more}
 use Rattle.wc_text.specs.declared.names.Handle.{Handle}
 use Rattle.wc_lines.specs.Flags.{flag_at, with_flags}

@@ -1,4 +1,4 @@
-use Rattle.std.proofs.Common.{◌≡◌, ◌∙◌, Some, None, ap}
+use Rattle.std.proofs.Common.{◌∙◌, ap}
 use Rattle.wc_lines.specs.Flags.{flag_at}
 use Rattle.wc_model.specs.Order.{order}
 use Rattle.wc_model.specs.World.{World}

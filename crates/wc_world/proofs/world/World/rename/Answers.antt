@@ -1,4 +1,4 @@
-use Rattle.std.proofs.Common.{rules, ◌≡◌, ◌∙◌, [], refl, ap, sym, subst}
+use Rattle.std.proofs.Common.{rules, ◌∙◌, [], refl, ap, sym, subst}
 use Rattle.wc_lines.specs.Flags.{flag_at}
 use Rattle.wc_buffers.specs.Calls.{rename_refusal}
 use Rattle.wc_buffers.proofs.RefusalLemmas.{not_due}
