@@ -1,1 +1,2 @@
+pub mod EventsFormed
 pub mod Formed
