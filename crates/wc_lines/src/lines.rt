@@ -1,8 +1,4 @@
-<<<<<<< HEAD
-ghost use Rattle.std.specs.Prelude.{◌≡◌, ◌≤◌, ◌++◌, ◌∷◌, [], length, IfOk, IfSome, All, IsTrue, ◌↔◌, option_copied};
-=======
-ghost use Rattle.std.specs.Prelude.{◌≡◌, ◌≤◌, ◌++◌, ◌∷◌, [], length, map, IfOk, IfSome, All, IsTrue, ◌↔◌};
->>>>>>> 6531015373017e5455488072351c608eb11324d5
+ghost use Rattle.std.specs.Prelude.{◌≡◌, ◌≤◌, ◌++◌, ◌∷◌, [], length, map, IfOk, IfSome, All, IsTrue, ◌↔◌, option_copied};
 ghost use Rattle.std.specs.Iterator.{YieldsFirstRef, item_count};
 ghost use Rattle.wc_lines.specs.Flags.{flag_at, flagged, with_flags};
 ghost use Rattle.wc_lines.specs.Held.{no_lines};
