@@ -24,3 +24,6 @@ pub use names::buffer_named;
 pub use outcome::Outcome;
 pub use session::Session;
 pub use sync_set::{BufferSet, SyncSet};
+
+#[cfg(test)]
+mod tests;
