@@ -4,3 +4,4 @@ pub mod NameLemmas
 pub mod OneReplyLaws
 pub mod SendingLemmas
 pub mod ServedLemmas
+pub mod SetLemmas

@@ -6,13 +6,12 @@ use Rattle.wc_objects.specs.declared.object.Object.{Object}
 use Rattle.wc_objects.specs.declared.object.WireMessage.{WireMessage}
 use Rattle.wc_objects.specs.Forms.{well_formed}
 use Rattle.wc_objects.specs.Spelling.{message_bytes}
-use Rattle.wc_lines.specs.declared.line.Line.{Line}
-use Rattle.wc_told.specs.LineObjects.{line_added}
+use Rattle.wc_model.specs.World.{World}
+use Rattle.wc_model.specs.declared.notice.Notice.{Notice}
 use Rattle.wc_session.specs.declared.client.Client.{Client}
 use Rattle.wc_session.specs.Known.{Known}
-use Rattle.wc_session.specs.Event.{IsEventOf, with_event}
-use Rattle.wc_session.specs.Reply.{line_told, core_buffer}
-use Rattle.wc_session.specs.Sync.{follows_core}
+use Rattle.wc_session.specs.Event.{Spelled, IsEventOf, event_messages, notice_told, with_event}
+use Rattle.wc_session.specs.Sync.{follows}
 use Rattle.wc_session.specs.Sending.{message, spelling, fits, fitting, reply, null_hdata, is_owed, Sends}
 
 fitting_one : (m : WireMessage) → fits m ≡ true → fitting m ≡ m ∷ []
@@ -84,19 +83,30 @@ sends_as old new a b e sends = let P : List WireMessage → Type 0 = λ messages
 pub sends_from : (old mid new : List ℕ) (messages : List WireMessage) → mid ≡ old → Sends mid new messages → Sends old new messages
 sends_from old mid new messages e sends = let P : List ℕ → Type 0 = λ bytes. Sends bytes new messages in subst P e sends
 
--- ---- the event of a new line
+-- ---- the event of a notice
 
-pub told_none : (client : Client) (line : Line) → follows_core client ≡ false → line_told client line ≡ []
-unfolding line_told
-told_none client line e = rw e refl
+told_none : (world : World) (notice : Notice) (client : Client) → follows notice.kind notice.buffer.0 client ≡ false → notice_told world notice client ≡ []
+unfolding notice_told
+told_none world notice client e = rw e refl
 
-told_one : (client : Client) (line : Line) → follows_core client ≡ true → line_told client line ≡ fitting (line_added core_buffer line)
-unfolding line_told
-told_one client line e = rw e refl
+told_some : (world : World) (notice : Notice) (client : Client) → follows notice.kind notice.buffer.0 client ≡ true → notice_told world notice client ≡ event_messages world notice
+unfolding notice_told
+told_some world notice client e = rw e refl
 
--- what a client is told of a line is behind its bytes, once the event is
-pub event_sends : (event : List ℕ) (line : Line) (session : Known) → IsEventOf event line → Sends session.unsent (with_event event session).unsent (line_told session.client line)
-event_sends event line session is = by (follows_core session.client) refl where
-  by : (b : Bool) → follows_core session.client ≡ b → Sends session.unsent (cond b (record session { unsent = session.unsent ++ event }) session).unsent (line_told session.client line)
-  by true e = sends_as _ _ _ _ (sym (told_one session.client line e)) (record { bytes = ap (λ (t : List ℕ). session.unsent ++ t) is.bytes; spelt = is.spelt })
-  by false e = sends_as _ _ _ _ (sym (told_none session.client line e)) (sends_none session.unsent)
+-- what a client is told of a notice is behind its bytes, once the event is
+pub event_sends : (event : Spelled) (world : World) (notice : Notice) (session : Known) → IsEventOf event world notice
+    → Sends session.unsent (with_event event session).unsent (notice_told world notice session.client)
+event_sends event world notice session is = by (follows notice.kind notice.buffer.0 session.client) refl
+  where
+    same : follows event.kind event.buffer.0 session.client ≡ follows notice.kind notice.buffer.0 session.client
+    same = λ i. follows (is.kind i) (is.buffer i).0 session.client
+
+    by : (b : Bool) → follows notice.kind notice.buffer.0 session.client ≡ b → Sends session.unsent (with_event event session).unsent (notice_told world notice session.client)
+    by true e = sends_as _ _ _ _ (sym (told_some world notice session.client e)) (record {
+      bytes = ap (λ b. session.unsent ++ cond b event.bytes []) (same ∙ e) ∙ ap (λ (t : List ℕ). session.unsent ++ t) is.bytes.bytes;
+      spelt = is.bytes.spelt;
+    })
+    by false e = sends_as _ _ _ _ (sym (told_none world notice session.client e)) (record {
+      bytes = ap (λ b. session.unsent ++ cond b event.bytes []) (same ∙ e);
+      spelt = tt;
+    })

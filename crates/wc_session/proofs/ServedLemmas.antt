@@ -1,10 +1,12 @@
 -- Want of memory is no answer of the definition.
-use Rattle.std.proofs.Common.{◌≡◌, ℕ, Bool, true, false, not, ◌&&◌, ◌||◌, List, [], ◌∷◌, sym, subst}
+use Rattle.std.proofs.Common.{◌≡◌, ℕ, Bool, true, false, not, ◌&&◌, ◌||◌, List, [], ◌∷◌, Option, Some, None, sym, subst}
 use Rattle.std.specs.Option.{is_none}
 use Rattle.std.specs.Prelude.{if◌then◌else◌}
 use Rattle.wc_text.specs.declared.names.Pair.{Pair}
 use Rattle.wc_text.specs.declared.names.Cause.TheVariants as cause
-use Rattle.wc_lines.specs.declared.line.Line.{Line}
+use Rattle.wc_text.specs.declared.names.Handle.{Handle}
+use Rattle.wc_buffers.specs.Calls.{Groups}
+use Rattle.wc_model.specs.World.{World}
 use Rattle.wc_relaycmd.specs.declared.request.Command.{Command}
 use Rattle.wc_relaycmd.specs.declared.request.Command.TheVariants as ask
 use Rattle.wc_relaycmd.specs.declared.request.Request.{Request}
@@ -14,8 +16,8 @@ use Rattle.wc_session.specs.declared.outcome.Outcome.{Outcome}
 use Rattle.wc_session.specs.declared.outcome.Outcome.TheVariants as outcome
 use Rattle.wc_session.specs.Handshakes.{choice_in}
 use Rattle.wc_session.specs.Logins.{pairs_let_in}
-use Rattle.wc_session.specs.Names.{names_core}
-use Rattle.wc_session.specs.Reply.{Answer, silent, leaves, replies, core_buffer, shaken, handshake_reply, handshake_answer, init_answer, input_answer, is_open, served, reply_of}
+use Rattle.wc_session.specs.Names.{buffer_named}
+use Rattle.wc_session.specs.Reply.{Answer, silent, leaves, replies, typed_into, shaken, handshake_reply, handshake_answer, init_answer, input_answer, is_open, served, reply_of}
 use Rattle.wc_session.specs.Served.{OnNoMemory}
 
 abbrev IsServed : Outcome → Type 0
@@ -44,31 +46,34 @@ init_served password client pairs =
     if_served client.logged_in (silent client) (if pairs_let_in pairs password client.nonce client.chosen then silent let_in else leaves client cause.LoginFailed)
     tt (if_served (pairs_let_in pairs password client.nonce client.chosen) (silent let_in) (leaves client cause.LoginFailed) tt tt)
 
-input_served : (client : Client) (buffer text : List ℕ) → IsServed (input_answer client buffer text).outcome
-input_served client buffer text =
-    if_served (names_core buffer) (record { messages = []; outcome = outcome.Input core_buffer text; client = client }) (silent client) tt tt
+typed_served : (client : Client) (text : List ℕ) (buffer : Option Handle) → IsServed (typed_into client text buffer).outcome
+typed_served client text None = tt
+typed_served client text (Some buffer) = tt
 
-served_served : (lines : List Line) (password : List ℕ) (client : Client) (id : List ℕ) (command : Command) → IsServed (served lines password client id command).outcome
+input_served : (groups : Groups) (client : Client) (buffer text : List ℕ) → IsServed (input_answer groups client buffer text).outcome
+input_served groups client buffer text = typed_served client text (buffer_named groups buffer)
+
+served_served : (world : World) (password : List ℕ) (client : Client) (id : List ℕ) (command : Command) → IsServed (served world password client id command).outcome
 unfolding served
-served_served lines password client id (ask.Handshake pairs) = handshake_served client id pairs
-served_served lines password client id (ask.Init pairs) = init_served password client pairs
-served_served lines password client id (ask.Hdata path keys) = replies_served client _
-served_served lines password client id (ask.Info name) = replies_served client _
-served_served lines password client id (ask.Infolist name) = replies_served client _
-served_served lines password client id (ask.Nicklist buffer) = replies_served client _
-served_served lines password client id (ask.Input buffer text) = input_served client buffer text
-served_served lines password client id (ask.Completion buffer position text) = replies_served client _
-served_served lines password client id (ask.Sync buffers options) = tt
-served_served lines password client id (ask.Desync buffers options) = tt
-served_served lines password client id ask.Test = replies_served client _
-served_served lines password client id (ask.Ping text) = replies_served client _
-served_served lines password client id ask.Quit = tt
+served_served world password client id (ask.Handshake pairs) = handshake_served client id pairs
+served_served world password client id (ask.Init pairs) = init_served password client pairs
+served_served world password client id (ask.Hdata path keys) = replies_served client _
+served_served world password client id (ask.Info name) = replies_served client _
+served_served world password client id (ask.Infolist name) = replies_served client _
+served_served world password client id (ask.Nicklist buffer) = replies_served client _
+served_served world password client id (ask.Input buffer text) = input_served world.groups client buffer text
+served_served world password client id (ask.Completion buffer position text) = replies_served client _
+served_served world password client id (ask.Sync buffers options) = tt
+served_served world password client id (ask.Desync buffers options) = tt
+served_served world password client id ask.Test = replies_served client _
+served_served world password client id (ask.Ping text) = replies_served client _
+served_served world password client id ask.Quit = tt
 
-reply_served : (lines : List Line) (password : List ℕ) (client : Client) (request : Request) → IsServed (reply_of lines password client request).outcome
+reply_served : (world : World) (password : List ℕ) (client : Client) (request : Request) → IsServed (reply_of world password client request).outcome
 unfolding reply_of
-reply_served lines password client request =
-    if_served (client.logged_in || is_open request.command) (served lines password client request.id request.command) (leaves client cause.LoginFailed)
-    (served_served lines password client request.id request.command) tt
+reply_served world password client request =
+    if_served (client.logged_in || is_open request.command) (served world password client request.id request.command) (leaves client cause.LoginFailed)
+    (served_served world password client request.id request.command) tt
 
 not_refused : (o : Outcome) (fact : Type 0) → IsServed o → OnNoMemory o fact
 not_refused outcome.Replied fact h = tt
@@ -78,8 +83,8 @@ not_refused (outcome.Leave why) fact h = tt
 not_refused outcome.NoMemory fact h = absurd h
 
 -- what a request gets is never want of memory
-pub answer_not_refused : (lines : List Line) (password : List ℕ) (client : Client) (request : Request) (o : Outcome) (fact : Type 0)
-    → o ≡ (reply_of lines password client request).outcome → OnNoMemory o fact
-answer_not_refused lines password client request o fact e =
+pub answer_not_refused : (world : World) (password : List ℕ) (client : Client) (request : Request) (o : Outcome) (fact : Type 0)
+    → o ≡ (reply_of world password client request).outcome → OnNoMemory o fact
+answer_not_refused world password client request o fact e =
     let P : Outcome → Type 0 = λ o. IsServed o in
-    not_refused o fact (subst P (sym e) (reply_served lines password client request))
+    not_refused o fact (subst P (sym e) (reply_served world password client request))

@@ -7,7 +7,7 @@ ghost use Rattle.wc_session.specs.Served.{Gives};
 
 use crate::client::Client;
 use crate::outcome::Outcome;
-use crate::served::{Served, give};
+use crate::served::give;
 use bytes::BytesMut;
 use std::alloc::Global;
 use wc_objects::{Kind, Object};
@@ -99,43 +99,40 @@ fn handshake_objects(
     }])
 }
 
-/// The client after a handshake, which settles nothing after login.
+/// Takes note of a handshake, which settles nothing after login.
 #[tactic(auto, unfolding(crate::specs::Reply::shaken))]
-fn shaken(client: &Client, pairs: &Items<Pair>) -> Client
-    ensures { result ≡ shaken client.now pairs.now }
+fn settle(client: &mut Client, pairs: &Items<Pair>)
+    ensures { client.new ≡ shaken client.old pairs.now }
 {
-    let mut after = *client;
-    if !after.logged_in {
-        after.chosen = choice_in(pairs);
-        after.escaped = asks_escapes(pairs);
+    if !client.logged_in {
+        client.chosen = choice_in(pairs);
+        client.escaped = asks_escapes(pairs);
     }
-    after
 }
 
 /// Serves `handshake`: it is answered, and before login it settles the algorithm and the escapes, or drops the client
-/// where there is no common algorithm.
+/// where there is no common algorithm. Where memory is refused nothing changes.
 #[tactic(auto, unfolding(crate::specs::Reply::handshake_answer))]
 pub fn shake(
     alloc: Global,
     out: &mut BytesMut,
-    client: &Client,
+    client: &mut Client,
     id: &[u8],
     pairs: &Items<Pair>,
-) -> Result<Served, NoMemory>
+) -> Result<Outcome, NoMemory>
     requires { IsUtf8 id.now }
-    ensures ok { IfOk result (λ served. Gives out.old.items out.new.items served (handshake_answer client.now id.now pairs.now)) }
+    ensures ok { IfOk result (λ outcome. Gives out.old.items out.new.items outcome client.new (handshake_answer client.old id.now pairs.now)) }
     ensures err { OnErr result (out.new.items ≡ out.old.items) }
+    ensures still { OnErr result (client.new ≡ client.old) }
 {
     let choice = choice_in(pairs);
     let nonce = client.nonce;
     let objects = handshake_objects(alloc, nonce.as_slice(), choice, asks_escapes(pairs))?;
-    let after = shaken(client, pairs);
-    let served = give(alloc, out, after, id, objects.as_slice())?;
-    if !client.logged_in && choice.is_none() {
-        return Ok(Served {
-            outcome: Outcome::Leave(Cause::LoginFailed),
-            client: after,
-        });
+    let outcome = give(alloc, out, id, objects.as_slice())?;
+    let leaves = !client.logged_in && choice.is_none();
+    settle(client, pairs);
+    if leaves {
+        return Ok(Outcome::Leave(Cause::LoginFailed));
     }
-    Ok(served)
+    Ok(outcome)
 }

@@ -1,10 +1,10 @@
-ghost use Rattle.std.specs.Prelude.{◌≡◌, IfOk};
+ghost use Rattle.std.specs.Prelude.{◌≡◌, IfOk, OnErr};
 ghost use Rattle.wc_session.specs.Logins.{lets_in, pairs_let_in};
 ghost use Rattle.wc_session.specs.Reply.{init_answer};
 ghost use Rattle.wc_session.specs.Served.{IsQuiet};
 
 use crate::client::Client;
-use crate::served::{Served, leaving, silent};
+use crate::outcome::Outcome;
 use std::alloc::Global;
 use wc_relaycmd::{Algorithm, Login, check_login, read_login};
 use wc_text::{Cause, Items, NoMemory, Pair};
@@ -35,23 +35,24 @@ fn pairs_let_in(
     Ok(lets_in(&login, password, &nonce, chosen))
 }
 
-/// Serves `init`: it lets the client in or drops it, and after login does nothing.
+/// Serves `init`: it lets the client in or drops it, and after login does nothing. Where memory is refused the client
+/// stays as it was.
 #[tactic(auto, unfolding(crate::specs::Reply::init_answer))]
 pub fn log_in(
     alloc: Global,
-    client: &Client,
+    client: &mut Client,
     password: &[u8],
     pairs: &Items<Pair>,
-) -> Result<Served, NoMemory>
-    ensures { IfOk result (λ served. IsQuiet served (init_answer password.now client.now pairs.now)) }
+) -> Result<Outcome, NoMemory>
+    ensures ok { IfOk result (λ outcome. IsQuiet outcome client.new (init_answer password.now client.old pairs.now)) }
+    ensures err { OnErr result (client.new ≡ client.old) }
 {
     if client.logged_in {
-        return Ok(silent(*client));
+        return Ok(Outcome::Silent);
     }
     if !pairs_let_in(alloc, pairs, password, client)? {
-        return Ok(leaving(*client, Cause::LoginFailed));
+        return Ok(Outcome::Leave(Cause::LoginFailed));
     }
-    let mut after = *client;
-    after.logged_in = true;
-    Ok(silent(after))
+    client.logged_in = true;
+    Ok(Outcome::Silent)
 }

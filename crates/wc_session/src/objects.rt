@@ -1,25 +1,24 @@
 ghost use Rattle.std.specs.Prelude.{◌≡◌, ◌∷◌, [], true, Some, IfOk};
 ghost use Rattle.std.specs.Str.{IsUtf8};
 ghost use Rattle.wc_objects.specs.Forms.{well_formed};
-ghost use Rattle.wc_session.specs.Reply.{core_buffer, core_lines, test_texts, test_numbers, test_objects, is_line_dump, hdata_objects, info_objects, infolist_objects, pong_objects};
+ghost use Rattle.wc_session.specs.Reply.{test_texts, test_numbers, test_objects, is_buffer_dump, is_line_dump, hdata_objects, info_objects, infolist_objects, pong_objects};
 
 use crate::sending::null_hdata;
 use std::alloc::Global;
-use wc_lines::Lines;
 use wc_objects::{Kind, Object};
-use wc_text::{Handle, Items, NoMemory, Text};
-use wc_told::line_dump;
+use wc_text::{Items, NoMemory, Text};
+use wc_told::{buffer_dump, line_dump};
+use wc_world::World;
 
-/// The handle of the core buffer.
-pub const CORE_BUFFER: Handle = Handle(1);
+/// The path and the keys by which a client asks for all buffers.
+const BUFFERS_PATH: &[u8] = b"buffer:gui_buffers(*)";
 
-/// The handle of the core buffer's own lines.
-const CORE_LINES: Handle = Handle(2);
+const BUFFERS_KEYS: &[u8] = b"number,full_name,short_name,hidden,title,local_variables";
 
 /// The path and the keys by which a client asks for the lines of all buffers.
-const DUMP_PATH: &[u8] = b"buffer:gui_buffers(*)/own_lines/first_line(*)/data";
+const LINES_PATH: &[u8] = b"buffer:gui_buffers(*)/own_lines/first_line(*)/data";
 
-const DUMP_KEYS: &[u8] =
+const LINES_KEYS: &[u8] =
     b"buffer,date,date_printed,displayed,notify_level,highlight,tags_array,prefix,message";
 
 fn some_text(alloc: Global, bytes: &[u8]) -> Result<Option<Text>, NoMemory>
@@ -83,29 +82,38 @@ pub fn test_objects(alloc: Global) -> Result<[Object; 15], NoMemory>
     ])
 }
 
+/// Whether a path and keys ask for all buffers.
+fn is_buffer_dump(path: &[u8], keys: &[u8]) -> bool
+    ensures { result ≡ is_buffer_dump path.now keys.now }
+{
+    path == BUFFERS_PATH && keys == BUFFERS_KEYS
+}
+
 /// Whether a path and keys ask for the lines of all buffers.
 fn is_line_dump(path: &[u8], keys: &[u8]) -> bool
     ensures { result ≡ is_line_dump path.now keys.now }
 {
-    path == DUMP_PATH && keys == DUMP_KEYS
+    path == LINES_PATH && keys == LINES_KEYS
 }
 
-/// The lines of the core buffer, where the path and the keys ask for them, and else the null hdata.
+/// The buffers or their lines, where the path and the keys ask for them, and else the null hdata.
 #[tactic(auto, unfolding(crate::specs::Reply::hdata_objects))]
 pub fn hdata_objects(
     alloc: Global,
-    lines: &Lines,
+    world: &World,
     path: &[u8],
     keys: &[u8],
 ) -> Result<[Object; 1], NoMemory>
-    ensures objects { IfOk result (λ objects. objects ≡ hdata_objects lines.now.lines path.now keys.now) }
+    ensures objects { IfOk result (λ objects. objects ≡ hdata_objects world.now path.now keys.now) }
     ensures formed { IfOk result (λ objects. well_formed objects ≡ true) }
 {
     if is_line_dump(path, keys) {
-        line_dump(alloc, CORE_BUFFER, CORE_LINES, lines)
-    } else {
-        Ok(null_hdata(alloc))
+        return line_dump(alloc, world);
     }
+    if is_buffer_dump(path, keys) {
+        return buffer_dump(alloc, world.buffers());
+    }
+    Ok(null_hdata(alloc))
 }
 
 /// An information that is unknown.

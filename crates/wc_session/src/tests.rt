@@ -1,29 +1,99 @@
-ghost use Rattle.std.specs.Prelude.{IfOk};
-ghost use Rattle.wc_lines.specs.LineText.{HasText};
+ghost use Rattle.std.specs.Prelude.{IfOk, None};
+ghost use Rattle.std.specs.Str.{IsUtf8};
+ghost use Rattle.wc_world.specs.Texts.{IsChangeText};
 
-use crate::line_event::LineEvent;
+use crate::buffer_event::BufferEvent;
 use crate::outcome::Outcome;
 use crate::session::Session;
 use std::alloc::Global;
 use std::test::Fail;
-use wc_lines::{Line, Lines};
+use wc_buffers::BufferSpec;
+use wc_model::{Change, EventKind, LineSpec, Notice, What};
+use wc_nicklist::{Key, Row, Touch};
 use wc_relaycmd::read_request;
 use wc_text::{Cause, Handle, Items, LinkId, NoMemory, Text};
+use wc_world::World;
 
-/// A session, the lines of the core buffer and the password that is set.
+/// Notes nothing.
+#[derive(Drop)]
+struct Untouched;
+
+impl Touch for Untouched {
+    ghost first = { λ _ _ _. None };
+
+    fn touch(&mut self, _buffer: Handle, _key: &Key, _before: Option<Row>) -> Result<(), NoMemory> {
+        Err(NoMemory)
+    }
+}
+
+/// A session, the world and the password that is set.
 #[derive(Drop)]
 struct Bench {
     session: Session,
-    lines: Lines,
+    world: World,
     password: Text,
 }
 
+fn text(alloc: Global, text: &str) -> Result<Text, NoMemory>
+    ensures { IfOk result IsUtf8 }
+{
+    Text::from_slice(alloc, text.as_bytes())
+}
+
+/// A buffer of this full name, whose short name is `a`.
+fn added(alloc: Global, name: &str) -> Result<What, NoMemory>
+    ensures { IfOk result IsChangeText }
+{
+    Ok(What::Add(BufferSpec {
+        full_name: text(alloc, name)?,
+        short_name: text(alloc, "a")?,
+        title: Text::new(alloc),
+        vars: Items::new(alloc),
+    }))
+}
+
+fn printed(alloc: Global, message: &str) -> Result<What, NoMemory>
+    ensures { IfOk result IsChangeText }
+{
+    Ok(What::Print(LineSpec {
+        date: 1700000000,
+        date_printed: 1700000000,
+        displayed: true,
+        notify: 0,
+        highlight: false,
+        tags: Items::new(alloc),
+        prefix: Text::new(alloc),
+        message: text(alloc, message)?,
+    }))
+}
+
+/// A session in a world that has the core buffer and `core.a`, whose handle is 5. A buffer holds two lines.
 fn new_bench(alloc: Global, password: &str) -> Result<Bench, NoMemory> {
+    let mut world = World::new(alloc, 2)?;
+    let change = Change {
+        buffer: Handle(0),
+        what: added(alloc, "core.a")?,
+    };
+    let _told = world.change(alloc, change, &mut Untouched);
     Ok(Bench {
         session: Session::new(alloc, LinkId(1), *b"abcdbcdecdefdefg")?,
-        lines: Lines::new(alloc, 2)?,
+        world,
         password: Text::from_slice(alloc, password.as_bytes())?,
     })
+}
+
+fn print_line(
+    alloc: Global,
+    bench: &mut Bench,
+    buffer: u64,
+    message: &str,
+) -> Result<(), NoMemory> {
+    let change = Change {
+        buffer: Handle(buffer),
+        what: printed(alloc, message)?,
+    };
+    let _told = bench.world.change(alloc, change, &mut Untouched);
+    Ok(())
 }
 
 fn shown(outcome: &Outcome) -> &'static str {
@@ -50,29 +120,11 @@ fn ask(alloc: Global, bench: &mut Bench, line: &str) -> Result<&'static str, NoM
         Some(request) => {
             let outcome = bench
                 .session
-                .request(alloc, &bench.lines, &bench.password, request);
+                .request(alloc, &bench.world, &bench.password, request);
             Ok(shown(&outcome))
         }
         None => Ok("no request"),
     }
-}
-
-/// A line of the core buffer with this handle, and the next one for its content.
-fn line(alloc: Global, number: u32, message: &str) -> Result<Line, NoMemory>
-    ensures { IfOk result HasText }
-{
-    Ok(Line {
-        handle: Handle(u64::from(number)),
-        content: Handle(u64::from(number) + 1),
-        date: 1700000000,
-        date_printed: 1700000000,
-        displayed: true,
-        notify: 0,
-        highlight: false,
-        tags: Items::new(alloc),
-        prefix: Text::new(alloc),
-        message: Text::from_slice(alloc, message.as_bytes())?,
-    })
 }
 
 /// Lines of a client whose password is `x`, a last line, and what that one comes to.
@@ -104,6 +156,9 @@ init password=x / input 0x /print  a => silent
 init password=x / input 0x+1 /print  a => silent
 init password=x / input 0X1 /print  a => silent
 init password=x / input core.other /print  a => silent
+init password=x / input core.a /print  a => other input
+init password=x / input 0x5 /print  a => other input
+init password=x / input 0x9 /print  a => silent
 handshake / init password=x => silent
 handshake password_hash_algo=sha256 / init password=x => login failed
 handshake password_hash_algo=sha256|handshake / init password=x => silent
@@ -257,75 +312,139 @@ fn a_handshake_after_login_changes_nothing(rt: HostRuntime) -> Result<(), Fail> 
     Ok(())
 }
 
-/// What a client asks for, and whether it is then told of a new line.
+/// Lines of a client, and which events it is then told: of the opening (o), the title (t) and the move (m) of `core.a`,
+/// and of the clearing of the core buffer (c).
 const TOLD: &str = "\
-bogus => no
-sync => yes
-sync * buffers,nicklist => no
-sync * buffer => yes
-sync core.weechat => yes
-sync core.weechat buffers => no
-sync core.weechat nicklist => no
-sync 0x1 => yes
-sync core.other,0x2 => no
-sync core.other,core.weechat buffer => yes
-sync|desync => no
-sync|desync core.weechat => yes
-sync|desync * nicklist,buffers => yes
-sync * buffer|sync * nicklist => yes
-sync core.weechat|desync => yes
-sync core.weechat|desync core.weechat buffer => no
-sync|sync core.weechat|desync => yes
-sync core.weechat bogus => no
+bogus => -
+sync => otmc
+sync * buffers,nicklist => om
+sync * buffer => tmc
+sync core.weechat => c
+sync core.weechat buffers => -
+sync core.weechat nicklist => -
+sync 0x1 => c
+sync core.a => tm
+sync 0x5 => tm
+sync 0x5 buffers => -
+sync core.b,0x2 => -
+sync core.b,core.a,core.weechat buffer => tmc
+sync|desync => -
+sync|desync core.weechat => otmc
+sync|desync * nicklist,buffers => tmc
+sync * buffer|sync * nicklist => tmc
+sync core.a|desync => tm
+sync core.a|desync 0x5 buffer => -
+sync core.a|sync core.weechat|desync core.a => c
+sync|sync core.weechat|desync => c
+sync core.weechat bogus => -
 ";
+
+const EVENTS: [(&str, EventKind, u64); 4] = [
+    ("o", EventKind::Opened, 5),
+    ("t", EventKind::TitleChanged, 5),
+    ("m", EventKind::Moved, 5),
+    ("c", EventKind::Cleared, 1),
+];
+
+/// The event of this kind about a buffer.
+fn event(
+    alloc: Global,
+    world: &World,
+    kind: EventKind,
+    buffer: u64,
+) -> Result<BufferEvent, NoMemory> {
+    let notice = Notice {
+        kind,
+        buffer: Handle(buffer),
+        number: 1,
+        full_name: text(alloc, "core.a")?,
+        prev: Handle(0),
+        next: Handle(0),
+        lines: Items::new(alloc),
+        flips: Items::new(alloc),
+    };
+    BufferEvent::of(alloc, world, &notice)
+}
+
+/// Whether the session is told of an event.
+fn tells(alloc: Global, bench: &mut Bench, kind: EventKind, buffer: u64) -> Result<bool, NoMemory> {
+    let before = bench.session.unsent().len();
+    let event = event(alloc, &bench.world, kind, buffer)?;
+    bench.session.append_event(&event)?;
+    Ok(bench.session.unsent().len() > before)
+}
+
+/// A session behind these lines of a client that is logged in.
+fn behind(alloc: Global, script: &str) -> Result<Bench, NoMemory> {
+    let mut bench = new_bench(alloc, "x")?;
+    let _outcome = ask(alloc, &mut bench, "init password=x")?;
+    for line in script.split('|') {
+        let _outcome = ask(alloc, &mut bench, line)?;
+    }
+    Ok(bench)
+}
 
 #[test]
 fn clients_are_told_what_they_asked_for(rt: HostRuntime) -> Result<(), Fail> {
     for row in TOLD.lines() {
         let (script, expected) = row.split_once(" => ").ok_or("a row has an answer")?;
-        let mut bench = new_bench(rt.alloc(), "x")?;
-        assert_eq!(rt; ask(rt.alloc(), &mut bench, "init password=x")?, "silent");
-        for line in script.split('|') {
-            let _outcome = ask(rt.alloc(), &mut bench, line)?;
+        let mut bench = behind(rt.alloc(), script)?;
+        for (letter, kind, buffer) in EVENTS {
+            let told = tells(rt.alloc(), &mut bench, kind, buffer)?;
+            assert!(rt; told == expected.contains(letter), "{row}, {letter}");
         }
-        let line = line(rt.alloc(), 5, "hello")?;
-        let event = LineEvent::of(rt.alloc(), &line)?;
-        bench.session.append_event(&event)?;
-        let told = bench.session.unsent().len() == 219;
-        assert!(rt; told == (expected == "yes"), "{row}");
     }
     Ok(())
 }
 
 #[test]
-fn a_new_line_is_told_in_219_bytes(rt: HostRuntime) -> Result<(), Fail> {
-    let mut bench = new_bench(rt.alloc(), "x")?;
-    assert_eq!(rt; ask(rt.alloc(), &mut bench, "init password=x")?, "silent");
-    assert_eq!(rt; ask(rt.alloc(), &mut bench, "sync")?, "silent");
-    let line = line(rt.alloc(), 5, "hello")?;
-    let event = LineEvent::of(rt.alloc(), &line)?;
-    bench.session.append_event(&event)?;
+fn a_closed_buffer_has_no_set(rt: HostRuntime) -> Result<(), Fail> {
+    let mut bench = behind(rt.alloc(), "sync core.a,core.weechat")?;
+    let follows = bench.session.follows(EventKind::TitleChanged, Handle(5));
+    assert!(rt; follows);
+    assert!(rt; tells(rt.alloc(), &mut bench, EventKind::Closing, 5)?);
+    assert!(rt; !bench.session.follows(EventKind::TitleChanged, Handle(5)));
+    assert!(rt; bench.session.follows(EventKind::TitleChanged, Handle(1)));
+    Ok(())
+}
+
+#[test]
+fn a_new_line_is_told_of_its_buffer(rt: HostRuntime) -> Result<(), Fail> {
+    let mut bench = behind(rt.alloc(), "sync core.a")?;
+    print_line(rt.alloc(), &mut bench, 5, "hello")?;
+    assert!(rt; tells(rt.alloc(), &mut bench, EventKind::LineAdded, 5)?);
     assert_eq!(rt;
         bench.session.unsent(),
-        b"\0\0\0\xdb\0\0\0\0\x12_buffer_line_addedhda\0\0\0\x09line_data\0\0\0\x77buffer:ptr,date:tim,date_printed:tim,displayed:chr,notify_level:chr,highlight:chr,tags_array:arr,prefix:str,message:str\0\0\0\x01\x016\x011\x0a1700000000\x0a1700000000\x01\0\0str\0\0\0\0\0\0\0\0\0\0\0\x05hello".as_slice()
+        b"\0\0\0\xdb\0\0\0\0\x12_buffer_line_addedhda\0\0\0\x09line_data\0\0\0wbuffer:ptr,date:tim,date_printed:tim,displayed:chr,notify_level:chr,highlight:chr,tags_array:arr,prefix:str,message:str\0\0\0\x01\x01a\x015\x0a1700000000\x0a1700000000\x01\0\0str\0\0\0\0\0\0\0\0\0\0\0\x05hello".as_slice()
     );
     Ok(())
 }
 
-const DUMP: &str =
+#[test]
+fn the_dump_has_all_buffers(rt: HostRuntime) -> Result<(), Fail> {
+    let asked =
+        "(b) hdata buffer:gui_buffers(*) number,full_name,short_name,hidden,title,local_variables";
+    let bench = behind(rt.alloc(), asked)?;
+    assert_eq!(rt;
+        bench.session.unsent(),
+        b"\0\0\x01\x1d\0\0\0\0\x01bhda\0\0\0\x06buffer\0\0\0Pnumber:int,full_name:str,short_name:str,hidden:int,title:str,local_variables:htb\0\0\0\x02\x011\0\0\0\x01\0\0\0\x0ccore.weechat\0\0\0\x07weechat\0\0\0\0\0\0\0\x10WeeChat headlessstrstr\0\0\0\x02\0\0\0\x06plugin\0\0\0\x04core\0\0\0\x04name\0\0\0\x07weechat\x015\0\0\0\x02\0\0\0\x06core.a\0\0\0\x01a\0\0\0\0\0\0\0\0strstr\0\0\0\x02\0\0\0\x06plugin\0\0\0\x04core\0\0\0\x04name\0\0\0\x01a".as_slice()
+    );
+    Ok(())
+}
+
+const LINES: &str =
     "(d) hdata buffer:gui_buffers(*)/own_lines/first_line(*)/data buffer,date,date_printed,displayed,notify_level,highlight,tags_array,prefix,message";
 
 #[test]
-fn the_dump_has_the_held_lines(rt: HostRuntime) -> Result<(), Fail> {
-    let mut bench = new_bench(rt.alloc(), "x")?;
-    for (number, message) in [(5u32, "one"), (7, "two"), (9, "three")] {
-        let _oldest = bench.lines.push(line(rt.alloc(), number, message)?);
+fn the_dump_has_the_held_lines_of_all_buffers(rt: HostRuntime) -> Result<(), Fail> {
+    let mut bench = behind(rt.alloc(), "sync")?;
+    for (buffer, message) in [(1u64, "one"), (1, "two"), (1, "three"), (5, "four")] {
+        print_line(rt.alloc(), &mut bench, buffer, message)?;
     }
-    assert_eq!(rt; ask(rt.alloc(), &mut bench, "init password=x")?, "silent");
-    assert_eq!(rt; ask(rt.alloc(), &mut bench, DUMP)?, "replied");
+    assert_eq!(rt; ask(rt.alloc(), &mut bench, LINES)?, "replied");
     assert_eq!(rt;
         bench.session.unsent(),
-        b"\0\0\x01\x17\0\0\0\0\x01dhda\0\0\0\x1bbuffer/lines/line/line_data\0\0\0\x77buffer:ptr,date:tim,date_printed:tim,displayed:chr,notify_level:chr,highlight:chr,tags_array:arr,prefix:str,message:str\0\0\0\x02\x011\x012\x017\x018\x011\x0a1700000000\x0a1700000000\x01\0\0str\0\0\0\0\0\0\0\0\0\0\0\x03two\x011\x012\x019\x01a\x011\x0a1700000000\x0a1700000000\x01\0\0str\0\0\0\0\0\0\0\0\0\0\0\x05three".as_slice()
+        b"\0\0\x01N\0\0\0\0\x01dhda\0\0\0\x1bbuffer/lines/line/line_data\0\0\0wbuffer:ptr,date:tim,date_printed:tim,displayed:chr,notify_level:chr,highlight:chr,tags_array:arr,prefix:str,message:str\0\0\0\x03\x011\x012\x01b\x01c\x011\x0a1700000000\x0a1700000000\x01\0\0str\0\0\0\0\0\0\0\0\0\0\0\x03two\x011\x012\x01d\x01e\x011\x0a1700000000\x0a1700000000\x01\0\0str\0\0\0\0\0\0\0\0\0\0\0\x05three\x015\x016\x01f\x0210\x015\x0a1700000000\x0a1700000000\x01\0\0str\0\0\0\0\0\0\0\0\0\0\0\x04four".as_slice()
     );
     Ok(())
 }

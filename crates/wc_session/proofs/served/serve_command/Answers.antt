@@ -5,9 +5,9 @@ pub info_objects-requires : goal.info_objects-requires
 unfolding CommandUtf8
 info_objects-requires c = rw c.in-Info.is at c.requires.command
 
-pub infolist_objects-objects-requires : goal.infolist_objects-objects-requires
+pub infolist_objects-requires : goal.infolist_objects-requires
 unfolding CommandUtf8
-infolist_objects-objects-requires c = rw c.in-Infolist.is at c.requires.command
+infolist_objects-requires c = rw c.in-Infolist.is at c.requires.command
 
 pub pong_objects-requires : goal.pong_objects-requires
 unfolding CommandUtf8
