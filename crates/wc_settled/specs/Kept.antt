@@ -1,41 +1,11 @@
 -- What always holds of the core, as far as its lines are told.
-use Rattle.std.specs.Prelude.{◌≡◌, ℕ, ◌+◌, ◌<◌, ◌≤◌, ◌^◌, Bool, true, false, not, ◌&&◌, ◌||◌, ◌==◌, if◌then◌else◌, List, [], ◌∷◌, length, All, Option, Some}
-use Rattle.wc_text.specs.declared.names.Handle.{Handle}
-use Rattle.wc_buffers.specs.declared.entry.BufferEntry.{BufferEntry}
-use Rattle.wc_buffers.specs.Calls.{handle_of, entry_of}
-use Rattle.wc_buffers.specs.Groups.{has}
-use Rattle.wc_buffers.specs.Kept.{IsBuffer, handles}
-use Rattle.wc_buffers.specs.Table.{AreGroups}
-use Rattle.wc_model.specs.World.{World, lines_at}
+use Rattle.std.specs.Prelude.{◌≡◌, ℕ, ◌≤◌, Bool, true, false, not, ◌&&◌, ◌||◌, ◌==◌, if◌then◌else◌, List, [], ◌∷◌}
 use Rattle.wc_session.specs.declared.client.Client.{Client}
 use Rattle.wc_session.specs.declared.sync_set.BufferSet.{BufferSet}
 use Rattle.wc_session.specs.declared.sync_set.SyncSet.{SyncSet}
 use Rattle.wc_core.specs.State.{State}
 use Rattle.wc_core.specs.Step.{client_link}
-use Rattle.wc_settled.specs.Printed.{IsPrinted}
-
--- ---- buffers and lines
-
--- a buffer within its limits, whose handles were drawn before the next one
-pub record IsBufferKept (next : ℕ) (e : BufferEntry) : Type 0 where
-  pub fit : IsBuffer e
-  pub some : 0 < e.row.handle.0
-  pub below : e.row.handle.0 < next
-  pub own : e.row.own_lines.0 < next
-
-pub record IsWorldKept (limit : ℕ) (world : World) : Type 0 where
-  pub same : world.limit ≡ limit
-  pub started : 0 < world.next
-  pub ended : world.next ≤ 2 ^ 62 + 1
-  -- at most 256 buffers, each once, in groups that are not empty
-  pub groups : AreGroups (handles world.groups)
-  pub each : (h : Handle) (e : BufferEntry) → entry_of h world.groups ≡ Some e → IsBufferKept world.next e
-  pub within : (h : ℕ) → length (lines_at world h) ≤ limit
-  pub printed : (h : ℕ) → All IsPrinted (lines_at world h)
-  -- a buffer that is not there has no lines
-  pub none : (h : ℕ) → has handle_of h world.groups ≡ false → lines_at world h ≡ []
-
--- ---- clients
+use Rattle.wc_settled.specs.Worlds.{IsWorldKept}
 
 abbrev pub asks_some : SyncSet → Bool
 asks_some set = set.buffers || (set.upgrade || (set.buffer || set.nicklist))

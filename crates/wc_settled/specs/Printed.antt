@@ -1,5 +1,5 @@
 -- The lines that the core prints are short.
-use Rattle.std.specs.Prelude.{◌≡◌, ◌<◌, ◌≤◌, ◌^◌, length, map, sum, pos}
+use Rattle.std.specs.Prelude.{◌≡◌, ◌<◌, ◌≤◌, ◌^◌, length, sum_by, pos}
 use Rattle.wc_lines.specs.declared.line.Line.{Line}
 use Rattle.wc_lines.specs.LineText.{HasText}
 
@@ -9,7 +9,7 @@ pub record IsPrinted (line : Line) : Type 0 where
   pub content : line.content.0 < 2 ^ 64
   pub notify : line.notify ≡ pos 0
   pub few : length line.tags ≤ 32
-  pub tags : sum (map (λ tag. length tag) line.tags) ≤ 256
+  pub tags : sum_by (λ tag. length tag) line.tags ≤ 256
   pub prefix : length line.prefix ≤ 128
   pub message : length line.message ≤ 1024
   pub text : HasText line
