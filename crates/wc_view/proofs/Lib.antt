@@ -1,7 +1,7 @@
 pub mod EachLemmas
+pub mod EditLemmas
 pub mod EntryLemmas
 pub mod IdLemmas
-pub mod LawLemmas
 pub mod PartLemmas
 pub mod TakeLemmas
 pub mod TakeNone
