@@ -1,7 +1,9 @@
+pub mod DumpLaw
 pub mod EachLemmas
 pub mod EditLemmas
 pub mod EntryLemmas
 pub mod IdLemmas
+pub mod LineTold
 pub mod PartLemmas
 pub mod TakeLemmas
 pub mod TakeNone
