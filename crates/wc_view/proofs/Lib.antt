@@ -4,6 +4,7 @@ pub mod EditLemmas
 pub mod EntryLemmas
 pub mod IdLemmas
 pub mod LineTold
+pub mod NoticeLaw
 pub mod PartLemmas
 pub mod TakeLemmas
 pub mod TakeNone
