@@ -1,7 +1,10 @@
+pub mod DumpLaw
 pub mod EachLemmas
 pub mod EditLemmas
 pub mod EntryLemmas
 pub mod IdLemmas
+pub mod LineTold
+pub mod NoticeLaw
 pub mod PartLemmas
 pub mod TakeLemmas
 pub mod TakeNone

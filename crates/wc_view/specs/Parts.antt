@@ -31,10 +31,12 @@ part_of limit rows = from_entries (map (λ row. (row.buffer, last_of limit (line
 abbrev pub without : ℕ → Part → Part
 without buffer part = remove part buffer
 
--- the lines with the flag set in those of its content
+-- a line with the flag set, where it has the content of the flag
+abbrev pub flagged_line : LineFlag → MirrorLine → MirrorLine
+flagged_line flag line = if line.content.0 == flag.content then record line { displayed = flag.displayed } else line
+
 abbrev pub flagged : LineFlag → List MirrorLine → List MirrorLine
-flagged flag lines =
-    map (λ (line : MirrorLine). if line.content.0 == flag.content then record line { displayed = flag.displayed } else line) lines
+flagged flag lines = map (flagged_line flag) lines
 
 -- a flag of a line that is not held is passed over
 abbrev pub flagged_in : LineFlag → Part → Option (List MirrorLine) → Part

@@ -5,7 +5,7 @@ ghost use Rattle.std.specs.FinMap.{find};
 ghost use Rattle.std.specs.Ordering.{nat_cmp};
 ghost use Rattle.wc_lines.specs.Ring.{last_of};
 ghost use Rattle.wc_view.specs.Entries.{part_at, IsEntry};
-ghost use Rattle.wc_view.specs.Parts.{lines_at, with_row, part_of, without, flagged, with_flag, with_flags};
+ghost use Rattle.wc_view.specs.Parts.{lines_at, with_row, part_of, without, flagged_line, flagged, with_flag, with_flags};
 
 use crate::flags::LineFlag;
 use crate::mirror_line::MirrorLine;
@@ -74,14 +74,21 @@ impl BufferLines {
     }
 }
 
+/// Sets the flag in a line, where it has the content of the flag.
+fn flag_line(line: &mut MirrorLine, flag: LineFlag)
+    ensures { line.new ≡ flagged_line flag line.old }
+{
+    if line.content.0 == flag.content {
+        line.displayed = flag.displayed;
+    }
+}
+
 /// Sets the flag in the lines of its content.
 fn flag_lines(lines: &mut [MirrorLine], flag: LineFlag)
     ensures { lines.new ≡ flagged flag lines.old }
 {
     for line in lines.iter_mut() {
-        if line.content.0 == flag.content {
-            line.displayed = flag.displayed;
-        }
+        flag_line(line, flag);
     }
 }
 
