@@ -43,7 +43,7 @@ other_id rest [] free = refl
 other_id rest (b ∷ id) free = let e : eqb 95 b ≡ false = grind (arith, nat_tests) in rw e refl
 
 -- the events that change no lines
-abbrev quiet : EventKind → Bool
+abbrev pub quiet : EventKind → Bool
 quiet kind.Cleared = false
 quiet kind.Closing = false
 quiet kind.LineAdded = false
@@ -75,7 +75,7 @@ quiet_message limit id part kind.Closing objects q free = absurd (let z = q in c
 quiet_message limit id part kind.LineAdded objects q free = absurd (let z = q in cc)
 quiet_message limit id part kind.LineDataChanged objects q free = absurd (let z = q in cc)
 
-quiet_told : (limit : ℕ) (id : List ℕ) (part : Option Part) (kind : EventKind) (objects : Option (List Object)) → quiet kind ≡ true → IsFree id
+pub quiet_told : (limit : ℕ) (id : List ℕ) (part : Option Part) (kind : EventKind) (objects : Option (List Object)) → quiet kind ≡ true → IsFree id
     → fold_told limit id part (option_map (message_of kind) objects) ≡ part
 quiet_told limit id part kind None q free = refl
 quiet_told limit id part kind (Some objects) q free = quiet_message limit id part kind objects q free
