@@ -2,6 +2,7 @@ pub mod DumpLaw
 pub mod EachLemmas
 pub mod EditLemmas
 pub mod EntryLemmas
+pub mod FlipLaw
 pub mod IdLemmas
 pub mod LineTold
 pub mod NoticeLaw

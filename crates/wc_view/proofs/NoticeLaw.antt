@@ -38,7 +38,7 @@ use Rattle.wc_view.proofs.EntryLemmas.{by_bool, tied}
 use Rattle.wc_view.proofs.LineTold.{row, added_read, named_told}
 
 -- ---- the ids of events
-other_id : (rest id : List ℕ) → IsFree id → bytes_eq (95 ∷ rest) id ≡ false
+pub other_id : (rest id : List ℕ) → IsFree id → bytes_eq (95 ∷ rest) id ≡ false
 other_id rest [] free = refl
 other_id rest (b ∷ id) free = let e : eqb 95 b ≡ false = grind (arith, nat_tests) in rw e refl
 
@@ -54,7 +54,7 @@ var_quiet : (b : Bool) → quiet (var_kind b) ≡ true
 var_quiet true = refl
 var_quiet false = refl
 
-abbrev message_of : EventKind → List Object → WireMessage
+abbrev pub message_of : EventKind → List Object → WireMessage
 message_of kind objects = record { id = id_of kind; objects = objects }
 
 quiet_message : (limit : ℕ) (id : List ℕ) (part : Option Part) (kind : EventKind) (objects : List Object) → quiet kind ≡ true → IsFree id
@@ -214,7 +214,7 @@ opened_lines world behind stands is q =
         (λ t. t)
 
 -- ---- flags
-nothing_flipped : (flips : List Flip) → flipped flips [] ≡ []
+pub nothing_flipped : (flips : List Flip) → flipped flips [] ≡ []
 nothing_flipped [] = refl
 nothing_flipped (flip ∷ flips) = nothing_flipped flips
 
@@ -235,7 +235,7 @@ flipped_lines flips world behind is q =
     by (Some lines) = refl
 
 -- ---- each change
-abbrev told_of : World → Handle → What → Option (List Object)
+abbrev pub told_of : World → Handle → What → Option (List Object)
 told_of world buffer what = event_objects (after_of world buffer what) (notice_of world (after_of world buffer what) buffer what)
 
 abbrev Shows : ℕ → List ℕ → Option Part → World → Handle → What → Type 0

@@ -1,7 +1,9 @@
 -- What a message changes of the lines that a client holds.
 use Rattle.std.specs.Prelude.{ℕ, Bool, ◌||◌, List, Option, Some, None, codes, option_map, if◌then◌else◌, bytes_eq}
 use Rattle.std.specs.Option.{option_and_then}
+use Rattle.wc_model.specs.declared.notice.EventKind.TheVariants as kind
 use Rattle.wc_objects.specs.declared.object.WireMessage.{WireMessage}
+use Rattle.wc_told.specs.BufferObjects.{id_of}
 use Rattle.wc_view.specs.declared.flags.LineFlag.{LineFlag}
 use Rattle.wc_view.specs.declared.rows.LineRow.{LineRow}
 use Rattle.wc_view.specs.Each.{only}
@@ -48,16 +50,16 @@ fold_flags part message = shown (flags_on message.objects) part
 
 -- a buffer that is closed or cleared has no lines any more
 abbrev pub empties : List ℕ → Bool
-empties id = bytes_eq id (codes "_buffer_closing") || bytes_eq id (codes "_buffer_cleared")
+empties id = bytes_eq id (id_of kind.Closing) || bytes_eq id (id_of kind.Cleared)
 
 abbrev pub fold_change : Option Part → WireMessage → Option Part
 fold_change part message =
     if empties message.id then fold_emptied part message
-    else (if bytes_eq message.id (codes "_buffer_line_data_changed") then fold_flags part message else part)
+    else (if bytes_eq message.id (id_of kind.LineDataChanged) then fold_flags part message else part)
 
 abbrev pub fold_event : ℕ → Option Part → WireMessage → Option Part
 fold_event limit part message =
-    if bytes_eq message.id (codes "_buffer_line_added") then fold_added limit part message else fold_change part message
+    if bytes_eq message.id (id_of kind.LineAdded) then fold_added limit part message else fold_change part message
 
 -- The reply under the id of the line dump, and the events: of a new line, which has exactly one, of a buffer that is
 -- closed or cleared, and of flags of lines. Other messages, and those whose keys or values are not those of their

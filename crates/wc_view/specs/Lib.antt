@@ -1,6 +1,7 @@
 pub mod Each
 pub mod Entries
 pub mod Flags
+pub mod Flipped
 pub mod Fold
 pub mod Ids
 pub mod Items

@@ -1,5 +1,6 @@
 //! What holds of each mirror of the lines of a world.
 
+ghost use Rattle.wc_view.specs.Flipped.{FlipsShow};
 ghost use Rattle.wc_view.specs.Views.{DumpShows, NoticeShows};
 
 /// After the reply to the line dump a client has the lines of the world.
@@ -10,4 +11,9 @@ pub fn dump_shows_world()
 /// A client that has the lines of a world has those of the world behind a change after the event of the change.
 pub fn notice_shows_world()
     ensures { NoticeShows }
+{}
+
+/// The same of any change, where behind its event each buffer with lines whose flags differ has an event of these.
+pub fn flips_show_world()
+    ensures { FlipsShow }
 {}

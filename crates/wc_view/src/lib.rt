@@ -11,7 +11,7 @@ mod named;
 mod rows;
 mod values;
 
-pub use laws::{dump_shows_world, notice_shows_world};
+pub use laws::{dump_shows_world, flips_show_world, notice_shows_world};
 pub use mirror::{Mirror, MirrorRefused};
 pub use mirror_line::MirrorLine;
 

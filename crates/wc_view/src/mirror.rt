@@ -14,14 +14,10 @@ use crate::named::buffer_named;
 use crate::rows::{only_row, rows_on};
 use std::alloc::Global;
 use std::marker::Model;
+use wc_model::EventKind;
 use wc_objects::{MessageRefused, WireMessage, read_message};
 use wc_text::{Handle, NoMemory, Text};
-use wc_told::LINE_ADDED;
-
-/// The ids of events that change the lines that are held.
-const CLOSING: &[u8] = b"_buffer_closing";
-const CLEARED: &[u8] = b"_buffer_cleared";
-const FLAGS_CHANGED: &[u8] = b"_buffer_line_data_changed";
+use wc_told::event_id;
 
 /// Why bytes were not taken.
 #[derive(Clone, Copy, Debug, PartialEq, Eq, thiserror::Error)]
@@ -102,14 +98,14 @@ impl Mirror {
         ensures ok { OnOk result (self.new ≡ with_added self.old message.now) }
         ensures err { OnErr result (self.new ≡ self.old) }
     {
-        let Some(entries) = &mut self.lines else {
+        let Some(held) = &mut self.lines else {
             return Ok(());
         };
         let Some(rows) = rows_on(alloc, b"line_data", &message.objects)? else {
             return Ok(());
         };
         match only_row(rows) {
-            Some(row) => add_row(entries, alloc, row, self.limit),
+            Some(row) => add_row(held, alloc, row, self.limit),
             None => Ok(()),
         }
     }
@@ -149,7 +145,7 @@ impl Mirror {
             self.take_emptied(message);
             return Ok(());
         }
-        if message.id.as_slice() == FLAGS_CHANGED {
+        if message.id.as_slice() == event_id(EventKind::LineDataChanged) {
             return self.take_flags(alloc, message);
         }
         Ok(())
@@ -160,7 +156,7 @@ impl Mirror {
         ensures ok { OnOk result (self.new ≡ with_event self.old message.now) }
         ensures err { OnErr result (self.new ≡ self.old) }
     {
-        if message.id.as_slice() == LINE_ADDED {
+        if message.id.as_slice() == event_id(EventKind::LineAdded) {
             return self.take_line(alloc, message);
         }
         self.take_change(alloc, message)
@@ -216,7 +212,7 @@ impl Mirror {
 fn empties(id: &[u8]) -> bool
     ensures { result ≡ empties id.now }
 {
-    id == CLOSING || id == CLEARED
+    id == event_id(EventKind::Closing) || id == event_id(EventKind::Cleared)
 }
 
 /// The message at the front of the bytes, as `read_message` gives it.
