@@ -30,7 +30,7 @@ keys_are_text : is_utf8 line_keys ≡ true
 unfolding is_utf8 chars encode
 keys_are_text = refl
 
-ptr_formed : (n : ℕ) → value_is k.Ptr (o.Ptr n) ≡ true
+pub ptr_formed : (n : ℕ) → value_is k.Ptr (o.Ptr n) ≡ true
 unfolding value_is simple_is out-Object out
 ptr_formed n = refl
 
@@ -38,11 +38,11 @@ tim_formed : (n : ℤ) → value_is k.Tim (o.Tim n) ≡ true
 unfolding value_is simple_is out-Object out
 tim_formed n = refl
 
-chr_formed : (n : ℤ) → value_is k.Chr (o.Chr n) ≡ true
+pub chr_formed : (n : ℤ) → value_is k.Chr (o.Chr n) ≡ true
 unfolding value_is simple_is out-Object out
 chr_formed n = refl
 
-str_formed : (text : List ℕ) → IsUtf8 text → value_is k.Str (o.Str (Some text)) ≡ true
+pub str_formed : (text : List ℕ) → IsUtf8 text → value_is k.Str (o.Str (Some text)) ≡ true
 unfolding value_is simple_is out-Object out
 str_formed text h = is_utf8-from_IsUtf8 text h
 

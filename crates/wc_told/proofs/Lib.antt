@@ -1,2 +1,3 @@
+pub mod EventsFormed
 pub mod Formed
 pub mod BufferFormed
