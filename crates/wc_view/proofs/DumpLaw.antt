@@ -1,8 +1,7 @@
 -- The dump of the lines of a world is folded to these lines.
-use Rattle.std.proofs.Common.{◌≡◌, ◌⊎◌, inl, inr, ℕ, ◌≤◌, ◌+◌, Bool, true, false, List, [], ◌∷◌, ◌++◌, length, map, codes, Option, Some, None, refl, sym, ap, subst, ◌∙◌, arith, eqb}
+use Rattle.std.proofs.Common.{◌≡◌, ◌⊎◌, inl, inr, ℕ, ◌≤◌, ◌+◌, true, false, List, [], ◌∷◌, ◌++◌, map, codes, Option, Some, refl, sym, ap, subst, ◌∙◌, arith, eqb}
 use Rattle.std.specs.List.{flat_map}
 use Rattle.std.proofs.lemmas.Bool.{eq-eqb, eqb-true}
-use Rattle.std.proofs.lemmas.Bool.Decides.{nat_tests}
 use Rattle.std.proofs.lemmas.List.{length-map, append-nil}
 use Rattle.wc_text.specs.declared.names.Handle.{Handle}
 use Rattle.wc_lines.specs.declared.line.Line.{Line}
@@ -17,9 +16,9 @@ use Rattle.wc_told.specs.LineObjects.{dumped_item, dumped_lines, line_dump}
 use Rattle.wc_view.specs.declared.rows.LineRow.{LineRow}
 use Rattle.wc_view.specs.Each.{each}
 use Rattle.wc_view.specs.Rows.{row_in, rows_on}
-use Rattle.wc_view.specs.Parts.{Part, lines_at, lines_of, part_of}
+use Rattle.wc_view.specs.Parts.{Part, lines_of, part_of}
 use Rattle.wc_view.specs.Fold.{fold_lines, dumped}
-use Rattle.wc_view.specs.Views.{shown_line, view_of, HasLines, HasAll, Stands, reply, DumpShows}
+use Rattle.wc_view.specs.Views.{shown_line, view_of, HasLines, Stands, reply, DumpShows}
 use Rattle.wc_view.proofs.EntryLemmas.{by_bool, last_all}
 use Rattle.wc_view.proofs.PartLemmas.{part_lines}
 use Rattle.wc_view.proofs.LineTold.{row, dumped_told, rows_told, same_bytes}

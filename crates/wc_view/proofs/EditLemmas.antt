@@ -1,16 +1,14 @@
 -- Edits of the entries seen as the lines of each buffer.
-use Rattle.std.proofs.Common.{◌≡◌, ℕ, zero, suc, ◌<◌, Bool, true, false, cond, List, [], ◌∷◌, length, get_or, set, Option, Some, None, refl, sym, ap, subst, ◌∙◌, arith, eqb}
+use Rattle.std.proofs.Common.{◌≡◌, ℕ, ◌<◌, Bool, false, cond, List, [], ◌∷◌, length, get_or, set, Some, None, refl, sym, ap, ◌∙◌, eqb}
 use Rattle.std.specs.Prelude.{not}
 use Rattle.std.specs.List.{filter}
-use Rattle.std.specs.FinMap.{find, get, remove, get-insert, get-remove, get-from_entries, same_map, nat_cmp-IsAntisymmetric}
-use Rattle.std.specs.Ordering.{nat_cmp, eq_by_cmp}
+use Rattle.std.specs.FinMap.{find, get, get-remove, get-from_entries, same_map, nat_cmp-IsAntisymmetric}
+use Rattle.std.specs.Ordering.{nat_cmp}
 use Rattle.std.specs.Cmp.{nat_cmp_total}
-use Rattle.std.proofs.lemmas.Bool.{eqb-true, eq-eqb}
-use Rattle.std.proofs.lemmas.Bool.Decides.{nat_tests}
-use Rattle.wc_view.specs.declared.mirror_line.MirrorLine.{MirrorLine}
+use Rattle.std.proofs.lemmas.Bool.{eqb-true}
 use Rattle.wc_view.specs.declared.flags.LineFlag.{LineFlag}
 use Rattle.wc_view.specs.Entries.{Entry, part_at, IsEntry}
-use Rattle.wc_view.specs.Parts.{Part, without, flagged, flagged_in, with_flag}
+use Rattle.wc_view.specs.Parts.{without, flagged, flagged_in, with_flag}
 use Rattle.wc_view.proofs.EntryLemmas.{by_bool, tied, find_here, entry_set}
 
 -- ---- a buffer that goes

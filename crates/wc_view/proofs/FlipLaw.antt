@@ -1,6 +1,6 @@
 -- The events of flags are folded to the lines behind a change.
-use Rattle.std.proofs.Common.{◌≡◌, ◌⊎◌, inl, inr, ℕ, ◌<◌, Bool, true, false, cond, not, ◌||◌, List, [], ◌∷◌, ◌++◌, map, filter, fold, flat_map, Option, Some, None, option_map, refl, sym, ap, subst, ◌∙◌, arith, eqb}
-use Rattle.std.specs.Prelude.{unwrap_or, bytes_eq, codes}
+use Rattle.std.proofs.Common.{◌≡◌, ◌⊎◌, inl, inr, ℕ, Bool, true, false, cond, not, ◌||◌, List, [], ◌∷◌, map, filter, fold, flat_map, Option, Some, None, refl, sym, ap, subst, ◌∙◌, arith, eqb}
+use Rattle.std.specs.Prelude.{unwrap_or, codes}
 use Rattle.std.specs.Option.{option_and_then}
 use Rattle.std.specs.List.{list_any, find as find_first}
 use Rattle.std.specs.FinMap.{get, get-insert}
@@ -25,7 +25,6 @@ use Rattle.wc_model.specs.World.{World, lines_at as lines_in}
 use Rattle.wc_model.specs.Order.{order}
 use Rattle.wc_model.specs.Apply.{flipped, after_of}
 use Rattle.wc_model.specs.Notices.{bool_eq, same_flag, is_flipped as differs, flips_in, flips_between, notice_of}
-use Rattle.wc_objects.specs.declared.object.HdaItem.{HdaItem}
 use Rattle.wc_told.specs.BufferObjects.{event_of, objects_of, is_flipped, flag_keys, flag_item, flag_items, flag_objects}
 use Rattle.wc_view.specs.declared.mirror_line.MirrorLine.{MirrorLine}
 use Rattle.wc_view.specs.declared.flags.LineFlag.{LineFlag}

@@ -1,5 +1,5 @@
 -- What is told of lines is read as it was told.
-use Rattle.std.proofs.Common.{◌≡◌, ℕ, ℤ, Bool, true, false, List, [], ◌∷◌, ◌++◌, map, codes, Option, Some, None, refl, ap, ◌∙◌}
+use Rattle.std.proofs.Common.{◌≡◌, ℕ, ℤ, Bool, true, false, List, [], ◌∷◌, codes, Some, refl, ap, ◌∙◌}
 use Rattle.std.specs.Prelude.{bytes_eq, pos}
 use Rattle.std.specs.Option.{option_and_then}
 use Rattle.std.proofs.lemmas.Bool.{eq-eqb}
@@ -7,7 +7,6 @@ use denote.Hole.Carrier.{out}
 use Rattle.wc_text.specs.declared.names.Handle.{Handle}
 use Rattle.wc_lines.specs.declared.line.Line.{Line}
 use Rattle.wc_objects.specs.declared.kind.Kind.TheVariants as k
-use Rattle.wc_objects.specs.declared.object.Object.{Object}
 use Rattle.wc_objects.specs.declared.object.Object.TheVariants as o
 use Rattle.wc_objects.specs.declared.object.Object.TheViews.{out-Object, out-roll-Object, out-roll-Hda}
 use Rattle.wc_objects.specs.declared.object.Hda.{roll-Hda}

@@ -1,5 +1,5 @@
 -- The event of a change of a world is folded to the lines behind the change.
-use Rattle.std.proofs.Common.{◌≡◌, ℕ, zero, suc, ◌+◌, ◌-◌, ◌<◌, ◌≤◌, Bool, true, false, cond, List, [], ◌∷◌, ◌++◌, length, drop, map, codes, Option, Some, None, option_map, refl, sym, ap, subst, ◌∙◌, arith, eqb}
+use Rattle.std.proofs.Common.{◌≡◌, ℕ, zero, suc, ◌-◌, ◌<◌, ◌≤◌, Bool, true, false, cond, List, [], ◌∷◌, ◌++◌, length, drop, map, codes, Option, Some, None, option_map, refl, sym, ap, subst, ◌∙◌, arith, eqb}
 use Rattle.std.specs.Prelude.{unwrap_or, bytes_eq}
 use Rattle.std.specs.FinMap.{get, find, insert, remove, entries, get-insert, get-remove, get-from_entries, get-entries}
 use Rattle.std.specs.Ordering.{nat_cmp}
@@ -10,10 +10,9 @@ use Rattle.std.proofs.lemmas.Bool.Decides.{nat_tests}
 use Rattle.std.proofs.lemmas.List.{length-map, map-append, length-append}
 use Rattle.wc_text.specs.declared.names.Handle.{Handle}
 use Rattle.wc_lines.specs.declared.line.Line.{Line}
-use Rattle.wc_lines.specs.Ring.{last_of, set_displayed}
+use Rattle.wc_lines.specs.Ring.{last_of}
 use Rattle.wc_buffers.specs.Groups.{has}
 use Rattle.wc_buffers.specs.Calls.{handle_of, lacks_var, entry_of}
-use Rattle.wc_model.specs.declared.change.Change.{Change}
 use Rattle.wc_model.specs.declared.change.Flip.{Flip}
 use Rattle.wc_model.specs.declared.change.LineSpec.{LineSpec}
 use Rattle.wc_model.specs.declared.change.What.{What}
@@ -22,14 +21,13 @@ use Rattle.wc_model.specs.declared.notice.EventKind.{EventKind}
 use Rattle.wc_model.specs.declared.notice.EventKind.TheVariants as kind
 use Rattle.wc_model.specs.declared.notice.Notice.{Notice}
 use Rattle.wc_model.specs.World.{World, lines_at as lines_in}
-use Rattle.wc_model.specs.Apply.{refusal_of, after_of, flip_all, flipped}
+use Rattle.wc_model.specs.Apply.{after_of, flip_all, flipped}
 use Rattle.wc_model.specs.LineCuts.{line_of}
 use Rattle.wc_model.specs.Notices.{notice_of, var_kind}
 use Rattle.wc_objects.specs.declared.object.Object.{Object}
 use Rattle.wc_objects.specs.declared.object.WireMessage.{WireMessage}
 use Rattle.wc_told.specs.LineObjects.{line_added, added_objects}
 use Rattle.wc_told.specs.BufferObjects.{id_of, event_of, event_objects, objects_of, named_objects, newest}
-use Rattle.wc_view.specs.declared.mirror_line.MirrorLine.{MirrorLine}
 use Rattle.wc_view.specs.Ids.{IsFree}
 use Rattle.wc_view.specs.Parts.{Part, lines_at, with_row, without}
 use Rattle.wc_view.specs.Fold.{fold_lines, grown, emptied}

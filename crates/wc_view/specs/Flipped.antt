@@ -44,4 +44,4 @@ FlipsShow = (limit : ℕ) (id : List ℕ) (part : Option Part) (world : World) (
     → Stands world → world.limit ≡ limit → IsFree id → refusal world change ≡ None
     → ((buffer : ℕ) → AreApart (lines_in (after world change) buffer)) → HasAll part world
     → HasAll (fold_all limit id (fold_told limit id part (event_of (after world change) (notice world change)))
-      (flag_events (after world change) (notice world change).flips)) (after world change)
+    (flag_events (after world change) (notice world change).flips)) (after world change)

@@ -1,5 +1,5 @@
 -- The buffer that a message tells of by its number and its name alone.
-use Rattle.std.specs.Prelude.{ℕ, List, [], ◌∷◌, Option, Some, None, codes}
+use Rattle.std.specs.Prelude.{ℕ, List, [], ◌∷◌, Option, None, codes}
 use Rattle.std.specs.Option.{option_and_then}
 use Rattle.wc_objects.specs.declared.object.Object.{Object}
 use Rattle.wc_objects.specs.declared.object.HdaItem.{HdaItem, out-HdaItem}

@@ -1,5 +1,5 @@
 -- What a client has of the lines of a world.
-use Rattle.std.specs.Prelude.{◌≡◌, ℕ, ◌^◌, ◌-◌, ◌<◌, ◌≤◌, nat_le, true, false, ◌==◌, List, [], length, map, Option, None, Some, if◌then◌else◌}
+use Rattle.std.specs.Prelude.{◌≡◌, ℕ, ◌^◌, ◌-◌, ◌<◌, ◌≤◌, nat_le, true, false, List, [], length, map, Option, None, Some, if◌then◌else◌}
 use Rattle.wc_lines.specs.declared.line.Line.{Line}
 use Rattle.wc_buffers.specs.Groups.{has, times}
 use Rattle.wc_buffers.specs.Calls.{handle_of}

@@ -1,4 +1,4 @@
-use Rattle.std.proofs.Common.{◌≡◌, ℕ, ◌≤◌, ◌<◌, List, [], ◌∷◌, length, get_or, Some, Option, refl, sym, ap, ◌∙◌, arith}
+use Rattle.std.proofs.Common.{◌≡◌, ℕ, List, [], ◌∷◌, length, get_or, Some, Option, sym, ap, ◌∙◌, arith}
 use Rattle.std.specs.Option.{option_and_then}
 use Rattle.wc_objects.specs.declared.object.HdaItem.{HdaItem}
 use Rattle.wc_view.specs.Each.{only}
@@ -15,5 +15,8 @@ named_among items = option_and_then named_in (option_and_then only items)
 
 pub returns : goal.returns
 returns c =
+    let items = c.as_slice.result.now in
+    let long : length items ≡ 1 = omega (arith, c.in-len1.len_at_least, c.in-len1.len_below) in
+    let one : only items ≡ Some c.item-item.result = only_here items c.item-item.result long c.item-item.is in
     c.named_in.ensures
-    ∙ sym (ap named_among (sym c.in_ok-items.ensures) ∙ ap (option_and_then named_in) (only_here c.in_ok-items.items.now c.item-item.result (omega arith) c.item-item.is))
+    ∙ sym (ap named_among (sym c.in_ok-items.ensures) ∙ ap (option_and_then named_in) (ap only (sym c.as_slice.ensures) ∙ one))
