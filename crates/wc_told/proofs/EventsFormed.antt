@@ -1,6 +1,7 @@
 -- What is told of buffers keeps the rules of messages.
-use Rattle.std.proofs.Common.{◌≡◌, ℕ, ℤ, true, ◌&&◌, List, [], ◌∷◌, length, map, codes, Some, refl}
-use Rattle.std.specs.List.{list_all}
+use Rattle.std.proofs.Common.{◌≡◌, ℕ, ℤ, true, ◌&&◌, ◌+◌, List, [], ◌∷◌, ◌++◌, filter, length, map, codes, Some, refl, ◌∙◌}
+use Rattle.std.specs.List.{list_all, AllByRecursion}
+use Rattle.std.proofs.lemmas.List.Folds.{list_all-append}
 use Rattle.std.specs.Str.{IsUtf8, is_utf8, chars}
 use Rattle.std.proofs.lemmas.Str.{is_utf8-from_IsUtf8}
 use lib.Utf8.{encode}
@@ -8,7 +9,10 @@ use denote.Hole.Carrier.{out}
 use Rattle.wc_text.specs.declared.names.Handle.{Handle}
 use Rattle.wc_text.specs.declared.names.Pair.{Pair}
 use Rattle.wc_buffers.specs.declared.entry.BufferEntry.{BufferEntry}
-use Rattle.wc_buffers.specs.Kept.{AreVars, IsBuffer}
+use Rattle.wc_buffers.specs.Kept.{AreVars, AreBuffers, IsBuffer}
+use Rattle.wc_buffers.specs.Calls.{Groups}
+use Rattle.wc_buffers.specs.Groups.{rows}
+use Rattle.wc_lines.specs.declared.line.Line.{Line}
 use Rattle.wc_model.specs.declared.notice.Notice.{Notice}
 use Rattle.wc_objects.specs.declared.kind.Kind.{Kind}
 use Rattle.wc_objects.specs.declared.kind.Kind.TheVariants as k
@@ -19,8 +23,9 @@ use Rattle.wc_objects.specs.declared.object.Object.TheViews.{out-Object, out-rol
 use Rattle.wc_objects.specs.declared.object.Hda.{roll-Hda}
 use Rattle.wc_objects.specs.declared.object.HdaItem.{HdaItem, roll-HdaItem}
 use Rattle.wc_objects.specs.Forms.{kinds_of, key_kind, named_kind, simple_is, value_is, values_are, item_of, hda_is, object_is, well_formed, is_path, names_of, hda_parts_are}
-use Rattle.wc_told.specs.BufferObjects.{text, pair_of, table, about, named_keys, placed_keys, opened_keys, renamed_keys, title_keys, vars_keys, named_values, placed_values, opened_values, renamed_values, title_values, vars_values, named_objects, placed_objects, opened_objects, renamed_objects, title_objects, vars_objects}
-use Rattle.wc_told.proofs.Formed.{ptr_formed, str_formed}
+use Rattle.wc_told.specs.BufferObjects.{text, pair_of, table, about, named_keys, placed_keys, opened_keys, renamed_keys, title_keys, vars_keys, named_values, placed_values, opened_values, renamed_values, title_values, vars_values, named_objects, placed_objects, opened_objects, renamed_objects, title_objects, vars_objects, flag_keys, flag_item, flag_items, flag_objects, is_flipped, dump_keys, dumped_values, dumped_buffer, dumped_groups, buffer_dump}
+use Rattle.wc_told.proofs.Formed.{ptr_formed, chr_formed, str_formed}
+use Rattle.wc_told.proofs.DumpLemmas.{all_parts, rows_kept}
 
 pub int_formed : (n : ℤ) → value_is k.Int (o.Int n) ≡ true
 unfolding value_is simple_is out-Object out
@@ -140,3 +145,63 @@ unfolding vars_values
 vars_formed notice e h is =
     about_formed vars_keys _ notice.buffer (vars_values notice e) vars_text vars_kinds
     (rw (int_formed, str_formed notice.full_name h, table_formed e.vars is.vars) refl)
+
+-- ---- the dump of all buffers
+
+dump_text : is_utf8 dump_keys ≡ true
+unfolding is_utf8 chars encode
+dump_text = refl
+
+abbrev dump_kinds : List Kind
+dump_kinds = k.Int ∷ k.Str ∷ k.Str ∷ k.Int ∷ k.Str ∷ k.Htb ∷ []
+
+dump_keys_kinds : kinds_of dump_keys ≡ Some dump_kinds
+unfolding kinds_of key_kind named_kind
+dump_keys_kinds = refl
+
+dumped_buffer_formed : (number : ℕ) (e : BufferEntry) → IsBuffer e → item_of 1 (Some dump_kinds) (dumped_buffer number e) ≡ true
+unfolding dumped_values
+dumped_buffer_formed number e is =
+    item_formed dump_kinds e.row.handle (dumped_values number e)
+    (rw (int_formed, str_formed e.row.full_name is.text.full_name, str_formed e.row.short_name is.text.short_name, int_formed, str_formed e.row.title is.text.title, table_formed e.vars is.vars) refl)
+
+group_formed : (number : ℕ) (es : List BufferEntry) → AllByRecursion IsBuffer es → list_all (λ item. item_of 1 (Some dump_kinds) item) (map (dumped_buffer number) es) ≡ true
+group_formed number [] all = refl
+group_formed number (e ∷ es) all = rw (dumped_buffer_formed number e all.0) (group_formed number es all.1)
+
+groups_formed : (number : ℕ) (gs : Groups) → AllByRecursion IsBuffer (rows gs) → list_all (λ item. item_of 1 (Some dump_kinds) item) (dumped_groups number gs) ≡ true
+groups_formed number [] all = refl
+groups_formed number (g ∷ gs) all =
+    let parts = all_parts IsBuffer g (rows gs) all in
+    list_all-append (λ item. item_of 1 (Some dump_kinds) item) (map (dumped_buffer number) g) (dumped_groups (number + 1) gs)
+    ∙ (λ i. group_formed number g parts.0 i && groups_formed (number + 1) gs parts.1 i)
+
+pub buffers_formed : (gs : Groups) → AreBuffers gs → well_formed (buffer_dump gs) ≡ true
+buffers_formed gs are = on_buffer_formed dump_keys dump_kinds (dumped_groups 1 gs) dump_text dump_keys_kinds (groups_formed 1 gs (rows_kept gs are))
+
+-- ---- flags of lines
+
+flags_text : is_utf8 flag_keys ≡ true
+unfolding is_utf8 chars encode
+flags_text = refl
+
+flags_kinds : kinds_of flag_keys ≡ Some (k.Ptr ∷ k.Chr ∷ [])
+unfolding kinds_of key_kind named_kind
+flags_kinds = refl
+
+flags_path_is_text : is_utf8 (codes "line_data") ≡ true
+unfolding is_utf8 chars encode
+flags_path_is_text = refl
+
+flag_item_formed : (buffer : Handle) (line : Line) → item_of 1 (Some (k.Ptr ∷ k.Chr ∷ [])) (flag_item buffer line) ≡ true
+unfolding item_of
+flag_item_formed buffer line = rw (ptr_formed, chr_formed) refl
+
+flag_items_formed : (buffer : Handle) (lines : List Line) → list_all (λ item. item_of 1 (Some (k.Ptr ∷ k.Chr ∷ [])) item) (map (flag_item buffer) lines) ≡ true
+flag_items_formed buffer [] = refl
+flag_items_formed buffer (line ∷ lines) = rw (flag_item_formed buffer line) (flag_items_formed buffer lines)
+
+pub flags_formed : (buffer : Handle) (flips : List Handle) (lines : List Line) → well_formed (flag_objects buffer flips lines) ≡ true
+unfolding well_formed object_is hda_is
+flags_formed buffer flips lines =
+    rw (← o.rolls-Hda (roll-Hda (record { path = Some (codes "line_data"); keys = Some flag_keys; items = flag_items buffer flips lines })), out-roll-Object, out-roll-Hda, flags_path_is_text, flags_text, flags_kinds, flag_items_formed buffer (filter (is_flipped flips) lines)) refl

@@ -1,3 +1,5 @@
+pub mod Counts
+pub mod DumpLemmas
 pub mod EventsFormed
 pub mod Formed
 pub mod BufferFormed

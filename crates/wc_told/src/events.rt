@@ -53,7 +53,6 @@ fn placed(alloc: Global, notice: &Notice) -> Result<[Object; 1], NoMemory>
     about(alloc, PLACED_KEYS, notice.buffer, values)
 }
 
-#[tactic(auto, using(crate::proofs::EventsFormed::opened_formed))]
 fn opened(
     alloc: Global,
     buffers: &Buffers,
@@ -87,7 +86,6 @@ fn renamed(
     Ok(Some(about(alloc, RENAMED_KEYS, notice.buffer, values)?))
 }
 
-#[tactic(auto, using(crate::proofs::EventsFormed::title_formed))]
 fn title_changed(
     alloc: Global,
     buffers: &Buffers,
@@ -104,7 +102,6 @@ fn title_changed(
     Ok(Some(about(alloc, TITLE_KEYS, notice.buffer, values)?))
 }
 
-#[tactic(auto, using(crate::proofs::EventsFormed::vars_formed))]
 fn vars_changed(
     alloc: Global,
     buffers: &Buffers,
