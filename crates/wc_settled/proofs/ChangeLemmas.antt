@@ -1,39 +1,42 @@
--- Lines that are printed reach the client that follows them.
-use Rattle.std.proofs.Common.{◌≡◌, ℕ, ◌-◌, ◌^◌, ◌<◌, ◌≤◌, Bool, true, false, cond, List, [], ◌∷◌, ◌++◌, length, take, codes, Option, Some, None, refl, sym, ap, subst, ◌∙◌, arith, nat_lt}
-use Rattle.std.specs.List.{flat_map}
+-- Changes reach the client that follows them.
+use Rattle.std.proofs.Common.{◌≡◌, ℕ, Bool, true, false, cond, not, List, [], ◌∷◌, ◌++◌, Option, Some, None, refl, sym, ap, subst, ◌∙◌, eqb, IsUtf8}
+use Rattle.std.specs.List.{AllByRecursion, flat_map}
 use Rattle.std.proofs.lemmas.Bool.{false≢true}
-use Rattle.std.proofs.lemmas.Bool.Decides.{nat_tests}
-use Rattle.std.proofs.lemmas.List.{length-drop, length-take}
-use Rattle.std.proofs.lemmas.List.Elements.{All-push, All-drop}
-use Rattle.wc_text.specs.Cut.{cut_of}
-use Rattle.wc_text.proofs.CutLemmas.{cut_within}
-use Rattle.wc_outside.specs.Keyed.{at_key}
-use Rattle.wc_lines.specs.declared.line.Line.{Line}
-use Rattle.wc_lines.specs.Ring.{last_of}
+use Rattle.std.proofs.lemmas.List.Elements.{All-nil}
+use Rattle.wc_text.specs.declared.names.Handle.{Handle}
+use Rattle.wc_buffers.specs.Calls.{is_there}
+use Rattle.wc_model.specs.declared.change.Change.{Change}
+use Rattle.wc_model.specs.declared.change.What.{What}
+use Rattle.wc_model.specs.declared.change.What.TheVariants as what
+use Rattle.wc_model.specs.declared.notice.Notice.{Notice}
+use Rattle.wc_model.specs.declared.refused.ChangeRefused.{ChangeRefused}
+use Rattle.wc_model.specs.World.{World}
+use Rattle.wc_model.specs.Apply.{refusal, after}
+use Rattle.wc_model.specs.Notices.{notice}
 use Rattle.wc_objects.specs.declared.object.WireMessage.{WireMessage}
 use Rattle.wc_relaycmd.specs.Cuts.{BeginsWithout}
-use Rattle.wc_told.specs.LineObjects.{line_added}
 use Rattle.wc_session.specs.declared.client.Client.{Client}
-use Rattle.wc_session.specs.Reply.{core_buffer, line_told}
-use Rattle.wc_session.specs.Sending.{fits, fitting}
-use Rattle.wc_session.specs.Sync.{follows_core}
+use Rattle.wc_session.specs.Event.{event_messages, notice_told}
+use Rattle.wc_session.specs.Sync.{follows}
 use Rattle.wc_view.specs.Parts.{Part}
 use Rattle.wc_view.specs.Fold.{fold_lines}
-use Rattle.wc_view.specs.Views.{HasLines}
-use Rattle.wc_view.proofs.LawLemmas.{event_shows}
+use Rattle.wc_view.specs.Views.{HasAll, SetsNoFlags}
+use Rattle.wc_view.proofs.NoticeLaw.{notice_shows}
+use Rattle.wc_core.specs.Resolved.{Resolved, Stays, Ends as ResolvedEnds, Tells as TellsRefusal, Asks, resolved, refusal_text, told_refusal}
 use Rattle.wc_core.specs.State.{State, Act, Stepped}
-use Rattle.wc_core.specs.Step.{client_link, stays, then_does, told_to, prints, prints_text, next_line, last_handle, does, is_quit, runs}
-use Rattle.wc_core.specs.Typed.{Typed, Nothing, Prints, Quits, typed_line}
+use Rattle.wc_core.specs.Step.{client_link, stays, then_does, sends, told_to, told_all, changes, changes_if, tells, asks_if, asks, does_resolved, does, is_quit, runs}
+use Rattle.wc_core.specs.Typed.{typed_line}
 use Rattle.wc_core.specs.Served.{messages_to}
 use Rattle.wc_core.proofs.MessageLemmas.{messages_to-append}
-use Rattle.wc_core.proofs.CoreLemmas.{line_text}
-use Rattle.wc_settled.specs.Printed.{IsPrinted}
 use Rattle.wc_settled.specs.Settled.{client_on, is_following}
 use Rattle.wc_settled.specs.Kept.{IsKept}
-use Rattle.wc_settled.specs.Mirrors.{fold_all, mirror_after, HasCoreLines}
-use Rattle.wc_settled.proofs.SizeLemmas.{event_fits}
-use Rattle.wc_settled.proofs.IdLemmas.{event_apart}
-use Rattle.wc_settled.proofs.ClientLemmas.{follows_line, told-first}
+use Rattle.wc_settled.specs.Mirrors.{fold_all, mirror_after}
+use Rattle.wc_settled.proofs.ClientLemmas.{following-heard, first-heard, told-first, told_each, messages-sends}
+use Rattle.wc_settled.proofs.IdLemmas.{id_free}
+use Rattle.wc_settled.proofs.NoticeLemmas.{telling, stands}
+use Rattle.wc_settled.proofs.TellingLemmas.{AllSpelt, event_spelt, folds_event}
+use Rattle.wc_settled.proofs.TypedLemmas.{OnAsks, typed_text, resolved_told}
+use Rattle.wc_settled.proofs.WorldLemmas.{IsTold, after_kept}
 
 pub fold_all-append : (limit : ℕ) (id : List ℕ) (part : Option Part) (a b : List WireMessage) → fold_all limit id part (a ++ b) ≡ fold_all limit id (fold_all limit id part a) b
 fold_all-append limit id part [] b = refl
@@ -43,112 +46,131 @@ pub mirror-append : (limit link : ℕ) (id : List ℕ) (part : Option Part) (a b
 mirror-append limit link id part a b =
     ap (fold_all limit id part) (messages_to-append link a b) ∙ fold_all-append limit id part (messages_to link a) (messages_to link b)
 
--- What is done to lines alone: what always holds does so still, and a client that follows has the lines after it.
+-- ---- the messages of acts
+
+pub both_spelt : (a b : List WireMessage) → AllSpelt a → AllSpelt b → AllSpelt (a ++ b)
+both_spelt [] b p q = q
+both_spelt (m ∷ a) b p q = (p.0, both_spelt a b p.1 q)
+
+pub acts_spelt : (link : ℕ) (a b : List Act) → AllSpelt (messages_to link a) → AllSpelt (messages_to link b) → AllSpelt (messages_to link (a ++ b))
+acts_spelt link a b p q = subst AllSpelt (sym (messages_to-append link a b)) (both_spelt (messages_to link a) (messages_to link b) p q)
+
+pub sends_spelt : (link k : ℕ) (messages : List WireMessage) → AllSpelt messages → AllSpelt (messages_to link (sends k messages))
+sends_spelt link k messages all = subst AllSpelt (sym (messages-sends link k messages)) (by (eqb k link)) where
+  by : (b : Bool) → AllSpelt (cond b messages [])
+  by true = all
+  by false = tt
+
+told_spelt : (world : World) (n : Notice) (client : Client) → AllSpelt (event_messages world n) → AllSpelt (notice_told world n client)
+unfolding notice_told
+told_spelt world n client all = by (follows n.kind n.buffer.0 client) where
+  by : (b : Bool) → AllSpelt (cond b (event_messages world n) [])
+  by true = all
+  by false = tt
+
+clients_spelt : (link : ℕ) (world : World) (n : Notice) (clients : List Client) → AllSpelt (event_messages world n) → AllSpelt (messages_to link (flat_map (told_to world n) clients))
+clients_spelt link world n [] all = tt
+clients_spelt link world n (client ∷ clients) all =
+    acts_spelt link (told_to world n client) (flat_map (told_to world n) clients)
+    (sends_spelt link (client_link client) (notice_told world n client) (told_spelt world n client all)) (clients_spelt link world n clients all)
+
+-- ---- what is done
+
+-- What is done to the world: what always holds does so still, each message keeps the rules, and a client that follows has
+-- the lines after it.
 pub record Tells (limit link : ℕ) (id : List ℕ) (state : State) (stepped : Stepped) : Type 0 where
-  pub clients : stepped.state.clients ≡ state.clients
+  pub following : is_following (client_on link stepped.state) ≡ is_following (client_on link state)
   pub kept : IsKept limit link stepped.state
-  pub right : is_following (client_on link state) ≡ true → (part : Option Part) → HasCoreLines part state → HasCoreLines (mirror_after limit link id part stepped.acts) stepped.state
+  pub spelt : AllSpelt (messages_to link stepped.acts)
+  pub right : is_following (client_on link state) ≡ true → (part : Option Part) → HasAll part state.world → HasAll (mirror_after limit link id part stepped.acts) stepped.state.world
 
-pub Tells-stays : (limit link : ℕ) (id : List ℕ) (state : State) → IsKept limit link state → Tells limit link id state (stays state)
-Tells-stays limit link id state kept = record { clients = refl; kept = kept; right = λ follows part had. had }
+Tells-stays : (limit link : ℕ) (id : List ℕ) (state : State) → IsKept limit link state → Tells limit link id state (stays state)
+Tells-stays limit link id state kept = record { following = refl; kept = kept; spelt = tt; right = λ follows part had. had }
 
-pub Tells-then : (limit link : ℕ) (id : List ℕ) (state : State) (first : Stepped) (others : State → Stepped) → Tells limit link id state first → Tells limit link id first.state (others first.state)
+Tells-then : (limit link : ℕ) (id : List ℕ) (state : State) (first : Stepped) (others : State → Stepped) → Tells limit link id state first → Tells limit link id first.state (others first.state)
     → Tells limit link id state (then_does first others)
 Tells-then limit link id state first others a b = record {
-  clients = b.clients ∙ a.clients;
+  following = b.following ∙ a.following;
   kept = b.kept;
+  spelt = acts_spelt link first.acts (others first.state).acts a.spelt b.spelt;
   right = λ follows part had.
-      let between = ap (λ clients. is_following (at_key client_link link clients)) a.clients ∙ follows in
-      let last = (others first.state).state in
-      subst (λ part. HasCoreLines part last) (sym (mirror-append limit link id part first.acts (others first.state).acts))
-      (b.right between (mirror_after limit link id part first.acts) (a.right follows part had));
+      let last = (others first.state).state.world in
+      subst (λ part. HasAll part last) (sym (mirror-append limit link id part first.acts (others first.state).acts))
+      (b.right (a.following ∙ follows) (mirror_after limit link id part first.acts) (a.right follows part had));
 }
 
--- ---- a line
+-- ---- a change
 
-last_within : {X : Type 0} (n : ℕ) (xs : List X) → length (last_of n xs) ≤ n
-last_within n xs = omega (arith, length-drop (length xs - n) xs)
+no_flags : (a : What) → IsTold a → SetsNoFlags a
+no_flags (what.Rename name flips) told = told.1
+no_flags (what.Flips flips) told = told
+no_flags _ told = tt
 
-kept-prints : (limit link : ℕ) (state : State) (line : Line) → IsKept limit link state → IsPrinted line → IsKept limit link (prints state line).state
-kept-prints limit link state line kept is =
-    let all = state.lines ++ line ∷ [] in record {
-      same = kept.same;
-      most = kept.most;
-      within = (let h = last_within state.limit all in omega (arith, kept.same));
-      printed = All-drop IsPrinted (length all - state.limit) all (All-push IsPrinted state.lines line kept.printed is);
-      first = kept.first;
+-- the messages that the client of a link is sent, where it follows all events
+told_event : (limit link : ℕ) (state : State) (world : World) (n : Notice) → IsKept limit link state → is_following (client_on link state) ≡ true
+    → messages_to link (told_all state world n).acts ≡ event_messages world n
+told_event limit link state world n kept follows = by (client_on link state) refl follows where
+  by : (o : Option Client) → client_on link state ≡ o → is_following o ≡ true → messages_to link (flat_map (told_to world n) state.clients) ≡ event_messages world n
+  by None at e = absurd (false≢true e)
+  by (Some client) at e = told-first link world n state.clients client kept.first at ∙ told_each link world n client e
+
+Tells-changes : (limit link : ℕ) (id : List ℕ) (state : State) (change : Change) → BeginsWithout 95 id → IsKept limit link state → IsTold change.what
+    → refusal state.world change ≡ None → Tells limit link id state (changes state change)
+Tells-changes limit link id state change free kept told good =
+    let w = state.world in
+    let v = after w change in
+    let n = notice w change in
+    let is = after_kept limit w change.buffer change.what kept.world told good in
+    let tells = telling limit w change.buffer change.what kept.world told good in
+    record {
+      following = following-heard n.kind n.buffer.0 link state.clients;
+      kept = record { most = kept.most; world = is; first = first-heard n.kind n.buffer.0 link state.clients kept.first };
+      spelt = clients_spelt link v n state.clients (event_spelt limit v n is tells);
+      right = λ follows part had.
+          let heard_all = ap (fold_all limit id part) (told_event limit link state v n kept follows) ∙ folds_event limit id part v n is tells (id_free id free) in
+          subst (λ part. HasAll part v) (sym heard_all)
+          (notice_shows limit id part w change (stands limit w kept.world) kept.world.same (id_free id free) good (no_flags change.what told) had);
     }
 
-one_fits : (m : WireMessage) → fits m ≡ true → fitting m ≡ m ∷ []
-unfolding fitting
-one_fits m e = rw e refl
-
-told_one : (client : Client) (line : Line) → follows_core client ≡ true → line_told client line ≡ fitting (line_added core_buffer line)
-unfolding line_told
-told_one client line e = rw e refl
-
--- the client of a link that follows is told a line
-told_line : (limit link : ℕ) (state : State) (line : Line) → IsKept limit link state → IsPrinted line → is_following (client_on link state) ≡ true
-    → messages_to link (prints state line).acts ≡ line_added core_buffer line ∷ []
-told_line limit link state line kept is follows = by (client_on link state) refl follows where
-  by : (o : Option Client) → client_on link state ≡ o → is_following o ≡ true → messages_to link (flat_map (told_to line) state.clients) ≡ line_added core_buffer line ∷ []
-  by None at e = absurd (false≢true e)
-  by (Some client) at e =
-      told-first link line state.clients client kept.first at
-      ∙ told_one client line (follows_line client e)
-      ∙ one_fits (line_added core_buffer line) (event_fits line is)
-
-Tells-prints : (limit link : ℕ) (id : List ℕ) (state : State) (line : Line) → BeginsWithout 95 id → IsKept limit link state → IsPrinted line
-    → Tells limit link id state (prints state line)
-Tells-prints limit link id state line free kept is = record {
-  clients = refl;
-  kept = kept-prints limit link state line kept is;
-  right = λ follows part had.
-      let all = state.lines ++ line ∷ [] in
-      let shown = event_shows limit id part core_buffer state.lines line (event_apart (codes "buffer_line_added") id free) had in
-      let told : mirror_after limit link id part (prints state line).acts ≡ fold_lines limit id part (line_added core_buffer line) = ap (fold_all limit id part) (told_line limit link state line kept is follows) in
-      subst (λ part. HasLines part 1 (last_of state.limit all)) (sym told)
-      (subst (λ n. HasLines (fold_lines limit id part (line_added core_buffer line)) 1 (last_of n all)) (sym kept.same) shown.0);
-}
-
-cut_size : (text : List ℕ) (limit : ℕ) → length (take (cut_of text limit) text) ≤ limit
-cut_size text limit = omega (arith, length-take (cut_of text limit) text, cut_within text limit)
-
-pub next_printed : (state : State) (prefix message : List ℕ) → state.next < 2 ^ 62 → IsPrinted (next_line state prefix message)
-next_printed state prefix message left = record {
-  handle = omega arith;
-  content = omega arith;
-  notify = refl;
-  tags = refl;
-  prefix = cut_size prefix 128;
-  message = cut_size message 1024;
-  text = line_text state.next state.moment prefix message (next_line state prefix message) refl;
-}
+-- a refusal that is told
+Tells-tells : (limit link : ℕ) (id : List ℕ) (state : State) (text : List ℕ) → BeginsWithout 95 id → IsKept limit link state → Tells limit link id state (tells state text)
+Tells-tells limit link id state text free kept = by (refusal state.world (told_refusal state.moment text)) refl where
+  by : (o : Option ChangeRefused) → refusal state.world (told_refusal state.moment text) ≡ o → Tells limit link id state (changes_if state (told_refusal state.moment text) o)
+  by None good = Tells-changes limit link id state (told_refusal state.moment text) free kept (All-nil IsUtf8, refl) good
+  by (Some reason) good = Tells-stays limit link id state kept
 
 -- ---- what is typed
 
-Tells-text : (limit link : ℕ) (id : List ℕ) (state : State) (prefix message : List ℕ) → BeginsWithout 95 id → IsKept limit link state
-    → Tells limit link id state (prints_text state prefix message)
-Tells-text limit link id state prefix message free kept = by (nat_lt state.next last_handle) refl where
-  by : (b : Bool) → nat_lt state.next last_handle ≡ b → Tells limit link id state (cond b (prints state (next_line state prefix message)) (stays state))
-  by true e = Tells-prints limit link id state (next_line state prefix message) free kept (next_printed state prefix message (grind (arith, nat_tests)))
-  by false e = Tells-stays limit link id state kept
+Tells-asks : (limit link : ℕ) (id : List ℕ) (state : State) (change : Change) → BeginsWithout 95 id → IsKept limit link state → IsTold change.what → Tells limit link id state (asks state change)
+Tells-asks limit link id state change free kept told = by (refusal state.world change) refl where
+  by : (o : Option ChangeRefused) → refusal state.world change ≡ o → Tells limit link id state (asks_if state change o)
+  by None good = Tells-changes limit link id state change free kept told good
+  by (Some reason) good = Tells-tells limit link id state (refusal_text reason) free kept
 
-Tells-typed : (limit link : ℕ) (id : List ℕ) (state : State) (typed : Typed) → BeginsWithout 95 id → IsKept limit link state → Tells limit link id state (does state typed)
-Tells-typed limit link id state Nothing free kept = Tells-stays limit link id state kept
-Tells-typed limit link id state (Prints prefix message) free kept = Tells-text limit link id state prefix message free kept
-Tells-typed limit link id state Quits free kept = record { clients = refl; kept = kept; right = λ follows part had. had }
+Tells-resolved : (limit link : ℕ) (id : List ℕ) (state : State) (r : Resolved) → BeginsWithout 95 id → IsKept limit link state → OnAsks r → Tells limit link id state (does_resolved state r)
+Tells-resolved limit link id state Stays free kept told = Tells-stays limit link id state kept
+Tells-resolved limit link id state ResolvedEnds free kept told = record { following = refl; kept = kept; spelt = tt; right = λ follows part had. had }
+Tells-resolved limit link id state (TellsRefusal text) free kept told = Tells-tells limit link id state text free kept
+Tells-resolved limit link id state (Asks change) free kept told = Tells-asks limit link id state change free kept told
 
-pub Tells-runs : (limit link : ℕ) (id : List ℕ) (state : State) (lines : List (List ℕ)) → BeginsWithout 95 id → IsKept limit link state → Tells limit link id state (runs state lines)
-Tells-runs limit link id state [] free kept = Tells-stays limit link id state kept
-Tells-runs limit link id state (line ∷ lines) free kept =
-    by (is_quit (typed_line line)) (Tells-typed limit link id state (typed_line line) free kept)
-    (λ next k. Tells-runs limit link id next lines free k)
+Tells-does : (limit link : ℕ) (id : List ℕ) (state : State) (buffer : Handle) (line : List ℕ) → BeginsWithout 95 id → IsKept limit link state → IsUtf8 line
+    → Tells limit link id state (does state buffer (typed_line line))
+Tells-does limit link id state buffer line free kept utf8 =
+    Tells-resolved limit link id state (resolved state.world state.moment buffer (typed_line line)) free kept
+    (resolved_told limit state.world state.moment buffer (typed_line line) kept.world (typed_text line utf8))
+
+pub Tells-runs : (limit link : ℕ) (id : List ℕ) (state : State) (buffer : Handle) (lines : List (List ℕ)) → BeginsWithout 95 id → IsKept limit link state → AllByRecursion IsUtf8 lines
+    → Tells limit link id state (runs state buffer lines)
+Tells-runs limit link id state buffer [] free kept utf8 = Tells-stays limit link id state kept
+Tells-runs limit link id state buffer (line ∷ lines) free kept utf8 =
+    by (not (is_there buffer state.world.groups)) (is_quit (typed_line line)) (Tells-does limit link id state buffer line free kept utf8.0)
+    (λ next k. Tells-runs limit link id next buffer lines free k utf8.1)
   where
     one : Stepped
-    one = does state (typed_line line)
+    one = does state buffer (typed_line line)
 
-    by : (b : Bool) → Tells limit link id state one → ((next : State) → IsKept limit link next → Tells limit link id next (runs next lines))
-        → Tells limit link id state (cond b one (then_does one (λ next. runs next lines)))
-    by true first others = first
-    by false first others = Tells-then limit link id state one (λ next. runs next lines) first (others one.state first.kept)
+    by : (gone quits : Bool) → Tells limit link id state one → ((next : State) → IsKept limit link next → Tells limit link id next (runs next buffer lines))
+        → Tells limit link id state (cond gone (stays state) (cond quits one (then_does one (λ next. runs next buffer lines))))
+    by true quits first others = Tells-stays limit link id state kept
+    by false true first others = first
+    by false false first others = Tells-then limit link id state one (λ next. runs next buffer lines) first (others one.state first.kept)

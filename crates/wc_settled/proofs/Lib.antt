@@ -1,6 +1,7 @@
 mod BytesLemmas
 mod ChangeLemmas
 mod ClientLemmas
+mod DumpLemmas
 mod EventLemmas
 mod ExampleLemmas
 mod IdLemmas

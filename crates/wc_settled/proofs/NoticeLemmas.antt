@@ -1,31 +1,26 @@
 -- What is noticed of a change is within its limits.
-use Rattle.std.proofs.Common.{◌≡◌, ℕ, ◌+◌, ◌<◌, ◌≤◌, ◌^◌, Bool, true, false, cond, eqb, eqb-true, find, List, [], ◌∷◌, map, length, Option, Some, None, option_map, unwrap_or, refl, sym, ap, subst, ◌∙◌, arith, IsUtf8}
-use Rattle.std.specs.List.{AllByRecursion, position}
-use Rattle.std.proofs.lemmas.List.{length-map}
-use Rattle.std.proofs.lemmas.List.Quantifiers.{position-Some}
+use Rattle.std.proofs.Common.{◌≡◌, ℕ, ◌<◌, ◌≤◌, ◌^◌, Bool, true, false, cond, eqb, eqb-true, find, List, [], ◌∷◌, length, Option, Some, None, option_map, refl, sym, subst, arith, IsUtf8}
+use Rattle.std.specs.List.{AllByRecursion}
 use Rattle.std.proofs.lemmas.Str.{IsUtf8-nil}
 use Rattle.wc_text.specs.declared.names.Handle.{Handle}
 use Rattle.wc_buffers.specs.declared.entry.BufferEntry.{BufferEntry}
-use Rattle.wc_buffers.specs.declared.row.BufferRow.{BufferRow}
-use Rattle.wc_buffers.specs.Calls.{Groups, handle_of, is_there, entry_of, buffer_of, number}
-use Rattle.wc_buffers.specs.Groups.{rows, in_group, place}
-use Rattle.wc_buffers.specs.Kept.{handles}
+use Rattle.wc_buffers.specs.Calls.{handle_of, is_there, entry_of}
+use Rattle.wc_buffers.specs.Groups.{rows, has}
 use Rattle.wc_buffers.proofs.RefusalLemmas.{there_good, close_good, move_good, merge_good, unmerge_good, rename_good, short_name_good, set_var_good, remove_var_good}
-use Rattle.wc_buffers.proofs.TableLemmas.{groups-le-rows}
 use Rattle.wc_world.proofs.GroupRows.{some_row}
-use Rattle.wc_model.specs.declared.change.Change.{Change}
 use Rattle.wc_model.specs.declared.change.What.{What}
 use Rattle.wc_model.specs.declared.change.What.TheVariants.{Add, Close, MoveTo, MergeInto, Unmerge, Hide, Unhide, Rename, ShortName, Title, SetVar, RemoveVar, Print, Clear, Flips}
 use Rattle.wc_model.specs.declared.notice.EventKind.{EventKind}
 use Rattle.wc_model.specs.declared.notice.Notice.{Notice}
-use Rattle.wc_model.specs.World.{World}
+use Rattle.wc_model.specs.World.{World, lines_at}
 use Rattle.wc_model.specs.Order.{before_in, first_of, behind_in, order}
 use Rattle.wc_model.specs.Apply.{refusal_of, after_of}
 use Rattle.wc_model.specs.Notices.{notice_at, notice_of, name_in}
+use Rattle.wc_view.specs.Views.{Stands}
 use Rattle.wc_settled.specs.Worlds.{IsBufferKept, IsWorldKept}
 use Rattle.wc_settled.proofs.ListLemmas.{all_map}
 use Rattle.wc_settled.proofs.RowLemmas.{row_has}
-use Rattle.wc_settled.proofs.WorldLemmas.{IsTold, accepted, both_accepted, after_kept}
+use Rattle.wc_settled.proofs.WorldLemmas.{IsTold, once, accepted, both_accepted, after_kept}
 
 -- handles of 64 bits, and a full name
 pub record IsTelling (n : Notice) : Type 0 where
@@ -136,3 +131,19 @@ telling limit w h (RemoveVar name) is told good = telling_at limit (after_of w h
 telling limit w h (Print line) is told good = telling_at limit (after_of w h (Print line)) _ h _ _ (after_kept limit w h (Print line) is told good) (there_small limit w h is (target_there w h (Print line) told good tt))
 telling limit w h Clear is told good = telling_at limit (after_of w h Clear) _ h _ _ (after_kept limit w h Clear is told good) (there_small limit w h is (target_there w h Clear told good tt))
 telling limit w h (Flips flips) is told good = absurd told
+
+-- ---- in the words of the mirror
+
+pub stands : (limit : ℕ) (w : World) → IsWorldKept limit w → Stands w
+stands limit w is = record {
+  once = once limit w is;
+  drawn = drawn;
+  within = λ h. subst (λ n. length (lines_at w h) ≤ n) (sym is.same) (is.within h);
+  gone = is.none;
+}
+  where
+    drawn : (h : ℕ) → has handle_of h w.groups ≡ true → h < w.next
+    drawn h there =
+        let r = some_row handle_of h w.groups there in
+        let kept = row_has (IsBufferKept w.next) handle_of h (rows w.groups) r.0 r.1 is.each in
+        subst (λ n. n < w.next) (found_key h (rows w.groups) r.0 r.1) kept.below

@@ -1,11 +1,10 @@
 -- What holds of each row holds of each where groups were edited.
-use Rattle.std.proofs.Common.{◌≡◌, ℕ, ◌+◌, ◌≤◌, Bool, true, false, cond, not, eqb, ltb, length, List, [], ◌∷◌, ◌++◌, map, take, drop, filter, flat_map, find, Option, Some, None, refl, sym, ap, subst, ◌∙◌, arith}
+use Rattle.std.proofs.Common.{◌≡◌, ℕ, ◌+◌, ◌≤◌, Bool, true, false, cond, not, eqb, ltb, length, List, [], ◌∷◌, ◌++◌, map, take, drop, find, Some, refl, sym, ap, subst, ◌∙◌, arith}
 use Rattle.std.specs.List.{AllByRecursion}
-use Rattle.std.proofs.lemmas.Bool.Decides.{nat_tests}
 use Rattle.std.proofs.lemmas.Bool.{false≢true}
 use Rattle.std.proofs.lemmas.List.{map-append}
 use Rattle.wc_buffers.proofs.GroupLaws.{times_in-append}
-use Rattle.wc_buffers.specs.Groups.{filled, rows, in_group, row_of, times_in, times, only, without, update, take_out, pick, append_to, merge, others, own, move_group, part, unmerge}
+use Rattle.wc_buffers.specs.Groups.{filled, rows, in_group, row_of, times_in, times, only, without, update, take_out, pick, merge, others, own, move_group, part, unmerge}
 use Rattle.wc_settled.proofs.ListLemmas.{all_append, all_front, all_back, all_filter, all_take, all_drop, all_map, all_flat}
 
 -- ---- rows and groups

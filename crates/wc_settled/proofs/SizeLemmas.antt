@@ -1,6 +1,6 @@
 -- How long the events that change lines are at most, and the dump of all lines.
-use Rattle.std.proofs.Common.{◌≡◌, ℕ, ◌+◌, ◌*◌, ◌-◌, ◌^◌, ◌<◌, ◌≤◌, Bool, true, false, cond, List, [], ◌∷◌, ◌++◌, length, map, sum_by, Some, refl, sym, ap, subst, ◌∙◌, arith, eqb, leb}
-use Rattle.std.specs.Prelude.{ℤ, pos, codes, All}
+use Rattle.std.proofs.Common.{◌≡◌, ℕ, ◌+◌, ◌*◌, ◌-◌, ◌^◌, ◌<◌, ◌≤◌, Bool, true, false, cond, List, [], ◌∷◌, ◌++◌, length, map, sum_by, Some, refl, ap, ◌∙◌, arith, eqb, leb}
+use Rattle.std.specs.Prelude.{ℤ, pos, codes}
 use Rattle.std.specs.List.{flat_map, AllByRecursion}
 use Rattle.std.specs.Fmt.{signed_decimal}
 use Rattle.std.specs.Int.{w32, cast_unsigned}
@@ -15,7 +15,6 @@ use denote.Hole.Carrier.{out}
 use Rattle.wc_text.specs.declared.names.Handle.{Handle}
 use Rattle.wc_lines.specs.declared.line.Line.{Line}
 use Rattle.wc_buffers.specs.declared.entry.BufferEntry.{BufferEntry}
-use Rattle.wc_buffers.specs.Calls.{handle_of}
 use Rattle.wc_buffers.specs.Groups.{rows}
 use Rattle.wc_model.specs.declared.notice.Notice.{Notice}
 use Rattle.wc_model.specs.World.{World, lines_at}
@@ -26,10 +25,10 @@ use Rattle.wc_objects.specs.declared.object.Object.TheViews.{out-Object, out-rol
 use Rattle.wc_objects.specs.declared.object.Hda.{Hda, roll-Hda}
 use Rattle.wc_objects.specs.declared.object.HdaItem.{HdaItem, roll-HdaItem}
 use Rattle.wc_objects.specs.Hex.{hex, glyph}
-use Rattle.wc_objects.specs.Spelling.{be32, text_bytes, pointer_bytes, simple_bytes, value_bytes, counted, item_bytes, hda_bytes, object_bytes, message_bytes}
+use Rattle.wc_objects.specs.Spelling.{be32, text_bytes, pointer_bytes, simple_bytes, value_bytes, item_bytes, hda_bytes, object_bytes, message_bytes}
 use Rattle.wc_objects.proofs.Rooms.{length-be32, length-message_bytes}
-use Rattle.wc_told.specs.LineObjects.{moment, truth, texts, line_keys, line_values, on_path, added_item, added_objects, dumped_item, dumped_lines, line_dump}
-use Rattle.wc_told.specs.BufferObjects.{count, about, named_keys, named_values, named_objects}
+use Rattle.wc_told.specs.LineObjects.{moment, truth, texts, line_keys, line_values, added_item, added_objects, dumped_item, dumped_lines, line_dump}
+use Rattle.wc_told.specs.BufferObjects.{count, named_keys, named_values, named_objects}
 use Rattle.wc_settled.specs.Printed.{IsPrinted}
 use Rattle.wc_settled.specs.Worlds.{IsBufferKept, IsWorldKept}
 use Rattle.wc_settled.proofs.ListLemmas.{all_map, all_flat}

@@ -1,6 +1,5 @@
 -- The event of each change that commands ask for: it keeps the rules of messages, and it is told where it changes lines.
-use Rattle.std.proofs.Common.{◌≡◌, ℕ, ◌-◌, ◌^◌, ◌<◌, ◌≤◌, Bool, true, false, cond, List, [], ◌∷◌, length, codes, Option, Some, None, option_map, refl, sym, ap, subst, ◌∙◌, arith, leb}
-use Rattle.std.specs.Prelude.{All}
+use Rattle.std.proofs.Common.{◌≡◌, ℕ, ◌-◌, ◌^◌, ◌≤◌, Bool, true, false, cond, List, [], ◌∷◌, length, Option, Some, None, option_map, refl, sym, ap, ◌∙◌, arith}
 use Rattle.std.specs.List.{AllByRecursion}
 use Rattle.std.specs.Str.{IsUtf8, is_utf8, chars}
 use Rattle.std.proofs.lemmas.Bool.{false≢true}
@@ -18,17 +17,18 @@ use Rattle.wc_model.specs.declared.notice.EventKind.{EventKind}
 use Rattle.wc_model.specs.declared.notice.EventKind.TheVariants as kind
 use Rattle.wc_model.specs.declared.notice.Notice.{Notice}
 use Rattle.wc_model.specs.World.{World, lines_at}
+use Rattle.wc_lines.specs.Ring.{newest}
 use Rattle.wc_objects.specs.declared.object.Object.{Object}
 use Rattle.wc_objects.specs.declared.object.WireMessage.{WireMessage}
 use Rattle.wc_objects.specs.Forms.{well_formed}
 use Rattle.wc_objects.specs.Spelling.{message_bytes}
-use Rattle.wc_objects.specs.Within.{ObjectWithin, IsWithin}
+use Rattle.wc_objects.specs.Within.{ObjectWithin}
 use Rattle.wc_told.specs.LineObjects.{added_objects}
-use Rattle.wc_told.specs.BufferObjects.{id_of, newest, objects_of, event_objects, event_of, opened_objects, renamed_objects, title_objects, vars_objects, named_objects}
+use Rattle.wc_told.specs.BufferObjects.{id_of, objects_of, event_objects, event_of, opened_objects, renamed_objects, title_objects, vars_objects}
 use Rattle.wc_told.proofs.Formed.{added_formed}
-use Rattle.wc_told.proofs.BufferFormed.{opened_formed, placed_formed, renamed_formed, title_formed, vars_formed, named_formed}
+use Rattle.wc_told.proofs.EventsFormed.{opened_formed, placed_formed, renamed_formed, title_formed, vars_formed, named_formed}
 use Rattle.wc_session.specs.Event.{if_fits, event_messages}
-use Rattle.wc_session.specs.Sending.{spelling, fits, fitting}
+use Rattle.wc_session.specs.Sending.{fits, fitting}
 use Rattle.wc_session.proofs.SendingLemmas.{fits_within}
 use Rattle.wc_view.specs.Ids.{IsFree}
 use Rattle.wc_view.specs.Parts.{Part}

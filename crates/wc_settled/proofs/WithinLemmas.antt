@@ -1,6 +1,6 @@
 -- The numbers of objects lie within their types.
-use Rattle.std.proofs.Common.{◌≡◌, ℕ, ◌+◌, ◌*◌, ◌-◌, ◌^◌, ◌<◌, ◌≤◌, Bool, true, false, cond, List, [], ◌∷◌, ◌++◌, map, length, Option, Some, refl, sym, subst, arith, leb}
-use Rattle.std.specs.Prelude.{ℤ, pos, codes, All}
+use Rattle.std.proofs.Common.{◌≡◌, ℕ, ◌+◌, ◌-◌, ◌^◌, ◌<◌, ◌≤◌, Bool, true, false, cond, List, [], ◌∷◌, map, length, Option, Some, refl, sym, subst, arith, leb}
+use Rattle.std.specs.Prelude.{ℤ, pos, codes}
 use Rattle.std.specs.List.{AllByRecursion, flat_map}
 use Rattle.std.specs.Int.{w8, w32, w64}
 use Rattle.std.specs.Int.RustNames.{FitsSigned}
@@ -15,7 +15,6 @@ use Rattle.wc_buffers.specs.Calls.{Groups}
 use Rattle.wc_buffers.specs.Groups.{rows}
 use Rattle.wc_model.specs.declared.notice.Notice.{Notice}
 use Rattle.wc_model.specs.World.{World, lines_at}
-use Rattle.wc_objects.specs.declared.kind.Kind.{Kind}
 use Rattle.wc_objects.specs.declared.kind.Kind.TheVariants as k
 use Rattle.wc_objects.specs.declared.object.Object.{Object}
 use Rattle.wc_objects.specs.declared.object.Object.TheVariants as o
@@ -219,14 +218,13 @@ dumped_all : (number : ℕ) (e : BufferEntry) → number ≤ 1000 → AllByRecur
 unfolding dumped_values
 dumped_all number e small = (value_int _ (number_within number small), (value_str _, (value_str _, (value_int _ (flag_within e.row.hidden), (value_str _, (value_table e.vars, tt))))))
 
-
 groups_within : (next number : ℕ) (groups : Groups) → next ≤ 2 ^ 62 + 1 → number + length groups ≤ 1000 → AllByRecursion (IsBufferKept next) (rows groups) → AllByRecursion ItemWithin (dumped_groups number groups)
 groups_within next number [] ended few all = tt
 groups_within next number (group ∷ groups) ended few all =
     all_append ItemWithin (map (dumped_buffer number) group) (dumped_groups (number + 1) groups)
     (all_map (IsBufferKept next) ItemWithin (dumped_buffer number) group
-        (λ e kept. item_within e.row.handle.0 (dumped_values number e) (let b = kept.below in omega arith) (dumped_all number e (omega arith)))
-        (all_front (IsBufferKept next) group (rows groups) all))
+    (λ e kept. item_within e.row.handle.0 (dumped_values number e) (let b = kept.below in omega arith) (dumped_all number e (omega arith)))
+    (all_front (IsBufferKept next) group (rows groups) all))
     (groups_within next (number + 1) groups ended (omega arith) (all_back (IsBufferKept next) group (rows groups) all))
 
 pub buffer_dump_within : (limit : ℕ) (world : World) → IsWorldKept limit world → length world.groups ≤ 256 → AllByRecursion ObjectWithin (buffer_dump world.groups)

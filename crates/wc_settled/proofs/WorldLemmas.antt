@@ -1,43 +1,37 @@
 -- What always holds of the world holds still after a change.
-use Rattle.std.proofs.Common.{◌≡◌, ℕ, ◌+◌, ◌-◌, ◌<◌, ◌≤◌, ◌^◌, Bool, true, false, cond, not, ◌&&◌, ◌||◌, eqb, ltb, List, [], ◌∷◌, ◌++◌, length, map, drop, sum_by, All, Option, Some, None, option_map, unwrap_or, refl, sym, ap, subst, ◌∙◌, arith, eq-eqb, eqb-true, IsUtf8, map-id}
-use Rattle.std.specs.Prelude.{ℤ, pos}
+use Rattle.std.proofs.Common.{◌≡◌, ℕ, ◌+◌, ◌-◌, ◌<◌, ◌≤◌, ◌^◌, Bool, true, false, cond, ◌&&◌, ◌||◌, eqb, ltb, List, [], ◌∷◌, ◌++◌, length, map, sum_by, All, Option, Some, None, unwrap_or, refl, sym, ap, subst, ◌∙◌, arith, eq-eqb, eqb-true, IsUtf8, map-id}
+use Rattle.std.specs.Prelude.{pos}
 use Rattle.std.specs.List.{AllByRecursion, list_any}
-use Rattle.std.specs.FinMap.{find as find_entry, get, insert, remove, empty, entries, from_entries, get-insert, get-remove, get-empty, get-entries, get-from_entries}
+use Rattle.std.specs.FinMap.{find as find_entry, get, insert, remove, empty, entries, get-insert, get-remove, get-empty, get-entries, get-from_entries}
 use Rattle.std.specs.Ordering.{nat_cmp, eq_by_cmp}
 use Rattle.std.specs.Cmp.{nat_cmp_total, unsigned_tied}
 use Rattle.std.proofs.lemmas.Bool.{false≢true, or_parts}
 use Rattle.std.proofs.lemmas.Bool.Decides.{nat_tests}
-use Rattle.std.proofs.lemmas.List.{length-map, length-append, map-append, length-drop, length-take}
+use Rattle.std.proofs.lemmas.List.{length-map, map-append, length-drop, length-take}
 use Rattle.std.proofs.lemmas.List.Elements.{All-nil, All-push, All-drop, All-take}
 use Rattle.std.proofs.lemmas.List.Sums.{sum_by-cons}
 use Rattle.std.proofs.lemmas.List.Folds.{list_any-append}
 use Rattle.wc_text.specs.declared.names.Handle.{Handle}
-use Rattle.wc_text.specs.declared.names.Pair.{Pair}
 use Rattle.wc_text.specs.Cut.{cut_of}
 use Rattle.wc_text.proofs.CutLemmas.{cut_within, cut_utf8}
 use Rattle.wc_lines.specs.declared.line.Line.{Line}
-use Rattle.wc_lines.specs.LineText.{HasText}
 use Rattle.wc_lines.specs.Ring.{last_of}
 use Rattle.wc_buffers.specs.declared.entry.BufferEntry.{BufferEntry}
 use Rattle.wc_buffers.specs.declared.refused.BufferRefused.{BufferRefused}
-use Rattle.wc_buffers.specs.declared.row.BufferRow.{BufferRow}
 use Rattle.wc_buffers.specs.declared.row.BufferSpec.{BufferSpec}
-use Rattle.wc_buffers.specs.Calls.{Groups, bad_names, handle_of, is_there, entry_of, added, opened, closed, moved, merged, unmerged, changed, with_hidden, with_full_name, with_short_name, with_title, with_var, without_var, close_refusal, move_refusal, merge_refusal, unmerge_refusal, no_buffer, rename_refusal, short_name_refusal, set_var_refusal, remove_var_refusal, add_refusal, add_refusal_so_far, too_many_vars, are_together, is_alone, lacks_var, is_full, or_else}
+use Rattle.wc_buffers.specs.Calls.{Groups, bad_names, handle_of, is_there, entry_of, added, opened, closed, moved, merged, unmerged, changed, with_hidden, with_full_name, with_short_name, with_title, with_var, without_var, add_refusal, add_refusal_so_far, too_many_vars, is_alone, lacks_var, is_full}
 use Rattle.wc_buffers.specs.Entries.{IsText}
-use Rattle.wc_buffers.specs.Groups.{rows, has, in_group, row_of, times, take_out, move_group, merge, unmerge, update, append_to, pick}
+use Rattle.wc_buffers.specs.Groups.{rows, has, in_group, times, take_out, move_group, merge, unmerge, update, append_to}
 use Rattle.wc_buffers.specs.Kept.{IsBuffer, handles}
-use Rattle.wc_buffers.specs.Kept as kept
 use Rattle.wc_buffers.specs.Table.{AreGroups, key}
 use Rattle.wc_buffers.specs.Vars.{cut_to, vars_of}
 use Rattle.wc_buffers.proofs.GroupLaws.{by_bool, has-map, times-map, rows-map, take_out-map, move_group-map, merge-map, unmerge-map, list_any-map, in_group-map}
 use Rattle.wc_buffers.proofs.TableLemmas.{added_are, taken_are, moved_are, appended_are, unmerged_are, stands, found, picked, taken_has, taken_lacks, rows-taken, leaves_others}
-use Rattle.wc_buffers.proofs.RefusalLemmas.{there_good, close_good, move_good, merge_good, unmerge_good, rename_good, short_name_good, set_var_good, remove_var_good, add_good, add_rest}
+use Rattle.wc_buffers.proofs.RefusalLemmas.{there_good, move_good, merge_good, unmerge_good, rename_good, short_name_good, set_var_good, remove_var_good, add_good}
 use Rattle.wc_buffers.proofs.Fits.{or_none, opened_fits, hidden_fits, short_name_fits, title_fits, full_name_fits, var_fits, removed_fits, cut_short, cut_is_utf8}
 use Rattle.wc_world.proofs.GroupRows.{some_row, in_rows, has-move, has-merge, has-unmerge, has-update, has-take_out, merged_apart}
 use Rattle.wc_world.proofs.CutTags.{cut_tags_front}
 use Rattle.wc_world.proofs.First.{core_text}
-use Rattle.wc_model.specs.declared.change.Change.{Change}
-use Rattle.wc_model.specs.declared.change.Flip.{Flip}
 use Rattle.wc_model.specs.declared.change.LineSpec.{LineSpec}
 use Rattle.wc_model.specs.declared.change.What.{What}
 use Rattle.wc_model.specs.declared.change.What.TheVariants.{Add, Close, MoveTo, MergeInto, Unmerge, Hide, Unhide, Rename, ShortName, Title, SetVar, RemoveVar, Print, Clear, Flips}
@@ -45,7 +39,7 @@ use Rattle.wc_model.specs.declared.refused.ChangeRefused.{ChangeRefused}
 use Rattle.wc_model.specs.declared.refused.ChangeRefused.TheVariants as refused
 use Rattle.wc_model.specs.World.{World, core_row, first_world, lines_at, last_handle}
 use Rattle.wc_model.specs.LineCuts.{tags_from, cut_tags, line_of}
-use Rattle.wc_model.specs.Apply.{refusal, refusal_of, after, after_of, of_buffers, or_else as or_refused, spent, no_line, with_groups, with_lines, flip_all, flipped, row_of as new_row}
+use Rattle.wc_model.specs.Apply.{refusal_of, after_of, of_buffers, or_else as or_refused, spent, with_groups, with_lines, flip_all, flipped, row_of as new_row}
 use Rattle.wc_settled.specs.Printed.{IsPrinted}
 use Rattle.wc_settled.specs.Worlds.{IsBufferKept, IsWorldKept}
 use Rattle.wc_settled.proofs.ListLemmas.{all_more}
@@ -362,7 +356,7 @@ close_kept limit w h is =
 
 -- ---- any change
 
-pub after_kept : (limit : ℕ) (w : World) (h : Handle) (w_ : What) → IsWorldKept limit w → IsTold w_ → refusal_of w h w_ ≡ None → IsWorldKept limit (after_of w h w_)
+pub after_kept : (limit : ℕ) (w : World) (h : Handle) (a : What) → IsWorldKept limit w → IsTold a → refusal_of w h a ≡ None → IsWorldKept limit (after_of w h a)
 unfolding refusal_of after_of
 after_kept limit w h (Add spec) is told good =
     let both = both_accepted _ _ good in

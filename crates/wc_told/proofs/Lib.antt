@@ -2,4 +2,3 @@ pub mod Counts
 pub mod DumpLemmas
 pub mod EventsFormed
 pub mod Formed
-pub mod BufferFormed
