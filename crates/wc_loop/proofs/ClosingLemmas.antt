@@ -84,7 +84,7 @@ leaves-one link state why = record { acts = close-one link why; left = inr (at_k
 follows-one : (link : ℕ) (state : State) (o : Outcome) → StepsOne link (follows state link o)
 follows-one link state outcome.Replied = stays-one link state
 follows-one link state outcome.Silent = stays-one link state
-follows-one link state (outcome.Input buffer text) = record { acts = none-one link _ (λ k. runs-closes k state (parted text)); left = inl (runs-closes link state (parted text)) }
+follows-one link state (outcome.Input buffer text) = record { acts = none-one link _ (λ k. runs-closes k state buffer (parted text)); left = inl (runs-closes link state buffer (parted text)) }
 follows-one link state (outcome.Leave why) = leaves-one link state why
 follows-one link state outcome.NoMemory = stays-one link state
 
@@ -112,7 +112,7 @@ answers-one link state answer =
 
 asked-one : (state : State) (client : Client) (request : Option Request) → StepsOne (client_link client) (asked state client request)
 asked-one state client None = stays-one (client_link client) state
-asked-one state client (Some request) = answers-one (client_link client) state (reply_of state.lines state.password client request)
+asked-one state client (Some request) = answers-one (client_link client) state (reply_of state.world state.password client request)
 
 found-key : (link : ℕ) (clients : List Client) (client : Client) → at_key client_link link clients ≡ Some client → client_link client ≡ link
 found-key link [] client e = absurd (let q : None ≡ Some client = e in cc)
@@ -261,7 +261,7 @@ can-answer lines password client request =
 follows-cause : (link : ℕ) (state : State) (o : Outcome) → CanLeave o → LineCause (close_of link (follows state link o).acts)
 follows-cause link state outcome.Replied h = tt
 follows-cause link state outcome.Silent h = tt
-follows-cause link state (outcome.Input buffer text) h = subst LineCause (sym (runs-closes link state (parted text))) tt
+follows-cause link state (outcome.Input buffer text) h = subst LineCause (sym (runs-closes link state buffer (parted text))) tt
 follows-cause link state (outcome.Leave why) h = rw (eqb-same link) h
 follows-cause link state outcome.NoMemory h = tt
 
@@ -274,7 +274,7 @@ answers-cause link state answer h =
 
 asked-cause : (state : State) (client : Client) (request : Option Request) → LineCause (close_of (client_link client) (asked state client request).acts)
 asked-cause state client None = tt
-asked-cause state client (Some request) = answers-cause (client_link client) state (reply_of state.lines state.password client request) (can-answer state.lines state.password client request)
+asked-cause state client (Some request) = answers-cause (client_link client) state (reply_of state.world state.password client request) (can-answer state.lines state.password client request)
 
 line-by : (link : ℕ) (state : State) (line : List ℕ) (o : Option Client) → at_key client_link link state.clients ≡ o → LineCause (close_of link (line_came state line o).acts)
 line-by link state line None e = tt
