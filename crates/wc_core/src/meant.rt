@@ -1,4 +1,4 @@
-ghost use Rattle.std.specs.Prelude.{◌≡◌};
+ghost use Rattle.std.specs.Prelude.{◌≡◌, ℕ, ◌^◌, ◌-◌, min};
 ghost use Rattle.wc_core.specs.Resolved.{numbered, first_in, buffer_meant};
 
 use crate::number::read_number;
@@ -6,12 +6,19 @@ use wc_buffers::Buffers;
 use wc_session::buffer_named;
 use wc_text::Handle;
 
-/// The first buffer of the group of this number.
+/// The first buffer of the group of a number, which may be larger than the largest of its type.
+#[tactic(auto, using(crate::proofs::ResolvedWords::numbered_at, crate::proofs::ResolvedWords::at_next, crate::proofs::ResolvedWords::at_first, crate::proofs::ResolvedWords::numbered_most))]
 fn numbered(buffers: &Buffers, number: u32) -> Option<Handle>
-    ensures { result ≡ numbered buffers.now number }
+    ensures { (n : ℕ) → number ≡ min n (2 ^ 32 - 1) → result ≡ numbered buffers.now n }
 {
-    let place = usize::try_from(number).ok()?.checked_sub(1)?;
-    buffers.groups().nth(place)?.first().copied()
+    let mut left = number.checked_sub(1)?;
+    for group in buffers.groups() {
+        if left == 0 {
+            return group.first().copied();
+        }
+        left -= 1;
+    }
+    None
 }
 
 /// The buffer that a word of a command means: by the number of its group, of which the first one is meant, by its full

@@ -14,7 +14,9 @@ pub(crate) fn read_number(bytes: &[u8]) -> Option<u32>
         if !b.is_ascii_digit() {
             return None;
         }
-        value = value.saturating_mul(10).saturating_add(u32::from(*b - b'0'));
+        value = value
+            .saturating_mul(10)
+            .saturating_add(u32::from(*b - b'0'));
     }
     Some(value)
 }

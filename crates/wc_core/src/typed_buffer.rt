@@ -70,14 +70,22 @@ fn merge(text: &[u8]) -> Asked<'_>
 fn bare<'a>(asked: Asked<'a>, text: &'a [u8]) -> Asked<'a>
     ensures { meaning result ≡ without_words (meaning asked.entry) text.now }
 {
-    if text.is_empty() { asked } else { wrong_buffer() }
+    if text.is_empty() {
+        asked
+    } else {
+        wrong_buffer()
+    }
 }
 
 /// What is asked where a text stands behind it.
 fn valued<'a>(asked: Asked<'a>, text: &'a [u8]) -> Asked<'a>
     ensures { meaning result ≡ some_text (λ value. meaning asked.entry) text.now }
 {
-    if text.is_empty() { wrong_buffer() } else { asked }
+    if text.is_empty() {
+        wrong_buffer()
+    } else {
+        asked
+    }
 }
 
 /// A property of the buffer.
