@@ -1,14 +1,23 @@
 -- Whom the steps close.
-use Rattle.std.proofs.Common.{◌≡◌, ℕ, Bool, true, false, cond, eqb, ◌⊎◌, inl, inr, List, [], ◌∷◌, Option, Some, None, refl, ap, sym, ◌∙◌, nat_lt}
+use Rattle.std.proofs.Common.{◌≡◌, ℕ, Bool, true, false, cond, eqb, ◌⊎◌, inl, inr, List, [], ◌∷◌, Option, Some, None, refl, ap, sym, ◌∙◌, not}
 use Rattle.wc_text.specs.declared.names.Cause.{Cause}
 use Rattle.wc_text.specs.declared.names.Cause.TheVariants.{NoMemory}
 use Rattle.wc_objects.specs.declared.object.WireMessage.{WireMessage}
 use Rattle.wc_session.specs.declared.client.Client.{Client}
 use Rattle.wc_session.specs.declared.outcome.Outcome.{Outcome}
 use Rattle.wc_session.specs.declared.outcome.Outcome.TheVariants as outcome
-use Rattle.wc_core.specs.Typed.{Typed, Nothing, Prints, Quits, typed_line, parted}
+use Rattle.wc_text.specs.declared.names.Handle.{Handle}
+use Rattle.wc_buffers.specs.Calls.{is_there}
+use Rattle.wc_model.specs.declared.change.Change.{Change}
+use Rattle.wc_model.specs.declared.notice.Notice.{Notice}
+use Rattle.wc_model.specs.declared.refused.ChangeRefused.{ChangeRefused}
+use Rattle.wc_model.specs.World.{World}
+use Rattle.wc_model.specs.Apply.{refusal, after}
+use Rattle.wc_model.specs.Notices.{notice}
+use Rattle.wc_core.specs.Resolved.{Resolved, Stays, Ends as ResolvedEnds, Tells, Asks, resolved, refusal_text, told_refusal}
+use Rattle.wc_core.specs.Typed.{Typed, typed_line, parted}
 use Rattle.wc_core.specs.State.{State, Stepped}
-use Rattle.wc_core.specs.Step.{stays, then_does, sends, prints, next_line, last_handle, does, is_quit, runs, follows, lost}
+use Rattle.wc_core.specs.Step.{stays, then_does, sends, told_all, changes, changes_if, tells, asks_if, does_resolved, does, is_quit, runs, follows, lost}
 use Rattle.wc_core.specs.Served.{or_else, close_of, StaysOrStarves, LeavesBy}
 use Rattle.wc_core.proofs.DidLemmas.{close_of-append, ClosesLater}
 use Rattle.wc_core.proofs.SeatLemmas.{close-sends, close-told}
@@ -17,26 +26,52 @@ closes_none-if : (j : ℕ) (b : Bool) (x y : Stepped) → close_of j x.acts ≡ 
 closes_none-if j true x y p q = p
 closes_none-if j false x y p q = q
 
-pub does-closes : (j : ℕ) (state : State) (typed : Typed) → close_of j (does state typed).acts ≡ None
-does-closes j state Nothing = refl
-does-closes j state (Prints prefix message) =
-    closes_none-if j (nat_lt state.next last_handle) (prints state (next_line state prefix message)) (stays state) (close-told j (next_line state prefix message) state.clients) refl
-does-closes j state Quits = refl
+-- ---- changes and what is typed
 
-pub runs-closes : (j : ℕ) (state : State) (lines : List (List ℕ)) → close_of j (runs state lines).acts ≡ None
-runs-closes j state [] = refl
-runs-closes j state (line ∷ lines) =
-    closes_none-if j (is_quit (typed_line line)) (does state (typed_line line)) (then_does (does state (typed_line line)) (λ next. runs next lines)) (does-closes j state (typed_line line))
-    (close_of-append j (does state (typed_line line)).acts (runs (does state (typed_line line)).state lines).acts
-    ∙ ap (λ o. or_else o (close_of j (runs (does state (typed_line line)).state lines).acts)) (does-closes j state (typed_line line)) ∙ runs-closes j (does state (typed_line line)).state lines)
+told_all-closes : (j : ℕ) (state : State) (world : World) (n : Notice) → close_of j (told_all state world n).acts ≡ None
+told_all-closes j state world n = close-told j world n state.clients
 
-pub typed-later : (state : State) (typed : Typed) (lines : List (List ℕ)) → ClosesLater (does state typed) (λ next. runs next lines)
-typed-later state typed lines = record { first_none = λ j. does-closes j state typed; same = λ j s t. runs-closes j s lines ∙ sym (runs-closes j t lines) }
+changes-closes : (j : ℕ) (state : State) (change : Change) → close_of j (changes state change).acts ≡ None
+changes-closes j state change = told_all-closes j state (after state.world change) (notice state.world change)
+
+changes_if-closes : (j : ℕ) (state : State) (change : Change) (o : Option ChangeRefused) → close_of j (changes_if state change o).acts ≡ None
+changes_if-closes j state change None = changes-closes j state change
+changes_if-closes j state change (Some reason) = refl
+
+tells-closes : (j : ℕ) (state : State) (text : List ℕ) → close_of j (tells state text).acts ≡ None
+tells-closes j state text = changes_if-closes j state (told_refusal state.moment text) (refusal state.world (told_refusal state.moment text))
+
+asks_if-closes : (j : ℕ) (state : State) (change : Change) (o : Option ChangeRefused) → close_of j (asks_if state change o).acts ≡ None
+asks_if-closes j state change None = changes-closes j state change
+asks_if-closes j state change (Some reason) = tells-closes j state (refusal_text reason)
+
+resolved-closes : (j : ℕ) (state : State) (r : Resolved) → close_of j (does_resolved state r).acts ≡ None
+resolved-closes j state Stays = refl
+resolved-closes j state ResolvedEnds = refl
+resolved-closes j state (Tells text) = tells-closes j state text
+resolved-closes j state (Asks change) = asks_if-closes j state change (refusal state.world change)
+
+pub does-closes : (j : ℕ) (state : State) (buffer : Handle) (typed : Typed) → close_of j (does state buffer typed).acts ≡ None
+does-closes j state buffer typed = resolved-closes j state (resolved state.world state.moment buffer typed)
+
+then-closes : (j : ℕ) (first : Stepped) (next : State → Stepped) → close_of j first.acts ≡ None → close_of j (next first.state).acts ≡ None → close_of j (then_does first next).acts ≡ None
+then-closes j first next p q = close_of-append j first.acts (next first.state).acts ∙ ap (λ o. or_else o (close_of j (next first.state).acts)) p ∙ q
+
+pub runs-closes : (j : ℕ) (state : State) (buffer : Handle) (lines : List (List ℕ)) → close_of j (runs state buffer lines).acts ≡ None
+runs-closes j state buffer [] = refl
+runs-closes j state buffer (line ∷ lines) =
+    let first = does state buffer (typed_line line) in
+    closes_none-if j (not (is_there buffer state.world.groups)) (stays state) (cond (is_quit (typed_line line)) first (then_does first (λ next. runs next buffer lines))) refl
+    (closes_none-if j (is_quit (typed_line line)) first (then_does first (λ next. runs next buffer lines)) (does-closes j state buffer (typed_line line))
+    (then-closes j first (λ next. runs next buffer lines) (does-closes j state buffer (typed_line line)) (runs-closes j first.state buffer lines)))
+
+pub typed-later : (state : State) (buffer : Handle) (typed : Typed) (lines : List (List ℕ)) → ClosesLater (does state buffer typed) (λ next. runs next buffer lines)
+typed-later state buffer typed lines = record { first_none = λ j. does-closes j state buffer typed; same = λ j s t. runs-closes j s buffer lines ∙ sym (runs-closes j t buffer lines) }
 
 follows-same : (j k : ℕ) (o : Outcome) (s t : State) → close_of j (follows s k o).acts ≡ close_of j (follows t k o).acts
 follows-same j k outcome.Replied s t = refl
 follows-same j k outcome.Silent s t = refl
-follows-same j k (outcome.Input buffer text) s t = runs-closes j s (parted text) ∙ sym (runs-closes j t (parted text))
+follows-same j k (outcome.Input buffer text) s t = runs-closes j s buffer (parted text) ∙ sym (runs-closes j t buffer (parted text))
 follows-same j k (outcome.Leave why) s t = refl
 follows-same j k outcome.NoMemory s t = refl
 

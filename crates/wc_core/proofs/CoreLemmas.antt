@@ -1,19 +1,13 @@
 -- What each of the core's calls does.
-use Rattle.std.proofs.Common.{◌≡◌, ℕ, ◌+◌, ◌-◌, ◌^◌, ◌<◌, ◌≤◌, true, false, List, [], ◌∷◌, ◌++◌, length, inl, inr, Option, Some, None, refl, ap, sym, subst, ◌∙◌, arith, append-nil, nat_lt, set, get_or, min, filter, IfSome}
+use Rattle.std.proofs.Common.{◌≡◌, ℕ, ◌+◌, ◌-◌, ◌^◌, ◌<◌, ◌≤◌, true, false, List, [], ◌∷◌, ◌++◌, length, inl, inr, Option, Some, None, Err, Bool, not, nat_eq, ◌≢◌, refl, ap, sym, subst, ◌∙◌, arith, append-nil, nat_lt, set, get_or, min, filter, IfSome}
 use Rattle.std.specs.Prelude.{map}
 use Rattle.std.proofs.lemmas.Bool.{false≢true}
 use Rattle.std.proofs.lemmas.Bool.Decides.{nat_tests}
 use Rattle.wc_text.specs.declared.names.Cause.{Cause}
 use Rattle.wc_text.specs.declared.names.Cause.TheVariants.{Surplus, NoMemory}
-use Rattle.std.specs.Str.{IsUtf8}
-use Rattle.std.proofs.lemmas.List.Elements.{All-nil}
-use Rattle.wc_text.proofs.CutLemmas.{cut_utf8}
 use Rattle.wc_text.specs.declared.names.LinkId.{LinkId}
 use Rattle.wc_outside.specs.Keyed.{at_key, put_at, IsPlace}
 use Rattle.wc_outside.proofs.KeyedLemmas.{at_key-key, at_key-put_same}
-use Rattle.wc_lines.specs.declared.line.Line.{Line}
-use Rattle.wc_lines.specs.LineText.{HasText}
-use Rattle.wc_lines.specs.Ring.{with_line}
 use Rattle.wc_relaycmd.specs.declared.request.Request.{Request}
 use Rattle.wc_relaycmd.specs.Answers.{request_of}
 use Rattle.wc_relaycmd.specs.Utf8.{HasUtf8}
@@ -25,14 +19,27 @@ use Rattle.wc_session.specs.Reply.{Answer, reply_of}
 use Rattle.wc_session.specs.Served.{OnServed, OnNoMemory, Answers}
 use Rattle.wc_core.specs.declared.seat.Seat.{Seat}
 use Rattle.wc_core.specs.Standing.{Standing}
-use Rattle.wc_core.specs.Typed.{Typed, Quits}
+use Rattle.wc_text.specs.declared.names.Handle.{Handle}
+use Rattle.wc_buffers.specs.Calls.{Groups}
+use Rattle.wc_model.specs.declared.change.Change.{Change}
+use Rattle.wc_model.specs.declared.change.What.TheVariants as what
+use Rattle.wc_model.specs.declared.notice.Notice.{Notice}
+use Rattle.wc_model.specs.declared.refused.ChangeRefused.{ChangeRefused}
+use Rattle.wc_model.specs.declared.refused.ChangeRefused.TheVariants as refused
+use Rattle.wc_model.specs.World.{World}
+use Rattle.wc_model.specs.Apply.{refusal, after}
+use Rattle.wc_model.specs.Notices.{Accepted, Outcome as ChangeOutcome}
+use Rattle.wc_core.specs.Typed.{Typed, Nothing, Quits, Refused, Prints, Adds, Closes, Merges, Names, Changes as TypedChanges}
+use Rattle.wc_core.specs.Resolved.{Resolved, Stays, Ends as ResolvedEnds, Tells, Asks, buffer_meant, of_meant, of_named, change_of, line_spec, resolved, refusal_text, told_refusal}
+use Rattle.wc_core.specs.Inputs.{Changes, TellsSome, MayTell}
 use Rattle.wc_core.specs.State.{Stepped}
-use Rattle.wc_core.specs.Step.{client_link, client_limit, sends, prints, prints_text, next_line, line_at, does, last_handle, leaves, lost, arrives, follows, answers, asked, line_came}
-use Rattle.wc_core.specs.Served.{seat_link, is_open, is_open_at, clients_of, state_of, unsent_on, leaving_on, Distinct, StaysOrStarves, MayDo, MayCome, Starves, told_seat, OutcomeUtf8}
+use Rattle.wc_core.specs.Step.{client_link, client_limit, sends, told_all, changes, changes_if, tells, asks_if, asks, does_resolved, does, is_quit, leaves, lost, arrives, follows, answers, asked, line_came}
+use Rattle.wc_core.specs.Served.{seat_link, is_open, is_open_at, clients_of, state_of, unsent_on, leaving_on, Distinct, StaysOrStarves, MayDo, MayCome, Starves, told_seat, SeatsServed, OutcomeUtf8}
 use Rattle.wc_core.proofs.CloseLemmas.{reply-later, lost-starves}
 use Rattle.wc_core.proofs.DidLemmas.{or_else-none, or-true, Did-stays, Keeps-refl, Keeps-trans, Keeps-seats, MayDo-exact, MayDo-stays, MayDo-starved, MayDo-then}
 use Rattle.wc_core.proofs.SeatLemmas.{SeatsKept, open-length, clients-push, links-push, unsent-push, leaving-push, kept-push, SeatsKept-causes, client-open, client-missing, client-leaving}
-use Rattle.wc_core.proofs.ServeLemmas.{open_none, Did-prints, Keeps-told, Keeps-put, Did-reply, Did-leave, leaving-put}
+use Rattle.wc_core.proofs.EventLemmas.{served_map, served_kept}
+use Rattle.wc_core.proofs.ServeLemmas.{open_none, told_to_all, Did-told, Keeps-told, Keeps-put, Did-reply, Did-leave, leaving-put}
 use Rattle.wc_core.proofs.ReplyLemmas.{reply_fits}
 
 -- ---- want of memory
@@ -44,47 +51,156 @@ starved_only old new s e rises = MayDo-starved old new s (record {
   count = ap (λ (c : Standing). c.starved) e;
 })
 
--- ---- lines
+-- ---- notices
 
-pub show-told : (old : Standing) (line : Line) (seats : List Seat) → seats ≡ map (told_seat line) old.seats → SeatsKept old.seats seats
-    → MayDo old (record old { seats = seats; lines = with_line old.lines line; next = old.next + 2 }) (prints (state_of old) line)
-show-told old line seats e kept =
-    MayDo-exact old (record old { seats = seats; lines = with_line old.lines line; next = old.next + 2 }) (prints (state_of old) line)
-    (Keeps-told old (record old { seats = seats; lines = with_line old.lines line; next = old.next + 2 }) kept (omega arith))
-    (λ distinct. rw e (Did-prints old line distinct))
+told-all : (old : Standing) (world : World) (n : Notice) (new : Standing) → new ≡ record old { world = world; seats = map (told_seat world n) old.seats } → MayDo old new (told_all (state_of old) world n)
+told-all old world n new e =
+    let P : Standing → Type 0 = λ c. MayDo old c (told_all (state_of old) world n) in
+    subst P (sym e)
+    (MayDo-exact old (told_to_all old world n) (told_all (state_of old) world n)
+    (Keeps-told old (told_to_all old world n) (served_kept world n old.seats (map (told_seat world n) old.seats) (served_map n.kind n.buffer.0 (told_seat world n) old.seats)) (omega arith))
+    (λ distinct. Did-told old world n distinct))
 
-pub show-refused : (old mid new : Standing) (line : Line) → SeatsKept old.seats mid.seats → mid.starved ≡ old.starved → new ≡ record mid { starved = min (mid.starved + 1) (2 ^ 64 - 1) } → mid.starved ≤ new.starved → MayDo old new (prints (state_of old) line)
-show-refused old mid new line kept same e rises =
-    let P : List Seat → Type 0 = λ seats. (j : ℕ) → StaysOrStarves (leaving_on j old.seats) (leaving_on j seats) in
-    let back : mid.seats ≡ new.seats = sym (ap (λ (c : Standing). c.seats) e) in
-    let causes = subst P back (λ j. SeatsKept-causes j old.seats mid.seats kept) in
-    MayDo-starved old new (prints (state_of old) line) (record {
-      keeps = Keeps-trans old mid new (Keeps-told old mid kept (omega (arith, same))) (Keeps-seats mid new (ap (λ (c : Standing). c.seats) e) rises);
-      causes = λ distinct j. causes j;
-      count = ap (λ (c : Standing). c.starved) e ∙ ap (λ n. min (n + 1) (2 ^ 64 - 1)) same;
+told-some : (old : Standing) (world : World) (n : Notice) (new : Standing) → TellsSome (record old { world = world }) new n → Starves old new
+told-some old world n new tells =
+    let kept : SeatsKept old.seats new.seats = served_kept world n old.seats new.seats tells.served in
+    let count : new.starved ≡ min (old.starved + 1) (2 ^ 64 - 1) = ap (λ (c : Standing). c.starved) tells.counts in
+    record {
+      keeps = Keeps-told old new kept tells.rises;
+      causes = λ distinct j. SeatsKept-causes j old.seats new.seats kept;
+      count = count;
+    }
+
+pub tell-told : (old : Standing) (n : Notice) (seats : List Seat) → seats ≡ map (told_seat old.world n) old.seats → MayTell old (record old { seats = seats }) n
+tell-told old n seats e = inl (ap (λ (seats : List Seat). record old { seats = seats }) e)
+
+pub tell-some : (old mid new : Standing) (n : Notice) → mid ≡ record old { seats = mid.seats } → SeatsServed n.kind n.buffer.0 (told_seat old.world n) old.seats mid.seats
+    → new ≡ record mid { starved = min (mid.starved + 1) (2 ^ 64 - 1) } → mid.starved ≤ new.starved → MayTell old new n
+tell-some old mid new n e served counts rises =
+    let same : mid.starved ≡ old.starved = ap (λ (c : Standing). c.starved) e in
+    let seats : mid.seats ≡ new.seats = sym (ap (λ (c : Standing). c.seats) counts) in
+    let P : List Seat → Type 0 = λ seats. SeatsServed n.kind n.buffer.0 (told_seat old.world n) old.seats seats in
+    inr (record {
+      served = subst P seats served;
+      rises = omega (arith, same, rises);
+      counts = counts ∙ ap (λ (c : Standing). record c { starved = min (c.starved + 1) (2 ^ 64 - 1) }) e ∙ ap (λ (seats : List Seat). record old { seats = seats; starved = min (old.starved + 1) (2 ^ 64 - 1) }) seats;
     })
 
-pub print-spent : (old : Standing) (prefix message : List ℕ) → 2 ^ 62 ≤ old.next → MayDo old old (prints_text (state_of old) prefix message)
-print-spent old prefix message spent =
-    let test : nat_lt old.next last_handle ≡ false = grind (arith, nat_tests) in
-    rw test (MayDo-stays old)
+-- a change that was made, of which this was noticed
+pub changes-told : (old mid new : Standing) (change : Change) (n : Notice) → mid ≡ record old { world = mid.world } → Accepted old.world change mid.world n → MayTell mid new n → Changes old change new
+changes-told old mid new change n e accepted tells =
+    let P : Standing → Type 0 = λ c. MayTell c new n in
+    by (subst P e tells)
+  where
+    made : MayDo old new (told_all (state_of old) mid.world n) → MayDo old new (changes (state_of old) change)
+    made done =
+        let P : World → Type 0 = λ w. MayDo old new (told_all (state_of old) w n) in
+        let Q : Notice → Type 0 = λ n. MayDo old new (told_all (state_of old) (after old.world change) n) in
+        subst Q accepted.notice (subst P accepted.after done)
 
-pub print-shown : (old new : Standing) (line : Line) (prefix message : List ℕ) → old.next < 2 ^ 62 → line ≡ next_line (state_of old) prefix message → MayDo old new (prints (state_of old) line)
-    → MayDo old new (prints_text (state_of old) prefix message)
-print-shown old new line prefix message left e done =
-    let test : nat_lt old.next last_handle ≡ true = grind (arith, nat_tests) in
-    let P : Line → Type 0 = λ line. MayDo old new (prints (state_of old) line) in
-    rw test (subst P e done)
+    by : MayTell (record old { world = mid.world }) new n → Changes old change new
+    by (inl told) = inl (accepted.accepted, made (told-all old mid.world n new told))
+    by (inr some) = inr (told-some old mid.world n new some)
 
-pub line_text : (handle moment : ℕ) (prefix message : List ℕ) (line : Line) → line ≡ line_at handle moment prefix message → HasText line
-line_text handle moment prefix message line e = subst HasText (sym e) (record { tags = All-nil IsUtf8; prefix = cut_utf8 prefix 128; message = cut_utf8 message 1024 })
+-- want of memory alone
+pub starves-only : (old new : Standing) → new ≡ record old { starved = min (old.starved + 1) (2 ^ 64 - 1) } → old.starved ≤ new.starved → Starves old new
+starves-only old new e rises = record {
+  keeps = Keeps-seats old new (ap (λ (c : Standing). c.seats) e) rises;
+  causes = λ distinct j. inl (ap (λ (c : Standing). leaving_on j c.seats) e);
+  count = ap (λ (c : Standing). c.starved) e;
+}
 
-pub quit_typed : (old : Standing) (typed : Typed) → Quits ≡ typed → MayDo old (record old { quits = true }) (does (state_of old) typed)
-quit_typed old typed e =
+-- a refusal, but for want of memory
+pub outcome-refused : (before : World) (change : Change) (behind : World) (reason : ChangeRefused) → (reason ≡ refused.NoMemory → ⊥) → ChangeOutcome before change behind (Err reason) → (behind ≡ before) × (refusal before change ≡ Some reason)
+outcome-refused before change behind (refused.Buffer r) some e = e
+outcome-refused before change behind (refused.NoLine h) some e = e
+outcome-refused before change behind refused.Spent some e = e
+outcome-refused before change behind refused.NoMemory some e = absurd (some refl)
+
+-- ---- changes and refusals
+
+pub asks-made : (old new : Standing) (change : Change) → Changes old change new → MayDo old new (asks (state_of old) change)
+asks-made old new change (inl made) =
+    let P : Option ChangeRefused → Type 0 = λ o. MayDo old new (asks_if (state_of old) change o) in
+    subst P (sym made.0) made.1
+asks-made old new change (inr starves) = MayDo-starved old new (asks (state_of old) change) starves
+
+pub asks-told : (old new : Standing) (change : Change) (reason : ChangeRefused) (text : List ℕ) → refusal old.world change ≡ Some reason → text ≡ refusal_text reason → MayDo old new (tells (state_of old) text) → MayDo old new (asks (state_of old) change)
+asks-told old new change reason text refuses e done =
+    let P : Option ChangeRefused → Type 0 = λ o. MayDo old new (asks_if (state_of old) change o) in
+    let Q : List ℕ → Type 0 = λ t. MayDo old new (tells (state_of old) t) in
+    subst P (sym refuses) (subst Q e done)
+
+abbrev refusal_line : Standing → List ℕ → Change
+refusal_line old text = told_refusal old.moment text
+
+tells-by : (old new : Standing) (text : List ℕ) (o : Option ChangeRefused) → refusal old.world (refusal_line old text) ≡ o → MayDo old new (changes_if (state_of old) (refusal_line old text) o) → MayDo old new (tells (state_of old) text)
+tells-by old new text o e done =
+    let P : Option ChangeRefused → Type 0 = λ o. MayDo old new (changes_if (state_of old) (refusal_line old text) o) in
+    subst P (sym e) done
+
+pub tells-made : (old new : Standing) (text : List ℕ) → Changes old (told_refusal old.moment text) new → MayDo old new (tells (state_of old) text)
+tells-made old new text (inl made) = tells-by old new text None made.0 made.1
+tells-made old new text (inr starves) = MayDo-starved old new (tells (state_of old) text) starves
+
+pub tells-skipped : (old new : Standing) (text : List ℕ) (reason : ChangeRefused) → new ≡ old → refusal old.world (told_refusal old.moment text) ≡ Some reason → MayDo old new (tells (state_of old) text)
+tells-skipped old new text reason e refuses =
+    let P : Standing → Type 0 = λ c. MayDo old c (tells (state_of old) text) in
+    subst P (sym e) (tells-by old old text (Some reason) refuses (MayDo-stays old))
+
+pub tells-changed : (old new : Standing) (text : List ℕ) (line : Change) (o : Option ChangeRefused) → line ≡ told_refusal old.moment text → (o ≡ None → Changes old line new)
+    → IfSome o (λ reason. (new ≡ old) × (refusal old.world line ≡ Some reason)) → MayDo old new (tells (state_of old) text)
+tells-changed old new text line None e made refuses = let P : Change → Type 0 = λ line. Changes old line new in tells-made old new text (subst P e (made refl))
+tells-changed old new text line (Some reason) e made refuses =
+    let P : Change → Type 0 = λ line. refusal old.world line ≡ Some reason in
+    tells-skipped old new text reason refuses.0 (subst P e refuses.1)
+
+-- numbers that a test tells apart
+pub not_same : (m n : ℕ) → not (nat_eq m n) ≡ true → m ≢ n
+not_same m n e same = by (nat_eq m n) refl e where
+  by : (t : Bool) → nat_eq m n ≡ t → not t ≡ true → ⊥
+  by true q e = false≢true e
+  by false q e = let ne : m ≢ n = grind (arith, nat_tests) in ne same
+
+-- what was resolved is done
+pub does-resolved : (old new : Standing) (buffer : Handle) (typed : Typed) (r : Resolved) → r ≡ resolved old.world old.moment buffer typed → MayDo old new (does_resolved (state_of old) r) → MayDo old new (does (state_of old) buffer typed)
+does-resolved old new buffer typed r e done = let P : Resolved → Type 0 = λ r. MayDo old new (does_resolved (state_of old) r) in subst P e done
+
+pub quits-done : (old : Standing) → MayDo old (record old { quits = true }) (does_resolved (state_of old) ResolvedEnds)
+quits-done old =
     let new : Standing = record old { quits = true } in
-    let P : Typed → Type 0 = λ t. MayDo old new (does (state_of old) t) in
-    subst P e (MayDo-exact old new (does (state_of old) Quits) (Keeps-seats old new refl (omega arith))
-    (λ distinct. record { state = refl; bytes = λ j. sym (append-nil (unsent_on j old.seats)); leaving = λ j. sym (or_else-none (leaving_on j old.seats)); quits = sym (or-true old.quits) }))
+    MayDo-exact old new (does_resolved (state_of old) ResolvedEnds) (Keeps-seats old new refl (omega arith))
+    (λ distinct. record { state = refl; bytes = λ j. sym (append-nil (unsent_on j old.seats)); leaving = λ j. sym (or_else-none (leaving_on j old.seats)); quits = sym (or-true old.quits) })
+
+-- whether the run is to end
+abbrev quit_of : Resolved → Bool
+quit_of Stays = false
+quit_of ResolvedEnds = true
+quit_of (Tells text) = false
+quit_of (Asks change) = false
+
+quit_of-meant : (change : Handle → Change) (o : Option Handle) → quit_of (of_meant change o) ≡ false
+quit_of-meant change None = refl
+quit_of-meant change (Some buffer) = refl
+
+quit_of-named : (groups : Groups) (buffer : Handle) (change : Handle → Change) (o : Option (List ℕ)) → quit_of (of_named groups buffer change o) ≡ false
+quit_of-named groups buffer change None = refl
+quit_of-named groups buffer change (Some word) = quit_of-meant change (buffer_meant groups word)
+
+quit_of-resolved : (world : World) (moment : ℕ) (buffer : Handle) (typed : Typed) → quit_of (resolved world moment buffer typed) ≡ is_quit typed
+unfolding resolved
+quit_of-resolved world moment buffer Nothing = refl
+quit_of-resolved world moment buffer Quits = refl
+quit_of-resolved world moment buffer (Refused text) = refl
+quit_of-resolved world moment buffer (Prints name tags prefix message) = quit_of-named world.groups buffer (λ b. change_of b (what.Print (line_spec moment tags prefix message))) name
+quit_of-resolved world moment buffer (Adds name) = refl
+quit_of-resolved world moment buffer (Closes name) = quit_of-named world.groups buffer (λ b. change_of b what.Close) name
+quit_of-resolved world moment buffer (Merges name) = quit_of-meant (λ into. change_of buffer (what.MergeInto into)) (buffer_meant world.groups name)
+quit_of-resolved world moment buffer (Names name) = refl
+quit_of-resolved world moment buffer (TypedChanges w) = refl
+
+pub quits-by : (world : World) (moment : ℕ) (buffer : Handle) (typed : Typed) (r : Resolved) (b : Bool) → r ≡ resolved world moment buffer typed → quit_of r ≡ b → b ≡ is_quit typed
+quits-by world moment buffer typed r b e q = sym q ∙ ap quit_of e ∙ quit_of-resolved world moment buffer typed
 
 -- ---- the seat of a link
 
@@ -195,13 +311,13 @@ ask-answer old new k s session' answer result at sits same answered done =
 
 -- a request of an open client, whose answer was followed
 pub ask-served : (old new : Standing) (k : ℕ) (s : Seat) (session' : Known) (request : Request) (result : Outcome) → at_key seat_link k old.seats ≡ Some s → is_open s ≡ true → HasUtf8 request
-    → OnServed result (Answers s.session session' result (reply_of old.lines.lines old.password s.session.client request)) → OnNoMemory result (session' ≡ s.session)
+    → OnServed result (Answers s.session session' result (reply_of old.world old.password s.session.client request)) → OnNoMemory result (session' ≡ s.session)
     → OnServed result (MayDo (replied old k session') new (follows (state_of (replied old k session')) k result)) → OnNoMemory result (Starves (replied old k session') new)
     → MayDo old new (asked (state_of old) s.session.client (Some request))
-ask-served old new k s session' request outcome.Replied at sits utf8 answered same done starved = ask-answer old new k s session' (reply_of old.lines.lines old.password s.session.client request) outcome.Replied at sits (reply_fits old.lines.lines old.password s.session.client request utf8).link answered done
-ask-served old new k s session' request outcome.Silent at sits utf8 answered same done starved = ask-answer old new k s session' (reply_of old.lines.lines old.password s.session.client request) outcome.Silent at sits (reply_fits old.lines.lines old.password s.session.client request utf8).link answered done
-ask-served old new k s session' request (outcome.Input buffer text) at sits utf8 answered same done starved = ask-answer old new k s session' (reply_of old.lines.lines old.password s.session.client request) (outcome.Input buffer text) at sits (reply_fits old.lines.lines old.password s.session.client request utf8).link answered done
-ask-served old new k s session' request (outcome.Leave why) at sits utf8 answered same done starved = ask-answer old new k s session' (reply_of old.lines.lines old.password s.session.client request) (outcome.Leave why) at sits (reply_fits old.lines.lines old.password s.session.client request utf8).link answered done
+ask-served old new k s session' request outcome.Replied at sits utf8 answered same done starved = ask-answer old new k s session' (reply_of old.world old.password s.session.client request) outcome.Replied at sits (reply_fits old.world old.password s.session.client request utf8).link answered done
+ask-served old new k s session' request outcome.Silent at sits utf8 answered same done starved = ask-answer old new k s session' (reply_of old.world old.password s.session.client request) outcome.Silent at sits (reply_fits old.world old.password s.session.client request utf8).link answered done
+ask-served old new k s session' request (outcome.Input buffer text) at sits utf8 answered same done starved = ask-answer old new k s session' (reply_of old.world old.password s.session.client request) (outcome.Input buffer text) at sits (reply_fits old.world old.password s.session.client request utf8).link answered done
+ask-served old new k s session' request (outcome.Leave why) at sits utf8 answered same done starved = ask-answer old new k s session' (reply_of old.world old.password s.session.client request) (outcome.Leave why) at sits (reply_fits old.world old.password s.session.client request utf8).link answered done
 ask-served old new k s session' request outcome.NoMemory at sits utf8 answered same done starved =
     let key : client_link session'.client ≡ k = ap (λ (known : Known). client_link known.client) same ∙ at_key-key seat_link k old.seats s at in
     let mid = replied old k session' in
@@ -215,34 +331,34 @@ ask-served old new k s session' request outcome.NoMemory at sits utf8 answered s
     })
 
 -- the text that a request types is text
-pub outcome-text : (lines : List Line) (password : List ℕ) (client : Client) (request : Request) (old new : Known) (result : Outcome) → HasUtf8 request
-    → OnServed result (Answers old new result (reply_of lines password client request)) → OutcomeUtf8 result
-outcome-text lines password client request old new outcome.Replied utf8 answered = tt
-outcome-text lines password client request old new outcome.Silent utf8 answered = tt
-outcome-text lines password client request old new (outcome.Input buffer text) utf8 answered = subst OutcomeUtf8 (sym answered.outcome) (reply_fits lines password client request utf8).text
-outcome-text lines password client request old new (outcome.Leave why) utf8 answered = tt
-outcome-text lines password client request old new outcome.NoMemory utf8 answered = tt
+pub outcome-text : (world : World) (password : List ℕ) (client : Client) (request : Request) (old new : Known) (result : Outcome) → HasUtf8 request
+    → OnServed result (Answers old new result (reply_of world password client request)) → OutcomeUtf8 result
+outcome-text world password client request old new outcome.Replied utf8 answered = tt
+outcome-text world password client request old new outcome.Silent utf8 answered = tt
+outcome-text world password client request old new (outcome.Input buffer text) utf8 answered = subst OutcomeUtf8 (sym answered.outcome) (reply_fits world password client request utf8).text
+outcome-text world password client request old new (outcome.Leave why) utf8 answered = tt
+outcome-text world password client request old new outcome.NoMemory utf8 answered = tt
 
-link_same : (lines : List Line) (password : List ℕ) (request : Request) (old new : Known) (result : Outcome) → HasUtf8 request → OnServed result (Answers old new result (reply_of lines password old.client request)) → OnNoMemory result (new ≡ old)
+link_same : (world : World) (password : List ℕ) (request : Request) (old new : Known) (result : Outcome) → HasUtf8 request → OnServed result (Answers old new result (reply_of world password old.client request)) → OnNoMemory result (new ≡ old)
     → client_link new.client ≡ client_link old.client
-link_same lines password request old new outcome.Replied utf8 answered same = ap (λ (c : Client). client_link c) answered.client ∙ ap (λ (l : LinkId). l.0) (reply_fits lines password old.client request utf8).link
-link_same lines password request old new outcome.Silent utf8 answered same = ap (λ (c : Client). client_link c) answered.client ∙ ap (λ (l : LinkId). l.0) (reply_fits lines password old.client request utf8).link
-link_same lines password request old new (outcome.Input buffer text) utf8 answered same = ap (λ (c : Client). client_link c) answered.client ∙ ap (λ (l : LinkId). l.0) (reply_fits lines password old.client request utf8).link
-link_same lines password request old new (outcome.Leave why) utf8 answered same = ap (λ (c : Client). client_link c) answered.client ∙ ap (λ (l : LinkId). l.0) (reply_fits lines password old.client request utf8).link
-link_same lines password request old new outcome.NoMemory utf8 answered same = ap (λ (k : Known). client_link k.client) same
+link_same world password request old new outcome.Replied utf8 answered same = ap (λ (c : Client). client_link c) answered.client ∙ ap (λ (l : LinkId). l.0) (reply_fits world password old.client request utf8).link
+link_same world password request old new outcome.Silent utf8 answered same = ap (λ (c : Client). client_link c) answered.client ∙ ap (λ (l : LinkId). l.0) (reply_fits world password old.client request utf8).link
+link_same world password request old new (outcome.Input buffer text) utf8 answered same = ap (λ (c : Client). client_link c) answered.client ∙ ap (λ (l : LinkId). l.0) (reply_fits world password old.client request utf8).link
+link_same world password request old new (outcome.Leave why) utf8 answered same = ap (λ (c : Client). client_link c) answered.client ∙ ap (λ (l : LinkId). l.0) (reply_fits world password old.client request utf8).link
+link_same world password request old new outcome.NoMemory utf8 answered same = ap (λ (k : Known). client_link k.client) same
 
 -- the client stays open behind its reply
-pub ask-opened : (link : LinkId) (seats : List Seat) (place : ℕ) (s : Seat) (session' : Known) (lines : List Line) (password : List ℕ) (request : Request) (result : Outcome) → IsPlace seat_link link.0 seats place → s ≡ get_or seats place s
-    → is_open_at (at_key seat_link link.0 seats) ≡ true → HasUtf8 request → OnServed result (Answers s.session session' result (reply_of lines password s.session.client request)) → OnNoMemory result (session' ≡ s.session)
+pub ask-opened : (link : LinkId) (seats : List Seat) (place : ℕ) (s : Seat) (session' : Known) (world : World) (password : List ℕ) (request : Request) (result : Outcome) → IsPlace seat_link link.0 seats place → s ≡ get_or seats place s
+    → is_open_at (at_key seat_link link.0 seats) ≡ true → HasUtf8 request → OnServed result (Answers s.session session' result (reply_of world password s.session.client request)) → OnNoMemory result (session' ≡ s.session)
     → is_open_at (at_key seat_link link.0 (set seats place (record { session = session'; leaving = s.leaving }))) ≡ true
-ask-opened link seats place s session' lines password request result p e opened utf8 answered same =
+ask-opened link seats place s session' world password request result p e opened utf8 answered same =
     let at = seat-at link seats place s p e in
     let y : Seat = record { session = session'; leaving = s.leaving } in
-    let key : seat_link y ≡ link.0 = link_same lines password request s.session session' result utf8 answered same ∙ at_key-key seat_link link.0 seats s at in
+    let key : seat_link y ≡ link.0 = link_same world password request s.session session' result utf8 answered same ∙ at_key-key seat_link link.0 seats s at in
     ap (λ ss. is_open_at (at_key seat_link link.0 ss)) (p.put y) ∙ ap is_open_at (at_key-put_same seat_link link.0 s y seats key at) ∙ open_of (at_key seat_link link.0 seats) s at opened
 
 pub ask-at : (old new : Standing) (link : LinkId) (place : ℕ) (s : Seat) (session' : Known) (request : Request) (result : Outcome) → IsPlace seat_link link.0 old.seats place → s ≡ get_or old.seats place s
-    → is_open_at (at_key seat_link link.0 old.seats) ≡ true → HasUtf8 request → OnServed result (Answers s.session session' result (reply_of old.lines.lines old.password s.session.client request)) → OnNoMemory result (session' ≡ s.session)
+    → is_open_at (at_key seat_link link.0 old.seats) ≡ true → HasUtf8 request → OnServed result (Answers s.session session' result (reply_of old.world old.password s.session.client request)) → OnNoMemory result (session' ≡ s.session)
     → OnServed result (MayDo (record old { seats = set old.seats place (record { session = session'; leaving = s.leaving }) }) new (follows (state_of (record old { seats = set old.seats place (record { session = session'; leaving = s.leaving }) })) link.0 result))
     → OnNoMemory result (Starves (record old { seats = set old.seats place (record { session = session'; leaving = s.leaving }) }) new)
     → IfSome (at_key seat_link link.0 old.seats) (λ seat. MayDo old new (asked (state_of old) seat.session.client (Some request)))

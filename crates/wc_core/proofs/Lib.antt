@@ -1,4 +1,7 @@
+pub mod TypedWords
 pub mod TypedLemmas
+pub mod ResolvedWords
+pub mod ResolvedTexts
 pub mod DidLemmas
 pub mod SeatLemmas
 pub mod EventLemmas

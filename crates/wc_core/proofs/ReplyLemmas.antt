@@ -1,10 +1,12 @@
 -- A request leaves its client on its link, and what it types is text.
-use Rattle.std.proofs.Common.{◌≡◌, ℕ, Bool, true, false, cond, not, ◌&&◌, ◌||◌, List, [], ◌∷◌, Option, refl}
+use Rattle.std.proofs.Common.{◌≡◌, ℕ, Bool, true, false, cond, not, ◌&&◌, ◌||◌, List, [], ◌∷◌, Option, Some, None, refl}
 use Rattle.std.specs.Option.{is_none}
 use Rattle.std.specs.Str.{IsUtf8}
 use Rattle.wc_text.specs.declared.names.Pair.{Pair}
 use Rattle.wc_text.specs.declared.names.Cause.TheVariants as cause
-use Rattle.wc_lines.specs.declared.line.Line.{Line}
+use Rattle.wc_text.specs.declared.names.Handle.{Handle}
+use Rattle.wc_buffers.specs.Calls.{Groups}
+use Rattle.wc_model.specs.World.{World}
 use Rattle.wc_relaycmd.specs.declared.request.Command.{Command}
 use Rattle.wc_relaycmd.specs.declared.request.Command.TheVariants as ask
 use Rattle.wc_relaycmd.specs.declared.request.Request.{Request}
@@ -14,9 +16,9 @@ use Rattle.wc_session.specs.declared.client.Client.{Client}
 use Rattle.wc_session.specs.declared.outcome.Outcome.TheVariants as outcome
 use Rattle.wc_session.specs.Handshakes.{choice_in, asks_escapes}
 use Rattle.wc_session.specs.Logins.{pairs_let_in}
-use Rattle.wc_session.specs.Names.{names_core}
+use Rattle.wc_session.specs.Names.{buffer_named}
 use Rattle.wc_session.specs.Sync.{synchronized, desynchronized}
-use Rattle.wc_session.specs.Reply.{Answer, silent, leaves, replies, core_buffer, shaken, handshake_reply, handshake_answer, init_answer, input_answer, is_open, served, reply_of}
+use Rattle.wc_session.specs.Reply.{Answer, silent, leaves, replies, shaken, handshake_reply, handshake_answer, init_answer, typed_into, input_answer, is_open, served, reply_of}
 use Rattle.wc_core.specs.Served.{OutcomeUtf8}
 
 pub record Fits (client : Client) (answer : Answer) : Type 0 where
@@ -58,36 +60,39 @@ init_fits password client pairs =
     (silent_fits client client refl)
     (if_fits client (pairs_let_in pairs password client.nonce client.chosen) (silent let_in) (leaves client cause.LoginFailed) (silent_fits client let_in refl) (record { link = refl; text = tt }))
 
-input_fits : (client : Client) (buffer text : List ℕ) → IsUtf8 text → Fits client (input_answer client buffer text)
-input_fits client buffer text utf8 =
-    if_fits client (names_core buffer) (record { messages = []; outcome = outcome.Input core_buffer text; client = client }) (silent client) (record { link = refl; text = utf8 }) (silent_fits client client refl)
+typed_fits : (client : Client) (text : List ℕ) (buffer : Option Handle) → IsUtf8 text → Fits client (typed_into client text buffer)
+typed_fits client text None utf8 = silent_fits client client refl
+typed_fits client text (Some buffer) utf8 = record { link = refl; text = utf8 }
 
-synchronized_link : (client : Client) (buffers : List (List ℕ)) (options : Option (List (List ℕ))) → (synchronized client buffers options).link ≡ client.link
+input_fits : (groups : Groups) (client : Client) (buffer text : List ℕ) → IsUtf8 text → Fits client (input_answer groups client buffer text)
+input_fits groups client buffer text utf8 = typed_fits client text (buffer_named groups buffer) utf8
+
+synchronized_link : (groups : Groups) (client : Client) (buffers : List (List ℕ)) (options : Option (List (List ℕ))) → (synchronized groups client buffers options).link ≡ client.link
 unfolding synchronized
-synchronized_link client buffers options = refl
+synchronized_link groups client buffers options = refl
 
-desynchronized_link : (client : Client) (buffers : List (List ℕ)) (options : Option (List (List ℕ))) → (desynchronized client buffers options).link ≡ client.link
+desynchronized_link : (groups : Groups) (client : Client) (buffers : List (List ℕ)) (options : Option (List (List ℕ))) → (desynchronized groups client buffers options).link ≡ client.link
 unfolding desynchronized
-desynchronized_link client buffers options = refl
+desynchronized_link groups client buffers options = refl
 
-served_fits : (lines : List Line) (password : List ℕ) (client : Client) (id : List ℕ) (command : Command) → CommandUtf8 command → Fits client (served lines password client id command)
+served_fits : (world : World) (password : List ℕ) (client : Client) (id : List ℕ) (command : Command) → CommandUtf8 command → Fits client (served world password client id command)
 unfolding served CommandUtf8
-served_fits lines password client id (ask.Handshake pairs) utf8 = handshake_fits client id pairs
-served_fits lines password client id (ask.Init pairs) utf8 = init_fits password client pairs
-served_fits lines password client id (ask.Hdata path keys) utf8 = replies_fits client client _ refl
-served_fits lines password client id (ask.Info name) utf8 = replies_fits client client _ refl
-served_fits lines password client id (ask.Infolist name) utf8 = replies_fits client client _ refl
-served_fits lines password client id (ask.Nicklist buffer) utf8 = replies_fits client client _ refl
-served_fits lines password client id (ask.Input buffer text) utf8 = input_fits client buffer text utf8.1
-served_fits lines password client id (ask.Completion buffer position text) utf8 = replies_fits client client _ refl
-served_fits lines password client id (ask.Sync buffers options) utf8 = silent_fits client (synchronized client buffers options) (synchronized_link client buffers options)
-served_fits lines password client id (ask.Desync buffers options) utf8 = silent_fits client (desynchronized client buffers options) (desynchronized_link client buffers options)
-served_fits lines password client id ask.Test utf8 = replies_fits client client _ refl
-served_fits lines password client id (ask.Ping text) utf8 = replies_fits client client _ refl
-served_fits lines password client id ask.Quit utf8 = record { link = refl; text = tt }
+served_fits world password client id (ask.Handshake pairs) utf8 = handshake_fits client id pairs
+served_fits world password client id (ask.Init pairs) utf8 = init_fits password client pairs
+served_fits world password client id (ask.Hdata path keys) utf8 = replies_fits client client _ refl
+served_fits world password client id (ask.Info name) utf8 = replies_fits client client _ refl
+served_fits world password client id (ask.Infolist name) utf8 = replies_fits client client _ refl
+served_fits world password client id (ask.Nicklist buffer) utf8 = replies_fits client client _ refl
+served_fits world password client id (ask.Input buffer text) utf8 = input_fits world.groups client buffer text utf8.1
+served_fits world password client id (ask.Completion buffer position text) utf8 = replies_fits client client _ refl
+served_fits world password client id (ask.Sync buffers options) utf8 = silent_fits client (synchronized world.groups client buffers options) (synchronized_link world.groups client buffers options)
+served_fits world password client id (ask.Desync buffers options) utf8 = silent_fits client (desynchronized world.groups client buffers options) (desynchronized_link world.groups client buffers options)
+served_fits world password client id ask.Test utf8 = replies_fits client client _ refl
+served_fits world password client id (ask.Ping text) utf8 = replies_fits client client _ refl
+served_fits world password client id ask.Quit utf8 = record { link = refl; text = tt }
 
-pub reply_fits : (lines : List Line) (password : List ℕ) (client : Client) (request : Request) → HasUtf8 request → Fits client (reply_of lines password client request)
+pub reply_fits : (world : World) (password : List ℕ) (client : Client) (request : Request) → HasUtf8 request → Fits client (reply_of world password client request)
 unfolding reply_of
-reply_fits lines password client request utf8 =
-    if_fits client (client.logged_in || is_open request.command) (served lines password client request.id request.command) (leaves client cause.LoginFailed)
-    (served_fits lines password client request.id request.command utf8.command) (record { link = refl; text = tt })
+reply_fits world password client request utf8 =
+    if_fits client (client.logged_in || is_open request.command) (served world password client request.id request.command) (leaves client cause.LoginFailed)
+    (served_fits world password client request.id request.command utf8.command) (record { link = refl; text = tt })

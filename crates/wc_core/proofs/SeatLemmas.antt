@@ -9,17 +9,19 @@ use Rattle.std.proofs.lemmas.Bool.{false≢true}
 use Rattle.std.proofs.lemmas.Bool.Decides.{nat_tests}
 use Rattle.wc_text.specs.declared.names.Cause.{Cause}
 use Rattle.wc_outside.specs.Keyed.{at_key, put_at, without}
-use Rattle.wc_lines.specs.declared.line.Line.{Line}
 use Rattle.wc_objects.specs.declared.object.WireMessage.{WireMessage}
 use Rattle.wc_session.specs.declared.client.Client.{Client}
 use Rattle.wc_session.specs.Known.{Known}
-use Rattle.wc_session.specs.Reply.{line_told}
-use Rattle.wc_session.specs.Sync.{follows_core}
+use Rattle.wc_model.specs.declared.notice.EventKind.{EventKind}
+use Rattle.wc_model.specs.declared.notice.Notice.{Notice}
+use Rattle.wc_model.specs.World.{World}
+use Rattle.wc_session.specs.Event.{Spelled, notice_told}
+use Rattle.wc_session.specs.Sync.{heard}
 use Rattle.wc_session.specs.Sending.{spelling}
 use Rattle.wc_core.specs.declared.seat.Seat.{Seat}
 use Rattle.wc_core.specs.State.{Act}
 use Rattle.wc_core.specs.Step.{client_link, sends, told_to}
-use Rattle.wc_core.specs.Served.{seat_link, is_open, StaysOrStarves, listens, heard_seat, clients_of, unsent_in, unsent_on, leaving_in, leaving_on, sent_to, close_of, has_end, Absent, Distinct, starved_seat, told_seat, SeatServed, SeatsServed}
+use Rattle.wc_core.specs.Served.{seat_link, is_open, StaysOrStarves, heard_seat, clients_of, unsent_in, unsent_on, leaving_in, leaving_on, sent_to, close_of, has_end, Absent, Distinct, starved_seat, told_seat, SeatServed, SeatsServed}
 use Rattle.wc_core.proofs.DidLemmas.{sent_to-append, close_of-append, has_end-append}
 
 -- ---- messages for one client
@@ -47,20 +49,20 @@ pub end-sends : (k : ℕ) (messages : List WireMessage) → has_end (sends k mes
 end-sends k [] = refl
 end-sends k (m ∷ messages) = end-sends k messages
 
--- ---- a line that is told to all
+-- ---- a notice that is told to all
 
-abbrev told_acts : Line → List Seat → List Act
-told_acts line seats = flat_map (told_to line) (clients_of seats)
+abbrev told_acts : World → Notice → List Seat → List Act
+told_acts w n seats = flat_map (told_to w n) (clients_of seats)
 
-pub close-told : (j : ℕ) (line : Line) (clients : List Client) → close_of j (flat_map (told_to line) clients) ≡ None
-close-told j line [] = refl
-close-told j line (client ∷ clients) =
-    close_of-append j (told_to line client) (flat_map (told_to line) clients) ∙ rw (close-sends j (client_link client) (line_told client line)) (close-told j line clients)
+pub close-told : (j : ℕ) (w : World) (n : Notice) (clients : List Client) → close_of j (flat_map (told_to w n) clients) ≡ None
+close-told j w n [] = refl
+close-told j w n (client ∷ clients) =
+    close_of-append j (told_to w n client) (flat_map (told_to w n) clients) ∙ rw (close-sends j (client_link client) (notice_told w n client)) (close-told j w n clients)
 
-pub end-told : (line : Line) (clients : List Client) → has_end (flat_map (told_to line) clients) ≡ false
-end-told line [] = refl
-end-told line (client ∷ clients) =
-    has_end-append (told_to line client) (flat_map (told_to line) clients) ∙ rw (end-sends (client_link client) (line_told client line)) (end-told line clients)
+pub end-told : (w : World) (n : Notice) (clients : List Client) → has_end (flat_map (told_to w n) clients) ≡ false
+end-told w n [] = refl
+end-told w n (client ∷ clients) =
+    has_end-append (told_to w n client) (flat_map (told_to w n) clients) ∙ rw (end-sends (client_link client) (notice_told w n client)) (end-told w n clients)
 
 other_link : (n j : ℕ) → (n ≡ j → ⊥) → eqb n j ≡ false
 other_link n j ne = by (eqb n j) refl where
@@ -68,64 +70,72 @@ other_link n j ne = by (eqb n j) refl where
   by true e = let same : n ≡ j = grind (arith, nat_tests) in absurd (ne same)
   by false e = refl
 
--- a seat that was told a line
-abbrev heard : Line → Seat → Seat
-heard line seat = record seat { session = record seat.session { unsent = seat.session.unsent ++ flat_map (λ m. spelling m) (line_told seat.session.client line) } }
+-- an open seat that was told a notice
+abbrev told_open : World → Notice → Seat → Seat
+told_open w n seat = record seat {
+  session = record {
+    client = heard n.kind n.buffer.0 seat.session.client;
+    unsent = seat.session.unsent ++ flat_map (λ m. spelling m) (notice_told w n seat.session.client);
+  };
+}
 
-abbrev told_text : Line → Seat → List ℕ
-told_text line seat = flat_map (λ m. spelling m) (line_told seat.session.client line)
+abbrev told_text : World → Notice → Seat → List ℕ
+told_text w n seat = flat_map (λ m. spelling m) (notice_told w n seat.session.client)
 
-acts_more : (j : ℕ) (line : Line) (seat : Seat) (clients : List Client)
-    → sent_to j (flat_map (told_to line) (seat.session.client ∷ clients)) ≡ cond (eqb (seat_link seat) j) (told_text line seat) no_bytes ++ sent_to j (flat_map (told_to line) clients)
-acts_more j line seat clients =
-    sent_to-append j (told_to line seat.session.client) (flat_map (told_to line) clients)
-    ∙ ap (λ t. t ++ sent_to j (flat_map (told_to line) clients)) (sent-sends j (seat_link seat) (line_told seat.session.client line))
+acts_more : (j : ℕ) (w : World) (n : Notice) (seat : Seat) (clients : List Client)
+    → sent_to j (flat_map (told_to w n) (seat.session.client ∷ clients)) ≡ cond (eqb (seat_link seat) j) (told_text w n seat) no_bytes ++ sent_to j (flat_map (told_to w n) clients)
+acts_more j w n seat clients =
+    sent_to-append j (told_to w n seat.session.client) (flat_map (told_to w n) clients)
+    ∙ ap (λ t. t ++ sent_to j (flat_map (told_to w n) clients)) (sent-sends j (seat_link seat) (notice_told w n seat.session.client))
 
 -- a link without a seat is told nothing
-sent-absent : (j : ℕ) (line : Line) (seats : List Seat) → Absent j (map seat_link seats) → sent_to j (told_acts line seats) ≡ []
-sent-absent j line [] absent = refl
-sent-absent j line (seat ∷ seats) absent = by (is_open seat) (sent-absent j line seats absent.1) where
-  by : (b : Bool) → sent_to j (told_acts line seats) ≡ [] → sent_to j (flat_map (told_to line) (cond b (seat.session.client ∷ clients_of seats) (clients_of seats))) ≡ []
-  by true more = acts_more j line seat (clients_of seats) ∙ ap (λ t. cond t (told_text line seat) no_bytes ++ sent_to j (told_acts line seats)) (other_link (seat_link seat) j absent.0) ∙ more
+sent-absent : (j : ℕ) (w : World) (n : Notice) (seats : List Seat) → Absent j (map seat_link seats) → sent_to j (told_acts w n seats) ≡ []
+sent-absent j w n [] absent = refl
+sent-absent j w n (seat ∷ seats) absent = by (is_open seat) (sent-absent j w n seats absent.1) where
+  by : (b : Bool) → sent_to j (told_acts w n seats) ≡ [] → sent_to j (flat_map (told_to w n) (cond b (seat.session.client ∷ clients_of seats) (clients_of seats))) ≡ []
+  by true more = acts_more j w n seat (clients_of seats) ∙ ap (λ t. cond t (told_text w n seat) no_bytes ++ sent_to j (told_acts w n seats)) (other_link (seat_link seat) j absent.0) ∙ more
   by false more = more
 
-pub told-link : (line : Line) (seat : Seat) → seat_link (told_seat line seat) ≡ seat_link seat
-told-link line seat = by (is_open seat) where
-  by : (b : Bool) → seat_link (cond b (heard line seat) seat) ≡ seat_link seat
+pub told-link : (w : World) (n : Notice) (seat : Seat) → seat_link (told_seat w n seat) ≡ seat_link seat
+told-link w n seat = by (is_open seat) where
+  by : (b : Bool) → seat_link (cond b (told_open w n seat) seat) ≡ seat_link seat
   by true = refl
   by false = refl
 
-pub told-links : (line : Line) (seats : List Seat) → map seat_link (map (told_seat line) seats) ≡ map seat_link seats
-told-links line [] = refl
-told-links line (seat ∷ seats) = ap (λ n. n ∷ map seat_link (map (told_seat line) seats)) (told-link line seat) ∙ ap (λ ns. seat_link seat ∷ ns) (told-links line seats)
+pub told-links : (w : World) (n : Notice) (seats : List Seat) → map seat_link (map (told_seat w n) seats) ≡ map seat_link seats
+told-links w n [] = refl
+told-links w n (seat ∷ seats) = ap (λ k. k ∷ map seat_link (map (told_seat w n) seats)) (told-link w n seat) ∙ ap (λ ns. seat_link seat ∷ ns) (told-links w n seats)
 
-pub told-clients : (line : Line) (seats : List Seat) → clients_of (map (told_seat line) seats) ≡ clients_of seats
-told-clients line [] = refl
-told-clients line (seat ∷ seats) = by (is_open seat) refl (told-clients line seats) where
-  by : (b : Bool) → is_open seat ≡ b → clients_of (map (told_seat line) seats) ≡ clients_of seats
-      → cond (is_open (cond b (heard line seat) seat)) ((cond b (heard line seat) seat).session.client ∷ clients_of (map (told_seat line) seats)) (clients_of (map (told_seat line) seats))
-      ≡ cond b (seat.session.client ∷ clients_of seats) (clients_of seats)
-  by true e more = ap (λ b. cond b (seat.session.client ∷ clients_of (map (told_seat line) seats)) (clients_of (map (told_seat line) seats))) e ∙ ap (λ clients. seat.session.client ∷ clients) more
-  by false e more = ap (λ b. cond b (seat.session.client ∷ clients_of (map (told_seat line) seats)) (clients_of (map (told_seat line) seats))) e ∙ more
+pub told-clients : (w : World) (n : Notice) (seats : List Seat) → clients_of (map (told_seat w n) seats) ≡ map (heard n.kind n.buffer.0) (clients_of seats)
+told-clients w n [] = refl
+told-clients w n (seat ∷ seats) = by (is_open seat) refl (told-clients w n seats) where
+  others : List Client
+  others = clients_of (map (told_seat w n) seats)
+
+  by : (b : Bool) → is_open seat ≡ b → others ≡ map (heard n.kind n.buffer.0) (clients_of seats)
+      → cond (is_open (cond b (told_open w n seat) seat)) ((cond b (told_open w n seat) seat).session.client ∷ others) others
+      ≡ map (heard n.kind n.buffer.0) (cond b (seat.session.client ∷ clients_of seats) (clients_of seats))
+  by true e more = ap (λ b. cond b (heard n.kind n.buffer.0 seat.session.client ∷ others) others) e ∙ ap (λ clients. heard n.kind n.buffer.0 seat.session.client ∷ clients) more
+  by false e more = ap (λ b. cond b (seat.session.client ∷ others) others) e ∙ more
 
 same-leaving : (t : Bool) (x y : Seat) (p q : Option Seat) → x.leaving ≡ y.leaving → leaving_in p ≡ leaving_in q → leaving_in (cond t (Some x) p) ≡ leaving_in (cond t (Some y) q)
 same-leaving true x y p q e more = e
 same-leaving false x y p q e more = more
 
-pub told-leaving : (j : ℕ) (line : Line) (seats : List Seat) → leaving_on j (map (told_seat line) seats) ≡ leaving_on j seats
-told-leaving j line [] = refl
-told-leaving j line (seat ∷ seats) = by (is_open seat) (told-leaving j line seats) where
-  by : (b : Bool) → leaving_on j (map (told_seat line) seats) ≡ leaving_on j seats
-      → leaving_in (cond (eqb (seat_link (cond b (heard line seat) seat)) j) (Some (cond b (heard line seat) seat)) (at_key seat_link j (map (told_seat line) seats)))
+pub told-leaving : (j : ℕ) (w : World) (n : Notice) (seats : List Seat) → leaving_on j (map (told_seat w n) seats) ≡ leaving_on j seats
+told-leaving j w n [] = refl
+told-leaving j w n (seat ∷ seats) = by (is_open seat) (told-leaving j w n seats) where
+  by : (b : Bool) → leaving_on j (map (told_seat w n) seats) ≡ leaving_on j seats
+      → leaving_in (cond (eqb (seat_link (cond b (told_open w n seat) seat)) j) (Some (cond b (told_open w n seat) seat)) (at_key seat_link j (map (told_seat w n) seats)))
       ≡ leaving_in (cond (eqb (seat_link seat) j) (Some seat) (at_key seat_link j seats))
-  by true more = same-leaving (eqb (seat_link seat) j) (heard line seat) seat (at_key seat_link j (map (told_seat line) seats)) (at_key seat_link j seats) refl more
-  by false more = same-leaving (eqb (seat_link seat) j) seat seat (at_key seat_link j (map (told_seat line) seats)) (at_key seat_link j seats) refl more
+  by true more = same-leaving (eqb (seat_link seat) j) (told_open w n seat) seat (at_key seat_link j (map (told_seat w n) seats)) (at_key seat_link j seats) refl more
+  by false more = same-leaving (eqb (seat_link seat) j) seat seat (at_key seat_link j (map (told_seat w n) seats)) (at_key seat_link j seats) refl more
 
-heard-bytes : (t : Bool) (line : Line) (seat : Seat) (p q : Option Seat) (others : List ℕ) → (t ≡ true → others ≡ []) → unsent_in p ≡ unsent_in q ++ others
-    → unsent_in (cond t (Some (heard line seat)) p) ≡ unsent_in (cond t (Some seat) q) ++ (cond t (told_text line seat) no_bytes ++ others)
-heard-bytes true line seat p q others none more =
-    ap (λ t. seat.session.unsent ++ t) (sym (append-nil (told_text line seat))) ∙ ap (λ t. seat.session.unsent ++ (told_text line seat ++ t)) (sym (none refl))
-heard-bytes false line seat p q others none more = more
+heard-bytes : (t : Bool) (w : World) (n : Notice) (seat : Seat) (p q : Option Seat) (others : List ℕ) → (t ≡ true → others ≡ []) → unsent_in p ≡ unsent_in q ++ others
+    → unsent_in (cond t (Some (told_open w n seat)) p) ≡ unsent_in (cond t (Some seat) q) ++ (cond t (told_text w n seat) no_bytes ++ others)
+heard-bytes true w n seat p q others none more =
+    ap (λ t. seat.session.unsent ++ t) (sym (append-nil (told_text w n seat))) ∙ ap (λ t. seat.session.unsent ++ (told_text w n seat ++ t)) (sym (none refl))
+heard-bytes false w n seat p q others none more = more
 
 kept-bytes : (t : Bool) (seat : Seat) (p q : Option Seat) (others : List ℕ) → (t ≡ true → others ≡ []) → unsent_in p ≡ unsent_in q ++ others
     → unsent_in (cond t (Some seat) p) ≡ unsent_in (cond t (Some seat) q) ++ others
@@ -135,26 +145,26 @@ kept-bytes false seat p q others none more = more
 same_number : (n j : ℕ) → eqb n j ≡ true → n ≡ j
 same_number n j e = grind (arith, nat_tests)
 
-pub told-bytes : (j : ℕ) (line : Line) (seats : List Seat) → Distinct (map seat_link seats) → unsent_on j (map (told_seat line) seats) ≡ unsent_on j seats ++ sent_to j (told_acts line seats)
-told-bytes j line [] distinct = refl
-told-bytes j line (seat ∷ seats) distinct = by (is_open seat) (told-bytes j line seats distinct.1) where
-  none : eqb (seat_link seat) j ≡ true → sent_to j (told_acts line seats) ≡ []
-  none e = let P : ℕ → Type 0 = λ n. Absent n (map seat_link seats) in sent-absent j line seats (subst P (same_number (seat_link seat) j e) distinct.0)
+pub told-bytes : (j : ℕ) (w : World) (n : Notice) (seats : List Seat) → Distinct (map seat_link seats) → unsent_on j (map (told_seat w n) seats) ≡ unsent_on j seats ++ sent_to j (told_acts w n seats)
+told-bytes j w n [] distinct = refl
+told-bytes j w n (seat ∷ seats) distinct = by (is_open seat) (told-bytes j w n seats distinct.1) where
+  none : eqb (seat_link seat) j ≡ true → sent_to j (told_acts w n seats) ≡ []
+  none e = let P : ℕ → Type 0 = λ n. Absent n (map seat_link seats) in sent-absent j w n seats (subst P (same_number (seat_link seat) j e) distinct.0)
 
-  by : (b : Bool) → unsent_on j (map (told_seat line) seats) ≡ unsent_on j seats ++ sent_to j (told_acts line seats)
-      → unsent_in (cond (eqb (seat_link (cond b (heard line seat) seat)) j) (Some (cond b (heard line seat) seat)) (at_key seat_link j (map (told_seat line) seats)))
-      ≡ unsent_in (cond (eqb (seat_link seat) j) (Some seat) (at_key seat_link j seats)) ++ sent_to j (flat_map (told_to line) (cond b (seat.session.client ∷ clients_of seats) (clients_of seats)))
+  by : (b : Bool) → unsent_on j (map (told_seat w n) seats) ≡ unsent_on j seats ++ sent_to j (told_acts w n seats)
+      → unsent_in (cond (eqb (seat_link (cond b (told_open w n seat) seat)) j) (Some (cond b (told_open w n seat) seat)) (at_key seat_link j (map (told_seat w n) seats)))
+      ≡ unsent_in (cond (eqb (seat_link seat) j) (Some seat) (at_key seat_link j seats)) ++ sent_to j (flat_map (told_to w n) (cond b (seat.session.client ∷ clients_of seats) (clients_of seats)))
   by true more =
-      heard-bytes (eqb (seat_link seat) j) line seat (at_key seat_link j (map (told_seat line) seats)) (at_key seat_link j seats) (sent_to j (told_acts line seats)) none more
-      ∙ ap (λ t. unsent_in (cond (eqb (seat_link seat) j) (Some seat) (at_key seat_link j seats)) ++ t) (sym (acts_more j line seat (clients_of seats)))
-  by false more = kept-bytes (eqb (seat_link seat) j) seat (at_key seat_link j (map (told_seat line) seats)) (at_key seat_link j seats) (sent_to j (told_acts line seats)) none more
+      heard-bytes (eqb (seat_link seat) j) w n seat (at_key seat_link j (map (told_seat w n) seats)) (at_key seat_link j seats) (sent_to j (told_acts w n seats)) none more
+      ∙ ap (λ t. unsent_in (cond (eqb (seat_link seat) j) (Some seat) (at_key seat_link j seats)) ++ t) (sym (acts_more j w n seat (clients_of seats)))
+  by false more = kept-bytes (eqb (seat_link seat) j) seat (at_key seat_link j (map (told_seat w n) seats)) (at_key seat_link j seats) (sent_to j (told_acts w n seats)) none more
 
 -- ---- seats where memory may have been refused
 
--- a client that events are not for is left alone, and another one leaves for want of memory at most
+-- a client that is leaving is left alone, and another one leaves for want of memory at most
 pub record SeatKept (old new : Seat) : Type 0 where
   pub link : seat_link new ≡ seat_link old
-  pub kept : listens old ≡ false → new ≡ old
+  pub kept : is_open old ≡ false → new ≡ old
   pub cause : StaysOrStarves old.leaving new.leaving
 
 abbrev pub SeatsKept : List Seat → List Seat → Type 0
@@ -184,9 +194,9 @@ pub items_back : (len : ℕ) (old new : List Seat) → len ≡ length old → le
 items_back len old new e same =
     ap (λ n. take len (new ++ drop n old)) same ∙ ap (λ s. take len (new ++ s)) (drop_all old) ∙ ap (take len) (append-nil new) ∙ ap (λ n. take n new) (e ∙ sym same) ∙ take-length new
 
-leaves_deaf : (seat : Seat) → IsSome seat.leaving → listens seat ≡ false
-leaves_deaf seat leaves = by seat.leaving leaves where
-  by : (o : Option Cause) → IsSome o → (is_none o && follows_core seat.session.client) ≡ false
+leaves_shut : (seat : Seat) → IsSome seat.leaving → is_open seat ≡ false
+leaves_shut seat leaves = by seat.leaving leaves where
+  by : (o : Option Cause) → IsSome o → is_none o ≡ false
   by None leaves = absurd (cc)
   by (Some why) leaves = refl
 
@@ -198,7 +208,7 @@ SeatsKept-leaving j (a ∷ old) (b ∷ new) kept some =
     ap (λ n. cond (eqb n j) (Some b) (at_key seat_link j new)) kept.0.link ∙ by (eqb (seat_link a) j) (SeatsKept-leaving j old new kept.1) some
   where
     by : (t : Bool) → (IsSome (leaving_on j old) → at_key seat_link j new ≡ at_key seat_link j old) → IsSome (leaving_in (cond t (Some a) (at_key seat_link j old))) → cond t (Some b) (at_key seat_link j new) ≡ cond t (Some a) (at_key seat_link j old)
-    by true more leaves = ap (λ s. Some s) (kept.0.kept (leaves_deaf a leaves))
+    by true more leaves = ap (λ s. Some s) (kept.0.kept (leaves_shut a leaves))
     by false more leaves = more leaves
 
 pub and_left : (a b : Bool) → (a && b) ≡ true → a ≡ true
@@ -223,50 +233,50 @@ SeatsKept-causes j (a ∷ old) (b ∷ new) kept =
     by false more = more
 
 pub SeatKept-refl : (a : Seat) → SeatKept a a
-SeatKept-refl a = record { link = refl; kept = λ deaf. refl; cause = inl refl }
+SeatKept-refl a = record { link = refl; kept = λ shut. refl; cause = inl refl }
 
 -- the first seats are served, and the others as they were
-abbrev pub ServedTo : (Seat → Seat) → ℕ → List Seat → List Seat → Type 0
-ServedTo service zero old now = now ≡ old
-ServedTo service (suc i) [] [] = Unit {0}
-ServedTo service (suc i) [] (b ∷ now) = ⊥
-ServedTo service (suc i) (a ∷ old) [] = ⊥
-ServedTo service (suc i) (a ∷ old) (b ∷ now) = SeatServed service a b × ServedTo service i old now
+abbrev pub ServedTo : EventKind → ℕ → (Seat → Seat) → ℕ → List Seat → List Seat → Type 0
+ServedTo kind buffer service zero old now = now ≡ old
+ServedTo kind buffer service (suc i) [] [] = Unit {0}
+ServedTo kind buffer service (suc i) [] (b ∷ now) = ⊥
+ServedTo kind buffer service (suc i) (a ∷ old) [] = ⊥
+ServedTo kind buffer service (suc i) (a ∷ old) (b ∷ now) = SeatServed kind buffer service a b × ServedTo kind buffer service i old now
 
-pub served_by : (service : Seat → Seat) (x y : Seat) (b : Bool) → (b ≡ true → y ≡ service x) → (b ≡ false → y ≡ starved_seat x) → SeatServed service x y
-served_by service x y true f g = inl (f refl)
-served_by service x y false f g = inr (g refl)
+pub served_by : (kind : EventKind) (buffer : ℕ) (service : Seat → Seat) (x y : Seat) (b : Bool) → (b ≡ true → y ≡ service x) → (b ≡ false → y ≡ starved_seat kind buffer x) → SeatServed kind buffer service x y
+served_by kind buffer service x y true f g = inl (f refl)
+served_by kind buffer service x y false f g = inr (g refl)
 
-served_more : (service : Seat → Seat) (i : ℕ) (old now : List Seat) (x y : Seat) → ServedTo service i old now → i < length now → x ≡ get_or now i x → SeatServed service x y → ServedTo service (suc i) old (set now i y)
-served_more service zero old [] x y to inside at one = absurd (omega arith)
-served_more service zero [] (b ∷ now) x y to inside at one = absurd (cc)
-served_more service zero (a ∷ old) (b ∷ now) x y to inside at one =
+served_more : (kind : EventKind) (buffer : ℕ) (service : Seat → Seat) (i : ℕ) (old now : List Seat) (x y : Seat) → ServedTo kind buffer service i old now → i < length now → x ≡ get_or now i x → SeatServed kind buffer service x y → ServedTo kind buffer service (suc i) old (set now i y)
+served_more kind buffer service zero old [] x y to inside at one = absurd (omega arith)
+served_more kind buffer service zero [] (b ∷ now) x y to inside at one = absurd (cc)
+served_more kind buffer service zero (a ∷ old) (b ∷ now) x y to inside at one =
     let same : x ≡ a = cc in
-    let P : Seat → Type 0 = λ s. SeatServed service s y in
+    let P : Seat → Type 0 = λ s. SeatServed kind buffer service s y in
     (subst P same one, cc)
-served_more service (suc i) [] [] x y to inside at one = tt
-served_more service (suc i) [] (b ∷ now) x y to inside at one = absurd to
-served_more service (suc i) (a ∷ old) [] x y to inside at one = absurd to
-served_more service (suc i) (a ∷ old) (b ∷ now) x y to inside at one = (to.0, served_more service i old now x y to.1 (omega arith) at one)
+served_more kind buffer service (suc i) [] [] x y to inside at one = tt
+served_more kind buffer service (suc i) [] (b ∷ now) x y to inside at one = absurd to
+served_more kind buffer service (suc i) (a ∷ old) [] x y to inside at one = absurd to
+served_more kind buffer service (suc i) (a ∷ old) (b ∷ now) x y to inside at one = (to.0, served_more kind buffer service i old now x y to.1 (omega arith) at one)
 
 -- one seat more was served
-pub served_next : (service : Seat → Seat) (i k : ℕ) (old now : List Seat) (x y : Seat) → k ≡ suc i → ServedTo service i old now → i < length now → x ≡ get_or now i x → SeatServed service x y → ServedTo service k old (set now i y)
-served_next service i k old now x y e to inside at one =
-    let P : ℕ → Type 0 = λ n. ServedTo service n old (set now i y) in
-    subst P (sym e) (served_more service i old now x y to inside at one)
+pub served_next : (kind : EventKind) (buffer : ℕ) (service : Seat → Seat) (i k : ℕ) (old now : List Seat) (x y : Seat) → k ≡ suc i → ServedTo kind buffer service i old now → i < length now → x ≡ get_or now i x → SeatServed kind buffer service x y → ServedTo kind buffer service k old (set now i y)
+served_next kind buffer service i k old now x y e to inside at one =
+    let P : ℕ → Type 0 = λ n. ServedTo kind buffer service n old (set now i y) in
+    subst P (sym e) (served_more kind buffer service i old now x y to inside at one)
 
 -- all were
-pub served_whole : (service : Seat → Seat) (i : ℕ) (old now : List Seat) → length old ≤ i → ServedTo service i old now → SeatsServed service old now
-served_whole service zero [] [] all to = tt
-served_whole service zero [] (b ∷ now) all to = absurd (cc)
-served_whole service zero (a ∷ old) now all to = absurd (omega arith)
-served_whole service (suc i) [] [] all to = tt
-served_whole service (suc i) [] (b ∷ now) all to = absurd to
-served_whole service (suc i) (a ∷ old) [] all to = absurd to
-served_whole service (suc i) (a ∷ old) (b ∷ now) all to = (to.0, served_whole service i old now (omega arith) to.1)
+pub served_whole : (kind : EventKind) (buffer : ℕ) (service : Seat → Seat) (i : ℕ) (old now : List Seat) → length old ≤ i → ServedTo kind buffer service i old now → SeatsServed kind buffer service old now
+served_whole kind buffer service zero [] [] all to = tt
+served_whole kind buffer service zero [] (b ∷ now) all to = absurd (cc)
+served_whole kind buffer service zero (a ∷ old) now all to = absurd (omega arith)
+served_whole kind buffer service (suc i) [] [] all to = tt
+served_whole kind buffer service (suc i) [] (b ∷ now) all to = absurd to
+served_whole kind buffer service (suc i) (a ∷ old) [] all to = absurd to
+served_whole kind buffer service (suc i) (a ∷ old) (b ∷ now) all to = (to.0, served_whole kind buffer service i old now (omega arith) to.1)
 
 -- what the seats are once one more was told an event
-pub tell_more : (event : List ℕ) (old now : List Seat) (i : ℕ) (x y : Seat) (told heard : Bool) → x ≡ get_or now i x
+pub tell_more : (event : Spelled) (old now : List Seat) (i : ℕ) (x y : Seat) (told heard : Bool) → x ≡ get_or now i x
     → (told ≡ true → now ≡ map (heard_seat event) (take i old) ++ drop i old) → (heard ≡ true → y ≡ heard_seat event x) → i < length old
     → (told && heard) ≡ true → set now i y ≡ map (heard_seat event) (take (i + 1) old) ++ drop (i + 1) old
 tell_more event old now i x y told heard at so_far hears within both =

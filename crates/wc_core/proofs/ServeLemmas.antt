@@ -1,5 +1,5 @@
 -- What the core's calls do, against the steps.
-use Rattle.std.proofs.Common.{◌≡◌, ◌≢◌, ℕ, ◌+◌, ◌≤◌, Bool, true, false, cond, eqb, List, [], ◌∷◌, ◌++◌, Option, Some, None, IsSome, refl, ap, sym, subst, ◌∙◌, ◌||◌, arith, append-nil}
+use Rattle.std.proofs.Common.{◌≡◌, ◌≢◌, ℕ, ◌≤◌, Bool, true, false, cond, eqb, List, [], ◌∷◌, ◌++◌, Option, Some, None, IsSome, inl, inr, not, refl, ap, sym, subst, ◌∙◌, ◌||◌, arith, append-nil}
 use Rattle.std.specs.Prelude.{map}
 use Rattle.std.specs.List.{flat_map}
 use Rattle.std.specs.Option.{is_none, option_copied}
@@ -11,8 +11,10 @@ use Rattle.std.proofs.lemmas.Bool.Decides.{nat_tests}
 use Rattle.wc_text.specs.declared.names.Cause.{Cause}
 use Rattle.wc_outside.specs.Keyed.{at_key, put_at}
 use Rattle.wc_outside.proofs.KeyedLemmas.{at_key-key, at_key-put_other, at_key-put_same}
-use Rattle.wc_lines.specs.declared.line.Line.{Line}
-use Rattle.wc_lines.specs.Ring.{with_line}
+use Rattle.wc_text.specs.declared.names.Handle.{Handle}
+use Rattle.wc_buffers.specs.Calls.{is_there}
+use Rattle.wc_model.specs.declared.notice.Notice.{Notice}
+use Rattle.wc_model.specs.World.{World}
 use Rattle.wc_objects.specs.declared.object.WireMessage.{WireMessage}
 use Rattle.wc_session.specs.Known.{Known}
 use Rattle.wc_session.specs.Sending.{spelling}
@@ -20,23 +22,25 @@ use Rattle.wc_core.specs.declared.seat.Seat.{Seat}
 use Rattle.wc_core.specs.Standing.{Standing}
 use Rattle.wc_core.specs.Typed.{typed_line}
 use Rattle.wc_core.specs.TypedSeen.{lines_left}
-use Rattle.wc_core.specs.Step.{client_link, sends, prints, does, is_quit, runs, leaves}
-use Rattle.wc_core.specs.Served.{seat_link, links_of, is_open, clients_of, state_of, unsent_in, unsent_on, leaving_in, leaving_on, or_else, Distinct, Did, Keeps, MayDo, told_seat}
-use Rattle.wc_core.proofs.DidLemmas.{or_else-none, or-false, MayDo-then}
-use Rattle.wc_core.proofs.CloseLemmas.{typed-later}
+use Rattle.wc_core.specs.State.{State, Stepped}
+use Rattle.wc_core.specs.Inputs.{GoesOn, Stops}
+use Rattle.wc_core.specs.Step.{client_link, sends, stays, then_does, told_all, does, is_quit, runs, leaves}
+use Rattle.wc_core.specs.Served.{seat_link, links_of, is_open, clients_of, state_of, unsent_in, unsent_on, leaving_in, leaving_on, or_else, close_of, StaysOrStarves, LeavesBy, Distinct, Did, Keeps, MayDo, told_seat}
+use Rattle.wc_core.proofs.DidLemmas.{or_else-none, or-false, MayDo-stays, MayDo-then}
+use Rattle.wc_core.proofs.CloseLemmas.{does-closes, typed-later}
 use Rattle.wc_core.proofs.SeatLemmas.{SeatsKept, sent-sends, close-sends, end-sends, close-told, end-told, told-clients, told-leaving, told-bytes, SeatsKept-links, SeatsKept-leaving, clients-put, clients-leave}
 
--- ---- a line that is printed
+-- ---- a notice that is told
 
-abbrev pub shown : Standing → Line → Standing
-shown old line = record old { seats = map (told_seat line) old.seats; lines = with_line old.lines line; next = old.next + 2 }
+abbrev pub told_to_all : Standing → World → Notice → Standing
+told_to_all old world n = record old { world = world; seats = map (told_seat world n) old.seats }
 
-pub Did-prints : (old : Standing) (line : Line) → Distinct (links_of old) → Did old (shown old line) (prints (state_of old) line)
-Did-prints old line distinct = record {
-  state = rw (told-clients line old.seats) refl;
-  bytes = λ j. told-bytes j line old.seats distinct;
-  leaving = λ j. told-leaving j line old.seats ∙ sym (ap (or_else (leaving_on j old.seats)) (close-told j line (clients_of old.seats)) ∙ or_else-none (leaving_on j old.seats));
-  quits = sym (ap (λ t. old.quits || t) (end-told line (clients_of old.seats)) ∙ or-false old.quits);
+pub Did-told : (old : Standing) (world : World) (n : Notice) → Distinct (links_of old) → Did old (told_to_all old world n) (told_all (state_of old) world n)
+Did-told old world n distinct = record {
+  state = rw (told-clients world n old.seats) refl;
+  bytes = λ j. told-bytes j world n old.seats distinct;
+  leaving = λ j. told-leaving j world n old.seats ∙ sym (ap (or_else (leaving_on j old.seats)) (close-told j world n (clients_of old.seats)) ∙ or_else-none (leaving_on j old.seats));
+  quits = sym (ap (λ t. old.quits || t) (end-told world n (clients_of old.seats)) ∙ or-false old.quits);
 }
 
 pub Keeps-told : (old new : Standing) → SeatsKept old.seats new.seats → old.starved ≤ new.starved → Keeps old new
@@ -141,27 +145,70 @@ Did-leave old k s why distinct at sits = record {
 
 -- ---- a text that is typed
 
--- one line, and the lines behind it
-pub MayDo-runs : (a b c : Standing) (line : List ℕ) (lines : List (List ℕ)) → is_quit (typed_line line) ≡ false → MayDo a b (does (state_of a) (typed_line line)) → MayDo b c (runs (state_of b) lines)
-    → MayDo a c (runs (state_of a) (line ∷ lines))
-MayDo-runs a b c line lines goes f g = rw goes (MayDo-then a b c (does (state_of a) (typed_line line)) (λ next. runs next lines) (typed-later (state_of a) (typed_line line) lines) f g)
+-- a step that closes no one, of which memory was refused
+MayDo-cut : (a b : Standing) (s t : Stepped) → ((j : ℕ) → close_of j s.acts ≡ None) → b.starved ≢ a.starved → MayDo a b s → MayDo a b t
+MayDo-cut a b s t closes starved f = record {
+  keeps = f.keeps;
+  causes = λ distinct j. inr (by j (f.causes distinct j));
+  does = λ same below distinct. absurd (starved same);
+} where
+  by : (j : ℕ) → LeavesBy (leaving_on j a.seats) (close_of j s.acts) (leaving_on j b.seats) → StaysOrStarves (leaving_on j a.seats) (leaving_on j b.seats)
+  by j (inl e) = inl (e ∙ ap (or_else (leaving_on j a.seats)) (closes j) ∙ or_else-none (leaving_on j a.seats))
+  by j (inr e) = e
 
-pub MayDo-quit : (a b : Standing) (line : List ℕ) (lines : List (List ℕ)) → is_quit (typed_line line) ≡ true → MayDo a b (does (state_of a) (typed_line line)) → MayDo a b (runs (state_of a) (line ∷ lines))
-MayDo-quit a b line lines goes f = rw goes f
+-- what a line does to a buffer that is there
+abbrev run_if : Bool → Bool → Stepped → Stepped → Stepped → Stepped
+run_if there quit nothing one all = cond (not there) nothing (cond quit one all)
+
+runs-there : (P : Stepped → Type 0) (a : State) (buffer : Handle) (line : List ℕ) (lines : List (List ℕ)) (quit : Bool) → is_there buffer a.world.groups ≡ true → is_quit (typed_line line) ≡ quit
+    → P (cond quit (does a buffer (typed_line line)) (then_does (does a buffer (typed_line line)) (λ next. runs next buffer lines))) → P (runs a buffer (line ∷ lines))
+runs-there P a buffer line lines quit there goes f =
+    let one = does a buffer (typed_line line) in
+    let all = then_does one (λ next. runs next buffer lines) in
+    let Q : Bool → Type 0 = λ t. P (run_if t (is_quit (typed_line line)) (stays a) one all) in
+    let R : Bool → Type 0 = λ q. P (run_if true q (stays a) one all) in
+    subst Q (sym there) (subst R (sym goes) f)
+
+-- one line, and the lines behind it
+pub MayDo-runs : (a b c : Standing) (buffer : Handle) (line : List ℕ) (lines : List (List ℕ)) → is_there buffer a.world.groups ≡ true → GoesOn a b buffer line → MayDo b c (runs (state_of b) buffer lines)
+    → MayDo a c (runs (state_of a) buffer (line ∷ lines))
+MayDo-runs a b c buffer line lines there f g =
+    let P : Stepped → Type 0 = λ s. MayDo a c s in
+    runs-there P (state_of a) buffer line lines false there f.goes
+    (MayDo-then a b c (does (state_of a) buffer (typed_line line)) (λ next. runs next buffer lines) (typed-later (state_of a) buffer (typed_line line) lines) f.does g)
+
+-- the lines behind it are skipped where the run is to end, and where memory was refused
+pub stops-quit : (a b : Standing) (buffer : Handle) (line : List ℕ) → is_quit (typed_line line) ≡ true → MayDo a b (does (state_of a) buffer (typed_line line)) → Stops a b buffer line
+stops-quit a b buffer line quit f = λ lines there.
+    let P : Stepped → Type 0 = λ s. MayDo a b s in
+    runs-there P (state_of a) buffer line lines true there quit f
+
+pub stops-starved : (a b : Standing) (buffer : Handle) (line : List ℕ) → b.starved ≢ a.starved → MayDo a b (does (state_of a) buffer (typed_line line)) → Stops a b buffer line
+stops-starved a b buffer line starved f = λ lines there.
+    MayDo-cut a b (does (state_of a) buffer (typed_line line)) (runs (state_of a) buffer (line ∷ lines)) (λ j. does-closes j (state_of a) buffer (typed_line line)) starved f
 
 left_lines : (left : Option (Bor (List ℕ))) (rest : Bor (List ℕ)) (line : List ℕ) (others : Option (Bor (List ℕ))) → left ≡ Some rest → line ≡ before 10 rest.now → option_copied others ≡ behind 10 rest.now → line ∷ lines_left others ≡ lines_left left
 left_lines left rest line others e front back = ap (λ l. l ∷ lines_left others) front ∙ lines_left-split rest.now others back ∙ sym (ap lines_left e)
 
--- a line that ends the run, before the lines that are left
-pub quit_left : (a b : Standing) (left : Option (Bor (List ℕ))) (rest : Bor (List ℕ)) (line : List ℕ) (others : Option (Bor (List ℕ))) → left ≡ Some rest → line ≡ before 10 rest.now → option_copied others ≡ behind 10 rest.now
-    → is_quit (typed_line line) ≡ true → MayDo a b (does (state_of a) (typed_line line)) → MayDo a b (runs (state_of a) (lines_left left))
-quit_left a b left rest line others e front back goes f =
-    let P : List (List ℕ) → Type 0 = λ lines. MayDo a b (runs (state_of a) lines) in
-    subst P (left_lines left rest line others e front back) (MayDo-quit a b line (lines_left others) goes f)
+-- a buffer that is not there, before the lines that are left
+pub gone_left : (a : Standing) (buffer : Handle) (left : Option (Bor (List ℕ))) (rest : Bor (List ℕ)) (line : List ℕ) (others : Option (Bor (List ℕ))) → left ≡ Some rest → line ≡ before 10 rest.now → option_copied others ≡ behind 10 rest.now
+    → is_there buffer a.world.groups ≡ false → MayDo a a (runs (state_of a) buffer (lines_left left))
+gone_left a buffer left rest line others e front back there =
+    let P : List (List ℕ) → Type 0 = λ lines. MayDo a a (runs (state_of a) buffer lines) in
+    let one = does (state_of a) buffer (typed_line line) in
+    let Q : Bool → Type 0 = λ t. MayDo a a (run_if t (is_quit (typed_line line)) (stays (state_of a)) one (then_does one (λ next. runs next buffer (lines_left others)))) in
+    subst P (left_lines left rest line others e front back) (subst Q (sym there) (MayDo-stays a))
 
--- one that does not
-pub more_left : (a b c : Standing) (left : Option (Bor (List ℕ))) (rest : Bor (List ℕ)) (line : List ℕ) (others : Option (Bor (List ℕ))) → left ≡ Some rest → line ≡ before 10 rest.now → option_copied others ≡ behind 10 rest.now
-    → is_quit (typed_line line) ≡ false → MayDo a b (does (state_of a) (typed_line line)) → MayDo b c (runs (state_of b) (lines_left others)) → MayDo a c (runs (state_of a) (lines_left left))
-more_left a b c left rest line others e front back goes f g =
-    let P : List (List ℕ) → Type 0 = λ lines. MayDo a c (runs (state_of a) lines) in
-    subst P (left_lines left rest line others e front back) (MayDo-runs a b c line (lines_left others) goes f g)
+-- a line behind which the lines that are left are skipped
+pub quit_left : (a b : Standing) (buffer : Handle) (left : Option (Bor (List ℕ))) (rest : Bor (List ℕ)) (line : List ℕ) (others : Option (Bor (List ℕ))) → left ≡ Some rest → line ≡ before 10 rest.now → option_copied others ≡ behind 10 rest.now
+    → is_there buffer a.world.groups ≡ true → Stops a b buffer line → MayDo a b (runs (state_of a) buffer (lines_left left))
+quit_left a b buffer left rest line others e front back there stops =
+    let P : List (List ℕ) → Type 0 = λ lines. MayDo a b (runs (state_of a) buffer lines) in
+    subst P (left_lines left rest line others e front back) (stops (lines_left others) there)
+
+-- another line, before the lines that are left
+pub more_left : (a b c : Standing) (buffer : Handle) (left : Option (Bor (List ℕ))) (rest : Bor (List ℕ)) (line : List ℕ) (others : Option (Bor (List ℕ))) → left ≡ Some rest → line ≡ before 10 rest.now → option_copied others ≡ behind 10 rest.now
+    → is_there buffer a.world.groups ≡ true → GoesOn a b buffer line → MayDo b c (runs (state_of b) buffer (lines_left others)) → MayDo a c (runs (state_of a) buffer (lines_left left))
+more_left a b c buffer left rest line others e front back there f g =
+    let P : List (List ℕ) → Type 0 = λ lines. MayDo a c (runs (state_of a) buffer lines) in
+    subst P (left_lines left rest line others e front back) (MayDo-runs a b c buffer line (lines_left others) there f g)

@@ -1,7 +1,7 @@
 -- What is typed is text, and how its lines are parted.
-use Rattle.std.proofs.Common.{◌≡◌, ℕ, List, [], ◌∷◌, ◌++◌, refl, ap, sym, subst, ◌∙◌, Bool, true, false, cond, eqb, Option, Some, None, codes, lit<, append-nil, append_assoc, arith, nat_lt, ◌&&◌}
+use Rattle.std.proofs.Common.{◌≡◌, ℕ, List, [], ◌∷◌, ◌++◌, refl, ap, sym, subst, ◌∙◌, Bool, true, false, cond, eqb, Option, Some, None, codes, lit<, append-nil, append_assoc, arith, nat_lt, ◌&&◌, ◌-◌, ◌^◌, min, length, drop, filter, All}
 use Rattle.std.proofs.lemmas.Bool.{false≢true}
-use Rattle.std.proofs.lemmas.Bool.Decides.{nat_tests}
+use Rattle.std.proofs.lemmas.Bool.Decides.{nat_tests, Decides-eqb}
 use Rattle.std.proofs.lemmas.Str.{IsUtf8-nil, IsUtf8-append}
 use Rattle.std.specs.Str.{IsUtf8, bytes_eq}
 use Rattle.std.specs.Borrow.{Bor}
@@ -9,47 +9,173 @@ use Rattle.std.specs.Option.{option_copied}
 use Rattle.wc_relaycmd.specs.Cuts.{before, behind}
 use Rattle.wc_relaycmd.specs.Words.{word_of, rest_of}
 use Rattle.wc_relaycmd.proofs.WordLemmas.{Parts-made}
-use Rattle.wc_relaycmd.proofs.Utf8Lemmas.{cut_text, before_text, behind_text, parts_text, put_byte}
-use Rattle.wc_core.specs.Typed.{Typed, Prints, TypedUtf8, refused, wrong_arguments, unknown_command, printed_by, printed, print_command, quit_command, command, slashed, typed_line, parted_from, parted}
+use Rattle.wc_relaycmd.specs.Lists.{pieces_of}
+use Rattle.wc_relaycmd.specs.Utf8.{AllUtf8}
+use Rattle.wc_relaycmd.proofs.Utf8Lemmas.{cut_text, before_text, behind_text, parts_text, put_byte, all_pieces_text}
+use Rattle.std.proofs.lemmas.List.Elements.{All-nil, All-cons}
+use Rattle.std.proofs.lemmas.Slice.Eq.{starts_is}
+use Rattle.std.specs.Str.Parse.{digits_value}
+use Rattle.wc_text.specs.Integer.{is_numeral}
+use Rattle.wc_text.specs.Words.{is_filled}
+use Rattle.wc_model.specs.declared.change.What.TheVariants as what
+use Rattle.wc_core.specs.Texts.{WhatUtf8}
+use Rattle.wc_core.specs.Typed.{Typed, Nothing, Quits, Refused, Prints, Adds, Closes, Merges, Names, Changes, no_text_here, wrong_arguments, unknown_command, printed_by, printed, tags_of, is_first, second_of, behind_second, print_tagged, print_on, print_command, wrong_buffer, one_word, without_words, some_text, moves_to, close_command, starts, set_property, buffer_word, buffer_command, quit_command, command, slashed, typed_line, parted_from, parted}
 use Rattle.wc_core.specs.TypedSeen.{lines_left, LeftUtf8}
 
 -- whether each byte is ASCII
-abbrev all_ascii : List ℕ → Bool
+abbrev pub all_ascii : List ℕ → Bool
 all_ascii [] = true
 all_ascii (b ∷ text) = nat_lt b 128 && all_ascii text
 
-ascii_text : (text : List ℕ) → all_ascii text ≡ true → IsUtf8 text
+pub ascii_text : (text : List ℕ) → all_ascii text ≡ true → IsUtf8 text
 ascii_text [] e = IsUtf8-nil
 ascii_text (b ∷ text) e = by (nat_lt b 128) refl (ascii_text text) e where
   by : (t : Bool) → nat_lt b 128 ≡ t → (all_ascii text ≡ true → IsUtf8 text) → (t && all_ascii text) ≡ true → IsUtf8 (b ∷ text)
   by true small more others = put_byte b text (grind (arith, nat_tests)) (more others)
   by false small more others = absurd (false≢true others)
 
+-- ---- the texts that a line asks for
+
+pub record LineUtf8 (words : List (List ℕ)) (front text : List ℕ) : Type 0 where
+  pub tags : All IsUtf8 words
+  pub prefix : IsUtf8 front
+  pub message : IsUtf8 text
+
+abbrev pub TypedUtf8 : Typed → Type 0
+TypedUtf8 Nothing = Unit {0}
+TypedUtf8 Quits = Unit {0}
+TypedUtf8 (Refused text) = IsUtf8 text
+TypedUtf8 (Prints buffer tags prefix message) = LineUtf8 tags prefix message
+TypedUtf8 (Adds name) = IsUtf8 name
+TypedUtf8 (Closes buffer) = Unit {0}
+TypedUtf8 (Merges buffer) = Unit {0}
+TypedUtf8 (Names name) = IsUtf8 name
+TypedUtf8 (Changes w) = WhatUtf8 w
+
 typed_if : (b : Bool) (x y : Typed) → TypedUtf8 x → TypedUtf8 y → TypedUtf8 (cond b x y)
 typed_if true x y p q = p
 typed_if false x y p q = q
 
-refused_text : (message : List ℕ) → IsUtf8 message → TypedUtf8 (refused message)
-refused_text message utf8 = (ascii_text (codes "=!=") refl, utf8)
+-- the first word of a text, and what stands behind it
+word_text : (text : List ℕ) → IsUtf8 text → IsUtf8 (word_of text) × IsUtf8 (rest_of text)
+word_text text utf8 = parts_text text (word_of text) (rest_of text) (Parts-made text) utf8
 
-no_text : TypedUtf8 (refused (codes "no text here"))
-no_text = refused_text (codes "no text here") (ascii_text (codes "no text here") refl)
+second_text : (text : List ℕ) → IsUtf8 text → IsUtf8 (second_of text) × IsUtf8 (behind_second text)
+second_text text utf8 = word_text (rest_of text) (word_text text utf8).1
+
+no_text : TypedUtf8 no_text_here
+no_text = ascii_text (codes "no text here") refl
 
 wrong_text : (name : List ℕ) → IsUtf8 name → TypedUtf8 (wrong_arguments name)
-wrong_text name utf8 = refused_text (codes "wrong arguments: /" ++ name) (IsUtf8-append (codes "wrong arguments: /") name (ascii_text (codes "wrong arguments: /") refl) utf8)
+wrong_text name utf8 = IsUtf8-append (codes "wrong arguments: /") name (ascii_text (codes "wrong arguments: /") refl) utf8
 
 unknown_text : (name : List ℕ) → IsUtf8 name → TypedUtf8 (unknown_command name)
-unknown_text name utf8 = refused_text (codes "unknown command: /" ++ name) (IsUtf8-append (codes "unknown command: /") name (ascii_text (codes "unknown command: /") refl) utf8)
+unknown_text name utf8 = IsUtf8-append (codes "unknown command: /") name (ascii_text (codes "unknown command: /") refl) utf8
 
-printed_text : (text : List ℕ) → IsUtf8 text → TypedUtf8 (printed text)
-printed_text text utf8 = by (behind 9 text) refl where
-  by : (o : Option (List ℕ)) → behind 9 text ≡ o → TypedUtf8 (printed_by text o)
-  by None e = (IsUtf8-nil, utf8)
-  by (Some message) e = (before_text 9 text (lit< tt) utf8, behind_text 9 text message (lit< tt) utf8 e)
+-- ---- `/print`
+
+filled_texts : (texts : List (List ℕ)) → AllUtf8 texts → All IsUtf8 (filter is_filled texts)
+filled_texts [] utf8 = All-nil IsUtf8
+filled_texts (text ∷ texts) utf8 = by (is_filled text) (filled_texts texts utf8.1) where
+  by : (b : Bool) → All IsUtf8 (filter is_filled texts) → All IsUtf8 (cond b (text ∷ filter is_filled texts) (filter is_filled texts))
+  by true more = All-cons IsUtf8 text (filter is_filled texts) utf8.0 more
+  by false more = more
+
+tags_text : (word : List ℕ) → IsUtf8 word → All IsUtf8 (tags_of word)
+tags_text word utf8 = filled_texts (pieces_of word) (all_pieces_text word utf8)
+
+printed_text : (buffer : Option (List ℕ)) (tags : List (List ℕ)) (text : List ℕ) → All IsUtf8 tags → IsUtf8 text → TypedUtf8 (printed buffer tags text)
+printed_text buffer tags [] all utf8 = wrong_text (codes "print") (ascii_text (codes "print") refl)
+printed_text buffer tags (b ∷ text) all utf8 = by (behind 9 (b ∷ text)) refl where
+  by : (o : Option (List ℕ)) → behind 9 (b ∷ text) ≡ o → TypedUtf8 (printed_by buffer tags (b ∷ text) o)
+  by None e = record { tags = all; prefix = IsUtf8-nil; message = utf8 }
+  by (Some message) e = record { tags = all; prefix = before_text 9 (b ∷ text) (lit< tt) utf8; message = behind_text 9 (b ∷ text) message (lit< tt) utf8 e }
+
+tagged_text : (buffer : Option (List ℕ)) (text : List ℕ) → IsUtf8 text → TypedUtf8 (print_tagged buffer text)
+tagged_text buffer text utf8 =
+    let second = second_text text utf8 in
+    typed_if (is_first (codes "-tags") text) (printed buffer (tags_of (second_of text)) (behind_second text)) (printed buffer [] text)
+    (printed_text buffer (tags_of (second_of text)) (behind_second text) (tags_text (second_of text) second.0) second.1)
+    (printed_text buffer [] text (All-nil IsUtf8) utf8)
+
+on_text : (tags : List (List ℕ)) (text : List ℕ) → All IsUtf8 tags → IsUtf8 text → TypedUtf8 (print_on tags text)
+on_text tags text all utf8 =
+    typed_if (is_first (codes "-buffer") text) (printed (Some (second_of text)) tags (behind_second text)) (printed None tags text)
+    (printed_text (Some (second_of text)) tags (behind_second text) all (second_text text utf8).1)
+    (printed_text None tags text all utf8)
 
 print_text : (text : List ℕ) → IsUtf8 text → TypedUtf8 (print_command text)
-print_text [] utf8 = wrong_text (codes "print") (ascii_text (codes "print") refl)
-print_text (b ∷ text) utf8 = typed_if (eqb b 45) (wrong_arguments (codes "print")) (printed (b ∷ text)) (wrong_text (codes "print") (ascii_text (codes "print") refl)) (printed_text (b ∷ text) utf8)
+print_text text utf8 =
+    let second = second_text text utf8 in
+    typed_if (is_first (codes "-buffer") text) (print_tagged (Some (second_of text)) (behind_second text))
+    (cond (is_first (codes "-tags") text) (print_on (tags_of (second_of text)) (behind_second text)) (printed None [] text))
+    (tagged_text (Some (second_of text)) (behind_second text) second.1)
+    (typed_if (is_first (codes "-tags") text) (print_on (tags_of (second_of text)) (behind_second text)) (printed None [] text)
+    (on_text (tags_of (second_of text)) (behind_second text) (tags_text (second_of text) second.0) second.1)
+    (printed_text None [] text (All-nil IsUtf8) utf8))
+
+-- ---- `/buffer`
+
+wrong_buffer_text : TypedUtf8 wrong_buffer
+wrong_buffer_text = wrong_text (codes "buffer") (ascii_text (codes "buffer") refl)
+
+one_word_text : (typed : List ℕ → Typed) → ((word : List ℕ) → IsUtf8 word → TypedUtf8 (typed word)) → (text : List ℕ) → IsUtf8 text → TypedUtf8 (one_word typed text)
+one_word_text typed each [] utf8 = wrong_buffer_text
+one_word_text typed each (b ∷ text) utf8 =
+    typed_if (nat_lt 0 (length (rest_of (b ∷ text)))) wrong_buffer (typed (word_of (b ∷ text))) wrong_buffer_text (each (word_of (b ∷ text)) (word_text (b ∷ text) utf8).0)
+
+without_words_text : (typed : Typed) → TypedUtf8 typed → (text : List ℕ) → TypedUtf8 (without_words typed text)
+without_words_text typed utf8 [] = utf8
+without_words_text typed utf8 (b ∷ text) = wrong_buffer_text
+
+some_text_text : (typed : List ℕ → Typed) → ((text : List ℕ) → IsUtf8 text → TypedUtf8 (typed text)) → (text : List ℕ) → IsUtf8 text → TypedUtf8 (some_text typed text)
+some_text_text typed each [] utf8 = wrong_buffer_text
+some_text_text typed each (b ∷ text) utf8 = each (b ∷ text) utf8
+
+moves_text : (word : List ℕ) → TypedUtf8 (moves_to word)
+moves_text word = typed_if (is_numeral word) (Changes (what.MoveTo (min (digits_value 10 word) (2 ^ 32 - 1)))) wrong_buffer tt wrong_buffer_text
+
+close_text : (text : List ℕ) → IsUtf8 text → TypedUtf8 (close_command text)
+close_text [] utf8 = tt
+close_text (b ∷ text) utf8 = one_word_text (λ name. Closes (Some name)) (λ word u. tt) (b ∷ text) utf8
+
+-- what stands behind the front of a word that ends in `_`
+behind_front : (front word : List ℕ) → starts (front ++ 95 ∷ []) word ≡ true → length (front ++ 95 ∷ []) ≡ 13 → IsUtf8 word → IsUtf8 (drop 13 word)
+behind_front front word begins long utf8 =
+    let whole : word ≡ (front ++ 95 ∷ []) ++ drop (length (front ++ 95 ∷ [])) word = (starts_is Decides-eqb word (front ++ 95 ∷ []) (starts (front ++ 95 ∷ []) word) refl).0 begins in
+    let parted : word ≡ front ++ 95 ∷ drop 13 word = whole ∙ append_assoc front (95 ∷ []) (drop (length (front ++ 95 ∷ [])) word) ∙ ap (λ n. front ++ 95 ∷ drop n word) long in
+    (cut_text front 95 (drop 13 word) (lit< tt) (subst IsUtf8 parted utf8)).1
+
+set_text : (word text : List ℕ) → IsUtf8 word → IsUtf8 text → TypedUtf8 (set_property word text)
+set_text word text w t =
+    if_typed (bytes_eq word (codes "name")) _ _ (λ e. some_text_text (λ value. Names value) (λ value u. u) text t) (λ e.
+    if_typed (bytes_eq word (codes "short_name")) _ _ (λ e. some_text_text (λ value. Changes (what.ShortName value)) (λ value u. u) text t) (λ e.
+    if_typed (bytes_eq word (codes "title")) _ _ (λ e. some_text_text (λ value. Changes (what.Title value)) (λ value u. u) text t) (λ e.
+    if_typed (starts (codes "localvar_set_") word) _ _
+    (λ begins. some_text_text (λ value. Changes (what.SetVar (record { name = drop 13 word; value = value }))) (λ value u. (behind_front (codes "localvar_set") word begins refl w, u)) text t) (λ e.
+    if_typed (starts (codes "localvar_del_") word) _ _
+    (λ begins. without_words_text (Changes (what.RemoveVar (drop 13 word))) (behind_front (codes "localvar_del") word begins refl w) text) (λ e. wrong_buffer_text)))))
+  where
+    if_typed : (b : Bool) (x y : Typed) → (b ≡ true → TypedUtf8 x) → (b ≡ false → TypedUtf8 y) → TypedUtf8 (cond b x y)
+    if_typed true x y p q = p refl
+    if_typed false x y p q = q refl
+
+buffer_word_text : (word text : List ℕ) → IsUtf8 text → TypedUtf8 (buffer_word word text)
+buffer_word_text word text t =
+    typed_if (bytes_eq word (codes "add")) _ _ (one_word_text (λ name. Adds name) (λ name u. u) text t)
+    (typed_if (bytes_eq word (codes "close")) _ _ (close_text text t)
+    (typed_if (bytes_eq word (codes "move")) _ _ (one_word_text moves_to (λ name u. moves_text name) text t)
+    (typed_if (bytes_eq word (codes "merge")) _ _ (one_word_text (λ name. Merges name) (λ name u. tt) text t)
+    (typed_if (bytes_eq word (codes "unmerge")) _ _ (without_words_text (Changes what.Unmerge) tt text)
+    (typed_if (bytes_eq word (codes "hide")) _ _ (without_words_text (Changes what.Hide) tt text)
+    (typed_if (bytes_eq word (codes "unhide")) _ _ (without_words_text (Changes what.Unhide) tt text)
+    (typed_if (bytes_eq word (codes "clear")) _ _ (without_words_text (Changes what.Clear) tt text)
+    (typed_if (bytes_eq word (codes "set")) _ _ (let set = word_text text t in set_text (word_of text) (rest_of text) set.0 set.1) wrong_buffer_text))))))))
+
+buffer_text : (text : List ℕ) → IsUtf8 text → TypedUtf8 (buffer_command text)
+buffer_text text utf8 = buffer_word_text (word_of text) (rest_of text) (word_text text utf8).1
+
+-- ---- commands
 
 quit_text : (text : List ℕ) → TypedUtf8 (quit_command text)
 quit_text [] = tt
@@ -57,26 +183,26 @@ quit_text (b ∷ text) = wrong_text (codes "quit") (ascii_text (codes "quit") re
 
 command_text : (name text : List ℕ) → IsUtf8 name → IsUtf8 text → TypedUtf8 (command name text)
 command_text name text n t =
-    typed_if (bytes_eq name (codes "print")) (print_command text) (cond (bytes_eq name (codes "quit")) (quit_command text) (unknown_command name)) (print_text text t)
-    (typed_if (bytes_eq name (codes "quit")) (quit_command text) (unknown_command name) (quit_text text) (unknown_text name n))
+    typed_if (bytes_eq name (codes "print")) _ _ (print_text text t)
+    (typed_if (bytes_eq name (codes "buffer")) _ _ (buffer_text text t)
+    (typed_if (bytes_eq name (codes "quit")) _ _ (quit_text text) (unknown_text name n)))
 
 slashed_text : (text : List ℕ) → IsUtf8 text → TypedUtf8 (slashed text)
 slashed_text [] utf8 = command_text [] [] IsUtf8-nil IsUtf8-nil
 slashed_text (b ∷ text) utf8 =
-    let parts = parts_text (b ∷ text) (word_of (b ∷ text)) (rest_of (b ∷ text)) (Parts-made (b ∷ text)) utf8 in
-    typed_if (eqb b 47) (refused (codes "no text here")) (command (word_of (b ∷ text)) (rest_of (b ∷ text))) no_text (command_text (word_of (b ∷ text)) (rest_of (b ∷ text)) parts.0 parts.1)
+    let parts = word_text (b ∷ text) utf8 in
+    typed_if (eqb b 47) no_text_here (command (word_of (b ∷ text)) (rest_of (b ∷ text))) no_text (command_text (word_of (b ∷ text)) (rest_of (b ∷ text)) parts.0 parts.1)
 
--- what a text asks to be printed is text
+-- what a text asks for is text
 pub typed_utf8 : (line : List ℕ) → IsUtf8 line → TypedUtf8 (typed_line line)
 unfolding typed_line
 typed_utf8 [] utf8 = tt
 typed_utf8 (b ∷ text) utf8 = by (eqb b 47) refl where
-  by : (t : Bool) → eqb b 47 ≡ t → TypedUtf8 (cond t (slashed text) (refused (codes "no text here")))
+  by : (t : Bool) → eqb b 47 ≡ t → TypedUtf8 (cond t (slashed text) no_text_here)
   by true e = let same : b ≡ 47 = grind (arith, nat_tests) in slashed_text text (cut_text [] b text (omega (arith, same)) utf8).1
   by false e = no_text
 
-pub print_texts : (line prefix message : List ℕ) → Prints prefix message ≡ typed_line line → IsUtf8 line → IsUtf8 prefix × IsUtf8 message
-print_texts line prefix message e utf8 = subst TypedUtf8 (sym e) (typed_utf8 line utf8)
+-- ---- the lines of a text
 
 -- the lines behind the first one
 abbrev pub lines_behind : Option (List ℕ) → List (List ℕ)

@@ -1,8 +1,11 @@
 pub mod Events
+pub mod Inputs
 pub mod Resolved
+pub mod ResolvedSeen
 pub mod Served
 pub mod Standing
 pub mod State
 pub mod Step
+pub mod Texts
 pub mod Typed
 pub mod TypedSeen

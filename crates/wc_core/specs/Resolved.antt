@@ -1,5 +1,5 @@
 -- What a text that is typed into a buffer comes to in a world.
-use Rattle.std.specs.Prelude.{ℕ, pos, ◌+◌, ◌-◌, ◌/◌, ◌++◌, ◌==◌, suc, true, false, List, [], ◌∷◌, codes, if◌then◌else◌, Option, Some, None}
+use Rattle.std.specs.Prelude.{ℕ, pos, ◌/◌, ◌++◌, ◌==◌, zero, suc, true, false, List, [], ◌∷◌, codes, if◌then◌else◌, Option, Some, None}
 use Rattle.std.specs.List.{slice_get, before_first}
 use Rattle.std.specs.Str.Parse.{digits_value}
 use Rattle.wc_text.specs.declared.names.Handle.{Handle}
@@ -40,7 +40,7 @@ first_in_group (Some group) = first_in group
 
 -- the first buffer of the group of this number
 abbrev pub numbered : Groups → ℕ → Option Handle
-numbered groups 0 = None
+numbered groups zero = None
 numbered groups (suc n) = first_in_group (slice_get groups n)
 
 -- a buffer by the number of its group, its full name or its handle

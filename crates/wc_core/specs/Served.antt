@@ -214,6 +214,11 @@ pub record MayCome (link : ℕ) (old new : Standing) (refused : Option Cause) (s
 abbrev pub listens : EventKind → ℕ → Seat → Bool
 listens kind buffer seat = is_open seat && follows kind buffer seat.session.client
 
+-- a seat behind an event that is not told
+abbrev pub noted_seat : EventKind → ℕ → Seat → Seat
+noted_seat kind buffer seat =
+    if is_open seat then record seat { session = record seat.session { client = heard kind buffer seat.session.client } } else seat
+
 -- a seat behind an event
 abbrev pub heard_seat : Spelled → Seat → Seat
 heard_seat event seat = if is_open seat then record seat { session = with_event event seat.session } else seat
@@ -221,16 +226,17 @@ heard_seat event seat = if is_open seat then record seat { session = with_event 
 -- a seat where no memory is found for an event: its client leaves, where the event is for it
 abbrev pub starved_seat : EventKind → ℕ → Seat → Seat
 starved_seat kind buffer seat =
-    if listens kind buffer seat then record seat { leaving = Some NoMemory } else (
-    if is_open seat then record seat { session = record seat.session { client = heard kind buffer seat.session.client } } else seat)
+    if listens kind buffer seat then record seat { leaving = Some NoMemory } else noted_seat kind buffer seat
 
 -- a seat once a notice is told, in the world behind the change
 abbrev pub told_seat : World → Notice → Seat → Seat
 told_seat world notice seat =
-    if is_open seat then record seat { session = record {
-      client = heard notice.kind notice.buffer.0 seat.session.client;
-      unsent = seat.session.unsent ++ flat_map (λ m. spelling m) (notice_told world notice seat.session.client);
-    } } else seat
+    if is_open seat then record seat {
+      session = record {
+        client = heard notice.kind notice.buffer.0 seat.session.client;
+        unsent = seat.session.unsent ++ flat_map (λ m. spelling m) (notice_told world notice seat.session.client);
+      };
+    } else seat
 
 -- a seat behind this service of it, or one whose client leaves for want of memory, where the service was for it
 abbrev pub SeatServed : EventKind → ℕ → (Seat → Seat) → Seat → Seat → Type 0

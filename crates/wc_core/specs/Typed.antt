@@ -1,7 +1,7 @@
 -- What a text that is typed into a buffer asks for, by its bytes alone.
 use Rattle.std.specs.Prelude.{ℕ, ◌^◌, ◌-◌, min, Bool, List, [], ◌∷◌, ◌++◌, codes, drop, length, filter, nat_eq, nat_lt, if◌then◌else◌, ◌==◌, Option, Some, None}
 use Rattle.std.specs.List.{slice_split, starts_with}
-use Rattle.std.specs.Str.{bytes_eq, IsUtf8}
+use Rattle.std.specs.Str.{bytes_eq}
 use Rattle.std.specs.Str.Parse.{digits_value}
 use Rattle.wc_text.specs.Integer.{is_numeral}
 use Rattle.wc_text.specs.Words.{is_filled}

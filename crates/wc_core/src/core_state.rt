@@ -1,71 +1,78 @@
-ghost use Rattle.std.specs.Prelude.{◌≡◌, ◌≢◌, ◌⊎◌, ◌∷◌, ◌≤◌, ◌^◌, ◌-◌, ◌+◌, ◌<◌, ◌++◌, [], min, List, length, true, false, Some, None, IfOk, IfSome};
+ghost use Rattle.std.specs.Prelude.{◌≡◌, ◌≢◌, ◌⊎◌, ◌∷◌, ◌≤◌, ◌^◌, ◌-◌, ◌+◌, ◌<◌, ◌++◌, [], ℕ, min, List, length, true, false, Some, None, IfOk, IfSome};
 ghost use Rattle.std.specs.Option.{option_copied};
 ghost use Rattle.std.specs.Str.{IsUtf8};
 ghost use Rattle.wc_outside.specs.Keyed.{at_key, without, IsPlace};
-ghost use Rattle.wc_lines.specs.LineText.{HasText};
+ghost use Rattle.wc_buffers.specs.Calls.{is_there};
+ghost use Rattle.wc_model.specs.Apply.{refusal};
+ghost use Rattle.wc_world.specs.Texts.{IsChangeText};
 ghost use Rattle.wc_relaycmd.specs.Utf8.{HasUtf8};
 ghost use Rattle.wc_session.specs.Served.{OnServed, OnNoMemory};
 ghost use Rattle.wc_core.specs.Events.{Start, Tick, Arrives, Line as LineCame};
 ghost use Rattle.wc_core.specs.Typed.{typed_line, parted};
 ghost use Rattle.wc_core.specs.State.{first_state};
-ghost use Rattle.wc_core.specs.Step.{step, stays, prints, prints_text, last_handle, does, is_quit, runs, leaves, lost, follows, asked, client_link};
+ghost use Rattle.wc_core.specs.Step.{step, changes, tells, asks, does, is_quit, runs, leaves, lost, follows, asked, client_link};
+ghost use Rattle.wc_core.specs.Texts.{WhatUtf8};
 ghost use Rattle.wc_core.specs.Served.{seat_link, state_of, unsent_at, gone_at, is_open_at, left_at, new_seat, departure_of, Absent, links_of, MayDo, MayCome, Starves, OutcomeUtf8};
+ghost use Rattle.wc_core.specs.Inputs.{Changes, MayTell, GoesOn, Stops};
 
-use crate::line::new_line;
-use crate::seat::{Departure, Seat, drop_seat, first_departure, open_count, seat_place, tell_line};
-use crate::typed::{Asked, read_typed};
+use crate::changes::told_refusal;
+use crate::refusals::refusal_text;
+use crate::resolve::{Resolution, resolve};
+use crate::seat::{
+    Departure, Seat, drop_seat, first_departure, open_count, seat_place, tell_notice,
+};
+use crate::typed::read_typed;
+use crate::untouched::Untouched;
 use std::alloc::Global;
 use std::marker::Model;
-use wc_lines::{Line, Lines};
+use wc_model::{Change, ChangeRefused, Notice};
 use wc_relaycmd::{Request, read_request, split_once};
 use wc_session::{Outcome, Session};
-use wc_text::{Arrival, Cause, LinkId, NoMemory, Text};
+use wc_text::{Arrival, Cause, Handle, LinkId, NoMemory, Text};
+use wc_world::World;
 
 /// How many clients are open at most.
 const CLIENT_LIMIT: usize = 5;
 
-/// The first handle behind those of the core buffer.
-const FIRST_HANDLE: u64 = 5;
-
-/// The last handle that there is.
-const LAST_HANDLE: u64 = 1 << 62;
-
-/// The engine between the loop and the sessions: the clients, and the lines of the core buffer.
+/// The engine between the loop and the sessions: the clients, and the buffers with their lines.
 #[derive(Drop)]
 pub struct Core {
     alloc: Global,
     password: Text,
-    lines: Lines,
+    world: World,
     seats: Vec<Seat>,
-    next: u64,
     moment: u64,
     starved: u64,
     quits: bool,
 }
 
 impl Model for Core {
+    ghost use Rattle.std.specs.Coded.{codes};
+    ghost use Rattle.std.specs.FinMap as map;
     ghost use Rattle.wc_core.specs.Standing.{Standing};
 
     ghost Value = { Standing };
 
-    ghost view = { λ core. record { password = core.password; lines = core.lines; seats = core.seats.items; next = core.next; moment = core.moment; starved = core.starved; quits = core.quits } };
+    ghost coded = { Prim.hlevel (codes, map.code) };
+
+    ghost view = { λ core. record { password = core.password; world = core.world; seats = core.seats.items; moment = core.moment; starved = core.starved; quits = core.quits } };
 }
 
 impl Core {
-    /// A core without clients and lines, for clients that log in by this password. It holds at most so many lines.
+    /// A core without clients and with the core buffer alone, for clients that log in by this password. A buffer holds
+    /// at most so many lines.
     pub fn new(alloc: Global, password: Text, limit: u32) -> Result<Core, NoMemory>
         requires some { 1 ≤ limit }
         requires most { limit ≤ 4096 }
         ensures state { IfOk result (λ core. state_of core ≡ first_state password limit) }
         ensures fresh { IfOk result (λ core. (core.seats ≡ []) × (core.starved ≡ 0) × (core.quits ≡ false)) }
     {
-        let lines = Lines::new(alloc, limit)?;
+        let world = World::new(alloc, limit)?;
         Ok(Core {
             alloc,
             password,
-            lines,
+            world,
             seats: Vec::new(alloc),
-            next: FIRST_HANDLE,
             moment: 0,
             starved: 0,
             quits: false,
@@ -150,7 +157,7 @@ impl Core {
     {
         let outcome = self.seats[place]
             .session
-            .request(self.alloc, &self.lines, &self.password, request);
+            .request(self.alloc, &self.world, &self.password, request);
         self.follow(link, outcome);
     }
 
@@ -163,7 +170,7 @@ impl Core {
     {
         match outcome {
             Outcome::Replied | Outcome::Silent => {}
-            Outcome::Input { buffer: _, text } => self.run_lines(text.as_slice()),
+            Outcome::Input { buffer, text } => self.run_lines(buffer, text.as_slice()),
             Outcome::Leave(cause) => self.lose(link, cause),
             Outcome::NoMemory => self.starve_out(link),
         }
@@ -189,68 +196,129 @@ impl Core {
         self.starve();
     }
 
-    /// Runs a text that is typed into the core buffer, line by line. Behind a `/quit` nothing is run.
-    fn run_lines(&mut self, text: &[u8])
+    /// Runs a text that is typed into a buffer, line by line. Behind a `/quit` nothing is run, nor once the buffer is
+    /// closed, nor where memory was refused.
+    fn run_lines(&mut self, buffer: Handle, text: &[u8])
         requires { IsUtf8 text.now }
-        ensures { MayDo self.old self.new (runs (state_of self.old) (parted text.now)) }
+        ensures { MayDo self.old self.new (runs (state_of self.old) buffer (parted text.now)) }
     {
         let mut left = Some(text);
         while let Some(rest) = left {
             let (line, behind) = split_once(rest, b'\n');
-            if self.run_line(line) {
+            if !self.has_buffer(buffer) {
+                return;
+            }
+            if self.run_line(buffer, line) {
                 return;
             }
             left = behind;
         }
     }
 
-    /// Runs a line that is typed into the core buffer. It answers whether the run is to end.
-    fn run_line(&mut self, line: &[u8]) -> bool
+    fn has_buffer(&self, buffer: Handle) -> bool
+        ensures { result ≡ is_there buffer self.now.world.groups }
+    {
+        match self.world.buffers().get(buffer) {
+            Some(_) => true,
+            None => false,
+        }
+    }
+
+    /// Runs a line that is typed into a buffer that is there. It answers whether what is behind the line is skipped.
+    fn run_line(&mut self, buffer: Handle, line: &[u8]) -> bool
         requires { IsUtf8 line.now }
-        ensures does { MayDo self.old self.new (does (state_of self.old) (typed_line line.now)) }
+        ensures goes_on { result ≡ false → GoesOn self.old self.new buffer line.now }
+        ensures stops { result ≡ true → Stops self.old self.new buffer line.now }
+    {
+        let starved = self.starved;
+        if self.do_line(buffer, line) {
+            return true;
+        }
+        self.starved != starved
+    }
+
+    /// Does what a line asks for that is typed into a buffer. It answers whether the run is to end.
+    fn do_line(&mut self, buffer: Handle, line: &[u8]) -> bool
+        requires { IsUtf8 line.now }
+        ensures does { MayDo self.old self.new (does (state_of self.old) buffer (typed_line line.now)) }
         ensures quits { result ≡ is_quit (typed_line line.now) }
     {
-        match read_typed(line) {
-            Asked::Nothing => false,
-            Asked::Print {
-                prefix,
-                front,
-                message,
-            } => {
-                self.print(prefix, front, message);
-                false
-            }
-            Asked::Quit => {
+        let _texts = self.world.buffers().groups();
+        let asked = read_typed(line);
+        match resolve(self.alloc, &self.world, self.moment, buffer, asked) {
+            Ok(Resolution::Stays) => false,
+            Ok(Resolution::Ends) => {
                 self.quits = true;
                 true
+            }
+            Ok(Resolution::Tells(text)) => {
+                self.tell_refusal(text);
+                false
+            }
+            Ok(Resolution::Asks(change)) => {
+                self.ask_change(change);
+                false
+            }
+            Err(NoMemory) => {
+                self.starve();
+                false
             }
         }
     }
 
-    /// Prints a line, whose message is two texts, where there are handles for it.
-    fn print(&mut self, prefix: &[u8], front: &[u8], message: &[u8])
-        requires prefix { IsUtf8 prefix.now }
-        requires message { IsUtf8 (front.now ++ message.now) }
-        ensures { MayDo self.old self.new (prints_text (state_of self.old) prefix.now (front.now ++ message.now)) }
+    /// Makes a change, or tells why it is refused.
+    fn ask_change(&mut self, change: Change)
+        requires { WhatUtf8 change.what }
+        ensures { MayDo self.old self.new (asks (state_of self.old) change) }
     {
-        if self.next >= LAST_HANDLE {
+        let Some(reason) = self.change(change) else {
             return;
-        }
-        match new_line(self.alloc, self.next, self.moment, prefix, front, message) {
-            Ok(line) => self.show(line),
+        };
+        match refusal_text(self.alloc, &reason) {
+            Ok(text) => self.tell_refusal(text),
             Err(NoMemory) => self.starve(),
         }
     }
 
-    /// Puts a line behind the others, and tells it to each client that asked for it.
-    fn show(&mut self, line: Line)
-        requires room { self.old.next < 2 ^ 62 }
-        requires text { HasText line }
-        ensures { MayDo self.old self.new (prints (state_of self.old) line) }
+    /// Tells a refusal by a line of the core buffer, where there are handles for it.
+    fn tell_refusal(&mut self, text: Text)
+        requires { IsUtf8 text }
+        ensures { MayDo self.old self.new (tells (state_of self.old) text) }
     {
-        let told = tell_line(&mut self.seats, self.alloc, &line);
-        let _oldest = self.lines.push(line);
-        self.next += 2;
+        match told_refusal(self.alloc, self.moment, text) {
+            Ok(line) => {
+                let _skipped = self.change(line);
+            }
+            Err(NoMemory) => self.starve(),
+        }
+    }
+
+    /// Makes a change, and tells it to each client that asked for its event. It answers why the change is refused, and
+    /// nothing where it is made or memory was refused.
+    fn change(&mut self, change: Change) -> Option<ChangeRefused>
+        requires { IsChangeText change.what }
+        ensures made { result ≡ None → Changes self.old change self.new }
+        ensures refused { IfSome result (λ reason. (self.new ≡ self.old) × (refusal self.old.world change ≡ Some reason)) }
+    {
+        match self.world.change(self.alloc, change, &mut Untouched) {
+            Ok(notice) => {
+                self.tell(&notice);
+                None
+            }
+            Err(ChangeRefused::NoMemory) => {
+                self.starve();
+                None
+            }
+            Err(reason) => Some(reason),
+        }
+    }
+
+    /// Tells what was noticed of a change.
+    fn tell(&mut self, notice: &Notice)
+        requires { IsUtf8 notice.now.full_name }
+        ensures { MayTell self.old self.new notice.now }
+    {
+        let told = tell_notice(&mut self.seats, self.alloc, &self.world, notice);
         if told {
             return;
         }
@@ -351,10 +419,10 @@ impl Core {
         self.quits
     }
 
-    /// The lines of the core buffer.
-    pub fn lines(&self) -> &Lines
-        ensures { result.now ≡ self.now.lines }
+    /// The buffers, with their lines.
+    pub fn world(&self) -> &World
+        ensures { result.now ≡ self.now.world }
     {
-        &self.lines
+        &self.world
     }
 }

@@ -1,10 +1,19 @@
-//! The core: the clients, the lines of the core buffer, and what is typed into it.
+//! The core: the clients, the buffers with their lines, and what is typed into them.
 #![tactic(auto)]
 
+mod buffer_word;
+mod changes;
 mod core_state;
-mod line;
+mod meant;
+mod number;
+mod refusals;
+mod resolve;
 mod seat;
+mod tags;
 mod typed;
+mod typed_buffer;
+mod typed_print;
+mod untouched;
 
 pub use core_state::Core;
 pub use seat::{Departure, Seat};

@@ -1,13 +1,14 @@
 ghost use Rattle.std.specs.Prelude.{◌≡◌, ◌==◌, true, false, length, filter, map, position};
 ghost use Rattle.std.specs.List.{list_any};
+ghost use Rattle.std.specs.Str.{IsUtf8};
 ghost use Rattle.wc_outside.specs.Keyed.{PlaceOf, without};
-ghost use Rattle.wc_lines.specs.LineText.{HasText};
-ghost use Rattle.wc_core.specs.Served.{seat_link, is_open, departure_of, listens, heard_seat, starved_seat, told_seat, SeatsServed};
+ghost use Rattle.wc_core.specs.Served.{seat_link, is_open, departure_of, listens, noted_seat, heard_seat, starved_seat, told_seat, SeatsServed};
 
 use std::alloc::Global;
-use wc_lines::Line;
-use wc_session::{LineEvent, Session};
-use wc_text::{Cause, LinkId};
+use wc_model::{EventKind, Notice};
+use wc_session::{BufferEvent, Session};
+use wc_text::{Cause, Handle, LinkId};
+use wc_world::World;
 
 /// A client. One that is leaving takes part in nothing more, and its unsent bytes are still lent.
 #[derive(Drop)]
@@ -30,19 +31,28 @@ impl Seat {
         self.leaving.is_none()
     }
 
-    /// Whether events of the core buffer are for this client: it is open, and asked for them.
-    fn listens(&self) -> bool
-        ensures { result ≡ listens self.now }
+    /// Whether an event of a buffer is for this client: it is open, and asked for it.
+    fn listens(&self, kind: EventKind, buffer: Handle) -> bool
+        ensures { result ≡ listens kind buffer.0 self.now }
     {
-        self.is_open() && self.session.follows_core()
+        self.is_open() && self.session.follows(kind, buffer)
     }
 
-    /// Tells the event of a new line, where it is for this client. False where memory is refused: the client leaves.
-    fn tell(&mut self, event: &LineEvent) -> bool
-        ensures told { result ≡ true → self.new ≡ heard_seat event.now self.old }
-        ensures starved { result ≡ false → self.new ≡ starved_seat self.old }
+    /// Takes note of an event that is not told, while the client is open.
+    fn note(&mut self, kind: EventKind, buffer: Handle)
+        ensures { self.new ≡ noted_seat kind buffer.0 self.old }
     {
-        if !self.listens() {
+        if self.is_open() {
+            self.session.hear(kind, buffer);
+        }
+    }
+
+    /// Tells an event, where it is for this client. False where memory is refused: the client leaves.
+    fn tell(&mut self, event: &BufferEvent) -> bool
+        ensures told { result ≡ true → self.new ≡ heard_seat event.now self.old }
+        ensures starved { result ≡ false → self.new ≡ starved_seat event.now.kind event.now.buffer.0 self.old }
+    {
+        if !self.is_open() {
             return true;
         }
         if self.session.append_event(event).is_err() {
@@ -53,26 +63,37 @@ impl Seat {
     }
 
     /// Serves want of memory for an event: where it is for this client, the client leaves.
-    fn starve(&mut self)
-        ensures { self.new ≡ starved_seat self.old }
+    fn starve(&mut self, kind: EventKind, buffer: Handle)
+        ensures { self.new ≡ starved_seat kind buffer.0 self.old }
     {
-        if self.listens() {
+        if self.listens(kind, buffer) {
             self.leaving = Some(Cause::NoMemory);
+            return;
         }
+        self.note(kind, buffer);
     }
 }
 
-/// Whether events of the core buffer are for some client.
-fn some_listens(seats: &[Seat]) -> bool
-    ensures { result ≡ list_any (λ seat. listens seat) seats.now }
+/// Whether an event of a buffer is for some client.
+fn some_listens(seats: &[Seat], kind: EventKind, buffer: Handle) -> bool
+    ensures { result ≡ list_any (λ seat. listens kind buffer.0 seat) seats.now }
 {
-    seats.iter().any(|seat| seat.listens())
+    seats.iter().any(|seat| seat.listens(kind, buffer))
 }
 
-/// Tells the event of a new line to each client that it is for. False where one finds no memory for it.
-fn tell_all(seats: &mut [Seat], event: &LineEvent) -> bool
+/// Has each client that is open take note of an event that is for none.
+fn note_all(seats: &mut [Seat], kind: EventKind, buffer: Handle)
+    ensures { seats.new ≡ map (noted_seat kind buffer.0) seats.old }
+{
+    for seat in seats.iter_mut() {
+        seat.note(kind, buffer);
+    }
+}
+
+/// Tells an event to each client that it is for. False where one finds no memory for it.
+fn tell_all(seats: &mut [Seat], event: &BufferEvent) -> bool
     ensures told { result ≡ true → seats.new ≡ map (heard_seat event.now) seats.old }
-    ensures each { SeatsServed (heard_seat event.now) seats.old seats.new }
+    ensures each { SeatsServed event.now.kind event.now.buffer.0 (heard_seat event.now) seats.old seats.new }
 {
     let mut told = true;
     for seat in seats.iter_mut() {
@@ -83,26 +104,27 @@ fn tell_all(seats: &mut [Seat], event: &LineEvent) -> bool
 }
 
 /// Serves want of memory for an event: each client that it is for leaves.
-fn starve_all(seats: &mut [Seat])
-    ensures { seats.new ≡ map starved_seat seats.old }
+fn starve_all(seats: &mut [Seat], kind: EventKind, buffer: Handle)
+    ensures { seats.new ≡ map (starved_seat kind buffer.0) seats.old }
 {
     for seat in seats.iter_mut() {
-        seat.starve();
+        seat.starve(kind, buffer);
     }
 }
 
-/// Tells a new line to each client that is open and asked for it. Its event is spelled once, where it is for some client.
-/// False where memory is refused: who is not told leaves.
-pub fn tell_line(seats: &mut [Seat], alloc: Global, line: &Line) -> bool
-    requires { HasText line.now }
-    ensures told { result ≡ true → seats.new ≡ map (told_seat line.now) seats.old }
-    ensures each { SeatsServed (told_seat line.now) seats.old seats.new }
+/// Tells what was noticed of a change to each client that is open and asked for it, in the world behind the change. Its
+/// event is spelled once, where it is for some client. False where memory is refused: who is not told leaves.
+pub fn tell_notice(seats: &mut [Seat], alloc: Global, world: &World, notice: &Notice) -> bool
+    requires { IsUtf8 notice.now.full_name }
+    ensures told { result ≡ true → seats.new ≡ map (told_seat world.now notice.now) seats.old }
+    ensures each { SeatsServed notice.now.kind notice.now.buffer.0 (told_seat world.now notice.now) seats.old seats.new }
 {
-    if !some_listens(seats) {
+    if !some_listens(seats, notice.kind, notice.buffer) {
+        note_all(seats, notice.kind, notice.buffer);
         return true;
     }
-    let Ok(event) = LineEvent::of(alloc, line) else {
-        starve_all(seats);
+    let Ok(event) = BufferEvent::of(alloc, world, notice) else {
+        starve_all(seats, notice.kind, notice.buffer);
         return false;
     };
     tell_all(seats, &event)

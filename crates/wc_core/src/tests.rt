@@ -1,7 +1,7 @@
 use super::*;
 use std::alloc::Global;
 use std::test::Fail;
-use wc_text::{Arrival, Cause, LinkId, NoMemory, Text};
+use wc_text::{Arrival, Cause, Handle, LinkId, NoMemory, Text};
 
 const NONCE: [u8; 16] = *b"abcdbcdecdefdefg";
 
@@ -30,6 +30,28 @@ fn unsent_len(core: &Core, number: u64) -> usize {
     match core.unsent(LinkId(number)) {
         Some(unsent) => unsent.len(),
         None => 0,
+    }
+}
+
+/// How many lines a buffer holds; none where it is not there.
+fn line_count(core: &Core, buffer: u64) -> u32 {
+    match core.world().lines(Handle(buffer)) {
+        Some(lines) => lines.len(),
+        None => 0,
+    }
+}
+
+/// Whether the oldest line of a buffer says this.
+fn says(core: &Core, buffer: u64, prefix: &str, message: &str) -> bool {
+    let Some(lines) = core.world().lines(Handle(buffer)) else {
+        return false;
+    };
+    match lines.iter().next() {
+        Some(line) => {
+            line.prefix.as_slice() == prefix.as_bytes()
+                && line.message.as_slice() == message.as_bytes()
+        }
+        None => false,
     }
 }
 
@@ -87,6 +109,13 @@ const ROWS: &[Row] = &[
         password: "x",
         lines: "init password=x\ninput core.weechat /print hello",
         unsent: 0,
+        cause: None,
+    },
+    Row {
+        what: "the event of a clear",
+        password: "x",
+        lines: "init password=x\nsync\ninput core.weechat /buffer clear",
+        unsent: 91,
         cause: None,
     },
     Row {
@@ -176,8 +205,18 @@ const TYPED: &[TypedRow] = &[
     },
     TypedRow {
         typed: "/print -x a",
+        prefix: "",
+        message: "-x a",
+    },
+    TypedRow {
+        typed: "/print -tags b,,c -buffer 1 a",
+        prefix: "",
+        message: "a",
+    },
+    TypedRow {
+        typed: "/print -buffer core.a a",
         prefix: "=!=",
-        message: "wrong arguments: /print",
+        message: "buffer: no such buffer",
     },
     TypedRow {
         typed: "/print",
@@ -209,6 +248,56 @@ const TYPED: &[TypedRow] = &[
         prefix: "=!=",
         message: "no text here",
     },
+    TypedRow {
+        typed: "/buffer",
+        prefix: "=!=",
+        message: "wrong arguments: /buffer",
+    },
+    TypedRow {
+        typed: "/buffer add a b",
+        prefix: "=!=",
+        message: "wrong arguments: /buffer",
+    },
+    TypedRow {
+        typed: "/buffer close",
+        prefix: "=!=",
+        message: "buffer: core buffer",
+    },
+    TypedRow {
+        typed: "/buffer add weechat",
+        prefix: "=!=",
+        message: "buffer: name taken: core.weechat",
+    },
+    TypedRow {
+        typed: "/buffer move 9999999999",
+        prefix: "=!=",
+        message: "buffer: bad number",
+    },
+    TypedRow {
+        typed: "/buffer merge 1",
+        prefix: "=!=",
+        message: "buffer: same group",
+    },
+    TypedRow {
+        typed: "/buffer unmerge",
+        prefix: "=!=",
+        message: "buffer: not merged",
+    },
+    TypedRow {
+        typed: "/buffer set localvar_set_ v",
+        prefix: "=!=",
+        message: "buffer: bad name",
+    },
+    TypedRow {
+        typed: "/buffer set localvar_set_name v",
+        prefix: "=!=",
+        message: "buffer: fixed variable",
+    },
+    TypedRow {
+        typed: "/buffer set localvar_del_a",
+        prefix: "=!=",
+        message: "buffer: no such variable: a",
+    },
 ];
 
 #[test]
@@ -221,11 +310,8 @@ fn runs_what_is_typed(rt: HostRuntime) -> Result<(), Fail> {
         line.append(row.typed.as_bytes())?;
         core.relay_line(LinkId(1), line.as_slice());
         let what: &'static str = row.typed;
-        assert!(rt; core.lines().len() == 1, "{what}");
-        if let Some(line) = core.lines().iter().next() {
-            assert!(rt; line.prefix.as_slice() == row.prefix.as_bytes(), "{what}");
-            assert!(rt; line.message.as_slice() == row.message.as_bytes(), "{what}");
-        }
+        assert!(rt; line_count(&core, 1) == 1, "{what}");
+        assert!(rt; says(&core, 1, row.prefix, row.message), "{what}");
         assert!(rt; !core.quits());
     }
     Ok(())
@@ -246,13 +332,7 @@ fn runs_several_lines_up_to_a_quit(rt: HostRuntime) -> Result<(), Fail> {
         "input 0x1 /print a\\n\\n/print b\\n/quit\\n/print c",
     );
     assert!(rt; core.quits());
-    assert_eq!(rt; core.lines().len(), 2);
-    let handles = core
-        .lines()
-        .iter()
-        .map(|line| line.content.0)
-        .fold(0u64, |sum, n| sum.wrapping_add(n));
-    assert_eq!(rt; handles, 14);
+    assert_eq!(rt; line_count(&core, 1), 2);
     Ok(())
 }
 
@@ -274,6 +354,65 @@ fn tells_lines_to_those_who_asked(rt: HostRuntime) -> Result<(), Fail> {
     say(&mut core, 2, "input core.weechat /print hello");
     assert_eq!(rt; (unsent_len(&core, 1), unsent_len(&core, 2)), (438, 438));
     assert!(rt; cause_of(&core) == Some(Cause::Ended));
+    Ok(())
+}
+
+/// What is typed, and the buffers before and behind in the last bytes of its event.
+const PLACES: [(&str, &[u8]); 4] = [
+    ("input core.b /buffer merge core.a", b"\x015\x01d"),
+    ("input core.c /buffer merge core.a", b"\x019\x010"),
+    ("input core.a /buffer move 1", b"\x010\x019"),
+    ("input core.b /buffer unmerge", b"\x01d\x011"),
+];
+
+#[test]
+fn merges_moves_and_unmerges(rt: HostRuntime) -> Result<(), Fail> {
+    let mut core = new_core(rt.alloc(), "x")?;
+    assert!(rt; arrive(&mut core, 1).is_none());
+    say(
+        &mut core,
+        1,
+        "init password=x\nsync\ninput core.weechat /buffer add a\ninput core.weechat /buffer add b\ninput 0x1 /buffer add c",
+    );
+    for (line, places) in PLACES {
+        say(&mut core, 1, line);
+        let ends = match core.unsent(LinkId(1)) {
+            Some(unsent) => unsent.ends_with(places),
+            None => false,
+        };
+        assert!(rt; ends, "{line}");
+    }
+    for (handle, number) in [(5u64, 1u32), (0xd, 1), (9, 2), (1, 3)] {
+        assert!(rt; core.world().buffers().number(Handle(handle)) == Some(number));
+    }
+    Ok(())
+}
+
+#[test]
+fn prints_on_another_buffer(rt: HostRuntime) -> Result<(), Fail> {
+    let mut core = new_core(rt.alloc(), "x")?;
+    assert!(rt; arrive(&mut core, 1).is_none());
+    say(
+        &mut core,
+        1,
+        "init password=x\ninput core.weechat /buffer add a\ninput core.weechat /print -buffer core.a -tags x,,y p\tm",
+    );
+    assert_eq!(rt; (line_count(&core, 1), line_count(&core, 5)), (0, 1));
+    assert!(rt; says(&core, 5, "p", "m"));
+    Ok(())
+}
+
+#[test]
+fn skips_what_stands_behind_a_close(rt: HostRuntime) -> Result<(), Fail> {
+    let mut core = new_core(rt.alloc(), "x")?;
+    assert!(rt; arrive(&mut core, 1).is_none());
+    say(
+        &mut core,
+        1,
+        "handshake escape_commands=on\ninit password=x\ninput core.weechat /buffer add a\ninput core.a /buffer close\\n/print -buffer 1 b",
+    );
+    assert!(rt; core.world().buffers().number(Handle(5)).is_none());
+    assert_eq!(rt; line_count(&core, 1), 0);
     Ok(())
 }
 

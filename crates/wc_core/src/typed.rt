@@ -1,84 +1,77 @@
-ghost use Rattle.std.specs.Prelude.{◌≡◌, codes};
-ghost use Rattle.wc_core.specs.Typed.{refused, unknown_command, wrong_arguments, printed, print_command, quit_command, command, slashed, typed_line};
+ghost use Rattle.std.specs.Prelude.{◌≡◌};
+ghost use Rattle.wc_core.specs.Typed.{no_text_here, unknown_command, wrong_arguments, quit_command, command, slashed, typed_line};
 ghost use Rattle.wc_core.specs.TypedSeen.{meaning};
 
-use wc_relaycmd::{cut_word, split_once};
-
-/// The prefix of a line that tells a refusal.
-const REFUSAL: &[u8] = b"=!=";
+use crate::typed_buffer::buffer_command;
+use crate::typed_print::print_command;
+use wc_relaycmd::cut_word;
 
 const UNKNOWN: &[u8] = b"unknown command: /";
 
 const WRONG: &[u8] = b"wrong arguments: /";
 
-/// What a line that is typed into the core buffer asks for.
+/// What a line that is typed into a buffer asks for.
+#[derive(Drop)]
 pub enum Asked<'a> {
     Nothing,
-    /// A line whose message is these two texts.
-    Print {
-        prefix: &'a [u8],
-        front: &'a [u8],
-        message: &'a [u8],
-    },
     /// The end of the run.
     Quit,
+    /// A refusal, whose text is these two.
+    Refused {
+        front: &'a [u8],
+        name: &'a [u8],
+    },
+    /// A line of the buffer that is named, or else of the one into which it was typed. Commas part the tags.
+    Print {
+        buffer: Option<&'a [u8]>,
+        tags: &'a [u8],
+        prefix: &'a [u8],
+        message: &'a [u8],
+    },
+    /// A new buffer.
+    Add(&'a [u8]),
+    /// The end of the buffer that is named, or else of the one into which it was typed.
+    Close(Option<&'a [u8]>),
+    MoveTo(u32),
+    /// The buffer goes to the group of the one that is named.
+    Merge(&'a [u8]),
+    Unmerge,
+    Hide,
+    Unhide,
+    Clear,
+    /// Another name behind the first dot of the full name.
+    Name(&'a [u8]),
+    ShortName(&'a [u8]),
+    Title(&'a [u8]),
+    SetVar {
+        name: &'a [u8],
+        value: &'a [u8],
+    },
+    RemoveVar(&'a [u8]),
 }
 
 fn no_text_here<'a>() -> Asked<'a>
-    ensures { meaning result ≡ refused (codes "no text here") }
+    ensures { meaning result ≡ no_text_here }
 {
-    Asked::Print {
-        prefix: REFUSAL,
-        front: b"",
-        message: b"no text here",
+    Asked::Refused {
+        front: b"no text here",
+        name: b"",
     }
 }
 
 fn unknown_command(name: &[u8]) -> Asked<'_>
     ensures { meaning result ≡ unknown_command name.now }
 {
-    Asked::Print {
-        prefix: REFUSAL,
+    Asked::Refused {
         front: UNKNOWN,
-        message: name,
+        name,
     }
 }
 
-fn wrong_arguments(name: &[u8]) -> Asked<'_>
+pub(crate) fn wrong_arguments(name: &[u8]) -> Asked<'_>
     ensures { meaning result ≡ wrong_arguments name.now }
 {
-    Asked::Print {
-        prefix: REFUSAL,
-        front: WRONG,
-        message: name,
-    }
-}
-
-/// A text whose first tab parts the prefix from the message.
-fn printed(text: &[u8]) -> Asked<'_>
-    ensures { meaning result ≡ printed text.now }
-{
-    match split_once(text, b'\t') {
-        (prefix, Some(message)) => Asked::Print {
-            prefix,
-            front: b"",
-            message,
-        },
-        (_, None) => Asked::Print {
-            prefix: b"",
-            front: b"",
-            message: text,
-        },
-    }
-}
-
-fn print_command(text: &[u8]) -> Asked<'_>
-    ensures { meaning result ≡ print_command text.now }
-{
-    match text {
-        [] | [b'-', ..] => wrong_arguments(b"print"),
-        _ => printed(text),
-    }
+    Asked::Refused { front: WRONG, name }
 }
 
 fn quit_command(text: &[u8]) -> Asked<'_>
@@ -96,6 +89,8 @@ fn command<'a>(name: &'a [u8], text: &'a [u8]) -> Asked<'a>
 {
     if name == b"print".as_slice() {
         print_command(text)
+    } else if name == b"buffer".as_slice() {
+        buffer_command(text)
     } else if name == b"quit".as_slice() {
         quit_command(text)
     } else {
@@ -114,7 +109,7 @@ fn slashed(text: &[u8]) -> Asked<'_>
     command(name, rest)
 }
 
-/// Reads a line that is typed into the core buffer, which takes commands and no text.
+/// Reads a line that is typed into a buffer. What does not begin with a `/` is a text, which no buffer takes.
 #[tactic(auto, unfolding(crate::specs::Typed::typed_line))]
 pub fn read_typed(line: &[u8]) -> Asked<'_>
     ensures { meaning result ≡ typed_line line.now }

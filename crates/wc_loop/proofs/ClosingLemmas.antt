@@ -9,7 +9,8 @@ use Rattle.wc_text.specs.declared.names.Pair.{Pair}
 use Rattle.wc_text.specs.declared.names.Cause.{Cause}
 use Rattle.wc_text.specs.declared.names.Cause.TheVariants.{Ended, Failed, LoginFailed, Quit}
 use Rattle.wc_outside.specs.Keyed.{at_key, put_at}
-use Rattle.wc_lines.specs.declared.line.Line.{Line}
+use Rattle.wc_text.specs.declared.names.Handle.{Handle}
+use Rattle.wc_model.specs.World.{World}
 use Rattle.wc_objects.specs.declared.object.WireMessage.{WireMessage}
 use Rattle.wc_relaycmd.specs.Answers.{request_of}
 use Rattle.wc_relaycmd.specs.declared.request.Command.{Command}
@@ -20,8 +21,8 @@ use Rattle.wc_session.specs.declared.outcome.Outcome.{Outcome}
 use Rattle.wc_session.specs.declared.outcome.Outcome.TheVariants as outcome
 use Rattle.wc_session.specs.Handshakes.{choice_in}
 use Rattle.wc_session.specs.Logins.{pairs_let_in}
-use Rattle.wc_session.specs.Names.{names_core}
-use Rattle.wc_session.specs.Reply.{Answer, silent, replies, leaves as drops, core_buffer, shaken, handshake_reply, handshake_answer, init_answer, is_open, served, reply_of}
+use Rattle.wc_session.specs.Names.{buffer_named}
+use Rattle.wc_session.specs.Reply.{Answer, silent, replies, leaves as drops, typed_into, shaken, handshake_reply, handshake_answer, init_answer, is_open, served, reply_of}
 use Rattle.wc_core.specs.Events.{Event, Start, Tick, Arrives, Line as LineCame, Ends, Fails, ListenFails}
 use Rattle.wc_core.specs.Typed.{parted}
 use Rattle.wc_core.specs.State.{State, Act, Sends, Closes, Quits, Stepped}
@@ -84,7 +85,7 @@ leaves-one link state why = record { acts = close-one link why; left = inr (at_k
 follows-one : (link : ℕ) (state : State) (o : Outcome) → StepsOne link (follows state link o)
 follows-one link state outcome.Replied = stays-one link state
 follows-one link state outcome.Silent = stays-one link state
-follows-one link state (outcome.Input buffer text) = record { acts = none-one link _ (λ k. runs-closes k state (parted text)); left = inl (runs-closes link state (parted text)) }
+follows-one link state (outcome.Input buffer text) = record { acts = none-one link _ (λ k. runs-closes k state buffer (parted text)); left = inl (runs-closes link state buffer (parted text)) }
 follows-one link state (outcome.Leave why) = leaves-one link state why
 follows-one link state outcome.NoMemory = stays-one link state
 
@@ -112,7 +113,7 @@ answers-one link state answer =
 
 asked-one : (state : State) (client : Client) (request : Option Request) → StepsOne (client_link client) (asked state client request)
 asked-one state client None = stays-one (client_link client) state
-asked-one state client (Some request) = answers-one (client_link client) state (reply_of state.lines state.password client request)
+asked-one state client (Some request) = answers-one (client_link client) state (reply_of state.world state.password client request)
 
 found-key : (link : ℕ) (clients : List Client) (client : Client) → at_key client_link link clients ≡ Some client → client_link client ≡ link
 found-key link [] client e = absurd (let q : None ≡ Some client = e in cc)
@@ -237,31 +238,35 @@ can-init password client pairs =
     can-if client.logged_in (silent client) (cond (pairs_let_in pairs password client.nonce client.chosen) (silent let_in) (drops client LoginFailed)) tt
     (can-if (pairs_let_in pairs password client.nonce client.chosen) (silent let_in) (drops client LoginFailed) tt (inl refl))
 
-can-served : (lines : List Line) (password : List ℕ) (client : Client) (id : List ℕ) (command : Command) → CanLeave (served lines password client id command).outcome
-unfolding served
-can-served lines password client id (ask.Handshake pairs) = can-handshake client id pairs
-can-served lines password client id (ask.Init pairs) = can-init password client pairs
-can-served lines password client id (ask.Hdata path keys) = can-reply client _
-can-served lines password client id (ask.Info name) = can-reply client _
-can-served lines password client id (ask.Infolist name) = can-reply client _
-can-served lines password client id (ask.Nicklist buffer) = can-reply client _
-can-served lines password client id (ask.Input buffer text) = can-if (names_core buffer) (record { messages = []; outcome = outcome.Input core_buffer text; client = client }) (silent client) tt tt
-can-served lines password client id (ask.Completion buffer position text) = can-reply client _
-can-served lines password client id (ask.Sync buffers options) = tt
-can-served lines password client id (ask.Desync buffers options) = tt
-can-served lines password client id ask.Test = can-reply client _
-can-served lines password client id (ask.Ping text) = can-reply client _
-can-served lines password client id ask.Quit = inr refl
+can-type : (client : Client) (text : List ℕ) (buffer : Option Handle) → CanLeave (typed_into client text buffer).outcome
+can-type client text None = tt
+can-type client text (Some buffer) = tt
 
-can-answer : (lines : List Line) (password : List ℕ) (client : Client) (request : Request) → CanLeave (reply_of lines password client request).outcome
+can-served : (world : World) (password : List ℕ) (client : Client) (id : List ℕ) (command : Command) → CanLeave (served world password client id command).outcome
+unfolding served
+can-served world password client id (ask.Handshake pairs) = can-handshake client id pairs
+can-served world password client id (ask.Init pairs) = can-init password client pairs
+can-served world password client id (ask.Hdata path keys) = can-reply client _
+can-served world password client id (ask.Info name) = can-reply client _
+can-served world password client id (ask.Infolist name) = can-reply client _
+can-served world password client id (ask.Nicklist buffer) = can-reply client _
+can-served world password client id (ask.Input buffer text) = can-type client text (buffer_named world.groups buffer)
+can-served world password client id (ask.Completion buffer position text) = can-reply client _
+can-served world password client id (ask.Sync buffers options) = tt
+can-served world password client id (ask.Desync buffers options) = tt
+can-served world password client id ask.Test = can-reply client _
+can-served world password client id (ask.Ping text) = can-reply client _
+can-served world password client id ask.Quit = inr refl
+
+can-answer : (world : World) (password : List ℕ) (client : Client) (request : Request) → CanLeave (reply_of world password client request).outcome
 unfolding reply_of
-can-answer lines password client request =
-    can-if (client.logged_in || is_open request.command) (served lines password client request.id request.command) (drops client LoginFailed) (can-served lines password client request.id request.command) (inl refl)
+can-answer world password client request =
+    can-if (client.logged_in || is_open request.command) (served world password client request.id request.command) (drops client LoginFailed) (can-served world password client request.id request.command) (inl refl)
 
 follows-cause : (link : ℕ) (state : State) (o : Outcome) → CanLeave o → LineCause (close_of link (follows state link o).acts)
 follows-cause link state outcome.Replied h = tt
 follows-cause link state outcome.Silent h = tt
-follows-cause link state (outcome.Input buffer text) h = subst LineCause (sym (runs-closes link state (parted text))) tt
+follows-cause link state (outcome.Input buffer text) h = subst LineCause (sym (runs-closes link state buffer (parted text))) tt
 follows-cause link state (outcome.Leave why) h = rw (eqb-same link) h
 follows-cause link state outcome.NoMemory h = tt
 
@@ -274,7 +279,7 @@ answers-cause link state answer h =
 
 asked-cause : (state : State) (client : Client) (request : Option Request) → LineCause (close_of (client_link client) (asked state client request).acts)
 asked-cause state client None = tt
-asked-cause state client (Some request) = answers-cause (client_link client) state (reply_of state.lines state.password client request) (can-answer state.lines state.password client request)
+asked-cause state client (Some request) = answers-cause (client_link client) state (reply_of state.world state.password client request) (can-answer state.world state.password client request)
 
 line-by : (link : ℕ) (state : State) (line : List ℕ) (o : Option Client) → at_key client_link link state.clients ≡ o → LineCause (close_of link (line_came state line o).acts)
 line-by link state line None e = tt

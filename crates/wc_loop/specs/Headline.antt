@@ -35,12 +35,12 @@ abbrev pub Headline : Option (List ℕ) → Seen → Headless → Type 0
 Headline contents seen last =
     IfSome contents (λ configuration. IfOk (settings_in configuration) (λ settings. IsTrue seen.tells → last.core.starved ≡ 0 → HandsOut (first_state settings.password settings.limit) seen last))
 
--- Where that is so, each client that settled has exactly the lines of the core buffer, by the bytes that were sent to it and those that are unsent.
+-- Where that is so, each client that settled has exactly the lines of each buffer, by the bytes that were sent to it and those that are unsent.
 abbrev pub Mirrored : Option (List ℕ) → Seen → Headless → Type 0
 Mirrored contents seen last =
     IfSome contents (λ configuration. IfOk (settings_in configuration) (λ settings.
     (handed : HandsOut (first_state settings.password settings.limit) seen last) (link : ℕ) (id : List ℕ) → 1 ≤ link → Settled link id (first_state settings.password settings.limit) handed.events
-    → Shows settings.limit id (seen.sent link ++ unsent_on link last.core.seats) last.core.lines.lines))
+    → Shows settings.limit id (seen.sent link ++ unsent_on link last.core.seats) last.core.world))
 
 -- a state that a configuration sets
 pub record IsConfigured (headless : Headless) (configuration : List ℕ) : Type 0 where

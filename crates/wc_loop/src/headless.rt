@@ -13,9 +13,9 @@ use crate::link_state::{Closed, LinkState};
 use crate::links::Links;
 use std::alloc::Global;
 use wc_core::Core;
-use wc_lines::Lines;
 use wc_outside::{Ready, Token};
 use wc_text::{Arrival, Cause, LinkId, NoMemory, Text};
+use wc_world::World;
 
 /// The state of a run, as it stands behind its last turn.
 #[derive(Drop)]
@@ -45,7 +45,7 @@ impl Headless {
     ghost use Rattle.wc_loop.specs.Turns.{Takes};
     ghost use Rattle.wc_loop.specs.Steps.{Comes, ServesArrival, Marks, Reports, Begins, missed};
 
-    /// The state before the first turn, for clients that log in by this password, and a core buffer of at most so many lines.
+    /// The state before the first turn, for clients that log in by this password, and with buffers of at most so many lines.
     pub fn new(alloc: Global, password: Text, limit: u32) -> Result<Headless, NoMemory>
         requires some { 1 ≤ limit }
         requires most { limit ≤ 4096 }
@@ -207,11 +207,11 @@ impl Headless {
         self.core.starved()
     }
 
-    /// The lines of the core buffer.
-    pub fn lines(&self) -> &Lines
-        ensures { result.now ≡ self.now.core.lines }
+    /// The buffers, with their lines.
+    pub fn world(&self) -> &World
+        ensures { result.now ≡ self.now.core.world }
     {
-        self.core.lines()
+        self.core.world()
     }
 
     /// How many waits returned.

@@ -4,7 +4,7 @@ use crate::serve::serve_tokens;
 use std::alloc::Global;
 use std::test::Fail;
 use wc_outside::{MemoryKeeper, MemorySink, MemorySockets, Ready, Scripted, Sockets, Token};
-use wc_text::{Items, LinkId, NoMemory, Text};
+use wc_text::{Handle, Items, LinkId, NoMemory, Text};
 
 const PONG: &[u8] = b"\x00\x00\x00\x22\x00\x00\x00\x00\x05_pongstr\x00\x00\x00\x0d1480802456789";
 
@@ -88,6 +88,14 @@ fn serving(alloc: Global, bytes: &[u8], piece: usize) -> Result<Stage, Fail> {
     })
 }
 
+/// How many lines the core buffer holds.
+fn core_lines(last: &Headless) -> u32 {
+    match last.world().lines(Handle(1)) {
+        Some(lines) => lines.len(),
+        None => 0,
+    }
+}
+
 /// Runs the program, and tells what came of it.
 fn play(alloc: Global, stage: Stage) -> Result<Seen, Fail> {
     let mut sockets = MemorySockets::new(
@@ -104,7 +112,7 @@ fn play(alloc: Global, stage: Stage) -> Result<Seen, Fail> {
     let mut sink = MemorySink::new(alloc, failing(alloc, stage.sink_fault)?)?;
     let ended = run_program(alloc, &stage.words, &mut sockets, &mut keeper, &mut sink);
     let (has_last, turns, starved, lines) = match &ended.last {
-        Some(last) => (true, last.turns(), last.starved(), last.lines().len()),
+        Some(last) => (true, last.turns(), last.starved(), core_lines(last)),
         None => (false, 0, 0, 0),
     };
     Ok(Seen {

@@ -12,17 +12,18 @@ loop-seat-preserved c =
     let old = c.args.seats.now in
     let now = c.loop-seat.seats in
     let i = c.loop-seat.seat-index in
-    let service = heard_seat c.args.event.now in
+    let event = c.args.event.now in
+    let service = heard_seat event in
     let y = c.tell-heard.new.self in
     let inside : i < length now = omega arith in
     let x = get_or now i c.seat-item.result in
     let at : x ≡ get_or now i x = get_or_default now i c.seat-item.result x inside in
     let hears : c.tell-heard.result ≡ true → y ≡ service x = c.tell-heard.ensures.told in
-    let starves : c.tell-heard.result ≡ false → y ≡ starved_seat x = c.tell-heard.ensures.starved in
+    let starves : c.tell-heard.result ≡ false → y ≡ starved_seat event.kind event.buffer.0 x = c.tell-heard.ensures.starved in
     record {
       told = λ both. tell_more c.args.event.now old now i x y c.loop-seat.told c.tell-heard.result at c.loop-seat.invariant.told hears (omega arith) both;
-      each = served_next service i _ old now x y (omega arith) c.loop-seat.invariant.each inside at (served_by service x y c.tell-heard.result hears starves);
+      each = served_next event.kind event.buffer.0 service i _ old now x y (omega arith) c.loop-seat.invariant.each inside at (served_by event.kind event.buffer.0 service x y c.tell-heard.result hears starves);
     }
 
 pub returns-clause-each : goal.returns-clause-each
-returns-clause-each c = served_whole (heard_seat c.args.event.now) c.loop-seat.seat-index c.args.seats.now c.loop-seat.seats (omega arith) c.loop-seat.invariant.each
+returns-clause-each c = served_whole c.args.event.now.kind c.args.event.now.buffer.0 (heard_seat c.args.event.now) c.loop-seat.seat-index c.args.seats.now c.loop-seat.seats (omega arith) c.loop-seat.invariant.each

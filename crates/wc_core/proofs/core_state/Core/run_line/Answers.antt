@@ -1,12 +1,11 @@
-use Rattle.wc_core.proofs.TypedLemmas.{print_texts}
-use Rattle.wc_core.proofs.CoreLemmas.{quit_typed}
+use Rattle.std.proofs.Common.{◌≡◌, ap, sym, ◌∙◌}
+use Rattle.wc_core.specs.Standing.{Standing}
+use Rattle.wc_core.proofs.ServeLemmas.{stops-starved}
+use Rattle.wc_core.proofs.CoreLemmas.{not_same}
 use Rattle.wc_core.proofs.core_state.Core.run_line.Goals as goal
 
-pub print-requires-clause-prefix : goal.print-requires-clause-prefix
-print-requires-clause-prefix c = (print_texts c.args.line.now _ _ c.in-Print.ensures c.requires).0
-
-pub print-requires-clause-message : goal.print-requires-clause-message
-print-requires-clause-message c = (print_texts c.args.line.now _ _ c.in-Print.ensures c.requires).1
-
-pub returns-in-Quit-clause-does : goal.returns-in-Quit-clause-does
-returns-in-Quit-clause-does c = rw (← c.self.view_is) (quit_typed _ _ c.in-Quit.ensures)
+pub returns-clause-stops : goal.returns-clause-stops
+returns-clause-stops c = λ differs.
+    let behind : c.self-2.inside.starved ≡ c.do_line.new.self.starved = ap (λ (core : Standing). core.starved) c.self-2.view_is in
+    let before : c.self.inside.starved ≡ c.args.self.now.starved = ap (λ (core : Standing). core.starved) c.self.view_is in
+    stops-starved c.args.self.now c.do_line.new.self c.args.buffer c.args.line.now (λ same. not_same _ _ differs (behind ∙ same ∙ sym before)) c.do_line.ensures.does

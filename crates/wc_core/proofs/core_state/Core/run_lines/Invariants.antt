@@ -9,7 +9,7 @@ use Rattle.wc_core.proofs.core_state.Core.run_lines.Given as goal
 abbrev pub invariant-loop-left : goal.invariant-loop-left
 invariant-loop-left l = record {
   text : LeftUtf8 l.left;
-  onward : (final : Standing) → MayDo l.self final (runs (state_of l.self) (lines_left l.left)) → MayDo l.fn.self final (runs (state_of l.fn.self) (parted l.text));
+  onward : (final : Standing) → MayDo l.self final (runs (state_of l.self) l.buffer (lines_left l.left)) → MayDo l.fn.self final (runs (state_of l.fn.self) l.buffer (parted l.text));
 }
 
 abbrev pub decreases-loop-left : goal.decreases-loop-left

@@ -1,0 +1,23 @@
+-- The texts of what is typed are UTF-8.
+use Rattle.std.specs.Str.{IsUtf8}
+use Rattle.wc_model.specs.declared.change.What.{What}
+use Rattle.wc_model.specs.declared.change.What.TheVariants.{Add, Close, MoveTo, MergeInto, Unmerge, Hide, Unhide, Rename, ShortName, Title, SetVar, RemoveVar, Print, Clear, Flips}
+use Rattle.wc_world.specs.Texts.{IsChangeText}
+
+-- also the name of a variable that is to be taken out, which a refusal may tell
+abbrev pub WhatUtf8 : What → Type 0
+WhatUtf8 (RemoveVar name) = IsUtf8 name
+WhatUtf8 (Add spec) = IsChangeText (Add spec)
+WhatUtf8 Close = IsChangeText Close
+WhatUtf8 (MoveTo number) = IsChangeText (MoveTo number)
+WhatUtf8 (MergeInto into) = IsChangeText (MergeInto into)
+WhatUtf8 Unmerge = IsChangeText Unmerge
+WhatUtf8 Hide = IsChangeText Hide
+WhatUtf8 Unhide = IsChangeText Unhide
+WhatUtf8 (Rename name flips) = IsChangeText (Rename name flips)
+WhatUtf8 (ShortName name) = IsChangeText (ShortName name)
+WhatUtf8 (Title title) = IsChangeText (Title title)
+WhatUtf8 (SetVar var) = IsChangeText (SetVar var)
+WhatUtf8 (Print line) = IsChangeText (Print line)
+WhatUtf8 Clear = IsChangeText Clear
+WhatUtf8 (Flips flips) = IsChangeText (Flips flips)
