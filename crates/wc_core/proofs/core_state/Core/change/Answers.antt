@@ -1,6 +1,10 @@
 use Rattle.std.proofs.Common.{refl}
 use Rattle.wc_core.proofs.CoreLemmas.{changes-told}
+use Rattle.wc_core.proofs.ResolvedTexts.{notice-utf8}
 use Rattle.wc_core.proofs.core_state.Core.change.Goals as goal
+
+pub tell-requires : goal.tell-requires
+tell-requires c = ?
 
 pub returns-in-Ok-clause-made : goal.returns-in-Ok-clause-made
 returns-in-Ok-clause-made c = λ none. rw (← c.self.view_is) (changes-told _ _ c.tell.new.self c.args.change c.in-Ok.notice refl c.in-Ok.ensures.outcome c.tell.ensures)
