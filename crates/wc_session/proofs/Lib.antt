@@ -1,6 +1,3 @@
 pub mod Formed
-pub mod LoginLaws
 pub mod NameLemmas
-pub mod OneReplyLaws
 pub mod SendingLemmas
-pub mod ServedLemmas

@@ -1,18 +1,11 @@
 -- Messages behind the unsent bytes.
-use Rattle.std.proofs.Common.{◌≡◌, ℕ, ◌-◌, ◌^◌, ◌<◌, ◌≤◌, Bool, true, false, cond, List, [], ◌∷◌, ◌++◌, length, refl, sym, ap, subst, ◌∙◌, append-nil, arith}
+use Rattle.std.proofs.Common.{◌≡◌, ℕ, ◌-◌, ◌^◌, ◌<◌, ◌≤◌, Bool, true, false, List, [], ◌∷◌, ◌++◌, length, refl, sym, ap, subst, ◌∙◌, append-nil, arith}
 use Rattle.std.specs.Str.{IsUtf8}
 use Rattle.std.proofs.lemmas.Bool.Decides.{nat_tests}
 use Rattle.wc_objects.specs.declared.object.Object.{Object}
 use Rattle.wc_objects.specs.declared.object.WireMessage.{WireMessage}
 use Rattle.wc_objects.specs.Forms.{well_formed}
 use Rattle.wc_objects.specs.Spelling.{message_bytes}
-use Rattle.wc_lines.specs.declared.line.Line.{Line}
-use Rattle.wc_told.specs.LineObjects.{line_added}
-use Rattle.wc_session.specs.declared.client.Client.{Client}
-use Rattle.wc_session.specs.Known.{Known}
-use Rattle.wc_session.specs.Event.{IsEventOf, with_event}
-use Rattle.wc_session.specs.Reply.{line_told, core_buffer}
-use Rattle.wc_session.specs.Sync.{follows_core}
 use Rattle.wc_session.specs.Sending.{message, spelling, fits, fitting, reply, null_hdata, is_owed, Sends}
 
 fitting_one : (m : WireMessage) → fits m ≡ true → fitting m ≡ m ∷ []
@@ -83,20 +76,3 @@ sends_as old new a b e sends = let P : List WireMessage → Type 0 = λ messages
 
 pub sends_from : (old mid new : List ℕ) (messages : List WireMessage) → mid ≡ old → Sends mid new messages → Sends old new messages
 sends_from old mid new messages e sends = let P : List ℕ → Type 0 = λ bytes. Sends bytes new messages in subst P e sends
-
--- ---- the event of a new line
-
-pub told_none : (client : Client) (line : Line) → follows_core client ≡ false → line_told client line ≡ []
-unfolding line_told
-told_none client line e = rw e refl
-
-told_one : (client : Client) (line : Line) → follows_core client ≡ true → line_told client line ≡ fitting (line_added core_buffer line)
-unfolding line_told
-told_one client line e = rw e refl
-
--- what a client is told of a line is behind its bytes, once the event is
-pub event_sends : (event : List ℕ) (line : Line) (session : Known) → IsEventOf event line → Sends session.unsent (with_event event session).unsent (line_told session.client line)
-event_sends event line session is = by (follows_core session.client) refl where
-  by : (b : Bool) → follows_core session.client ≡ b → Sends session.unsent (cond b (record session { unsent = session.unsent ++ event }) session).unsent (line_told session.client line)
-  by true e = sends_as _ _ _ _ (sym (told_one session.client line e)) (record { bytes = ap (λ (t : List ℕ). session.unsent ++ t) is.bytes; spelt = is.spelt })
-  by false e = sends_as _ _ _ _ (sym (told_none session.client line e)) (sends_none session.unsent)

@@ -2,7 +2,7 @@
 use Rattle.std.specs.Prelude.{◌≡◌, ℕ, List, []}
 use Rattle.wc_session.specs.declared.outcome.Outcome.{Outcome}
 use Rattle.wc_session.specs.declared.outcome.Outcome.TheVariants as outcome
-use Rattle.wc_session.specs.declared.served.Served.{Served}
+use Rattle.wc_session.specs.declared.client.Client.{Client}
 use Rattle.wc_session.specs.Reply.{Answer}
 use Rattle.wc_session.specs.Sending.{Sends}
 use Rattle.wc_session.specs.Known.{Known}
@@ -17,17 +17,17 @@ abbrev pub OnNoMemory : Outcome → Type 0 → Type 0
 OnNoMemory outcome.NoMemory fact = fact
 OnNoMemory _ fact = Unit {0}
 
--- what was served is the answer, and its messages were put behind the bytes
-pub record Gives (old new : List ℕ) (served : Served) (answer : Answer) : Type 0 where
+-- what was answered is the answer, its messages were put behind the bytes, and this is known of the client
+pub record Gives (old new : List ℕ) (result : Outcome) (after : Client) (answer : Answer) : Type 0 where
   pub sends : Sends old new answer.messages
-  pub outcome : served.outcome ≡ answer.outcome
-  pub client : served.client ≡ answer.client
+  pub outcome : result ≡ answer.outcome
+  pub client : after ≡ answer.client
 
--- what was served is the answer, which has no messages
-pub record IsQuiet (served : Served) (answer : Answer) : Type 0 where
+-- what was answered is the answer, which has no messages, and this is known of the client
+pub record IsQuiet (result : Outcome) (after : Client) (answer : Answer) : Type 0 where
   pub messages : answer.messages ≡ []
-  pub outcome : served.outcome ≡ answer.outcome
-  pub client : served.client ≡ answer.client
+  pub outcome : result ≡ answer.outcome
+  pub client : after ≡ answer.client
 
 -- the session before and after a request, and what was answered
 pub record Answers (old new : Known) (result : Outcome) (answer : Answer) : Type 0 where

@@ -1,10 +1,13 @@
 ghost use Rattle.std.specs.Prelude.{◌≡◌};
 ghost use Rattle.wc_session.specs.Known.{new_client};
+ghost use Rattle.wc_session.specs.Sync.{follows, heard};
 
-use crate::sync_set::{BufferSet, SyncSet};
+use crate::buffer_sets::BufferSets;
+use crate::sync_set::SyncSet;
 use std::alloc::Global;
+use wc_model::EventKind;
 use wc_relaycmd::Algorithm;
-use wc_text::{Items, LinkId};
+use wc_text::{Handle, LinkId};
 
 /// What is known of a client.
 #[derive(Drop)]
@@ -20,7 +23,7 @@ pub struct Client {
     /// The events that it asked for of all buffers.
     pub everywhere: SyncSet,
     /// The events that it asked for of single buffers, which are there.
-    pub sets: Items<BufferSet>,
+    pub sets: BufferSets,
 }
 
 impl Client {
@@ -35,7 +38,23 @@ impl Client {
             escaped: false,
             logged_in: false,
             everywhere: SyncSet::none(),
-            sets: Items::new(alloc),
+            sets: BufferSets::new(alloc),
+        }
+    }
+
+    /// Whether an event of a buffer is for this client.
+    pub fn follows(&self, kind: EventKind, buffer: Handle) -> bool
+        ensures { result ≡ follows kind buffer.0 self.now }
+    {
+        self.everywhere.union(self.sets.at(buffer)).wants(kind)
+    }
+
+    /// Takes note of an event, be it for this client or not: a closed buffer has no set from then on.
+    pub fn hear(&mut self, kind: EventKind, buffer: Handle)
+        ensures { self.new ≡ heard kind buffer.0 self.old }
+    {
+        if matches!(kind, EventKind::Closing) {
+            self.sets.remove(buffer);
         }
     }
 }

@@ -1,8 +1,9 @@
 ghost use Rattle.std.specs.Prelude.{◌≡◌};
-ghost use Rattle.wc_session.specs.Names.{hex_number, handle_named, names_core};
+ghost use Rattle.wc_buffers.specs.Calls.{is_there};
+ghost use Rattle.wc_session.specs.Names.{hex_number, handle_named, if_there, named_by, buffer_named};
 
-/// The full name of the core buffer.
-const CORE_NAME: &[u8] = b"core.weechat";
+use wc_buffers::Buffers;
+use wc_text::Handle;
 
 /// The number that hex digits of either case write. None where they are none, or the number needs more than 64 bits.
 fn hex_number(digits: &[u8]) -> Option<u64>
@@ -26,16 +27,32 @@ fn handle_named(name: &[u8]) -> Option<u64>
     hex_number(name.strip_prefix(b"0x")?)
 }
 
-/// Whether a text names the core buffer, by its full name or by its handle.
-#[tactic(auto, unfolding(crate::specs::Names::names_core))]
-pub fn names_core(name: &[u8]) -> bool
-    ensures { result ≡ names_core name.now }
+fn is_there(buffers: &Buffers, buffer: Handle) -> bool
+    ensures { result ≡ is_there buffer buffers.now }
 {
-    if name == CORE_NAME {
-        return true;
-    }
-    match handle_named(name) {
-        Some(handle) => handle == 1,
+    match buffers.get(buffer) {
+        Some(_) => true,
         None => false,
+    }
+}
+
+fn if_there(buffers: &Buffers, handle: u64) -> Option<Handle>
+    ensures { result ≡ if_there buffers.now handle }
+{
+    let buffer = Handle(handle);
+    if !is_there(buffers, buffer) {
+        return None;
+    }
+    Some(buffer)
+}
+
+/// The buffer that a text names, by its handle or by its full name. None exactly where there is no such buffer.
+#[tactic(auto, unfolding(crate::specs::Names::buffer_named))]
+pub fn buffer_named(buffers: &Buffers, name: &[u8]) -> Option<Handle>
+    ensures { result ≡ buffer_named buffers.now name.now }
+{
+    match handle_named(name) {
+        Some(handle) => if_there(buffers, handle),
+        None => buffers.find(name),
     }
 }

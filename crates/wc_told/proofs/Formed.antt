@@ -1,5 +1,5 @@
 -- What is told of lines keeps the rules of messages.
-use Rattle.std.proofs.Common.{◌≡◌, ℕ, ℤ, true, Bool, List, [], ◌∷◌, ◌++◌, map, length, codes, Some, refl, sym, ap, ◌∙◌, All}
+use Rattle.std.proofs.Common.{◌≡◌, ℕ, ℤ, true, Bool, List, [], ◌∷◌, map, length, codes, Some, refl, sym, ap, ◌∙◌, All}
 use Rattle.std.specs.List.{list_all, AllByRecursion}
 use Rattle.std.specs.Str.{IsUtf8, is_utf8, chars}
 use Rattle.std.proofs.lemmas.Str.{is_utf8-from_IsUtf8}
@@ -17,7 +17,7 @@ use Rattle.wc_objects.specs.declared.object.Object.TheVariants as o
 use Rattle.wc_objects.specs.declared.object.Object.TheViews.{out-Object, out-roll-Object, out-roll-Hda}
 use Rattle.wc_objects.specs.declared.object.HdaItem.{HdaItem}
 use Rattle.wc_objects.specs.Forms.{kinds_of, key_kind, named_kind, simple_is, value_is, values_are, item_of, hda_is, object_is, well_formed, is_path, names_of, hda_parts_are}
-use Rattle.wc_told.specs.LineObjects.{line_keys, texts, line_values, added_item, added_objects, dumped_item, on_path, line_dump}
+use Rattle.wc_told.specs.LineObjects.{line_keys, texts, line_values, added_item, added_objects, dumped_item, on_path, dump_of}
 
 abbrev pub line_kinds : List Kind
 line_kinds = k.Ptr ∷ k.Tim ∷ k.Tim ∷ k.Chr ∷ k.Chr ∷ k.Chr ∷ k.Arr ∷ k.Str ∷ k.Str ∷ []
@@ -85,7 +85,7 @@ dumped_item_formed : (buffer own : Handle) (line : Line) → HasText line → it
 unfolding item_of dumped_item
 dumped_item_formed buffer own line h = values_formed buffer line h
 
-dumped_items_formed : (buffer own : Handle) (lines : List Line) → AllByRecursion HasText lines
+pub dumped_items_formed : (buffer own : Handle) (lines : List Line) → AllByRecursion HasText lines
     → list_all (λ item. item_of 4 (Some line_kinds) item) (map (dumped_item buffer own) lines) ≡ true
 dumped_items_formed buffer own [] _ = refl
 dumped_items_formed buffer own (line ∷ lines) h = rw (dumped_item_formed buffer own line h.0) (dumped_items_formed buffer own lines h.1)
@@ -94,7 +94,5 @@ dump_path_is_text : is_utf8 (codes "buffer/lines/line/line_data") ≡ true
 unfolding is_utf8 chars encode
 dump_path_is_text = refl
 
-pub dump_formed : (buffer own : Handle) (lines : List Line) → All HasText lines → well_formed (line_dump buffer own lines) ≡ true
-dump_formed buffer own lines h =
-    items_formed (codes "buffer/lines/line/line_data") (map (dumped_item buffer own) lines) dump_path_is_text refl
-    (dumped_items_formed buffer own lines (recursion_from_All HasText lines h))
+pub dump_formed : (items : List HdaItem) → list_all (λ item. item_of 4 (Some line_kinds) item) items ≡ true → well_formed (dump_of items) ≡ true
+dump_formed items each = items_formed (codes "buffer/lines/line/line_data") items dump_path_is_text refl each

@@ -1,5 +1,5 @@
 -- What a client is told of buffers: the event of each notice, and the dump of all buffers.
-use Rattle.std.specs.Prelude.{ℕ, ◌+◌, ◌==◌, pos, Bool, List, [], ◌∷◌, ◌++◌, map, filter, Option, Some, None, codes, option_map}
+use Rattle.std.specs.Prelude.{ℕ, ◌+◌, ◌-◌, ◌^◌, ◌==◌, ℤ, pos, Bool, nat_le, List, [], ◌∷◌, ◌++◌, map, filter, Option, Some, None, codes, option_map, if◌then◌else◌}
 use Rattle.std.specs.List.{list_any}
 use Rattle.wc_text.specs.declared.names.Handle.{Handle}
 use Rattle.wc_text.specs.declared.names.Pair.{Pair}
@@ -49,8 +49,12 @@ pair_of var = (text var.name, text var.value)
 abbrev pub table : List Pair → Object
 table vars = o.Htb k.Str k.Str (map pair_of vars)
 
+-- a number, which counts as the greatest that a message may hold where it is greater
+abbrev pub count : ℕ → ℤ
+count number = pos (if nat_le number (2 ^ 31 - 1) then number else 2 ^ 31 - 1)
+
 abbrev pub number_of : Notice → Object
-number_of notice = o.Int (pos notice.number)
+number_of notice = o.Int (count notice.number)
 
 -- one item of a buffer on the path `buffer`
 abbrev pub about : List ℕ → Handle → List Object → List Object

@@ -1,10 +1,10 @@
-ghost use Rattle.std.specs.Prelude.{◌≡◌, true, map, All, IfOk, OnOk, codes, Some};
+ghost use Rattle.std.specs.Prelude.{◌≡◌, true, IfOk, codes, Some};
 ghost use Rattle.wc_lines.specs.LineText.{HasText};
 ghost use Rattle.wc_objects.specs.Forms.{well_formed};
-ghost use Rattle.wc_told.specs.LineObjects.{truth, moment, texts, line_keys, line_values, on_path, added_item, added_objects, dumped_item, line_dump};
+ghost use Rattle.wc_told.specs.LineObjects.{truth, moment, texts, line_keys, line_values, on_path, added_item, added_objects, dumped_item};
 
 use std::alloc::Global;
-use wc_lines::{Line, Lines};
+use wc_lines::Line;
 use wc_objects::{Hda, HdaItem, Kind, Object};
 use wc_text::{Handle, Items, NoMemory, Text};
 
@@ -15,7 +15,7 @@ pub const LINE_ADDED: &[u8] = b"_buffer_line_added";
 const LINE_KEYS: &[u8] =
     b"buffer:ptr,date:tim,date_printed:tim,displayed:chr,notify_level:chr,highlight:chr,tags_array:arr,prefix:str,message:str";
 
-fn truth(on: bool) -> i8
+pub(crate) fn truth(on: bool) -> i8
     ensures { result ≡ truth on }
 {
     if on { 1 } else { 0 }
@@ -60,7 +60,7 @@ fn line_values(alloc: Global, buffer: Handle, line: &Line) -> Result<Items<Objec
 }
 
 /// Items on a path, with the keys of a line.
-fn on_path(alloc: Global, path: &[u8], items: Items<HdaItem>) -> Result<Hda, NoMemory>
+pub(crate) fn on_path(alloc: Global, path: &[u8], items: Items<HdaItem>) -> Result<Hda, NoMemory>
     ensures { IfOk result (λ hda. hda ≡ on_path path.now items) }
 {
     let path = Text::from_slice(alloc, path)?;
@@ -95,7 +95,7 @@ pub fn line_added(alloc: Global, buffer: Handle, line: &Line) -> Result<[Object;
 }
 
 #[tactic(auto, unfolding(crate::specs::LineObjects::dumped_item))]
-fn dumped_item(alloc: Global, buffer: Handle, own: Handle, line: &Line) -> Result<HdaItem, NoMemory>
+pub(crate) fn dumped_item(alloc: Global, buffer: Handle, own: Handle, line: &Line) -> Result<HdaItem, NoMemory>
     ensures { IfOk result (λ item. item ≡ dumped_item buffer own line.now) }
 {
     let mut pointers = Items::new(alloc);
@@ -105,36 +105,4 @@ fn dumped_item(alloc: Global, buffer: Handle, own: Handle, line: &Line) -> Resul
     pointers.push(line.content.0)?;
     let values = line_values(alloc, buffer, line)?;
     Ok(HdaItem { pointers, values })
-}
-
-fn dumped_items(
-    alloc: Global,
-    buffer: Handle,
-    own: Handle,
-    lines: &Lines,
-) -> Result<Items<HdaItem>, NoMemory>
-    ensures items { IfOk result (λ items. items ≡ map (dumped_item buffer own) lines.now.lines) }
-    ensures text { OnOk result (All HasText lines.now.lines) }
-{
-    let mut items = Items::new(alloc);
-    for line in lines.iter() {
-        items.push(dumped_item(alloc, buffer, own, line)?)?;
-    }
-    Ok(items)
-}
-
-/// The object that holds the lines of one buffer, from the oldest, as WeeChat's relay protocol has them at the path
-/// `buffer:gui_buffers(*)/own_lines/first_line(*)/data`. `own` is the name of the buffer's own lines.
-pub fn line_dump(
-    alloc: Global,
-    buffer: Handle,
-    own: Handle,
-    lines: &Lines,
-) -> Result<[Object; 1], NoMemory>
-    ensures objects { IfOk result (λ objects. objects ≡ line_dump buffer own lines.now.lines) }
-    ensures formed { IfOk result (λ objects. well_formed objects ≡ true) }
-{
-    let items = dumped_items(alloc, buffer, own, lines)?;
-    let hda = on_path(alloc, b"buffer/lines/line/line_data", items)?;
-    Ok([Object::Hda(hda)])
 }

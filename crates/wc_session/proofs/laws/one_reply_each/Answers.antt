@@ -1,5 +1,0 @@
-use Rattle.wc_session.proofs.OneReplyLaws.{one_reply}
-use Rattle.wc_session.proofs.laws.one_reply_each.Goals as goal
-
-pub returns : goal.returns
-returns c lines password client request = one_reply lines password client request

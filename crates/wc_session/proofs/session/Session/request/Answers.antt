@@ -1,5 +1,0 @@
-use Rattle.wc_session.proofs.ServedLemmas.{answer_not_refused}
-use Rattle.wc_session.proofs.session.Session.request.Goals as goal
-
-pub returns-in-Ok-clause-refused : goal.returns-in-Ok-clause-refused
-returns-in-Ok-clause-refused c = answer_not_refused _ _ _ _ _ _ (c.in-Ok.ensures.ok).outcome
