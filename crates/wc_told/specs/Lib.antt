@@ -1,2 +1,4 @@
 pub mod BufferObjects
+pub mod DumpBytes
+pub mod DumpParts
 pub mod LineObjects

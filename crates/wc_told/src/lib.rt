@@ -2,6 +2,7 @@
 #![tactic(auto)]
 
 mod buffers;
+mod dump_writer;
 mod events;
 mod flags;
 mod ids;

@@ -1,4 +1,5 @@
-ghost use Rattle.std.specs.Prelude.{◌≡◌, ◌≤◌, IfOk, option_copied};
+ghost use Rattle.std.specs.Prelude.{◌≡◌, ◌≤◌, IfOk, is_some, option_copied};
+ghost use Rattle.wc_buffers.specs.Calls.{is_there};
 ghost use Rattle.wc_world.specs.Kept.{held_in};
 ghost use Rattle.wc_model.specs.World.{core_row, first_world};
 
@@ -90,7 +91,8 @@ impl World {
 
     /// The lines of a buffer. None exactly where it is not there.
     pub fn lines(&self, h: Handle) -> Option<&Lines>
-        ensures { option_copied result ≡ held_in self.now h.0 }
+        ensures lines { option_copied result ≡ held_in self.now h.0 }
+        ensures there { is_some (held_in self.now h.0) ≡ is_there h self.now.groups }
     {
         let _ = &self.buffers;
         self.held.get(&h.0)
