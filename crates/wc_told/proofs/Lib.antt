@@ -1,2 +1,3 @@
-pub mod DumpLemmas
+pub mod DumpRoom
+pub mod LineBytes
 pub mod Formed

@@ -1,13 +1,12 @@
 -- The bytes of the dump of lines, part by part.
-use Rattle.std.specs.Prelude.{ℕ, List, [], ◌∷◌, ◌++◌, length, map, Some}
-use Rattle.std.specs.List.{flat_map}
+use Rattle.std.specs.Prelude.{ℕ, List, [], ◌∷◌, ◌++◌, Some}
 use Rattle.std.specs.Fmt.{signed_decimal}
 use Rattle.std.specs.Int.{w8, cast_unsigned}
 use Rattle.wc_text.specs.declared.names.Handle.{Handle}
 use Rattle.wc_lines.specs.declared.line.Line.{Line}
 use Rattle.wc_objects.specs.declared.kind.Kind.TheVariants as k
 use Rattle.wc_objects.specs.Kinds.{letters}
-use Rattle.wc_objects.specs.Spelling.{be32, text_bytes, short_bytes, pointer_bytes, counted}
+use Rattle.wc_objects.specs.Spelling.{text_bytes, short_bytes, pointer_bytes, counted}
 use Rattle.wc_told.specs.LineObjects.{truth, moment}
 
 abbrev pub tag_bytes : List ℕ → List ℕ
@@ -34,18 +33,6 @@ pointers_bytes buffer own line = pointer_bytes buffer.0 ++ (pointer_bytes own.0 
 -- a line of the dump
 unfoldable pub line_bytes : Handle → Handle → Line → List ℕ
 line_bytes buffer own line = pointers_bytes buffer own line ++ (dates_bytes line ++ (marks_bytes line ++ texts_bytes line))
-
--- the lines of one buffer, which its own lines name
-pub record Shown : Type 0 where
-  pub buffer : Handle
-  pub own : Handle
-  pub lines : List Line
-
-abbrev pub shown_bytes : Shown → List ℕ
-shown_bytes shown = flat_map (line_bytes shown.buffer shown.own) shown.lines
-
-abbrev pub shown_count : Shown → ℕ
-shown_count shown = length shown.lines
 
 -- what stands before the count of the lines, behind the length of the message
 abbrev pub front_bytes : List ℕ → List ℕ → List ℕ → List ℕ

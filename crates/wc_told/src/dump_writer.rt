@@ -1,16 +1,11 @@
 //! The dump of all lines, which may be long, written without making its objects: its length is found first.
 
-ghost use Rattle.std.specs.Prelude.{true, All, OnOk, OnErr, IfOk, IsErrOf, map, ◌≡◌, ◌+◌, ◌<◌, ◌≤◌, ◌∷◌, ◌++◌, ◌-◌, ◌^◌, [], ℕ, length, MatchOption};
+ghost use Rattle.std.specs.Prelude.{◌≡◌, ◌+◌, ◌<◌, ◌≤◌, ◌∷◌, ◌++◌, ◌-◌, ◌^◌, [], length, MatchOption};
 ghost use Rattle.std.specs.List.{flat_map};
-ghost use Rattle.wc_objects.specs.Spelling.{FitsIn, HasRoom, Puts, be32, counted, message_bytes};
-ghost use Rattle.std.specs.Str.{IsUtf8};
-ghost use Rattle.wc_objects.specs.Forms.{well_formed};
-ghost use Rattle.wc_buffers.specs.Groups.{rows};
-ghost use Rattle.wc_told.specs.LineObjects.{truth, moment, line_keys, line_dump};
-ghost use Rattle.wc_told.specs.DumpBytes.{tag_bytes, tags_bytes, date_bytes, dates_bytes, marks_bytes, texts_bytes, pointers_bytes, line_bytes, shown_bytes, front_bytes};
-ghost use Rattle.wc_told.specs.DumpParts.{IsText, AreText, shown_by, dump_path, shown, shown_of, own_in, count_of, body_bytes};
-ghost use Rattle.wc_buffers.specs.Calls.{is_there, buffer_of};
-ghost use Rattle.wc_model.specs.World.{lines_at};
+ghost use Rattle.wc_objects.specs.Spelling.{FitsIn, HasRoom, Puts, be32, counted};
+ghost use Rattle.wc_told.specs.DumpBytes.{tag_bytes, tags_bytes, dates_bytes, marks_bytes, texts_bytes, pointers_bytes, line_bytes, front_bytes};
+ghost use Rattle.wc_told.specs.DumpParts.{part_bytes, count_of, body_of};
+ghost use Rattle.wc_told.specs.LineObjects.{truth, moment};
 
 use crate::line_objects::{LINE_KEYS, moment, truth};
 use bytes::BytesMut;
@@ -155,7 +150,7 @@ struct DumpPart<'a> {
 }
 
 fn behind_part(room: usize, part: &DumpPart<'_>) -> Option<usize>
-    ensures { FitsIn result room (shown_bytes (shown part.now)) }
+    ensures { FitsIn result room (part_bytes part.now) }
 {
     let mut left = room;
     for line in part.lines.iter() {
@@ -165,7 +160,7 @@ fn behind_part(room: usize, part: &DumpPart<'_>) -> Option<usize>
 }
 
 fn behind_parts(room: usize, parts: &[DumpPart<'_>]) -> Option<usize>
-    ensures { FitsIn result room (flat_map (λ part. shown_bytes (shown part)) parts.now) }
+    ensures { FitsIn result room (flat_map part_bytes parts.now) }
 {
     let mut left = room;
     for part in parts {
@@ -187,8 +182,8 @@ fn line_count(parts: &[DumpPart<'_>]) -> usize
 }
 
 fn put_part(out: &mut BytesMut, part: &DumpPart<'_>)
-    requires { HasRoom out.old (shown_bytes (shown part.now)) }
-    ensures { Puts out.old out.new (shown_bytes (shown part.now)) }
+    requires { HasRoom out.old (part_bytes part.now) }
+    ensures { Puts out.old out.new (part_bytes part.now) }
 {
     for line in part.lines.iter() {
         put_line(out, part.buffer, part.own, line);
@@ -196,8 +191,8 @@ fn put_part(out: &mut BytesMut, part: &DumpPart<'_>)
 }
 
 fn put_parts(out: &mut BytesMut, parts: &[DumpPart<'_>])
-    requires { HasRoom out.old (flat_map (λ part. shown_bytes (shown part)) parts.now) }
-    ensures { Puts out.old out.new (flat_map (λ part. shown_bytes (shown part)) parts.now) }
+    requires { HasRoom out.old (flat_map part_bytes parts.now) }
+    ensures { Puts out.old out.new (flat_map part_bytes parts.now) }
 {
     for part in parts {
         put_part(out, part);
@@ -228,8 +223,8 @@ fn put_front(out: &mut BytesMut, id: &[u8], path: &[u8], keys: &[u8])
 /// How many bytes the message has, where a message may be that long.
 #[tactic(auto, unfolding(wc_objects::specs::Spelling::be32))]
 fn dump_length(id: &[u8], path: &[u8], keys: &[u8], parts: &[DumpPart<'_>]) -> Option<usize>
-    ensures { MatchOption result (2 ^ 31 - 1 < 4 + length (body_bytes id.now path.now keys.now parts.now))
-        (λ n. (n ≡ 4 + length (body_bytes id.now path.now keys.now parts.now)) × (n ≤ 2 ^ 31 - 1)) }
+    ensures { MatchOption result (2 ^ 31 - 1 < 4 + length (body_of id.now path.now keys.now parts.now))
+        (λ n. (n ≡ 4 + length (body_of id.now path.now keys.now parts.now)) × (n ≤ 2 ^ 31 - 1)) }
 {
     let room = behind_front(MAX_MESSAGE - 8, id, path, keys)?;
     let room = behind_parts(room, parts)?;
@@ -239,8 +234,8 @@ fn dump_length(id: &[u8], path: &[u8], keys: &[u8], parts: &[DumpPart<'_>]) -> O
 /// Puts what stands behind the length of the message.
 fn put_body(out: &mut BytesMut, id: &[u8], path: &[u8], keys: &[u8], parts: &[DumpPart<'_>])
     requires few { length parts.now ≤ 256 }
-    requires room { HasRoom out.old (body_bytes id.now path.now keys.now parts.now) }
-    ensures { Puts out.old out.new (body_bytes id.now path.now keys.now parts.now) }
+    requires room { HasRoom out.old (body_of id.now path.now keys.now parts.now) }
+    ensures { Puts out.old out.new (body_of id.now path.now keys.now parts.now) }
 {
     put_front(out, id, path, keys);
     put_count(out, line_count(parts));
@@ -250,107 +245,10 @@ fn put_body(out: &mut BytesMut, id: &[u8], path: &[u8], keys: &[u8], parts: &[Du
 /// Puts the whole message, whose length is known.
 fn put_dump(out: &mut BytesMut, size: usize, id: &[u8], path: &[u8], keys: &[u8], parts: &[DumpPart<'_>])
     requires few { length parts.now ≤ 256 }
-    requires room { HasRoom out.old (be32 size ++ body_bytes id.now path.now keys.now parts.now) }
-    ensures { Puts out.old out.new (be32 size ++ body_bytes id.now path.now keys.now parts.now) }
+    requires room { HasRoom out.old (be32 size ++ body_of id.now path.now keys.now parts.now) }
+    ensures { Puts out.old out.new (be32 size ++ body_of id.now path.now keys.now parts.now) }
 {
     put_count(out, size);
     put_body(out, id, path, keys, parts);
 }
 
-// ---- the parts of a world
-
-/// The name of the own lines of a buffer.
-fn own_of(world: &World, h: Handle) -> Handle
-    ensures { result ≡ own_in (buffer_of h world.now.groups) }
-{
-    match world.buffers().get(h) {
-        Some(row) => row.own_lines,
-        None => Handle(0),
-    }
-}
-
-/// The lines of a buffer that is there.
-fn lines_of(world: &World, h: Handle) -> &Lines
-    requires { is_there h world.now.groups ≡ true }
-    ensures lines { result.now.lines ≡ lines_at world.now h.0 }
-    ensures text { IsText (shown_of world.now h) }
-{
-    let Some(lines) = world.lines(h) else {
-        unreachable!()
-    };
-    let _ = lines.iter();
-    lines
-}
-
-/// Puts the part of a buffer that is there behind others.
-fn push_part<'a>(parts: &mut Items<DumpPart<'a>>, world: &'a World, h: Handle) -> Result<(), NoMemory>
-    requires { is_there h world.now.groups ≡ true }
-    ensures parts { OnOk result (map shown parts.new ≡ map shown parts.old ++ shown_of world.now h ∷ []) }
-    ensures text { OnOk result (AreText (map shown parts.old) → AreText (map shown parts.new)) }
-{
-    let own = own_of(world, h);
-    let lines = lines_of(world, h);
-    parts.push(DumpPart {
-        buffer: h,
-        own,
-        lines,
-    })?;
-    Ok(())
-}
-
-/// The same for the buffers of a group.
-fn push_group<'a>(parts: &mut Items<DumpPart<'a>>, world: &'a World, group: &[Handle]) -> Result<(), NoMemory>
-    requires { All (λ h. is_there h world.now.groups ≡ true) group.now }
-    ensures parts { OnOk result (map shown parts.new ≡ map shown parts.old ++ map (shown_of world.now) group.now) }
-    ensures text { OnOk result (AreText (map shown parts.old) → AreText (map shown parts.new)) }
-{
-    for h in group {
-        push_part(parts, world, *h)?;
-    }
-    Ok(())
-}
-
-/// The parts of all buffers, in the order of groups.
-fn parts_of(alloc: Global, world: &World) -> Result<Items<DumpPart<'_>>, NoMemory>
-    ensures parts { IfOk result (λ parts. map shown parts ≡ map (shown_by world.now) (rows world.now.groups)) }
-    ensures few { IfOk result (λ parts. length parts ≤ 256) }
-    ensures text { IfOk result (λ parts. AreText (map shown parts)) }
-{
-    let mut parts = Items::new(alloc);
-    for group in world.buffers().groups() {
-        push_group(&mut parts, world, group)?;
-    }
-    Ok(parts)
-}
-
-/// Puts the lines of all buffers, in the order of groups and from the oldest, as a message under this id behind the bytes
-/// that stand in a buffer: what WeeChat's relay protocol has at `buffer:gui_buffers(*)/own_lines/first_line(*)/data`.
-/// Memory is taken for the bytes of the message at once, and for the list of the buffers. Where it is refused the bytes
-/// stay as they were.
-///
-/// `TooLong` where the message would be longer than 2^31 - 1 bytes; `NoMemory` where memory is asked for and not found.
-pub fn append_line_dump(
-    alloc: Global,
-    out: &mut BytesMut,
-    id: &[u8],
-    world: &World,
-) -> Result<(), WriteRefused>
-    requires text { IsUtf8 id.now }
-    ensures ok { OnOk result (out.new.items ≡ out.old.items ++ message_bytes id.now (line_dump world.now)) }
-    ensures formed { OnOk result (well_formed (line_dump world.now) ≡ true) }
-    ensures fits { OnOk result (length (message_bytes id.now (line_dump world.now)) ≤ 2 ^ 31 - 1) }
-    ensures too_long { IsErrOf result WriteRefused.TooLong → 2 ^ 31 - 1 < length (message_bytes id.now (line_dump world.now)) }
-    ensures err { OnErr result (out.new.items ≡ out.old.items) }
-{
-    let Ok(parts) = parts_of(alloc, world) else {
-        return Err(WriteRefused::NoMemory);
-    };
-    let Some(size) = dump_length(id, DUMP_PATH, LINE_KEYS, parts.as_slice()) else {
-        return Err(WriteRefused::TooLong);
-    };
-    let Ok(()) = out.reserve(size) else {
-        return Err(WriteRefused::NoMemory);
-    };
-    put_dump(out, size, id, DUMP_PATH, LINE_KEYS, parts.as_slice());
-    Ok(())
-}

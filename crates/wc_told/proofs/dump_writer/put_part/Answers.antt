@@ -1,6 +1,6 @@
 use Rattle.wc_lines.specs.LinesLeft.{lines_left}
 use Rattle.wc_told.specs.DumpBytes.{line_bytes}
-use Rattle.wc_told.proofs.DumpLemmas.{first_has_room}
+use Rattle.wc_told.proofs.DumpRoom.{first_has_room}
 use Rattle.wc_told.proofs.dump_writer.put_part.Goals as goal
 
 pub put_line-requires : goal.put_line-requires
