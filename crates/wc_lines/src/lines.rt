@@ -1,7 +1,7 @@
-ghost use Rattle.std.specs.Prelude.{◌≡◌, ◌≤◌, ◌++◌, ◌∷◌, [], length, IfOk, IfSome, All, IsTrue, ◌↔◌};
+ghost use Rattle.std.specs.Prelude.{◌≡◌, ◌≤◌, ◌++◌, ◌∷◌, [], length, IfOk, IfSome, All, IsTrue, ◌↔◌, option_copied};
 ghost use Rattle.std.specs.Iterator.{YieldsFirstRef, item_count};
 ghost use Rattle.wc_lines.specs.Held.{no_lines};
-ghost use Rattle.wc_lines.specs.Ring.{with_line, pushed_out, without_lines, with_displayed, has_content, place_of};
+ghost use Rattle.wc_lines.specs.Ring.{with_line, pushed_out, without_lines, with_displayed, has_content, place_of, newest};
 ghost use Rattle.wc_lines.specs.LinesLeft.{lines_left};
 ghost use Rattle.wc_lines.specs.LineText.{HasText};
 
@@ -91,6 +91,14 @@ impl Lines {
         LineIter {
             lines: self.queue.iter(),
         }
+    }
+
+    /// The newest line. None exactly where no lines are held.
+    pub fn newest(&self) -> Option<&Line>
+        ensures line { option_copied result ≡ newest self.now.lines }
+        ensures text { IfSome (option_copied result) HasText }
+    {
+        self.queue.back()
     }
 
     /// Sets whether the line with this content handle is displayed, the oldest such line where there are several.

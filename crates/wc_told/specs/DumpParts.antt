@@ -1,5 +1,5 @@
 -- The parts of the dump of lines, one for each buffer.
-use Rattle.std.specs.Prelude.{ℕ, ◌+◌, List, [], ◌∷◌, ◌++◌, map, length}
+use Rattle.std.specs.Prelude.{ℕ, ◌+◌, List, [], ◌∷◌, ◌++◌, map, length, codes}
 use Rattle.std.specs.List.{flat_map}
 use Rattle.wc_objects.specs.declared.object.HdaItem.{HdaItem}
 use Rattle.wc_objects.specs.Spelling.{be32}
@@ -26,3 +26,10 @@ part_bytes part = flat_map (line_bytes part.buffer part.own) part.lines.now.line
 -- what stands behind the length of the message
 abbrev pub body_of : List ℕ → List ℕ → List ℕ → List DumpPart → List ℕ
 body_of id path keys parts = front_bytes id path keys ++ (be32 (count_of parts) ++ flat_map part_bytes parts)
+
+abbrev pub dump_path : List ℕ
+dump_path = codes "buffer/lines/line/line_data"
+
+-- the message
+abbrev pub bytes_of : List ℕ → List ℕ → List ℕ → List DumpPart → List ℕ
+bytes_of id path keys parts = be32 (4 + length (body_of id path keys parts)) ++ body_of id path keys parts

@@ -1,4 +1,5 @@
 pub mod BufferObjects
 pub mod DumpBytes
 pub mod DumpParts
+pub mod Dumps
 pub mod LineObjects

@@ -3,13 +3,17 @@
 
 mod buffers;
 mod dump_writer;
+mod event_values;
 mod events;
 mod flags;
 mod ids;
 mod line_objects;
 mod lines;
+mod standing;
+mod values;
 
 pub use buffers::buffer_dump;
+pub use dump_writer::append_line_dump;
 pub use events::event_objects;
 pub use flags::flag_objects;
 pub use ids::event_id;
