@@ -9,6 +9,7 @@ mod keys;
 mod kind;
 mod laws;
 mod object;
+pub mod parts;
 mod read;
 mod reader;
 mod rule;

@@ -14,8 +14,9 @@ use wc_text::{Items, Text};
 /// How many bytes a message has at most.
 pub const MAX_MESSAGE: usize = 0x7fff_ffff;
 
+/// What is left behind a text and its length.
 #[tactic(auto, unfolding(crate::specs::Spelling::text_bytes, crate::specs::Spelling::be32))]
-fn behind_bytes(room: usize, text: &[u8]) -> Option<usize>
+pub fn behind_bytes(room: usize, text: &[u8]) -> Option<usize>
     ensures { FitsIn result room (text_bytes (Some text.now)) }
 {
     room.checked_sub(4)?.checked_sub(text.len())
@@ -31,7 +32,8 @@ fn behind_text(room: usize, text: &Option<Text>) -> Option<usize>
     }
 }
 
-fn behind_decimal(room: usize, n: i64) -> Option<usize>
+/// What is left behind a number as a `lon` or a `tim` has it.
+pub fn behind_decimal(room: usize, n: i64) -> Option<usize>
     ensures { FitsIn result room (short_bytes (signed_decimal n)) }
 {
     let mut buffer = itoa::Buffer::new();
@@ -39,7 +41,8 @@ fn behind_decimal(room: usize, n: i64) -> Option<usize>
     room.checked_sub(1)?.checked_sub(text.len())
 }
 
-fn behind_pointer(room: usize, p: u64) -> Option<usize>
+/// What is left behind a pointer.
+pub fn behind_pointer(room: usize, p: u64) -> Option<usize>
     ensures { FitsIn result room (pointer_bytes p) }
 {
     let mut buffer = HexBuffer::new();

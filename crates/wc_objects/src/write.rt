@@ -1,8 +1,10 @@
-//! Messages as bytes.
+//! Messages as bytes. The parts that `parts` gives to other crates write what they are given as a part of a message whose
+//! length was found before, into room that was taken for it.
 
 ghost use Rattle.std.specs.Prelude.{◌≡◌, ◌+◌, ◌-◌, ◌^◌, ◌<◌, ◌≤◌, ◌++◌, ◌∷◌, [], List, length, Some, IsTrue, true, IfOk, IsOk, OnOk, OnErr, IsErrOf};
 ghost use Rattle.std.specs.List.{flat_map};
 ghost use Rattle.std.specs.Fmt.{signed_decimal};
+ghost use Rattle.std.specs.Int.{w8, cast_unsigned};
 ghost use Rattle.std.specs.Str.{IsUtf8};
 ghost use Rattle.wc_objects.specs.Forms.{well_formed};
 ghost use Rattle.wc_objects.specs.Spells.{Spells};
@@ -20,7 +22,7 @@ use wc_text::{Items, NoMemory, Text};
 
 /// Puts the low four bytes of a count. A count that needs more is that of no message.
 #[tactic(auto, unfolding(crate::specs::Spelling::be32))]
-fn put_count(out: &mut BytesMut, count: usize)
+pub fn put_count(out: &mut BytesMut, count: usize)
     requires { 4 ≤ out.old.spare }
     ensures { Puts out.old out.new (be32 count) }
 {
@@ -28,8 +30,9 @@ fn put_count(out: &mut BytesMut, count: usize)
     out.extend_reserved(&bytes[4..]);
 }
 
+/// Puts a text behind its length, as an `str` has it.
 #[tactic(auto, unfolding(crate::specs::Spelling::text_bytes, crate::specs::Spelling::be32))]
-fn put_bytes(out: &mut BytesMut, text: &[u8])
+pub fn put_bytes(out: &mut BytesMut, text: &[u8])
     requires { HasRoom out.old (text_bytes (Some text.now)) }
     ensures { Puts out.old out.new (text_bytes (Some text.now)) }
 {
@@ -57,7 +60,8 @@ fn put_short(out: &mut BytesMut, text: &[u8])
     out.extend_reserved(text);
 }
 
-fn put_decimal(out: &mut BytesMut, n: i64)
+/// Puts a number as a `lon` or a `tim` has it.
+pub fn put_decimal(out: &mut BytesMut, n: i64)
     requires { HasRoom out.old (short_bytes (signed_decimal n)) }
     ensures { Puts out.old out.new (short_bytes (signed_decimal n)) }
 {
@@ -65,12 +69,21 @@ fn put_decimal(out: &mut BytesMut, n: i64)
     put_short(out, buffer.format(n).as_bytes());
 }
 
-fn put_pointer(out: &mut BytesMut, p: u64)
+/// Puts a pointer.
+pub fn put_pointer(out: &mut BytesMut, p: u64)
     requires { HasRoom out.old (pointer_bytes p) }
     ensures { Puts out.old out.new (pointer_bytes p) }
 {
     let mut buffer = HexBuffer::new();
     put_short(out, buffer.format(p));
+}
+
+/// Puts a `chr`.
+pub fn put_chr(out: &mut BytesMut, n: i8)
+    requires { 1 ≤ out.old.spare }
+    ensures { Puts out.old out.new (cast_unsigned w8 n ∷ []) }
+{
+    out.extend_reserved(&n.to_be_bytes());
 }
 
 #[tactic(auto, unfolding(crate::specs::Spelling::simple_bytes, crate::specs::Spelling::be32))]
@@ -120,7 +133,8 @@ fn put_values(out: &mut BytesMut, values: &[Object])
     }
 }
 
-fn put_kind(out: &mut BytesMut, kind: Kind)
+/// Puts the letters of a type.
+pub fn put_kind(out: &mut BytesMut, kind: Kind)
     requires { HasRoom out.old (letters kind) }
     ensures { Puts out.old out.new (letters kind) }
 {

@@ -83,37 +83,17 @@ pub fn test_objects(alloc: Global) -> Result<[Object; 15], NoMemory>
 }
 
 /// Whether a path and keys ask for all buffers.
-fn is_buffer_dump(path: &[u8], keys: &[u8]) -> bool
+pub fn is_buffer_dump(path: &[u8], keys: &[u8]) -> bool
     ensures { result ≡ is_buffer_dump path.now keys.now }
 {
     path == BUFFERS_PATH && keys == BUFFERS_KEYS
 }
 
 /// Whether a path and keys ask for the lines of all buffers.
-fn is_line_dump(path: &[u8], keys: &[u8]) -> bool
+pub fn is_line_dump(path: &[u8], keys: &[u8]) -> bool
     ensures { result ≡ is_line_dump path.now keys.now }
 {
     path == LINES_PATH && keys == LINES_KEYS
-}
-
-/// The buffers or their lines, where the path and the keys ask for them, and else the null hdata.
-#[tactic(auto, unfolding(crate::specs::Reply::hdata_objects))]
-pub fn hdata_objects(
-    alloc: Global,
-    world: &World,
-    path: &[u8],
-    keys: &[u8],
-) -> Result<[Object; 1], NoMemory>
-    ensures objects { IfOk result (λ objects. objects ≡ hdata_objects world.now path.now keys.now) }
-    ensures formed { IfOk result (λ objects. well_formed objects ≡ true) }
-{
-    if is_line_dump(path, keys) {
-        return line_dump(alloc, world);
-    }
-    if is_buffer_dump(path, keys) {
-        return buffer_dump(alloc, world.buffers());
-    }
-    Ok(null_hdata(alloc))
 }
 
 /// An information that is unknown.

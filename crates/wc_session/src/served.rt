@@ -3,17 +3,18 @@ ghost use Rattle.std.specs.Str.{IsUtf8};
 ghost use Rattle.wc_objects.specs.Forms.{well_formed};
 ghost use Rattle.wc_relaycmd.specs.Utf8.{HasUtf8, CommandUtf8};
 ghost use Rattle.wc_session.specs.declared.client.Client.{Client};
-ghost use Rattle.wc_session.specs.Reply.{replies, input_answer, is_open, served, reply_of};
+ghost use Rattle.wc_session.specs.Reply.{hdata_objects, replies, input_answer, is_open, served, reply_of};
 ghost use Rattle.wc_session.specs.Sending.{reply};
+ghost use Rattle.wc_told.specs.LineObjects.{line_dump};
 ghost use Rattle.wc_session.specs.Served.{Gives, IsQuiet};
 
 use crate::client::Client;
 use crate::handshake::shake;
 use crate::login::log_in;
 use crate::names::buffer_named;
-use crate::objects::{hdata_objects, info_objects, infolist_objects, pong_objects, test_objects};
+use crate::objects::{info_objects, infolist_objects, is_buffer_dump, is_line_dump, pong_objects, test_objects};
 use crate::outcome::Outcome;
-use crate::sending::{null_hdata, reply};
+use crate::sending::{null_hdata, reply, reply_lines};
 use crate::sync::{desynchronize, synchronize};
 use bytes::BytesMut;
 use std::alloc::Global;
@@ -21,6 +22,7 @@ use wc_buffers::Buffers;
 use wc_objects::Object;
 use wc_relaycmd::{Command, Request};
 use wc_text::{Cause, NoMemory, Text};
+use wc_told::buffer_dump;
 use wc_world::World;
 
 /// Serves a request by these objects as its reply.
@@ -39,6 +41,47 @@ pub fn give(
         return Ok(Outcome::Silent);
     }
     Ok(Outcome::Replied)
+}
+
+/// Serves a request of the lines of all buffers.
+fn give_lines(
+    alloc: Global,
+    out: &mut BytesMut,
+    world: &World,
+    id: &[u8],
+) -> Result<Outcome, NoMemory>
+    requires { IsUtf8 id.now }
+    ensures ok { IfOk result (λ outcome. (client : Client) → Gives out.old.items out.new.items outcome client (replies client (reply id.now (line_dump world.now)))) }
+    ensures err { OnErr result (out.new.items ≡ out.old.items) }
+{
+    if !reply_lines(alloc, out, id, world)? {
+        return Ok(Outcome::Silent);
+    }
+    Ok(Outcome::Replied)
+}
+
+/// Serves `hdata`: the buffers or their lines, where the path and the keys ask for them, and else the null hdata.
+#[tactic(auto, unfolding(crate::specs::Reply::hdata_objects))]
+fn give_hdata(
+    alloc: Global,
+    out: &mut BytesMut,
+    world: &World,
+    id: &[u8],
+    path: &[u8],
+    keys: &[u8],
+) -> Result<Outcome, NoMemory>
+    requires { IsUtf8 id.now }
+    ensures ok { IfOk result (λ outcome. (client : Client) → Gives out.old.items out.new.items outcome client (replies client (reply id.now (hdata_objects world.now path.now keys.now)))) }
+    ensures err { OnErr result (out.new.items ≡ out.old.items) }
+{
+    if is_line_dump(path, keys) {
+        return give_lines(alloc, out, world, id);
+    }
+    if is_buffer_dump(path, keys) {
+        let objects = buffer_dump(alloc, world.buffers())?;
+        return give(alloc, out, id, objects.as_slice());
+    }
+    give(alloc, out, id, null_hdata(alloc).as_slice())
 }
 
 fn input(buffers: &Buffers, buffer: &[u8], text: Text) -> Outcome
@@ -80,8 +123,7 @@ fn serve_command(
         Command::Handshake(pairs) => shake(alloc, out, client, id, &pairs),
         Command::Init(pairs) => log_in(alloc, client, password, &pairs),
         Command::Hdata { path, keys } => {
-            let objects = hdata_objects(alloc, world, path.as_slice(), keys.as_slice())?;
-            give(alloc, out, id, objects.as_slice())
+            give_hdata(alloc, out, world, id, path.as_slice(), keys.as_slice())
         }
         Command::Info(name) => give(alloc, out, id, info_objects(name).as_slice()),
         Command::Infolist(name) => give(alloc, out, id, infolist_objects(alloc, name).as_slice()),

@@ -1,3 +1,5 @@
 pub mod BufferObjects
-pub mod LineObjects
+pub mod DumpBytes
+pub mod DumpParts
 pub mod Dumps
+pub mod LineObjects

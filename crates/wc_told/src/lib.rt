@@ -2,6 +2,7 @@
 #![tactic(auto)]
 
 mod buffers;
+mod dump_writer;
 mod event_values;
 mod events;
 mod flags;
@@ -12,6 +13,7 @@ mod standing;
 mod values;
 
 pub use buffers::buffer_dump;
+pub use dump_writer::append_line_dump;
 pub use events::event_objects;
 pub use flags::flag_objects;
 pub use ids::event_id;

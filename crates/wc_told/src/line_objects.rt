@@ -12,7 +12,7 @@ use wc_text::{Handle, Items, NoMemory, Text};
 pub const LINE_ADDED: &[u8] = b"_buffer_line_added";
 
 /// The keys of a line, in the event and in the dump.
-const LINE_KEYS: &[u8] =
+pub(crate) const LINE_KEYS: &[u8] =
     b"buffer:ptr,date:tim,date_printed:tim,displayed:chr,notify_level:chr,highlight:chr,tags_array:arr,prefix:str,message:str";
 
 pub(crate) fn truth(on: bool) -> i8
@@ -22,7 +22,7 @@ pub(crate) fn truth(on: bool) -> i8
 }
 
 /// A date in seconds. One that is greater than the protocol can say counts as the greatest.
-fn moment(date: u64) -> i64
+pub(crate) fn moment(date: u64) -> i64
     ensures { result ≡ moment date }
 {
     i64::try_from(date).unwrap_or(i64::MAX)
