@@ -3,12 +3,9 @@ ghost use Rattle.std.specs.Str.{IsUtf8};
 ghost use Rattle.wc_objects.specs.Forms.{well_formed};
 ghost use Rattle.wc_session.specs.Reply.{test_texts, test_numbers, test_objects, is_buffer_dump, is_line_dump, hdata_objects, info_objects, infolist_objects, pong_objects};
 
-use crate::sending::null_hdata;
 use std::alloc::Global;
 use wc_objects::{Kind, Object};
 use wc_text::{Items, NoMemory, Text};
-use wc_told::{buffer_dump, line_dump};
-use wc_world::World;
 
 /// The path and the keys by which a client asks for all buffers.
 const BUFFERS_PATH: &[u8] = b"buffer:gui_buffers(*)";

@@ -8,7 +8,6 @@ mod events;
 mod flags;
 mod ids;
 mod line_objects;
-mod lines;
 mod standing;
 mod values;
 
@@ -18,7 +17,6 @@ pub use events::event_objects;
 pub use flags::flag_objects;
 pub use ids::event_id;
 pub use line_objects::{LINE_ADDED, line_added};
-pub use lines::line_dump;
 
 #[cfg(test)]
 mod tests;

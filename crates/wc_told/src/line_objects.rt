@@ -93,21 +93,3 @@ pub fn line_added(alloc: Global, buffer: Handle, line: &Line) -> Result<[Object;
     let hda = on_path(alloc, b"line_data", items)?;
     Ok([Object::Hda(hda)])
 }
-
-#[tactic(auto, unfolding(crate::specs::LineObjects::dumped_item))]
-pub(crate) fn dumped_item(
-    alloc: Global,
-    buffer: Handle,
-    own: Handle,
-    line: &Line,
-) -> Result<HdaItem, NoMemory>
-    ensures { IfOk result (λ item. item ≡ dumped_item buffer own line.now) }
-{
-    let mut pointers = Items::new(alloc);
-    pointers.push(buffer.0)?;
-    pointers.push(own.0)?;
-    pointers.push(line.handle.0)?;
-    pointers.push(line.content.0)?;
-    let values = line_values(alloc, buffer, line)?;
-    Ok(HdaItem { pointers, values })
-}
