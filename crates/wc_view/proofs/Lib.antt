@@ -1,11 +1,15 @@
+pub mod CarryLemmas
 pub mod DumpLaw
 pub mod EachLemmas
 pub mod EditLemmas
 pub mod EntryLemmas
 pub mod FlipLaw
+pub mod GroupLoops
 pub mod IdLemmas
+pub mod KindLemmas
 pub mod LineTold
 pub mod NoticeLaw
 pub mod PartLemmas
+pub mod RunLemmas
 pub mod TakeLemmas
 pub mod TakeNone

@@ -1,13 +1,17 @@
+pub mod BufferFold
+pub mod Carried
 pub mod Each
 pub mod Entries
 pub mod Flags
 pub mod Flipped
 pub mod Fold
+pub mod Grouped
 pub mod Ids
 pub mod Items
 pub mod Named
 pub mod Parts
 pub mod Rows
+pub mod Runs
 pub mod Taking
 pub mod Values
 pub mod Views
