@@ -1,3 +1,7 @@
+pub mod BufferDump
+pub mod BufferLaw
+pub mod BufferPlaces
+pub mod BufferTold
 pub mod CarryLemmas
 pub mod DumpLaw
 pub mod EachLemmas

@@ -3,6 +3,7 @@ use Rattle.std.proofs.Common.{◌≡◌, ℕ, Bool, true, false, cond, eqb, List
 use Rattle.std.proofs.lemmas.List.{append_assoc}
 use Rattle.std.proofs.lemmas.Bool.Decides.{nat_tests}
 use Rattle.wc_buffers.specs.Groups.{filled}
+use Rattle.wc_buffers.proofs.GroupLaws.{filled-some}
 use Rattle.wc_view.specs.declared.mirror_buffer.MirrorBuffer.{MirrorBuffer}
 use Rattle.wc_view.specs.declared.carried.Carried.{Carried}
 use Rattle.wc_view.specs.Grouped.{Groups}
@@ -43,7 +44,7 @@ begun row (next ∷ rows) groups = by_bool (eqb row.number next.number) _
 
 more : (groups : Groups) (n : ℕ) (b : MirrorBuffer) (g : List MirrorBuffer) (rows : List Carried)
     → finished (fold with_row (record { groups = groups; number = n; group = b ∷ g }) rows) ≡ groups ++ glued n (b ∷ g) rows (runs rows)
-more groups n b g [] = refl
+more groups n b g [] = ap (λ gs. groups ++ gs) (filled-some b g [])
 more groups n b g (row ∷ rows) = by_bool (eqb n row.number) _
     (λ t. rw t (more groups row.number b (g ++ row.buffer ∷ []) rows ∙ ap (λ gs. groups ++ gs) (grown (b ∷ g) row rows (runs rows) (λ e. ap runs e))))
     (λ t. rw t (more (groups ++ (b ∷ g) ∷ []) row.number row.buffer [] rows ∙ append_assoc groups ((b ∷ g) ∷ []) (glued row.number (row.buffer ∷ []) rows (runs rows))

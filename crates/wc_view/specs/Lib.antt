@@ -1,4 +1,5 @@
 pub mod BufferFold
+pub mod BufferViews
 pub mod Carried
 pub mod Each
 pub mod Entries
