@@ -299,7 +299,7 @@ merge_shows id world buffer into are free ok =
     let q = before_in 0 h (map key_of (rows (append_to key_of into.0 (p.0 ∷ p.1) rest))) in
     let prev_is : told.prev.0 ≡ q = ap (before_in 0 h) ordered in
     let q_apart : eqb q h ≡ false = not_h q (behind.0) in
-    let q_there : has key_of q ms ≡ true = sym (ap (λ b. cond b false (has key_of q ms)) (turned q_apart)) ∙ sym (has-take_out key_of h q ms) ∙ behind.0 in
+    let q_there : has key_of q ms ≡ true = sym (ap (λ b. cond b false (has key_of q ms)) (turned q q_apart)) ∙ sym (has-take_out key_of h q ms) ∙ behind.0 in
     merged_folds id (Some ms) told free
     ∙ ap Some (if_there (has key_of h ms) _ ms there
     ∙ ap (λ k. merged h k ms) prev_is
@@ -309,8 +309,8 @@ merge_shows id world buffer into are free ok =
     both : (a b : Bool) → a ≡ true → b ≡ true → (a && b) ≡ true
     both a b x y = ap (λ c. c && b) x ∙ y
 
-    turned : {q : ℕ} → eqb q buffer.0 ≡ false → eqb buffer.0 q ≡ false
-    turned {q} e = grind (arith, nat_tests)
+    turned : (q : ℕ) → eqb q buffer.0 ≡ false → eqb buffer.0 q ≡ false
+    turned q e = grind (arith, nat_tests)
 
     shown_few : (q : ℕ) → times key_of q (take_out key_of buffer.0 (shown_groups world.groups)) ≤ 1
     shown_few q = by (eqb buffer.0 q) (times-take_out key_of q buffer.0 (shown_groups world.groups))

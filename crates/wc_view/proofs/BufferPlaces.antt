@@ -9,7 +9,7 @@ use Rattle.std.proofs.lemmas.List.Folds.{list_any-append}
 use Rattle.std.proofs.lemmas.Grind.{flat_map-append}
 use Rattle.wc_buffers.specs.Groups.{rows, in_group, has, place, row_of, times, times_in, update, only, pick, take_out, append_to, merge, others, own, move_group}
 use Rattle.wc_buffers.proofs.GroupLaws.{by_bool, in_group_tells, has_tells}
-use Rattle.wc_world.proofs.GroupRows.{find-append, or_some, not_found, others_lack}
+use Rattle.wc_world.proofs.GroupRows.{find-append, or_some, not_found}
 use Rattle.wc_model.specs.Order.{before_in}
 use Rattle.wc_view.specs.declared.mirror_buffer.MirrorBuffer.{MirrorBuffer}
 use Rattle.wc_view.specs.Grouped.{Groups, key_of, with_behind, insert_behind, put_behind}
@@ -89,6 +89,10 @@ module _ {A : Type 0} (key : A → ℕ) (h : ℕ) where
   front_lacks : (n : ℕ) (gs : List (List A)) → has key h gs ≡ false → has key h (take n gs) ≡ false
   front_lacks n gs e = (or_parts (has key h (take n gs)) (has key h (drop n gs)) (sym (list_any-append (in_group key h) (take n gs) (drop n gs)) ∙ ap (has key h) (take-append-drop n gs) ∙ e)).0
 
+  others_lack : (gs : List (List A)) → has key h (others key h gs) ≡ false
+  others_lack [] = refl
+  others_lack (g ∷ gs) = by_bool (in_group key h g) _ (λ t. rw t (others_lack gs)) (λ t. rw t (rw t (others_lack gs)))
+
   first_own : (gs : List (List A)) → has key h gs ≡ true → (g : List A) × (more : List (List A)) × (own key h gs ≡ g ∷ more) × (in_group key h g ≡ true)
   first_own [] t = absurd (false≢true t)
   first_own (g ∷ gs) t = by_bool (in_group key h g) _
@@ -101,7 +105,7 @@ module _ {A : Type 0} (key : A → ℕ) (h : ℕ) where
       let r = first_own gs there in
       let long : length (take n os) ≡ n = omega (arith, length-take n os) in
       ap (λ own. place key h (take n os ++ (own ++ drop n os))) r.2
-      ∙ placed (take n os) r.0 (r.1 ++ drop n os) (front_lacks n os (others_lack key h gs)) r.3
+      ∙ placed (take n os) r.0 (r.1 ++ drop n os) (front_lacks n os (others_lack gs)) r.3
       ∙ ap Some long
 
 -- ---- to put a buffer behind the one before is to append
