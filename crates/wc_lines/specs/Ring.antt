@@ -1,5 +1,5 @@
 -- What the calls do to the lines.
-use Rattle.std.specs.Prelude.{ℕ, ◌-◌, Bool, ◌==◌, List, [], ◌∷◌, ◌++◌, length, drop, Option, None, if◌then◌else◌}
+use Rattle.std.specs.Prelude.{ℕ, ◌-◌, Bool, ◌==◌, List, [], ◌∷◌, ◌++◌, length, drop, Option, Some, None, if◌then◌else◌}
 use Rattle.std.specs.List.{list_any, position, slice_get}
 use Rattle.wc_text.specs.declared.names.Handle.{Handle}
 use Rattle.wc_lines.specs.declared.line.Line.{Line}
@@ -8,6 +8,12 @@ use Rattle.wc_lines.specs.Held.{Held}
 -- the last n of a list, or all where it has fewer
 abbrev pub last_of : {A : Type 0} → ℕ → List A → List A
 last_of n xs = drop (length xs - n) xs
+
+-- the last line
+abbrev pub newest : List Line → Option Line
+newest [] = None
+newest (line ∷ []) = Some line
+newest (line ∷ next ∷ lines) = newest (next ∷ lines)
 
 -- the line behind the others, as far as the limit allows
 abbrev pub with_line : Held → Line → Held

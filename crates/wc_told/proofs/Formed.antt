@@ -1,26 +1,22 @@
 -- What is told of lines keeps the rules of messages.
-use Rattle.std.proofs.Common.{◌≡◌, ℕ, ℤ, true, Bool, List, [], ◌∷◌, map, length, codes, Some, refl, sym, ap, ◌∙◌, All}
+use Rattle.std.proofs.Common.{◌≡◌, ℕ, ℤ, true, ◌&&◌, List, [], ◌∷◌, ◌++◌, map, length, codes, Some, refl, ◌∙◌, All}
 use Rattle.std.specs.List.{list_all, AllByRecursion}
 use Rattle.std.specs.Str.{IsUtf8, is_utf8, chars}
 use Rattle.std.proofs.lemmas.Str.{is_utf8-from_IsUtf8}
+use Rattle.std.proofs.lemmas.List.Folds.{list_all-append}
 use Rattle.std.proofs.lemmas.List.Elements.{recursion_from_All}
 use lib.Utf8.{encode}
 use denote.Hole.Carrier.{out}
 use Rattle.wc_text.specs.declared.names.Handle.{Handle}
 use Rattle.wc_lines.specs.declared.line.Line.{Line}
 use Rattle.wc_lines.specs.LineText.{HasText}
-use Rattle.wc_objects.specs.declared.kind.Kind.{Kind}
 use Rattle.wc_objects.specs.declared.kind.Kind.TheVariants as k
-use Rattle.wc_objects.specs.declared.object.Object.{Object}
-use Rattle.wc_objects.specs.declared.object.Object.TheOpen.{Object-F}
 use Rattle.wc_objects.specs.declared.object.Object.TheVariants as o
 use Rattle.wc_objects.specs.declared.object.Object.TheViews.{out-Object, out-roll-Object, out-roll-Hda}
 use Rattle.wc_objects.specs.declared.object.HdaItem.{HdaItem}
 use Rattle.wc_objects.specs.Forms.{kinds_of, key_kind, named_kind, simple_is, value_is, values_are, item_of, hda_is, object_is, well_formed, is_path, names_of, hda_parts_are}
 use Rattle.wc_told.specs.LineObjects.{line_keys, texts, line_values, added_item, added_objects, dumped_item, on_path, dump_of}
-
-abbrev pub line_kinds : List Kind
-line_kinds = k.Ptr ∷ k.Tim ∷ k.Tim ∷ k.Chr ∷ k.Chr ∷ k.Chr ∷ k.Arr ∷ k.Str ∷ k.Str ∷ []
+use Rattle.wc_told.specs.Dumps.{line_kinds, are_lines}
 
 pub kinds_of-line_keys : kinds_of line_keys ≡ Some line_kinds
 unfolding kinds_of key_kind named_kind
@@ -30,7 +26,7 @@ keys_are_text : is_utf8 line_keys ≡ true
 unfolding is_utf8 chars encode
 keys_are_text = refl
 
-ptr_formed : (n : ℕ) → value_is k.Ptr (o.Ptr n) ≡ true
+pub ptr_formed : (n : ℕ) → value_is k.Ptr (o.Ptr n) ≡ true
 unfolding value_is simple_is out-Object out
 ptr_formed n = refl
 
@@ -38,11 +34,11 @@ tim_formed : (n : ℤ) → value_is k.Tim (o.Tim n) ≡ true
 unfolding value_is simple_is out-Object out
 tim_formed n = refl
 
-chr_formed : (n : ℤ) → value_is k.Chr (o.Chr n) ≡ true
+pub chr_formed : (n : ℤ) → value_is k.Chr (o.Chr n) ≡ true
 unfolding value_is simple_is out-Object out
 chr_formed n = refl
 
-str_formed : (text : List ℕ) → IsUtf8 text → value_is k.Str (o.Str (Some text)) ≡ true
+pub str_formed : (text : List ℕ) → IsUtf8 text → value_is k.Str (o.Str (Some text)) ≡ true
 unfolding value_is simple_is out-Object out
 str_formed text h = is_utf8-from_IsUtf8 text h
 
@@ -85,14 +81,21 @@ dumped_item_formed : (buffer own : Handle) (line : Line) → HasText line → it
 unfolding item_of dumped_item
 dumped_item_formed buffer own line h = values_formed buffer line h
 
-pub dumped_items_formed : (buffer own : Handle) (lines : List Line) → AllByRecursion HasText lines
-    → list_all (λ item. item_of 4 (Some line_kinds) item) (map (dumped_item buffer own) lines) ≡ true
+dumped_items_formed : (buffer own : Handle) (lines : List Line) → AllByRecursion HasText lines → are_lines (map (dumped_item buffer own) lines) ≡ true
 dumped_items_formed buffer own [] _ = refl
 dumped_items_formed buffer own (line ∷ lines) h = rw (dumped_item_formed buffer own line h.0) (dumped_items_formed buffer own lines h.1)
+
+are_lines-append : (xs ys : List HdaItem) → are_lines xs ≡ true → are_lines ys ≡ true → are_lines (xs ++ ys) ≡ true
+are_lines-append xs ys a b = list_all-append (λ item. item_of 4 (Some line_kinds) item) xs ys ∙ (λ i. a i && b i)
+
+-- lines behind items
+pub more_lines : (items : List HdaItem) (buffer own : Handle) (lines : List Line) → All HasText lines → are_lines items ≡ true
+    → are_lines (items ++ map (dumped_item buffer own) lines) ≡ true
+more_lines items buffer own lines h are = are_lines-append items _ are (dumped_items_formed buffer own lines (recursion_from_All HasText lines h))
 
 dump_path_is_text : is_utf8 (codes "buffer/lines/line/line_data") ≡ true
 unfolding is_utf8 chars encode
 dump_path_is_text = refl
 
-pub dump_formed : (items : List HdaItem) → list_all (λ item. item_of 4 (Some line_kinds) item) items ≡ true → well_formed (dump_of items) ≡ true
+pub dump_formed : (items : List HdaItem) → are_lines items ≡ true → well_formed (dump_of items) ≡ true
 dump_formed items each = items_formed (codes "buffer/lines/line/line_data") items dump_path_is_text refl each

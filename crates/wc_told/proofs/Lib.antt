@@ -1,1 +1,4 @@
+pub mod Counts
+pub mod DumpLemmas
+pub mod EventsFormed
 pub mod Formed

@@ -4,6 +4,7 @@ use Rattle.std.specs.List.{list_any}
 use Rattle.wc_text.specs.declared.names.Handle.{Handle}
 use Rattle.wc_text.specs.declared.names.Pair.{Pair}
 use Rattle.wc_lines.specs.declared.line.Line.{Line}
+use Rattle.wc_lines.specs.Ring.{newest}
 use Rattle.wc_buffers.specs.declared.entry.BufferEntry.{BufferEntry}
 use Rattle.wc_buffers.specs.Calls.{Groups, entry_of}
 use Rattle.wc_model.specs.declared.notice.EventKind.{EventKind}
@@ -13,7 +14,7 @@ use Rattle.wc_model.specs.World.{World, lines_at}
 use Rattle.wc_objects.specs.declared.kind.Kind.TheVariants as k
 use Rattle.wc_objects.specs.declared.object.Object.{Object}
 use Rattle.wc_objects.specs.declared.object.Object.TheVariants as o
-use Rattle.wc_objects.specs.declared.object.Hda.{Hda, roll-Hda}
+use Rattle.wc_objects.specs.declared.object.Hda.{roll-Hda}
 use Rattle.wc_objects.specs.declared.object.HdaItem.{HdaItem, roll-HdaItem}
 use Rattle.wc_objects.specs.declared.object.WireMessage.{WireMessage}
 use Rattle.wc_told.specs.LineObjects.{truth, added_objects}
@@ -118,12 +119,6 @@ vars_objects notice e = about vars_keys notice.buffer (vars_values notice e)
 
 abbrev pub named_objects : Notice → List Object
 named_objects notice = about named_keys notice.buffer (named_values notice)
-
--- the newest line
-abbrev pub newest : List Line → Option Line
-newest [] = None
-newest (line ∷ []) = Some line
-newest (line ∷ next ∷ lines) = newest (next ∷ lines)
 
 -- The objects of the event of a notice, in the world behind the change. Flags of lines are told of each buffer by
 -- itself, and nothing is told of a buffer that is not there.

@@ -1,2 +1,3 @@
 pub mod BufferObjects
 pub mod LineObjects
+pub mod Dumps

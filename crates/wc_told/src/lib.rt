@@ -2,11 +2,14 @@
 #![tactic(auto)]
 
 mod buffers;
+mod event_values;
 mod events;
 mod flags;
 mod ids;
 mod line_objects;
 mod lines;
+mod standing;
+mod values;
 
 pub use buffers::buffer_dump;
 pub use events::event_objects;

@@ -95,7 +95,12 @@ pub fn line_added(alloc: Global, buffer: Handle, line: &Line) -> Result<[Object;
 }
 
 #[tactic(auto, unfolding(crate::specs::LineObjects::dumped_item))]
-pub(crate) fn dumped_item(alloc: Global, buffer: Handle, own: Handle, line: &Line) -> Result<HdaItem, NoMemory>
+pub(crate) fn dumped_item(
+    alloc: Global,
+    buffer: Handle,
+    own: Handle,
+    line: &Line,
+) -> Result<HdaItem, NoMemory>
     ensures { IfOk result (λ item. item ≡ dumped_item buffer own line.now) }
 {
     let mut pointers = Items::new(alloc);
