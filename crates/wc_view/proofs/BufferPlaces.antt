@@ -16,7 +16,6 @@ use Rattle.wc_view.specs.Grouped.{Groups, key_of, with_behind, insert_behind, pu
 
 -- ---- a change of the one row of a key
 module _ {A : Type 0} (key : A → ℕ) (h : ℕ) where
-
   none_there : (F G : A → A) (g : List A) → times_in key h g ≡ 0 → map (λ x. cond (eqb (key x) h) (F x) x) g ≡ map (λ x. cond (eqb (key x) h) (G x) x) g
   none_there F G [] n = refl
   none_there F G (x ∷ g) n = by_bool (eqb (key x) h) _
