@@ -10,7 +10,7 @@ use Rattle.std.proofs.lemmas.Bool.Decides.{nat_tests}
 use Rattle.std.proofs.lemmas.List.{length-map, map-append, length-append}
 use Rattle.wc_text.specs.declared.names.Handle.{Handle}
 use Rattle.wc_lines.specs.declared.line.Line.{Line}
-use Rattle.wc_lines.specs.Ring.{last_of}
+use Rattle.wc_lines.specs.Ring.{last_of, newest}
 use Rattle.wc_buffers.specs.Groups.{has}
 use Rattle.wc_buffers.specs.Calls.{handle_of, lacks_var, entry_of}
 use Rattle.wc_model.specs.declared.change.Flip.{Flip}
