@@ -4,16 +4,22 @@ use Rattle.wc_objects.specs.declared.object.WireMessage.{WireMessage}
 use Rattle.wc_view.specs.declared.mirror.MirrorRefused.{MirrorRefused}
 use Rattle.wc_view.specs.declared.mirror.MirrorRefused.TheVariants.{BadMessage, NoMemory}
 use Rattle.wc_view.specs.Parts.{Part}
+use Rattle.wc_view.specs.Grouped.{Groups}
+use Rattle.wc_view.specs.BufferFold.{fold_buffers}
 use Rattle.wc_view.specs.Fold.{fold_dump, fold_added, fold_emptied, fold_flags, fold_change, fold_event, fold_lines}
 
--- how many lines of a buffer are held at most, the id of the line dump, and the lines once it was taken
+-- how many lines of a buffer are held at most, the ids of the dumps of buffers and of lines, and what they and the
+-- events behind them told, once they were taken
 pub record Mirrored : Type 0 where
   pub limit : ℕ
+  pub buffer_dump : List ℕ
   pub line_dump : List ℕ
+  pub buffers : Option Groups
   pub lines : Option Part
 
-abbrev pub nothing_taken : ℕ → List ℕ → Mirrored
-nothing_taken limit line_dump = record { limit = limit; line_dump = line_dump; lines = None }
+abbrev pub nothing_taken : ℕ → List ℕ → List ℕ → Mirrored
+nothing_taken limit buffer_dump line_dump =
+    record { limit = limit; buffer_dump = buffer_dump; line_dump = line_dump; buffers = None; lines = None }
 
 abbrev pub with_dump : Mirrored → WireMessage → Mirrored
 with_dump mirrored message = record mirrored { lines = fold_dump mirrored.limit mirrored.lines message }
@@ -33,8 +39,14 @@ with_change mirrored message = record mirrored { lines = fold_change mirrored.li
 abbrev pub with_event : Mirrored → WireMessage → Mirrored
 with_event mirrored message = record mirrored { lines = fold_event mirrored.limit mirrored.lines message }
 
+abbrev pub with_lines : Mirrored → WireMessage → Mirrored
+with_lines mirrored message = record mirrored { lines = fold_lines mirrored.limit mirrored.line_dump mirrored.lines message }
+
 abbrev pub with_message : Mirrored → WireMessage → Mirrored
-with_message mirrored message = record mirrored { lines = fold_lines mirrored.limit mirrored.line_dump mirrored.lines message }
+with_message mirrored message = record mirrored {
+  buffers = fold_buffers mirrored.buffer_dump mirrored.buffers message;
+  lines = fold_lines mirrored.limit mirrored.line_dump mirrored.lines message;
+}
 
 -- What a call answers and leaves, by what reading gives of its bytes: a message at the front is folded. In each
 -- other case, and where memory is refused, nothing changes.

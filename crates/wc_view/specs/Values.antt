@@ -1,6 +1,7 @@
 -- What values say. None where the value is of another kind, or has a number or a null text that it can not have.
-use Rattle.std.specs.Prelude.{ℕ, ℤ, pos, Bool, true, false, List, Option, Some, None, if◌then◌else◌}
+use Rattle.std.specs.Prelude.{ℕ, ℤ, pos, Bool, true, false, ◌&&◌, List, Option, Some, None, if◌then◌else◌}
 use Rattle.std.specs.Ordering.{int_eq}
+use Rattle.wc_text.specs.declared.names.Pair.{Pair}
 use Rattle.wc_objects.specs.declared.kind.Kind.TheVariants.{Str}
 use Rattle.wc_objects.specs.declared.object.Object.{Object, out-Object}
 use Rattle.wc_objects.specs.declared.object.Object.TheOpen.{Object-F}
@@ -61,3 +62,26 @@ texts_layer _ = None
 
 abbrev pub texts_in : Object → Option (List (List ℕ))
 texts_in value = texts_layer (out-Object value)
+
+-- truth among numbers is 1 and 0 too
+abbrev pub switch_layer : Layer → Option Bool
+switch_layer (Object-F.Int n) = truth_of n
+switch_layer _ = None
+
+abbrev pub switch_in : Object → Option Bool
+switch_in value = switch_layer (out-Object value)
+
+abbrev pub pair_of : Option (List ℕ) → Option (List ℕ) → Option Pair
+pair_of (Some name) (Some value) = Some (record { name = name; value = value })
+pair_of _ _ = None
+
+abbrev pub pair_in : Object × Object → Option Pair
+pair_in pair = pair_of (text_in pair.0) (text_in pair.1)
+
+abbrev pub pairs_layer : Layer → Option (List Pair)
+pairs_layer (Object-F.Htb key value pairs) = if same key Str && same value Str then each pair_in pairs else None
+pairs_layer _ = None
+
+-- the variables of a buffer
+abbrev pub pairs_in : Object → Option (List Pair)
+pairs_in value = pairs_layer (out-Object value)

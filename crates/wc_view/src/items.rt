@@ -1,6 +1,7 @@
 //! The items that a message tells.
 
 ghost use Rattle.std.specs.Prelude.{◌≡◌, option_map};
+ghost use Rattle.wc_view.specs.Each.{only};
 ghost use Rattle.wc_view.specs.Items.{items_on, is_text, last_pointer};
 
 use wc_objects::{HdaItem, Object};
@@ -39,4 +40,14 @@ pub(crate) fn last_pointer(item: &HdaItem) -> Option<u64>
     ensures { result ≡ last_pointer item.now }
 {
     item.pointers.as_slice().last().copied()
+}
+
+/// The one item of these. None where they are more or fewer.
+pub(crate) fn only_item(items: &[HdaItem]) -> Option<&HdaItem>
+    ensures { option_map (λ item. item.now) result ≡ only items.now }
+{
+    match items {
+        [item] => Some(item),
+        _ => None,
+    }
 }

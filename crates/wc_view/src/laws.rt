@@ -1,5 +1,6 @@
 //! What holds of each mirror of the lines of a world.
 
+ghost use Rattle.wc_view.specs.BufferViews.{BufferDumpShows, BufferNoticeShows};
 ghost use Rattle.wc_view.specs.Flipped.{FlipsShow};
 ghost use Rattle.wc_view.specs.Views.{DumpShows, NoticeShows};
 
@@ -16,4 +17,14 @@ pub fn notice_shows_world()
 /// The same of any change, where behind its event each buffer with lines whose flags differ has an event of these.
 pub fn flips_show_world()
     ensures { FlipsShow }
+{}
+
+/// After the reply to the buffer dump a client has the buffers of the world in their groups.
+pub fn dump_shows_buffers()
+    ensures { BufferDumpShows }
+{}
+
+/// A client that has the buffers of a world has those of the world behind a change after the event of the change.
+pub fn notice_shows_buffers()
+    ensures { BufferNoticeShows }
 {}

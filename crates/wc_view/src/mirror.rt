@@ -2,21 +2,25 @@ ghost use Rattle.std.specs.Prelude.{◌≡◌, ℕ, ◌≤◌, List, Option, Som
 ghost use Rattle.wc_objects.specs.declared.object.WireMessage.{WireMessage};
 ghost use Rattle.wc_objects.specs.Spells.{FrontSpells, misses_bytes};
 ghost use Rattle.wc_objects.specs.Reading.{GivesFirst, first_message};
+ghost use Rattle.wc_view.specs.BufferFold.{fold_buffers};
 ghost use Rattle.wc_view.specs.Fold.{empties};
+ghost use Rattle.wc_view.specs.Runs.{or_kept};
 ghost use Rattle.wc_view.specs.Ids.{AreIds};
 ghost use Rattle.wc_view.specs.Parts.{Part, lines_at};
-ghost use Rattle.wc_view.specs.Taking.{Mirrored, nothing_taken, with_dump, with_added, with_emptied, with_shown, with_change, with_event, with_message, Takes};
+ghost use Rattle.wc_view.specs.Taking.{Mirrored, nothing_taken, with_dump, with_added, with_emptied, with_shown, with_change, with_event, with_lines, with_message, Takes};
 
 use crate::buffer_lines::{BufferLines, add_row, lines_of, of_rows, remove_buffer, set_flags};
 use crate::flags::flags_on;
+use crate::mirror_buffer::SharedBuffer;
 use crate::mirror_line::MirrorLine;
 use crate::named::buffer_named;
 use crate::rows::{only_row, rows_on};
+use crate::told::{dump_told, event_told};
 use std::alloc::Global;
 use std::marker::Model;
 use wc_model::EventKind;
 use wc_objects::{MessageRefused, WireMessage, read_message};
-use wc_text::{Handle, NoMemory, Text};
+use wc_text::{Handle, Items, NoMemory, Text};
 use wc_told::event_id;
 
 /// Why bytes were not taken.
@@ -30,11 +34,14 @@ pub enum MirrorRefused {
 }
 
 /// A client's mirror: what it holds by the messages that a relay sent it. Contracts see the limit on the lines of
-/// a buffer, the id of the line dump, and once that was taken, the lines of each buffer.
+/// a buffer, the ids of the dumps of buffers and of lines, and once they were taken, the buffers in groups and the lines
+/// of each buffer.
 #[derive(Drop)]
 pub struct Mirror {
     limit: usize,
+    buffer_dump: Text,
     line_dump: Text,
+    buffers: Option<Items<Items<SharedBuffer>>>,
     lines: Option<Vec<BufferLines>>,
 }
 
@@ -49,7 +56,7 @@ impl Model for Mirror {
 
     ghost coded = { Prim.hlevel (codes, map.code) };
 
-    ghost view = { λ m. record { limit = m.limit; line_dump = m.line_dump; lines = option_map (λ v. part_at v.items) m.lines } };
+    ghost view = { λ m. record { limit = m.limit; buffer_dump = m.buffer_dump; line_dump = m.line_dump; buffers = m.buffers; lines = option_map (λ v. part_at v.items) m.lines } };
 }
 
 impl Mirror {
@@ -58,14 +65,24 @@ impl Mirror {
     pub fn new(alloc: Global, limit: u32, ids: [Text; 3]) -> Result<Mirror, NoMemory>
         requires some { 1 ≤ limit }
         requires ids { AreIds ids }
-        ensures { IfOk result (λ mirror. mirror ≡ nothing_taken limit (slice_index_or ids 1 [])) }
+        ensures { IfOk result (λ mirror. mirror ≡ nothing_taken limit (slice_index_or ids 0 []) (slice_index_or ids 1 [])) }
     {
+        let buffer_dump = ids[0].copy(alloc)?;
         let line_dump = ids[1].copy(alloc)?;
         Ok(Mirror {
             limit: limit as usize,
+            buffer_dump,
             line_dump,
+            buffers: None,
             lines: None,
         })
+    }
+
+    /// The buffers in groups, in order. None where the buffer dump was not taken.
+    pub fn buffers(&self) -> Option<&Items<Items<SharedBuffer>>>
+        ensures { option_map (λ groups. groups.now) result ≡ self.now.buffers }
+    {
+        self.buffers.as_ref()
     }
 
     /// The lines of a buffer, from the oldest, and none of them where the buffer has none or is not there. None
@@ -162,15 +179,46 @@ impl Mirror {
         self.take_change(alloc, message)
     }
 
-    /// Folds a message. Where memory is refused, nothing changes.
-    fn fold(&mut self, alloc: Global, message: &WireMessage) -> Result<(), NoMemory>
-        ensures ok { OnOk result (self.new ≡ with_message self.old message.now) }
+    /// Folds what a message tells of lines. Where memory is refused, nothing changes.
+    fn fold_lines(&mut self, alloc: Global, message: &WireMessage) -> Result<(), NoMemory>
+        ensures ok { OnOk result (self.new ≡ with_lines self.old message.now) }
         ensures err { OnErr result (self.new ≡ self.old) }
     {
         if message.id.as_slice() == self.line_dump.as_slice() {
             return self.take_dump(alloc, message);
         }
         self.take_event(alloc, message)
+    }
+
+    /// The groups of buffers that a message tells. None where they stay as they are.
+    #[tactic(auto, using(crate::proofs::KindLemmas::nothing_held))]
+    fn told_groups(
+        &self,
+        alloc: Global,
+        message: &WireMessage,
+    ) -> Result<Option<Items<Items<SharedBuffer>>>, NoMemory>
+        ensures { IfOk result (λ new. or_kept new self.now.buffers ≡ fold_buffers self.now.buffer_dump self.now.buffers message.now) }
+    {
+        if message.id.as_slice() == self.buffer_dump.as_slice() {
+            return dump_told(alloc, message);
+        }
+        match &self.buffers {
+            Some(groups) => event_told(alloc, groups, message),
+            None => Ok(None),
+        }
+    }
+
+    /// Folds a message. Where memory is refused, nothing changes.
+    fn fold(&mut self, alloc: Global, message: &WireMessage) -> Result<(), NoMemory>
+        ensures ok { OnOk result (self.new ≡ with_message self.old message.now) }
+        ensures err { OnErr result (self.new ≡ self.old) }
+    {
+        let groups = self.told_groups(alloc, message)?;
+        self.fold_lines(alloc, message)?;
+        if let Some(groups) = groups {
+            self.buffers = Some(groups);
+        }
+        Ok(())
     }
 
     /// Folds the message at the front of the bytes, as `take` does.

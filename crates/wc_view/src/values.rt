@@ -2,11 +2,11 @@
 
 ghost use Rattle.std.specs.Prelude.{◌≡◌, None, Some, MatchOption, IfOk};
 ghost use Rattle.wc_view.specs.Each.{each};
-ghost use Rattle.wc_view.specs.Values.{pointer_in, date_in, number_in, level_in, truth_of, truth_in, text_in, texts_in};
+ghost use Rattle.wc_view.specs.Values.{pointer_in, date_in, number_in, level_in, truth_of, truth_in, text_in, texts_in, switch_in, pair_in, pairs_in};
 
 use std::alloc::Global;
 use wc_objects::{Kind, Object};
-use wc_text::{Items, NoMemory, Text};
+use wc_text::{Items, NoMemory, Pair, Text};
 
 pub(crate) fn pointer_in(value: &Object) -> Option<u64>
     ensures { result ≡ pointer_in value.now }
@@ -104,6 +104,62 @@ pub(crate) fn texts_in(alloc: Global, value: &Object) -> Result<Option<Items<Tex
         Object::Arr { kind, values } => {
             if kind.is(Kind::Str) {
                 each_text(alloc, values)
+            } else {
+                Ok(None)
+            }
+        }
+        _ => Ok(None),
+    }
+}
+
+/// Truth among numbers is 1 and 0 too.
+pub(crate) fn switch_in(value: &Object) -> Option<bool>
+    ensures { result ≡ switch_in value.now }
+{
+    match value {
+        Object::Int(0) => Some(false),
+        Object::Int(1) => Some(true),
+        _ => None,
+    }
+}
+
+fn pair_in(alloc: Global, pair: &(Object, Object)) -> Result<Option<Pair>, NoMemory>
+    ensures { IfOk result (λ found. found ≡ pair_in pair.now) }
+{
+    let Some(name) = text_copy(alloc, &pair.0)? else {
+        return Ok(None);
+    };
+    let Some(value) = text_copy(alloc, &pair.1)? else {
+        return Ok(None);
+    };
+    Ok(Some(Pair { name, value }))
+}
+
+#[tactic(auto, using(crate::proofs::EachLemmas::one_more, crate::proofs::EachLemmas::none_there, crate::proofs::EachLemmas::all_there))]
+fn each_pair(
+    alloc: Global,
+    pairs: &Items<(Object, Object)>,
+) -> Result<Option<Items<Pair>>, NoMemory>
+    ensures { IfOk result (λ found. found ≡ each pair_in pairs.now) }
+{
+    let mut found = Items::new(alloc);
+    for pair in pairs.as_slice() {
+        let Some(pair) = pair_in(alloc, pair)? else {
+            return Ok(None);
+        };
+        found.push(pair)?;
+    }
+    Ok(Some(found))
+}
+
+/// The variables of a buffer. None of a table of other kinds, and where one text is null.
+pub(crate) fn pairs_in(alloc: Global, value: &Object) -> Result<Option<Items<Pair>>, NoMemory>
+    ensures { IfOk result (λ found. found ≡ pairs_in value.now) }
+{
+    match value {
+        Object::Htb { key, value, pairs } => {
+            if key.is(Kind::Str) && value.is(Kind::Str) {
+                each_pair(alloc, pairs)
             } else {
                 Ok(None)
             }

@@ -1,0 +1,7 @@
+use Rattle.std.proofs.Common.{◌≡◌, ◌++◌, take}
+use Rattle.wc_buffers.specs.Groups.{only}
+use Rattle.wc_view.specs.Grouped.{key_of}
+use Rattle.wc_view.proofs.grouped.push_only.Given as goal
+
+abbrev pub invariant-loop-buffer : goal.invariant-loop-buffer
+invariant-loop-buffer l = l.picked ≡ l.initial.picked ++ only key_of l.h (take l.buffer-index l.group)

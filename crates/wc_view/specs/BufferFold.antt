@@ -1,0 +1,122 @@
+-- What a message changes of the buffers that a client holds.
+use Rattle.std.specs.Prelude.{ℕ, ◌==◌, Bool, true, not, ◌&&◌, List, [], ◌∷◌, Option, Some, None, codes, find, option_map, if◌then◌else◌, bytes_eq}
+use Rattle.std.specs.Option.{option_and_then}
+use Rattle.std.specs.List.{list_any}
+use Rattle.wc_model.specs.declared.notice.EventKind.{EventKind}
+use Rattle.wc_model.specs.declared.notice.EventKind.TheVariants as event
+use Rattle.wc_objects.specs.declared.object.Object.{Object}
+use Rattle.wc_objects.specs.declared.object.WireMessage.{WireMessage}
+use Rattle.wc_told.specs.BufferObjects.{id_of, opened_keys, placed_keys, renamed_keys, title_keys, vars_keys, named_keys, dump_keys}
+use Rattle.wc_view.specs.declared.mirror_buffer.MirrorBuffer.{MirrorBuffer}
+use Rattle.wc_view.specs.declared.carried.Carried.{Carried}
+use Rattle.wc_view.specs.declared.carried.Field.{Field}
+use Rattle.wc_view.specs.declared.carried.Field.TheVariants.{Number, FullName, ShortName, Hidden, Title, Vars, Prev, Next}
+use Rattle.wc_view.specs.Each.{each, only}
+use Rattle.wc_view.specs.Items.{items_on}
+use Rattle.wc_view.specs.Carried.{carried_by}
+use Rattle.wc_view.specs.Grouped.{Groups, key_of, with_event}
+
+-- ---- the dump
+
+abbrev pub dump_fields : List Field
+dump_fields = Number ∷ FullName ∷ ShortName ∷ Hidden ∷ Title ∷ Vars ∷ []
+
+abbrev pub is_told : ℕ → List Carried → Bool
+is_told h rows = list_any (λ (row : Carried). key_of row.buffer == h) rows
+
+-- no buffer is told twice
+abbrev pub are_once : List Carried → Bool
+are_once [] = true
+are_once (row ∷ rows) = not (is_told (key_of row.buffer) rows) && are_once rows
+
+abbrev pub in_front : MirrorBuffer → Groups → Groups
+in_front b [] = (b ∷ []) ∷ []
+in_front b (group ∷ groups) = (b ∷ group) ∷ groups
+
+-- in front of these groups, whose first begins with this row
+abbrev pub joined : Carried → List Carried → Groups → Groups
+joined row [] groups = (row.buffer ∷ []) ∷ groups
+joined row (next ∷ rows) groups = if row.number == next.number then in_front row.buffer groups else (row.buffer ∷ []) ∷ groups
+
+-- runs of equal numbers are groups
+abbrev pub runs : List Carried → Groups
+runs [] = []
+runs (row ∷ rows) = joined row rows (runs rows)
+
+abbrev pub dumped_groups : Option (List Carried) → Option Groups → Option Groups
+dumped_groups None part = part
+dumped_groups (Some rows) part = if are_once rows then Some (runs rows) else part
+
+abbrev pub rows_dumped : List Object → Option (List Carried)
+rows_dumped objects = option_and_then (each (carried_by dump_fields)) (items_on (codes "buffer") dump_keys objects)
+
+abbrev pub fold_buffer_dump : Option Groups → WireMessage → Option Groups
+fold_buffer_dump part message = dumped_groups (rows_dumped message.objects) part
+
+-- ---- events
+
+-- the events that change buffers
+abbrev pub kinds : List EventKind
+kinds =
+    event.Opened ∷ event.Moved ∷ event.Merged ∷ event.Unmerged ∷ event.Hidden ∷ event.Unhidden ∷ event.Renamed ∷ event.TitleChanged ∷
+    event.VarAdded ∷ event.VarChanged ∷ event.VarRemoved ∷ event.Closing ∷ []
+
+abbrev pub kind_among : List ℕ → List EventKind → Option EventKind
+kind_among id some = find (λ kind. bytes_eq id (id_of kind)) some
+
+abbrev pub kind_named : List ℕ → Option EventKind
+kind_named id = kind_among id kinds
+
+abbrev pub placed_fields : List Field
+placed_fields = Number ∷ FullName ∷ Prev ∷ Next ∷ []
+
+abbrev pub vars_fields : List Field
+vars_fields = Number ∷ FullName ∷ Vars ∷ []
+
+abbrev pub fields_of : EventKind → List Field
+fields_of event.Opened = Number ∷ FullName ∷ ShortName ∷ Hidden ∷ Title ∷ Vars ∷ Prev ∷ Next ∷ []
+fields_of event.Moved = placed_fields
+fields_of event.Merged = placed_fields
+fields_of event.Unmerged = placed_fields
+fields_of event.Hidden = placed_fields
+fields_of event.Unhidden = placed_fields
+fields_of event.Renamed = Number ∷ FullName ∷ ShortName ∷ Vars ∷ []
+fields_of event.TitleChanged = Number ∷ FullName ∷ Title ∷ []
+fields_of event.VarAdded = vars_fields
+fields_of event.VarChanged = vars_fields
+fields_of event.VarRemoved = vars_fields
+fields_of _ = Number ∷ FullName ∷ []
+
+abbrev pub keys_of : EventKind → List ℕ
+keys_of event.Opened = opened_keys
+keys_of event.Moved = placed_keys
+keys_of event.Merged = placed_keys
+keys_of event.Unmerged = placed_keys
+keys_of event.Hidden = placed_keys
+keys_of event.Unhidden = placed_keys
+keys_of event.Renamed = renamed_keys
+keys_of event.TitleChanged = title_keys
+keys_of event.VarAdded = vars_keys
+keys_of event.VarChanged = vars_keys
+keys_of event.VarRemoved = vars_keys
+keys_of _ = named_keys
+
+-- what the one item of an event tells
+unfoldable pub told_by : EventKind → List Object → Option Carried
+told_by kind objects = option_and_then (carried_by (fields_of kind)) (option_and_then only (items_on (codes "buffer") (keys_of kind) objects))
+
+abbrev pub changed_by : EventKind → Option Carried → Option Groups → Option Groups
+changed_by kind None part = part
+changed_by kind (Some told) part = option_map (with_event kind told) part
+
+abbrev pub event_groups : Option EventKind → List Object → Option Groups → Option Groups
+event_groups None objects part = part
+event_groups (Some kind) objects part = changed_by kind (told_by kind objects) part
+
+abbrev pub fold_buffer_event : Option Groups → WireMessage → Option Groups
+fold_buffer_event part message = event_groups (kind_named message.id) message.objects part
+
+-- The reply under the id of the buffer dump, where it tells of no buffer twice, and the events of buffers. Other
+-- messages, and those whose keys or values are not those of their kind, change nothing.
+abbrev pub fold_buffers : List ℕ → Option Groups → WireMessage → Option Groups
+fold_buffers id part message = if bytes_eq message.id id then fold_buffer_dump part message else fold_buffer_event part message
