@@ -1,27 +1,19 @@
 -- The dump of the buffers of a world is folded to these buffers in their groups.
-use Rattle.std.proofs.Common.{◌≡◌, ◌⊎◌, inl, inr, ℕ, ◌^◌, ◌+◌, ◌-◌, ◌<◌, ◌≤◌, Bool, true, false, cond, not, ◌&&◌, ◌||◌, eqb, List, [], ◌∷◌, ◌++◌, length, map, codes, Option, Some, None, refl, sym, ap, subst, ◌∙◌, arith}
-use Rattle.std.specs.Prelude.{bytes_eq}
+use Rattle.std.proofs.Common.{◌≡◌, ℕ, ◌+◌, ◌<◌, ◌≤◌, Bool, true, false, ◌||◌, eqb, List, [], ◌∷◌, ◌++◌, map, codes, Some, refl, ap, ◌∙◌, arith}
 use Rattle.std.specs.Option.{option_and_then}
-use Rattle.std.specs.List.{list_any}
-use Rattle.std.proofs.lemmas.Bool.{eq-eqb, eqb-true, or_parts, false≢true}
+use Rattle.std.proofs.lemmas.Bool.{eq-eqb}
 use Rattle.std.proofs.lemmas.Bool.Decides.{nat_tests}
-use Rattle.std.proofs.lemmas.List.{append-nil}
-use Rattle.std.proofs.lemmas.List.Folds.{list_any-append}
 use Rattle.wc_buffers.specs.declared.entry.BufferEntry.{BufferEntry}
 use Rattle.wc_buffers.specs.Groups.{AllFilled, times, times_in, in_group}
 use Rattle.wc_buffers.specs.Calls.{handle_of}
-use Rattle.wc_buffers.proofs.GroupLaws.{by_bool, has_tells, in_group_tells}
-use Rattle.wc_model.specs.World.{World}
+use Rattle.wc_buffers.proofs.GroupLaws.{in_group_tells}
 use Rattle.wc_objects.specs.declared.object.HdaItem.{HdaItem}
 use Rattle.wc_told.specs.BufferObjects.{dump_keys, dumped_values, dumped_buffer, dumped_groups as told_groups, buffer_dump}
-use Rattle.wc_view.specs.declared.mirror_buffer.MirrorBuffer.{MirrorBuffer}
 use Rattle.wc_view.specs.declared.carried.Carried.{Carried}
 use Rattle.wc_view.specs.Each.{each}
-use Rattle.wc_view.specs.Items.{items_on}
 use Rattle.wc_view.specs.Carried.{carry, carried_by}
-use Rattle.wc_view.specs.Grouped.{Groups, key_of}
-use Rattle.wc_view.specs.BufferFold.{dump_fields, is_told, are_once, in_front, joined, runs, rows_dumped, dumped_groups, fold_buffers}
-use Rattle.wc_view.specs.BufferViews.{shown_buffer, shown_groups, HasBuffers, AreGrouped, dump_reply, BufferDumpShows}
+use Rattle.wc_view.specs.BufferFold.{dump_fields, is_told, are_once, in_front, runs, rows_dumped, dumped_groups}
+use Rattle.wc_view.specs.BufferViews.{shown_buffer, shown_groups, BufferDumpShows}
 use Rattle.wc_view.proofs.LineTold.{number_told, text_told, items_told, same_bytes}
 use Rattle.wc_view.proofs.BufferTold.{switch_told, pairs_told}
 

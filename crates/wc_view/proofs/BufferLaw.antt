@@ -8,13 +8,12 @@ use Rattle.wc_text.specs.declared.names.Handle.{Handle}
 use Rattle.wc_text.specs.declared.names.Pair.{Pair}
 use Rattle.wc_buffers.specs.declared.row.BufferSpec.{BufferSpec}
 use Rattle.wc_buffers.specs.declared.entry.BufferEntry.{BufferEntry}
-use Rattle.wc_buffers.specs.Groups.{rows, in_group, has, place, row_of, times, update, take_out, pick, append_to, merge, others, own, move_group, unmerge}
-use Rattle.wc_buffers.specs.Calls.{Groups as Held, handle_of, is_there, entry_of, buffer_of, number, lacks_var, opened as opened_entry, with_hidden, with_full_name, with_short_name, with_title, with_var, without_var, changed}
+use Rattle.wc_buffers.specs.Groups.{rows, in_group, has, row_of, times, update, take_out, pick, append_to, merge, others, own, move_group}
+use Rattle.wc_buffers.specs.Calls.{Groups as Held, handle_of, entry_of, lacks_var, opened as opened_entry, with_hidden, with_full_name, with_short_name, with_title, with_var, without_var, changed}
 use Rattle.wc_buffers.specs.Vars.{cut_to}
-use Rattle.wc_buffers.proofs.GroupLaws.{by_bool, in_group-map, has-map, rows-map, times-map, row_of-map, update-map, take_out-map, merge-map, move_group-map, unmerge-map, times-take_out, has_tells}
+use Rattle.wc_buffers.proofs.GroupLaws.{by_bool, in_group-map, has-map, rows-map, times-map, row_of-map, update-map, take_out-map, merge-map, move_group-map, unmerge-map, times-take_out}
 use Rattle.wc_buffers.proofs.RefusalLemmas.{there_good, close_good, move_good, merge_good, unmerge_good, rename_good, short_name_good, set_var_good, remove_var_good}
 use Rattle.wc_world.proofs.GroupRows.{row_of-append, or_some, no_row, some_row, merged_apart, has-take_out, row_of-update}
-use Rattle.wc_model.specs.declared.change.Change.{Change}
 use Rattle.wc_model.specs.declared.change.Flip.{Flip}
 use Rattle.wc_model.specs.declared.change.What.{What}
 use Rattle.wc_model.specs.declared.change.What.TheVariants.{Add, Close, MoveTo, MergeInto, Unmerge, Hide, Unhide, Rename, ShortName, Title, SetVar, RemoveVar, Print, Clear, Flips}
@@ -24,20 +23,20 @@ use Rattle.wc_model.specs.declared.notice.Notice.{Notice}
 use Rattle.wc_buffers.specs.declared.refused.BufferRefused.{BufferRefused}
 use Rattle.wc_model.specs.declared.refused.ChangeRefused.{ChangeRefused}
 use Rattle.wc_model.specs.World.{World}
-use Rattle.wc_model.specs.Order.{order, prev_of, before_in}
+use Rattle.wc_model.specs.Order.{order, before_in}
 use Rattle.wc_model.specs.Apply.{refusal_of, after_of, of_buffers, or_else, row_of as new_row}
 use Rattle.wc_model.specs.Notices.{notice_of, notice_at, var_kind, name_in, flips_between}
 use Rattle.wc_objects.specs.declared.object.Object.{Object}
-use Rattle.wc_told.specs.BufferObjects.{event_of, event_objects, objects_of, placed_objects, named_objects, opened_objects, renamed_objects, title_objects, vars_objects}
+use Rattle.wc_told.specs.BufferObjects.{event_of, event_objects, objects_of, opened_objects, renamed_objects, title_objects, vars_objects}
 use Rattle.wc_view.specs.declared.mirror_buffer.MirrorBuffer.{MirrorBuffer}
 use Rattle.wc_view.specs.declared.carried.Carried.{Carried}
 use Rattle.wc_view.specs.Ids.{IsFree}
-use Rattle.wc_view.specs.Grouped.{Groups, key_of, put_behind, opened, moved, merged, with_told, told_update, edited, with_event}
+use Rattle.wc_view.specs.Grouped.{Groups, key_of, put_behind, moved, merged, with_told, edited, with_event}
 use Rattle.wc_view.specs.BufferFold.{fold_buffers}
 use Rattle.wc_view.specs.BufferViews.{shown_buffer, shown_groups, HasBuffers, AreGrouped, fold_told_buffers, BufferNoticeShows}
 use Rattle.wc_view.proofs.NoticeLaw.{other_id, message_of}
-use Rattle.wc_view.proofs.BufferTold.{cut, placed_told, opened_told, renamed_told, title_told, vars_told, named_told, opened_folds, renamed_folds, title_folds, added_folds, changed_folds, removed_folds, closing_folds, moved_folds, merged_folds, unmerged_folds, hidden_folds, unhidden_folds}
-use Rattle.wc_view.proofs.BufferPlaces.{once_changed, found_key, own_few, parted, moved_place, merged_behind, pick_filled}
+use Rattle.wc_view.proofs.BufferTold.{cut, placed_told, opened_told, renamed_told, title_told, vars_told, opened_folds, renamed_folds, title_folds, added_folds, changed_folds, removed_folds, closing_folds, moved_folds, merged_folds, unmerged_folds, hidden_folds, unhidden_folds}
+use Rattle.wc_view.proofs.BufferPlaces.{once_changed, own_few, parted, moved_place, merged_behind, pick_filled}
 
 -- ---- groups as they are shown
 same_key : (e : BufferEntry) → key_of (shown_buffer e) ≡ handle_of e

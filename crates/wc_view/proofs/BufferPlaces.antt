@@ -1,18 +1,17 @@
 -- Groups of a client behind an edit.
-use Rattle.std.proofs.Common.{◌≡◌, ◌⊎◌, inl, inr, ℕ, zero, suc, ◌+◌, ◌-◌, ◌<◌, ◌≤◌, Bool, true, false, cond, not, ◌||◌, eqb, List, [], ◌∷◌, ◌++◌, length, map, take, drop, filter, find, flat_map, position, Option, Some, None, option_map, refl, sym, ap, subst, ◌∙◌, arith, lt-ltb}
-use Rattle.std.specs.List.{list_any, position_or_len}
+use Rattle.std.proofs.Common.{◌≡◌, ℕ, ◌+◌, ◌<◌, ◌≤◌, true, false, cond, not, eqb, List, [], ◌∷◌, ◌++◌, length, map, take, drop, find, Option, Some, None, refl, sym, ap, subst, ◌∙◌, arith, lt-ltb}
+use Rattle.std.specs.List.{position_or_len}
 use Rattle.std.proofs.lemmas.Bool.{eq-eqb, eqb-true, or_parts, false≢true}
 use Rattle.std.proofs.lemmas.Bool.Decides.{nat_tests}
 use Rattle.std.proofs.lemmas.List.{append-nil, append_assoc, map-append, length-append, take-append-drop, length-take}
 use Rattle.std.proofs.lemmas.List.Filters.{length-filter_both}
 use Rattle.std.proofs.lemmas.List.Folds.{list_any-append}
-use Rattle.std.proofs.lemmas.Grind.{flat_map-append}
-use Rattle.wc_buffers.specs.Groups.{rows, in_group, has, place, row_of, times, times_in, update, only, pick, take_out, append_to, merge, others, own, move_group}
+use Rattle.wc_buffers.specs.Groups.{rows, in_group, has, place, row_of, times, times_in, update, only, pick, append_to, others, own, move_group}
 use Rattle.wc_buffers.proofs.GroupLaws.{by_bool, in_group_tells, has_tells}
 use Rattle.wc_world.proofs.GroupRows.{find-append, or_some, not_found}
 use Rattle.wc_model.specs.Order.{before_in}
 use Rattle.wc_view.specs.declared.mirror_buffer.MirrorBuffer.{MirrorBuffer}
-use Rattle.wc_view.specs.Grouped.{Groups, key_of, with_behind, insert_behind, put_behind}
+use Rattle.wc_view.specs.Grouped.{Groups, key_of, insert_behind, put_behind}
 
 -- ---- a change of the one row of a key
 module _ {A : Type 0} (key : A → ℕ) (h : ℕ) where

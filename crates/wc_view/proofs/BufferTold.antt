@@ -1,5 +1,5 @@
 -- What is told of buffers is read as it was told.
-use Rattle.std.proofs.Common.{◌≡◌, ℕ, ◌^◌, ◌-◌, Bool, true, false, cond, List, [], ◌∷◌, map, codes, Option, Some, None, refl, ap, ◌∙◌}
+use Rattle.std.proofs.Common.{◌≡◌, ℕ, ◌^◌, ◌-◌, Bool, true, false, cond, List, [], ◌∷◌, map, codes, Option, Some, refl, ap, ◌∙◌}
 use Rattle.std.specs.Prelude.{bytes_eq, nat_le, option_map}
 use Rattle.std.specs.Option.{option_and_then}
 use denote.Hole.Carrier.{out}
@@ -10,7 +10,7 @@ use Rattle.wc_objects.specs.declared.kind.Kind.TheVariants as k
 use Rattle.wc_objects.specs.declared.object.Object.{Object}
 use Rattle.wc_objects.specs.declared.object.Object.TheVariants as o
 use Rattle.wc_objects.specs.declared.object.Object.TheViews.{out-Object, out-roll-Object}
-use Rattle.wc_objects.specs.declared.object.HdaItem.{HdaItem, roll-HdaItem}
+use Rattle.wc_objects.specs.declared.object.HdaItem.{roll-HdaItem}
 use Rattle.wc_model.specs.declared.notice.Notice.{Notice}
 use Rattle.wc_model.specs.declared.notice.EventKind.{EventKind}
 use Rattle.wc_model.specs.declared.notice.EventKind.TheVariants as event
@@ -22,7 +22,7 @@ use Rattle.wc_view.specs.Each.{each, only}
 use Rattle.wc_view.specs.Values.{switch_in, pair_in, pairs_in}
 use Rattle.wc_view.specs.Items.{items_on}
 use Rattle.wc_view.specs.Carried.{bare, carry, carry_all, carried_by}
-use Rattle.wc_view.specs.BufferFold.{fields_of, keys_of, told_by, fold_buffers, changed_by}
+use Rattle.wc_view.specs.BufferFold.{fields_of, told_by, fold_buffers, changed_by}
 use Rattle.wc_view.specs.Grouped.{Groups, with_event}
 use Rattle.wc_view.specs.Ids.{IsFree}
 use Rattle.wc_view.proofs.LineTold.{pointer_told, number_told, text_told, items_told}

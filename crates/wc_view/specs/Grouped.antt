@@ -1,5 +1,5 @@
 -- The buffers of a client in groups, and what events make of them.
-use Rattle.std.specs.Prelude.{ℕ, ◌-◌, ◌==◌, Bool, true, false, not, ◌&&◌, nat_lt, nat_le, List, [], ◌∷◌, ◌++◌, map, length, if◌then◌else◌}
+use Rattle.std.specs.Prelude.{ℕ, ◌-◌, ◌==◌, true, false, not, ◌&&◌, nat_lt, nat_le, List, [], ◌∷◌, ◌++◌, map, length, if◌then◌else◌}
 use Rattle.std.specs.List.{flat_map}
 use Rattle.wc_buffers.specs.Groups.{has, take_out, pick, others, move_group, unmerge}
 use Rattle.wc_model.specs.declared.notice.EventKind.{EventKind}
