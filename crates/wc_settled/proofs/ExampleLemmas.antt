@@ -21,6 +21,7 @@ use Rattle.wc_core.specs.Events.{Event, Line}
 use Rattle.wc_core.specs.State.{State, first_state}
 use Rattle.wc_core.specs.Step.{client_link, line_came, asked, answers, step, run}
 use Rattle.wc_outside.specs.Keyed.{at_key}
+use Rattle.wc_settled.specs.Held.{Lines}
 use Rattle.wc_settled.specs.Settled.{Asked, asked_by, asked_with, asked_in, asked_on, client_on, follows_all, is_following, has_id, TakesDump}
 use Rattle.wc_settled.specs.Example.{init_line, sync_line, dump_line, three_lines, ThreeLinesSettle}
 
@@ -155,7 +156,7 @@ synced_follows : follows_all synced ≡ true
 unfolding synchronized
 synced_follows = refl
 
-dump_asked : TakesDump (codes "l") (request_by synced dump_request)
+dump_asked : TakesDump Lines (codes "l") (request_by synced dump_request)
 unfolding dump_request
 dump_asked = record { logged_in = synced_known; dump = refl; under = refl }
 
