@@ -1,7 +1,7 @@
 //! What each client that settled holds.
 
 ghost use Rattle.wc_settled.specs.Bytes.{BuffersShow, BytesShow, RunSpells, SpellOnce};
-ghost use Rattle.wc_settled.specs.Example.{ThreeLinesSettle};
+ghost use Rattle.wc_settled.specs.Example.{ThreeLinesSettle, ThreeLinesSettleBuffers};
 ghost use Rattle.wc_settled.specs.Held.{Lines, Buffers};
 ghost use Rattle.wc_settled.specs.Mirrors.{Mirrors, StepMirrors, DumpMirrors, StepKeeps, RunKeeps};
 
@@ -48,7 +48,8 @@ pub fn core_keeps()
     ensures run { RunKeeps }
 {}
 
-/// A client that logs in, asks for all events and takes the dump has settled.
+/// A client that logs in, asks for all events and takes the dump of a part has settled by it.
 pub fn three_lines_settle()
-    ensures { ThreeLinesSettle }
+    ensures lines { ThreeLinesSettle }
+    ensures buffers { ThreeLinesSettleBuffers }
 {}
