@@ -42,13 +42,28 @@ begun row (next ∷ rows) groups = by_bool (eqb row.number next.number) _
     (λ t. rw t (one_front row.buffer groups))
     (λ t. rw t refl)
 
+abbrev open_at : Groups → ℕ → List MirrorBuffer → Open
+open_at groups n g = record { groups = groups; number = n; group = g }
+
+same_number : (groups : Groups) (n : ℕ) (b : MirrorBuffer) (g : List MirrorBuffer) (row : Carried) → eqb n row.number ≡ true
+    → with_row (open_at groups n (b ∷ g)) row ≡ open_at groups row.number (b ∷ (g ++ row.buffer ∷ []))
+same_number groups n b g row t = let some : eqb (length (b ∷ g)) 0 ≡ false = grind (arith, nat_tests) in rw (some, t) refl
+
+next_number : (groups : Groups) (n : ℕ) (b : MirrorBuffer) (g : List MirrorBuffer) (row : Carried) → eqb n row.number ≡ false
+    → with_row (open_at groups n (b ∷ g)) row ≡ open_at (groups ++ (b ∷ g) ∷ []) row.number (row.buffer ∷ [])
+next_number groups n b g row t = let some : eqb (length (b ∷ g)) 0 ≡ false = grind (arith, nat_tests) in rw (some, t) refl
+
 more : (groups : Groups) (n : ℕ) (b : MirrorBuffer) (g : List MirrorBuffer) (rows : List Carried)
-    → finished (fold with_row (record { groups = groups; number = n; group = b ∷ g }) rows) ≡ groups ++ glued n (b ∷ g) rows (runs rows)
+    → finished (fold with_row (open_at groups n (b ∷ g)) rows) ≡ groups ++ glued n (b ∷ g) rows (runs rows)
 more groups n b g [] = ap (λ gs. groups ++ gs) (filled-some b g [])
 more groups n b g (row ∷ rows) = by_bool (eqb n row.number) _
-    (λ t. rw t (more groups row.number b (g ++ row.buffer ∷ []) rows ∙ ap (λ gs. groups ++ gs) (grown (b ∷ g) row rows (runs rows) (λ e. ap runs e))))
-    (λ t. rw t (more (groups ++ (b ∷ g) ∷ []) row.number row.buffer [] rows ∙ append_assoc groups ((b ∷ g) ∷ []) (glued row.number (row.buffer ∷ []) rows (runs rows))
-    ∙ ap (λ gs. groups ++ (b ∷ g) ∷ gs) (begun row rows (runs rows))))
+    (λ t. ap (λ o. finished (fold with_row o rows)) (same_number groups n b g row t) ∙ more groups row.number b (g ++ row.buffer ∷ []) rows
+    ∙ ap (λ gs. groups ++ gs) (grown (b ∷ g) row rows (runs rows) (λ e. ap runs e))
+    ∙ ap (λ z. groups ++ cond z (prepend (b ∷ g) (joined row rows (runs rows))) ((b ∷ g) ∷ joined row rows (runs rows))) (sym t))
+    (λ t. ap (λ o. finished (fold with_row o rows)) (next_number groups n b g row t) ∙ more (groups ++ (b ∷ g) ∷ []) row.number row.buffer [] rows
+    ∙ append_assoc groups ((b ∷ g) ∷ []) (glued row.number (row.buffer ∷ []) rows (runs rows))
+    ∙ ap (λ gs. groups ++ (b ∷ g) ∷ gs) (begun row rows (runs rows))
+    ∙ ap (λ z. groups ++ cond z (prepend (b ∷ g) (joined row rows (runs rows))) ((b ∷ g) ∷ joined row rows (runs rows))) (sym t))
 
 pub runs_finished : (rows : List Carried) → finished (fold with_row nothing_open rows) ≡ runs rows
 runs_finished [] = refl
