@@ -60,7 +60,27 @@ table_short vars few are short =
 abbrev IsBounded : BufferEntry → Type 0
 IsBounded e = IsBuffer e × AreShort e.vars
 
-opened_short : (n : Notice) (e : BufferEntry) → IsTelling n → IsBounded e → AreAtMost (opened_values n e) (4 ∷ 260 ∷ 132 ∷ 4 ∷ 1028 ∷ 70154 ∷ 17 ∷ 17 ∷ [])
+-- how long the values of each event are at most, and those of a buffer of the dump
+
+abbrev opened_sizes : List ℕ
+opened_sizes = 4 ∷ 260 ∷ 132 ∷ 4 ∷ 1028 ∷ 70154 ∷ 17 ∷ 17 ∷ []
+
+abbrev placed_sizes : List ℕ
+placed_sizes = 4 ∷ 260 ∷ 17 ∷ 17 ∷ []
+
+abbrev renamed_sizes : List ℕ
+renamed_sizes = 4 ∷ 260 ∷ 132 ∷ 70154 ∷ []
+
+abbrev title_sizes : List ℕ
+title_sizes = 4 ∷ 260 ∷ 1028 ∷ []
+
+abbrev vars_sizes : List ℕ
+vars_sizes = 4 ∷ 260 ∷ 70154 ∷ []
+
+abbrev dumped_sizes : List ℕ
+dumped_sizes = 4 ∷ 260 ∷ 132 ∷ 4 ∷ 1028 ∷ 70154 ∷ []
+
+opened_short : (n : Notice) (e : BufferEntry) → IsTelling n → IsBounded e → AreAtMost (opened_values n e) opened_sizes
 unfolding opened_values
 opened_short n e tells is = (
   number_short (count n.number),
@@ -79,26 +99,26 @@ opened_short n e tells is = (
   ),
 )
 
-placed_short : (n : Notice) → IsTelling n → AreAtMost (placed_values n) (4 ∷ 260 ∷ 17 ∷ 17 ∷ [])
+placed_short : (n : Notice) → IsTelling n → AreAtMost (placed_values n) placed_sizes
 unfolding placed_values
 placed_short n tells = (number_short (count n.number), (text_short 256 n.full_name tells.short, (pointer_short n.prev.0 tells.prev, (pointer_short n.next.0 tells.next, tt))))
 
-renamed_short : (n : Notice) (e : BufferEntry) → IsTelling n → IsBounded e → AreAtMost (renamed_values n e) (4 ∷ 260 ∷ 132 ∷ 70154 ∷ [])
+renamed_short : (n : Notice) (e : BufferEntry) → IsTelling n → IsBounded e → AreAtMost (renamed_values n e) renamed_sizes
 unfolding renamed_values
 renamed_short n e tells is = (
   number_short (count n.number),
   (text_short 256 n.full_name tells.short, (text_short 128 e.row.short_name is.0.short_name.1, (table_short e.vars is.0.few is.0.vars is.1, tt))),
 )
 
-title_short : (n : Notice) (e : BufferEntry) → IsTelling n → IsBounded e → AreAtMost (title_values n e) (4 ∷ 260 ∷ 1028 ∷ [])
+title_short : (n : Notice) (e : BufferEntry) → IsTelling n → IsBounded e → AreAtMost (title_values n e) title_sizes
 unfolding title_values
 title_short n e tells is = (number_short (count n.number), (text_short 256 n.full_name tells.short, (text_short 1024 e.row.title is.0.title, tt)))
 
-vars_short : (n : Notice) (e : BufferEntry) → IsTelling n → IsBounded e → AreAtMost (vars_values n e) (4 ∷ 260 ∷ 70154 ∷ [])
+vars_short : (n : Notice) (e : BufferEntry) → IsTelling n → IsBounded e → AreAtMost (vars_values n e) vars_sizes
 unfolding vars_values
 vars_short n e tells is = (number_short (count n.number), (text_short 256 n.full_name tells.short, (table_short e.vars is.0.few is.0.vars is.1, tt)))
 
-dumped_short : (number : ℕ) (e : BufferEntry) → IsBounded e → AreAtMost (dumped_values number e) (4 ∷ 260 ∷ 132 ∷ 4 ∷ 1028 ∷ 70154 ∷ [])
+dumped_short : (number : ℕ) (e : BufferEntry) → IsBounded e → AreAtMost (dumped_values number e) dumped_sizes
 unfolding dumped_values
 dumped_short number e is = (
   number_short (pos number),
@@ -157,19 +177,19 @@ about_size id keys buffer values ns known named small all most =
     message_size id (codes "buffer") keys items known (spelt_size (codes "buffer") keys items (omega arith) named (omega arith) (item_brief buffer.0 values ns small all most, tt))
 
 pub opened_size : (id : List ℕ) (n : Notice) (e : BufferEntry) → length id ≤ 65536 → IsTelling n → IsBuffer e → AreShort e.vars → length (message_bytes id (opened_objects n e)) ≤ 2 ^ 31 - 1
-opened_size id n e known tells fit short = about_size id opened_keys n.buffer (opened_values n e) _ known (omega arith) tells.buffer (opened_short n e tells (fit, short)) (omega arith)
+opened_size id n e known tells fit short = about_size id opened_keys n.buffer (opened_values n e) opened_sizes known (omega arith) tells.buffer (opened_short n e tells (fit, short)) (omega arith)
 
 pub placed_size : (id : List ℕ) (n : Notice) → length id ≤ 65536 → IsTelling n → length (message_bytes id (placed_objects n)) ≤ 2 ^ 31 - 1
-placed_size id n known tells = about_size id placed_keys n.buffer (placed_values n) _ known (omega arith) tells.buffer (placed_short n tells) (omega arith)
+placed_size id n known tells = about_size id placed_keys n.buffer (placed_values n) placed_sizes known (omega arith) tells.buffer (placed_short n tells) (omega arith)
 
 pub renamed_size : (id : List ℕ) (n : Notice) (e : BufferEntry) → length id ≤ 65536 → IsTelling n → IsBuffer e → AreShort e.vars → length (message_bytes id (renamed_objects n e)) ≤ 2 ^ 31 - 1
-renamed_size id n e known tells fit short = about_size id renamed_keys n.buffer (renamed_values n e) _ known (omega arith) tells.buffer (renamed_short n e tells (fit, short)) (omega arith)
+renamed_size id n e known tells fit short = about_size id renamed_keys n.buffer (renamed_values n e) renamed_sizes known (omega arith) tells.buffer (renamed_short n e tells (fit, short)) (omega arith)
 
 pub title_size : (id : List ℕ) (n : Notice) (e : BufferEntry) → length id ≤ 65536 → IsTelling n → IsBuffer e → AreShort e.vars → length (message_bytes id (title_objects n e)) ≤ 2 ^ 31 - 1
-title_size id n e known tells fit short = about_size id title_keys n.buffer (title_values n e) _ known (omega arith) tells.buffer (title_short n e tells (fit, short)) (omega arith)
+title_size id n e known tells fit short = about_size id title_keys n.buffer (title_values n e) title_sizes known (omega arith) tells.buffer (title_short n e tells (fit, short)) (omega arith)
 
 pub vars_size : (id : List ℕ) (n : Notice) (e : BufferEntry) → length id ≤ 65536 → IsTelling n → IsBuffer e → AreShort e.vars → length (message_bytes id (vars_objects n e)) ≤ 2 ^ 31 - 1
-vars_size id n e known tells fit short = about_size id vars_keys n.buffer (vars_values n e) _ known (omega arith) tells.buffer (vars_short n e tells (fit, short)) (omega arith)
+vars_size id n e known tells fit short = about_size id vars_keys n.buffer (vars_values n e) vars_sizes known (omega arith) tells.buffer (vars_short n e tells (fit, short)) (omega arith)
 
 -- ---- the dump
 
@@ -181,7 +201,7 @@ dumped_count number (group ∷ groups) =
 
 module _ (next : ℕ) (ended : next ≤ 2 ^ 62 + 1) where
   dumped_brief : (number : ℕ) (e : BufferEntry) → IsBufferKept next e → IsBrief (dumped_buffer number e)
-  dumped_brief number e kept = let below = kept.below in item_brief e.row.handle.0 (dumped_values number e) _ (omega arith) (dumped_short number e (kept.fit, kept.names)) (omega arith)
+  dumped_brief number e kept = let below = kept.below in item_brief e.row.handle.0 (dumped_values number e) dumped_sizes (omega arith) (dumped_short number e (kept.fit, kept.names)) (omega arith)
 
   groups_brief : (number : ℕ) (groups : Groups) → AllByRecursion (IsBufferKept next) (rows groups) → AllByRecursion IsBrief (dumped_groups number groups)
   groups_brief number [] all = tt
