@@ -1,9 +1,8 @@
 -- How long the events of buffers are at most, and the dump of all buffers.
-use Rattle.std.proofs.Common.{◌≡◌, ℕ, ◌+◌, ◌*◌, ◌-◌, ◌^◌, ◌<◌, ◌≤◌, List, [], ◌∷◌, ◌++◌, length, map, Some, refl, ap, ◌∙◌, arith}
+use Rattle.std.proofs.Common.{◌≡◌, ℕ, ◌+◌, ◌*◌, ◌-◌, ◌^◌, ◌<◌, ◌≤◌, List, [], ◌∷◌, ◌++◌, length, map, Some, refl, arith}
 use Rattle.std.specs.Prelude.{pos, codes}
 use Rattle.std.specs.List.{flat_map, AllByRecursion}
 use Rattle.std.proofs.lemmas.List.{length-append, length-map}
-use denote.Hole.Carrier.{out}
 use Rattle.wc_text.specs.declared.names.Handle.{Handle}
 use Rattle.wc_text.specs.declared.names.Pair.{Pair}
 use Rattle.wc_buffers.specs.declared.entry.BufferEntry.{BufferEntry}
@@ -15,7 +14,7 @@ use Rattle.wc_model.specs.World.{World}
 use Rattle.wc_objects.specs.declared.kind.Kind.TheVariants as k
 use Rattle.wc_objects.specs.declared.object.Object.{Object}
 use Rattle.wc_objects.specs.declared.object.Object.TheVariants as o
-use Rattle.wc_objects.specs.declared.object.Object.TheViews.{out-Object, out-roll-Object}
+use Rattle.wc_objects.specs.declared.object.Object.TheViews.{out-roll-Object}
 use Rattle.wc_objects.specs.declared.object.HdaItem.{HdaItem, roll-HdaItem}
 use Rattle.wc_objects.specs.Spelling.{be32, text_bytes, pointer_bytes, simple_bytes, pair_bytes, value_bytes, item_bytes, message_bytes}
 use Rattle.wc_objects.proofs.Rooms.{length-be32}

@@ -21,7 +21,7 @@ use Rattle.wc_core.specs.Events.{Event, Line}
 use Rattle.wc_core.specs.State.{State, first_state}
 use Rattle.wc_core.specs.Step.{client_link, line_came, asked, answers, step, run}
 use Rattle.wc_outside.specs.Keyed.{at_key}
-use Rattle.wc_settled.specs.Held.{HeldPart, Lines, Buffers, asks_dump}
+use Rattle.wc_settled.specs.Held.{HeldPart, Lines, Buffers}
 use Rattle.wc_settled.specs.Settled.{Asked, asked_by, asked_with, asked_in, asked_on, client_on, follows_all, is_following, has_id, TakesDump, SettledBy}
 use Rattle.wc_settled.specs.Example.{init_line, sync_line, dump_line, buffers_line, three_lines, ThreeLinesSettle, ThreeLinesSettleBuffers}
 
