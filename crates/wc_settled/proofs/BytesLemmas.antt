@@ -27,8 +27,9 @@ use Rattle.wc_core.specs.Step.{client_link, client_limit, stays, sends, follows,
 use Rattle.wc_core.specs.Served.{OutcomeUtf8, messages_to}
 use Rattle.wc_core.specs.Typed.{parted}
 use Rattle.wc_core.proofs.MessageLemmas.{sent_to-messages}
+use Rattle.wc_settled.specs.Held.{HeldPart, Lines, Buffers}
 use Rattle.wc_settled.specs.Kept.{IsKept}
-use Rattle.wc_settled.specs.Bytes.{IsSpelt, SpellOnce, RunSpells, BytesShow}
+use Rattle.wc_settled.specs.Bytes.{IsSpelt, SpellOnce, RunSpells, PartShows, BytesShow, BuffersShow}
 use Rattle.wc_settled.proofs.ChangeLemmas.{acts_spelt, sends_spelt, Tells-runs}
 use Rattle.wc_settled.proofs.StepLemmas.{reply_link, reply_text, kept-put, step_keeps}
 use Rattle.wc_settled.proofs.SpeltLemmas.{answer_spelt}
@@ -41,7 +42,7 @@ use Rattle.wc_settled.proofs.RunLemmas.{start_kept, mirrors}
 follows_spelt : (limit link : ℕ) (state : State) (k : ℕ) (o : Outcome) → OutcomeUtf8 o → IsKept limit link state → AllSpelt (messages_to link (follows state k o).acts)
 follows_spelt limit link state k outcome.Replied utf8 kept = tt
 follows_spelt limit link state k outcome.Silent utf8 kept = tt
-follows_spelt limit link state k (outcome.Input buffer text) utf8 kept = (Tells-runs limit link [] state buffer (parted text) tt kept (parted_text text utf8)).spelt
+follows_spelt limit link state k (outcome.Input buffer text) utf8 kept = (Tells-runs Lines limit link [] state buffer (parted text) tt kept (parted_text text utf8)).spelt
 follows_spelt limit link state k (outcome.Leave why) utf8 kept = tt
 follows_spelt limit link state k outcome.NoMemory utf8 kept = tt
 
@@ -90,12 +91,18 @@ run_spells password limit events link most =
     let acts = (run (first_state password limit) events).acts in
     record { each = spelt_on limit link (first_state password limit) events (start_kept limit link password most); whole = sent_to-messages link acts }
 
-pub bytes_show : BytesShow
-bytes_show password limit events link id most short settled = record {
+part_shows : (which : HeldPart) → PartShows which
+part_shows which password limit events link id most short settled = record {
   messages = messages_to link (run (first_state password limit) events).acts;
   spell = run_spells password limit events link most;
-  has = mirrors password limit events link id most short settled;
+  has = mirrors which password limit events link id most short settled;
 }
+
+pub bytes_show : BytesShow
+bytes_show = part_shows Lines
+
+pub buffers_show : BuffersShow
+buffers_show = part_shows Buffers
 
 -- ---- bytes spell messages in one way
 

@@ -86,7 +86,7 @@ groups_formed : (number : ℕ) (groups : Groups) → AllByRecursion IsBuffer (ro
 groups_formed number [] all = refl
 groups_formed number (group ∷ groups) all = group_formed number group (dumped_groups (number + 1) groups) (rows groups) all (λ rest. groups_formed (number + 1) groups rest)
 
-few_groups : (limit : ℕ) (world : World) → IsWorldKept limit world → length world.groups ≤ 256
+pub few_groups : (limit : ℕ) (world : World) → IsWorldKept limit world → length world.groups ≤ 256
 few_groups limit world is =
     let few = is.groups.few in
     omega (arith, groups-le-rows (handles world.groups) is.groups.filled, length-map world.groups (map (λ (e : BufferEntry). e.row.handle)))

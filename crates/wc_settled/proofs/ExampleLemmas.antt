@@ -21,8 +21,9 @@ use Rattle.wc_core.specs.Events.{Event, Line}
 use Rattle.wc_core.specs.State.{State, first_state}
 use Rattle.wc_core.specs.Step.{client_link, line_came, asked, answers, step, run}
 use Rattle.wc_outside.specs.Keyed.{at_key}
-use Rattle.wc_settled.specs.Settled.{Asked, asked_by, asked_with, asked_in, asked_on, client_on, follows_all, is_following, has_id, TakesDump}
-use Rattle.wc_settled.specs.Example.{init_line, sync_line, dump_line, three_lines, ThreeLinesSettle}
+use Rattle.wc_settled.specs.Held.{HeldPart, Lines, Buffers}
+use Rattle.wc_settled.specs.Settled.{Asked, asked_by, asked_with, asked_in, asked_on, client_on, follows_all, is_following, has_id, TakesDump, SettledBy}
+use Rattle.wc_settled.specs.Example.{init_line, sync_line, dump_line, buffers_line, three_lines, ThreeLinesSettle, ThreeLinesSettleBuffers}
 
 -- ---- the requests
 
@@ -38,6 +39,12 @@ dump_request = record {
   command = ask.Hdata (codes "buffer:gui_buffers(*)/own_lines/first_line(*)/data") (codes "buffer,date,date_printed,displayed,notify_level,highlight,tags_array,prefix,message");
 }
 
+buffers_request : Request
+buffers_request = record {
+  id = codes "b";
+  command = ask.Hdata (codes "buffer:gui_buffers(*)") (codes "number,full_name,short_name,hidden,title,local_variables");
+}
+
 init_reads : request_of false init_line ≡ Some init_request
 unfolding request_of call_of asked_by_call command_of is_utf8 chars encode init_request
 init_reads = refl
@@ -49,6 +56,10 @@ sync_reads = refl
 dump_reads : request_of false dump_line ≡ Some dump_request
 unfolding request_of call_of asked_by_call command_of is_utf8 chars encode dump_request
 dump_reads = refl
+
+buffers_read : request_of false buffers_line ≡ Some buffers_request
+unfolding request_of call_of asked_by_call command_of is_utf8 chars encode buffers_request
+buffers_read = refl
 
 -- ---- the client behind each
 
@@ -83,6 +94,13 @@ told limit = reply (codes "l") (hdata_objects (first_world limit) (codes "buffer
 dump_answered : (limit : ℕ) → reply_of (first_world limit) (codes "x") synced dump_request ≡ replies synced (told limit)
 unfolding reply_of served dump_request synchronized
 dump_answered limit = refl
+
+abbrev told_buffers : ℕ → List WireMessage
+told_buffers limit = reply (codes "b") (hdata_objects (first_world limit) (codes "buffer:gui_buffers(*)") (codes "number,full_name,short_name,hidden,title,local_variables"))
+
+buffers_answered : (limit : ℕ) → reply_of (first_world limit) (codes "x") synced buffers_request ≡ replies synced (told_buffers limit)
+unfolding reply_of served buffers_request synchronized
+buffers_answered limit = refl
 
 -- ---- the run
 
@@ -125,27 +143,10 @@ synced_link : client_link synced ≡ 1
 unfolding synchronized
 synced_link = refl
 
-dump_read : request_of synced.escaped dump_line ≡ Some dump_request
-unfolding synchronized
-dump_read = dump_reads
-
-all_asked : (limit : ℕ) → asked_on 1 (first_state (codes "x") limit) three_lines ≡ request_by came init_request ∷ request_by known sync_request ∷ request_by synced dump_request ∷ []
-all_asked limit =
-    next_asked limit came known init_line init_request (Line 1 sync_line ∷ Line 1 dump_line ∷ []) refl init_reads (init_answered limit)
-    ∙ ap (λ a. request_by came init_request ∷ a) (next_asked limit known synced sync_line sync_request (Line 1 dump_line ∷ []) refl sync_reads (sync_answered limit))
-    ∙ ap (λ a. request_by came init_request ∷ request_by known sync_request ∷ (a ++ [])) (line_asked limit synced dump_line dump_request synced_link dump_read)
-
 replied_follows : (limit : ℕ) (messages : List WireMessage) → is_following (client_on 1 (answers (with_client limit synced) 1 (replies synced messages)).state) ≡ true
 unfolding synchronized
 replied_follows limit [] = refl
 replied_follows limit (m ∷ messages) = refl
-
-still : (limit : ℕ) → is_following (client_on 1 (run (first_state (codes "x") limit) three_lines).state) ≡ true
-still limit =
-    ap (λ s. is_following (client_on 1 (step (step s (Line 1 sync_line)).state (Line 1 dump_line)).state)) (silent_step limit came known init_line init_request refl init_reads (init_answered limit))
-    ∙ ap (λ s. is_following (client_on 1 (step s (Line 1 dump_line)).state)) (silent_step limit known synced sync_line sync_request refl sync_reads (sync_answered limit))
-    ∙ ap (λ s. is_following (client_on 1 s)) (line_state limit synced dump_line dump_request (replies synced (told limit)) synced_link dump_read (dump_answered limit))
-    ∙ replied_follows limit (told limit)
 
 synced_known : synced.logged_in ≡ true
 unfolding synchronized
@@ -155,22 +156,58 @@ synced_follows : follows_all synced ≡ true
 unfolding synchronized
 synced_follows = refl
 
-dump_asked : TakesDump (codes "l") (request_by synced dump_request)
+-- ---- the line of a dump
+
+module _ (line : List ℕ) (request : Request) (told : ℕ → List WireMessage) (reads : request_of false line ≡ Some request)
+    (answered : (limit : ℕ) → reply_of (first_world limit) (codes "x") synced request ≡ replies synced (told limit)) where
+  line_reads : request_of synced.escaped line ≡ Some request
+  unfolding synchronized
+  line_reads = reads
+
+  all_asked : (limit : ℕ) → asked_on 1 (first_state (codes "x") limit) (three_lines line) ≡ request_by came init_request ∷ request_by known sync_request ∷ request_by synced request ∷ []
+  all_asked limit =
+      next_asked limit came known init_line init_request (Line 1 sync_line ∷ Line 1 line ∷ []) refl init_reads (init_answered limit)
+      ∙ ap (λ a. request_by came init_request ∷ a) (next_asked limit known synced sync_line sync_request (Line 1 line ∷ []) refl sync_reads (sync_answered limit))
+      ∙ ap (λ a. request_by came init_request ∷ request_by known sync_request ∷ (a ++ [])) (line_asked limit synced line request synced_link line_reads)
+
+  still : (limit : ℕ) → is_following (client_on 1 (run (first_state (codes "x") limit) (three_lines line)).state) ≡ true
+  still limit =
+      ap (λ s. is_following (client_on 1 (step (step s (Line 1 sync_line)).state (Line 1 line)).state)) (silent_step limit came known init_line init_request refl init_reads (init_answered limit))
+      ∙ ap (λ s. is_following (client_on 1 (step s (Line 1 line)).state)) (silent_step limit known synced sync_line sync_request refl sync_reads (sync_answered limit))
+      ∙ ap (λ s. is_following (client_on 1 s)) (line_state limit synced line request (replies synced (told limit)) synced_link line_reads (answered limit))
+      ∙ replied_follows limit (told limit)
+
+  settles_by : (which : HeldPart) (id : List ℕ) (limit : ℕ) → TakesDump which id (request_by synced request) → has_id id (request_by came init_request) ≡ false
+      → has_id id (request_by known sync_request) ≡ false → SettledBy which 1 id (first_state (codes "x") limit) (three_lines line)
+  settles_by which id limit takes first second = record {
+    before = request_by came init_request ∷ request_by known sync_request ∷ [];
+    dump = request_by synced request;
+    behind = [];
+    asked = all_asked limit;
+    takes = takes;
+    alone = (first, (second, tt));
+    follows = (synced_follows, tt);
+    still = still limit;
+  }
+
+dump_asked : TakesDump Lines (codes "l") (request_by synced dump_request)
 unfolding dump_request
 dump_asked = record { logged_in = synced_known; dump = refl; under = refl }
 
-others_apart : (has_id (codes "l") (request_by came init_request) ≡ false) × (has_id (codes "l") (request_by known sync_request) ≡ false)
-unfolding init_request sync_request
-others_apart = (refl, refl)
+buffers_asked : TakesDump Buffers (codes "b") (request_by synced buffers_request)
+unfolding buffers_request
+buffers_asked = record { logged_in = synced_known; dump = refl; under = refl }
+
+init_apart : (b : ℕ) → has_id (b ∷ []) (request_by came init_request) ≡ false
+unfolding init_request
+init_apart b = refl
+
+sync_apart : (b : ℕ) → has_id (b ∷ []) (request_by known sync_request) ≡ false
+unfolding sync_request
+sync_apart b = refl
 
 pub three_lines_settle : ThreeLinesSettle
-three_lines_settle limit = record {
-  before = request_by came init_request ∷ request_by known sync_request ∷ [];
-  dump = request_by synced dump_request;
-  behind = [];
-  asked = all_asked limit;
-  takes = dump_asked;
-  alone = (others_apart.0, (others_apart.1, tt));
-  follows = (synced_follows, tt);
-  still = still limit;
-}
+three_lines_settle limit = settles_by dump_line dump_request told dump_reads dump_answered Lines (codes "l") limit dump_asked (init_apart 108) (sync_apart 108)
+
+pub three_lines_settle_buffers : ThreeLinesSettleBuffers
+three_lines_settle_buffers limit = settles_by buffers_line buffers_request told_buffers buffers_read buffers_answered Buffers (codes "b") limit buffers_asked (init_apart 98) (sync_apart 98)

@@ -1,3 +1,4 @@
+mod BufferSizes
 mod BytesLemmas
 mod ChangeLemmas
 mod ClientLemmas
@@ -5,6 +6,7 @@ mod DumpLemmas
 mod EventLemmas
 mod ExampleLemmas
 mod HandleLemmas
+mod HeldLemmas
 mod IdLemmas
 mod ListLemmas
 mod NoticeLemmas
@@ -17,5 +19,6 @@ mod SpeltLemmas
 mod StepLemmas
 mod TellingLemmas
 mod TypedLemmas
+mod VarLemmas
 mod WithinLemmas
 mod WorldLemmas

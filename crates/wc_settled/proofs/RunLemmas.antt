@@ -1,13 +1,12 @@
--- A client that settled has the lines after all events.
-use Rattle.std.proofs.Common.{◌≡◌, ℕ, ◌≤◌, true, false, List, [], ◌∷◌, ◌++◌, Option, None, refl, sym, ap, subst, ◌∙◌}
+-- A client that settled by the dump of a part has it after all events.
+use Rattle.std.proofs.Common.{◌≡◌, ℕ, ◌≤◌, true, false, List, [], ◌∷◌, ◌++◌, refl, sym, ap, subst, ◌∙◌}
 use Rattle.std.specs.List.{AllByRecursion}
 use Rattle.std.proofs.lemmas.Bool.{false≢true}
 use Rattle.wc_relaycmd.specs.Cuts.{BeginsWithout}
-use Rattle.wc_view.specs.Parts.{Part}
-use Rattle.wc_view.specs.Views.{HasAll}
 use Rattle.wc_core.specs.Events.{Event}
 use Rattle.wc_core.specs.State.{State, first_state}
 use Rattle.wc_core.specs.Step.{step, run}
+use Rattle.wc_settled.specs.Held.{HeldPart, Held, nothing, Has}
 use Rattle.wc_settled.specs.Settled.{Asked, asked_in, asked_on, client_on, follows_all, is_following, has_id, TakesDump}
 use Rattle.wc_settled.specs.Kept.{IsKept}
 use Rattle.wc_settled.specs.Mirrors.{mirror_after, IsShortLine, IsFair, Mirrors, RunKeeps}
@@ -24,21 +23,21 @@ HasOther id asked = has_id id asked ≡ false
 abbrev Follows : Asked → Type 0
 Follows asked = follows_all asked.client ≡ true
 
-others_fair : (id : List ℕ) (asked : List Asked) → AllByRecursion (HasOther id) asked → AllByRecursion (IsFair id) asked
-others_fair id [] all = tt
-others_fair id (first ∷ asked) all = (λ same. absurd (false≢true (sym all.0 ∙ same)), others_fair id asked all.1)
+others_fair : (which : HeldPart) (id : List ℕ) (asked : List Asked) → AllByRecursion (HasOther id) asked → AllByRecursion (IsFair which id) asked
+others_fair which id [] all = tt
+others_fair which id (first ∷ asked) all = (λ same. absurd (false≢true (sym all.0 ∙ same)), others_fair which id asked all.1)
 
--- a client has the lines after events, which had these before
-abbrev HasAfter : ℕ → ℕ → List ℕ → Option Part → State → List Event → Type 0
-HasAfter limit link id part state events = HasAll (mirror_after limit link id part (run state events).acts) (run state events).state.world
+-- a client has a part after events, which had this before
+abbrev HasAfter : (which : HeldPart) → ℕ → ℕ → List ℕ → Held which → State → List Event → Type 0
+HasAfter which limit link id part state events = Has which (mirror_after which limit link id part (run state events).acts) (run state events).state.world
 
 -- by those behind the first
-has-then : (limit link : ℕ) (id : List ℕ) (part : Option Part) (state : State) (event : Event) (events : List Event)
-    → HasAfter limit link id (mirror_after limit link id part (step state event).acts) (step state event).state events → HasAfter limit link id part state (event ∷ events)
-has-then limit link id part state event events has =
+has-then : (which : HeldPart) (limit link : ℕ) (id : List ℕ) (part : Held which) (state : State) (event : Event) (events : List Event)
+    → HasAfter which limit link id (mirror_after which limit link id part (step state event).acts) (step state event).state events → HasAfter which limit link id part state (event ∷ events)
+has-then which limit link id part state event events has =
     let next = (step state event).state in
     let last = (run next events).state in
-    subst (λ part. HasAll part last.world) (sym (mirror-append limit link id part (step state event).acts (run next events).acts)) has
+    subst (λ part. Has which part last.world) (sym (mirror-append which limit link id part (step state event).acts (run next events).acts)) has
 
 -- ---- behind the dump
 
@@ -56,27 +55,27 @@ stood limit link state (event ∷ events) kept all after =
     by [] e all then = followed limit link state event kept e then
     by (first ∷ others) e all then = ap is_following (asked_one link state event first others e).client ∙ all.0
 
-mirrored : (limit link : ℕ) (id : List ℕ) (state : State) (events : List Event) (part : Option Part) → IsKept limit link state → BeginsWithout 95 id → AllByRecursion IsShortLine events
+mirrored : (which : HeldPart) (limit link : ℕ) (id : List ℕ) (state : State) (events : List Event) (part : Held which) → IsKept limit link state → BeginsWithout 95 id → AllByRecursion IsShortLine events
     → AllByRecursion (HasOther id) (asked_on link state events) → AllByRecursion Follows (asked_on link state events) → is_following (client_on link (run state events).state) ≡ true
-    → HasAll part state.world → HasAfter limit link id part state events
-mirrored limit link id state [] part kept free within other follows still had = had
-mirrored limit link id state (event ∷ events) part kept free within other follows still had =
+    → Has which part state.world → HasAfter which limit link id part state events
+mirrored which limit link id state [] part kept free within other follows still had = had
+mirrored which limit link id state (event ∷ events) part kept free within other follows still had =
     let next = (step state event).state in
     let here = asked_in link state event in
     let rest = asked_on link next events in
     let then = step_keeps limit link state event kept in
     let after = stood limit link next events then (all_back Follows here rest follows) still in
-    let fair = others_fair id here (all_front (HasOther id) here rest other) in
-    let part' = mirror_after limit link id part (step state event).acts in
-    let has : HasAll part' next.world = step_mirrors limit link id state event part kept free within.0 fair after had in
-    has-then limit link id part state event events
-    (mirrored limit link id next events part' then free within.1 (all_back (HasOther id) here rest other) (all_back Follows here rest follows) still has)
+    let fair = others_fair which id here (all_front (HasOther id) here rest other) in
+    let part' = mirror_after which limit link id part (step state event).acts in
+    let has : Has which part' next.world = step_mirrors which limit link id state event part kept free within.0 fair after had in
+    has-then which limit link id part state event events
+    (mirrored which limit link id next events part' then free within.1 (all_back (HasOther id) here rest other) (all_back Follows here rest follows) still has)
 
 -- ---- up to the dump
 
 -- the dump, and what was asked behind it
-record IsTaken (id : List ℕ) (dump : Asked) (behind : List Asked) : Type 0 where
-  takes : TakesDump id dump
+record IsTaken (which : HeldPart) (id : List ℕ) (dump : Asked) (behind : List Asked) : Type 0 where
+  takes : TakesDump which id dump
   alone : AllByRecursion (HasOther id) behind
   follows : AllByRecursion Follows behind
 
@@ -84,43 +83,43 @@ never : (before behind : List Asked) (dump : Asked) → [] ≡ before ++ dump �
 never [] behind dump e = cc
 never (first ∷ before) behind dump e = cc
 
-has-dump : (limit link : ℕ) (id : List ℕ) (part : Option Part) (state : State) (event : Event) (events : List Event) (dump : Asked) (behind : List Asked) → IsKept limit link state
-    → AllByRecursion IsShortLine (event ∷ events) → IsTaken id dump behind → asked_in link state event ≡ dump ∷ [] → asked_on link (step state event).state events ≡ behind
-    → is_following (client_on link (run (step state event).state events).state) ≡ true → HasAfter limit link id part state (event ∷ events)
-has-dump limit link id part state event events dump behind kept within taken here is still =
+has-dump : (which : HeldPart) (limit link : ℕ) (id : List ℕ) (part : Held which) (state : State) (event : Event) (events : List Event) (dump : Asked) (behind : List Asked) → IsKept limit link state
+    → AllByRecursion IsShortLine (event ∷ events) → IsTaken which id dump behind → asked_in link state event ≡ dump ∷ [] → asked_on link (step state event).state events ≡ behind
+    → is_following (client_on link (run (step state event).state events).state) ≡ true → HasAfter which limit link id part state (event ∷ events)
+has-dump which limit link id part state event events dump behind kept within taken here is still =
     let next = (step state event).state in
     let none : List Asked = [] in
     let then = step_keeps limit link state event kept in
     let follows = subst (AllByRecursion Follows) (sym is) taken.follows in
     let other = subst (AllByRecursion (HasOther id)) (sym is) taken.alone in
     let free = subst (BeginsWithout 95) taken.takes.under (asked_one link state event dump none here).free in
-    let part' = mirror_after limit link id part (step state event).acts in
-    let shown : HasAll part' next.world = dump_mirrors limit link id state event part dump kept within.0 here taken.takes (stood limit link next events then follows still) in
-    has-then limit link id part state event events (mirrored limit link id next events part' then free within.1 other follows still shown)
+    let part' = mirror_after which limit link id part (step state event).acts in
+    let shown : Has which part' next.world = dump_mirrors which limit link id state event part dump kept within.0 here taken.takes (stood limit link next events then follows still) in
+    has-then which limit link id part state event events (mirrored which limit link id next events part' then free within.1 other follows still shown)
 
-settles : (limit link : ℕ) (id : List ℕ) (state : State) (events : List Event) (part : Option Part) (before behind : List Asked) (dump : Asked) → IsKept limit link state
-    → AllByRecursion IsShortLine events → IsTaken id dump behind → asked_on link state events ≡ before ++ dump ∷ behind → is_following (client_on link (run state events).state) ≡ true
-    → HasAfter limit link id part state events
-settles limit link id state [] part before behind dump kept within taken e still = absurd (never before behind dump e)
-settles limit link id state (event ∷ events) part before behind dump kept within taken e still =
+settles : (which : HeldPart) (limit link : ℕ) (id : List ℕ) (state : State) (events : List Event) (part : Held which) (before behind : List Asked) (dump : Asked) → IsKept limit link state
+    → AllByRecursion IsShortLine events → IsTaken which id dump behind → asked_on link state events ≡ before ++ dump ∷ behind → is_following (client_on link (run state events).state) ≡ true
+    → HasAfter which limit link id part state events
+settles which limit link id state [] part before behind dump kept within taken e still = absurd (never before behind dump e)
+settles which limit link id state (event ∷ events) part before behind dump kept within taken e still =
     by (asked_in link state event) before refl e
-    (λ before is. settles limit link id (step state event).state events (mirror_after limit link id part (step state event).acts) before behind dump (step_keeps limit link state event kept) within.1 taken is still)
+    (λ before is. settles which limit link id (step state event).state events (mirror_after which limit link id part (step state event).acts) before behind dump (step_keeps limit link state event kept) within.1 taken is still)
   where
     rest : List Asked
     rest = asked_on link (step state event).state events
 
     met : (first : Asked) (before : List Asked) → asked_in link state event ≡ first ∷ [] → first ∷ rest ≡ before ++ dump ∷ behind
-        → ((before : List Asked) → rest ≡ before ++ dump ∷ behind → HasAfter limit link id (mirror_after limit link id part (step state event).acts) (step state event).state events)
-        → HasAfter limit link id part state (event ∷ events)
+        → ((before : List Asked) → rest ≡ before ++ dump ∷ behind → HasAfter which limit link id (mirror_after which limit link id part (step state event).acts) (step state event).state events)
+        → HasAfter which limit link id part state (event ∷ events)
     met first [] here is others =
         let same : first ≡ dump = cc in
-        has-dump limit link id part state event events dump behind kept within taken (here ∙ ap (λ a. a ∷ []) same) (cc) still
-    met first (other ∷ before) here is others = has-then limit link id part state event events (others before (cc))
+        has-dump which limit link id part state event events dump behind kept within taken (here ∙ ap (λ a. a ∷ []) same) (cc) still
+    met first (other ∷ before) here is others = has-then which limit link id part state event events (others before (cc))
 
     by : (o before : List Asked) → asked_in link state event ≡ o → asked_in link state event ++ rest ≡ before ++ dump ∷ behind
-        → ((before : List Asked) → rest ≡ before ++ dump ∷ behind → HasAfter limit link id (mirror_after limit link id part (step state event).acts) (step state event).state events)
-        → HasAfter limit link id part state (event ∷ events)
-    by [] before here is others = has-then limit link id part state event events (others before (sym (ap (λ o. o ++ rest) here) ∙ is))
+        → ((before : List Asked) → rest ≡ before ++ dump ∷ behind → HasAfter which limit link id (mirror_after which limit link id part (step state event).acts) (step state event).state events)
+        → HasAfter which limit link id part state (event ∷ events)
+    by [] before here is others = has-then which limit link id part state event events (others before (sym (ap (λ o. o ++ rest) here) ∙ is))
     by (first ∷ more) before here is others =
         let one = here ∙ ap (λ o. first ∷ o) (asked_one link state event first more here).none in
         met first before one (sym (ap (λ o. o ++ rest) one) ∙ is) others
@@ -137,9 +136,9 @@ kept_on limit link state (event ∷ events) kept = kept_on limit link (step stat
 pub run_keeps : RunKeeps
 run_keeps password limit events link most = kept_on limit link (first_state password limit) events (start_kept limit link password most)
 
-pub mirrors : Mirrors
-mirrors password limit events link id most within settled =
-    settles limit link id (first_state password limit) events None settled.before settled.behind settled.dump (start_kept limit link password most) within
+pub mirrors : (which : HeldPart) → Mirrors which
+mirrors which password limit events link id most within settled =
+    settles which limit link id (first_state password limit) events (nothing which) settled.before settled.behind settled.dump (start_kept limit link password most) within
     (record {
       takes = settled.takes;
       alone = all_back (HasOther id) settled.before settled.behind settled.alone;

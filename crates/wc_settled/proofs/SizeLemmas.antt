@@ -44,17 +44,17 @@ hex_size p small = by (eqb p 0) where
 pointer_size : (p : ℕ) → p < 2 ^ 64 → length (pointer_bytes p) ≤ 17
 pointer_size p small = let h = hex_size p small in omega arith
 
-text_size : (text : List ℕ) → length (text_bytes (Some text)) ≡ 4 + length text
+pub text_size : (text : List ℕ) → length (text_bytes (Some text)) ≡ 4 + length text
 unfolding text_bytes
 text_size text = length-append (be32 (length text)) text ∙ ap (λ n. n + length text) (length-be32 (length text))
 
 -- ---- values
 
 -- the bytes of a value are at most so many
-abbrev IsAtMost : ℕ → Object → Type 0
+abbrev pub IsAtMost : ℕ → Object → Type 0
 IsAtMost n value = length (value_bytes value) ≤ n
 
-pointer_short : (p : ℕ) → p < 2 ^ 64 → IsAtMost 17 (o.Ptr p)
+pub pointer_short : (p : ℕ) → p < 2 ^ 64 → IsAtMost 17 (o.Ptr p)
 unfolding value_bytes simple_bytes out-Object out
 pointer_short p small = pointer_size p small
 
@@ -72,15 +72,15 @@ level_short : (n : ℤ) → IsAtMost 1 (o.Chr n)
 unfolding value_bytes simple_bytes out-Object out
 level_short n = omega arith
 
-number_short : (n : ℤ) → IsAtMost 4 (o.Int n)
+pub number_short : (n : ℤ) → IsAtMost 4 (o.Int n)
 unfolding value_bytes simple_bytes out-Object out
 number_short n = let h = length-be32 (cast_unsigned w32 n) in omega arith
 
-text_short : (n : ℕ) (text : List ℕ) → length text ≤ n → IsAtMost (4 + n) (o.Str (Some text))
+pub text_short : (n : ℕ) (text : List ℕ) → length text ≤ n → IsAtMost (4 + n) (o.Str (Some text))
 unfolding value_bytes simple_bytes out-Object out
 text_short n text small = let h = text_size text in omega arith
 
-simple_size : (text : List ℕ) → length (simple_bytes (o.Str (Some text))) ≡ 4 + length text
+pub simple_size : (text : List ℕ) → length (simple_bytes (o.Str (Some text))) ≡ 4 + length text
 unfolding simple_bytes out-Object out
 simple_size text = text_size text
 
@@ -103,16 +103,16 @@ tags_short tags few short =
     ))
 
 -- the bytes of each value are at most so many
-abbrev AreAtMost : List Object → List ℕ → Type 0
+abbrev pub AreAtMost : List Object → List ℕ → Type 0
 AreAtMost [] [] = Unit {0}
 AreAtMost (value ∷ values) (n ∷ ns) = IsAtMost n value × AreAtMost values ns
 AreAtMost _ _ = ⊥
 
-abbrev total : List ℕ → ℕ
+abbrev pub total : List ℕ → ℕ
 total [] = 0
 total (n ∷ ns) = n + total ns
 
-values_size : (values : List Object) (ns : List ℕ) → AreAtMost values ns → length (flat_map value_bytes values) ≤ total ns
+pub values_size : (values : List Object) (ns : List ℕ) → AreAtMost values ns → length (flat_map value_bytes values) ≤ total ns
 values_size [] [] all = omega arith
 values_size [] (n ∷ ns) all = absurd all
 values_size (value ∷ values) [] all = absurd all
@@ -152,7 +152,7 @@ named_short notice short = (number_short (count notice.number), (text_short 256 
 
 -- ---- items
 
-pointers_size : (pointers : List ℕ) → AllByRecursion (λ p. p < 2 ^ 64) pointers → length (flat_map pointer_bytes pointers) ≤ 17 * length pointers
+pub pointers_size : (pointers : List ℕ) → AllByRecursion (λ p. p < 2 ^ 64) pointers → length (flat_map pointer_bytes pointers) ≤ 17 * length pointers
 pointers_size [] all = omega arith
 pointers_size (p ∷ pointers) all =
     let more = pointers_size pointers all.1 in
@@ -193,11 +193,11 @@ items_size (item ∷ items) all =
 
 -- ---- messages
 
-abbrev hda_of : List ℕ → List ℕ → List HdaItem → Hda
+abbrev pub hda_of : List ℕ → List ℕ → List HdaItem → Hda
 hda_of path keys items = roll-Hda (record { path = Some path; keys = Some keys; items = items })
 
 -- the bytes of items on a path
-abbrev spelt : List ℕ → List ℕ → List HdaItem → List ℕ
+abbrev pub spelt : List ℕ → List ℕ → List HdaItem → List ℕ
 spelt path keys items = text_bytes (Some path) ++ (text_bytes (Some keys) ++ (be32 (length items) ++ flat_map item_bytes items))
 
 hda_spelt : (path keys : List ℕ) (items : List HdaItem) → hda_bytes (hda_of path keys items) ≡ spelt path keys items
@@ -222,7 +222,7 @@ spelt_size path keys items short named few all =
     )
 
 -- a message of such items fits
-message_size : (id path keys : List ℕ) (items : List HdaItem) → length id ≤ 65536 → length (spelt path keys items) ≤ 1800000000
+pub message_size : (id path keys : List ℕ) (items : List HdaItem) → length id ≤ 65536 → length (spelt path keys items) ≤ 1800000000
     → length (message_bytes id (o.Hda (hda_of path keys items) ∷ [])) ≤ 2 ^ 31 - 1
 message_size id path keys items known size =
     let object = object_bytes (o.Hda (hda_of path keys items)) in

@@ -17,14 +17,13 @@ use Rattle.wc_session.specs.declared.outcome.Outcome.{Outcome}
 use Rattle.wc_session.specs.declared.outcome.Outcome.TheVariants as outcome
 use Rattle.wc_session.specs.Known.{new_client}
 use Rattle.wc_session.specs.Reply.{Answer, reply_of}
-use Rattle.wc_view.specs.Parts.{Part}
-use Rattle.wc_view.specs.Views.{HasAll}
 use Rattle.wc_core.specs.Events.{Event, Start, Tick, Arrives, Line as LineCame, Ends, Fails, ListenFails}
 use Rattle.wc_core.specs.State.{State, Closes}
 use Rattle.wc_core.specs.Step.{client_link, client_limit, stays, sends, leaves, follows, answers, asked, line_came, lost, step}
 use Rattle.wc_core.specs.Served.{OutcomeUtf8}
 use Rattle.wc_core.specs.Typed.{parted}
 use Rattle.wc_core.proofs.ReplyLemmas.{reply_fits}
+use Rattle.wc_settled.specs.Held.{HeldPart, Lines, Held, Has}
 use Rattle.wc_settled.specs.Settled.{asked_by, asked_with, asked_in, client_on, is_following}
 use Rattle.wc_settled.specs.Kept.{is_first_alone, IsKept}
 use Rattle.wc_settled.specs.Mirrors.{mirror_after, StepKeeps}
@@ -43,19 +42,19 @@ kept-leaves limit link state k why kept = kept-clients limit link state (without
 kept-follows : (limit link : ℕ) (state : State) (k : ℕ) (o : Outcome) → OutcomeUtf8 o → IsKept limit link state → IsKept limit link (follows state k o).state
 kept-follows limit link state k outcome.Replied utf8 kept = kept
 kept-follows limit link state k outcome.Silent utf8 kept = kept
-kept-follows limit link state k (outcome.Input buffer text) utf8 kept = (Tells-runs limit link [] state buffer (parted text) tt kept (parted_text text utf8)).kept
+kept-follows limit link state k (outcome.Input buffer text) utf8 kept = (Tells-runs Lines limit link [] state buffer (parted text) tt kept (parted_text text utf8)).kept
 kept-follows limit link state k (outcome.Leave why) utf8 kept = kept-leaves limit link state k why kept
 kept-follows limit link state k outcome.NoMemory utf8 kept = kept
 
-right-follows : (limit link : ℕ) (id : List ℕ) (state : State) (k : ℕ) (o : Outcome) (part : Option Part) → OutcomeUtf8 o → IsKept limit link state → BeginsWithout 95 id
-    → is_following (client_on link (follows state k o).state) ≡ true → HasAll part state.world → HasAll (mirror_after limit link id part (follows state k o).acts) (follows state k o).state.world
-right-follows limit link id state k outcome.Replied part utf8 kept free after had = had
-right-follows limit link id state k outcome.Silent part utf8 kept free after had = had
-right-follows limit link id state k (outcome.Input buffer text) part utf8 kept free after had =
-    let tells = Tells-runs limit link id state buffer (parted text) free kept (parted_text text utf8) in
+right-follows : (which : HeldPart) (limit link : ℕ) (id : List ℕ) (state : State) (k : ℕ) (o : Outcome) (part : Held which) → OutcomeUtf8 o → IsKept limit link state → BeginsWithout 95 id
+    → is_following (client_on link (follows state k o).state) ≡ true → Has which part state.world → Has which (mirror_after which limit link id part (follows state k o).acts) (follows state k o).state.world
+right-follows which limit link id state k outcome.Replied part utf8 kept free after had = had
+right-follows which limit link id state k outcome.Silent part utf8 kept free after had = had
+right-follows which limit link id state k (outcome.Input buffer text) part utf8 kept free after had =
+    let tells = Tells-runs which limit link id state buffer (parted text) free kept (parted_text text utf8) in
     tells.right (sym tells.following ∙ after) part had
-right-follows limit link id state k (outcome.Leave why) part utf8 kept free after had = had
-right-follows limit link id state k outcome.NoMemory part utf8 kept free after had = had
+right-follows which limit link id state k (outcome.Leave why) part utf8 kept free after had = had
+right-follows which limit link id state k outcome.NoMemory part utf8 kept free after had = had
 
 -- the state behind the messages of an answer
 abbrev pub put : State → ℕ → Client → State
@@ -67,15 +66,15 @@ kept-put limit link state k client here kept = kept-clients limit link state (pu
 kept-answers : (limit link : ℕ) (state : State) (k : ℕ) (answer : Answer) → client_link answer.client ≡ k → OutcomeUtf8 answer.outcome → IsKept limit link state → IsKept limit link (answers state k answer).state
 kept-answers limit link state k answer here utf8 kept = kept-follows limit link (put state k answer.client) k answer.outcome utf8 (kept-put limit link state k answer.client here kept)
 
--- where the messages of an answer leave the lines right, so does what follows them
-pub right-answers : (limit link : ℕ) (id : List ℕ) (state : State) (k : ℕ) (answer : Answer) (part : Option Part) → client_link answer.client ≡ k → OutcomeUtf8 answer.outcome → IsKept limit link state → BeginsWithout 95 id
-    → is_following (client_on link (answers state k answer).state) ≡ true → HasAll (mirror_after limit link id part (sends k answer.messages)) state.world
-    → HasAll (mirror_after limit link id part (answers state k answer).acts) (answers state k answer).state.world
-right-answers limit link id state k answer part here utf8 kept free after had =
+-- where the messages of an answer leave a part right, so does what follows them
+pub right-answers : (which : HeldPart) (limit link : ℕ) (id : List ℕ) (state : State) (k : ℕ) (answer : Answer) (part : Held which) → client_link answer.client ≡ k → OutcomeUtf8 answer.outcome → IsKept limit link state → BeginsWithout 95 id
+    → is_following (client_on link (answers state k answer).state) ≡ true → Has which (mirror_after which limit link id part (sends k answer.messages)) state.world
+    → Has which (mirror_after which limit link id part (answers state k answer).acts) (answers state k answer).state.world
+right-answers which limit link id state k answer part here utf8 kept free after had =
     let next = put state k answer.client in
     let last = (follows next k answer.outcome).state in
-    subst (λ part. HasAll part last.world) (sym (mirror-append limit link id part (sends k answer.messages) (follows next k answer.outcome).acts))
-    (right-follows limit link id next k answer.outcome (mirror_after limit link id part (sends k answer.messages)) utf8 (kept-put limit link state k answer.client here kept) free after had)
+    subst (λ part. Has which part last.world) (sym (mirror-append which limit link id part (sends k answer.messages) (follows next k answer.outcome).acts))
+    (right-follows which limit link id next k answer.outcome (mirror_after which limit link id part (sends k answer.messages)) utf8 (kept-put limit link state k answer.client here kept) free after had)
 
 -- ---- what is answered to a request
 
@@ -149,7 +148,7 @@ following-follows : (limit link : ℕ) (state : State) (k : ℕ) (o : Outcome) �
 following-follows limit link state k outcome.Replied utf8 kept after = after
 following-follows limit link state k outcome.Silent utf8 kept after = after
 following-follows limit link state k (outcome.Input buffer text) utf8 kept after =
-    sym (Tells-runs limit link [] state buffer (parted text) tt kept (parted_text text utf8)).following ∙ after
+    sym (Tells-runs Lines limit link [] state buffer (parted text) tt kept (parted_text text utf8)).following ∙ after
 following-follows limit link state k (outcome.Leave why) utf8 kept after = following-leaves link state k after
 following-follows limit link state k outcome.NoMemory utf8 kept after = after
 

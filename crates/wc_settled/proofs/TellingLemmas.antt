@@ -1,8 +1,7 @@
--- The event of each change that commands ask for: it keeps the rules of messages, and it is told where it changes lines.
-use Rattle.std.proofs.Common.{◌≡◌, ℕ, ◌-◌, ◌^◌, ◌≤◌, Bool, true, false, cond, List, [], ◌∷◌, length, Option, Some, None, option_map, refl, sym, ap, ◌∙◌, arith}
+-- The event of each change that commands ask for: it keeps the rules of messages, and it is told.
+use Rattle.std.proofs.Common.{◌≡◌, ℕ, ◌-◌, ◌^◌, ◌≤◌, Bool, true, false, cond, List, [], ◌∷◌, length, Option, Some, None, option_map, refl, ap, ◌∙◌, arith}
 use Rattle.std.specs.List.{AllByRecursion}
 use Rattle.std.specs.Str.{IsUtf8, is_utf8, chars}
-use Rattle.std.proofs.lemmas.Bool.{false≢true}
 use Rattle.std.proofs.lemmas.Bool.Decides.{nat_tests}
 use Rattle.std.proofs.lemmas.List.Elements.{recursion_from_All}
 use Rattle.std.proofs.lemmas.Str.{IsUtf8-from_is_utf8}
@@ -30,15 +29,10 @@ use Rattle.wc_told.proofs.EventsFormed.{opened_formed, placed_formed, renamed_fo
 use Rattle.wc_session.specs.Event.{if_fits, event_messages}
 use Rattle.wc_session.specs.Sending.{fits, fitting}
 use Rattle.wc_session.proofs.SendingLemmas.{fits_within}
-use Rattle.wc_view.specs.Ids.{IsFree}
-use Rattle.wc_view.specs.Parts.{Part}
-use Rattle.wc_view.specs.Fold.{fold_lines}
-use Rattle.wc_view.specs.Views.{fold_told}
-use Rattle.wc_view.proofs.NoticeLaw.{quiet, quiet_told}
 use Rattle.wc_settled.specs.Printed.{IsPrinted}
 use Rattle.wc_settled.specs.Worlds.{IsBufferKept, IsWorldKept}
-use Rattle.wc_settled.specs.Mirrors.{fold_all}
 use Rattle.wc_settled.specs.Bytes.{IsSpelt}
+use Rattle.wc_settled.proofs.BufferSizes.{opened_size, placed_size, renamed_size, title_size, vars_size}
 use Rattle.wc_settled.proofs.RowLemmas.{row_has}
 use Rattle.wc_settled.proofs.NoticeLemmas.{IsTelling}
 use Rattle.wc_settled.proofs.SizeLemmas.{added_size, named_size}
@@ -107,8 +101,11 @@ on_newest P buffer [] all each = tt
 on_newest P buffer (line ∷ []) all each = each line all.0
 on_newest P buffer (line ∷ next ∷ lines) all each = on_newest P buffer (next ∷ lines) all.1 each
 
+entry_kept : (limit : ℕ) (v : World) (n : Notice) (e : BufferEntry) → IsWorldKept limit v → entry_of n.buffer v.groups ≡ Some e → IsBufferKept v.next e
+entry_kept limit v n e is at = row_has (IsBufferKept v.next) handle_of n.buffer.0 (rows v.groups) e at is.each
+
 entry_fit : (limit : ℕ) (v : World) (n : Notice) (e : BufferEntry) → IsWorldKept limit v → entry_of n.buffer v.groups ≡ Some e → IsBuffer e
-entry_fit limit v n e is at = (row_has (IsBufferKept v.next) handle_of n.buffer.0 (rows v.groups) e at is.each).fit
+entry_fit limit v n e is at = (entry_kept limit v n e is at).fit
 
 objects_good : (limit : ℕ) (v : World) (k : EventKind) (n : Notice) → IsWorldKept limit v → IsTelling n → OnObjects AreGood (objects_of v k n)
 unfolding objects_of
@@ -137,39 +134,47 @@ event_spelt limit v n is tells = by (event_objects v n) (objects_good limit v n.
   by None good = tt
   by (Some objects) good = fitting_spelt (record { id = id_of n.kind; objects = objects }) (id_text n.kind) good
 
--- ---- what a client makes of the event
+-- ---- each event is told
 
--- an event that changes lines is short
+-- an event is short enough to be told
 abbrev IsShort : EventKind → List Object → Type 0
 IsShort k objects = length (message_bytes (id_of k) objects) ≤ 2 ^ 31 - 1
 
-objects_short : (limit : ℕ) (v : World) (k : EventKind) (n : Notice) → IsWorldKept limit v → IsTelling n → quiet k ≡ false → OnObjects (IsShort k) (objects_of v k n)
+objects_short : (limit : ℕ) (v : World) (k : EventKind) (n : Notice) → IsWorldKept limit v → IsTelling n → OnObjects (IsShort k) (objects_of v k n)
 unfolding objects_of
-objects_short limit v kind.Cleared n is tells loud = named_size (id_of kind.Cleared) n (omega arith) tells.buffer tells.short
-objects_short limit v kind.Closing n is tells loud = named_size (id_of kind.Closing) n (omega arith) tells.buffer tells.short
-objects_short limit v kind.LineAdded n is tells loud =
+objects_short limit v kind.Opened n is tells = on_entry (IsShort kind.Opened) (opened_objects n) (entry_of n.buffer v.groups) (λ e at. let kept = entry_kept limit v n e is at in opened_size (id_of kind.Opened) n e (omega arith) tells kept.fit kept.names)
+objects_short limit v kind.Moved n is tells = placed_size (id_of kind.Moved) n (omega arith) tells
+objects_short limit v kind.Merged n is tells = placed_size (id_of kind.Merged) n (omega arith) tells
+objects_short limit v kind.Unmerged n is tells = placed_size (id_of kind.Unmerged) n (omega arith) tells
+objects_short limit v kind.Hidden n is tells = placed_size (id_of kind.Hidden) n (omega arith) tells
+objects_short limit v kind.Unhidden n is tells = placed_size (id_of kind.Unhidden) n (omega arith) tells
+objects_short limit v kind.Renamed n is tells = on_entry (IsShort kind.Renamed) (renamed_objects n) (entry_of n.buffer v.groups) (λ e at. let kept = entry_kept limit v n e is at in renamed_size (id_of kind.Renamed) n e (omega arith) tells kept.fit kept.names)
+objects_short limit v kind.TitleChanged n is tells = on_entry (IsShort kind.TitleChanged) (title_objects n) (entry_of n.buffer v.groups) (λ e at. let kept = entry_kept limit v n e is at in title_size (id_of kind.TitleChanged) n e (omega arith) tells kept.fit kept.names)
+objects_short limit v kind.VarAdded n is tells = on_entry (IsShort kind.VarAdded) (vars_objects n) (entry_of n.buffer v.groups) (λ e at. let kept = entry_kept limit v n e is at in vars_size (id_of kind.VarAdded) n e (omega arith) tells kept.fit kept.names)
+objects_short limit v kind.VarChanged n is tells = on_entry (IsShort kind.VarChanged) (vars_objects n) (entry_of n.buffer v.groups) (λ e at. let kept = entry_kept limit v n e is at in vars_size (id_of kind.VarChanged) n e (omega arith) tells kept.fit kept.names)
+objects_short limit v kind.VarRemoved n is tells = on_entry (IsShort kind.VarRemoved) (vars_objects n) (entry_of n.buffer v.groups) (λ e at. let kept = entry_kept limit v n e is at in vars_size (id_of kind.VarRemoved) n e (omega arith) tells kept.fit kept.names)
+objects_short limit v kind.Cleared n is tells = named_size (id_of kind.Cleared) n (omega arith) tells.buffer tells.short
+objects_short limit v kind.Closing n is tells = named_size (id_of kind.Closing) n (omega arith) tells.buffer tells.short
+objects_short limit v kind.LineAdded n is tells =
     on_newest (IsShort kind.LineAdded) n.buffer (lines_at v n.buffer.0) (recursion_from_All IsPrinted (lines_at v n.buffer.0) (is.printed n.buffer.0))
     (λ line printed. added_size (id_of kind.LineAdded) n.buffer line (omega arith) tells.buffer printed)
-objects_short limit v kind.LineDataChanged n is tells loud = tt
-objects_short limit v _ n is tells loud = absurd (false≢true (sym loud))
+objects_short limit v kind.LineDataChanged n is tells = tt
 
 fitted : (m : WireMessage) → fitting m ≡ cond (fits m) (m ∷ []) []
 unfolding fitting
 fitted m = refl
 
--- The event is folded whether it is told or not: one that is too long to be told changes no lines.
-pub folds_event : (limit : ℕ) (id : List ℕ) (part : Option Part) (v : World) (n : Notice) → IsWorldKept limit v → IsTelling n → IsFree id
-    → fold_all limit id part (event_messages v n) ≡ fold_told limit id part (event_of v n)
-folds_event limit id part v n is tells free = by (event_objects v n) (quiet n.kind) refl (objects_short limit v n.kind n is tells) where
+-- the one message of a notice, where there is one
+abbrev pub messages_of : Option WireMessage → List WireMessage
+messages_of None = []
+messages_of (Some m) = m ∷ []
+
+-- no event is too long to be told
+pub event_whole : (limit : ℕ) (v : World) (n : Notice) → IsWorldKept limit v → IsTelling n → event_messages v n ≡ messages_of (event_of v n)
+event_whole limit v n is tells = by (event_objects v n) (objects_short limit v n.kind n is tells) where
   message_of : List Object → WireMessage
   message_of objects = record { id = id_of n.kind; objects = objects }
 
-  long : (objects : List Object) (b q : Bool) → fits (message_of objects) ≡ b → quiet n.kind ≡ q → (quiet n.kind ≡ false → IsShort n.kind objects)
-      → fold_all limit id part (cond b (message_of objects ∷ []) []) ≡ fold_lines limit id part (message_of objects)
-  long objects true q e loud short = refl
-  long objects false true e loud short = sym (quiet_told limit id part n.kind (Some objects) loud free)
-  long objects false false e loud short = absurd (false≢true (sym e ∙ fits_within (message_of objects) (short loud)))
-
-  by : (o : Option (List Object)) (q : Bool) → quiet n.kind ≡ q → (quiet n.kind ≡ false → OnObjects (IsShort n.kind) o) → fold_all limit id part (if_fits (option_map message_of o)) ≡ fold_told limit id part (option_map message_of o)
-  by None q e short = refl
-  by (Some objects) q e short = ap (fold_all limit id part) (fitted (message_of objects)) ∙ long objects (fits (message_of objects)) q refl e short
+  by : (o : Option (List Object)) → OnObjects (IsShort n.kind) o → if_fits (option_map message_of o) ≡ messages_of (option_map message_of o)
+  by None short = refl
+  by (Some objects) short = fitted (message_of objects) ∙ ap (λ b. cond b (message_of objects ∷ []) []) (fits_within (message_of objects) short)

@@ -1,17 +1,17 @@
 -- What a client makes of all bytes that it was sent.
-use Rattle.std.specs.Prelude.{◌≡◌, ℕ, ◌≤◌, List, None}
+use Rattle.std.specs.Prelude.{◌≡◌, ℕ, ◌≤◌, List}
 use Rattle.std.specs.List.{AllByRecursion, flat_map}
 use Rattle.wc_model.specs.World.{World}
 use Rattle.wc_objects.specs.declared.object.WireMessage.{WireMessage}
 use Rattle.wc_objects.specs.Spells.{Spells}
 use Rattle.wc_objects.specs.Within.{IsWithin}
 use Rattle.wc_session.specs.Sending.{spelling}
-use Rattle.wc_view.specs.Views.{HasAll}
 use Rattle.wc_core.specs.Events.{Event}
 use Rattle.wc_core.specs.State.{first_state}
 use Rattle.wc_core.specs.Step.{run}
 use Rattle.wc_core.specs.Served.{messages_to, sent_to}
-use Rattle.wc_settled.specs.Settled.{Settled}
+use Rattle.wc_settled.specs.Held.{HeldPart, Lines, Buffers, nothing, Has}
+use Rattle.wc_settled.specs.Settled.{SettledBy}
 use Rattle.wc_settled.specs.Mirrors.{fold_all, IsShortLine}
 
 -- a message that keeps the rules, whose numbers are of their types
@@ -24,11 +24,19 @@ pub record Spell (bytes : List ℕ) (messages : List WireMessage) : Type 0 where
   pub each : AllByRecursion IsSpelt messages
   pub whole : bytes ≡ flat_map (λ m. spelling m) messages
 
--- The bytes spell messages, and a client that takes them has the lines of each buffer of this world.
-pub record Shows (limit : ℕ) (id bytes : List ℕ) (world : World) : Type 0 where
+-- The bytes spell messages, and a client that takes them has this part of this world.
+pub record ShowsPart (which : HeldPart) (limit : ℕ) (id bytes : List ℕ) (world : World) : Type 0 where
   pub messages : List WireMessage
   pub spell : Spell bytes messages
-  pub has : HasAll (fold_all limit id None messages) world
+  pub has : Has which (fold_all which limit id (nothing which) messages) world
+
+-- it has the lines of each buffer
+abbrev pub Shows : ℕ → List ℕ → List ℕ → World → Type 0
+Shows limit id bytes world = ShowsPart Lines limit id bytes world
+
+-- it has the buffers in their groups
+abbrev pub ShowsBuffers : ℕ → List ℕ → List ℕ → World → Type 0
+ShowsBuffers limit id bytes world = ShowsPart Buffers limit id bytes world
 
 -- Bytes spell messages in one way at most.
 abbrev pub SpellOnce : Type 0
@@ -39,8 +47,16 @@ abbrev pub RunSpells : Type 0
 RunSpells = (password : List ℕ) (limit : ℕ) (events : List Event) (link : ℕ) → limit ≤ 4096
     → Spell (sent_to link (run (first_state password limit) events).acts) (messages_to link (run (first_state password limit) events).acts)
 
--- Whoever settled has exactly the lines that each buffer holds, by all bytes that it was sent.
+-- Whoever settled by the dump of a part has exactly this part of the world, by all bytes that it was sent.
+abbrev pub PartShows : HeldPart → Type 0
+PartShows which = (password : List ℕ) (limit : ℕ) (events : List Event) (link : ℕ) (id : List ℕ)
+    → limit ≤ 4096 → AllByRecursion IsShortLine events → SettledBy which link id (first_state password limit) events
+    → ShowsPart which limit id (sent_to link (run (first_state password limit) events).acts) (run (first_state password limit) events).state.world
+
+-- the lines that each buffer holds
 abbrev pub BytesShow : Type 0
-BytesShow = (password : List ℕ) (limit : ℕ) (events : List Event) (link : ℕ) (id : List ℕ)
-    → limit ≤ 4096 → AllByRecursion IsShortLine events → Settled link id (first_state password limit) events
-    → Shows limit id (sent_to link (run (first_state password limit) events).acts) (run (first_state password limit) events).state.world
+BytesShow = PartShows Lines
+
+-- the buffers in their groups
+abbrev pub BuffersShow : Type 0
+BuffersShow = PartShows Buffers

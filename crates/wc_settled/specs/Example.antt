@@ -2,7 +2,7 @@
 use Rattle.std.specs.Prelude.{ℕ, List, [], ◌∷◌, codes}
 use Rattle.wc_core.specs.Events.{Event, Arrives, Line}
 use Rattle.wc_core.specs.State.{first_state}
-use Rattle.wc_settled.specs.Settled.{Settled}
+use Rattle.wc_settled.specs.Settled.{Settled, SettledBuffers}
 
 abbrev pub init_line : List ℕ
 init_line = codes "init password=x"
@@ -13,9 +13,17 @@ sync_line = codes "sync"
 abbrev pub dump_line : List ℕ
 dump_line = codes "(l) hdata buffer:gui_buffers(*)/own_lines/first_line(*)/data buffer,date,date_printed,displayed,notify_level,highlight,tags_array,prefix,message"
 
-abbrev pub three_lines : List Event
-three_lines = Arrives 1 [] ∷ Line 1 init_line ∷ Line 1 sync_line ∷ Line 1 dump_line ∷ []
+abbrev pub buffers_line : List ℕ
+buffers_line = codes "(b) hdata buffer:gui_buffers(*) number,full_name,short_name,hidden,title,local_variables"
 
--- whoever logs in, asks for all events and takes the dump has settled
+-- a client logs in, asks for all events and says this line
+abbrev pub three_lines : List ℕ → List Event
+three_lines line = Arrives 1 [] ∷ Line 1 init_line ∷ Line 1 sync_line ∷ Line 1 line ∷ []
+
+-- whoever takes the line dump by it has settled
 abbrev pub ThreeLinesSettle : Type 0
-ThreeLinesSettle = (limit : ℕ) → Settled 1 (codes "l") (first_state (codes "x") limit) three_lines
+ThreeLinesSettle = (limit : ℕ) → Settled 1 (codes "l") (first_state (codes "x") limit) (three_lines dump_line)
+
+-- and so has whoever takes the buffer dump
+abbrev pub ThreeLinesSettleBuffers : Type 0
+ThreeLinesSettleBuffers = (limit : ℕ) → SettledBuffers 1 (codes "b") (first_state (codes "x") limit) (three_lines buffers_line)

@@ -1,4 +1,5 @@
 pub mod Printed
+pub mod Held
 pub mod Settled
 pub mod Worlds
 pub mod Kept

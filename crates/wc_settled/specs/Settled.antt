@@ -1,16 +1,14 @@
--- Which clients hold the lines of all buffers: those that settled.
+-- Which clients hold the lines of all buffers, or the buffers: those that settled by the dump of them.
 use Rattle.std.specs.Prelude.{◌≡◌, ℕ, Bool, true, false, ◌&&◌, ◌==◌, if◌then◌else◌, List, [], ◌∷◌, ◌++◌, Option, Some, None, bytes_eq}
 use Rattle.std.specs.List.{AllByRecursion}
 use Rattle.wc_outside.specs.Keyed.{at_key}
-use Rattle.wc_relaycmd.specs.declared.request.Command.{Command}
-use Rattle.wc_relaycmd.specs.declared.request.Command.TheVariants as ask
 use Rattle.wc_relaycmd.specs.declared.request.Request.{Request}
 use Rattle.wc_relaycmd.specs.Answers.{request_of}
 use Rattle.wc_session.specs.declared.client.Client.{Client}
-use Rattle.wc_session.specs.Reply.{is_line_dump}
 use Rattle.wc_core.specs.Events.{Event, Line}
 use Rattle.wc_core.specs.State.{State}
 use Rattle.wc_core.specs.Step.{client_link, step, run}
+use Rattle.wc_settled.specs.Held.{HeldPart, Lines, Buffers, asks_dump}
 
 -- a request, and what was known of its client as it came
 pub record Asked : Type 0 where
@@ -48,27 +46,31 @@ abbrev pub is_following : Option Client → Bool
 is_following None = false
 is_following (Some client) = follows_all client
 
-abbrev pub asks_dump : Command → Bool
-asks_dump (ask.Hdata path keys) = is_line_dump path keys
-asks_dump _ = false
-
 abbrev pub has_id : List ℕ → Asked → Bool
 has_id id asked = bytes_eq asked.request.id id
 
--- a client that logged in took the line dump under this id
-pub record TakesDump (id : List ℕ) (asked : Asked) : Type 0 where
+-- a client that logged in took the dump of a part under this id
+pub record TakesDump (which : HeldPart) (id : List ℕ) (asked : Asked) : Type 0 where
   pub logged_in : asked.client.logged_in ≡ true
-  pub dump : asks_dump asked.request.command ≡ true
+  pub dump : asks_dump which asked.request.command ≡ true
   pub under : asked.request.id ≡ id
 
--- A client that follows all events took the line dump under an id that no other of its requests has. It followed them
+-- A client that follows all events took the dump of a part under an id that no other of its requests has. It followed them
 -- at each request from then on, and it follows them still and is open at the end.
-pub record Settled (link : ℕ) (id : List ℕ) (state : State) (events : List Event) : Type 0 where
+pub record SettledBy (which : HeldPart) (link : ℕ) (id : List ℕ) (state : State) (events : List Event) : Type 0 where
   pub before : List Asked
   pub dump : Asked
   pub behind : List Asked
   pub asked : asked_on link state events ≡ before ++ dump ∷ behind
-  pub takes : TakesDump id dump
+  pub takes : TakesDump which id dump
   pub alone : AllByRecursion (λ other. has_id id other ≡ false) (before ++ behind)
   pub follows : AllByRecursion (λ asked. follows_all asked.client ≡ true) (dump ∷ behind)
   pub still : is_following (client_on link (run state events).state) ≡ true
+
+-- it settled by the line dump
+abbrev pub Settled : ℕ → List ℕ → State → List Event → Type 0
+Settled link id state events = SettledBy Lines link id state events
+
+-- it settled by the buffer dump
+abbrev pub SettledBuffers : ℕ → List ℕ → State → List Event → Type 0
+SettledBuffers link id state events = SettledBy Buffers link id state events

@@ -1,6 +1,7 @@
 -- What always holds of the world of the core.
 use Rattle.std.specs.Prelude.{◌≡◌, ℕ, ◌+◌, ◌<◌, ◌≤◌, ◌^◌, false, [], length, All}
 use Rattle.std.specs.List.{AllByRecursion}
+use Rattle.wc_text.specs.declared.names.Pair.{Pair}
 use Rattle.wc_buffers.specs.declared.entry.BufferEntry.{BufferEntry}
 use Rattle.wc_buffers.specs.Calls.{handle_of}
 use Rattle.wc_buffers.specs.Groups.{rows, has}
@@ -9,9 +10,14 @@ use Rattle.wc_buffers.specs.Table.{AreGroups}
 use Rattle.wc_model.specs.World.{World, lines_at}
 use Rattle.wc_settled.specs.Printed.{IsPrinted}
 
+-- a variable with a short name
+abbrev pub HasShortName : Pair → Type 0
+HasShortName var = length var.name ≤ 64
+
 -- a buffer within its limits, whose handles were drawn before the next one
 pub record IsBufferKept (next : ℕ) (e : BufferEntry) : Type 0 where
   pub fit : IsBuffer e
+  pub names : AllByRecursion HasShortName e.vars
   pub some : 0 < e.row.handle.0
   pub below : e.row.handle.0 < next
   pub own : e.row.own_lines.0 < next

@@ -1,13 +1,20 @@
 //! What each client that settled holds.
 
-ghost use Rattle.wc_settled.specs.Bytes.{BytesShow, RunSpells, SpellOnce};
-ghost use Rattle.wc_settled.specs.Example.{ThreeLinesSettle};
+ghost use Rattle.wc_settled.specs.Bytes.{BuffersShow, BytesShow, RunSpells, SpellOnce};
+ghost use Rattle.wc_settled.specs.Example.{ThreeLinesSettle, ThreeLinesSettleBuffers};
+ghost use Rattle.wc_settled.specs.Held.{Lines, Buffers};
 ghost use Rattle.wc_settled.specs.Mirrors.{Mirrors, StepMirrors, DumpMirrors, StepKeeps, RunKeeps};
 
 /// A client that settled has exactly the lines of each buffer after any events, and none of a buffer that is not there,
 /// by the messages that it was sent.
 pub fn settled_client_has_lines()
-    ensures { Mirrors }
+    ensures { Mirrors Lines }
+{}
+
+/// A client that settled by the buffer dump has exactly the buffers in their groups after any events, by the messages
+/// that it was sent.
+pub fn settled_client_has_buffers()
+    ensures { Mirrors Buffers }
 {}
 
 /// The same by the bytes that it was sent, which spell these messages and no others.
@@ -17,11 +24,22 @@ pub fn sent_bytes_show_lines()
     ensures once { SpellOnce }
 {}
 
+/// A client that settled by the buffer dump has the buffers by the bytes that it was sent.
+pub fn sent_bytes_show_buffers()
+    ensures { BuffersShow }
+{}
+
 /// A client that has the lines of all buffers has them still after one event, and one that takes the dump has them
 /// behind it.
 pub fn event_keeps_lines()
-    ensures kept { StepMirrors }
-    ensures dump { DumpMirrors }
+    ensures kept { StepMirrors Lines }
+    ensures dump { DumpMirrors Lines }
+{}
+
+/// A client that has the buffers has them still after one event, and one that takes the buffer dump has them behind it.
+pub fn event_keeps_buffers()
+    ensures kept { StepMirrors Buffers }
+    ensures dump { DumpMirrors Buffers }
 {}
 
 /// What the core always keeps of its buffers, lines and clients.
@@ -30,7 +48,8 @@ pub fn core_keeps()
     ensures run { RunKeeps }
 {}
 
-/// A client that logs in, asks for all events and takes the dump has settled.
+/// A client that logs in, asks for all events and takes the dump of a part has settled by it.
 pub fn three_lines_settle()
-    ensures { ThreeLinesSettle }
+    ensures lines { ThreeLinesSettle }
+    ensures buffers { ThreeLinesSettleBuffers }
 {}

@@ -1,5 +1,8 @@
-use Rattle.wc_settled.proofs.ExampleLemmas.{three_lines_settle}
+use Rattle.wc_settled.proofs.ExampleLemmas.{three_lines_settle, three_lines_settle_buffers}
 use Rattle.wc_settled.proofs.laws.three_lines_settle.Goals as goal
 
-pub returns : goal.returns
-returns c = λ limit. three_lines_settle limit
+pub returns-clause-lines : goal.returns-clause-lines
+returns-clause-lines c = λ limit. three_lines_settle limit
+
+pub returns-clause-buffers : goal.returns-clause-buffers
+returns-clause-buffers c = λ limit. three_lines_settle_buffers limit
