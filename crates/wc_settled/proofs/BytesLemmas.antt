@@ -1,13 +1,11 @@
 -- The bytes that are sent to a link spell messages, in one way.
-use Rattle.std.proofs.Common.{◌≡◌, ℕ, Bool, true, false, cond, List, [], ◌∷◌, ◌++◌, length, take, drop, Option, Some, None, refl, sym, ap, subst, ◌∙◌, arith, eqb, nat_lt}
+use Rattle.std.proofs.Common.{◌≡◌, ℕ, Bool, true, false, cond, List, [], ◌∷◌, ◌++◌, length, take, drop, Option, Some, None, refl, sym, ap, subst, ◌∙◌, arith, nat_lt}
 use Rattle.std.specs.List.{flat_map}
 use Rattle.std.proofs.Math.Seq.{take-append_seam, drop-append_seam}
 use Rattle.std.proofs.lemmas.List.{length-append}
-use Rattle.std.proofs.lemmas.Bool.Decides.{nat_tests}
 use Rattle.wc_text.specs.declared.names.Cause.{Cause}
 use Rattle.wc_text.specs.declared.names.Cause.TheVariants as cause
 use Rattle.wc_outside.specs.Keyed.{at_key, put_at}
-use Rattle.wc_lines.specs.declared.line.Line.{Line}
 use Rattle.wc_objects.specs.declared.object.WireMessage.{WireMessage}
 use Rattle.wc_objects.specs.Spells.{Spells}
 use Rattle.wc_objects.proofs.Rooms.{length-message_bytes}
@@ -24,80 +22,40 @@ use Rattle.wc_session.specs.Known.{new_client}
 use Rattle.wc_session.specs.Reply.{reply_of}
 use Rattle.wc_session.specs.Sending.{spelling}
 use Rattle.wc_core.specs.Events.{Event, Start, Tick, Arrives, Line as LineCame, Ends, Fails, ListenFails}
-use Rattle.wc_core.specs.State.{State, Act, Stepped, Closes, first_state}
-use Rattle.wc_core.specs.Step.{client_link, client_limit, stays, then_does, sends, told_to, prints, prints_text, next_line, last_handle, does, is_quit, runs, follows, asked, line_came, lost, step, run}
-use Rattle.wc_core.specs.Typed.{Typed, Nothing, Prints, Quits, typed_line, parted}
-use Rattle.wc_core.specs.Served.{messages_to}
-use Rattle.wc_core.proofs.MessageLemmas.{sent_to-messages, messages_to-append}
-use Rattle.wc_settled.specs.Printed.{IsPrinted}
+use Rattle.wc_core.specs.State.{State, Closes, first_state}
+use Rattle.wc_core.specs.Step.{client_link, client_limit, stays, sends, follows, asked, line_came, lost, step, run}
+use Rattle.wc_core.specs.Served.{OutcomeUtf8, messages_to}
+use Rattle.wc_core.specs.Typed.{parted}
+use Rattle.wc_core.proofs.MessageLemmas.{sent_to-messages}
 use Rattle.wc_settled.specs.Kept.{IsKept}
 use Rattle.wc_settled.specs.Bytes.{IsSpelt, SpellOnce, RunSpells, BytesShow}
-use Rattle.wc_settled.proofs.ClientLemmas.{messages-sends}
-use Rattle.wc_settled.proofs.PrintLemmas.{next_printed}
-use Rattle.wc_settled.proofs.StepLemmas.{step_keeps}
-use Rattle.wc_settled.proofs.SpeltLemmas.{AllSpelt, told_spelt, answer_spelt}
+use Rattle.wc_settled.proofs.ChangeLemmas.{acts_spelt, sends_spelt, Tells-runs}
+use Rattle.wc_settled.proofs.StepLemmas.{reply_link, reply_text, kept-put, step_keeps}
+use Rattle.wc_settled.proofs.SpeltLemmas.{answer_spelt}
+use Rattle.wc_settled.proofs.TellingLemmas.{AllSpelt}
+use Rattle.wc_settled.proofs.TypedLemmas.{parted_text}
 use Rattle.wc_settled.proofs.RunLemmas.{start_kept, mirrors}
 
 -- ---- the messages of acts
 
-both_spelt : (a b : List WireMessage) → AllSpelt a → AllSpelt b → AllSpelt (a ++ b)
-both_spelt [] b p q = q
-both_spelt (m ∷ a) b p q = (p.0, both_spelt a b p.1 q)
-
-acts_spelt : (link : ℕ) (a b : List Act) → AllSpelt (messages_to link a) → AllSpelt (messages_to link b) → AllSpelt (messages_to link (a ++ b))
-acts_spelt link a b p q = subst AllSpelt (sym (messages_to-append link a b)) (both_spelt (messages_to link a) (messages_to link b) p q)
-
-sends_spelt : (link k : ℕ) (messages : List WireMessage) → AllSpelt messages → AllSpelt (messages_to link (sends k messages))
-sends_spelt link k messages all = subst AllSpelt (sym (messages-sends link k messages)) (by (eqb k link)) where
-  by : (b : Bool) → AllSpelt (cond b messages [])
-  by true = all
-  by false = tt
-
-clients_spelt : (link : ℕ) (line : Line) (clients : List Client) → IsPrinted line → AllSpelt (messages_to link (flat_map (told_to line) clients))
-clients_spelt link line [] is = tt
-clients_spelt link line (client ∷ clients) is =
-    acts_spelt link (told_to line client) (flat_map (told_to line) clients)
-    (sends_spelt link (client_link client) _ (told_spelt client line is)) (clients_spelt link line clients is)
-
-text_spelt : (link : ℕ) (state : State) (prefix message : List ℕ) → AllSpelt (messages_to link (prints_text state prefix message).acts)
-text_spelt link state prefix message = by (nat_lt state.next last_handle) refl where
-  by : (b : Bool) → nat_lt state.next last_handle ≡ b → AllSpelt (messages_to link (cond b (prints state (next_line state prefix message)) (stays state)).acts)
-  by true e = clients_spelt link (next_line state prefix message) state.clients (next_printed state prefix message (grind (arith, nat_tests)))
-  by false e = tt
-
-typed_spelt : (link : ℕ) (state : State) (typed : Typed) → AllSpelt (messages_to link (does state typed).acts)
-typed_spelt link state Nothing = tt
-typed_spelt link state (Prints prefix message) = text_spelt link state prefix message
-typed_spelt link state Quits = tt
-
-runs_spelt : (link : ℕ) (state : State) (lines : List (List ℕ)) → AllSpelt (messages_to link (runs state lines).acts)
-runs_spelt link state [] = tt
-runs_spelt link state (line ∷ lines) = by (is_quit (typed_line line)) (typed_spelt link state (typed_line line)) (runs_spelt link (does state (typed_line line)).state lines) where
-  one : Stepped
-  one = does state (typed_line line)
-
-  by : (b : Bool) → AllSpelt (messages_to link one.acts) → AllSpelt (messages_to link (runs one.state lines).acts) → AllSpelt (messages_to link (cond b one (then_does one (λ next. runs next lines))).acts)
-  by true first others = first
-  by false first others = acts_spelt link one.acts (runs one.state lines).acts first others
-
-follows_spelt : (link : ℕ) (state : State) (k : ℕ) (o : Outcome) → AllSpelt (messages_to link (follows state k o).acts)
-follows_spelt link state k outcome.Replied = tt
-follows_spelt link state k outcome.Silent = tt
-follows_spelt link state k (outcome.Input buffer text) = runs_spelt link state (parted text)
-follows_spelt link state k (outcome.Leave why) = tt
-follows_spelt link state k outcome.NoMemory = tt
+follows_spelt : (limit link : ℕ) (state : State) (k : ℕ) (o : Outcome) → OutcomeUtf8 o → IsKept limit link state → AllSpelt (messages_to link (follows state k o).acts)
+follows_spelt limit link state k outcome.Replied utf8 kept = tt
+follows_spelt limit link state k outcome.Silent utf8 kept = tt
+follows_spelt limit link state k (outcome.Input buffer text) utf8 kept = (Tells-runs limit link [] state buffer (parted text) tt kept (parted_text text utf8)).spelt
+follows_spelt limit link state k (outcome.Leave why) utf8 kept = tt
+follows_spelt limit link state k outcome.NoMemory utf8 kept = tt
 
 line_spelt : (limit link : ℕ) (state : State) (k : ℕ) (line : List ℕ) → IsKept limit link state → AllSpelt (messages_to link (step state (LineCame k line)).acts)
 line_spelt limit link state k line kept = came (at_key client_link k state.clients) where
   served : (client : Client) (o : Option Request) → request_of client.escaped line ≡ o → AllSpelt (messages_to link (asked state client o).acts)
   served client None e = tt
   served client (Some request) e =
-      let answer = reply_of state.lines state.password client request in
+      let answer = reply_of state.world state.password client request in
       let next : State = record state { clients = put_at client_link (client_link client) answer.client state.clients } in
       let utf8 = HasUtf8-reads line client.escaped request (reads-request_of line client.escaped request e) in
       acts_spelt link (sends (client_link client) answer.messages) (follows next (client_link client) answer.outcome).acts
-      (sends_spelt link (client_link client) answer.messages (answer_spelt state.lines state.password client request kept.printed utf8))
-      (follows_spelt link next (client_link client) answer.outcome)
+      (sends_spelt link (client_link client) answer.messages (answer_spelt limit state.world state.password client request kept.world utf8))
+      (follows_spelt limit link next (client_link client) answer.outcome (reply_text state client line request e) (kept-put limit link state (client_link client) answer.client (reply_link state client line request e) kept))
 
   came : (o : Option Client) → AllSpelt (messages_to link (line_came state line o).acts)
   came None = tt

@@ -1,19 +1,24 @@
--- The clients of a link, of which the first alone is told lines.
-use Rattle.std.proofs.Common.{◌≡◌, ℕ, Bool, true, false, cond, ◌&&◌, ◌||◌, List, [], ◌∷◌, ◌++◌, Some, None, refl, sym, ap, ◌∙◌, arith, eqb, append-nil, not}
+-- The clients of a link, of which the first alone is told events.
+use Rattle.std.proofs.Common.{◌≡◌, ℕ, Bool, true, false, cond, ◌&&◌, ◌||◌, List, [], ◌∷◌, ◌++◌, map, Some, None, refl, sym, ap, ◌∙◌, arith, eqb, append-nil, not}
 use Rattle.std.specs.List.{flat_map}
 use Rattle.std.proofs.lemmas.Bool.{false≢true}
 use Rattle.std.proofs.lemmas.Bool.Decides.{nat_tests}
 use Rattle.wc_outside.specs.Keyed.{at_key, put_at, without}
-use Rattle.wc_lines.specs.declared.line.Line.{Line}
+use Rattle.wc_model.specs.declared.notice.EventKind.{EventKind}
+use Rattle.wc_model.specs.declared.notice.EventKind.TheVariants as kind
+use Rattle.wc_model.specs.declared.notice.Notice.{Notice}
+use Rattle.wc_model.specs.World.{World}
 use Rattle.wc_objects.specs.declared.object.WireMessage.{WireMessage}
 use Rattle.wc_session.specs.declared.client.Client.{Client}
-use Rattle.wc_session.specs.Reply.{line_told}
-use Rattle.wc_session.specs.Sync.{follows_core}
+use Rattle.wc_session.specs.declared.sync_set.BufferSet.{BufferSet}
+use Rattle.wc_session.specs.declared.sync_set.SyncSet.{SyncSet}
+use Rattle.wc_session.specs.Event.{notice_told, event_messages}
+use Rattle.wc_session.specs.Sync.{no_options, union, set_at, wants, follows, sets_behind, heard}
 use Rattle.wc_core.specs.Step.{client_link, sends, told_to}
 use Rattle.wc_core.specs.Served.{messages_to}
 use Rattle.wc_core.proofs.MessageLemmas.{messages_to-append}
 use Rattle.wc_settled.specs.Settled.{follows_all, is_following}
-use Rattle.wc_settled.specs.Kept.{is_quiet, is_first_alone}
+use Rattle.wc_settled.specs.Kept.{asks_some, has_sets, asks_events, is_quiet, is_first_alone}
 
 -- ---- whether a client follows all events
 
@@ -30,33 +35,100 @@ following-push link client (other ∷ clients) e = by (eqb (client_link other) l
   by true more = refl
   by false more = more
 
--- a client that does asked for the lines of the core buffer
-pub follows_line : (client : Client) → follows_all client ≡ true → follows_core client ≡ true
-follows_line client e = by client.everywhere.buffers client.everywhere.buffer client.everywhere.nicklist client.on_core.buffer e where
-  by : (a b c d : Bool) → a && (b && c) ≡ true → b || d ≡ true
-  by true true c d e = refl
-  by true false c d e = absurd (false≢true e)
-  by false b c d e = absurd (false≢true e)
+-- an event that is wanted by any set of all buffers
+wants_all : (k : EventKind) (set : SyncSet) → set.buffers ≡ true → set.buffer ≡ true → wants k set ≡ true
+wants_all kind.Opened set a b = a
+wants_all kind.TitleChanged set a b = b
+wants_all kind.VarAdded set a b = b
+wants_all kind.VarChanged set a b = b
+wants_all kind.VarRemoved set a b = b
+wants_all kind.Cleared set a b = b
+wants_all kind.LineAdded set a b = b
+wants_all kind.LineDataChanged set a b = b
+wants_all _ set a b = ap (λ t. t || set.buffer) a
+
+-- a client that does is told each event
+pub follows_each : (k : EventKind) (buffer : ℕ) (client : Client) → follows_all client ≡ true → follows k buffer client ≡ true
+follows_each k buffer client e = wants_all k (union client.everywhere set) (one client.everywhere.buffers set.buffers (all.0)) (one client.everywhere.buffer set.buffer all.1) where
+  set : SyncSet
+  set = set_at buffer client.sets
+
+  one : (a b : Bool) → a ≡ true → a || b ≡ true
+  one a b e = ap (λ t. t || b) e
+
+  parts : (a b c : Bool) → a && (b && c) ≡ true → (a ≡ true) × (b ≡ true)
+  parts true true c e = (refl, refl)
+  parts true false c e = absurd (false≢true e)
+  parts false b c e = absurd (false≢true e)
+
+  all : (client.everywhere.buffers ≡ true) × (client.everywhere.buffer ≡ true)
+  all = parts client.everywhere.buffers client.everywhere.buffer client.everywhere.nicklist e
+
+-- ---- a client that asked for nothing
+
+wants_none : (k : EventKind) (set : SyncSet) → set.buffers ≡ false → set.buffer ≡ false → wants k set ≡ false
+wants_none kind.Opened set a b = a
+wants_none kind.TitleChanged set a b = b
+wants_none kind.VarAdded set a b = b
+wants_none kind.VarChanged set a b = b
+wants_none kind.VarRemoved set a b = b
+wants_none kind.Cleared set a b = b
+wants_none kind.LineAdded set a b = b
+wants_none kind.LineDataChanged set a b = b
+wants_none _ set a b = ap (λ t. t || set.buffer) a ∙ b
+
+-- none of its sets has an option
+record AsksNothing (client : Client) : Type 0 where
+  buffers : client.everywhere.buffers ≡ false
+  buffer : client.everywhere.buffer ≡ false
+  sets : client.sets ≡ []
+
+asks_nothing : (client : Client) → asks_events client ≡ false → AsksNothing client
+asks_nothing client e = by client.everywhere.buffers client.everywhere.upgrade client.everywhere.buffer client.everywhere.nicklist client.sets refl refl refl e where
+  by : (a u b n : Bool) (sets : List BufferSet) → client.everywhere.buffers ≡ a → client.everywhere.buffer ≡ b → client.sets ≡ sets → (a || (u || (b || n))) || has_sets sets ≡ false → AsksNothing client
+  by true u b n sets p q r e = absurd (false≢true (sym e))
+  by false true b n sets p q r e = absurd (false≢true (sym e))
+  by false false true n sets p q r e = absurd (false≢true (sym e))
+  by false false false true sets p q r e = absurd (false≢true (sym e))
+  by false false false false (s ∷ sets) p q r e = absurd (false≢true (sym e))
+  by false false false false [] p q r e = record { buffers = p; buffer = q; sets = r }
+
+follows_none : (k : EventKind) (buffer : ℕ) (client : Client) → asks_events client ≡ false → follows k buffer client ≡ false
+follows_none k buffer client e =
+    let is = asks_nothing client e in
+    ap (λ sets. wants k (union client.everywhere (set_at buffer sets))) is.sets
+    ∙ wants_none k (union client.everywhere no_options) (ap (λ t. t || false) is.buffers) (ap (λ t. t || false) is.buffer)
+
+no_sets : (k : EventKind) (buffer : ℕ) → sets_behind k buffer [] ≡ []
+no_sets kind.Closing buffer = refl
+no_sets _ buffer = refl
+
+-- what it hears leaves it so
+heard_nothing : (k : EventKind) (buffer : ℕ) (client : Client) → asks_events client ≡ false → asks_events (heard k buffer client) ≡ false
+heard_nothing k buffer client e =
+    let is = asks_nothing client e in
+    let none : has_sets (sets_behind k buffer client.sets) ≡ has_sets client.sets = ap (λ sets. has_sets (sets_behind k buffer sets)) is.sets ∙ ap has_sets (no_sets k buffer) ∙ ap has_sets (sym is.sets) in
+    ap (λ t. asks_some client.everywhere || t) none ∙ e
 
 -- ---- the first client of a link is alone to ask
 
 pub first-quiet : (link : ℕ) (clients : List Client) → is_quiet link clients ≡ true → is_first_alone link clients ≡ true
 first-quiet link [] e = refl
-first-quiet link (client ∷ clients) e = by (eqb (client_link client) link) (follows_core client) (first-quiet link clients) e where
+first-quiet link (client ∷ clients) e = by (eqb (client_link client) link) (asks_events client) (first-quiet link clients) e where
   by : (b f : Bool) → (is_quiet link clients ≡ true → is_first_alone link clients ≡ true) → not (b && f) && is_quiet link clients ≡ true → cond b (is_quiet link clients) (is_first_alone link clients) ≡ true
   by true true more e = absurd (false≢true e)
   by true false more e = e
   by false f more e = more e
 
 -- one more client that did not ask
-quiet-push : (link : ℕ) (client : Client) (clients : List Client) → follows_core client ≡ false → is_quiet link (clients ++ client ∷ []) ≡ is_quiet link clients
+quiet-push : (link : ℕ) (client : Client) (clients : List Client) → asks_events client ≡ false → is_quiet link (clients ++ client ∷ []) ≡ is_quiet link clients
 quiet-push link client [] e = rw e (by (eqb (client_link client) link)) where
   by : (b : Bool) → not (b && false) && true ≡ true
   by true = refl
   by false = refl
-quiet-push link client (other ∷ clients) e = ap (λ t. not (eqb (client_link other) link && follows_core other) && t) (quiet-push link client clients e)
+quiet-push link client (other ∷ clients) e = ap (λ t. not (eqb (client_link other) link && asks_events other) && t) (quiet-push link client clients e)
 
-pub first-push : (link : ℕ) (client : Client) (clients : List Client) → follows_core client ≡ false → is_first_alone link (clients ++ client ∷ []) ≡ is_first_alone link clients
+pub first-push : (link : ℕ) (client : Client) (clients : List Client) → asks_events client ≡ false → is_first_alone link (clients ++ client ∷ []) ≡ is_first_alone link clients
 first-push link client [] e = by (eqb (client_link client) link) where
   by : (b : Bool) → cond b true true ≡ true
   by true = refl
@@ -70,7 +142,7 @@ quiet-put : (link k : ℕ) (client : Client) (clients : List Client) → client_
 quiet-put link k client [] e other = refl
 quiet-put link k client (first ∷ clients) e other = by (eqb (client_link first) k) refl (quiet-put link k client clients e other) where
   quiet : Client → List Client → Bool
-  quiet c cs = not (eqb (client_link c) link && follows_core c) && is_quiet link cs
+  quiet c cs = not (eqb (client_link c) link && asks_events c) && is_quiet link cs
 
   skip : (c : Client) → client_link c ≡ k → quiet c clients ≡ is_quiet link clients
   skip c e = let t : eqb (client_link c) link ≡ false = ap (λ n. eqb n link) e ∙ other in rw t refl
@@ -78,7 +150,7 @@ quiet-put link k client (first ∷ clients) e other = by (eqb (client_link first
   by : (b : Bool) → eqb (client_link first) k ≡ b → is_quiet link (put_at client_link k client clients) ≡ is_quiet link clients
       → is_quiet link (cond b (client ∷ clients) (first ∷ put_at client_link k client clients)) ≡ quiet first clients
   by true t more = skip client e ∙ sym (skip first (grind (arith, nat_tests)))
-  by false t more = ap (λ b. not (eqb (client_link first) link && follows_core first) && b) more
+  by false t more = ap (λ b. not (eqb (client_link first) link && asks_events first) && b) more
 
 pub first-put : (link k : ℕ) (client : Client) (clients : List Client) → client_link client ≡ k → is_first_alone link (put_at client_link k client clients) ≡ is_first_alone link clients
 first-put link k client [] e = refl
@@ -131,34 +203,71 @@ messages-sends link k (m ∷ messages) = by (eqb k link) (messages-sends link k 
   by true more = ap (λ t. m ∷ t) more
   by false more = more
 
-messages-told : (link : ℕ) (line : Line) (client : Client) (clients : List Client)
-    → messages_to link (flat_map (told_to line) (client ∷ clients)) ≡ cond (eqb (client_link client) link) (line_told client line) no_messages ++ messages_to link (flat_map (told_to line) clients)
-messages-told link line client clients =
-    messages_to-append link (told_to line client) (flat_map (told_to line) clients)
-    ∙ ap (λ t. t ++ messages_to link (flat_map (told_to line) clients)) (messages-sends link (client_link client) (line_told client line))
+-- ---- what clients hear
 
-told_nothing : (client : Client) (line : Line) → follows_core client ≡ false → line_told client line ≡ []
-unfolding line_told
-told_nothing client line e = rw e refl
+pub following-heard : (k : EventKind) (buffer link : ℕ) (clients : List Client) → is_following (at_key client_link link (map (heard k buffer) clients)) ≡ is_following (at_key client_link link clients)
+following-heard k buffer link [] = refl
+following-heard k buffer link (client ∷ clients) = by (eqb (client_link client) link) (following-heard k buffer link clients) where
+  by : (b : Bool) → is_following (at_key client_link link (map (heard k buffer) clients)) ≡ is_following (at_key client_link link clients)
+      → is_following (cond b (Some (heard k buffer client)) (at_key client_link link (map (heard k buffer) clients))) ≡ is_following (cond b (Some client) (at_key client_link link clients))
+  by true more = refl
+  by false more = more
 
--- the clients of a link that did not ask are told nothing
-told-quiet : (link : ℕ) (line : Line) (clients : List Client) → is_quiet link clients ≡ true → messages_to link (flat_map (told_to line) clients) ≡ []
-told-quiet link line [] e = refl
-told-quiet link line (client ∷ clients) e = messages-told link line client clients ∙ by (eqb (client_link client) link) (follows_core client) refl (told-quiet link line clients) e where
-  by : (b f : Bool) → follows_core client ≡ f → (is_quiet link clients ≡ true → messages_to link (flat_map (told_to line) clients) ≡ []) → not (b && f) && is_quiet link clients ≡ true
-      → cond b (line_told client line) no_messages ++ messages_to link (flat_map (told_to line) clients) ≡ []
+quiet-heard : (k : EventKind) (buffer link : ℕ) (clients : List Client) → is_quiet link clients ≡ true → is_quiet link (map (heard k buffer) clients) ≡ true
+quiet-heard k buffer link [] e = refl
+quiet-heard k buffer link (client ∷ clients) e = by (eqb (client_link client) link) (asks_events client) refl (quiet-heard k buffer link clients) e where
+  by : (b f : Bool) → asks_events client ≡ f → (is_quiet link clients ≡ true → is_quiet link (map (heard k buffer) clients) ≡ true) → not (b && f) && is_quiet link clients ≡ true
+      → not (b && asks_events (heard k buffer client)) && is_quiet link (map (heard k buffer) clients) ≡ true
   by true true asked more e = absurd (false≢true e)
-  by true false asked more e = ap (λ t. t ++ messages_to link (flat_map (told_to line) clients)) (told_nothing client line asked) ∙ more e
+  by true false asked more e = ap (λ f. not f && is_quiet link (map (heard k buffer) clients)) (heard_nothing k buffer client asked) ∙ more e
   by false f asked more e = more e
 
--- a line is told once to the client of a link
-pub told-first : (link : ℕ) (line : Line) (clients : List Client) (client : Client) → is_first_alone link clients ≡ true → at_key client_link link clients ≡ Some client
-    → messages_to link (flat_map (told_to line) clients) ≡ line_told client line
-told-first link line [] client e at = absurd (let h = at in cc)
-told-first link line (first ∷ clients) client e at = messages-told link line first clients ∙ by (eqb (client_link first) link) (told-first link line clients client) e at where
-  by : (b : Bool) → (is_first_alone link clients ≡ true → at_key client_link link clients ≡ Some client → messages_to link (flat_map (told_to line) clients) ≡ line_told client line) → cond b (is_quiet link clients) (is_first_alone link clients) ≡ true → cond b (Some first) (at_key client_link link clients) ≡ Some client
-      → cond b (line_told first line) no_messages ++ messages_to link (flat_map (told_to line) clients) ≡ line_told client line
-  by true more e at =
-      let same : first ≡ client = cc in
-      ap (λ t. line_told first line ++ t) (told-quiet link line clients e) ∙ append-nil (line_told first line) ∙ ap (λ c. line_told c line) same
-  by false more e at = more e at
+pub first-heard : (k : EventKind) (buffer link : ℕ) (clients : List Client) → is_first_alone link clients ≡ true → is_first_alone link (map (heard k buffer) clients) ≡ true
+first-heard k buffer link [] e = refl
+first-heard k buffer link (client ∷ clients) e = by (eqb (client_link client) link) (first-heard k buffer link clients) e where
+  by : (b : Bool) → (is_first_alone link clients ≡ true → is_first_alone link (map (heard k buffer) clients) ≡ true) → cond b (is_quiet link clients) (is_first_alone link clients) ≡ true
+      → cond b (is_quiet link (map (heard k buffer) clients)) (is_first_alone link (map (heard k buffer) clients)) ≡ true
+  by true more e = quiet-heard k buffer link clients e
+  by false more e = more e
+
+-- ---- what clients are told
+
+module _ (link : ℕ) (world : World) (notice : Notice) where
+  messages-told : (client : Client) (clients : List Client)
+      → messages_to link (flat_map (told_to world notice) (client ∷ clients))
+      ≡ cond (eqb (client_link client) link) (notice_told world notice client) no_messages ++ messages_to link (flat_map (told_to world notice) clients)
+  messages-told client clients =
+      messages_to-append link (told_to world notice client) (flat_map (told_to world notice) clients)
+      ∙ ap (λ t. t ++ messages_to link (flat_map (told_to world notice) clients)) (messages-sends link (client_link client) (notice_told world notice client))
+
+  told_nothing : (client : Client) → asks_events client ≡ false → notice_told world notice client ≡ []
+  unfolding notice_told
+  told_nothing client e = rw (follows_none notice.kind notice.buffer.0 client e) refl
+
+  -- a client that follows all events is told each
+  pub told_each : (client : Client) → follows_all client ≡ true → notice_told world notice client ≡ event_messages world notice
+  unfolding notice_told
+  told_each client e = rw (follows_each notice.kind notice.buffer.0 client e) refl
+
+  -- the clients of a link that asked for nothing are told nothing
+  told-quiet : (clients : List Client) → is_quiet link clients ≡ true → messages_to link (flat_map (told_to world notice) clients) ≡ []
+  told-quiet [] e = refl
+  told-quiet (client ∷ clients) e = messages-told client clients ∙ by (eqb (client_link client) link) (asks_events client) refl (told-quiet clients) e where
+    by : (b f : Bool) → asks_events client ≡ f → (is_quiet link clients ≡ true → messages_to link (flat_map (told_to world notice) clients) ≡ []) → not (b && f) && is_quiet link clients ≡ true
+        → cond b (notice_told world notice client) no_messages ++ messages_to link (flat_map (told_to world notice) clients) ≡ []
+    by true true asked more e = absurd (false≢true e)
+    by true false asked more e = ap (λ t. t ++ messages_to link (flat_map (told_to world notice) clients)) (told_nothing client asked) ∙ more e
+    by false f asked more e = more e
+
+  -- an event is told once to the client of a link
+  pub told-first : (clients : List Client) (client : Client) → is_first_alone link clients ≡ true → at_key client_link link clients ≡ Some client
+      → messages_to link (flat_map (told_to world notice) clients) ≡ notice_told world notice client
+  told-first [] client e at = absurd (let h = at in cc)
+  told-first (first ∷ clients) client e at = messages-told first clients ∙ by (eqb (client_link first) link) (told-first clients client) e at where
+    by : (b : Bool) → (is_first_alone link clients ≡ true → at_key client_link link clients ≡ Some client → messages_to link (flat_map (told_to world notice) clients) ≡ notice_told world notice client)
+        → cond b (is_quiet link clients) (is_first_alone link clients) ≡ true → cond b (Some first) (at_key client_link link clients) ≡ Some client
+        → cond b (notice_told world notice first) no_messages ++ messages_to link (flat_map (told_to world notice) clients) ≡ notice_told world notice client
+    by true more e at =
+        let same : first ≡ client = cc in
+        ap (λ t. notice_told world notice first ++ t) (told-quiet clients e) ∙ append-nil (notice_told world notice first) ∙ ap (λ c. notice_told world notice c) same
+    by false more e at = more e at

@@ -12,15 +12,16 @@ use Rattle.wc_session.specs.declared.client.Client.{Client}
 use Rattle.wc_session.specs.Known.{new_client}
 use Rattle.wc_session.specs.Reply.{reply_of}
 use Rattle.wc_view.specs.Parts.{Part}
+use Rattle.wc_view.specs.Views.{HasAll}
 use Rattle.wc_core.specs.Events.{Event, Start, Tick, Arrives, Line as LineCame, Ends, Fails, ListenFails}
 use Rattle.wc_core.specs.State.{State, Stepped, Closes}
 use Rattle.wc_core.specs.Step.{client_link, client_limit, stays, asked, line_came, lost, step}
 use Rattle.wc_settled.specs.Settled.{Asked, asked_by, asked_with, asked_in, client_on, is_following, TakesDump}
 use Rattle.wc_settled.specs.Kept.{IsKept}
-use Rattle.wc_settled.specs.Mirrors.{mirror_after, HasCoreLines, IsFair, StepMirrors, DumpMirrors}
+use Rattle.wc_settled.specs.Mirrors.{mirror_after, IsFair, StepMirrors, DumpMirrors}
 use Rattle.wc_settled.proofs.IdLemmas.{request_free}
 use Rattle.wc_settled.proofs.ReplyLemmas.{dump_right, reply_right, sends_right}
-use Rattle.wc_settled.proofs.StepLemmas.{asked_here, reply_link, right-answers}
+use Rattle.wc_settled.proofs.StepLemmas.{asked_here, reply_link, reply_text, right-answers}
 
 -- ---- what the client of a link asks at an event
 
@@ -66,28 +67,28 @@ asked_now link state k line client request at read here =
     asked_here link k state line (Some client) (ap (λ n. eqb n link) (sym key) ∙ here) at ∙ ap (asked_with client) read
 
 line_right : (limit link : ℕ) (id : List ℕ) (state : State) (k : ℕ) (line : List ℕ) (part : Option Part) → IsKept limit link state → BeginsWithout 95 id → length line ≤ 65536
-    → AllByRecursion (IsFair id) (asked_in link state (LineCame k line)) → is_following (client_on link (step state (LineCame k line)).state) ≡ true → HasCoreLines part state
-    → HasCoreLines (mirror_after limit link id part (step state (LineCame k line)).acts) (step state (LineCame k line)).state
+    → AllByRecursion (IsFair id) (asked_in link state (LineCame k line)) → is_following (client_on link (step state (LineCame k line)).state) ≡ true → HasAll part state.world
+    → HasAll (mirror_after limit link id part (step state (LineCame k line)).acts) (step state (LineCame k line)).state.world
 line_right limit link id state k line part kept free within fair after had = came (at_key client_link k state.clients) refl after where
   served : (client : Client) (o : Option Request) → at_key client_link k state.clients ≡ Some client → request_of client.escaped line ≡ o
-      → is_following (client_on link (asked state client o).state) ≡ true → HasCoreLines (mirror_after limit link id part (asked state client o).acts) (asked state client o).state
+      → is_following (client_on link (asked state client o).state) ≡ true → HasAll (mirror_after limit link id part (asked state client o).acts) (asked state client o).state.world
   served client None at read after = had
   served client (Some request) at read after =
-      let answer = reply_of state.lines state.password client request in
+      let answer = reply_of state.world state.password client request in
       let own = λ (here : eqb (client_link client) link ≡ true). (subst (AllByRecursion (IsFair id)) (asked_now link state k line client request at read here) fair).0 in
-      right-answers limit link id state (client_link client) answer part (reply_link state client line request read) kept free after
+      right-answers limit link id state (client_link client) answer part (reply_link state client line request read) (reply_text state client line request read) kept free after
       (sends_right limit link id state (client_link client) answer.messages part
       (λ here. reply_right limit link id state client line request part kept free within read (own here) had) (λ else. had))
 
   came : (o : Option Client) → at_key client_link k state.clients ≡ o → is_following (client_on link (line_came state line o).state) ≡ true
-      → HasCoreLines (mirror_after limit link id part (line_came state line o).acts) (line_came state line o).state
+      → HasAll (mirror_after limit link id part (line_came state line o).acts) (line_came state line o).state.world
   came None at after = had
   came (Some client) at after = served client (request_of client.escaped line) at refl after
 
 -- ---- one event
 
-lost_right : (limit link : ℕ) (id : List ℕ) (state : State) (k : ℕ) (why : Cause) (o : Option Client) (part : Option Part) → HasCoreLines part state
-    → HasCoreLines (mirror_after limit link id part (lost state k why o).acts) (lost state k why o).state
+lost_right : (limit link : ℕ) (id : List ℕ) (state : State) (k : ℕ) (why : Cause) (o : Option Client) (part : Option Part) → HasAll part state.world
+    → HasAll (mirror_after limit link id part (lost state k why o).acts) (lost state k why o).state.world
 lost_right limit link id state k why None part had = had
 lost_right limit link id state k why (Some client) part had = had
 
@@ -98,7 +99,7 @@ step_mirrors limit link id state (Arrives k nonce) part kept free within fair af
   arrived : Bool → Stepped
   arrived b = cond b (stays (record state { clients = state.clients ++ new_client (record { 0 = k }) nonce ∷ [] })) (record { state = state; acts = Closes k cause.Surplus ∷ [] })
 
-  by : (b : Bool) → HasCoreLines (mirror_after limit link id part (arrived b).acts) (arrived b).state
+  by : (b : Bool) → HasAll (mirror_after limit link id part (arrived b).acts) (arrived b).state.world
   by true = had
   by false = had
 step_mirrors limit link id state (LineCame k line) part kept free within fair after had = line_right limit link id state k line part kept free within fair after had
@@ -110,7 +111,7 @@ step_mirrors limit link id state ListenFails part kept free within fair after ha
 
 line_dumps : (limit link : ℕ) (id : List ℕ) (state : State) (k : ℕ) (line : List ℕ) (part : Option Part) (dump : Asked) → IsKept limit link state → length line ≤ 65536
     → asked_in link state (LineCame k line) ≡ dump ∷ [] → TakesDump id dump → is_following (client_on link (step state (LineCame k line)).state) ≡ true
-    → HasCoreLines (mirror_after limit link id part (step state (LineCame k line)).acts) (step state (LineCame k line)).state
+    → HasAll (mirror_after limit link id part (step state (LineCame k line)).acts) (step state (LineCame k line)).state.world
 line_dumps limit link id state k line part dump kept within e takes after = by (eqb k link) refl where
   none : List Asked
   none = []
@@ -119,23 +120,23 @@ line_dumps limit link id state k line part dump kept within e takes after = by (
   free = subst (BeginsWithout 95) takes.under (asked_one link state (LineCame k line) dump none e).free
 
   served : (client : Client) (o : Option Request) → at_key client_link k state.clients ≡ Some client → request_of client.escaped line ≡ o → eqb k link ≡ true → asked_with client o ≡ dump ∷ []
-      → is_following (client_on link (asked state client o).state) ≡ true → HasCoreLines (mirror_after limit link id part (asked state client o).acts) (asked state client o).state
+      → is_following (client_on link (asked state client o).state) ≡ true → HasAll (mirror_after limit link id part (asked state client o).acts) (asked state client o).state.world
   served client None at read here is after = absurd (let h = is in cc)
   served client (Some request) at read here is after =
-      let answer = reply_of state.lines state.password client request in
+      let answer = reply_of state.world state.password client request in
       let whole : record { client = client; request = request } ≡ dump = cc in
       let key : eqb (client_link client) link ≡ true = ap (λ n. eqb n link) (at_key-key client_link k state.clients client at) ∙ here in
-      right-answers limit link id state (client_link client) answer part (reply_link state client line request read) kept free after
+      right-answers limit link id state (client_link client) answer part (reply_link state client line request read) (reply_text state client line request read) kept free after
       (sends_right limit link id state (client_link client) answer.messages part
       (λ here. dump_right limit link id state client line request part kept within read (subst (TakesDump id) (sym whole) takes))
       (λ else. absurd (let h : false ≡ true = sym else ∙ key in cc)))
 
   came : (o : Option Client) → at_key client_link k state.clients ≡ o → eqb k link ≡ true → asked_by line o ≡ dump ∷ [] → is_following (client_on link (line_came state line o).state) ≡ true
-      → HasCoreLines (mirror_after limit link id part (line_came state line o).acts) (line_came state line o).state
+      → HasAll (mirror_after limit link id part (line_came state line o).acts) (line_came state line o).state.world
   came None at here is after = absurd (let h = is in cc)
   came (Some client) at here is after = served client (request_of client.escaped line) at refl here is after
 
-  by : (b : Bool) → eqb k link ≡ b → HasCoreLines (mirror_after limit link id part (step state (LineCame k line)).acts) (step state (LineCame k line)).state
+  by : (b : Bool) → eqb k link ≡ b → HasAll (mirror_after limit link id part (step state (LineCame k line)).acts) (step state (LineCame k line)).state.world
   by true here = let o = at_key client_link k state.clients in came o refl here (sym (asked_here link k state line o here refl) ∙ e) after
   by false here = absurd (let h : none ≡ dump ∷ [] = sym (ap (λ b. cond b (asked_by line (client_on link state)) none) here) ∙ e in cc)
 

@@ -9,6 +9,8 @@ use Rattle.wc_relaycmd.specs.Answers.{request_of, call_of, asked_by as asked_by_
 use Rattle.wc_relaycmd.specs.Lists.{pairs_of, last_value}
 use Rattle.wc_relaycmd.specs.Logins.{login_of}
 use Rattle.wc_text.specs.declared.names.Cause.TheVariants as cause
+use Rattle.wc_buffers.specs.Calls.{Groups, added}
+use Rattle.wc_model.specs.World.{core_row, first_world}
 use Rattle.wc_session.specs.declared.client.Client.{Client}
 use Rattle.wc_session.specs.Known.{new_client}
 use Rattle.wc_session.specs.Logins.{pairs_let_in, lets_in}
@@ -60,23 +62,27 @@ password_given : pairs_let_in (pairs_of (codes "password=x")) (codes "x") [] cam
 unfolding pairs_let_in lets_in login_of pairs_of last_value
 password_given = refl
 
+-- the groups of the core buffer alone
+abbrev core_alone : Groups
+core_alone = added core_row [] []
+
 abbrev synced : Client
-synced = synchronized known (codes "*" ∷ []) None
+synced = synchronized core_alone known (codes "*" ∷ []) None
 
-init_answered : reply_of [] (codes "x") came init_request ≡ silent known
+init_answered : (limit : ℕ) → reply_of (first_world limit) (codes "x") came init_request ≡ silent known
 unfolding reply_of served init_answer init_request
-init_answered = ap (λ b. cond b (silent known) (leaves came cause.LoginFailed)) password_given
+init_answered limit = ap (λ b. cond b (silent known) (leaves came cause.LoginFailed)) password_given
 
-sync_answered : reply_of [] (codes "x") known sync_request ≡ silent synced
+sync_answered : (limit : ℕ) → reply_of (first_world limit) (codes "x") known sync_request ≡ silent synced
 unfolding reply_of served sync_request
-sync_answered = refl
+sync_answered limit = refl
 
-abbrev told : List WireMessage
-told = reply (codes "l") (hdata_objects [] (codes "buffer:gui_buffers(*)/own_lines/first_line(*)/data") (codes "buffer,date,date_printed,displayed,notify_level,highlight,tags_array,prefix,message"))
+abbrev told : ℕ → List WireMessage
+told limit = reply (codes "l") (hdata_objects (first_world limit) (codes "buffer:gui_buffers(*)/own_lines/first_line(*)/data") (codes "buffer,date,date_printed,displayed,notify_level,highlight,tags_array,prefix,message"))
 
-dump_answered : reply_of [] (codes "x") synced dump_request ≡ replies synced told
+dump_answered : (limit : ℕ) → reply_of (first_world limit) (codes "x") synced dump_request ≡ replies synced (told limit)
 unfolding reply_of served dump_request synchronized
-dump_answered = refl
+dump_answered limit = refl
 
 -- ---- the run
 
@@ -88,14 +94,14 @@ found client key = ap (λ n. cond (eqb n 1) (Some client) None) key
 
 -- the state behind a line
 line_state : (limit : ℕ) (client : Client) (line : List ℕ) (request : Request) (answer : Answer) → client_link client ≡ 1 → request_of client.escaped line ≡ Some request
-    → reply_of [] (codes "x") client request ≡ answer → (step (with_client limit client) (Line 1 line)).state ≡ (answers (with_client limit client) 1 answer).state
+    → reply_of (first_world limit) (codes "x") client request ≡ answer → (step (with_client limit client) (Line 1 line)).state ≡ (answers (with_client limit client) 1 answer).state
 line_state limit client line request answer key reads answered =
     let state = with_client limit client in
     ap (λ o. (line_came state line o).state) (found client key) ∙ ap (λ o. (asked state client o).state) reads
     ∙ ap (λ a. (answers state (client_link client) a).state) answered ∙ ap (λ n. (answers state n answer).state) key
 
 silent_step : (limit : ℕ) (before after : Client) (line : List ℕ) (request : Request) → client_link before ≡ 1 → request_of before.escaped line ≡ Some request
-    → reply_of [] (codes "x") before request ≡ silent after → (step (with_client limit before) (Line 1 line)).state ≡ with_client limit after
+    → reply_of (first_world limit) (codes "x") before request ≡ silent after → (step (with_client limit before) (Line 1 line)).state ≡ with_client limit after
 silent_step limit before after line request key reads answered =
     line_state limit before line request (silent after) key reads answered
     ∙ ap (λ n. record (first_state (codes "x") limit) { clients = cond (eqb n 1) (after ∷ []) (before ∷ []) }) key
@@ -109,7 +115,7 @@ line_asked : (limit : ℕ) (client : Client) (line : List ℕ) (request : Reques
 line_asked limit client line request key reads = ap (asked_by line) (found client key) ∙ ap (asked_with client) reads
 
 next_asked : (limit : ℕ) (before after : Client) (line : List ℕ) (request : Request) (events : List Event) → client_link before ≡ 1 → request_of before.escaped line ≡ Some request
-    → reply_of [] (codes "x") before request ≡ silent after
+    → reply_of (first_world limit) (codes "x") before request ≡ silent after
     → asked_on 1 (with_client limit before) (Line 1 line ∷ events) ≡ request_by before request ∷ asked_on 1 (with_client limit after) events
 next_asked limit before after line request events key reads answered =
     ap (λ a. a ++ asked_on 1 (step (with_client limit before) (Line 1 line)).state events) (line_asked limit before line request key reads)
@@ -125,8 +131,8 @@ dump_read = dump_reads
 
 all_asked : (limit : ℕ) → asked_on 1 (first_state (codes "x") limit) three_lines ≡ request_by came init_request ∷ request_by known sync_request ∷ request_by synced dump_request ∷ []
 all_asked limit =
-    next_asked limit came known init_line init_request (Line 1 sync_line ∷ Line 1 dump_line ∷ []) refl init_reads init_answered
-    ∙ ap (λ a. request_by came init_request ∷ a) (next_asked limit known synced sync_line sync_request (Line 1 dump_line ∷ []) refl sync_reads sync_answered)
+    next_asked limit came known init_line init_request (Line 1 sync_line ∷ Line 1 dump_line ∷ []) refl init_reads (init_answered limit)
+    ∙ ap (λ a. request_by came init_request ∷ a) (next_asked limit known synced sync_line sync_request (Line 1 dump_line ∷ []) refl sync_reads (sync_answered limit))
     ∙ ap (λ a. request_by came init_request ∷ request_by known sync_request ∷ (a ++ [])) (line_asked limit synced dump_line dump_request synced_link dump_read)
 
 replied_follows : (limit : ℕ) (messages : List WireMessage) → is_following (client_on 1 (answers (with_client limit synced) 1 (replies synced messages)).state) ≡ true
@@ -136,10 +142,10 @@ replied_follows limit (m ∷ messages) = refl
 
 still : (limit : ℕ) → is_following (client_on 1 (run (first_state (codes "x") limit) three_lines).state) ≡ true
 still limit =
-    ap (λ s. is_following (client_on 1 (step (step s (Line 1 sync_line)).state (Line 1 dump_line)).state)) (silent_step limit came known init_line init_request refl init_reads init_answered)
-    ∙ ap (λ s. is_following (client_on 1 (step s (Line 1 dump_line)).state)) (silent_step limit known synced sync_line sync_request refl sync_reads sync_answered)
-    ∙ ap (λ s. is_following (client_on 1 s)) (line_state limit synced dump_line dump_request (replies synced told) synced_link dump_read dump_answered)
-    ∙ replied_follows limit told
+    ap (λ s. is_following (client_on 1 (step (step s (Line 1 sync_line)).state (Line 1 dump_line)).state)) (silent_step limit came known init_line init_request refl init_reads (init_answered limit))
+    ∙ ap (λ s. is_following (client_on 1 (step s (Line 1 dump_line)).state)) (silent_step limit known synced sync_line sync_request refl sync_reads (sync_answered limit))
+    ∙ ap (λ s. is_following (client_on 1 s)) (line_state limit synced dump_line dump_request (replies synced (told limit)) synced_link dump_read (dump_answered limit))
+    ∙ replied_follows limit (told limit)
 
 synced_known : synced.logged_in ≡ true
 unfolding synchronized

@@ -6,6 +6,7 @@ use Rattle.wc_relaycmd.specs.declared.request.Request.{Request}
 use Rattle.wc_relaycmd.specs.Answers.{request_of}
 use Rattle.wc_relaycmd.specs.Cuts.{BeginsWithout}
 use Rattle.wc_relaycmd.specs.Words.{blanks}
+use Rattle.wc_view.specs.Ids.{IsFree}
 use Rattle.wc_relaycmd.specs.Grammar.{IsTag}
 use Rattle.wc_relaycmd.proofs.ReadLemmas.{reads-request_of}
 
@@ -43,3 +44,8 @@ event_apart text (b ∷ id) free = let e : eqb 95 b ≡ false = grind (arith, na
 pub apart_event : (text id : List ℕ) → BeginsWithout 95 id → bytes_eq id (95 ∷ text) ≡ false
 apart_event text [] free = refl
 apart_event text (b ∷ id) free = let e : eqb b 95 ≡ false = grind (arith, nat_tests) in rw e refl
+
+-- in the words of the mirror
+pub id_free : (id : List ℕ) → BeginsWithout 95 id → IsFree id
+id_free [] free = refl
+id_free (b ∷ id) free = grind (arith, nat_tests)

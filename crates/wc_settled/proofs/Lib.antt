@@ -1,11 +1,19 @@
-pub mod SizeLemmas
-pub mod IdLemmas
-pub mod ClientLemmas
-pub mod PrintLemmas
-pub mod StepLemmas
-pub mod ReplyLemmas
-pub mod EventLemmas
-pub mod RunLemmas
-pub mod SpeltLemmas
-pub mod BytesLemmas
-pub mod ExampleLemmas
+mod BytesLemmas
+mod ChangeLemmas
+mod ClientLemmas
+mod DumpLemmas
+mod EventLemmas
+mod ExampleLemmas
+mod IdLemmas
+mod ListLemmas
+mod NoticeLemmas
+mod ReplyLemmas
+mod RowLemmas
+mod RunLemmas
+mod SizeLemmas
+mod SpeltLemmas
+mod StepLemmas
+mod TellingLemmas
+mod TypedLemmas
+mod WithinLemmas
+mod WorldLemmas

@@ -1,28 +1,21 @@
 -- A client that settled has the lines after all events.
-use Rattle.std.proofs.Common.{◌≡◌, ℕ, ◌≤◌, true, false, List, [], ◌∷◌, ◌++◌, Option, None, refl, sym, ap, subst, ◌∙◌, arith}
+use Rattle.std.proofs.Common.{◌≡◌, ℕ, ◌≤◌, true, false, List, [], ◌∷◌, ◌++◌, Option, None, refl, sym, ap, subst, ◌∙◌}
 use Rattle.std.specs.List.{AllByRecursion}
 use Rattle.std.proofs.lemmas.Bool.{false≢true}
-use Rattle.std.proofs.lemmas.List.Elements.{All-nil}
 use Rattle.wc_relaycmd.specs.Cuts.{BeginsWithout}
 use Rattle.wc_view.specs.Parts.{Part}
+use Rattle.wc_view.specs.Views.{HasAll}
 use Rattle.wc_core.specs.Events.{Event}
 use Rattle.wc_core.specs.State.{State, first_state}
 use Rattle.wc_core.specs.Step.{step, run}
-use Rattle.wc_settled.specs.Printed.{IsPrinted}
 use Rattle.wc_settled.specs.Settled.{Asked, asked_in, asked_on, client_on, follows_all, is_following, has_id, TakesDump}
 use Rattle.wc_settled.specs.Kept.{IsKept}
-use Rattle.wc_settled.specs.Mirrors.{mirror_after, HasCoreLines, IsShortLine, IsFair, Mirrors, RunKeeps}
-use Rattle.wc_settled.proofs.PrintLemmas.{mirror-append}
+use Rattle.wc_settled.specs.Mirrors.{mirror_after, IsShortLine, IsFair, Mirrors, RunKeeps}
+use Rattle.wc_settled.proofs.ChangeLemmas.{mirror-append}
+use Rattle.wc_settled.proofs.ListLemmas.{all_front, all_back}
+use Rattle.wc_settled.proofs.WorldLemmas.{first_kept}
 use Rattle.wc_settled.proofs.StepLemmas.{step_keeps, followed}
 use Rattle.wc_settled.proofs.EventLemmas.{asked_one, step_mirrors, dump_mirrors}
-
-all_front : {X : Type 0} (P : X → Type 0) (xs ys : List X) → AllByRecursion P (xs ++ ys) → AllByRecursion P xs
-all_front P [] ys all = tt
-all_front P (x ∷ xs) ys all = (all.0, all_front P xs ys all.1)
-
-all_back : {X : Type 0} (P : X → Type 0) (xs ys : List X) → AllByRecursion P (xs ++ ys) → AllByRecursion P ys
-all_back P [] ys all = all
-all_back P (x ∷ xs) ys all = all_back P xs ys all.1
 
 -- a request with another id
 abbrev HasOther : List ℕ → Asked → Type 0
@@ -37,7 +30,7 @@ others_fair id (first ∷ asked) all = (λ same. absurd (false≢true (sym all.0
 
 -- a client has the lines after events, which had these before
 abbrev HasAfter : ℕ → ℕ → List ℕ → Option Part → State → List Event → Type 0
-HasAfter limit link id part state events = HasCoreLines (mirror_after limit link id part (run state events).acts) (run state events).state
+HasAfter limit link id part state events = HasAll (mirror_after limit link id part (run state events).acts) (run state events).state.world
 
 -- by those behind the first
 has-then : (limit link : ℕ) (id : List ℕ) (part : Option Part) (state : State) (event : Event) (events : List Event)
@@ -45,7 +38,7 @@ has-then : (limit link : ℕ) (id : List ℕ) (part : Option Part) (state : Stat
 has-then limit link id part state event events has =
     let next = (step state event).state in
     let last = (run next events).state in
-    subst (λ part. HasCoreLines part last) (sym (mirror-append limit link id part (step state event).acts (run next events).acts)) has
+    subst (λ part. HasAll part last.world) (sym (mirror-append limit link id part (step state event).acts (run next events).acts)) has
 
 -- ---- behind the dump
 
@@ -65,7 +58,7 @@ stood limit link state (event ∷ events) kept all after =
 
 mirrored : (limit link : ℕ) (id : List ℕ) (state : State) (events : List Event) (part : Option Part) → IsKept limit link state → BeginsWithout 95 id → AllByRecursion IsShortLine events
     → AllByRecursion (HasOther id) (asked_on link state events) → AllByRecursion Follows (asked_on link state events) → is_following (client_on link (run state events).state) ≡ true
-    → HasCoreLines part state → HasAfter limit link id part state events
+    → HasAll part state.world → HasAfter limit link id part state events
 mirrored limit link id state [] part kept free within other follows still had = had
 mirrored limit link id state (event ∷ events) part kept free within other follows still had =
     let next = (step state event).state in
@@ -75,7 +68,7 @@ mirrored limit link id state (event ∷ events) part kept free within other foll
     let after = stood limit link next events then (all_back Follows here rest follows) still in
     let fair = others_fair id here (all_front (HasOther id) here rest other) in
     let part' = mirror_after limit link id part (step state event).acts in
-    let has : HasCoreLines part' next = step_mirrors limit link id state event part kept free within.0 fair after had in
+    let has : HasAll part' next.world = step_mirrors limit link id state event part kept free within.0 fair after had in
     has-then limit link id part state event events
     (mirrored limit link id next events part' then free within.1 (all_back (HasOther id) here rest other) (all_back Follows here rest follows) still has)
 
@@ -102,7 +95,7 @@ has-dump limit link id part state event events dump behind kept within taken her
     let other = subst (AllByRecursion (HasOther id)) (sym is) taken.alone in
     let free = subst (BeginsWithout 95) taken.takes.under (asked_one link state event dump none here).free in
     let part' = mirror_after limit link id part (step state event).acts in
-    let shown : HasCoreLines part' next = dump_mirrors limit link id state event part dump kept within.0 here taken.takes (stood limit link next events then follows still) in
+    let shown : HasAll part' next.world = dump_mirrors limit link id state event part dump kept within.0 here taken.takes (stood limit link next events then follows still) in
     has-then limit link id part state event events (mirrored limit link id next events part' then free within.1 other follows still shown)
 
 settles : (limit link : ℕ) (id : List ℕ) (state : State) (events : List Event) (part : Option Part) (before behind : List Asked) (dump : Asked) → IsKept limit link state
@@ -135,7 +128,7 @@ settles limit link id state (event ∷ events) part before behind dump kept with
 -- ---- from the start
 
 pub start_kept : (limit link : ℕ) (password : List ℕ) → limit ≤ 4096 → IsKept limit link (first_state password limit)
-start_kept limit link password most = record { same = refl; most = most; within = omega arith; printed = All-nil IsPrinted; first = refl }
+start_kept limit link password most = record { most = most; world = first_kept limit; first = refl }
 
 kept_on : (limit link : ℕ) (state : State) (events : List Event) → IsKept limit link state → IsKept limit link (run state events).state
 kept_on limit link state [] kept = kept

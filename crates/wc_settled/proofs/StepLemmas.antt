@@ -18,68 +18,76 @@ use Rattle.wc_session.specs.declared.outcome.Outcome.TheVariants as outcome
 use Rattle.wc_session.specs.Known.{new_client}
 use Rattle.wc_session.specs.Reply.{Answer, reply_of}
 use Rattle.wc_view.specs.Parts.{Part}
+use Rattle.wc_view.specs.Views.{HasAll}
 use Rattle.wc_core.specs.Events.{Event, Start, Tick, Arrives, Line as LineCame, Ends, Fails, ListenFails}
 use Rattle.wc_core.specs.State.{State, Closes}
 use Rattle.wc_core.specs.Step.{client_link, client_limit, stays, sends, leaves, follows, answers, asked, line_came, lost, step}
+use Rattle.wc_core.specs.Served.{OutcomeUtf8}
 use Rattle.wc_core.specs.Typed.{parted}
 use Rattle.wc_core.proofs.ReplyLemmas.{reply_fits}
 use Rattle.wc_settled.specs.Settled.{asked_by, asked_with, asked_in, client_on, is_following}
 use Rattle.wc_settled.specs.Kept.{is_first_alone, IsKept}
-use Rattle.wc_settled.specs.Mirrors.{mirror_after, HasCoreLines, StepKeeps}
+use Rattle.wc_settled.specs.Mirrors.{mirror_after, StepKeeps}
 use Rattle.wc_settled.proofs.ClientLemmas.{following-push, first-push, first-put, first-without}
-use Rattle.wc_settled.proofs.PrintLemmas.{mirror-append, Tells-runs}
+use Rattle.wc_settled.proofs.ChangeLemmas.{mirror-append, Tells-runs}
+use Rattle.wc_settled.proofs.TypedLemmas.{parted_text}
 
 kept-clients : (limit link : ℕ) (state : State) (clients : List Client) → IsKept limit link state → is_first_alone link clients ≡ true → IsKept limit link (record state { clients = clients })
-kept-clients limit link state clients kept e = record { same = kept.same; most = kept.most; within = kept.within; printed = kept.printed; first = e }
+kept-clients limit link state clients kept e = record { most = kept.most; world = kept.world; first = e }
 
 kept-leaves : (limit link : ℕ) (state : State) (k : ℕ) (why : Cause) → IsKept limit link state → IsKept limit link (leaves state k why).state
 kept-leaves limit link state k why kept = kept-clients limit link state (without client_link k state.clients) kept (first-without link k state.clients kept.first)
 
 -- ---- what an answer asks of the core
 
-kept-follows : (limit link : ℕ) (state : State) (k : ℕ) (o : Outcome) → IsKept limit link state → IsKept limit link (follows state k o).state
-kept-follows limit link state k outcome.Replied kept = kept
-kept-follows limit link state k outcome.Silent kept = kept
-kept-follows limit link state k (outcome.Input buffer text) kept = (Tells-runs limit link [] state (parted text) tt kept).kept
-kept-follows limit link state k (outcome.Leave why) kept = kept-leaves limit link state k why kept
-kept-follows limit link state k outcome.NoMemory kept = kept
+kept-follows : (limit link : ℕ) (state : State) (k : ℕ) (o : Outcome) → OutcomeUtf8 o → IsKept limit link state → IsKept limit link (follows state k o).state
+kept-follows limit link state k outcome.Replied utf8 kept = kept
+kept-follows limit link state k outcome.Silent utf8 kept = kept
+kept-follows limit link state k (outcome.Input buffer text) utf8 kept = (Tells-runs limit link [] state buffer (parted text) tt kept (parted_text text utf8)).kept
+kept-follows limit link state k (outcome.Leave why) utf8 kept = kept-leaves limit link state k why kept
+kept-follows limit link state k outcome.NoMemory utf8 kept = kept
 
-right-follows : (limit link : ℕ) (id : List ℕ) (state : State) (k : ℕ) (o : Outcome) (part : Option Part) → IsKept limit link state → BeginsWithout 95 id
-    → is_following (client_on link (follows state k o).state) ≡ true → HasCoreLines part state → HasCoreLines (mirror_after limit link id part (follows state k o).acts) (follows state k o).state
-right-follows limit link id state k outcome.Replied part kept free after had = had
-right-follows limit link id state k outcome.Silent part kept free after had = had
-right-follows limit link id state k (outcome.Input buffer text) part kept free after had =
-    let tells = Tells-runs limit link id state (parted text) free kept in
-    tells.right (sym (ap (λ clients. is_following (at_key client_link link clients)) tells.clients) ∙ after) part had
-right-follows limit link id state k (outcome.Leave why) part kept free after had = had
-right-follows limit link id state k outcome.NoMemory part kept free after had = had
+right-follows : (limit link : ℕ) (id : List ℕ) (state : State) (k : ℕ) (o : Outcome) (part : Option Part) → OutcomeUtf8 o → IsKept limit link state → BeginsWithout 95 id
+    → is_following (client_on link (follows state k o).state) ≡ true → HasAll part state.world → HasAll (mirror_after limit link id part (follows state k o).acts) (follows state k o).state.world
+right-follows limit link id state k outcome.Replied part utf8 kept free after had = had
+right-follows limit link id state k outcome.Silent part utf8 kept free after had = had
+right-follows limit link id state k (outcome.Input buffer text) part utf8 kept free after had =
+    let tells = Tells-runs limit link id state buffer (parted text) free kept (parted_text text utf8) in
+    tells.right (sym tells.following ∙ after) part had
+right-follows limit link id state k (outcome.Leave why) part utf8 kept free after had = had
+right-follows limit link id state k outcome.NoMemory part utf8 kept free after had = had
 
 -- the state behind the messages of an answer
 abbrev pub put : State → ℕ → Client → State
 put state k client = record state { clients = put_at client_link k client state.clients }
 
-kept-put : (limit link : ℕ) (state : State) (k : ℕ) (client : Client) → client_link client ≡ k → IsKept limit link state → IsKept limit link (put state k client)
+pub kept-put : (limit link : ℕ) (state : State) (k : ℕ) (client : Client) → client_link client ≡ k → IsKept limit link state → IsKept limit link (put state k client)
 kept-put limit link state k client here kept = kept-clients limit link state (put_at client_link k client state.clients) kept (first-put link k client state.clients here ∙ kept.first)
 
-kept-answers : (limit link : ℕ) (state : State) (k : ℕ) (answer : Answer) → client_link answer.client ≡ k → IsKept limit link state → IsKept limit link (answers state k answer).state
-kept-answers limit link state k answer here kept = kept-follows limit link (put state k answer.client) k answer.outcome (kept-put limit link state k answer.client here kept)
+kept-answers : (limit link : ℕ) (state : State) (k : ℕ) (answer : Answer) → client_link answer.client ≡ k → OutcomeUtf8 answer.outcome → IsKept limit link state → IsKept limit link (answers state k answer).state
+kept-answers limit link state k answer here utf8 kept = kept-follows limit link (put state k answer.client) k answer.outcome utf8 (kept-put limit link state k answer.client here kept)
 
 -- where the messages of an answer leave the lines right, so does what follows them
-pub right-answers : (limit link : ℕ) (id : List ℕ) (state : State) (k : ℕ) (answer : Answer) (part : Option Part) → client_link answer.client ≡ k → IsKept limit link state → BeginsWithout 95 id
-    → is_following (client_on link (answers state k answer).state) ≡ true → HasCoreLines (mirror_after limit link id part (sends k answer.messages)) state
-    → HasCoreLines (mirror_after limit link id part (answers state k answer).acts) (answers state k answer).state
-right-answers limit link id state k answer part here kept free after had =
+pub right-answers : (limit link : ℕ) (id : List ℕ) (state : State) (k : ℕ) (answer : Answer) (part : Option Part) → client_link answer.client ≡ k → OutcomeUtf8 answer.outcome → IsKept limit link state → BeginsWithout 95 id
+    → is_following (client_on link (answers state k answer).state) ≡ true → HasAll (mirror_after limit link id part (sends k answer.messages)) state.world
+    → HasAll (mirror_after limit link id part (answers state k answer).acts) (answers state k answer).state.world
+right-answers limit link id state k answer part here utf8 kept free after had =
     let next = put state k answer.client in
     let last = (follows next k answer.outcome).state in
-    subst (λ part. HasCoreLines part last) (sym (mirror-append limit link id part (sends k answer.messages) (follows next k answer.outcome).acts))
-    (right-follows limit link id next k answer.outcome (mirror_after limit link id part (sends k answer.messages)) (kept-put limit link state k answer.client here kept) free after had)
+    subst (λ part. HasAll part last.world) (sym (mirror-append limit link id part (sends k answer.messages) (follows next k answer.outcome).acts))
+    (right-follows limit link id next k answer.outcome (mirror_after limit link id part (sends k answer.messages)) utf8 (kept-put limit link state k answer.client here kept) free after had)
 
 -- ---- what is answered to a request
 
+-- what is typed by a request is text
+pub reply_text : (state : State) (client : Client) (line : List ℕ) (request : Request) → request_of client.escaped line ≡ Some request → OutcomeUtf8 (reply_of state.world state.password client request).outcome
+reply_text state client line request e =
+    (reply_fits state.world state.password client request (HasUtf8-reads line client.escaped request (reads-request_of line client.escaped request e))).text
+
 pub reply_link : (state : State) (client : Client) (line : List ℕ) (request : Request) → request_of client.escaped line ≡ Some request
-    → client_link (reply_of state.lines state.password client request).client ≡ client_link client
+    → client_link (reply_of state.world state.password client request).client ≡ client_link client
 reply_link state client line request e =
-    ap (λ (l : LinkId). l.0) (reply_fits state.lines state.password client request (HasUtf8-reads line client.escaped request (reads-request_of line client.escaped request e))).link
+    ap (λ (l : LinkId). l.0) (reply_fits state.world state.password client request (HasUtf8-reads line client.escaped request (reads-request_of line client.escaped request e))).link
 
 -- ---- a line of a client
 
@@ -95,7 +103,7 @@ kept-line limit link state k line kept = came (at_key client_link k state.client
   served : (client : Client) (o : Option Request) → request_of client.escaped line ≡ o → IsKept limit link (asked state client o).state
   served client None e = kept
   served client (Some request) e =
-      kept-answers limit link state (client_link client) (reply_of state.lines state.password client request) (reply_link state client line request e) kept
+      kept-answers limit link state (client_link client) (reply_of state.world state.password client request) (reply_link state client line request e) (reply_text state client line request e) kept
 
   came : (o : Option Client) → IsKept limit link (line_came state line o).state
   came None = kept
@@ -108,8 +116,8 @@ kept-lost limit link state k why None kept = kept
 kept-lost limit link state k why (Some client) kept = kept-leaves limit link state k why kept
 
 pub step_keeps : StepKeeps
-step_keeps limit link state (Start moment) kept = record { same = kept.same; most = kept.most; within = kept.within; printed = kept.printed; first = kept.first }
-step_keeps limit link state (Tick moment) kept = record { same = kept.same; most = kept.most; within = kept.within; printed = kept.printed; first = kept.first }
+step_keeps limit link state (Start moment) kept = record { most = kept.most; world = kept.world; first = kept.first }
+step_keeps limit link state (Tick moment) kept = record { most = kept.most; world = kept.world; first = kept.first }
 step_keeps limit link state (Arrives k nonce) kept = by (nat_lt (length state.clients) client_limit) where
   came : Client
   came = new_client (record { 0 = k }) nonce
@@ -137,20 +145,20 @@ following-lost : (link : ℕ) (state : State) (k : ℕ) (why : Cause) (o : Optio
 following-lost link state k why None after = after
 following-lost link state k why (Some client) after = following-leaves link state k after
 
-following-follows : (limit link : ℕ) (state : State) (k : ℕ) (o : Outcome) → IsKept limit link state → is_following (client_on link (follows state k o).state) ≡ true → is_following (client_on link state) ≡ true
-following-follows limit link state k outcome.Replied kept after = after
-following-follows limit link state k outcome.Silent kept after = after
-following-follows limit link state k (outcome.Input buffer text) kept after =
-    sym (ap (λ clients. is_following (at_key client_link link clients)) (Tells-runs limit link [] state (parted text) tt kept).clients) ∙ after
-following-follows limit link state k (outcome.Leave why) kept after = following-leaves link state k after
-following-follows limit link state k outcome.NoMemory kept after = after
+following-follows : (limit link : ℕ) (state : State) (k : ℕ) (o : Outcome) → OutcomeUtf8 o → IsKept limit link state → is_following (client_on link (follows state k o).state) ≡ true → is_following (client_on link state) ≡ true
+following-follows limit link state k outcome.Replied utf8 kept after = after
+following-follows limit link state k outcome.Silent utf8 kept after = after
+following-follows limit link state k (outcome.Input buffer text) utf8 kept after =
+    sym (Tells-runs limit link [] state buffer (parted text) tt kept (parted_text text utf8)).following ∙ after
+following-follows limit link state k (outcome.Leave why) utf8 kept after = following-leaves link state k after
+following-follows limit link state k outcome.NoMemory utf8 kept after = after
 
 -- a request of another link
-following-answers : (limit link : ℕ) (state : State) (k : ℕ) (answer : Answer) → client_link answer.client ≡ k → link ≢ k → IsKept limit link state
+following-answers : (limit link : ℕ) (state : State) (k : ℕ) (answer : Answer) → client_link answer.client ≡ k → link ≢ k → OutcomeUtf8 answer.outcome → IsKept limit link state
     → is_following (client_on link (answers state k answer).state) ≡ true → is_following (client_on link state) ≡ true
-following-answers limit link state k answer here other kept after =
+following-answers limit link state k answer here other utf8 kept after =
     sym (ap is_following (at_key-put_other client_link k link answer.client state.clients here other))
-    ∙ following-follows limit link (put state k answer.client) k answer.outcome (kept-put limit link state k answer.client here kept) after
+    ∙ following-follows limit link (put state k answer.client) k answer.outcome utf8 (kept-put limit link state k answer.client here kept) after
 
 following-line : (limit link : ℕ) (state : State) (k : ℕ) (line : List ℕ) → IsKept limit link state → asked_in link state (LineCame k line) ≡ []
     → is_following (client_on link (step state (LineCame k line)).state) ≡ true → is_following (client_on link state) ≡ true
@@ -166,7 +174,7 @@ following-line limit link state k line kept none after = came (at_key client_lin
       → is_following (client_on link (asked state client o).state) ≡ true → is_following (client_on link state) ≡ true
   served client None at e after = after
   served client (Some request) at e after =
-      following-answers limit link state (client_link client) (reply_of state.lines state.password client request) (reply_link state client line request e) (other client request at e) kept after
+      following-answers limit link state (client_link client) (reply_of state.world state.password client request) (reply_link state client line request e) (other client request at e) (reply_text state client line request e) kept after
 
   came : (o : Option Client) → at_key client_link k state.clients ≡ o → is_following (client_on link (line_came state line o).state) ≡ true → is_following (client_on link state) ≡ true
   came None at after = after

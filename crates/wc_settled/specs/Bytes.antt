@@ -1,13 +1,12 @@
 -- What a client makes of all bytes that it was sent.
 use Rattle.std.specs.Prelude.{◌≡◌, ℕ, ◌≤◌, List, None}
 use Rattle.std.specs.List.{AllByRecursion, flat_map}
-use Rattle.wc_lines.specs.declared.line.Line.{Line}
+use Rattle.wc_model.specs.World.{World}
 use Rattle.wc_objects.specs.declared.object.WireMessage.{WireMessage}
 use Rattle.wc_objects.specs.Spells.{Spells}
 use Rattle.wc_objects.specs.Within.{IsWithin}
-use Rattle.wc_session.specs.Reply.{core_buffer}
 use Rattle.wc_session.specs.Sending.{spelling}
-use Rattle.wc_view.specs.Views.{HasLines}
+use Rattle.wc_view.specs.Views.{HasAll}
 use Rattle.wc_core.specs.Events.{Event}
 use Rattle.wc_core.specs.State.{first_state}
 use Rattle.wc_core.specs.Step.{run}
@@ -25,11 +24,11 @@ pub record Spell (bytes : List ℕ) (messages : List WireMessage) : Type 0 where
   pub each : AllByRecursion IsSpelt messages
   pub whole : bytes ≡ flat_map (λ m. spelling m) messages
 
--- The bytes spell messages, and a client that takes them has these lines of the core buffer.
-pub record Shows (limit : ℕ) (id bytes : List ℕ) (lines : List Line) : Type 0 where
+-- The bytes spell messages, and a client that takes them has the lines of each buffer of this world.
+pub record Shows (limit : ℕ) (id bytes : List ℕ) (world : World) : Type 0 where
   pub messages : List WireMessage
   pub spell : Spell bytes messages
-  pub has : HasLines (fold_all limit id None messages) core_buffer.0 lines
+  pub has : HasAll (fold_all limit id None messages) world
 
 -- Bytes spell messages in one way at most.
 abbrev pub SpellOnce : Type 0
@@ -40,8 +39,8 @@ abbrev pub RunSpells : Type 0
 RunSpells = (password : List ℕ) (limit : ℕ) (events : List Event) (link : ℕ) → limit ≤ 4096
     → Spell (sent_to link (run (first_state password limit) events).acts) (messages_to link (run (first_state password limit) events).acts)
 
--- Whoever settled has exactly the lines that the core buffer holds, by all bytes that it was sent.
+-- Whoever settled has exactly the lines that each buffer holds, by all bytes that it was sent.
 abbrev pub BytesShow : Type 0
 BytesShow = (password : List ℕ) (limit : ℕ) (events : List Event) (link : ℕ) (id : List ℕ)
     → limit ≤ 4096 → AllByRecursion IsShortLine events → Settled link id (first_state password limit) events
-    → Shows limit id (sent_to link (run (first_state password limit) events).acts) (run (first_state password limit) events).state.lines
+    → Shows limit id (sent_to link (run (first_state password limit) events).acts) (run (first_state password limit) events).state.world

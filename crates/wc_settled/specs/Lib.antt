@@ -1,5 +1,6 @@
 pub mod Printed
 pub mod Settled
+pub mod Worlds
 pub mod Kept
 pub mod Mirrors
 pub mod Bytes

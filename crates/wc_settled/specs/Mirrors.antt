@@ -1,12 +1,11 @@
--- A client that settled has the lines of the core buffer.
+-- A client that settled has the lines of all buffers.
 use Rattle.std.specs.Prelude.{◌≡◌, ℕ, ◌≤◌, true, List, [], ◌∷◌, length, Option, None}
 use Rattle.std.specs.List.{AllByRecursion}
 use Rattle.wc_objects.specs.declared.object.WireMessage.{WireMessage}
 use Rattle.wc_relaycmd.specs.Cuts.{BeginsWithout}
-use Rattle.wc_session.specs.Reply.{core_buffer}
 use Rattle.wc_view.specs.Parts.{Part}
 use Rattle.wc_view.specs.Fold.{fold_lines}
-use Rattle.wc_view.specs.Views.{HasLines}
+use Rattle.wc_view.specs.Views.{HasAll}
 use Rattle.wc_core.specs.Events.{Event, Line}
 use Rattle.wc_core.specs.State.{State, Act, first_state}
 use Rattle.wc_core.specs.Step.{step, run}
@@ -23,20 +22,16 @@ fold_all limit id part (message ∷ messages) = fold_all limit id (fold_lines li
 abbrev pub mirror_after : ℕ → ℕ → List ℕ → Option Part → List Act → Option Part
 mirror_after limit link id part acts = fold_all limit id part (messages_to link acts)
 
--- a client has the lines of the core buffer
-abbrev pub HasCoreLines : Option Part → State → Type 0
-HasCoreLines part state = HasLines part core_buffer.0 state.lines
-
 -- a line of a client is no longer than one may be
 abbrev pub IsShortLine : Event → Type 0
 IsShortLine (Line link line) = length line ≤ 65536
 IsShortLine _ = Unit {0}
 
--- Whoever settled has exactly the lines that the core buffer holds, by all messages that it was sent.
+-- Whoever settled has exactly the lines that each buffer holds, and none of a buffer that is not there, by all messages that it was sent.
 abbrev pub Mirrors : Type 0
 Mirrors = (password : List ℕ) (limit : ℕ) (events : List Event) (link : ℕ) (id : List ℕ)
     → limit ≤ 4096 → AllByRecursion IsShortLine events → Settled link id (first_state password limit) events
-    → HasCoreLines (mirror_after limit link id None (run (first_state password limit) events).acts) (run (first_state password limit) events).state
+    → HasAll (mirror_after limit link id None (run (first_state password limit) events).acts) (run (first_state password limit) events).state.world
 
 -- a request has the id of the dump only where it is the dump
 abbrev pub IsFair : List ℕ → Asked → Type 0
@@ -46,15 +41,15 @@ IsFair id asked = has_id id asked ≡ true → asks_dump asked.request.command �
 abbrev pub StepMirrors : Type 0
 StepMirrors = (limit link : ℕ) (id : List ℕ) (state : State) (event : Event) (part : Option Part)
     → IsKept limit link state → BeginsWithout 95 id → IsShortLine event → AllByRecursion (IsFair id) (asked_in link state event)
-    → is_following (client_on link (step state event).state) ≡ true → HasCoreLines part state
-    → HasCoreLines (mirror_after limit link id part (step state event).acts) (step state event).state
+    → is_following (client_on link (step state event).state) ≡ true → HasAll part state.world
+    → HasAll (mirror_after limit link id part (step state event).acts) (step state event).state.world
 
 -- The dump: a client has the lines behind it, whatever it had.
 abbrev pub DumpMirrors : Type 0
 DumpMirrors = (limit link : ℕ) (id : List ℕ) (state : State) (event : Event) (part : Option Part) (dump : Asked)
     → IsKept limit link state → IsShortLine event → asked_in link state event ≡ dump ∷ [] → TakesDump id dump
     → is_following (client_on link (step state event).state) ≡ true
-    → HasCoreLines (mirror_after limit link id part (step state event).acts) (step state event).state
+    → HasAll (mirror_after limit link id part (step state event).acts) (step state event).state.world
 
 -- What always holds of the core does so after each event, and it holds after all events from the start.
 abbrev pub StepKeeps : Type 0

@@ -1,4 +1,4 @@
--- Which clients hold the lines of the core buffer: those that settled.
+-- Which clients hold the lines of all buffers: those that settled.
 use Rattle.std.specs.Prelude.{◌≡◌, ℕ, Bool, true, false, ◌&&◌, ◌==◌, if◌then◌else◌, List, [], ◌∷◌, ◌++◌, Option, Some, None, bytes_eq}
 use Rattle.std.specs.List.{AllByRecursion}
 use Rattle.wc_outside.specs.Keyed.{at_key}

@@ -4,7 +4,8 @@ ghost use Rattle.wc_settled.specs.Bytes.{BytesShow, RunSpells, SpellOnce};
 ghost use Rattle.wc_settled.specs.Example.{ThreeLinesSettle};
 ghost use Rattle.wc_settled.specs.Mirrors.{Mirrors, StepMirrors, DumpMirrors, StepKeeps, RunKeeps};
 
-/// A client that settled has exactly the lines of the core buffer after any events, by the messages that it was sent.
+/// A client that settled has exactly the lines of each buffer after any events, and none of a buffer that is not there,
+/// by the messages that it was sent.
 pub fn settled_client_has_lines()
     ensures { Mirrors }
 {}
@@ -16,14 +17,14 @@ pub fn sent_bytes_show_lines()
     ensures once { SpellOnce }
 {}
 
-/// A client that has the lines of the core buffer has them still after one event, and one that takes the dump has them
+/// A client that has the lines of all buffers has them still after one event, and one that takes the dump has them
 /// behind it.
 pub fn event_keeps_lines()
     ensures kept { StepMirrors }
     ensures dump { DumpMirrors }
 {}
 
-/// What the core always keeps of its lines and clients.
+/// What the core always keeps of its buffers, lines and clients.
 pub fn core_keeps()
     ensures event { StepKeeps }
     ensures run { RunKeeps }

@@ -1,4 +1,4 @@
-//! A client that settled holds the lines of the core buffer: it logged in, asked for all events by `sync`, and then
+//! A client that settled holds the lines of all buffers: it logged in, asked for all events by `sync`, and then
 //! took the line dump under an id of its own.
 #![tactic(auto)]
 

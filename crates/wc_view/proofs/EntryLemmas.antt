@@ -38,7 +38,7 @@ pub find_more : (h i : ℕ) (es : List Entry) (e : Entry) → i < length es → 
 find_more h i es e l is t n = ap (find nat_cmp h) (take_more es i e l) ∙ find_more_in h (take i es) (get_or es i e) (ap (λ z. eqb z.0 h) (sym is) ∙ t) n
 
 -- the entry at a place
-find_here : (h i : ℕ) (es : List Entry) (d : Entry) → i < length es → (get_or es i d).0 ≡ h → find nat_cmp h (take i es) ≡ None → find nat_cmp h es ≡ Some (get_or es i d).1
+pub find_here : (h i : ℕ) (es : List Entry) (d : Entry) → i < length es → (get_or es i d).0 ≡ h → find nat_cmp h (take i es) ≡ None → find nat_cmp h es ≡ Some (get_or es i d).1
 find_here h i [] d l a b = absurd (omega arith)
 find_here h zero (e ∷ es) d l a b = rw (tied h e.0, eq-eqb h e.0 (sym a)) refl
 find_here h (suc i) (e ∷ es) d l a b = by_bool (eq_by_cmp nat_cmp h e.0) _
@@ -60,7 +60,7 @@ find_set h (suc i) q (e ∷ es) v d l a b = by_bool (eq_by_cmp nat_cmp h e.0) _
 pub entry_lines : (h i : ℕ) (es : List Entry) (d : Entry) → i < length es → IsEntry h i es → lines_at (part_at es) h ≡ (get_or es i d).1
 entry_lines h i es d l e = ap (λ o. unwrap_or o []) (get-from_entries nat_cmp_total es h ∙ find_here h i es d l (e.at d) e.before)
 
-entry_set : (h i : ℕ) (es : List Entry) (v : List MirrorLine) (d : Entry) → i < length es → IsEntry h i es → part_at (set es i (h, v)) ≡ insert (part_at es) h v
+pub entry_set : (h i : ℕ) (es : List Entry) (v : List MirrorLine) (d : Entry) → i < length es → IsEntry h i es → part_at (set es i (h, v)) ≡ insert (part_at es) h v
 entry_set h i es v d l e = same_map nat_cmp_total nat_cmp-IsAntisymmetric _ _ (λ q.
     get-from_entries nat_cmp_total (set es i (h, v)) q ∙ find_set h i q es v d l (e.at d) e.before
     ∙ sym (get-insert nat_cmp_total (part_at es) h v q ∙ ap (cond (eq_by_cmp nat_cmp q h) (Some v)) (get-from_entries nat_cmp_total es q)))

@@ -1,7 +1,11 @@
+pub mod DumpLaw
 pub mod EachLemmas
+pub mod EditLemmas
 pub mod EntryLemmas
+pub mod FlipLaw
 pub mod IdLemmas
-pub mod LawLemmas
+pub mod LineTold
+pub mod NoticeLaw
 pub mod PartLemmas
 pub mod TakeLemmas
 pub mod TakeNone

@@ -1,9 +1,15 @@
 -- What a message changes of the lines that a client holds.
-use Rattle.std.specs.Prelude.{ℕ, List, Option, Some, None, codes, if◌then◌else◌, bytes_eq}
+use Rattle.std.specs.Prelude.{ℕ, Bool, ◌||◌, List, Option, Some, None, codes, option_map, if◌then◌else◌, bytes_eq}
+use Rattle.std.specs.Option.{option_and_then}
+use Rattle.wc_model.specs.declared.notice.EventKind.TheVariants as kind
 use Rattle.wc_objects.specs.declared.object.WireMessage.{WireMessage}
+use Rattle.wc_told.specs.BufferObjects.{id_of}
+use Rattle.wc_view.specs.declared.flags.LineFlag.{LineFlag}
 use Rattle.wc_view.specs.declared.rows.LineRow.{LineRow}
 use Rattle.wc_view.specs.Each.{only}
-use Rattle.wc_view.specs.Parts.{Part, with_row, part_of}
+use Rattle.wc_view.specs.Flags.{flags_on}
+use Rattle.wc_view.specs.Named.{buffer_named}
+use Rattle.wc_view.specs.Parts.{Part, with_row, part_of, without, with_flags}
 use Rattle.wc_view.specs.Rows.{rows_on}
 
 -- the dump sets the part
@@ -17,9 +23,18 @@ grown limit None part = part
 grown limit (Some row) None = None
 grown limit (Some row) (Some part) = Some (with_row limit row part)
 
+-- a buffer without its lines, where the part is set
+abbrev pub emptied : Option ℕ → Option Part → Option Part
+emptied None part = part
+emptied (Some buffer) part = option_map (without buffer) part
+
+-- flags of lines, where the part is set
+abbrev pub shown : Option (List LineFlag) → Option Part → Option Part
+shown None part = part
+shown (Some flags) part = option_map (λ part. with_flags part flags) part
+
 abbrev pub only_row : Option (List LineRow) → Option LineRow
-only_row None = None
-only_row (Some rows) = only rows
+only_row rows = option_and_then only rows
 
 abbrev pub fold_dump : ℕ → Option Part → WireMessage → Option Part
 fold_dump limit part message = dumped limit (rows_on (codes "buffer/lines/line/line_data") message.objects) part
@@ -27,9 +42,28 @@ fold_dump limit part message = dumped limit (rows_on (codes "buffer/lines/line/l
 abbrev pub fold_added : ℕ → Option Part → WireMessage → Option Part
 fold_added limit part message = grown limit (only_row (rows_on (codes "line_data") message.objects)) part
 
--- The reply under the id of the line dump, and the event of a new line, which has exactly one. Other messages,
--- and those whose keys or values are not those of lines, change nothing.
+abbrev pub fold_emptied : Option Part → WireMessage → Option Part
+fold_emptied part message = emptied (buffer_named message.objects) part
+
+abbrev pub fold_flags : Option Part → WireMessage → Option Part
+fold_flags part message = shown (flags_on message.objects) part
+
+-- a buffer that is closed or cleared has no lines any more
+abbrev pub empties : List ℕ → Bool
+empties id = bytes_eq id (id_of kind.Closing) || bytes_eq id (id_of kind.Cleared)
+
+abbrev pub fold_change : Option Part → WireMessage → Option Part
+fold_change part message =
+    if empties message.id then fold_emptied part message
+    else (if bytes_eq message.id (id_of kind.LineDataChanged) then fold_flags part message else part)
+
+abbrev pub fold_event : ℕ → Option Part → WireMessage → Option Part
+fold_event limit part message =
+    if bytes_eq message.id (id_of kind.LineAdded) then fold_added limit part message else fold_change part message
+
+-- The reply under the id of the line dump, and the events: of a new line, which has exactly one, of a buffer that is
+-- closed or cleared, and of flags of lines. Other messages, and those whose keys or values are not those of their
+-- kind, change nothing.
 abbrev pub fold_lines : ℕ → List ℕ → Option Part → WireMessage → Option Part
 fold_lines limit id part message =
-    if bytes_eq message.id id then fold_dump limit part message
-    else (if bytes_eq message.id (codes "_buffer_line_added") then fold_added limit part message else part)
+    if bytes_eq message.id id then fold_dump limit part message else fold_event limit part message

@@ -6,6 +6,10 @@ use Rattle.std.specs.List.{AllByRecursion}
 abbrev pub event_mark : ℕ
 event_mark = 95
 
+-- the id is that of no event
+abbrev pub IsFree : List ℕ → Type 0
+IsFree id = (slice_index id 0 == event_mark) ≡ false
+
 -- each differs from those behind it
 abbrev pub Differ : List (List ℕ) → Type 0
 Differ [] = Unit {0}
@@ -14,4 +18,4 @@ Differ (id ∷ ids) = AllByRecursion (λ other. bytes_eq id other ≡ false) ids
 -- they differ, and none is that of an event
 pub record AreIds (ids : List (List ℕ)) : Type 0 where
   pub apart : Differ ids
-  pub free : AllByRecursion (λ id. (slice_index id 0 == event_mark) ≡ false) ids
+  pub free : AllByRecursion IsFree ids

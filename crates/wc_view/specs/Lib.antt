@@ -1,7 +1,11 @@
 pub mod Each
 pub mod Entries
+pub mod Flags
+pub mod Flipped
 pub mod Fold
 pub mod Ids
+pub mod Items
+pub mod Named
 pub mod Parts
 pub mod Rows
 pub mod Taking

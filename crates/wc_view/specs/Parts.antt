@@ -1,9 +1,10 @@
 -- The lines of each buffer, as a client holds them.
-use Rattle.std.specs.Prelude.{ℕ, ◌==◌, List, [], ◌∷◌, ◌++◌, map, filter, unwrap_or}
-use Rattle.std.specs.FinMap.{FinMap, get, insert, from_entries}
+use Rattle.std.specs.Prelude.{ℕ, ◌==◌, List, [], ◌∷◌, ◌++◌, map, filter, fold, unwrap_or, Option, Some, None, if◌then◌else◌}
+use Rattle.std.specs.FinMap.{FinMap, get, insert, remove, from_entries}
 use Rattle.std.specs.Ordering.{nat_cmp}
 use Rattle.wc_lines.specs.Ring.{last_of}
 use Rattle.wc_view.specs.declared.mirror_line.MirrorLine.{MirrorLine}
+use Rattle.wc_view.specs.declared.flags.LineFlag.{LineFlag}
 use Rattle.wc_view.specs.declared.rows.LineRow.{LineRow}
 
 -- by the handles of the buffers
@@ -25,3 +26,25 @@ lines_of buffer rows = map (λ row. row.line) (filter (λ row. row.buffer == buf
 -- for each buffer that has lines among these, the last of them, up to the limit
 abbrev pub part_of : ℕ → List LineRow → Part
 part_of limit rows = from_entries (map (λ row. (row.buffer, last_of limit (lines_of row.buffer rows))) rows)
+
+-- the lines of a buffer gone
+abbrev pub without : ℕ → Part → Part
+without buffer part = remove part buffer
+
+-- a line with the flag set, where it has the content of the flag
+abbrev pub flagged_line : LineFlag → MirrorLine → MirrorLine
+flagged_line flag line = if line.content.0 == flag.content then record line { displayed = flag.displayed } else line
+
+abbrev pub flagged : LineFlag → List MirrorLine → List MirrorLine
+flagged flag lines = map (flagged_line flag) lines
+
+-- a flag of a line that is not held is passed over
+abbrev pub flagged_in : LineFlag → Part → Option (List MirrorLine) → Part
+flagged_in flag part None = part
+flagged_in flag part (Some lines) = insert part flag.buffer (flagged flag lines)
+
+abbrev pub with_flag : Part → LineFlag → Part
+with_flag part flag = flagged_in flag part (get part flag.buffer)
+
+abbrev pub with_flags : Part → List LineFlag → Part
+with_flags part flags = fold with_flag part flags

@@ -1,17 +1,14 @@
 -- The lines that a message tells.
-use Rattle.std.specs.Prelude.{ℕ, ◌-◌, Bool, false, ◌&&◌, List, [], ◌∷◌, length, Option, Some, None, if◌then◌else◌, bytes_eq}
-use Rattle.std.specs.List.{slice_get}
+use Rattle.std.specs.Prelude.{ℕ, List, [], ◌∷◌, Option, Some, None}
 use Rattle.std.specs.Option.{option_and_then}
-use Rattle.wc_objects.specs.declared.object.Object.{Object, out-Object}
-use Rattle.wc_objects.specs.declared.object.Object.TheOpen.{Object-F}
+use Rattle.wc_objects.specs.declared.object.Object.{Object}
 use Rattle.wc_objects.specs.declared.object.HdaItem.{HdaItem, out-HdaItem}
-use Rattle.wc_objects.specs.declared.object.Hda.{out-Hda}
-use Rattle.wc_objects.specs.Kinds.{Layer}
 use Rattle.wc_told.specs.LineObjects.{line_keys}
 use Rattle.wc_view.specs.declared.rows.LineMarks.{LineMarks}
 use Rattle.wc_view.specs.declared.rows.LineRow.{LineRow}
 use Rattle.wc_view.specs.declared.rows.LineTexts.{LineTexts}
 use Rattle.wc_view.specs.Each.{each}
+use Rattle.wc_view.specs.Items.{items_on, last_pointer}
 use Rattle.wc_view.specs.Values.{pointer_in, date_in, level_in, truth_in, text_in, texts_in}
 
 -- what the values say that are numbers
@@ -52,18 +49,8 @@ row_of content (buffer ∷ date ∷ printed ∷ displayed ∷ notify ∷ highlig
 row_of content _ = None
 
 unfoldable pub row_in : HdaItem → Option LineRow
-row_in item = row_of (slice_get (out-HdaItem item).pointers (length (out-HdaItem item).pointers - 1)) (out-HdaItem item).values
-
-abbrev pub is_text : List ℕ → Option (List ℕ) → Bool
-is_text text None = false
-is_text text (Some found) = bytes_eq found text
-
-abbrev pub rows_layer : List ℕ → Layer → Option (List LineRow)
-rows_layer path (Object-F.Hda hda) =
-    if is_text path (out-Hda hda).path && is_text line_keys (out-Hda hda).keys then each row_in (out-Hda hda).items else None
-rows_layer path _ = None
+row_in item = row_of (last_pointer item) (out-HdaItem item).values
 
 -- the lines of a message of one hda on this path with the keys of a line, each of whose items says a line
-unfoldable pub rows_on : List ℕ → List Object → Option (List LineRow)
-rows_on path (object ∷ []) = rows_layer path (out-Object object)
-rows_on path _ = None
+abbrev pub rows_on : List ℕ → List Object → Option (List LineRow)
+rows_on path objects = option_and_then (each row_in) (items_on path line_keys objects)

@@ -4,7 +4,7 @@ use Rattle.wc_objects.specs.declared.object.WireMessage.{WireMessage}
 use Rattle.wc_view.specs.declared.mirror.MirrorRefused.{MirrorRefused}
 use Rattle.wc_view.specs.declared.mirror.MirrorRefused.TheVariants.{BadMessage, NoMemory}
 use Rattle.wc_view.specs.Parts.{Part}
-use Rattle.wc_view.specs.Fold.{fold_dump, fold_added, fold_lines}
+use Rattle.wc_view.specs.Fold.{fold_dump, fold_added, fold_emptied, fold_flags, fold_change, fold_event, fold_lines}
 
 -- how many lines of a buffer are held at most, the id of the line dump, and the lines once it was taken
 pub record Mirrored : Type 0 where
@@ -20,6 +20,18 @@ with_dump mirrored message = record mirrored { lines = fold_dump mirrored.limit 
 
 abbrev pub with_added : Mirrored → WireMessage → Mirrored
 with_added mirrored message = record mirrored { lines = fold_added mirrored.limit mirrored.lines message }
+
+abbrev pub with_emptied : Mirrored → WireMessage → Mirrored
+with_emptied mirrored message = record mirrored { lines = fold_emptied mirrored.lines message }
+
+abbrev pub with_shown : Mirrored → WireMessage → Mirrored
+with_shown mirrored message = record mirrored { lines = fold_flags mirrored.lines message }
+
+abbrev pub with_change : Mirrored → WireMessage → Mirrored
+with_change mirrored message = record mirrored { lines = fold_change mirrored.lines message }
+
+abbrev pub with_event : Mirrored → WireMessage → Mirrored
+with_event mirrored message = record mirrored { lines = fold_event mirrored.limit mirrored.lines message }
 
 abbrev pub with_message : Mirrored → WireMessage → Mirrored
 with_message mirrored message = record mirrored { lines = fold_lines mirrored.limit mirrored.line_dump mirrored.lines message }

@@ -1,5 +1,4 @@
--- What the values of a line say. None where the value is of another kind, or has a number or a null text that a
--- line can not have.
+-- What values say. None where the value is of another kind, or has a number or a null text that it can not have.
 use Rattle.std.specs.Prelude.{ℕ, ℤ, pos, Bool, true, false, List, Option, Some, None, if◌then◌else◌}
 use Rattle.std.specs.Ordering.{int_eq}
 use Rattle.wc_objects.specs.declared.kind.Kind.TheVariants.{Str}
@@ -22,6 +21,14 @@ date_layer _ = None
 
 abbrev pub date_in : Object → Option ℕ
 date_in value = date_layer (out-Object value)
+
+-- a number is not negative
+abbrev pub number_layer : Layer → Option ℕ
+number_layer (Object-F.Int (pos n)) = Some n
+number_layer _ = None
+
+abbrev pub number_in : Object → Option ℕ
+number_in value = number_layer (out-Object value)
 
 abbrev pub level_layer : Layer → Option ℤ
 level_layer (Object-F.Chr n) = Some n

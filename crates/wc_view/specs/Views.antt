@@ -1,11 +1,19 @@
--- What a client has of a buffer, where it has the lines that the buffer holds.
-use Rattle.std.specs.Prelude.{◌≡◌, ℕ, ◌^◌, ◌-◌, ◌≤◌, nat_le, false, ◌==◌, List, [], ◌∷◌, ◌++◌, length, map, codes, bytes_eq, Option, None, Some, if◌then◌else◌}
-use Rattle.wc_text.specs.declared.names.Handle.{Handle}
+-- What a client has of the lines of a world.
+use Rattle.std.specs.Prelude.{◌≡◌, ℕ, ◌^◌, ◌-◌, ◌<◌, ◌≤◌, nat_le, true, false, List, [], length, map, Option, None, Some, if◌then◌else◌}
 use Rattle.wc_lines.specs.declared.line.Line.{Line}
-use Rattle.wc_lines.specs.Ring.{last_of}
+use Rattle.wc_buffers.specs.Groups.{has, times}
+use Rattle.wc_buffers.specs.Calls.{handle_of}
+use Rattle.wc_model.specs.declared.change.Change.{Change}
+use Rattle.wc_model.specs.declared.change.What.{What}
+use Rattle.wc_model.specs.declared.change.What.TheVariants.{Rename, Flips}
+use Rattle.wc_model.specs.World.{World, lines_at as lines_in}
+use Rattle.wc_model.specs.Apply.{refusal, after}
+use Rattle.wc_model.specs.Notices.{notice}
 use Rattle.wc_objects.specs.declared.object.WireMessage.{WireMessage}
-use Rattle.wc_told.specs.LineObjects.{line_dump, line_added}
+use Rattle.wc_told.specs.LineObjects.{line_dump}
+use Rattle.wc_told.specs.BufferObjects.{event_of}
 use Rattle.wc_view.specs.declared.mirror_line.MirrorLine.{MirrorLine}
+use Rattle.wc_view.specs.Ids.{IsFree}
 use Rattle.wc_view.specs.Parts.{Part, lines_at}
 use Rattle.wc_view.specs.Fold.{fold_lines}
 
@@ -35,20 +43,40 @@ abbrev pub HasLines : Option Part → ℕ → List Line → Type 0
 HasLines None buffer lines = ⊥
 HasLines (Some held) buffer lines = lines_at held buffer ≡ view_of lines
 
--- the reply to the line dump of a buffer that holds these lines
-abbrev pub reply : List ℕ → Handle → Handle → List Line → WireMessage
-reply id buffer own lines = record { id = id; objects = line_dump buffer own lines }
+-- the same of each buffer of a world, and of each other handle that it has no lines
+abbrev pub HasAll : Option Part → World → Type 0
+HasAll part world = (buffer : ℕ) → HasLines part buffer (lines_in world buffer)
 
--- After the reply a client has the lines that the buffer holds, and none of another one.
+-- What always holds of a world: no buffer is there twice, the handles of buffers were drawn, a buffer holds no more
+-- lines than the limit, and one that is not there holds none.
+pub record Stands (world : World) : Type 0 where
+  pub once : (buffer : ℕ) → times handle_of buffer world.groups ≤ 1
+  pub drawn : (buffer : ℕ) → has handle_of buffer world.groups ≡ true → buffer < world.next
+  pub within : (buffer : ℕ) → length (lines_in world buffer) ≤ world.limit
+  pub gone : (buffer : ℕ) → has handle_of buffer world.groups ≡ false → lines_in world buffer ≡ []
+
+-- the reply to the line dump
+abbrev pub reply : List ℕ → World → WireMessage
+reply id world = record { id = id; objects = line_dump world }
+
+-- After the reply a client has the lines of the world, whatever it had before.
 abbrev pub DumpShows : Type 0
-DumpShows = (limit : ℕ) (id : List ℕ) (part : Option Part) (buffer own : Handle) (lines : List Line) → length lines ≤ limit
-    → HasLines (fold_lines limit id part (reply id buffer own lines)) buffer.0 lines
-    × ((other : ℕ) → (buffer.0 == other) ≡ false → HasLines (fold_lines limit id part (reply id buffer own lines)) other [])
+DumpShows = (limit : ℕ) (id : List ℕ) (part : Option Part) (world : World) → Stands world → world.limit ≡ limit
+    → HasAll (fold_lines limit id part (reply id world)) world
 
--- After the event of a new line a client that had the lines has them with the new one, up to the limit, and the
--- lines of each other buffer as before.
-abbrev pub EventShows : Type 0
-EventShows = (limit : ℕ) (id : List ℕ) (part : Option Part) (buffer : Handle) (lines : List Line) (line : Line)
-    → bytes_eq (codes "_buffer_line_added") id ≡ false → HasLines part buffer.0 lines
-    → HasLines (fold_lines limit id part (line_added buffer line)) buffer.0 (last_of limit (lines ++ line ∷ []))
-    × ((other : ℕ) (held : List Line) → (buffer.0 == other) ≡ false → HasLines part other held → HasLines (fold_lines limit id part (line_added buffer line)) other held)
+-- the lines behind an event, where there is one
+abbrev pub fold_told : ℕ → List ℕ → Option Part → Option WireMessage → Option Part
+fold_told limit id part None = part
+fold_told limit id part (Some message) = fold_lines limit id part message
+
+-- a change that sets no flags of lines
+abbrev pub SetsNoFlags : What → Type 0
+SetsNoFlags (Rename name flips) = flips ≡ []
+SetsNoFlags (Flips flips) = ⊥
+SetsNoFlags _ = Unit {0}
+
+-- After the event of a change a client that had the lines of the world has those of the world behind it.
+abbrev pub NoticeShows : Type 0
+NoticeShows = (limit : ℕ) (id : List ℕ) (part : Option Part) (world : World) (change : Change)
+    → Stands world → world.limit ≡ limit → IsFree id → refusal world change ≡ None → SetsNoFlags change.what → HasAll part world
+    → HasAll (fold_told limit id part (event_of (after world change) (notice world change))) (after world change)

@@ -5,8 +5,9 @@ ghost use Rattle.std.specs.FinMap.{find};
 ghost use Rattle.std.specs.Ordering.{nat_cmp};
 ghost use Rattle.wc_lines.specs.Ring.{last_of};
 ghost use Rattle.wc_view.specs.Entries.{part_at, IsEntry};
-ghost use Rattle.wc_view.specs.Parts.{lines_at, with_row, part_of};
+ghost use Rattle.wc_view.specs.Parts.{lines_at, with_row, part_of, without, flagged_line, flagged, with_flag, with_flags};
 
+use crate::flags::LineFlag;
 use crate::mirror_line::MirrorLine;
 use crate::rows::LineRow;
 use std::alloc::Global;
@@ -63,6 +64,31 @@ impl BufferLines {
             }
             Err(_) => Err(NoMemory),
         }
+    }
+
+    /// Sets the flag in the lines of its content.
+    fn set_flag(&mut self, flag: LineFlag)
+        ensures { self.new ≡ (self.old.0, flagged flag self.old.1) }
+    {
+        flag_lines(self.lines.as_mut_slice(), flag);
+    }
+}
+
+/// Sets the flag in a line, where it has the content of the flag.
+fn flag_line(line: &mut MirrorLine, flag: LineFlag)
+    ensures { line.new ≡ flagged_line flag line.old }
+{
+    if line.content.0 == flag.content {
+        line.displayed = flag.displayed;
+    }
+}
+
+/// Sets the flag in the lines of its content.
+fn flag_lines(lines: &mut [MirrorLine], flag: LineFlag)
+    ensures { lines.new ≡ flagged flag lines.old }
+{
+    for line in lines.iter_mut() {
+        flag_line(line, flag);
     }
 }
 
@@ -142,4 +168,31 @@ pub(crate) fn of_rows(
         add_row(&mut entries, alloc, row, limit)?;
     }
     Ok(entries)
+}
+
+/// Takes the lines of a buffer out.
+#[tactic(auto, using(crate::proofs::EditLemmas::gone))]
+pub(crate) fn remove_buffer(entries: &mut Vec<BufferLines>, buffer: u64)
+    ensures { part_at entries.new.items ≡ without buffer (part_at entries.old.items) }
+{
+    entries.retain(|entry| entry.buffer() != buffer);
+}
+
+/// Sets the flag of a line, where the line is there.
+#[tactic(auto, using(crate::proofs::EditLemmas::flag_at, crate::proofs::EditLemmas::flag_nowhere))]
+fn set_flag(entries: &mut [BufferLines], flag: LineFlag)
+    ensures { part_at entries.new ≡ with_flag (part_at entries.old) flag }
+{
+    if let Some(place) = place_of(entries, flag.buffer) {
+        entries[place].set_flag(flag);
+    }
+}
+
+/// Sets the flags of lines, of those that are there.
+pub(crate) fn set_flags(entries: &mut [BufferLines], flags: &[LineFlag])
+    ensures { part_at entries.new ≡ with_flags (part_at entries.old) flags.now }
+{
+    for flag in flags {
+        set_flag(entries, *flag);
+    }
 }

@@ -1,13 +1,19 @@
-//! What holds of each mirror of a buffer's lines.
+//! What holds of each mirror of the lines of a world.
 
-ghost use Rattle.wc_view.specs.Views.{DumpShows, EventShows};
+ghost use Rattle.wc_view.specs.Flipped.{FlipsShow};
+ghost use Rattle.wc_view.specs.Views.{DumpShows, NoticeShows};
 
-/// After the reply to the line dump a client has the lines that the buffer holds.
-pub fn dump_shows_lines()
+/// After the reply to the line dump a client has the lines of the world.
+pub fn dump_shows_world()
     ensures { DumpShows }
 {}
 
-/// A client that has the lines of a buffer has them still after the event of a new line.
-pub fn event_shows_line()
-    ensures { EventShows }
+/// A client that has the lines of a world has those of the world behind a change after the event of the change.
+pub fn notice_shows_world()
+    ensures { NoticeShows }
+{}
+
+/// The same of any change, where behind its event each buffer with lines whose flags differ has an event of these.
+pub fn flips_show_world()
+    ensures { FlipsShow }
 {}

@@ -2,18 +2,22 @@ ghost use Rattle.std.specs.Prelude.{◌≡◌, ℕ, ◌≤◌, List, Option, Som
 ghost use Rattle.wc_objects.specs.declared.object.WireMessage.{WireMessage};
 ghost use Rattle.wc_objects.specs.Spells.{FrontSpells, misses_bytes};
 ghost use Rattle.wc_objects.specs.Reading.{GivesFirst, first_message};
+ghost use Rattle.wc_view.specs.Fold.{empties};
 ghost use Rattle.wc_view.specs.Ids.{AreIds};
 ghost use Rattle.wc_view.specs.Parts.{Part, lines_at};
-ghost use Rattle.wc_view.specs.Taking.{Mirrored, nothing_taken, with_dump, with_added, with_message, Takes};
+ghost use Rattle.wc_view.specs.Taking.{Mirrored, nothing_taken, with_dump, with_added, with_emptied, with_shown, with_change, with_event, with_message, Takes};
 
-use crate::buffer_lines::{BufferLines, add_row, lines_of, of_rows};
+use crate::buffer_lines::{BufferLines, add_row, lines_of, of_rows, remove_buffer, set_flags};
+use crate::flags::flags_on;
 use crate::mirror_line::MirrorLine;
+use crate::named::buffer_named;
 use crate::rows::{only_row, rows_on};
 use std::alloc::Global;
 use std::marker::Model;
+use wc_model::EventKind;
 use wc_objects::{MessageRefused, WireMessage, read_message};
 use wc_text::{Handle, NoMemory, Text};
-use wc_told::LINE_ADDED;
+use wc_told::event_id;
 
 /// Why bytes were not taken.
 #[derive(Clone, Copy, Debug, PartialEq, Eq, thiserror::Error)]
@@ -94,16 +98,68 @@ impl Mirror {
         ensures ok { OnOk result (self.new ≡ with_added self.old message.now) }
         ensures err { OnErr result (self.new ≡ self.old) }
     {
-        let Some(entries) = &mut self.lines else {
+        let Some(held) = &mut self.lines else {
             return Ok(());
         };
         let Some(rows) = rows_on(alloc, b"line_data", &message.objects)? else {
             return Ok(());
         };
         match only_row(rows) {
-            Some(row) => add_row(entries, alloc, row, self.limit),
+            Some(row) => add_row(held, alloc, row, self.limit),
             None => Ok(()),
         }
+    }
+
+    /// A buffer that is closed or cleared has no lines any more, once the dump was taken.
+    fn take_emptied(&mut self, message: &WireMessage)
+        ensures { self.new ≡ with_emptied self.old message.now }
+    {
+        let Some(entries) = &mut self.lines else {
+            return;
+        };
+        if let Some(buffer) = buffer_named(&message.objects) {
+            remove_buffer(entries, buffer);
+        }
+    }
+
+    /// Flags of lines are set, once the dump was taken.
+    fn take_flags(&mut self, alloc: Global, message: &WireMessage) -> Result<(), NoMemory>
+        ensures ok { OnOk result (self.new ≡ with_shown self.old message.now) }
+        ensures err { OnErr result (self.new ≡ self.old) }
+    {
+        let Some(entries) = &mut self.lines else {
+            return Ok(());
+        };
+        if let Some(flags) = flags_on(alloc, &message.objects)? {
+            set_flags(entries.as_mut_slice(), flags.as_slice());
+        }
+        Ok(())
+    }
+
+    /// Folds the event of a change of lines that are held.
+    fn take_change(&mut self, alloc: Global, message: &WireMessage) -> Result<(), NoMemory>
+        ensures ok { OnOk result (self.new ≡ with_change self.old message.now) }
+        ensures err { OnErr result (self.new ≡ self.old) }
+    {
+        if empties(message.id.as_slice()) {
+            self.take_emptied(message);
+            return Ok(());
+        }
+        if message.id.as_slice() == event_id(EventKind::LineDataChanged) {
+            return self.take_flags(alloc, message);
+        }
+        Ok(())
+    }
+
+    /// Folds an event.
+    fn take_event(&mut self, alloc: Global, message: &WireMessage) -> Result<(), NoMemory>
+        ensures ok { OnOk result (self.new ≡ with_event self.old message.now) }
+        ensures err { OnErr result (self.new ≡ self.old) }
+    {
+        if message.id.as_slice() == event_id(EventKind::LineAdded) {
+            return self.take_line(alloc, message);
+        }
+        self.take_change(alloc, message)
     }
 
     /// Folds a message. Where memory is refused, nothing changes.
@@ -114,10 +170,7 @@ impl Mirror {
         if message.id.as_slice() == self.line_dump.as_slice() {
             return self.take_dump(alloc, message);
         }
-        if message.id.as_slice() == LINE_ADDED {
-            return self.take_line(alloc, message);
-        }
-        Ok(())
+        self.take_event(alloc, message)
     }
 
     /// Folds the message at the front of the bytes, as `take` does.
@@ -153,6 +206,13 @@ impl Mirror {
     {
         self.take_front(alloc, bytes)
     }
+}
+
+/// Whether after the event of this id its buffer has no lines any more.
+fn empties(id: &[u8]) -> bool
+    ensures { result ≡ empties id.now }
+{
+    id == event_id(EventKind::Closing) || id == event_id(EventKind::Cleared)
 }
 
 /// The message at the front of the bytes, as `read_message` gives it.

@@ -2,9 +2,9 @@
 
 ghost use Rattle.std.specs.Prelude.{◌≡◌, Option, option_map, List, IfOk};
 ghost use Rattle.wc_view.specs.Each.{each, only};
-ghost use Rattle.wc_view.specs.Rows.{marks_in, line_texts_in, row_with, row_in, rows_on, rows_layer, is_text};
-ghost use Rattle.wc_objects.specs.declared.object.Object.{out-Object};
+ghost use Rattle.wc_view.specs.Rows.{marks_in, line_texts_in, row_with, row_in, rows_on};
 
+use crate::items::{items_on, last_pointer};
 use crate::mirror_line::MirrorLine;
 use crate::values::{date_in, level_in, pointer_in, text_copy, texts_in, truth_in};
 use std::alloc::Global;
@@ -132,7 +132,7 @@ fn row_with(content: u64, marks: LineMarks, texts: LineTexts) -> LineRow
 fn row_in(alloc: Global, item: &HdaItem) -> Result<Option<LineRow>, NoMemory>
     ensures { IfOk result (λ row. row ≡ row_in item.now) }
 {
-    let Some(content) = item.pointers.as_slice().last() else {
+    let Some(content) = last_pointer(item) else {
         return Ok(None);
     };
     let [
@@ -155,7 +155,7 @@ fn row_in(alloc: Global, item: &HdaItem) -> Result<Option<LineRow>, NoMemory>
     let Some(texts) = line_texts_in(alloc, tags, prefix, message)? else {
         return Ok(None);
     };
-    Ok(Some(row_with(*content, marks, texts)))
+    Ok(Some(row_with(content, marks, texts)))
 }
 
 /// The lines that items say. None where one says none.
@@ -175,18 +175,8 @@ fn each_row(alloc: Global, items: &Items<HdaItem>) -> Result<Option<Vec<LineRow>
     Ok(Some(rows))
 }
 
-fn is_text(found: &Option<Text>, text: &[u8]) -> bool
-    ensures { result ≡ is_text text.now found.now }
-{
-    match found {
-        Some(found) => found.as_slice() == text,
-        None => false,
-    }
-}
-
 /// The lines of a message of one `hda` on this path with the keys of a line. None of any other message, and where
 /// some item says no line.
-#[tactic(auto, unfolding(crate::specs::Rows::rows_on))]
 pub(crate) fn rows_on(
     alloc: Global,
     path: &[u8],
@@ -194,13 +184,9 @@ pub(crate) fn rows_on(
 ) -> Result<Option<Vec<LineRow>>, NoMemory>
     ensures { IfOk result (λ rows. option_map (λ v. v.items) rows ≡ rows_on path.now objects.now) }
 {
-    let [Object::Hda(hda)] = objects.as_slice() else {
-        return Ok(None);
-    };
-    if is_text(&hda.path, path) && is_text(&hda.keys, LINE_KEYS) {
-        each_row(alloc, &hda.items)
-    } else {
-        Ok(None)
+    match items_on(path, LINE_KEYS, objects) {
+        Some(items) => each_row(alloc, items),
+        None => Ok(None),
     }
 }
 

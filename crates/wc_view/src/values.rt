@@ -1,8 +1,8 @@
-//! What the values of a line say. None where a value is of another kind, or is none that a line can have.
+//! What values say. None where a value is of another kind, or has a number or a null text that it can not have.
 
 ghost use Rattle.std.specs.Prelude.{◌≡◌, None, Some, MatchOption, IfOk};
 ghost use Rattle.wc_view.specs.Each.{each};
-ghost use Rattle.wc_view.specs.Values.{pointer_in, date_in, level_in, truth_of, truth_in, text_in, texts_in};
+ghost use Rattle.wc_view.specs.Values.{pointer_in, date_in, number_in, level_in, truth_of, truth_in, text_in, texts_in};
 
 use std::alloc::Global;
 use wc_objects::{Kind, Object};
@@ -22,6 +22,16 @@ pub(crate) fn date_in(value: &Object) -> Option<u64>
 {
     match value {
         Object::Tim(date) => u64::try_from(*date).ok(),
+        _ => None,
+    }
+}
+
+/// A number is not negative.
+pub(crate) fn number_in(value: &Object) -> Option<u32>
+    ensures { result ≡ number_in value.now }
+{
+    match value {
+        Object::Int(number) => u32::try_from(*number).ok(),
         _ => None,
     }
 }
@@ -54,7 +64,7 @@ pub(crate) fn truth_in(value: &Object) -> Option<bool>
     }
 }
 
-fn text_in(value: &Object) -> Option<&Text>
+pub(crate) fn text_in(value: &Object) -> Option<&Text>
     ensures { MatchOption result (text_in value.now ≡ None) (λ text. text_in value.now ≡ Some text.now) }
 {
     match value {

@@ -1,0 +1,176 @@
+-- Changes reach the client that follows them.
+use Rattle.std.proofs.Common.{◌≡◌, ℕ, Bool, true, false, cond, not, List, [], ◌∷◌, ◌++◌, Option, Some, None, refl, sym, ap, subst, ◌∙◌, eqb, IsUtf8}
+use Rattle.std.specs.List.{AllByRecursion, flat_map}
+use Rattle.std.proofs.lemmas.Bool.{false≢true}
+use Rattle.std.proofs.lemmas.List.Elements.{All-nil}
+use Rattle.wc_text.specs.declared.names.Handle.{Handle}
+use Rattle.wc_buffers.specs.Calls.{is_there}
+use Rattle.wc_model.specs.declared.change.Change.{Change}
+use Rattle.wc_model.specs.declared.change.What.{What}
+use Rattle.wc_model.specs.declared.change.What.TheVariants as what
+use Rattle.wc_model.specs.declared.notice.Notice.{Notice}
+use Rattle.wc_model.specs.declared.refused.ChangeRefused.{ChangeRefused}
+use Rattle.wc_model.specs.World.{World}
+use Rattle.wc_model.specs.Apply.{refusal, after}
+use Rattle.wc_model.specs.Notices.{notice}
+use Rattle.wc_objects.specs.declared.object.WireMessage.{WireMessage}
+use Rattle.wc_relaycmd.specs.Cuts.{BeginsWithout}
+use Rattle.wc_session.specs.declared.client.Client.{Client}
+use Rattle.wc_session.specs.Event.{event_messages, notice_told}
+use Rattle.wc_session.specs.Sync.{follows}
+use Rattle.wc_view.specs.Parts.{Part}
+use Rattle.wc_view.specs.Fold.{fold_lines}
+use Rattle.wc_view.specs.Views.{HasAll, SetsNoFlags}
+use Rattle.wc_view.proofs.NoticeLaw.{notice_shows}
+use Rattle.wc_core.specs.Resolved.{Resolved, Stays, Ends as ResolvedEnds, Tells as TellsRefusal, Asks, resolved, refusal_text, told_refusal}
+use Rattle.wc_core.specs.State.{State, Act, Stepped}
+use Rattle.wc_core.specs.Step.{client_link, stays, then_does, sends, told_to, told_all, changes, changes_if, tells, asks_if, asks, does_resolved, does, is_quit, runs}
+use Rattle.wc_core.specs.Typed.{typed_line}
+use Rattle.wc_core.specs.Served.{messages_to}
+use Rattle.wc_core.proofs.MessageLemmas.{messages_to-append}
+use Rattle.wc_settled.specs.Settled.{client_on, is_following}
+use Rattle.wc_settled.specs.Kept.{IsKept}
+use Rattle.wc_settled.specs.Mirrors.{fold_all, mirror_after}
+use Rattle.wc_settled.proofs.ClientLemmas.{following-heard, first-heard, told-first, told_each, messages-sends}
+use Rattle.wc_settled.proofs.IdLemmas.{id_free}
+use Rattle.wc_settled.proofs.NoticeLemmas.{telling, stands}
+use Rattle.wc_settled.proofs.TellingLemmas.{AllSpelt, event_spelt, folds_event}
+use Rattle.wc_settled.proofs.TypedLemmas.{OnAsks, typed_text, resolved_told}
+use Rattle.wc_settled.proofs.WorldLemmas.{IsTold, after_kept}
+
+pub fold_all-append : (limit : ℕ) (id : List ℕ) (part : Option Part) (a b : List WireMessage) → fold_all limit id part (a ++ b) ≡ fold_all limit id (fold_all limit id part a) b
+fold_all-append limit id part [] b = refl
+fold_all-append limit id part (m ∷ a) b = fold_all-append limit id (fold_lines limit id part m) a b
+
+pub mirror-append : (limit link : ℕ) (id : List ℕ) (part : Option Part) (a b : List Act) → mirror_after limit link id part (a ++ b) ≡ mirror_after limit link id (mirror_after limit link id part a) b
+mirror-append limit link id part a b =
+    ap (fold_all limit id part) (messages_to-append link a b) ∙ fold_all-append limit id part (messages_to link a) (messages_to link b)
+
+-- ---- the messages of acts
+
+pub both_spelt : (a b : List WireMessage) → AllSpelt a → AllSpelt b → AllSpelt (a ++ b)
+both_spelt [] b p q = q
+both_spelt (m ∷ a) b p q = (p.0, both_spelt a b p.1 q)
+
+pub acts_spelt : (link : ℕ) (a b : List Act) → AllSpelt (messages_to link a) → AllSpelt (messages_to link b) → AllSpelt (messages_to link (a ++ b))
+acts_spelt link a b p q = subst AllSpelt (sym (messages_to-append link a b)) (both_spelt (messages_to link a) (messages_to link b) p q)
+
+pub sends_spelt : (link k : ℕ) (messages : List WireMessage) → AllSpelt messages → AllSpelt (messages_to link (sends k messages))
+sends_spelt link k messages all = subst AllSpelt (sym (messages-sends link k messages)) (by (eqb k link)) where
+  by : (b : Bool) → AllSpelt (cond b messages [])
+  by true = all
+  by false = tt
+
+told_spelt : (world : World) (n : Notice) (client : Client) → AllSpelt (event_messages world n) → AllSpelt (notice_told world n client)
+unfolding notice_told
+told_spelt world n client all = by (follows n.kind n.buffer.0 client) where
+  by : (b : Bool) → AllSpelt (cond b (event_messages world n) [])
+  by true = all
+  by false = tt
+
+clients_spelt : (link : ℕ) (world : World) (n : Notice) (clients : List Client) → AllSpelt (event_messages world n) → AllSpelt (messages_to link (flat_map (told_to world n) clients))
+clients_spelt link world n [] all = tt
+clients_spelt link world n (client ∷ clients) all =
+    acts_spelt link (told_to world n client) (flat_map (told_to world n) clients)
+    (sends_spelt link (client_link client) (notice_told world n client) (told_spelt world n client all)) (clients_spelt link world n clients all)
+
+-- ---- what is done
+
+-- What is done to the world: what always holds does so still, each message keeps the rules, and a client that follows has
+-- the lines after it.
+pub record Tells (limit link : ℕ) (id : List ℕ) (state : State) (stepped : Stepped) : Type 0 where
+  pub following : is_following (client_on link stepped.state) ≡ is_following (client_on link state)
+  pub kept : IsKept limit link stepped.state
+  pub spelt : AllSpelt (messages_to link stepped.acts)
+  pub right : is_following (client_on link state) ≡ true → (part : Option Part) → HasAll part state.world → HasAll (mirror_after limit link id part stepped.acts) stepped.state.world
+
+Tells-stays : (limit link : ℕ) (id : List ℕ) (state : State) → IsKept limit link state → Tells limit link id state (stays state)
+Tells-stays limit link id state kept = record { following = refl; kept = kept; spelt = tt; right = λ follows part had. had }
+
+Tells-then : (limit link : ℕ) (id : List ℕ) (state : State) (first : Stepped) (others : State → Stepped) → Tells limit link id state first → Tells limit link id first.state (others first.state)
+    → Tells limit link id state (then_does first others)
+Tells-then limit link id state first others a b = record {
+  following = b.following ∙ a.following;
+  kept = b.kept;
+  spelt = acts_spelt link first.acts (others first.state).acts a.spelt b.spelt;
+  right = λ follows part had.
+      let last = (others first.state).state.world in
+      subst (λ part. HasAll part last) (sym (mirror-append limit link id part first.acts (others first.state).acts))
+      (b.right (a.following ∙ follows) (mirror_after limit link id part first.acts) (a.right follows part had));
+}
+
+-- ---- a change
+
+no_flags : (a : What) → IsTold a → SetsNoFlags a
+no_flags (what.Rename name flips) told = told.1
+no_flags (what.Flips flips) told = told
+no_flags _ told = tt
+
+-- the messages that the client of a link is sent, where it follows all events
+told_event : (limit link : ℕ) (state : State) (world : World) (n : Notice) → IsKept limit link state → is_following (client_on link state) ≡ true
+    → messages_to link (told_all state world n).acts ≡ event_messages world n
+told_event limit link state world n kept follows = by (client_on link state) refl follows where
+  by : (o : Option Client) → client_on link state ≡ o → is_following o ≡ true → messages_to link (flat_map (told_to world n) state.clients) ≡ event_messages world n
+  by None at e = absurd (false≢true e)
+  by (Some client) at e = told-first link world n state.clients client kept.first at ∙ told_each link world n client e
+
+Tells-changes : (limit link : ℕ) (id : List ℕ) (state : State) (change : Change) → BeginsWithout 95 id → IsKept limit link state → IsTold change.what
+    → refusal state.world change ≡ None → Tells limit link id state (changes state change)
+Tells-changes limit link id state change free kept told good =
+    let w = state.world in
+    let v = after w change in
+    let n = notice w change in
+    let is = after_kept limit w change.buffer change.what kept.world told good in
+    let tells = telling limit w change.buffer change.what kept.world told good in
+    record {
+      following = following-heard n.kind n.buffer.0 link state.clients;
+      kept = record { most = kept.most; world = is; first = first-heard n.kind n.buffer.0 link state.clients kept.first };
+      spelt = clients_spelt link v n state.clients (event_spelt limit v n is tells);
+      right = λ follows part had.
+          let heard_all = ap (fold_all limit id part) (told_event limit link state v n kept follows) ∙ folds_event limit id part v n is tells (id_free id free) in
+          subst (λ part. HasAll part v) (sym heard_all)
+          (notice_shows limit id part w change (stands limit w kept.world) kept.world.same (id_free id free) good (no_flags change.what told) had);
+    }
+
+-- a refusal that is told
+Tells-tells : (limit link : ℕ) (id : List ℕ) (state : State) (text : List ℕ) → BeginsWithout 95 id → IsKept limit link state → Tells limit link id state (tells state text)
+Tells-tells limit link id state text free kept = by (refusal state.world (told_refusal state.moment text)) refl where
+  by : (o : Option ChangeRefused) → refusal state.world (told_refusal state.moment text) ≡ o → Tells limit link id state (changes_if state (told_refusal state.moment text) o)
+  by None good = Tells-changes limit link id state (told_refusal state.moment text) free kept (All-nil IsUtf8, refl) good
+  by (Some reason) good = Tells-stays limit link id state kept
+
+-- ---- what is typed
+
+Tells-asks : (limit link : ℕ) (id : List ℕ) (state : State) (change : Change) → BeginsWithout 95 id → IsKept limit link state → IsTold change.what → Tells limit link id state (asks state change)
+Tells-asks limit link id state change free kept told = by (refusal state.world change) refl where
+  by : (o : Option ChangeRefused) → refusal state.world change ≡ o → Tells limit link id state (asks_if state change o)
+  by None good = Tells-changes limit link id state change free kept told good
+  by (Some reason) good = Tells-tells limit link id state (refusal_text reason) free kept
+
+Tells-resolved : (limit link : ℕ) (id : List ℕ) (state : State) (r : Resolved) → BeginsWithout 95 id → IsKept limit link state → OnAsks r → Tells limit link id state (does_resolved state r)
+Tells-resolved limit link id state Stays free kept told = Tells-stays limit link id state kept
+Tells-resolved limit link id state ResolvedEnds free kept told = record { following = refl; kept = kept; spelt = tt; right = λ follows part had. had }
+Tells-resolved limit link id state (TellsRefusal text) free kept told = Tells-tells limit link id state text free kept
+Tells-resolved limit link id state (Asks change) free kept told = Tells-asks limit link id state change free kept told
+
+Tells-does : (limit link : ℕ) (id : List ℕ) (state : State) (buffer : Handle) (line : List ℕ) → BeginsWithout 95 id → IsKept limit link state → IsUtf8 line
+    → Tells limit link id state (does state buffer (typed_line line))
+Tells-does limit link id state buffer line free kept utf8 =
+    Tells-resolved limit link id state (resolved state.world state.moment buffer (typed_line line)) free kept
+    (resolved_told limit state.world state.moment buffer (typed_line line) kept.world (typed_text line utf8))
+
+pub Tells-runs : (limit link : ℕ) (id : List ℕ) (state : State) (buffer : Handle) (lines : List (List ℕ)) → BeginsWithout 95 id → IsKept limit link state → AllByRecursion IsUtf8 lines
+    → Tells limit link id state (runs state buffer lines)
+Tells-runs limit link id state buffer [] free kept utf8 = Tells-stays limit link id state kept
+Tells-runs limit link id state buffer (line ∷ lines) free kept utf8 =
+    by (not (is_there buffer state.world.groups)) (is_quit (typed_line line)) (Tells-does limit link id state buffer line free kept utf8.0)
+    (λ next k. Tells-runs limit link id next buffer lines free k utf8.1)
+  where
+    one : Stepped
+    one = does state buffer (typed_line line)
+
+    by : (gone quits : Bool) → Tells limit link id state one → ((next : State) → IsKept limit link next → Tells limit link id next (runs next buffer lines))
+        → Tells limit link id state (cond gone (stays state) (cond quits one (then_does one (λ next. runs next buffer lines))))
+    by true quits first others = Tells-stays limit link id state kept
+    by false true first others = first
+    by false false first others = Tells-then limit link id state one (λ next. runs next buffer lines) first (others one.state first.kept)

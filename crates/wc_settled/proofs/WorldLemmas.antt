@@ -1,0 +1,433 @@
+-- What always holds of the world holds still after a change.
+use Rattle.std.proofs.Common.{◌≡◌, ℕ, ◌+◌, ◌-◌, ◌<◌, ◌≤◌, ◌^◌, Bool, true, false, cond, ◌&&◌, ◌||◌, eqb, ltb, List, [], ◌∷◌, ◌++◌, length, map, sum_by, All, Option, Some, None, unwrap_or, refl, sym, ap, subst, ◌∙◌, arith, eq-eqb, eqb-true, IsUtf8, map-id}
+use Rattle.std.specs.Prelude.{pos}
+use Rattle.std.specs.List.{AllByRecursion, list_any}
+use Rattle.std.specs.FinMap.{find as find_entry, get, insert, remove, empty, entries, get-insert, get-remove, get-empty, get-entries, get-from_entries}
+use Rattle.std.specs.Ordering.{nat_cmp, eq_by_cmp}
+use Rattle.std.specs.Cmp.{nat_cmp_total, unsigned_tied}
+use Rattle.std.proofs.lemmas.Bool.{false≢true, or_parts}
+use Rattle.std.proofs.lemmas.Bool.Decides.{nat_tests}
+use Rattle.std.proofs.lemmas.List.{length-map, map-append, length-drop, length-take}
+use Rattle.std.proofs.lemmas.List.Elements.{All-nil, All-push, All-drop, All-take}
+use Rattle.std.proofs.lemmas.List.Sums.{sum_by-cons}
+use Rattle.std.proofs.lemmas.List.Folds.{list_any-append}
+use Rattle.wc_text.specs.declared.names.Handle.{Handle}
+use Rattle.wc_text.specs.Cut.{cut_of}
+use Rattle.wc_text.proofs.CutLemmas.{cut_within, cut_utf8}
+use Rattle.wc_lines.specs.declared.line.Line.{Line}
+use Rattle.wc_lines.specs.Ring.{last_of}
+use Rattle.wc_buffers.specs.declared.entry.BufferEntry.{BufferEntry}
+use Rattle.wc_buffers.specs.declared.refused.BufferRefused.{BufferRefused}
+use Rattle.wc_buffers.specs.declared.row.BufferSpec.{BufferSpec}
+use Rattle.wc_buffers.specs.Calls.{Groups, bad_names, handle_of, is_there, entry_of, added, opened, closed, moved, merged, unmerged, changed, with_hidden, with_full_name, with_short_name, with_title, with_var, without_var, add_refusal, add_refusal_so_far, too_many_vars, is_alone, lacks_var, is_full}
+use Rattle.wc_buffers.specs.Entries.{IsText}
+use Rattle.wc_buffers.specs.Groups.{rows, has, in_group, times, take_out, move_group, merge, unmerge, update, append_to}
+use Rattle.wc_buffers.specs.Kept.{IsBuffer, handles}
+use Rattle.wc_buffers.specs.Table.{AreGroups, key}
+use Rattle.wc_buffers.specs.Vars.{cut_to, vars_of}
+use Rattle.wc_buffers.proofs.GroupLaws.{by_bool, has-map, times-map, rows-map, take_out-map, move_group-map, merge-map, unmerge-map, list_any-map, in_group-map}
+use Rattle.wc_buffers.proofs.TableLemmas.{added_are, taken_are, moved_are, appended_are, unmerged_are, stands, found, picked, taken_has, taken_lacks, rows-taken, leaves_others}
+use Rattle.wc_buffers.proofs.RefusalLemmas.{there_good, move_good, merge_good, unmerge_good, rename_good, short_name_good, set_var_good, remove_var_good, add_good}
+use Rattle.wc_buffers.proofs.Fits.{or_none, opened_fits, hidden_fits, short_name_fits, title_fits, full_name_fits, var_fits, removed_fits, cut_short, cut_is_utf8}
+use Rattle.wc_world.proofs.GroupRows.{some_row, in_rows, has-move, has-merge, has-unmerge, has-update, has-take_out, merged_apart}
+use Rattle.wc_world.proofs.CutTags.{cut_tags_front}
+use Rattle.wc_world.proofs.First.{core_text}
+use Rattle.wc_model.specs.declared.change.LineSpec.{LineSpec}
+use Rattle.wc_model.specs.declared.change.What.{What}
+use Rattle.wc_model.specs.declared.change.What.TheVariants.{Add, Close, MoveTo, MergeInto, Unmerge, Hide, Unhide, Rename, ShortName, Title, SetVar, RemoveVar, Print, Clear, Flips}
+use Rattle.wc_model.specs.declared.refused.ChangeRefused.{ChangeRefused}
+use Rattle.wc_model.specs.declared.refused.ChangeRefused.TheVariants as refused
+use Rattle.wc_model.specs.World.{World, core_row, first_world, lines_at, last_handle}
+use Rattle.wc_model.specs.LineCuts.{tags_from, cut_tags, line_of}
+use Rattle.wc_model.specs.Apply.{refusal_of, after_of, of_buffers, or_else as or_refused, spent, with_groups, with_lines, flip_all, flipped, row_of as new_row}
+use Rattle.wc_settled.specs.Printed.{IsPrinted}
+use Rattle.wc_settled.specs.Worlds.{IsBufferKept, IsWorldKept}
+use Rattle.wc_settled.proofs.ListLemmas.{all_more}
+use Rattle.wc_settled.proofs.RowLemmas.{added_rows, taken_rows, moved_rows, merged_rows, unmerged_rows, updated_rows, row_has}
+
+-- ---- the changes that commands ask for
+
+-- texts that are kept whole are text, a line has no level, and no flag of a line is set
+abbrev pub IsTold : What → Type 0
+IsTold (Add spec) = IsUtf8 spec.full_name × IsUtf8 spec.short_name × IsUtf8 spec.title × All IsText spec.vars
+IsTold Close = Unit {0}
+IsTold (MoveTo number) = Unit {0}
+IsTold (MergeInto into) = Unit {0}
+IsTold Unmerge = Unit {0}
+IsTold Hide = Unit {0}
+IsTold Unhide = Unit {0}
+IsTold (Rename name flips) = IsUtf8 name × (flips ≡ [])
+IsTold (ShortName name) = IsUtf8 name
+IsTold (Title title) = Unit {0}
+IsTold (SetVar var) = IsUtf8 var.name
+IsTold (RemoveVar name) = Unit {0}
+IsTold (Print line) = All IsUtf8 line.tags × (line.notify ≡ pos 0)
+IsTold Clear = Unit {0}
+IsTold (Flips flips) = ⊥
+
+-- ---- refusals that do not hold
+
+pub accepted : (o : Option BufferRefused) → of_buffers o ≡ None → o ≡ None
+accepted None e = refl
+accepted (Some r) e = absurd (let h = e in cc)
+
+pub both_accepted : (a b : Option ChangeRefused) → or_refused a b ≡ None → (a ≡ None) × (b ≡ None)
+both_accepted None b e = (refl, e)
+both_accepted (Some r) b e = absurd (let h = e in cc)
+
+unspent : (n : ℕ) (world : World) → spent n world ≡ None → world.next + n ≤ 2 ^ 62 + 1
+unspent n world e = by (ltb (last_handle + 1) (world.next + n)) refl e where
+  by : (b : Bool) → ltb (last_handle + 1) (world.next + n) ≡ b → cond b (Some refused.Spent) None ≡ None → world.next + n ≤ 2 ^ 62 + 1
+  by true t e = absurd (let h = e in cc)
+  by false t e = grind (arith, nat_tests)
+
+-- ---- handles
+
+handle_in : BufferEntry → Handle
+handle_in e = e.row.handle
+
+has_handles : (h : ℕ) (gs : Groups) → has key h (handles gs) ≡ has handle_of h gs
+has_handles h gs = has-map (λ (e : BufferEntry). e.row.handle) handle_of key (λ e. refl) h gs
+
+pub times_handles : (h : ℕ) (gs : Groups) → times key h (handles gs) ≡ times handle_of h gs
+times_handles h gs = times-map (λ (e : BufferEntry). e.row.handle) handle_of key (λ e. refl) h gs
+
+pub rows_handles : (gs : Groups) → length (rows (handles gs)) ≡ length (rows gs)
+rows_handles gs = ap length (rows-map (λ (e : BufferEntry). e.row.handle) handle_of key (λ e. refl) gs) ∙ length-map (rows gs) (λ (e : BufferEntry). e.row.handle)
+
+groups_taken : (h : ℕ) (gs : Groups) → AreGroups (handles gs) → AreGroups (handles (take_out handle_of h gs))
+groups_taken h gs are = subst AreGroups (sym (take_out-map (λ (e : BufferEntry). e.row.handle) handle_of key (λ e. refl) h gs)) (taken_are h (handles gs) are)
+
+groups_moved : (h n : ℕ) (gs : Groups) → has handle_of h gs ≡ true → AreGroups (handles gs) → AreGroups (handles (move_group handle_of h n gs))
+groups_moved h n gs there are =
+    let f = found h (handles gs) (has_handles h gs ∙ there) in
+    subst AreGroups (sym (move_group-map (λ (e : BufferEntry). e.row.handle) handle_of key (λ e. refl) h n gs)) (moved_are h f.0 n (handles gs) are (stands h f.0 (handles gs) are f.1))
+
+groups_merged : (h into : Handle) (gs : Groups) → has handle_of h.0 gs ≡ true → has handle_of into.0 gs ≡ true → eqb h.0 into.0 ≡ false → AreGroups (handles gs) → AreGroups (handles (merge handle_of h.0 into.0 gs))
+groups_merged h into gs there target apart are =
+    let hs = handles gs in
+    let here : has key h.0 hs ≡ true = has_handles h.0 gs ∙ there in
+    let rest = take_out key h.0 hs in
+    let left = taken_are h.0 hs are in
+    let f = found into.0 rest (taken_has h.0 into.0 hs apart (has_handles into.0 gs ∙ target)) in
+    let put = appended_are into.0 f.0 h rest left (stands into.0 f.0 rest left f.1) (taken_lacks h.0 hs) (let few = are.few in omega (arith, rows-taken h.0 hs are here)) in
+    subst AreGroups (sym (merge-map (λ (e : BufferEntry). e.row.handle) handle_of key (λ e. refl) h.0 into.0 gs))
+    (subst (λ new. AreGroups (append_to key into.0 new rest)) (sym (picked h hs are here)) put)
+
+alone_handles : (h : ℕ) (gs : Groups) → list_any (λ g. in_group key h g && eqb (length g) 1) (handles gs) ≡ list_any (λ g. in_group handle_of h g && eqb (length g) 1) gs
+alone_handles h gs = list_any-map (map (λ (e : BufferEntry). e.row.handle)) (λ g. in_group key h g && eqb (length g) 1) (λ g. in_group handle_of h g && eqb (length g) 1) both gs
+  where
+    both : (g : List BufferEntry) → (in_group key h (map (λ (e : BufferEntry). e.row.handle) g) && eqb (length (map (λ (e : BufferEntry). e.row.handle) g)) 1) ≡ (in_group handle_of h g && eqb (length g) 1)
+    both g = rw (in_group-map (λ (e : BufferEntry). e.row.handle) handle_of key (λ e. refl) h g, length-map g (λ (e : BufferEntry). e.row.handle)) refl
+
+groups_unmerged : (h : Handle) (gs : Groups) → has handle_of h.0 gs ≡ true → is_alone h gs ≡ false → AreGroups (handles gs) → AreGroups (handles (unmerge handle_of h.0 gs))
+groups_unmerged h gs there merged are =
+    let hs = handles gs in
+    let f = found h.0 hs (has_handles h.0 gs ∙ there) in
+    let s = stands h.0 f.0 hs are f.1 in
+    subst AreGroups (sym (unmerge-map (λ (e : BufferEntry). e.row.handle) handle_of key (λ e. refl) h.0 gs))
+    (unmerged_are h f.0 hs are s (leaves_others h.0 f.0 hs s (alone_handles h.0 gs ∙ merged)))
+
+handles_list : (h : ℕ) (F : BufferEntry → BufferEntry) → ((x : BufferEntry) → (F x).row.handle ≡ x.row.handle) → (xs : List BufferEntry)
+    → map (λ (e : BufferEntry). e.row.handle) (map (λ (x : BufferEntry). cond (eqb (handle_of x) h) (F x) x) xs) ≡ map (λ (e : BufferEntry). e.row.handle) xs
+handles_list h F same [] = refl
+handles_list h F same (x ∷ xs) = λ i. one (eqb (handle_of x) h) i ∷ handles_list h F same xs i where
+  one : (b : Bool) → (cond b (F x) x).row.handle ≡ x.row.handle
+  one true = same x
+  one false = refl
+
+handles_updated : (h : ℕ) (F : BufferEntry → BufferEntry) → ((x : BufferEntry) → (F x).row.handle ≡ x.row.handle) → (gs : Groups) → handles (update handle_of h F gs) ≡ handles gs
+handles_updated h F same [] = refl
+handles_updated h F same (g ∷ gs) = λ i. handles_list h F same g i ∷ handles_updated h F same gs i
+
+-- ---- changes of groups alone
+
+pub once : (limit : ℕ) (w : World) → IsWorldKept limit w → (h : ℕ) → times handle_of h w.groups ≤ 1
+once limit w is h = subst (λ n. n ≤ 1) (times_handles h w.groups) (is.groups.once h)
+
+regrouped : (limit : ℕ) (w : World) (gs : Groups) → IsWorldKept limit w → AreGroups (handles gs) → AllByRecursion (IsBufferKept w.next) (rows gs)
+    → ((q : ℕ) → has handle_of q gs ≡ has handle_of q w.groups) → IsWorldKept limit (with_groups w gs)
+regrouped limit w gs is groups each same = record {
+  same = is.same;
+  started = is.started;
+  ended = is.ended;
+  groups = groups;
+  each = each;
+  within = is.within;
+  printed = is.printed;
+  none = λ h lacks. is.none h (sym (same h) ∙ lacks);
+}
+
+-- a buffer that is changed by F
+rewritten : (limit : ℕ) (w : World) (h : Handle) (F : BufferEntry → BufferEntry) → IsWorldKept limit w → is_there h w.groups ≡ true
+    → ((x : BufferEntry) → (F x).row.handle ≡ x.row.handle) → ((x : BufferEntry) → (F x).row.own_lines ≡ x.row.own_lines)
+    → ((e : BufferEntry) → entry_of h w.groups ≡ Some e → IsBuffer e → IsBuffer (F e)) → IsWorldKept limit (with_groups w (changed h F w.groups))
+rewritten limit w h F is there same own fits =
+    let r = some_row handle_of h.0 w.groups there in
+    let e = r.0 in
+    let old : IsBufferKept w.next e = row_has (IsBufferKept w.next) handle_of h.0 (rows w.groups) e r.1 is.each in
+    let new : IsBufferKept w.next (F e) = record {
+      fit = fits e r.1 old.fit;
+      some = subst (λ (k : Handle). 0 < k.0) (sym (same e)) old.some;
+      below = subst (λ (k : Handle). k.0 < w.next) (sym (same e)) old.below;
+      own = subst (λ (k : Handle). k.0 < w.next) (sym (own e)) old.own;
+    } in
+    regrouped limit w (changed h F w.groups) is (subst AreGroups (sym (handles_updated h.0 F same w.groups)) is.groups)
+    (updated_rows handle_of (IsBufferKept w.next) (IsBufferKept w.next) h.0 F (λ x k. k) e new w.groups (once limit w is h.0) r.1 is.each)
+    (λ q. has-update handle_of h.0 F (λ x. ap (λ (k : Handle). k.0) (same x)) q w.groups)
+
+-- ---- lines
+
+turn : (a b : ℕ) → eqb a b ≡ eqb b a
+turn a b = by_bool (eqb a b) _ (λ t. t ∙ sym (eq-eqb b a (sym (eqb-true a b t)))) (λ t. t ∙ sym (let z : eqb b a ≡ false = grind (arith, nat_tests) in z))
+
+tied : (q h : ℕ) → eq_by_cmp nat_cmp q h ≡ eqb q h
+tied q h = unsigned_tied q h
+
+-- the lines where a buffer was given others
+put_at : (w : World) (k : ℕ) (ms : List Line) (q : ℕ) → unwrap_or (get (insert w.lines k ms) q) [] ≡ cond (eqb q k) ms (lines_at w q)
+put_at w k ms q = ap (λ o. unwrap_or o []) (get-insert nat_cmp_total w.lines k ms q ∙ ap (λ b. cond b (Some ms) (get w.lines q)) (tied q k)) ∙ by (eqb q k) where
+  by : (b : Bool) → unwrap_or (cond b (Some ms) (get w.lines q)) [] ≡ cond b ms (lines_at w q)
+  by true = refl
+  by false = refl
+
+removed_at : (w : World) (k q : ℕ) → unwrap_or (get (remove w.lines k) q) [] ≡ cond (eqb q k) [] (lines_at w q)
+removed_at w k q = ap (λ o. unwrap_or o []) (get-remove nat_cmp_total w.lines k q ∙ ap (λ b. cond b None (get w.lines q)) (tied q k)) ∙ by (eqb q k) where
+  by : (b : Bool) → unwrap_or (cond b None (get w.lines q)) [] ≡ cond b [] (lines_at w q)
+  by true = refl
+  by false = refl
+
+-- where no flag is set
+pub unflipped_at : (w : World) (q : ℕ) → lines_at (flip_all [] w) q ≡ lines_at w q
+unflipped_at w q =
+    ap (λ o. unwrap_or o [])
+    (get-from_entries nat_cmp_total (map (λ (e : ℕ × List Line). (e.0, flipped [] e.1)) (entries w.lines)) q ∙ ap (find_entry nat_cmp q) (map-id (entries w.lines)) ∙ sym (get-entries w.lines q))
+
+unflipped : (limit : ℕ) (w : World) → IsWorldKept limit w → IsWorldKept limit (flip_all [] w)
+unflipped limit w is = record {
+  same = is.same;
+  started = is.started;
+  ended = is.ended;
+  groups = is.groups;
+  each = is.each;
+  within = λ q. subst (λ ls. length ls ≤ limit) (sym (unflipped_at w q)) (is.within q);
+  printed = λ q. subst (All IsPrinted) (sym (unflipped_at w q)) (is.printed q);
+  none = λ q lacks. unflipped_at w q ∙ is.none q lacks;
+}
+
+-- a world in which the lines of one buffer were changed
+relined : (limit : ℕ) (w v : World) (k : ℕ) (ms : List Line) → IsWorldKept limit w → v.limit ≡ w.limit → 0 < v.next → v.next ≤ 2 ^ 62 + 1
+    → AreGroups (handles v.groups) → AllByRecursion (IsBufferKept v.next) (rows v.groups) → ((q : ℕ) → lines_at v q ≡ cond (eqb q k) ms (lines_at w q))
+    → length ms ≤ limit → All IsPrinted ms → ((q : ℕ) → has handle_of q v.groups ≡ false → cond (eqb q k) ms (lines_at w q) ≡ []) → IsWorldKept limit v
+relined limit w v k ms is same started ended groups each lines few printed none = record {
+  same = same ∙ is.same;
+  started = started;
+  ended = ended;
+  groups = groups;
+  each = each;
+  within = λ q. subst (λ ls. length ls ≤ limit) (sym (lines q)) (short q (eqb q k));
+  printed = λ q. subst (All IsPrinted) (sym (lines q)) (all q (eqb q k));
+  none = λ q lacks. lines q ∙ none q lacks;
+}
+  where
+    short : (q : ℕ) (b : Bool) → length (cond b ms (lines_at w q)) ≤ limit
+    short q true = few
+    short q false = is.within q
+
+    all : (q : ℕ) (b : Bool) → All IsPrinted (cond b ms (lines_at w q))
+    all q true = printed
+    all q false = is.printed q
+
+grown : (n m : ℕ) → n ≤ m → (e : BufferEntry) → IsBufferKept n e → IsBufferKept m e
+grown n m le e is = record { fit = is.fit; some = is.some; below = (let b = is.below in omega arith); own = (let b = is.own in omega arith) }
+
+all_grown : (n m : ℕ) → n ≤ m → (gs : Groups) → AllByRecursion (IsBufferKept n) (rows gs) → AllByRecursion (IsBufferKept m) (rows gs)
+all_grown n m le gs a = all_more (IsBufferKept n) (IsBufferKept m) (rows gs) (grown n m le) a
+
+-- other lines of a buffer that is there
+there_or_none : (w : World) (limit k : ℕ) (ms : List Line) → IsWorldKept limit w → has handle_of k w.groups ≡ true → (q : ℕ) → has handle_of q w.groups ≡ false → cond (eqb q k) ms (lines_at w q) ≡ []
+there_or_none w limit k ms is there q lacks = by (eqb q k) refl where
+  by : (b : Bool) → eqb q k ≡ b → cond b ms (lines_at w q) ≡ []
+  by true t = absurd (false≢true (sym lacks ∙ ap (λ n. has handle_of n w.groups) (eqb-true q k t) ∙ there))
+  by false t = is.none q lacks
+
+-- ---- a printed line
+
+tags_few : (count size : ℕ) (tags : List (List ℕ)) → count ≤ 32 → count + length (tags_from count size tags) ≤ 32
+tags_few count size [] most = omega arith
+tags_few count size (tag ∷ tags) most = by (ltb 32 (count + 1)) (ltb 256 (size + length tag)) refl (tags_few (count + 1) (size + length tag) tags) where
+  by : (a b : Bool) → ltb 32 (count + 1) ≡ a → (count + 1 ≤ 32 → count + 1 + length (tags_from (count + 1) (size + length tag) tags) ≤ 32)
+      → count + length (cond (a || b) [] (tag ∷ tags_from (count + 1) (size + length tag) tags)) ≤ 32
+  by true b t rest = omega arith
+  by false true t rest = omega arith
+  by false false t rest = let le : count + 1 ≤ 32 = grind (arith, nat_tests) in let h = rest le in omega arith
+
+abbrev sizes : List (List ℕ) → ℕ
+sizes tags = sum_by (λ tag. length tag) tags
+
+tags_short : (count size : ℕ) (tags : List (List ℕ)) → size ≤ 256 → size + sizes (tags_from count size tags) ≤ 256
+tags_short count size [] most = omega arith
+tags_short count size (tag ∷ tags) most = by (ltb 32 (count + 1)) (ltb 256 (size + length tag)) refl (tags_short (count + 1) (size + length tag) tags) where
+  by : (a b : Bool) → ltb 256 (size + length tag) ≡ b → (size + length tag ≤ 256 → size + length tag + sizes (tags_from (count + 1) (size + length tag) tags) ≤ 256)
+      → size + sizes (cond (a || b) [] (tag ∷ tags_from (count + 1) (size + length tag) tags)) ≤ 256
+  by true b t rest = omega arith
+  by false true t rest = omega arith
+  by false false t rest =
+      let le : size + length tag ≤ 256 = grind (arith, nat_tests) in
+      let h = rest le in
+      omega (arith, sum_by-cons (λ (tag : List ℕ). length tag) tag (tags_from (count + 1) (size + length tag) tags))
+
+cut_size : (text : List ℕ) (limit : ℕ) → length (cut_to limit text) ≤ limit
+cut_size text limit = omega (arith, length-take (cut_of text limit) text, cut_within text limit)
+
+pub line_printed : (next : ℕ) (spec : LineSpec) → next ≤ 2 ^ 62 → All IsUtf8 spec.tags → spec.notify ≡ pos 0 → IsPrinted (line_of next spec)
+line_printed next spec below tags level = record {
+  handle = omega arith;
+  content = omega arith;
+  notify = level;
+  few = (let h = tags_few 0 0 spec.tags (omega arith) in omega arith);
+  tags = (let h = tags_short 0 0 spec.tags (omega arith) in omega arith);
+  prefix = cut_size spec.prefix 128;
+  message = cut_size spec.message 1024;
+  text = record {
+    tags = subst (All IsUtf8) (sym (cut_tags_front spec.tags)) (All-take IsUtf8 (length (cut_tags spec.tags)) spec.tags tags);
+    prefix = cut_utf8 spec.prefix 128;
+    message = cut_utf8 spec.message 1024;
+  };
+}
+
+last_within : {X : Type 0} (n : ℕ) (xs : List X) → length (last_of n xs) ≤ n
+last_within n xs = omega (arith, length-drop (length xs - n) xs)
+
+print_kept : (limit : ℕ) (w : World) (h : Handle) (spec : LineSpec) → IsWorldKept limit w → is_there h w.groups ≡ true → w.next + 2 ≤ 2 ^ 62 + 1 → All IsUtf8 spec.tags → spec.notify ≡ pos 0
+    → IsWorldKept limit (record (with_lines w h (last_of w.limit (lines_at w h.0 ++ line_of w.next spec ∷ []))) { next = w.next + 2 })
+print_kept limit w h spec is there room tags level =
+    let all = lines_at w h.0 ++ line_of w.next spec ∷ [] in
+    let ms = last_of w.limit all in
+    relined limit w (record (with_lines w h ms) { next = w.next + 2 }) h.0 ms is refl (omega arith) room is.groups
+    (all_grown w.next (w.next + 2) (omega arith) w.groups is.each)
+    (put_at w h.0 ms)
+    (subst (λ n. length ms ≤ n) is.same (last_within w.limit all))
+    (All-drop IsPrinted (length all - w.limit) all (All-push IsPrinted (lines_at w h.0) (line_of w.next spec) (is.printed h.0) (line_printed w.next spec (omega arith) tags level)))
+    (there_or_none w limit h.0 ms is there)
+
+-- ---- a new buffer
+
+never_next : (next : ℕ) (xs : List BufferEntry) → AllByRecursion (IsBufferKept next) xs → in_group handle_of next xs ≡ false
+never_next next [] a = refl
+never_next next (x ∷ xs) a = let e : eqb (handle_of x) next ≡ false = (let b = a.0.below in grind (arith, nat_tests)) in rw e (never_next next xs a.1)
+
+pub is_new : (limit : ℕ) (w : World) → IsWorldKept limit w → has handle_of w.next w.groups ≡ false
+is_new limit w is = sym (in_rows handle_of w.next w.groups) ∙ never_next w.next (rows w.groups) is.each
+
+add_kept : (limit : ℕ) (w : World) (spec : BufferSpec) → IsWorldKept limit w → add_refusal (new_row w.next spec) spec.vars w.groups ≡ None → w.next + 4 ≤ 2 ^ 62 + 1
+    → IsTold (Add spec) → IsWorldKept limit (record w { groups = added (new_row w.next spec) spec.vars w.groups; lines = insert w.lines w.next []; next = w.next + 4 })
+unfolding add_refusal
+add_kept limit w spec is good room told =
+    let row = new_row w.next spec in
+    let e = opened row spec.vars in
+    let parts = or_none (add_refusal_so_far row spec.vars w.groups) (too_many_vars row.full_name spec.vars) good in
+    let names = add_good row spec.vars w.groups parts.0 in
+    let absent = has_handles w.next w.groups ∙ is_new limit w is in
+    let fits = opened_fits row spec.vars (record { full_name = told.0; short_name = told.1; title = told.2 }) told.3 names.0 parts.1 in
+    let new : IsBufferKept (w.next + 4) e = record { fit = fits; some = is.started; below = omega arith; own = omega arith } in
+    relined limit w (record w { groups = added row spec.vars w.groups; lines = insert w.lines w.next []; next = w.next + 4 }) w.next [] is refl (omega arith) room
+    (subst AreGroups (sym (map-append (map (λ (e : BufferEntry). e.row.handle)) w.groups ((e ∷ []) ∷ []))) (added_are row.handle (handles w.groups) is.groups absent (subst (λ n. n < 256) (sym (rows_handles w.groups)) names.2)))
+    (added_rows (IsBufferKept (w.next + 4)) handle_of e w.groups new (all_grown w.next (w.next + 4) (omega arith) w.groups is.each))
+    (put_at w w.next []) (omega arith) (All-nil IsPrinted)
+    (λ q lacks. by q (eqb q w.next) (or_parts (has handle_of q w.groups) (has handle_of q ((e ∷ []) ∷ [])) (sym (list_any-append (in_group handle_of q) w.groups ((e ∷ []) ∷ [])) ∙ lacks)).0)
+  where
+    by : (q : ℕ) (b : Bool) → has handle_of q w.groups ≡ false → cond b [] (lines_at w q) ≡ []
+    by q true lacks = refl
+    by q false lacks = is.none q lacks
+
+close_kept : (limit : ℕ) (w : World) (h : Handle) → IsWorldKept limit w → IsWorldKept limit (record w { groups = closed h w.groups; lines = remove w.lines h.0 })
+close_kept limit w h is =
+    relined limit w (record w { groups = closed h w.groups; lines = remove w.lines h.0 }) h.0 [] is refl is.started is.ended
+    (groups_taken h.0 w.groups is.groups) (taken_rows (IsBufferKept w.next) handle_of h.0 w.groups is.each)
+    (removed_at w h.0) (omega arith) (All-nil IsPrinted) gone
+  where
+    by : (q : ℕ) (b : Bool) → eqb h.0 q ≡ b → has handle_of q (closed h w.groups) ≡ false → cond b [] (lines_at w q) ≡ []
+    by q true t lacks = refl
+    by q false t lacks = is.none q (sym (has-take_out handle_of h.0 q w.groups ∙ ap (λ b. cond b false (has handle_of q w.groups)) t) ∙ lacks)
+
+    gone : (q : ℕ) → has handle_of q (closed h w.groups) ≡ false → cond (eqb q h.0) [] (lines_at w q) ≡ []
+    gone q lacks = let turned : eqb q h.0 ≡ eqb h.0 q = turn q h.0 in rw turned (by q (eqb h.0 q) refl lacks)
+
+-- ---- any change
+
+pub after_kept : (limit : ℕ) (w : World) (h : Handle) (a : What) → IsWorldKept limit w → IsTold a → refusal_of w h a ≡ None → IsWorldKept limit (after_of w h a)
+unfolding refusal_of after_of
+after_kept limit w h (Add spec) is told good =
+    let both = both_accepted _ _ good in
+    add_kept limit w spec is (accepted _ both.0) (unspent 4 w both.1) told
+after_kept limit w h Close is told good = close_kept limit w h is
+after_kept limit w h (MoveTo n) is told good =
+    let there = (move_good h n w.groups (accepted _ good)).0 in
+    regrouped limit w (moved h n w.groups) is (groups_moved h.0 (n - 1) w.groups there is.groups) (moved_rows (IsBufferKept w.next) handle_of h.0 (n - 1) w.groups is.each) (λ q. has-move handle_of h.0 (n - 1) q w.groups)
+after_kept limit w h (MergeInto into) is told good =
+    let g = merge_good h into w.groups (accepted _ good) in
+    let apart = merged_apart handle_of h.0 into.0 w.groups g.0 g.2 in
+    regrouped limit w (merged h into w.groups) is (groups_merged h into w.groups g.0 g.1 apart is.groups) (merged_rows (IsBufferKept w.next) handle_of h.0 into.0 w.groups is.each) (λ q. has-merge handle_of h.0 into.0 q w.groups g.1 apart)
+after_kept limit w h Unmerge is told good =
+    let g = unmerge_good h w.groups (accepted _ good) in
+    regrouped limit w (unmerged h w.groups) is (groups_unmerged h w.groups g.0 g.1 is.groups) (unmerged_rows (IsBufferKept w.next) handle_of h.0 w.groups is.each) (λ q. has-unmerge handle_of h.0 q w.groups)
+after_kept limit w h Hide is told good = rewritten limit w h (with_hidden true) is (there_good h w.groups (accepted _ good)) (λ x. refl) (λ x. refl) (λ e at fit. hidden_fits true e fit)
+after_kept limit w h Unhide is told good = rewritten limit w h (with_hidden false) is (there_good h w.groups (accepted _ good)) (λ x. refl) (λ x. refl) (λ e at fit. hidden_fits false e fit)
+after_kept limit w h (Rename name flips) is told good =
+    let g = rename_good h name w.groups (accepted _ (both_accepted _ _ good).0) in
+    let v = with_groups w (changed h (with_full_name name) w.groups) in
+    subst (λ flips. IsWorldKept limit (flip_all flips v)) (sym told.1) (unflipped limit v (rewritten limit w h (with_full_name name) is g.0 (λ x. refl) (λ x. refl) (λ e at fit. full_name_fits name e g.1 told.0 fit)))
+after_kept limit w h (ShortName name) is told good =
+    let g = short_name_good h name w.groups (accepted _ good) in
+    rewritten limit w h (with_short_name name) is g.0 (λ x. refl) (λ x. refl) (λ e at fit. short_name_fits name e g.1 told fit)
+after_kept limit w h (Title title) is told good =
+    rewritten limit w h (with_title (cut_to 1024 title)) is (there_good h w.groups (accepted _ good)) (λ x. refl) (λ x. refl) (λ e at fit. title_fits (cut_to 1024 title) e (cut_short title) (cut_is_utf8 title) fit)
+after_kept limit w h (SetVar var) is told good =
+    let g = set_var_good h var.name w.groups (accepted _ good) in
+    rewritten limit w h (with_var var.name var.value) is g.0 (λ x. refl) (λ x. refl)
+    (λ e at fit. var_fits var.name var.value e g.1 (subst (λ o. (lacks_var var.name o && is_full o) ≡ false) at g.2) told fit)
+after_kept limit w h (RemoveVar name) is told good =
+    let g = remove_var_good h name w.groups (accepted _ good) in
+    rewritten limit w h (without_var name) is g.0 (λ x. refl) (λ x. refl) (λ e at fit. removed_fits name e g.1 fit)
+after_kept limit w h (Print line) is told good =
+    let both = both_accepted _ _ good in
+    print_kept limit w h line is (there_good h w.groups (accepted _ both.0)) (unspent 2 w both.1) told.0 told.1
+after_kept limit w h Clear is told good =
+    relined limit w (with_lines w h []) h.0 [] is refl is.started is.ended is.groups is.each (put_at w h.0 []) (omega arith) (All-nil IsPrinted)
+    (there_or_none w limit h.0 [] is (there_good h w.groups (accepted _ good)))
+after_kept limit w h (Flips flips) is told good = absurd told
+
+-- ---- the start
+
+abbrev no_line_list : List Line
+no_line_list = []
+
+no_lines : (limit q : ℕ) → lines_at (first_world limit) q ≡ []
+no_lines limit q = ap (λ o. unwrap_or o []) (get-insert nat_cmp_total empty 1 [] q ∙ ap (cond (eq_by_cmp nat_cmp q 1) (Some [])) (get-empty nat_cmp q)) ∙ by (eq_by_cmp nat_cmp q 1) where
+  by : (b : Bool) → unwrap_or (cond b (Some []) None) [] ≡ no_line_list
+  by true = refl
+  by false = refl
+
+core_names : bad_names core_row [] ≡ None
+unfolding bad_names
+core_names = refl
+
+core_vars : too_many_vars core_row.full_name [] ≡ None
+unfolding too_many_vars vars_of
+core_vars = refl
+
+pub first_kept : (limit : ℕ) → IsWorldKept limit (first_world limit)
+first_kept limit =
+    let nobody : AreGroups [] = record { once = λ h. omega arith; filled = tt; few = omega arith } in
+    let fits = opened_fits core_row [] core_text (All-nil IsText) core_names core_vars in
+    record {
+      same = refl;
+      started = omega arith;
+      ended = omega arith;
+      groups = added_are core_row.handle [] nobody refl (omega arith);
+      each = (record { fit = fits; some = omega arith; below = omega arith; own = omega arith }, tt);
+      within = λ q. subst (λ ls. length ls ≤ limit) (sym (no_lines limit q)) (omega arith);
+      printed = λ q. subst (All IsPrinted) (sym (no_lines limit q)) (All-nil IsPrinted);
+      none = λ q lacks. no_lines limit q;
+    }

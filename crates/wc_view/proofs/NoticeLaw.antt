@@ -1,0 +1,288 @@
+-- The event of a change of a world is folded to the lines behind the change.
+use Rattle.std.proofs.Common.{◌≡◌, ℕ, zero, suc, ◌-◌, ◌<◌, ◌≤◌, Bool, true, false, cond, List, [], ◌∷◌, ◌++◌, length, drop, map, codes, Option, Some, None, option_map, refl, sym, ap, subst, ◌∙◌, arith, eqb}
+use Rattle.std.specs.Prelude.{unwrap_or, bytes_eq}
+use Rattle.std.specs.FinMap.{get, find, insert, remove, entries, get-insert, get-remove, get-from_entries, get-entries}
+use Rattle.std.specs.Ordering.{nat_cmp}
+use Rattle.std.specs.Cmp.{nat_cmp_total}
+use Rattle.std.specs.List.{drop-map}
+use Rattle.std.proofs.lemmas.Bool.{eq-eqb, eqb-true}
+use Rattle.std.proofs.lemmas.Bool.Decides.{nat_tests}
+use Rattle.std.proofs.lemmas.List.{length-map, map-append, length-append}
+use Rattle.wc_text.specs.declared.names.Handle.{Handle}
+use Rattle.wc_lines.specs.declared.line.Line.{Line}
+use Rattle.wc_lines.specs.Ring.{last_of}
+use Rattle.wc_buffers.specs.Groups.{has}
+use Rattle.wc_buffers.specs.Calls.{handle_of, lacks_var, entry_of}
+use Rattle.wc_model.specs.declared.change.Flip.{Flip}
+use Rattle.wc_model.specs.declared.change.LineSpec.{LineSpec}
+use Rattle.wc_model.specs.declared.change.What.{What}
+use Rattle.wc_model.specs.declared.change.What.TheVariants.{Add, Close, MoveTo, MergeInto, Unmerge, Hide, Unhide, Rename, ShortName, Title, SetVar, RemoveVar, Print, Clear, Flips}
+use Rattle.wc_model.specs.declared.notice.EventKind.{EventKind}
+use Rattle.wc_model.specs.declared.notice.EventKind.TheVariants as kind
+use Rattle.wc_model.specs.declared.notice.Notice.{Notice}
+use Rattle.wc_model.specs.World.{World, lines_at as lines_in}
+use Rattle.wc_model.specs.Apply.{after_of, flip_all, flipped}
+use Rattle.wc_model.specs.LineCuts.{line_of}
+use Rattle.wc_model.specs.Notices.{notice_of, var_kind}
+use Rattle.wc_objects.specs.declared.object.Object.{Object}
+use Rattle.wc_objects.specs.declared.object.WireMessage.{WireMessage}
+use Rattle.wc_told.specs.LineObjects.{line_added, added_objects}
+use Rattle.wc_told.specs.BufferObjects.{id_of, event_of, event_objects, objects_of, named_objects, newest}
+use Rattle.wc_view.specs.Ids.{IsFree}
+use Rattle.wc_view.specs.Parts.{Part, lines_at, with_row, without}
+use Rattle.wc_view.specs.Fold.{fold_lines, grown, emptied}
+use Rattle.wc_view.specs.Views.{shown_line, view_of, HasLines, HasAll, Stands, fold_told, SetsNoFlags, NoticeShows}
+use Rattle.wc_view.proofs.EntryLemmas.{by_bool, tied}
+use Rattle.wc_view.proofs.LineTold.{row, added_read, named_told}
+
+-- ---- the ids of events
+pub other_id : (rest id : List ℕ) → IsFree id → bytes_eq (95 ∷ rest) id ≡ false
+other_id rest [] free = refl
+other_id rest (b ∷ id) free = let e : eqb 95 b ≡ false = grind (arith, nat_tests) in rw e refl
+
+-- the events that change no lines
+abbrev pub quiet : EventKind → Bool
+quiet kind.Cleared = false
+quiet kind.Closing = false
+quiet kind.LineAdded = false
+quiet kind.LineDataChanged = false
+quiet _ = true
+
+var_quiet : (b : Bool) → quiet (var_kind b) ≡ true
+var_quiet true = refl
+var_quiet false = refl
+
+abbrev pub message_of : EventKind → List Object → WireMessage
+message_of kind objects = record { id = id_of kind; objects = objects }
+
+quiet_message : (limit : ℕ) (id : List ℕ) (part : Option Part) (kind : EventKind) (objects : List Object) → quiet kind ≡ true → IsFree id
+    → fold_lines limit id part (message_of kind objects) ≡ part
+quiet_message limit id part kind.Opened objects q free = rw (other_id (codes "buffer_opened") id free) refl
+quiet_message limit id part kind.Moved objects q free = rw (other_id (codes "buffer_moved") id free) refl
+quiet_message limit id part kind.Merged objects q free = rw (other_id (codes "buffer_merged") id free) refl
+quiet_message limit id part kind.Unmerged objects q free = rw (other_id (codes "buffer_unmerged") id free) refl
+quiet_message limit id part kind.Hidden objects q free = rw (other_id (codes "buffer_hidden") id free) refl
+quiet_message limit id part kind.Unhidden objects q free = rw (other_id (codes "buffer_unhidden") id free) refl
+quiet_message limit id part kind.Renamed objects q free = rw (other_id (codes "buffer_renamed") id free) refl
+quiet_message limit id part kind.TitleChanged objects q free = rw (other_id (codes "buffer_title_changed") id free) refl
+quiet_message limit id part kind.VarAdded objects q free = rw (other_id (codes "buffer_localvar_added") id free) refl
+quiet_message limit id part kind.VarChanged objects q free = rw (other_id (codes "buffer_localvar_changed") id free) refl
+quiet_message limit id part kind.VarRemoved objects q free = rw (other_id (codes "buffer_localvar_removed") id free) refl
+quiet_message limit id part kind.Cleared objects q free = absurd (let z = q in cc)
+quiet_message limit id part kind.Closing objects q free = absurd (let z = q in cc)
+quiet_message limit id part kind.LineAdded objects q free = absurd (let z = q in cc)
+quiet_message limit id part kind.LineDataChanged objects q free = absurd (let z = q in cc)
+
+pub quiet_told : (limit : ℕ) (id : List ℕ) (part : Option Part) (kind : EventKind) (objects : Option (List Object)) → quiet kind ≡ true → IsFree id
+    → fold_told limit id part (option_map (message_of kind) objects) ≡ part
+quiet_told limit id part kind None q free = refl
+quiet_told limit id part kind (Some objects) q free = quiet_message limit id part kind objects q free
+
+stays : (part folded : Option Part) (world behind : World) → folded ≡ part → ((q : ℕ) → lines_in behind q ≡ lines_in world q) → HasAll part world → HasAll folded behind
+stays part folded world behind same lines had q =
+    subst (λ p. HasLines p q (lines_in behind q)) (sym same) (subst (HasLines part q) (sym (lines q)) (had q))
+
+-- ---- a buffer that has no lines any more
+emptied_shows : (part : Option Part) (world behind : World) (buffer : ℕ) → ((q : ℕ) → lines_in behind q ≡ cond (eqb q buffer) [] (lines_in world q))
+    → HasAll part world → HasAll (option_map (without buffer) part) behind
+emptied_shows None world behind buffer lines had q = absurd (had 0)
+emptied_shows (Some held) world behind buffer lines had q =
+    ap (λ o. unwrap_or o []) (get-remove nat_cmp_total held buffer q) ∙ by_bool (eqb q buffer) _
+    (λ t. rw (tied q buffer, t) (sym (ap view_of (lines q ∙ ap (λ b. cond b [] (lines_in world q)) t))))
+    (λ t. rw (tied q buffer, t) (had q ∙ sym (ap view_of (lines q ∙ ap (λ b. cond b [] (lines_in world q)) t))))
+
+closing_told : (limit : ℕ) (id : List ℕ) (part : Option Part) (notice : Notice) → IsFree id
+    → fold_lines limit id part (message_of kind.Closing (named_objects notice)) ≡ option_map (without notice.buffer.0) part
+closing_told limit id part notice free = rw (other_id (codes "buffer_closing") id free) (ap (λ b. emptied b part) (named_told notice))
+
+cleared_told : (limit : ℕ) (id : List ℕ) (part : Option Part) (notice : Notice) → IsFree id
+    → fold_lines limit id part (message_of kind.Cleared (named_objects notice)) ≡ option_map (without notice.buffer.0) part
+cleared_told limit id part notice free = rw (other_id (codes "buffer_cleared") id free) (ap (λ b. emptied b part) (named_told notice))
+
+-- ---- a new line
+newest_more : (xs : List Line) (x : Line) → newest (xs ++ x ∷ []) ≡ Some x
+newest_more [] x = refl
+newest_more (y ∷ []) x = refl
+newest_more (y ∷ z ∷ xs) x = newest_more (z ∷ xs) x
+
+newest_drop : (k : ℕ) (xs : List Line) (x : Line) → k ≤ length xs → newest (drop k (xs ++ x ∷ [])) ≡ Some x
+newest_drop zero xs x l = newest_more xs x
+newest_drop (suc k) [] x l = absurd (omega arith)
+newest_drop (suc k) (y ∷ xs) x l = newest_drop k xs x (omega arith)
+
+newest_last : (n : ℕ) (xs : List Line) (x : Line) → newest (last_of (suc n) (xs ++ x ∷ [])) ≡ Some x
+newest_last n xs x =
+    let e : length (xs ++ x ∷ []) - suc n ≡ length xs - n = omega (arith, length-append xs (x ∷ [])) in
+    ap (λ k. newest (drop k (xs ++ x ∷ []))) e ∙ newest_drop (length xs - n) xs x (omega arith)
+
+after_line : (limit : ℕ) (id : List ℕ) (held : Part) (buffer : Handle) (line : Line) → IsFree id
+    → fold_lines limit id (Some held) (line_added buffer line) ≡ Some (with_row limit (row buffer line) held)
+after_line limit id held buffer line free =
+    rw (other_id (codes "buffer_line_added") id free) (ap (λ found. grown limit found (Some held)) (added_read buffer line))
+
+view_last : (limit : ℕ) (lines : List Line) → last_of limit (view_of lines) ≡ view_of (last_of limit lines)
+view_last limit lines =
+    ap (λ n. drop (n - limit) (view_of lines)) (length-map lines shown_line) ∙ drop-map shown_line (length lines - limit) lines
+
+row_here : (limit : ℕ) (held : Part) (buffer : Handle) (lines : List Line) (line : Line) → lines_at held buffer.0 ≡ view_of lines
+    → lines_at (with_row limit (row buffer line) held) buffer.0 ≡ view_of (last_of limit (lines ++ line ∷ []))
+row_here limit held buffer lines line e =
+    let new = last_of limit (lines_at held buffer.0 ++ shown_line line ∷ []) in
+    ap (λ o. unwrap_or o []) (get-insert nat_cmp_total held buffer.0 new buffer.0 ∙ ap (λ b. cond b (Some new) (get held buffer.0)) (tied buffer.0 buffer.0 ∙ eq-eqb buffer.0 buffer.0 refl))
+    ∙ ap (λ ls. last_of limit (ls ++ shown_line line ∷ [])) e ∙ ap (last_of limit) (sym (map-append shown_line lines (line ∷ [])))
+    ∙ view_last limit (lines ++ line ∷ [])
+
+row_else : (limit : ℕ) (held : Part) (buffer : Handle) (line : Line) (other : ℕ) → eqb other buffer.0 ≡ false
+    → lines_at (with_row limit (row buffer line) held) other ≡ lines_at held other
+row_else limit held buffer line other apart =
+    let new = last_of limit (lines_at held buffer.0 ++ shown_line line ∷ []) in
+    ap (λ o. unwrap_or o []) (get-insert nat_cmp_total held buffer.0 new other ∙ ap (λ b. cond b (Some new) (get held other)) (tied other buffer.0 ∙ apart))
+
+line_shows : (limit : ℕ) (id : List ℕ) (part : Option Part) (world behind : World) (buffer : Handle) (line : Line) → IsFree id
+    → ((q : ℕ) → lines_in behind q ≡ cond (eqb q buffer.0) (last_of limit (lines_in world buffer.0 ++ line ∷ [])) (lines_in world q))
+    → HasAll part world → HasAll (fold_lines limit id part (line_added buffer line)) behind
+line_shows limit id None world behind buffer line free lines had q = absurd (had 0)
+line_shows limit id (Some held) world behind buffer line free lines had q =
+    subst (λ folded. HasLines folded q (lines_in behind q)) (sym (after_line limit id held buffer line free))
+    (by_bool (eqb q buffer.0) _
+    (λ t. let is : buffer.0 ≡ q = sym (eqb-true q buffer.0 t) in
+    subst (λ b. lines_at (with_row limit (row buffer line) held) b ≡ view_of (lines_in behind q)) is
+    (row_here limit held buffer (lines_in world buffer.0) line (had buffer.0)
+    ∙ sym (ap view_of (lines q ∙ ap (λ b. cond b (last_of limit (lines_in world buffer.0 ++ line ∷ [])) (lines_in world q)) t))))
+    (λ t. row_else limit held buffer line q t ∙ had q
+    ∙ sym (ap view_of (lines q ∙ ap (λ b. cond b (last_of limit (lines_in world buffer.0 ++ line ∷ [])) (lines_in world q)) t))))
+
+-- what is told of a new line, where a buffer holds some
+abbrev told_newest : Handle → List Line → Option WireMessage
+told_newest buffer lines = option_map (message_of kind.LineAdded) (option_map (added_objects buffer) (newest lines))
+
+told_shows : (limit : ℕ) (id : List ℕ) (part : Option Part) (world behind : World) (buffer : Handle) (line : Line) → IsFree id
+    → ((q : ℕ) → length (lines_in world q) ≤ limit)
+    → ((q : ℕ) → lines_in behind q ≡ cond (eqb q buffer.0) (last_of limit (lines_in world buffer.0 ++ line ∷ [])) (lines_in world q))
+    → HasAll part world → HasAll (fold_told limit id part (told_newest buffer (last_of limit (lines_in world buffer.0 ++ line ∷ [])))) behind
+told_shows zero id part world behind buffer line free within lines had =
+    let ls = lines_in world buffer.0 in
+    let none : last_of 0 (ls ++ line ∷ []) ≡ [] = none_last (ls ++ line ∷ []) in
+    stays part _ world behind (ap (λ held. fold_told 0 id part (told_newest buffer held)) none)
+    (λ q. lines q ∙ by_bool (eqb q buffer.0) _
+    (λ t. rw t (none ∙ sym (empty (lines_in world q) (within q))))
+    (λ t. rw t refl)) had
+  where
+    nothing_left : {X : Type 0} (xs : List X) → drop (length xs) xs ≡ []
+    nothing_left [] = refl
+    nothing_left (x ∷ xs) = nothing_left xs
+
+    none_last : (xs : List Line) → last_of 0 xs ≡ []
+    none_last xs = let e : length xs - 0 ≡ length xs = omega arith in ap (λ k. drop k xs) e ∙ nothing_left xs
+
+    empty : {X : Type 0} (xs : List X) → length xs ≤ 0 → xs ≡ []
+    empty [] l = refl
+    empty (x ∷ xs) l = absurd (omega arith)
+told_shows (suc n) id part world behind buffer line free within lines had =
+    subst (λ found. HasAll (fold_told (suc n) id part (option_map (message_of kind.LineAdded) (option_map (added_objects buffer) found))) behind)
+    (sym (newest_last n (lines_in world buffer.0) line)) (line_shows (suc n) id part world behind buffer line free lines had)
+
+-- ---- the lines of a world behind a change
+inserted : (world behind : World) (buffer : ℕ) (lines : List Line) → behind.lines ≡ insert world.lines buffer lines
+    → (q : ℕ) → lines_in behind q ≡ cond (eqb q buffer) lines (lines_in world q)
+inserted world behind buffer lines is q =
+    ap (λ m. unwrap_or (get m q) []) is
+    ∙ ap (λ o. unwrap_or o []) (get-insert nat_cmp_total world.lines buffer lines q) ∙ by_bool (eqb q buffer) _
+    (λ t. rw (tied q buffer, t) refl)
+    (λ t. rw (tied q buffer, t) refl)
+
+removed : (world behind : World) (buffer : ℕ) → behind.lines ≡ remove world.lines buffer
+    → (q : ℕ) → lines_in behind q ≡ cond (eqb q buffer) [] (lines_in world q)
+removed world behind buffer is q =
+    ap (λ m. unwrap_or (get m q) []) is
+    ∙ ap (λ o. unwrap_or o []) (get-remove nat_cmp_total world.lines buffer q) ∙ by_bool (eqb q buffer) _
+    (λ t. rw (tied q buffer, t) refl)
+    (λ t. rw (tied q buffer, t) refl)
+
+-- a new buffer had no lines
+opened_lines : (world behind : World) → Stands world → behind.lines ≡ insert world.lines world.next [] → (q : ℕ) → lines_in behind q ≡ lines_in world q
+opened_lines world behind stands is q =
+    inserted world behind world.next [] is q ∙ by_bool (eqb q world.next) _
+    (λ t. rw t (sym (stands.gone q (unknown q (eqb-true q world.next t)))))
+    (λ t. rw t refl)
+  where
+    unknown : (q : ℕ) → q ≡ world.next → has handle_of q world.groups ≡ false
+    unknown q e = by_bool (has handle_of q world.groups) _
+        (λ t. absurd (let l : q < world.next = stands.drawn q t in omega arith))
+        (λ t. t)
+
+-- ---- flags
+pub nothing_flipped : (flips : List Flip) → flipped flips [] ≡ []
+nothing_flipped [] = refl
+nothing_flipped (flip ∷ flips) = nothing_flipped flips
+
+find_mapped : {X : Type 0} (f : X → X) (q : ℕ) (es : List (ℕ × X)) → find nat_cmp q (map (λ e. (e.0, f e.1)) es) ≡ option_map f (find nat_cmp q es)
+find_mapped f q [] = refl
+find_mapped f q (e ∷ es) = by_bool (eqb q e.0) _
+    (λ t. rw (tied q e.0, t) refl)
+    (λ t. rw (tied q e.0, t) (find_mapped f q es))
+
+pub flipped_lines : (flips : List Flip) (world behind : World) → behind.lines ≡ (flip_all flips world).lines → (q : ℕ) → lines_in behind q ≡ flipped flips (lines_in world q)
+flipped_lines flips world behind is q =
+    ap (λ m. unwrap_or (get m q) []) is ∙ ap (λ o. unwrap_or o []) (get-from_entries nat_cmp_total (map (λ e. (e.0, flipped flips e.1)) (entries world.lines)) q
+    ∙ find_mapped (flipped flips) q (entries world.lines) ∙ ap (option_map (flipped flips)) (sym (get-entries world.lines q)))
+    ∙ by (get world.lines q)
+  where
+    by : (o : Option (List Line)) → unwrap_or (option_map (flipped flips) o) [] ≡ flipped flips (unwrap_or o [])
+    by None = sym (nothing_flipped flips)
+    by (Some lines) = refl
+
+-- ---- each change
+abbrev pub told_of : World → Handle → What → Option (List Object)
+told_of world buffer what = event_objects (after_of world buffer what) (notice_of world (after_of world buffer what) buffer what)
+
+abbrev Shows : ℕ → List ℕ → Option Part → World → Handle → What → Type 0
+Shows limit id part world buffer what =
+    HasAll (fold_told limit id part (event_of (after_of world buffer what) (notice_of world (after_of world buffer what) buffer what))) (after_of world buffer what)
+
+print_shows : (limit : ℕ) (id : List ℕ) (part : Option Part) (world : World) (buffer : Handle) (spec : LineSpec)
+    → Stands world → world.limit ≡ limit → IsFree id → HasAll part world → Shows limit id part world buffer (Print spec)
+unfolding after_of objects_of
+print_shows limit id part world buffer spec stands limited free had =
+    let behind = after_of world buffer (Print spec) in
+    let lines = last_of world.limit (lines_in world buffer.0 ++ line_of world.next spec ∷ []) in
+    let here : lines_in behind buffer.0 ≡ lines = inserted world behind buffer.0 lines refl buffer.0 ∙ ap (λ b. cond b lines (lines_in world buffer.0)) (eq-eqb buffer.0 buffer.0 refl) in
+    subst (λ n. HasAll (fold_told n id part (told_newest buffer (lines_in behind buffer.0))) behind) limited
+    (subst (λ held. HasAll (fold_told world.limit id part (told_newest buffer held)) behind) (sym here)
+    (told_shows world.limit id part world behind buffer (line_of world.next spec) free stands.within (inserted world behind buffer.0 lines refl) had))
+
+pub change_shows : (limit : ℕ) (id : List ℕ) (part : Option Part) (world : World) (buffer : Handle) (what : What)
+    → Stands world → world.limit ≡ limit → IsFree id → SetsNoFlags what → HasAll part world → Shows limit id part world buffer what
+unfolding after_of objects_of
+change_shows limit id part world buffer (Add spec) stands limited free plain had =
+    stays part _ world (after_of world buffer (Add spec)) (quiet_told limit id part kind.Opened (told_of world buffer (Add spec)) refl free) (opened_lines world (after_of world buffer (Add spec)) stands refl) had
+change_shows limit id part world buffer Close stands limited free plain had =
+    subst (λ p. HasAll p (after_of world buffer Close)) (sym (closing_told limit id part _ free)) (emptied_shows part world (after_of world buffer Close) buffer.0 (removed world (after_of world buffer Close) buffer.0 refl) had)
+change_shows limit id part world buffer (MoveTo number) stands limited free plain had =
+    stays part _ world (after_of world buffer (MoveTo number)) (quiet_told limit id part kind.Moved (told_of world buffer (MoveTo number)) refl free) (λ q. refl) had
+change_shows limit id part world buffer (MergeInto into) stands limited free plain had =
+    stays part _ world (after_of world buffer (MergeInto into)) (quiet_told limit id part kind.Merged (told_of world buffer (MergeInto into)) refl free) (λ q. refl) had
+change_shows limit id part world buffer Unmerge stands limited free plain had =
+    stays part _ world (after_of world buffer Unmerge) (quiet_told limit id part kind.Unmerged (told_of world buffer Unmerge) refl free) (λ q. refl) had
+change_shows limit id part world buffer Hide stands limited free plain had =
+    stays part _ world (after_of world buffer Hide) (quiet_told limit id part kind.Hidden (told_of world buffer Hide) refl free) (λ q. refl) had
+change_shows limit id part world buffer Unhide stands limited free plain had =
+    stays part _ world (after_of world buffer Unhide) (quiet_told limit id part kind.Unhidden (told_of world buffer Unhide) refl free) (λ q. refl) had
+change_shows limit id part world buffer (Rename name flips) stands limited free plain had =
+    stays part _ world (after_of world buffer (Rename name flips)) (quiet_told limit id part kind.Renamed (told_of world buffer (Rename name flips)) refl free) (λ q. flipped_lines flips world (after_of world buffer (Rename name flips)) refl q ∙ ap (λ fs. flipped fs (lines_in world q)) plain) had
+change_shows limit id part world buffer (ShortName name) stands limited free plain had =
+    stays part _ world (after_of world buffer (ShortName name)) (quiet_told limit id part kind.Renamed (told_of world buffer (ShortName name)) refl free) (λ q. refl) had
+change_shows limit id part world buffer (Title title) stands limited free plain had =
+    stays part _ world (after_of world buffer (Title title)) (quiet_told limit id part kind.TitleChanged (told_of world buffer (Title title)) refl free) (λ q. refl) had
+change_shows limit id part world buffer (SetVar var) stands limited free plain had =
+    stays part _ world (after_of world buffer (SetVar var)) (quiet_told limit id part (var_kind (lacks_var var.name (entry_of buffer world.groups))) (told_of world buffer (SetVar var)) (var_quiet (lacks_var var.name (entry_of buffer world.groups))) free) (λ q. refl) had
+change_shows limit id part world buffer (RemoveVar name) stands limited free plain had =
+    stays part _ world (after_of world buffer (RemoveVar name)) (quiet_told limit id part kind.VarRemoved (told_of world buffer (RemoveVar name)) refl free) (λ q. refl) had
+change_shows limit id part world buffer (Print line) stands limited free plain had =
+    print_shows limit id part world buffer line stands limited free had
+change_shows limit id part world buffer Clear stands limited free plain had =
+    subst (λ p. HasAll p (after_of world buffer Clear)) (sym (cleared_told limit id part _ free)) (emptied_shows part world (after_of world buffer Clear) buffer.0 (inserted world (after_of world buffer Clear) buffer.0 [] refl) had)
+change_shows limit id part world buffer (Flips flips) stands limited free plain had = absurd plain
+
+pub notice_shows : NoticeShows
+notice_shows limit id part world change stands limited free accepted plain had = change_shows limit id part world change.buffer change.what stands limited free plain had
