@@ -224,13 +224,9 @@ impl Buffers {
         None
     }
 
+    /// Why `rename` would refuse this full name, if it would. None otherwise; nothing changes.
     #[tactic(auto, unfolding(crate::specs::Calls::rename_refusal))]
-    pub(crate) fn rename_refusal(
-        &self,
-        alloc: Global,
-        h: Handle,
-        name: &Text,
-    ) -> Option<BufferRefused>
+    pub fn rename_refusal(&self, alloc: Global, h: Handle, name: &Text) -> Option<BufferRefused>
         ensures { Answers (rename_refusal h name.now self.now) result }
     {
         if let Some(refused) = self.no_buffer(h) {

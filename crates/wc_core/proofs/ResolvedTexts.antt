@@ -21,7 +21,9 @@ use Rattle.wc_model.specs.declared.change.What.TheVariants as what
 use Rattle.wc_model.specs.declared.refused.ChangeRefused.{ChangeRefused}
 use Rattle.wc_model.specs.declared.refused.ChangeRefused.TheVariants as refused
 use Rattle.wc_model.specs.World.{World, last_handle}
-use Rattle.wc_model.specs.Apply.{or_else, of_buffers, spent, is_held, no_line, row_of, refusal_of, refusal}
+use Rattle.wc_model.specs.declared.notice.Notice.{Notice}
+use Rattle.wc_model.specs.Notices.{Accepted, about, told_groups, name_in, notice}
+use Rattle.wc_model.specs.Apply.{after, or_else, of_buffers, spent, is_held, no_line, row_of, refusal_of, refusal}
 use Rattle.wc_world.specs.Texts.{IsChangeText}
 use Rattle.wc_core.specs.Typed.{Typed, Nothing, Quits, Refused, Prints, Adds, Closes, Merges, Names, Changes, typed_line}
 use Rattle.wc_core.specs.Resolved.{Resolved, Stays, Ends, Tells, Asks, buffer_meant, no_such_buffer, of_meant, of_named, change_of, line_spec, core_spec, plugin_in, renamed, resolved, buffer_text, refusal_text, told_refusal}
@@ -244,3 +246,35 @@ refused_text world h (what.Flips flips) utf8 = no_line_text flips world
 -- what is told of a refused change is text
 pub refusal-utf8 : (world : World) (change : Change) (reason : ChangeRefused) → WhatUtf8 change.what → refusal world change ≡ Some reason → IsUtf8 (refusal_text reason)
 refusal-utf8 world change reason utf8 e = subst RefusedUtf8 e (refused_text world change.buffer change.what utf8)
+
+-- ---- what is noticed of a change
+
+row_text : (o : Option BufferEntry) → ((e : BufferEntry) → o ≡ Some e → IsBuffer e) → IsUtf8 (name_in (option_map (λ (e : BufferEntry). e.row) o))
+row_text None fit = IsUtf8-nil
+row_text (Some e) fit = (fit e refl).text.full_name
+
+told_are : (before behind : World) (w : What) → AreBuffers before.groups → AreBuffers behind.groups → AreBuffers (told_groups before behind w)
+told_are before behind what.Close p q = p
+told_are before behind (what.Add spec) p q = q
+told_are before behind (what.MoveTo n) p q = q
+told_are before behind (what.MergeInto into) p q = q
+told_are before behind what.Unmerge p q = q
+told_are before behind what.Hide p q = q
+told_are before behind what.Unhide p q = q
+told_are before behind (what.Rename name flips) p q = q
+told_are before behind (what.ShortName name) p q = q
+told_are before behind (what.Title title) p q = q
+told_are before behind (what.SetVar var) p q = q
+told_are before behind (what.RemoveVar name) p q = q
+told_are before behind (what.Print line) p q = q
+told_are before behind what.Clear p q = q
+told_are before behind (what.Flips flips) p q = q
+
+-- the name of the buffer is text
+pub notice-utf8 : (before : World) (change : Change) (behind : World) (n : Notice) (groups groups' : Groups) → Accepted before change behind n → groups ≡ before.groups → groups' ≡ behind.groups → AreBuffers groups → AreBuffers groups' → IsUtf8 n.full_name
+notice-utf8 before change behind n groups groups' made e e' p q =
+    let w = change.what in
+    let later : AreBuffers (after before change).groups = subst (λ (world : World). AreBuffers world.groups) made.after (subst AreBuffers e' q) in
+    let are = told_are before (after before change) w (subst AreBuffers e p) later in
+    let buffer = about before change.buffer w in
+    subst (λ (n : Notice). IsUtf8 n.full_name) (sym made.notice) (row_text (entry_of buffer (told_groups before (after before change) w)) (are.fit buffer))

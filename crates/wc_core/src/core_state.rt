@@ -300,8 +300,10 @@ impl Core {
         ensures made { result ≡ None → Changes self.old change self.new }
         ensures refused { IfSome result (λ reason. (self.new ≡ self.old) × (refusal self.old.world change ≡ Some reason)) }
     {
+        let _texts = self.world.buffers().groups();
         match self.world.change(self.alloc, change, &mut Untouched) {
             Ok(notice) => {
+                let _texts_behind = self.world.buffers().groups();
                 self.tell(&notice);
                 None
             }

@@ -1,3 +1,4 @@
 pub mod HistoryLaws
 pub mod Newest
 pub mod RingLemmas
+pub mod FlagLemmas

@@ -1,3 +1,4 @@
+pub mod Flags
 pub mod Held
 pub mod History
 pub mod Inside

@@ -5,7 +5,7 @@ mod line;
 mod lines;
 
 pub use line::Line;
-pub use lines::{LineIter, Lines};
+pub use lines::{Flags, LineIter, Lines};
 
 #[cfg(test)]
 mod tests;

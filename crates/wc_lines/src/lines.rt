@@ -1,5 +1,6 @@
-ghost use Rattle.std.specs.Prelude.{◌≡◌, ◌≤◌, ◌++◌, ◌∷◌, [], length, IfOk, IfSome, All, IsTrue, ◌↔◌, option_copied};
+ghost use Rattle.std.specs.Prelude.{◌≡◌, ◌≤◌, ◌++◌, ◌∷◌, [], length, map, IfOk, IfSome, All, IsTrue, ◌↔◌, option_copied};
 ghost use Rattle.std.specs.Iterator.{YieldsFirstRef, item_count};
+ghost use Rattle.wc_lines.specs.Flags.{flag_at, flagged, with_flags};
 ghost use Rattle.wc_lines.specs.Held.{no_lines};
 ghost use Rattle.wc_lines.specs.Ring.{with_line, pushed_out, without_lines, with_displayed, has_content, place_of, newest};
 ghost use Rattle.wc_lines.specs.LinesLeft.{lines_left};
@@ -7,9 +8,12 @@ ghost use Rattle.wc_lines.specs.LineText.{HasText};
 
 use crate::line::Line;
 use std::alloc::Global;
-use std::collections::{VecDeque, vec_deque};
+use std::collections::{HashMap, VecDeque, vec_deque};
 use std::marker::Model;
 use wc_text::{Handle, NoMemory};
+
+/// Whether lines are displayed, by their content handles.
+pub type Flags = HashMap<u64, bool>;
 
 /// The newest lines of a buffer, up to a limit. Contracts see the limit and the list, from the oldest.
 ///
@@ -112,6 +116,29 @@ impl Lines {
         };
         self.queue[place].displayed = on;
         true
+    }
+
+    /// Gives each line the flag that stands at its content handle. A line for which none stands is left as it is.
+    pub fn set_flags(&mut self, flags: &Flags)
+        ensures { self.new ≡ with_flags (flag_at flags.now) self.old }
+    {
+        set_flags(self.queue.make_contiguous(), flags);
+    }
+}
+
+fn set_flags(lines: &mut [Line], flags: &Flags)
+    ensures { lines.new ≡ map (flagged (flag_at flags.now)) lines.old }
+{
+    for line in lines.iter_mut() {
+        set_flag(line, flags);
+    }
+}
+
+fn set_flag(line: &mut Line, flags: &Flags)
+    ensures { line.new ≡ flagged (flag_at flags.now) line.old }
+{
+    if let Some(on) = flags.get(&line.content.0) {
+        line.displayed = *on;
     }
 }
 

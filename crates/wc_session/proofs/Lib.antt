@@ -1,3 +1,7 @@
 pub mod Formed
+pub mod LoginLaws
 pub mod NameLemmas
+pub mod OneReplyLaws
 pub mod SendingLemmas
+pub mod ServedLemmas
+pub mod SetLemmas

@@ -1,11 +1,17 @@
 -- Messages behind the unsent bytes.
-use Rattle.std.proofs.Common.{◌≡◌, ℕ, ◌-◌, ◌^◌, ◌<◌, ◌≤◌, Bool, true, false, List, [], ◌∷◌, ◌++◌, length, refl, sym, ap, subst, ◌∙◌, append-nil, arith}
+use Rattle.std.proofs.Common.{◌≡◌, ℕ, ◌-◌, ◌^◌, ◌<◌, ◌≤◌, Bool, true, false, cond, List, [], ◌∷◌, ◌++◌, length, refl, sym, ap, subst, ◌∙◌, append-nil, arith}
 use Rattle.std.specs.Str.{IsUtf8}
 use Rattle.std.proofs.lemmas.Bool.Decides.{nat_tests}
 use Rattle.wc_objects.specs.declared.object.Object.{Object}
 use Rattle.wc_objects.specs.declared.object.WireMessage.{WireMessage}
 use Rattle.wc_objects.specs.Forms.{well_formed}
 use Rattle.wc_objects.specs.Spelling.{message_bytes}
+use Rattle.wc_model.specs.World.{World}
+use Rattle.wc_model.specs.declared.notice.Notice.{Notice}
+use Rattle.wc_session.specs.declared.client.Client.{Client}
+use Rattle.wc_session.specs.Known.{Known}
+use Rattle.wc_session.specs.Event.{Spelled, IsEventOf, event_messages, notice_told, with_event}
+use Rattle.wc_session.specs.Sync.{follows}
 use Rattle.wc_session.specs.Sending.{message, spelling, fits, fitting, reply, null_hdata, is_owed, Sends}
 
 fitting_one : (m : WireMessage) → fits m ≡ true → fitting m ≡ m ∷ []
@@ -76,3 +82,31 @@ sends_as old new a b e sends = let P : List WireMessage → Type 0 = λ messages
 
 pub sends_from : (old mid new : List ℕ) (messages : List WireMessage) → mid ≡ old → Sends mid new messages → Sends old new messages
 sends_from old mid new messages e sends = let P : List ℕ → Type 0 = λ bytes. Sends bytes new messages in subst P e sends
+
+-- ---- the event of a notice
+
+told_none : (world : World) (notice : Notice) (client : Client) → follows notice.kind notice.buffer.0 client ≡ false → notice_told world notice client ≡ []
+unfolding notice_told
+told_none world notice client e = rw e refl
+
+told_some : (world : World) (notice : Notice) (client : Client) → follows notice.kind notice.buffer.0 client ≡ true → notice_told world notice client ≡ event_messages world notice
+unfolding notice_told
+told_some world notice client e = rw e refl
+
+-- what a client is told of a notice is behind its bytes, once the event is
+pub event_sends : (event : Spelled) (world : World) (notice : Notice) (session : Known) → IsEventOf event world notice
+    → Sends session.unsent (with_event event session).unsent (notice_told world notice session.client)
+event_sends event world notice session is = by (follows notice.kind notice.buffer.0 session.client) refl
+  where
+    same : follows event.kind event.buffer.0 session.client ≡ follows notice.kind notice.buffer.0 session.client
+    same = λ i. follows (is.kind i) (is.buffer i).0 session.client
+
+    by : (b : Bool) → follows notice.kind notice.buffer.0 session.client ≡ b → Sends session.unsent (with_event event session).unsent (notice_told world notice session.client)
+    by true e = sends_as _ _ _ _ (sym (told_some world notice session.client e)) (record {
+      bytes = ap (λ b. session.unsent ++ cond b event.bytes []) (same ∙ e) ∙ ap (λ (t : List ℕ). session.unsent ++ t) is.bytes.bytes;
+      spelt = is.bytes.spelt;
+    })
+    by false e = sends_as _ _ _ _ (sym (told_none world notice session.client e)) (record {
+      bytes = ap (λ b. session.unsent ++ cond b event.bytes []) (same ∙ e);
+      spelt = tt;
+    })

@@ -4,16 +4,26 @@
 mod buffer_event;
 mod buffer_sets;
 mod client;
+mod handshake;
+mod laws;
+mod login;
 mod names;
+mod objects;
 mod outcome;
 mod sending;
+mod served;
 mod session;
+mod sync;
 mod sync_set;
 
 pub use buffer_event::BufferEvent;
 pub use buffer_sets::BufferSets;
 pub use client::Client;
+pub use laws::{event_tells, lets_in_exactly, one_reply_each};
 pub use names::buffer_named;
 pub use outcome::Outcome;
 pub use session::Session;
 pub use sync_set::{BufferSet, SyncSet};
+
+#[cfg(test)]
+mod tests;

@@ -9,6 +9,7 @@ ghost use Rattle.wc_session.specs.Sync.{follows, heard};
 use crate::buffer_event::BufferEvent;
 use crate::client::Client;
 use crate::outcome::Outcome;
+use crate::served::serve;
 use bytes::BytesMut;
 use std::alloc::Global;
 use std::marker::Model;
@@ -59,11 +60,17 @@ impl Session {
         ensures answered { OnServed result (Answers self.old self.new result (reply_of world.now password.now self.old.client request)) }
         ensures refused { OnNoMemory result (self.new ≡ self.old) }
     {
-        let _ = alloc;
-        let _ = world;
-        let _ = password;
-        let _ = request;
-        Outcome::NoMemory
+        let Ok(outcome) = serve(
+            alloc,
+            &mut self.unsent,
+            &mut self.client,
+            world,
+            password.as_slice(),
+            request,
+        ) else {
+            return Outcome::NoMemory;
+        };
+        outcome
     }
 
     /// Puts an event behind the unsent bytes, where it is for this client. Where memory is refused the session stays as

@@ -13,7 +13,7 @@ pub struct SyncSet {
     pub nicklist: bool,
 }
 
-fn has(names: &[Text], name: &[u8]) -> bool
+pub(crate) fn has(names: &[Text], name: &[u8]) -> bool
     ensures { result ≡ has name.now names.now }
 {
     names.iter().any(|other| other.as_slice() == name)

@@ -4,9 +4,11 @@ mod ClientLemmas
 mod DumpLemmas
 mod EventLemmas
 mod ExampleLemmas
+mod HandleLemmas
 mod IdLemmas
 mod ListLemmas
 mod NoticeLemmas
+mod PrintLemmas
 mod ReplyLemmas
 mod RowLemmas
 mod RunLemmas

@@ -32,7 +32,7 @@ use Rattle.wc_told.specs.BufferObjects.{count, named_keys, named_values, named_o
 use Rattle.wc_settled.specs.Printed.{IsPrinted}
 use Rattle.wc_settled.specs.Worlds.{IsBufferKept, IsWorldKept}
 use Rattle.wc_settled.proofs.ListLemmas.{all_map, all_flat}
-use Rattle.wc_settled.proofs.WorldLemmas.{rows_handles}
+use Rattle.wc_settled.proofs.HandleLemmas.{rows_handles}
 
 hex_size : (p : ℕ) → p < 2 ^ 64 → length (hex p) ≤ 16
 unfolding hex

@@ -1,48 +1,47 @@
 -- What always holds of the world holds still after a change.
-use Rattle.std.proofs.Common.{◌≡◌, ℕ, ◌+◌, ◌-◌, ◌<◌, ◌≤◌, ◌^◌, Bool, true, false, cond, ◌&&◌, ◌||◌, eqb, ltb, List, [], ◌∷◌, ◌++◌, length, map, sum_by, All, Option, Some, None, unwrap_or, refl, sym, ap, subst, ◌∙◌, arith, eq-eqb, eqb-true, IsUtf8, map-id}
+use Rattle.std.proofs.Common.{◌≡◌, ℕ, ◌+◌, ◌-◌, ◌<◌, ◌≤◌, ◌^◌, Bool, true, false, cond, ◌&&◌, eqb, ltb, List, [], ◌∷◌, ◌++◌, length, map, All, Option, Some, None, unwrap_or, refl, sym, ap, subst, ◌∙◌, arith, eq-eqb, eqb-true, IsUtf8, map-id}
 use Rattle.std.specs.Prelude.{pos}
-use Rattle.std.specs.List.{AllByRecursion, list_any}
+use Rattle.std.specs.List.{AllByRecursion}
 use Rattle.std.specs.FinMap.{find as find_entry, get, insert, remove, empty, entries, get-insert, get-remove, get-empty, get-entries, get-from_entries}
 use Rattle.std.specs.Ordering.{nat_cmp, eq_by_cmp}
-use Rattle.std.specs.Cmp.{nat_cmp_total, unsigned_tied}
+use Rattle.std.specs.Cmp.{nat_cmp_total}
 use Rattle.std.proofs.lemmas.Bool.{false≢true, or_parts}
 use Rattle.std.proofs.lemmas.Bool.Decides.{nat_tests}
-use Rattle.std.proofs.lemmas.List.{length-map, map-append, length-drop, length-take}
-use Rattle.std.proofs.lemmas.List.Elements.{All-nil, All-push, All-drop, All-take}
-use Rattle.std.proofs.lemmas.List.Sums.{sum_by-cons}
+use Rattle.std.proofs.lemmas.List.{map-append, length-drop}
+use Rattle.std.proofs.lemmas.List.Elements.{All-nil, All-push, All-drop}
 use Rattle.std.proofs.lemmas.List.Folds.{list_any-append}
 use Rattle.wc_text.specs.declared.names.Handle.{Handle}
-use Rattle.wc_text.specs.Cut.{cut_of}
-use Rattle.wc_text.proofs.CutLemmas.{cut_within, cut_utf8}
 use Rattle.wc_lines.specs.declared.line.Line.{Line}
 use Rattle.wc_lines.specs.Ring.{last_of}
 use Rattle.wc_buffers.specs.declared.entry.BufferEntry.{BufferEntry}
 use Rattle.wc_buffers.specs.declared.refused.BufferRefused.{BufferRefused}
 use Rattle.wc_buffers.specs.declared.row.BufferSpec.{BufferSpec}
-use Rattle.wc_buffers.specs.Calls.{Groups, bad_names, handle_of, is_there, entry_of, added, opened, closed, moved, merged, unmerged, changed, with_hidden, with_full_name, with_short_name, with_title, with_var, without_var, add_refusal, add_refusal_so_far, too_many_vars, is_alone, lacks_var, is_full}
+use Rattle.wc_buffers.specs.Calls.{Groups, bad_names, handle_of, is_there, entry_of, added, opened, closed, moved, merged, unmerged, changed, with_hidden, with_full_name, with_short_name, with_title, with_var, without_var, add_refusal, add_refusal_so_far, too_many_vars, lacks_var, is_full}
 use Rattle.wc_buffers.specs.Entries.{IsText}
-use Rattle.wc_buffers.specs.Groups.{rows, has, in_group, times, take_out, move_group, merge, unmerge, update, append_to}
+use Rattle.wc_buffers.specs.Groups.{rows, has, in_group, times}
 use Rattle.wc_buffers.specs.Kept.{IsBuffer, handles}
-use Rattle.wc_buffers.specs.Table.{AreGroups, key}
+use Rattle.wc_buffers.specs.Table.{AreGroups}
 use Rattle.wc_buffers.specs.Vars.{cut_to, vars_of}
-use Rattle.wc_buffers.proofs.GroupLaws.{by_bool, has-map, times-map, rows-map, take_out-map, move_group-map, merge-map, unmerge-map, list_any-map, in_group-map}
-use Rattle.wc_buffers.proofs.TableLemmas.{added_are, taken_are, moved_are, appended_are, unmerged_are, stands, found, picked, taken_has, taken_lacks, rows-taken, leaves_others}
+use Rattle.wc_buffers.proofs.GroupLaws.{by_bool}
+use Rattle.wc_buffers.proofs.TableLemmas.{added_are}
 use Rattle.wc_buffers.proofs.RefusalLemmas.{there_good, move_good, merge_good, unmerge_good, rename_good, short_name_good, set_var_good, remove_var_good, add_good}
 use Rattle.wc_buffers.proofs.Fits.{or_none, opened_fits, hidden_fits, short_name_fits, title_fits, full_name_fits, var_fits, removed_fits, cut_short, cut_is_utf8}
 use Rattle.wc_world.proofs.GroupRows.{some_row, in_rows, has-move, has-merge, has-unmerge, has-update, has-take_out, merged_apart}
-use Rattle.wc_world.proofs.CutTags.{cut_tags_front}
 use Rattle.wc_world.proofs.First.{core_text}
+use Rattle.wc_world.proofs.HeldLemmas.{tied}
 use Rattle.wc_model.specs.declared.change.LineSpec.{LineSpec}
 use Rattle.wc_model.specs.declared.change.What.{What}
 use Rattle.wc_model.specs.declared.change.What.TheVariants.{Add, Close, MoveTo, MergeInto, Unmerge, Hide, Unhide, Rename, ShortName, Title, SetVar, RemoveVar, Print, Clear, Flips}
 use Rattle.wc_model.specs.declared.refused.ChangeRefused.{ChangeRefused}
 use Rattle.wc_model.specs.declared.refused.ChangeRefused.TheVariants as refused
 use Rattle.wc_model.specs.World.{World, core_row, first_world, lines_at, last_handle}
-use Rattle.wc_model.specs.LineCuts.{tags_from, cut_tags, line_of}
+use Rattle.wc_model.specs.LineCuts.{line_of}
 use Rattle.wc_model.specs.Apply.{refusal_of, after_of, of_buffers, or_else as or_refused, spent, with_groups, with_lines, flip_all, flipped, row_of as new_row}
 use Rattle.wc_settled.specs.Printed.{IsPrinted}
 use Rattle.wc_settled.specs.Worlds.{IsBufferKept, IsWorldKept}
 use Rattle.wc_settled.proofs.ListLemmas.{all_more}
+use Rattle.wc_settled.proofs.HandleLemmas.{has_handles, times_handles, rows_handles, groups_taken, groups_moved, groups_merged, groups_unmerged, handles_updated}
+use Rattle.wc_settled.proofs.PrintLemmas.{line_printed}
 use Rattle.wc_settled.proofs.RowLemmas.{added_rows, taken_rows, moved_rows, merged_rows, unmerged_rows, updated_rows, row_has}
 
 -- ---- the changes that commands ask for
@@ -80,65 +79,6 @@ unspent n world e = by (ltb (last_handle + 1) (world.next + n)) refl e where
   by : (b : Bool) → ltb (last_handle + 1) (world.next + n) ≡ b → cond b (Some refused.Spent) None ≡ None → world.next + n ≤ 2 ^ 62 + 1
   by true t e = absurd (let h = e in cc)
   by false t e = grind (arith, nat_tests)
-
--- ---- handles
-
-handle_in : BufferEntry → Handle
-handle_in e = e.row.handle
-
-has_handles : (h : ℕ) (gs : Groups) → has key h (handles gs) ≡ has handle_of h gs
-has_handles h gs = has-map (λ (e : BufferEntry). e.row.handle) handle_of key (λ e. refl) h gs
-
-pub times_handles : (h : ℕ) (gs : Groups) → times key h (handles gs) ≡ times handle_of h gs
-times_handles h gs = times-map (λ (e : BufferEntry). e.row.handle) handle_of key (λ e. refl) h gs
-
-pub rows_handles : (gs : Groups) → length (rows (handles gs)) ≡ length (rows gs)
-rows_handles gs = ap length (rows-map (λ (e : BufferEntry). e.row.handle) handle_of key (λ e. refl) gs) ∙ length-map (rows gs) (λ (e : BufferEntry). e.row.handle)
-
-groups_taken : (h : ℕ) (gs : Groups) → AreGroups (handles gs) → AreGroups (handles (take_out handle_of h gs))
-groups_taken h gs are = subst AreGroups (sym (take_out-map (λ (e : BufferEntry). e.row.handle) handle_of key (λ e. refl) h gs)) (taken_are h (handles gs) are)
-
-groups_moved : (h n : ℕ) (gs : Groups) → has handle_of h gs ≡ true → AreGroups (handles gs) → AreGroups (handles (move_group handle_of h n gs))
-groups_moved h n gs there are =
-    let f = found h (handles gs) (has_handles h gs ∙ there) in
-    subst AreGroups (sym (move_group-map (λ (e : BufferEntry). e.row.handle) handle_of key (λ e. refl) h n gs)) (moved_are h f.0 n (handles gs) are (stands h f.0 (handles gs) are f.1))
-
-groups_merged : (h into : Handle) (gs : Groups) → has handle_of h.0 gs ≡ true → has handle_of into.0 gs ≡ true → eqb h.0 into.0 ≡ false → AreGroups (handles gs) → AreGroups (handles (merge handle_of h.0 into.0 gs))
-groups_merged h into gs there target apart are =
-    let hs = handles gs in
-    let here : has key h.0 hs ≡ true = has_handles h.0 gs ∙ there in
-    let rest = take_out key h.0 hs in
-    let left = taken_are h.0 hs are in
-    let f = found into.0 rest (taken_has h.0 into.0 hs apart (has_handles into.0 gs ∙ target)) in
-    let put = appended_are into.0 f.0 h rest left (stands into.0 f.0 rest left f.1) (taken_lacks h.0 hs) (let few = are.few in omega (arith, rows-taken h.0 hs are here)) in
-    subst AreGroups (sym (merge-map (λ (e : BufferEntry). e.row.handle) handle_of key (λ e. refl) h.0 into.0 gs))
-    (subst (λ new. AreGroups (append_to key into.0 new rest)) (sym (picked h hs are here)) put)
-
-alone_handles : (h : ℕ) (gs : Groups) → list_any (λ g. in_group key h g && eqb (length g) 1) (handles gs) ≡ list_any (λ g. in_group handle_of h g && eqb (length g) 1) gs
-alone_handles h gs = list_any-map (map (λ (e : BufferEntry). e.row.handle)) (λ g. in_group key h g && eqb (length g) 1) (λ g. in_group handle_of h g && eqb (length g) 1) both gs
-  where
-    both : (g : List BufferEntry) → (in_group key h (map (λ (e : BufferEntry). e.row.handle) g) && eqb (length (map (λ (e : BufferEntry). e.row.handle) g)) 1) ≡ (in_group handle_of h g && eqb (length g) 1)
-    both g = rw (in_group-map (λ (e : BufferEntry). e.row.handle) handle_of key (λ e. refl) h g, length-map g (λ (e : BufferEntry). e.row.handle)) refl
-
-groups_unmerged : (h : Handle) (gs : Groups) → has handle_of h.0 gs ≡ true → is_alone h gs ≡ false → AreGroups (handles gs) → AreGroups (handles (unmerge handle_of h.0 gs))
-groups_unmerged h gs there merged are =
-    let hs = handles gs in
-    let f = found h.0 hs (has_handles h.0 gs ∙ there) in
-    let s = stands h.0 f.0 hs are f.1 in
-    subst AreGroups (sym (unmerge-map (λ (e : BufferEntry). e.row.handle) handle_of key (λ e. refl) h.0 gs))
-    (unmerged_are h f.0 hs are s (leaves_others h.0 f.0 hs s (alone_handles h.0 gs ∙ merged)))
-
-handles_list : (h : ℕ) (F : BufferEntry → BufferEntry) → ((x : BufferEntry) → (F x).row.handle ≡ x.row.handle) → (xs : List BufferEntry)
-    → map (λ (e : BufferEntry). e.row.handle) (map (λ (x : BufferEntry). cond (eqb (handle_of x) h) (F x) x) xs) ≡ map (λ (e : BufferEntry). e.row.handle) xs
-handles_list h F same [] = refl
-handles_list h F same (x ∷ xs) = λ i. one (eqb (handle_of x) h) i ∷ handles_list h F same xs i where
-  one : (b : Bool) → (cond b (F x) x).row.handle ≡ x.row.handle
-  one true = same x
-  one false = refl
-
-handles_updated : (h : ℕ) (F : BufferEntry → BufferEntry) → ((x : BufferEntry) → (F x).row.handle ≡ x.row.handle) → (gs : Groups) → handles (update handle_of h F gs) ≡ handles gs
-handles_updated h F same [] = refl
-handles_updated h F same (g ∷ gs) = λ i. handles_list h F same g i ∷ handles_updated h F same gs i
 
 -- ---- changes of groups alone
 
@@ -180,9 +120,6 @@ rewritten limit w h F is there same own fits =
 
 turn : (a b : ℕ) → eqb a b ≡ eqb b a
 turn a b = by_bool (eqb a b) _ (λ t. t ∙ sym (eq-eqb b a (sym (eqb-true a b t)))) (λ t. t ∙ sym (let z : eqb b a ≡ false = grind (arith, nat_tests) in z))
-
-tied : (q h : ℕ) → eq_by_cmp nat_cmp q h ≡ eqb q h
-tied q h = unsigned_tied q h
 
 -- the lines where a buffer was given others
 put_at : (w : World) (k : ℕ) (ms : List Line) (q : ℕ) → unwrap_or (get (insert w.lines k ms) q) [] ≡ cond (eqb q k) ms (lines_at w q)
@@ -252,49 +189,6 @@ there_or_none w limit k ms is there q lacks = by (eqb q k) refl where
   by false t = is.none q lacks
 
 -- ---- a printed line
-
-tags_few : (count size : ℕ) (tags : List (List ℕ)) → count ≤ 32 → count + length (tags_from count size tags) ≤ 32
-tags_few count size [] most = omega arith
-tags_few count size (tag ∷ tags) most = by (ltb 32 (count + 1)) (ltb 256 (size + length tag)) refl (tags_few (count + 1) (size + length tag) tags) where
-  by : (a b : Bool) → ltb 32 (count + 1) ≡ a → (count + 1 ≤ 32 → count + 1 + length (tags_from (count + 1) (size + length tag) tags) ≤ 32)
-      → count + length (cond (a || b) [] (tag ∷ tags_from (count + 1) (size + length tag) tags)) ≤ 32
-  by true b t rest = omega arith
-  by false true t rest = omega arith
-  by false false t rest = let le : count + 1 ≤ 32 = grind (arith, nat_tests) in let h = rest le in omega arith
-
-abbrev sizes : List (List ℕ) → ℕ
-sizes tags = sum_by (λ tag. length tag) tags
-
-tags_short : (count size : ℕ) (tags : List (List ℕ)) → size ≤ 256 → size + sizes (tags_from count size tags) ≤ 256
-tags_short count size [] most = omega arith
-tags_short count size (tag ∷ tags) most = by (ltb 32 (count + 1)) (ltb 256 (size + length tag)) refl (tags_short (count + 1) (size + length tag) tags) where
-  by : (a b : Bool) → ltb 256 (size + length tag) ≡ b → (size + length tag ≤ 256 → size + length tag + sizes (tags_from (count + 1) (size + length tag) tags) ≤ 256)
-      → size + sizes (cond (a || b) [] (tag ∷ tags_from (count + 1) (size + length tag) tags)) ≤ 256
-  by true b t rest = omega arith
-  by false true t rest = omega arith
-  by false false t rest =
-      let le : size + length tag ≤ 256 = grind (arith, nat_tests) in
-      let h = rest le in
-      omega (arith, sum_by-cons (λ (tag : List ℕ). length tag) tag (tags_from (count + 1) (size + length tag) tags))
-
-cut_size : (text : List ℕ) (limit : ℕ) → length (cut_to limit text) ≤ limit
-cut_size text limit = omega (arith, length-take (cut_of text limit) text, cut_within text limit)
-
-pub line_printed : (next : ℕ) (spec : LineSpec) → next ≤ 2 ^ 62 → All IsUtf8 spec.tags → spec.notify ≡ pos 0 → IsPrinted (line_of next spec)
-line_printed next spec below tags level = record {
-  handle = omega arith;
-  content = omega arith;
-  notify = level;
-  few = (let h = tags_few 0 0 spec.tags (omega arith) in omega arith);
-  tags = (let h = tags_short 0 0 spec.tags (omega arith) in omega arith);
-  prefix = cut_size spec.prefix 128;
-  message = cut_size spec.message 1024;
-  text = record {
-    tags = subst (All IsUtf8) (sym (cut_tags_front spec.tags)) (All-take IsUtf8 (length (cut_tags spec.tags)) spec.tags tags);
-    prefix = cut_utf8 spec.prefix 128;
-    message = cut_utf8 spec.message 1024;
-  };
-}
 
 last_within : {X : Type 0} (n : ℕ) (xs : List X) → length (last_of n xs) ≤ n
 last_within n xs = omega (arith, length-drop (length xs - n) xs)

@@ -12,6 +12,11 @@ const JOINS: &str =
 /// The client that types the lines. It asks for no events.
 const TYPIST: u64 = 9;
 
+/// The core buffer, which draws the handles 1 to 4, and the buffer that is added next.
+const CORE: u64 = 1;
+
+const SECOND: u64 = 5;
+
 /// A core that keeps three lines, with three clients of which the typist alone has logged in.
 fn new_core(alloc: Global) -> Result<Core, Fail> {
     let mut core = Core::new(alloc, Text::from_slice(alloc, b"x")?, 3)?;
@@ -67,10 +72,10 @@ fn take_all(alloc: Global, mirror: &mut Mirror, bytes: &[u8]) -> Result<(), Fail
     Ok(())
 }
 
-/// The letters that a mirror holds, or `none` where it took no dump.
-fn letters_of(alloc: Global, mirror: &Mirror) -> Result<BytesMut, Fail> {
+/// The letters that a mirror holds of a buffer, or `none` where it took no dump.
+fn letters_of(alloc: Global, mirror: &Mirror, buffer: u64) -> Result<BytesMut, Fail> {
     let mut letters = BytesMut::new(alloc);
-    match mirror.lines(Handle(1)) {
+    match mirror.lines(Handle(buffer)) {
         Some(lines) => {
             for line in lines {
                 letters.extend_from_slice(line.message.as_slice())?;
@@ -81,15 +86,21 @@ fn letters_of(alloc: Global, mirror: &Mirror) -> Result<BytesMut, Fail> {
     Ok(letters)
 }
 
-/// Whether a client that took all its bytes holds these letters.
-fn holds(alloc: Global, core: &Core, number: u64, letters: &str) -> Result<bool, Fail> {
+/// Whether a client that took all its bytes holds these letters of a buffer.
+fn holds(
+    alloc: Global,
+    core: &Core,
+    number: u64,
+    buffer: u64,
+    letters: &str,
+) -> Result<bool, Fail> {
     let mut mirror = empty_mirror(alloc)?;
     take_all(
         alloc,
         &mut mirror,
         core.unsent(LinkId(number)).unwrap_or(b""),
     )?;
-    let held = letters_of(alloc, &mirror)?;
+    let held = letters_of(alloc, &mirror, buffer)?;
     Ok(held.as_slice() == letters.as_bytes())
 }
 
@@ -149,8 +160,8 @@ fn settled_clients_hold_the_lines(rt: HostRuntime) -> Result<(), Fail> {
     for row in ROWS {
         let core = play(rt.alloc(), row)?;
         let what: &'static str = row.what;
-        assert!(rt; holds(rt.alloc(), &core, 1, row.held)?, "{what}");
-        assert!(rt; holds(rt.alloc(), &core, 2, row.held)?, "{what}");
+        assert!(rt; holds(rt.alloc(), &core, 1, CORE, row.held)?, "{what}");
+        assert!(rt; holds(rt.alloc(), &core, 2, CORE, row.held)?, "{what}");
     }
     Ok(())
 }
@@ -162,7 +173,36 @@ fn clients_that_did_not_settle_hold_other_lines(rt: HostRuntime) -> Result<(), F
     say(&mut core, 2, JOINS);
     say(&mut core, 2, "desync");
     print(rt.alloc(), &mut core, "a")?;
-    assert!(rt; holds(rt.alloc(), &core, 1, "none")?);
-    assert!(rt; holds(rt.alloc(), &core, 2, "")?);
+    assert!(rt; holds(rt.alloc(), &core, 1, CORE, "none")?);
+    assert!(rt; holds(rt.alloc(), &core, 2, CORE, "")?);
+    Ok(())
+}
+
+#[test]
+fn settled_clients_hold_the_lines_of_each_buffer(rt: HostRuntime) -> Result<(), Fail> {
+    let mut core = new_core(rt.alloc())?;
+    say(&mut core, 1, JOINS);
+    say(&mut core, TYPIST, "input core.weechat /buffer add other");
+    say(&mut core, TYPIST, "input core.other /print a");
+    say(&mut core, TYPIST, "input core.weechat /print b");
+    say(&mut core, 2, JOINS);
+    for number in [1, 2] {
+        assert!(rt; holds(rt.alloc(), &core, number, SECOND, "a")?);
+        assert!(rt; holds(rt.alloc(), &core, number, CORE, "b")?);
+    }
+    Ok(())
+}
+
+#[test]
+fn settled_clients_hold_no_lines_that_are_gone(rt: HostRuntime) -> Result<(), Fail> {
+    let mut core = new_core(rt.alloc())?;
+    say(&mut core, TYPIST, "input core.weechat /buffer add other");
+    say(&mut core, TYPIST, "input core.other /print a");
+    say(&mut core, TYPIST, "input core.weechat /print b");
+    say(&mut core, 1, JOINS);
+    say(&mut core, TYPIST, "input core.other /buffer close");
+    say(&mut core, TYPIST, "input core.weechat /buffer clear");
+    assert!(rt; holds(rt.alloc(), &core, 1, SECOND, "")?);
+    assert!(rt; holds(rt.alloc(), &core, 1, CORE, "")?);
     Ok(())
 }

@@ -1,8 +1,7 @@
 -- Dumps, by the handles of the buffers.
-use Rattle.std.proofs.Common.{◌≡◌, ℕ, ◌+◌, ◌≤◌, Bool, true, false, eqb, List, [], ◌∷◌, ◌++◌, ◌⊎◌, inl, inr, map, length, find, flat_map, Option, Some, None, refl, sym, ap, subst, ◌∙◌, arith, append_assoc, eq-eqb, length-append}
+use Rattle.std.proofs.Common.{◌≡◌, ℕ, ◌+◌, ◌≤◌, true, false, eqb, List, [], ◌∷◌, ◌++◌, ◌⊎◌, inl, inr, map, length, find, flat_map, Some, refl, sym, ap, subst, ◌∙◌, arith, append_assoc, eq-eqb, length-append}
 use Rattle.std.specs.List.{AllByRecursion}
 use Rattle.std.proofs.lemmas.List.Concat.{flat_map-append}
-use Rattle.wc_text.specs.declared.names.Handle.{Handle}
 use Rattle.wc_buffers.specs.declared.entry.BufferEntry.{BufferEntry}
 use Rattle.wc_buffers.specs.Calls.{Groups, handle_of, entry_of}
 use Rattle.wc_buffers.specs.Groups.{rows, in_group, times_in, times, AllFilled}
@@ -13,7 +12,7 @@ use Rattle.wc_model.specs.World.{World}
 use Rattle.wc_objects.specs.declared.object.HdaItem.{HdaItem}
 use Rattle.wc_told.specs.BufferObjects.{dumped_buffer, dumped_groups}
 use Rattle.wc_told.specs.LineObjects.{dumped_lines, line_dump, dump_of}
-use Rattle.wc_told.specs.Dumps.{if_there, each_told, group_items, all_items, line_items, all_lines}
+use Rattle.wc_told.specs.Dumps.{if_there, each_told, all_items, all_lines}
 
 -- ---- each buffer is found by its handle
 

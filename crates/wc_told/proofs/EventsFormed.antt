@@ -1,5 +1,5 @@
 -- What is told of buffers keeps the rules of messages.
-use Rattle.std.proofs.Common.{◌≡◌, ℕ, ℤ, true, ◌&&◌, ◌+◌, List, [], ◌∷◌, ◌++◌, filter, length, map, codes, Some, refl, ◌∙◌}
+use Rattle.std.proofs.Common.{◌≡◌, ℕ, ℤ, true, ◌&&◌, ◌+◌, List, [], ◌∷◌, filter, map, codes, Some, refl, ◌∙◌}
 use Rattle.std.specs.List.{list_all, AllByRecursion}
 use Rattle.std.proofs.lemmas.List.Folds.{list_all-append}
 use Rattle.std.specs.Str.{IsUtf8, is_utf8, chars}
@@ -17,12 +17,11 @@ use Rattle.wc_model.specs.declared.notice.Notice.{Notice}
 use Rattle.wc_objects.specs.declared.kind.Kind.{Kind}
 use Rattle.wc_objects.specs.declared.kind.Kind.TheVariants as k
 use Rattle.wc_objects.specs.declared.object.Object.{Object}
-use Rattle.wc_objects.specs.declared.object.Object.TheOpen.{Object-F}
 use Rattle.wc_objects.specs.declared.object.Object.TheVariants as o
 use Rattle.wc_objects.specs.declared.object.Object.TheViews.{out-Object, out-roll-Object, out-roll-Hda}
 use Rattle.wc_objects.specs.declared.object.Hda.{roll-Hda}
 use Rattle.wc_objects.specs.declared.object.HdaItem.{HdaItem, roll-HdaItem}
-use Rattle.wc_objects.specs.Forms.{kinds_of, key_kind, named_kind, simple_is, value_is, values_are, item_of, hda_is, object_is, well_formed, is_path, names_of, hda_parts_are}
+use Rattle.wc_objects.specs.Forms.{kinds_of, key_kind, named_kind, simple_is, value_is, values_are, item_of, hda_is, object_is, well_formed}
 use Rattle.wc_told.specs.BufferObjects.{text, pair_of, table, about, named_keys, placed_keys, opened_keys, renamed_keys, title_keys, vars_keys, named_values, placed_values, opened_values, renamed_values, title_values, vars_values, named_objects, placed_objects, opened_objects, renamed_objects, title_objects, vars_objects, flag_keys, flag_item, flag_items, flag_objects, is_flipped, dump_keys, dumped_values, dumped_buffer, dumped_groups, buffer_dump}
 use Rattle.wc_told.proofs.Formed.{ptr_formed, chr_formed, str_formed}
 use Rattle.wc_told.proofs.DumpLemmas.{all_parts, rows_kept}

@@ -1,5 +1,5 @@
 -- What a client is told of lines: the event of a new line, and the dump of the lines that are held.
-use Rattle.std.specs.Prelude.{ℕ, ◌^◌, ◌-◌, ℤ, pos, Bool, nat_le, List, [], ◌∷◌, map, Option, Some, codes, if◌then◌else◌}
+use Rattle.std.specs.Prelude.{ℕ, ◌^◌, ◌-◌, ℤ, pos, Bool, nat_le, List, [], ◌∷◌, map, Some, codes, if◌then◌else◌}
 use Rattle.wc_text.specs.declared.names.Handle.{Handle}
 use Rattle.std.specs.List.{flat_map}
 use Rattle.wc_lines.specs.declared.line.Line.{Line}

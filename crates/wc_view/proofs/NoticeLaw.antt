@@ -10,7 +10,7 @@ use Rattle.std.proofs.lemmas.Bool.Decides.{nat_tests}
 use Rattle.std.proofs.lemmas.List.{length-map, map-append, length-append}
 use Rattle.wc_text.specs.declared.names.Handle.{Handle}
 use Rattle.wc_lines.specs.declared.line.Line.{Line}
-use Rattle.wc_lines.specs.Ring.{last_of}
+use Rattle.wc_lines.specs.Ring.{last_of, newest}
 use Rattle.wc_buffers.specs.Groups.{has}
 use Rattle.wc_buffers.specs.Calls.{handle_of, lacks_var, entry_of}
 use Rattle.wc_model.specs.declared.change.Flip.{Flip}
@@ -27,7 +27,7 @@ use Rattle.wc_model.specs.Notices.{notice_of, var_kind}
 use Rattle.wc_objects.specs.declared.object.Object.{Object}
 use Rattle.wc_objects.specs.declared.object.WireMessage.{WireMessage}
 use Rattle.wc_told.specs.LineObjects.{line_added, added_objects}
-use Rattle.wc_told.specs.BufferObjects.{id_of, event_of, event_objects, objects_of, named_objects, newest}
+use Rattle.wc_told.specs.BufferObjects.{id_of, event_of, event_objects, objects_of, named_objects}
 use Rattle.wc_view.specs.Ids.{IsFree}
 use Rattle.wc_view.specs.Parts.{Part, lines_at, with_row, without}
 use Rattle.wc_view.specs.Fold.{fold_lines, grown, emptied}

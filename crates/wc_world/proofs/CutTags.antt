@@ -1,5 +1,5 @@
 -- The tags that a line takes are a front of those that are given.
-use Rattle.std.proofs.Common.{◌≡◌, ℕ, ◌+◌, ◌≤◌, Bool, true, false, cond, ◌||◌, ltb, List, [], ◌∷◌, length, take, refl, ap, sym, subst, ◌∙◌, arith, All}
+use Rattle.std.proofs.Common.{◌≡◌, ℕ, ◌+◌, ◌≤◌, ◌||◌, ltb, List, [], ◌∷◌, length, take, refl, ap, sym, subst, ◌∙◌, arith, All}
 use Rattle.std.specs.Str.{IsUtf8}
 use Rattle.std.proofs.lemmas.List.Elements.{All-take}
 use Rattle.wc_lines.specs.LineText.{HasText}

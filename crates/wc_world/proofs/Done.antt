@@ -1,25 +1,22 @@
 -- From what was done to the fields of a world to the clause on the world.
-use Rattle.std.proofs.Common.{◌≡◌, ℕ, ◌+◌, ◌-◌, ◌<◌, ◌≤◌, ◌^◌, Bool, true, false, cond, not, eqb, ltb, List, [], ◌∷◌, ◌++◌, map, Option, Some, None, option_map, unwrap_or, is_some, refl, ap, sym, subst, ◌∙◌, arith, eq-eqb, eqb-true, le-ltb}
+use Rattle.std.proofs.Common.{◌≡◌, ℕ, ◌+◌, ◌-◌, ◌<◌, ◌≤◌, ◌^◌, Bool, true, false, cond, eqb, ltb, List, [], ◌∷◌, ◌++◌, Option, Some, None, option_map, unwrap_or, is_some, refl, ap, sym, subst, ◌∙◌, arith, eqb-true, le-ltb}
 use Rattle.std.specs.FinMap.{get, insert, remove, get-insert, get-remove}
 use Rattle.std.specs.HashMap.{HashMap}
 use Rattle.std.specs.Cmp.{nat_cmp_total}
-use Rattle.std.proofs.lemmas.Bool.{false≢true, true≢false}
 use Rattle.wc_text.specs.declared.names.Handle.{Handle}
 use Rattle.wc_text.specs.declared.names.Pair.{Pair}
 use Rattle.wc_lines.specs.declared.line.Line.{Line}
 use Rattle.wc_lines.specs.Held.{Held}
 use Rattle.wc_lines.specs.Ring.{last_of, with_line, without_lines}
 use Rattle.wc_buffers.specs.declared.entry.BufferEntry.{BufferEntry}
-use Rattle.wc_buffers.specs.declared.row.BufferRow.{BufferRow}
 use Rattle.wc_buffers.specs.declared.refused.BufferRefused.{BufferRefused}
-use Rattle.wc_buffers.specs.Calls.{Groups, handle_of, is_there, entry_of, buffer_of, moved, merged, unmerged, changed, closed, move_refusal, merge_refusal, unmerge_refusal, close_refusal, no_buffer, short_name_refusal, set_var_refusal, remove_var_refusal, with_hidden, with_short_name, with_title, with_var, without_var, lacks_var}
+use Rattle.wc_buffers.specs.Calls.{Groups, handle_of, is_there, entry_of, buffer_of, moved, merged, unmerged, changed, move_refusal, merge_refusal, unmerge_refusal, no_buffer, short_name_refusal, set_var_refusal, remove_var_refusal, with_hidden, with_short_name, with_title, with_var, without_var, lacks_var}
 use Rattle.wc_buffers.specs.Vars.{cut_to}
 use Rattle.wc_buffers.specs.Groups.{has, row_of}
 use Rattle.wc_buffers.proofs.GroupLaws.{by_bool}
-use Rattle.wc_buffers.proofs.RefusalLemmas.{there_good, merge_good}
-use Rattle.wc_model.specs.declared.change.Change.{Change}
+use Rattle.wc_buffers.proofs.RefusalLemmas.{merge_good}
 use Rattle.wc_model.specs.declared.change.What.{What}
-use Rattle.wc_model.specs.declared.change.What.TheVariants.{Close, MoveTo, MergeInto, Unmerge, Hide, Unhide, ShortName, Title, SetVar, RemoveVar, Print, Clear}
+use Rattle.wc_model.specs.declared.change.What.TheVariants.{MoveTo, MergeInto, Unmerge, Hide, Unhide, ShortName, Title, SetVar, RemoveVar, Print, Clear}
 use Rattle.wc_model.specs.declared.change.LineSpec.{LineSpec}
 use Rattle.wc_model.specs.declared.notice.EventKind.{EventKind}
 use Rattle.wc_model.specs.declared.notice.EventKind.TheVariants as kinds
@@ -27,11 +24,11 @@ use Rattle.wc_model.specs.declared.notice.Notice.{Notice}
 use Rattle.wc_model.specs.World.{World, lines_at}
 use Rattle.wc_model.specs.Order.{order}
 use Rattle.wc_model.specs.LineCuts.{line_of}
-use Rattle.wc_model.specs.Apply.{refusal, refusal_of, after, after_of, with_groups, with_lines, of_buffers}
-use Rattle.wc_model.specs.Notices.{notice, notice_of, notice_at, name_in, flips_in, flips_between, kind_of, var_kind, Accepted}
+use Rattle.wc_model.specs.Apply.{refusal_of, after_of, with_groups, with_lines, of_buffers}
+use Rattle.wc_model.specs.Notices.{notice_of, notice_at, name_in, flips_in, flips_between, var_kind, Accepted}
 use Rattle.wc_world.specs.Kept.{held_at, held_in, lines_map, world_of, IsWorld, IsHeld, AreApart, IsChangedAt}
 use Rattle.wc_world.specs.Told.{told_at}
-use Rattle.wc_world.proofs.GroupRows.{row_of-move, row_of-merge, row_of-unmerge, row_of-update, has-move, has-merge, has-unmerge, has-update, merged_apart}
+use Rattle.wc_world.proofs.GroupRows.{row_of-move, row_of-merge, row_of-unmerge, row_of-update, merged_apart}
 use Rattle.wc_world.proofs.FlipLemmas.{no_flips, no_flips_printed, nothing_flat, apart_more, apart_printed}
 use Rattle.wc_world.proofs.HeldLemmas.{tied, get_lines, put_lines, changed_to, some_held}
 

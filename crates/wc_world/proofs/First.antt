@@ -1,8 +1,8 @@
 -- The world with the core buffer alone.
-use Rattle.std.proofs.Common.{◌≡◌, ℕ, zero, suc, ltb, ◌+◌, ◌<◌, ◌≤◌, ◌^◌, Bool, true, false, cond, eqb, List, [], ◌∷◌, ◌++◌, map, Option, Some, None, is_some, refl, ap, sym, subst, ◌∙◌, arith, eqb-true, IsAscii}
+use Rattle.std.proofs.Common.{◌≡◌, ℕ, zero, suc, ltb, ◌≤◌, Bool, true, false, cond, eqb, List, [], ◌∷◌, map, Some, None, is_some, refl, ap, sym, subst, ◌∙◌, arith, eqb-true, IsAscii}
 use Rattle.std.specs.FinMap.{insert, empty, from_entries}
 use Rattle.std.specs.HashMap.{HashMap}
-use Rattle.std.proofs.lemmas.Bool.{false≢true, true≢false, and_parts, ltb-true}
+use Rattle.std.proofs.lemmas.Bool.{and_parts, ltb-true}
 use Rattle.std.specs.List.{list_all}
 use Rattle.std.proofs.lemmas.Str.{IsUtf8-from_ascii}
 use Rattle.wc_buffers.specs.Kept.{HasText}
@@ -10,7 +10,7 @@ use Rattle.wc_lines.specs.Held.{Held, no_lines}
 use Rattle.wc_buffers.specs.Calls.{Groups, handle_of, added}
 use Rattle.wc_buffers.specs.Groups.{has}
 use Rattle.wc_buffers.proofs.GroupLaws.{by_bool}
-use Rattle.wc_model.specs.World.{World, core_row, first_world}
+use Rattle.wc_model.specs.World.{core_row, first_world}
 use Rattle.wc_world.specs.Kept.{held_at, lines_map, world_of, IsWorld, IsHeld}
 use Rattle.wc_world.proofs.HeldLemmas.{put_lines}
 use Rattle.wc_world.proofs.Done.{same_some}

@@ -1,15 +1,14 @@
 -- No line is flipped by a change that sets no flag.
-use Rattle.std.proofs.Common.{◌≡◌, ℕ, zero, suc, ◌+◌, ◌-◌, ◌<◌, Bool, true, false, cond, not, ◌||◌, eqb, List, [], ◌∷◌, ◌++◌, map, drop, length, filter, flat_map, Option, Some, None, refl, ap, sym, ◌∙◌, arith, eq-eqb}
-use Rattle.std.specs.List.{list_any, find as find_first}
-use Rattle.std.proofs.lemmas.Bool.{false≢true, true≢false, or_parts}
+use Rattle.std.proofs.Common.{◌≡◌, ℕ, zero, suc, ◌+◌, ◌-◌, ◌<◌, Bool, true, false, eqb, List, [], ◌∷◌, ◌++◌, map, drop, length, filter, flat_map, None, refl, ap, ◌∙◌, arith, eq-eqb}
+use Rattle.std.specs.List.{find as find_first}
+use Rattle.std.proofs.lemmas.Bool.{or_parts}
 use Rattle.std.proofs.lemmas.Bool.Decides.{nat_tests}
 use Rattle.std.proofs.lemmas.List.{map-append}
 use Rattle.std.proofs.lemmas.List.Elements.{filter-append}
-use Rattle.wc_text.specs.declared.names.Handle.{Handle}
 use Rattle.wc_lines.specs.declared.line.Line.{Line}
 use Rattle.wc_lines.specs.Ring.{last_of, has_content}
 use Rattle.wc_buffers.proofs.GroupLaws.{by_bool}
-use Rattle.wc_model.specs.Notices.{bool_eq, same_flag, is_flipped, flips_in}
+use Rattle.wc_model.specs.Notices.{bool_eq, is_flipped, flips_in}
 use Rattle.wc_world.specs.Kept.{AreApart}
 
 same_bool : (b : Bool) → bool_eq b b ≡ true
@@ -17,7 +16,7 @@ same_bool true = refl
 same_bool false = refl
 
 -- the flips among lines behind a line of another content
-skip_flips : (l : Line) (ls xs : List Line) → has_content l.content xs ≡ false → flips_in (l ∷ ls) xs ≡ flips_in ls xs
+pub skip_flips : (l : Line) (ls xs : List Line) → has_content l.content xs ≡ false → flips_in (l ∷ ls) xs ≡ flips_in ls xs
 skip_flips l ls [] e = refl
 skip_flips l ls (x ∷ xs) e =
     let o = or_parts (eqb x.content.0 l.content.0) (has_content l.content xs) e in

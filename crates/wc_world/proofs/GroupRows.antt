@@ -1,12 +1,12 @@
 -- The row of a key in groups that were changed.
-use Rattle.std.proofs.Common.{◌≡◌, ℕ, ◌+◌, ◌≤◌, Bool, true, false, cond, not, ◌&&◌, ◌||◌, eqb, List, [], ◌∷◌, ◌++◌, ◌⊎◌, map, take, drop, filter, find, flat_map, Option, Some, None, option_map, refl, inl, inr, ap, sym, ◌∙◌, arith, append-nil, take-append-drop, eq-eqb, eqb-true}
+use Rattle.std.proofs.Common.{◌≡◌, ℕ, ◌≤◌, Bool, true, false, cond, ◌&&◌, ◌||◌, eqb, List, [], ◌∷◌, ◌++◌, ◌⊎◌, map, take, drop, find, Option, Some, None, option_map, refl, inl, inr, ap, sym, ◌∙◌, arith, append-nil, take-append-drop, eq-eqb, eqb-true}
 use Rattle.std.specs.List.{list_any}
-use Rattle.std.proofs.lemmas.Bool.{false≢true, true≢false, or_parts}
+use Rattle.std.proofs.lemmas.Bool.{false≢true, or_parts}
 use Rattle.std.proofs.lemmas.List.{map-append}
 use Rattle.std.proofs.lemmas.List.Concat.{flat_map-append}
 use Rattle.std.proofs.lemmas.List.Folds.{list_any-append}
-use Rattle.wc_buffers.specs.Groups.{filled, rows, in_group, has, row_of, times, times_in, without, only, update, take_out, pick, append_to, merge, others, own, move_group, part, unmerge}
-use Rattle.wc_buffers.proofs.GroupLaws.{by_bool, filled-some, has_tells, in_group_tells, times-take_out, times_in-pick, has_from_times, times-move_group, times-unmerge, times-update}
+use Rattle.wc_buffers.specs.Groups.{filled, rows, in_group, has, row_of, times, without, only, update, take_out, pick, append_to, merge, others, own, move_group, part, unmerge}
+use Rattle.wc_buffers.proofs.GroupLaws.{by_bool, filled-some, has_tells, times-take_out, has_from_times, times-move_group, times-unmerge, times-update}
 
 abbrev pub or_some : {A : Type 0} → Option A → Option A → Option A
 or_some None b = b

@@ -8,3 +8,5 @@ pub mod Opened
 pub mod CutTags
 pub mod First
 pub mod Refused
+pub mod LastFlags
+pub mod FlipsDone

@@ -1,13 +1,12 @@
 -- The order of buffers, group by group.
-use Rattle.std.proofs.Common.{◌≡◌, ℕ, ◌++◌, ◌∷◌, [], List, Bool, true, false, eqb, map, flat_map, refl, ◌∙◌, sym}
+use Rattle.std.proofs.Common.{◌≡◌, ℕ, ◌++◌, ◌∷◌, [], List, true, false, eqb, map, refl, ◌∙◌}
 use Rattle.std.proofs.lemmas.List.{map-append}
-use Rattle.wc_text.specs.declared.names.Handle.{Handle}
 use Rattle.wc_buffers.specs.declared.entry.BufferEntry.{BufferEntry}
 use Rattle.wc_buffers.specs.Calls.{Groups, handle_of}
 use Rattle.wc_buffers.specs.Groups.{rows}
 use Rattle.wc_buffers.specs.Kept.{handles}
 use Rattle.wc_buffers.proofs.GroupLaws.{by_bool}
-use Rattle.wc_model.specs.Order.{order, before_in, first_of, behind_in}
+use Rattle.wc_model.specs.Order.{order, first_of, behind_in}
 use Rattle.wc_world.specs.Near.{numbers, all_numbers, behind_seen}
 
 one_group : (g : List BufferEntry) → map handle_of g ≡ numbers (map (λ (e : BufferEntry). e.row.handle) g)

@@ -1,6 +1,6 @@
 -- From a refusal of the buffers to the clause on the world.
 use Rattle.std.proofs.Common.{◌≡◌, ◌≢◌, ℕ, ◌+◌, ◌<◌, ◌≤◌, ◌^◌, Bool, true, false, ltb, Option, Some, None, refl, ap, sym, subst, ◌∙◌, arith, lt-ltb, ◌-◌}
-use Rattle.std.specs.Prelude.{Result, Ok, Err}
+use Rattle.std.specs.Prelude.{Result, Err}
 use Rattle.std.specs.HashMap.{HashMap}
 use Rattle.std.proofs.lemmas.Bool.{false≢true}
 use Rattle.wc_text.specs.declared.names.Handle.{Handle}
@@ -16,7 +16,7 @@ use Rattle.wc_model.specs.declared.change.What.TheVariants.{Add, Print}
 use Rattle.wc_model.specs.declared.notice.Notice.{Notice}
 use Rattle.wc_model.specs.declared.refused.ChangeRefused.{ChangeRefused}
 use Rattle.wc_model.specs.World.{World}
-use Rattle.wc_model.specs.Apply.{refusal, refusal_of, of_buffers, or_else, row_of as new_row}
+use Rattle.wc_model.specs.Apply.{refusal, refusal_of, row_of as new_row}
 use Rattle.wc_model.specs.Notices.{Outcome}
 use Rattle.wc_world.specs.Kept.{held_at, lines_map, world_of}
 use Rattle.wc_world.specs.Told.{refused_by}

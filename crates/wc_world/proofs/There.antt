@@ -1,5 +1,5 @@
 -- A buffer that is there has a row.
-use Rattle.std.proofs.Common.{◌≡◌, true, false, is_some, refl}
+use Rattle.std.proofs.Common.{◌≡◌, is_some, refl}
 use Rattle.wc_text.specs.declared.names.Handle.{Handle}
 use Rattle.wc_buffers.specs.Calls.{Groups, handle_of, is_there, buffer_of}
 use Rattle.wc_buffers.proofs.GroupLaws.{by_bool}

@@ -1,3 +1,4 @@
+pub mod Flips
 pub mod Kept
 pub mod Near
 pub mod Texts

@@ -1,4 +1,4 @@
-use Rattle.std.proofs.Common.{◌≡◌, ◌∙◌, is_some, ap}
+use Rattle.std.proofs.Common.{◌∙◌, is_some, ap}
 use Rattle.wc_world.proofs.There.{there_by_row}
 use Rattle.wc_world.proofs.noticed.is_there.Goals as goal
 

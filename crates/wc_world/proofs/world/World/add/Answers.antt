@@ -1,8 +1,8 @@
-use Rattle.std.proofs.Common.{rules, ◌≡◌, ◌∙◌, ◌+◌, ◌≤◌, ◌<◌, Some, cond, eqb, refl, ap, sym, arith}
+use Rattle.std.proofs.Common.{rules, ◌∙◌, Some, cond, eqb, refl, arith}
 use Rattle.wc_buffers.specs.Calls.{opened}
 use Rattle.wc_model.specs.declared.change.What.TheVariants.{Add}
 use Rattle.wc_model.specs.Apply.{row_of as new_row}
-use Rattle.wc_world.specs.Kept.{world_of, held_at}
+use Rattle.wc_world.specs.Kept.{world_of}
 use Rattle.wc_world.proofs.Opened.{added_done, kept_added, undone, kept_stored}
 use Rattle.wc_world.proofs.Refused.{refusing, same_stored, out_of_memory, by_world, add_spent, add_refused}
 use Rattle.wc_world.proofs.world.World.add.Goals as goal

@@ -1,4 +1,4 @@
-use Rattle.std.proofs.Common.{◌≡◌, ◌∙◌, [], refl, ap, sym}
+use Rattle.std.proofs.Common.{◌∙◌, [], refl, ap, sym}
 use Rattle.wc_buffers.proofs.RefusalLemmas.{there_good}
 use Rattle.wc_model.specs.declared.change.What.TheVariants.{Clear}
 use Rattle.wc_model.specs.Apply.{refusal_of, of_buffers}

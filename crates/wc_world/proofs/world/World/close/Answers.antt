@@ -1,4 +1,4 @@
-use Rattle.std.proofs.Common.{◌≡◌, ◌∙◌, refl, ap, sym}
+use Rattle.std.proofs.Common.{ap}
 use Rattle.wc_model.specs.declared.change.What.TheVariants.{Close}
 use Rattle.wc_model.specs.Apply.{refusal_of, of_buffers}
 use Rattle.wc_world.specs.Kept.{world_of}

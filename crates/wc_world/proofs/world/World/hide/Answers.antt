@@ -1,16 +1,12 @@
-use Rattle.std.proofs.Common.{◌≡◌, ◌∙◌, ◌-◌, true, false, Some, [], refl, ap, sym, subst}
-use Rattle.wc_buffers.specs.Calls.{handle_of, with_hidden, with_short_name, with_title, with_var, without_var}
+use Rattle.std.proofs.Common.{◌∙◌, true, [], refl, ap}
+use Rattle.wc_buffers.specs.Calls.{handle_of, with_hidden}
 use Rattle.wc_buffers.specs.Groups.{has}
-use Rattle.wc_buffers.specs.Vars.{cut_to}
 use Rattle.wc_model.specs.declared.change.What.TheVariants.{Hide}
-use Rattle.wc_model.specs.declared.refused.ChangeRefused.{ChangeRefused}
 use Rattle.wc_model.specs.Apply.{refusal_of, of_buffers}
-use Rattle.wc_model.specs.Notices.{var_kind}
 use Rattle.wc_world.specs.Kept.{world_of}
-use Rattle.wc_world.specs.Told.{told_at}
 use Rattle.wc_world.proofs.Done.{are_apart, kept_groups, hidden_done}
-use Rattle.wc_world.proofs.GroupRows.{has-move, has-merge, has-unmerge, has-update, merged_apart}
-use Rattle.wc_world.proofs.Refused.{refusing, same_groups, by_world}
+use Rattle.wc_world.proofs.GroupRows.{has-update}
+use Rattle.wc_world.proofs.Refused.{same_groups, by_world}
 use Rattle.wc_world.proofs.world.World.hide.Goals as goal
 
 pub returns-in-Err : goal.returns-in-Err

@@ -1,4 +1,4 @@
-use Rattle.std.proofs.Common.{◌≡◌, ◌∙◌, ap}
+use Rattle.std.proofs.Common.{◌∙◌, ap}
 use Rattle.wc_world.specs.Kept.{held_in}
 use Rattle.wc_world.proofs.Done.{held_shown}
 use Rattle.wc_world.proofs.world.World.lines.Goals as goal

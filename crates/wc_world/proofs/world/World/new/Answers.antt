@@ -1,4 +1,4 @@
-use Rattle.std.proofs.Common.{◌≡◌, ◌∙◌, Some, cond, eqb, sym, subst}
+use Rattle.std.proofs.Common.{◌∙◌, Some, cond, eqb, sym, subst}
 use Rattle.wc_buffers.specs.Calls.{added}
 use Rattle.wc_buffers.specs.Kept.{HasText}
 use Rattle.wc_world.proofs.First.{first_is, core_text}

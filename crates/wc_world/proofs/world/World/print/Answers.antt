@@ -1,9 +1,8 @@
-use Rattle.std.proofs.Common.{◌≡◌, ◌∙◌, ◌+◌, ◌<◌, [], refl, ap, sym, subst, arith}
+use Rattle.std.proofs.Common.{◌∙◌, [], refl, ap, sym, subst, arith}
 use Rattle.wc_lines.specs.LineText.{HasText}
 use Rattle.wc_lines.specs.Ring.{with_line}
 use Rattle.wc_buffers.proofs.RefusalLemmas.{there_good}
 use Rattle.wc_model.specs.declared.change.What.TheVariants.{Print}
-use Rattle.wc_model.specs.Apply.{refusal_of, of_buffers}
 use Rattle.wc_world.specs.Kept.{world_of, IsChangedAt}
 use Rattle.wc_world.proofs.CutTags.{line_text}
 use Rattle.wc_world.proofs.Done.{printed_done, kept_printed}

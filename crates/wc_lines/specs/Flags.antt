@@ -1,0 +1,20 @@
+-- Lines that get the flags that stand at their content handles.
+use Rattle.std.specs.Prelude.{ℕ, Bool, nat_eq, Option, Some, None, map}
+use Rattle.std.specs.HashMap.{HashMap, get_by}
+use Rattle.wc_lines.specs.declared.line.Line.{Line}
+use Rattle.wc_lines.specs.Held.{Held}
+
+-- the flag that stands at a content handle
+abbrev pub flag_at : {S : Type 0} → HashMap ℕ Bool S → ℕ → Option Bool
+flag_at flags content = get_by (nat_eq content) flags
+
+-- the line with this flag, or as it is where there is none
+abbrev pub set_flag : Option Bool → Line → Line
+set_flag None line = line
+set_flag (Some on) line = record line { displayed = on }
+
+abbrev pub flagged : (ℕ → Option Bool) → Line → Line
+flagged flags line = set_flag (flags line.content.0) line
+
+abbrev pub with_flags : (ℕ → Option Bool) → Held → Held
+with_flags flags held = record held { lines = map (flagged flags) held.lines }

@@ -1,0 +1,5 @@
+use Rattle.wc_session.proofs.SendingLemmas.{event_sends}
+use Rattle.wc_session.proofs.laws.event_tells.Goals as goal
+
+pub returns : goal.returns
+returns c event world notice session is = event_sends event world notice session is

@@ -1,0 +1,138 @@
+ghost use Rattle.std.specs.Prelude.{◌≡◌, true, Some, IfOk, OnErr};
+ghost use Rattle.std.specs.Str.{IsUtf8};
+ghost use Rattle.wc_objects.specs.Forms.{well_formed};
+ghost use Rattle.wc_session.specs.Handshakes.{choice_in, asks_escapes, name_of_choice, switch, entry, handshake_table, handshake_objects};
+ghost use Rattle.wc_session.specs.Reply.{shaken, handshake_answer};
+ghost use Rattle.wc_session.specs.Served.{Gives};
+
+use crate::client::Client;
+use crate::outcome::Outcome;
+use crate::served::give;
+use bytes::BytesMut;
+use std::alloc::Global;
+use wc_objects::{Kind, Object};
+use wc_relaycmd::{Algorithm, choose_algorithm, last_value};
+use wc_text::{Cause, Items, NoMemory, Pair, Text};
+
+/// The algorithms that are allowed, as masks.
+const ALLOWED: &[u8] = b"*";
+
+/// The algorithm that a handshake settles: the strongest of the client's list, which is `plain` where it is not given.
+#[tactic(auto, unfolding(crate::specs::Handshakes::choice_in))]
+fn choice_in(pairs: &Items<Pair>) -> Option<Algorithm>
+    ensures { result ≡ choice_in pairs.now }
+{
+    match last_value(pairs, b"password_hash_algo") {
+        Some(offered) => choose_algorithm(offered.as_slice(), ALLOWED),
+        None => choose_algorithm(b"plain", ALLOWED),
+    }
+}
+
+#[tactic(auto, unfolding(crate::specs::Handshakes::asks_escapes))]
+fn asks_escapes(pairs: &Items<Pair>) -> bool
+    ensures { result ≡ asks_escapes pairs.now }
+{
+    match last_value(pairs, b"escape_commands") {
+        Some(value) => value.as_slice() == b"on".as_slice(),
+        None => false,
+    }
+}
+
+fn name_of_choice(choice: Option<Algorithm>) -> &'static [u8]
+    ensures { result.now ≡ name_of_choice choice }
+{
+    match choice {
+        Some(algorithm) => algorithm.name(),
+        None => b"",
+    }
+}
+
+fn switch(on: bool) -> &'static [u8]
+    ensures { result.now ≡ switch on }
+{
+    if on { b"on" } else { b"off" }
+}
+
+fn entry(alloc: Global, name: &[u8], value: &[u8]) -> Result<(Object, Object), NoMemory>
+    ensures { IfOk result (λ pair. pair ≡ entry name.now value.now) }
+{
+    let name = Text::from_slice(alloc, name)?;
+    let value = Text::from_slice(alloc, value)?;
+    Ok((Object::Str(Some(name)), Object::Str(Some(value))))
+}
+
+#[tactic(auto, unfolding(crate::specs::Handshakes::handshake_table))]
+fn handshake_table(
+    alloc: Global,
+    nonce: &[u8],
+    choice: Option<Algorithm>,
+    escapes: bool,
+) -> Result<Items<(Object, Object)>, NoMemory>
+    ensures { IfOk result (λ table. table ≡ handshake_table nonce.now choice escapes) }
+{
+    let digits = hex::encode_upper(alloc, nonce)?;
+    let mut table = Items::new(alloc);
+    table.push(entry(alloc, b"password_hash_algo", name_of_choice(choice))?)?;
+    table.push(entry(alloc, b"password_hash_iterations", b"100000")?)?;
+    table.push(entry(alloc, b"totp", b"off")?)?;
+    table.push(entry(alloc, b"nonce", digits.as_bytes())?)?;
+    table.push(entry(alloc, b"compression", b"off")?)?;
+    table.push(entry(alloc, b"escape_commands", switch(escapes))?)?;
+    Ok(table)
+}
+
+/// The object of the reply.
+fn handshake_objects(
+    alloc: Global,
+    nonce: &[u8],
+    choice: Option<Algorithm>,
+    escapes: bool,
+) -> Result<[Object; 1], NoMemory>
+    ensures objects { IfOk result (λ objects. objects ≡ handshake_objects nonce.now choice escapes) }
+    ensures formed { IfOk result (λ objects. well_formed objects ≡ true) }
+{
+    let pairs = handshake_table(alloc, nonce, choice, escapes)?;
+    Ok([Object::Htb {
+        key: Kind::Str,
+        value: Kind::Str,
+        pairs,
+    }])
+}
+
+/// Takes note of a handshake, which settles nothing after login.
+#[tactic(auto, unfolding(crate::specs::Reply::shaken))]
+fn settle(client: &mut Client, pairs: &Items<Pair>)
+    ensures { client.new ≡ shaken client.old pairs.now }
+{
+    if !client.logged_in {
+        client.chosen = choice_in(pairs);
+        client.escaped = asks_escapes(pairs);
+    }
+}
+
+/// Serves `handshake`: it is answered, and before login it settles the algorithm and the escapes, or drops the client
+/// where there is no common algorithm. Where memory is refused nothing changes.
+#[tactic(auto, unfolding(crate::specs::Reply::handshake_answer))]
+pub fn shake(
+    alloc: Global,
+    out: &mut BytesMut,
+    client: &mut Client,
+    id: &[u8],
+    pairs: &Items<Pair>,
+) -> Result<Outcome, NoMemory>
+    requires { IsUtf8 id.now }
+    ensures ok { IfOk result (λ outcome. Gives out.old.items out.new.items outcome client.new (handshake_answer client.old id.now pairs.now)) }
+    ensures err { OnErr result (out.new.items ≡ out.old.items) }
+    ensures still { OnErr result (client.new ≡ client.old) }
+{
+    let choice = choice_in(pairs);
+    let nonce = client.nonce;
+    let objects = handshake_objects(alloc, nonce.as_slice(), choice, asks_escapes(pairs))?;
+    let outcome = give(alloc, out, id, objects.as_slice())?;
+    let leaves = !client.logged_in && choice.is_none();
+    settle(client, pairs);
+    if leaves {
+        return Ok(Outcome::Leave(Cause::LoginFailed));
+    }
+    Ok(outcome)
+}

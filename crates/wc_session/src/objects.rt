@@ -1,0 +1,150 @@
+ghost use Rattle.std.specs.Prelude.{◌≡◌, ◌∷◌, [], true, Some, IfOk};
+ghost use Rattle.std.specs.Str.{IsUtf8};
+ghost use Rattle.wc_objects.specs.Forms.{well_formed};
+ghost use Rattle.wc_session.specs.Reply.{test_texts, test_numbers, test_objects, is_buffer_dump, is_line_dump, hdata_objects, info_objects, infolist_objects, pong_objects};
+
+use crate::sending::null_hdata;
+use std::alloc::Global;
+use wc_objects::{Kind, Object};
+use wc_text::{Items, NoMemory, Text};
+use wc_told::{buffer_dump, line_dump};
+use wc_world::World;
+
+/// The path and the keys by which a client asks for all buffers.
+const BUFFERS_PATH: &[u8] = b"buffer:gui_buffers(*)";
+
+const BUFFERS_KEYS: &[u8] = b"number,full_name,short_name,hidden,title,local_variables";
+
+/// The path and the keys by which a client asks for the lines of all buffers.
+const LINES_PATH: &[u8] = b"buffer:gui_buffers(*)/own_lines/first_line(*)/data";
+
+const LINES_KEYS: &[u8] =
+    b"buffer,date,date_printed,displayed,notify_level,highlight,tags_array,prefix,message";
+
+fn some_text(alloc: Global, bytes: &[u8]) -> Result<Option<Text>, NoMemory>
+    ensures { IfOk result (λ text. text ≡ Some bytes.now) }
+{
+    Ok(Some(Text::from_slice(alloc, bytes)?))
+}
+
+fn test_texts(alloc: Global) -> Result<Items<Object>, NoMemory>
+    ensures { IfOk result (λ values. values ≡ test_texts) }
+{
+    let mut values = Items::new(alloc);
+    values.push(Object::Str(some_text(alloc, b"abc")?))?;
+    values.push(Object::Str(some_text(alloc, b"de")?))?;
+    Ok(values)
+}
+
+fn test_numbers(alloc: Global) -> Result<Items<Object>, NoMemory>
+    ensures { IfOk result (λ values. values ≡ test_numbers) }
+{
+    let mut values = Items::new(alloc);
+    values.push(Object::Int(123))?;
+    values.push(Object::Int(456))?;
+    values.push(Object::Int(789))?;
+    Ok(values)
+}
+
+/// One object of each kind, as WeeChat's relay protocol lists them for `test`.
+#[tactic(auto, unfolding(crate::specs::Reply::test_objects))]
+pub fn test_objects(alloc: Global) -> Result<[Object; 15], NoMemory>
+    ensures objects { IfOk result (λ objects. objects ≡ test_objects) }
+    ensures formed { IfOk result (λ objects. well_formed objects ≡ true) }
+{
+    let string = some_text(alloc, b"a string")?;
+    let empty = some_text(alloc, b"")?;
+    let buffer = some_text(alloc, b"buffer")?;
+    let texts = test_texts(alloc)?;
+    let numbers = test_numbers(alloc)?;
+    Ok([
+        Object::Chr(65),
+        Object::Int(123456),
+        Object::Int(-123456),
+        Object::Lon(1234567890),
+        Object::Lon(-1234567890),
+        Object::Str(string),
+        Object::Str(empty),
+        Object::Str(None),
+        Object::Buf(buffer),
+        Object::Buf(None),
+        Object::Ptr(0x1234abcd),
+        Object::Ptr(0),
+        Object::Tim(1321993456),
+        Object::Arr {
+            kind: Kind::Str,
+            values: texts,
+        },
+        Object::Arr {
+            kind: Kind::Int,
+            values: numbers,
+        },
+    ])
+}
+
+/// Whether a path and keys ask for all buffers.
+fn is_buffer_dump(path: &[u8], keys: &[u8]) -> bool
+    ensures { result ≡ is_buffer_dump path.now keys.now }
+{
+    path == BUFFERS_PATH && keys == BUFFERS_KEYS
+}
+
+/// Whether a path and keys ask for the lines of all buffers.
+fn is_line_dump(path: &[u8], keys: &[u8]) -> bool
+    ensures { result ≡ is_line_dump path.now keys.now }
+{
+    path == LINES_PATH && keys == LINES_KEYS
+}
+
+/// The buffers or their lines, where the path and the keys ask for them, and else the null hdata.
+#[tactic(auto, unfolding(crate::specs::Reply::hdata_objects))]
+pub fn hdata_objects(
+    alloc: Global,
+    world: &World,
+    path: &[u8],
+    keys: &[u8],
+) -> Result<[Object; 1], NoMemory>
+    ensures objects { IfOk result (λ objects. objects ≡ hdata_objects world.now path.now keys.now) }
+    ensures formed { IfOk result (λ objects. well_formed objects ≡ true) }
+{
+    if is_line_dump(path, keys) {
+        return line_dump(alloc, world);
+    }
+    if is_buffer_dump(path, keys) {
+        return buffer_dump(alloc, world.buffers());
+    }
+    Ok(null_hdata(alloc))
+}
+
+/// An information that is unknown.
+pub fn info_objects(name: Text) -> [Object; 1]
+    requires { IsUtf8 name }
+    ensures objects { result ≡ info_objects name }
+    ensures formed { well_formed result ≡ true }
+{
+    [Object::Inf {
+        name: Some(name),
+        value: None,
+    }]
+}
+
+/// A list that is unknown.
+pub fn infolist_objects(alloc: Global, name: Text) -> [Object; 1]
+    requires { IsUtf8 name }
+    ensures objects { result ≡ infolist_objects name }
+    ensures formed { well_formed result ≡ true }
+{
+    [Object::Inl {
+        name,
+        items: Items::new(alloc),
+    }]
+}
+
+/// The text of a `ping`.
+pub fn pong_objects(text: Text) -> [Object; 1]
+    requires { IsUtf8 text }
+    ensures objects { result ≡ pong_objects text }
+    ensures formed { well_formed result ≡ true }
+{
+    [Object::Str(Some(text))]
+}

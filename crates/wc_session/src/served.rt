@@ -1,0 +1,127 @@
+ghost use Rattle.std.specs.Prelude.{◌≡◌, true, IfOk, OnErr};
+ghost use Rattle.std.specs.Str.{IsUtf8};
+ghost use Rattle.wc_objects.specs.Forms.{well_formed};
+ghost use Rattle.wc_relaycmd.specs.Utf8.{HasUtf8, CommandUtf8};
+ghost use Rattle.wc_session.specs.declared.client.Client.{Client};
+ghost use Rattle.wc_session.specs.Reply.{replies, input_answer, is_open, served, reply_of};
+ghost use Rattle.wc_session.specs.Sending.{reply};
+ghost use Rattle.wc_session.specs.Served.{Gives, IsQuiet};
+
+use crate::client::Client;
+use crate::handshake::shake;
+use crate::login::log_in;
+use crate::names::buffer_named;
+use crate::objects::{hdata_objects, info_objects, infolist_objects, pong_objects, test_objects};
+use crate::outcome::Outcome;
+use crate::sending::{null_hdata, reply};
+use crate::sync::{desynchronize, synchronize};
+use bytes::BytesMut;
+use std::alloc::Global;
+use wc_buffers::Buffers;
+use wc_objects::Object;
+use wc_relaycmd::{Command, Request};
+use wc_text::{Cause, NoMemory, Text};
+use wc_world::World;
+
+/// Serves a request by these objects as its reply.
+pub fn give(
+    alloc: Global,
+    out: &mut BytesMut,
+    id: &[u8],
+    objects: &[Object],
+) -> Result<Outcome, NoMemory>
+    requires formed { well_formed objects.now ≡ true }
+    requires text { IsUtf8 id.now }
+    ensures ok { IfOk result (λ outcome. (client : Client) → Gives out.old.items out.new.items outcome client (replies client (reply id.now objects.now))) }
+    ensures err { OnErr result (out.new.items ≡ out.old.items) }
+{
+    if !reply(alloc, out, id, objects)? {
+        return Ok(Outcome::Silent);
+    }
+    Ok(Outcome::Replied)
+}
+
+fn input(buffers: &Buffers, buffer: &[u8], text: Text) -> Outcome
+    ensures { (client : Client) → IsQuiet result client (input_answer buffers.now client buffer.now text) }
+{
+    match buffer_named(buffers, buffer) {
+        Some(buffer) => Outcome::Input { buffer, text },
+        None => Outcome::Silent,
+    }
+}
+
+fn is_open(command: &Command) -> bool
+    ensures { result ≡ is_open command.now }
+{
+    matches!(
+        command,
+        Command::Handshake(_) | Command::Init(_) | Command::Quit
+    )
+}
+
+/// Serves a command. Where memory is refused nothing changes.
+#[tactic(auto, unfolding(crate::specs::Reply::served))]
+fn serve_command(
+    alloc: Global,
+    out: &mut BytesMut,
+    client: &mut Client,
+    world: &World,
+    password: &[u8],
+    id: &[u8],
+    command: Command,
+) -> Result<Outcome, NoMemory>
+    requires id { IsUtf8 id.now }
+    requires command { CommandUtf8 command }
+    ensures ok { IfOk result (λ outcome. Gives out.old.items out.new.items outcome client.new (served world.now password.now client.old id.now command)) }
+    ensures err { OnErr result (out.new.items ≡ out.old.items) }
+    ensures still { OnErr result (client.new ≡ client.old) }
+{
+    match command {
+        Command::Handshake(pairs) => shake(alloc, out, client, id, &pairs),
+        Command::Init(pairs) => log_in(alloc, client, password, &pairs),
+        Command::Hdata { path, keys } => {
+            let objects = hdata_objects(alloc, world, path.as_slice(), keys.as_slice())?;
+            give(alloc, out, id, objects.as_slice())
+        }
+        Command::Info(name) => give(alloc, out, id, info_objects(name).as_slice()),
+        Command::Infolist(name) => give(alloc, out, id, infolist_objects(alloc, name).as_slice()),
+        Command::Nicklist(_) | Command::Completion { .. } => {
+            give(alloc, out, id, null_hdata(alloc).as_slice())
+        }
+        Command::Input { buffer, text } => Ok(input(world.buffers(), buffer.as_slice(), text)),
+        Command::Sync { buffers, options } => {
+            synchronize(alloc, client, world.buffers(), &buffers, &options)?;
+            Ok(Outcome::Silent)
+        }
+        Command::Desync { buffers, options } => {
+            desynchronize(client, world.buffers(), &buffers, &options);
+            Ok(Outcome::Silent)
+        }
+        Command::Test => give(alloc, out, id, test_objects(alloc)?.as_slice()),
+        Command::Ping(text) => give(alloc, out, b"_pong", pong_objects(text).as_slice()),
+        Command::Quit => Ok(Outcome::Leave(Cause::Quit)),
+    }
+}
+
+/// Serves a request. Before login a handshake, `init` and `quit` are served, and any other request drops the client.
+/// Where memory is refused nothing changes.
+#[tactic(auto, unfolding(crate::specs::Reply::reply_of))]
+pub fn serve(
+    alloc: Global,
+    out: &mut BytesMut,
+    client: &mut Client,
+    world: &World,
+    password: &[u8],
+    request: Request,
+) -> Result<Outcome, NoMemory>
+    requires { HasUtf8 request }
+    ensures ok { IfOk result (λ outcome. Gives out.old.items out.new.items outcome client.new (reply_of world.now password.now client.old request)) }
+    ensures err { OnErr result (out.new.items ≡ out.old.items) }
+    ensures still { OnErr result (client.new ≡ client.old) }
+{
+    let Request { id, command } = request;
+    if !client.logged_in && !is_open(&command) {
+        return Ok(Outcome::Leave(Cause::LoginFailed));
+    }
+    serve_command(alloc, out, client, world, password, id.as_slice(), command)
+}
