@@ -22,7 +22,7 @@ use Rattle.wc_model.specs.declared.refused.ChangeRefused.{ChangeRefused}
 use Rattle.wc_model.specs.declared.refused.ChangeRefused.TheVariants as refused
 use Rattle.wc_model.specs.World.{World, last_handle}
 use Rattle.wc_model.specs.declared.notice.Notice.{Notice}
-use Rattle.wc_model.specs.Notices.{Accepted, about, told_groups, name_in, notice}
+use Rattle.wc_model.specs.Notices.{Accepted, about, told_groups, name_in}
 use Rattle.wc_model.specs.Apply.{after, or_else, of_buffers, spent, is_held, no_line, row_of, refusal_of, refusal}
 use Rattle.wc_world.specs.Texts.{IsChangeText}
 use Rattle.wc_core.specs.Typed.{Typed, Nothing, Quits, Refused, Prints, Adds, Closes, Merges, Names, Changes, typed_line}

@@ -120,18 +120,9 @@ pub(crate) fn resolve(
         Asked::Unhide => Ok(asks(buffer, What::Unhide)),
         Asked::Clear => Ok(asks(buffer, What::Clear)),
         Asked::Name(name) => Ok(asks(buffer, rename(alloc, buffers, buffer, name)?)),
-        Asked::ShortName(name) => {
-            let name = Text::from_slice(alloc, name)?;
-            Ok(asks(buffer, What::ShortName(name)))
-        }
-        Asked::Title(title) => {
-            let title = Text::from_slice(alloc, title)?;
-            Ok(asks(buffer, What::Title(title)))
-        }
+        Asked::ShortName(name) => Ok(asks(buffer, What::ShortName(Text::from_slice(alloc, name)?))),
+        Asked::Title(title) => Ok(asks(buffer, What::Title(Text::from_slice(alloc, title)?))),
         Asked::SetVar { name, value } => Ok(asks(buffer, set_var(alloc, name, value)?)),
-        Asked::RemoveVar(name) => {
-            let name = Text::from_slice(alloc, name)?;
-            Ok(asks(buffer, What::RemoveVar(name)))
-        }
+        Asked::RemoveVar(name) => Ok(asks(buffer, What::RemoveVar(Text::from_slice(alloc, name)?))),
     }
 }

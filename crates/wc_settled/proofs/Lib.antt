@@ -1,4 +1,4 @@
-mod BytesLemmas
+pub mod BytesLemmas
 mod ChangeLemmas
 mod ClientLemmas
 mod DumpLemmas
