@@ -13,10 +13,10 @@ use Rattle.wc_core.specs.Events.{Event, Tick, Line}
 use Rattle.wc_core.specs.State.{State, first_state}
 use Rattle.wc_core.specs.Step.{client_link, run}
 use Rattle.wc_core.specs.Served.{unsent_on, sent_to}
-use Rattle.wc_settled.specs.Bytes.{Shows}
+use Rattle.wc_settled.specs.Held.{HeldPart}
+use Rattle.wc_settled.specs.Bytes.{ShowsPart}
 use Rattle.wc_settled.specs.Mirrors.{IsShortLine}
-use Rattle.wc_settled.specs.Settled.{Settled, is_following}
-use Rattle.wc_settled.proofs.BytesLemmas.{bytes_show}
+use Rattle.wc_settled.specs.Settled.{SettledBy, is_following}
 use Rattle.wc_loop.specs.declared.configuration.Settings.{Settings}
 use Rattle.wc_loop.specs.declared.headless.Headless.{Headless}
 use Rattle.wc_loop.proofs.ConfigurationLemmas.{settings-most}
@@ -79,22 +79,22 @@ open-client : (P : Type 0) (o : Option Client) → is_following o ≡ true → (
 open-client P None e f = absurd (false≢true e)
 open-client P (Some client) e f = f client refl
 
-shows-by : (password : List ℕ) (limit : ℕ) (seen : Seen) (last : Headless) → limit ≤ 4096 → (handed : HandsOut (first_state password limit) seen last) (link : ℕ) (id : List ℕ) → 1 ≤ link → Settled link id (first_state password limit) handed.events
-    → Shows limit id (seen.sent link ++ unsent_on link last.core.seats) last.core.world
-shows-by password limit seen last most handed link id one settled =
+shows-by : (password : List ℕ) (limit : ℕ) (seen : Seen) (last : Headless) → limit ≤ 4096 → (handed : HandsOut (first_state password limit) seen last) (which : HeldPart) (link : ℕ) (id : List ℕ) → 1 ≤ link → SettledBy which link id (first_state password limit) handed.events
+    → ShowsPart which limit id (seen.sent link ++ unsent_on link last.core.seats) last.core.world
+shows-by password limit seen last most handed which link id one settled =
     let first = first_state password limit in
     let short = short-front handed.events handed.reaches.rest (subst (AllByRecursion IsShortLine) handed.reaches.front (short-from [] seen.taken)) in
-    let shows = bytes_show password limit handed.events link id most short settled in
+    let shows : ShowsPart which limit id (sent_to link (run first handed.events).acts) (run first handed.events).state.world = part_shows which password limit handed.events link id most short settled in
     let bytes = open-client _ (at_key client_link link (run first handed.events).state.clients) settled.still (λ client there. handed.opened link client one there) in
-    subst (λ sent. Shows limit id sent last.core.world) (sym bytes) (subst (λ world. Shows limit id (sent_to link (run first handed.events).acts) world) (sym (ap (λ (s : State). s.world) handed.state)) shows)
+    subst (λ sent. ShowsPart which limit id sent last.core.world) (sym bytes) (subst (λ world. ShowsPart which limit id (sent_to link (run first handed.events).acts) world) (sym (ap (λ (s : State). s.world) handed.state)) shows)
 
 pub Mirrored-known : (contents : Option (List ℕ)) (seen : Seen) (last : Headless) → Mirrored contents seen last
 Mirrored-known None seen last = tt
 Mirrored-known (Some kept) seen last = go (settings_in kept) (settings-most kept)
   where
-    go : (r : Result Settings ℕ) → IfOk r (λ settings. settings.limit ≤ 4096) → IfOk r (λ settings. (handed : HandsOut (first_state settings.password settings.limit) seen last) (link : ℕ) (id : List ℕ) → 1 ≤ link → Settled link id (first_state settings.password settings.limit) handed.events
-        → Shows settings.limit id (seen.sent link ++ unsent_on link last.core.seats) last.core.world)
-    go (Ok settings) h = λ handed link id one settled. shows-by settings.password settings.limit seen last h handed link id one settled
+    go : (r : Result Settings ℕ) → IfOk r (λ settings. settings.limit ≤ 4096) → IfOk r (λ settings. (handed : HandsOut (first_state settings.password settings.limit) seen last) (which : HeldPart) (link : ℕ) (id : List ℕ) → 1 ≤ link → SettledBy which link id (first_state settings.password settings.limit) handed.events
+        → ShowsPart which settings.limit id (seen.sent link ++ unsent_on link last.core.seats) last.core.world)
+    go (Ok settings) h = λ handed which link id one settled. shows-by settings.password settings.limit seen last h handed which link id one settled
     go (Err n) h = tt
 
 pub Mirrored-last : (contents : Option (List ℕ)) (seen : Seen) (last : Option Headless) → IfSome last (Mirrored contents seen)

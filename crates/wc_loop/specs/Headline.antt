@@ -12,8 +12,9 @@ use Rattle.wc_core.specs.State.{State, first_state}
 use Rattle.wc_core.specs.Step.{client_link, run}
 use Rattle.wc_core.specs.Served.{state_of, unsent_on, sent_to, has_end}
 use Rattle.wc_session.specs.declared.client.Client.{Client}
-use Rattle.wc_settled.specs.Bytes.{Shows}
-use Rattle.wc_settled.specs.Settled.{Settled}
+use Rattle.wc_settled.specs.Held.{HeldPart}
+use Rattle.wc_settled.specs.Bytes.{ShowsPart}
+use Rattle.wc_settled.specs.Settled.{SettledBy}
 use Rattle.wc_loop.specs.Events.{whole}
 use Rattle.wc_loop.specs.Served.{Reaches}
 use Rattle.wc_loop.specs.Turns.{moment, point}
@@ -35,12 +36,12 @@ abbrev pub Headline : Option (List ℕ) → Seen → Headless → Type 0
 Headline contents seen last =
     IfSome contents (λ configuration. IfOk (settings_in configuration) (λ settings. IsTrue seen.tells → last.core.starved ≡ 0 → HandsOut (first_state settings.password settings.limit) seen last))
 
--- Where that is so, each client that settled has exactly the lines of each buffer, by the bytes that were sent to it and those that are unsent.
+-- Where that is so, each client that settled by the dump of a part, the lines of all buffers or the buffers in their groups, has exactly this part of the world, by the bytes that were sent to it and those that are unsent.
 abbrev pub Mirrored : Option (List ℕ) → Seen → Headless → Type 0
 Mirrored contents seen last =
     IfSome contents (λ configuration. IfOk (settings_in configuration) (λ settings.
-    (handed : HandsOut (first_state settings.password settings.limit) seen last) (link : ℕ) (id : List ℕ) → 1 ≤ link → Settled link id (first_state settings.password settings.limit) handed.events
-    → Shows settings.limit id (seen.sent link ++ unsent_on link last.core.seats) last.core.world))
+    (handed : HandsOut (first_state settings.password settings.limit) seen last) (which : HeldPart) (link : ℕ) (id : List ℕ) → 1 ≤ link → SettledBy which link id (first_state settings.password settings.limit) handed.events
+    → ShowsPart which settings.limit id (seen.sent link ++ unsent_on link last.core.seats) last.core.world))
 
 -- a state that a configuration sets
 pub record IsConfigured (headless : Headless) (configuration : List ℕ) : Type 0 where

@@ -91,7 +91,7 @@ run_spells password limit events link most =
     let acts = (run (first_state password limit) events).acts in
     record { each = spelt_on limit link (first_state password limit) events (start_kept limit link password most); whole = sent_to-messages link acts }
 
-part_shows : (which : HeldPart) → PartShows which
+pub part_shows : (which : HeldPart) → PartShows which
 part_shows which password limit events link id most short settled = record {
   messages = messages_to link (run (first_state password limit) events).acts;
   spell = run_spells password limit events link most;

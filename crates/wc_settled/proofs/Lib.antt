@@ -1,5 +1,5 @@
 mod BufferSizes
-mod BytesLemmas
+pub mod BytesLemmas
 mod ChangeLemmas
 mod ClientLemmas
 mod DumpLemmas
