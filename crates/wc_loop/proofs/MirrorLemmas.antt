@@ -17,6 +17,7 @@ use Rattle.wc_settled.specs.Held.{HeldPart}
 use Rattle.wc_settled.specs.Bytes.{ShowsPart}
 use Rattle.wc_settled.specs.Mirrors.{IsShortLine}
 use Rattle.wc_settled.specs.Settled.{SettledBy, is_following}
+use Rattle.wc_settled.proofs.BytesLemmas.{part_shows}
 use Rattle.wc_loop.specs.declared.configuration.Settings.{Settings}
 use Rattle.wc_loop.specs.declared.headless.Headless.{Headless}
 use Rattle.wc_loop.proofs.ConfigurationLemmas.{settings-most}
