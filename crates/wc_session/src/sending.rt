@@ -84,12 +84,7 @@ pub fn reply_lines(
 }
 
 /// Puts the lines of all buffers behind the unsent bytes, and answers whether they fit in a message.
-fn send_lines(
-    alloc: Global,
-    out: &mut BytesMut,
-    id: &[u8],
-    world: &World,
-) -> Result<bool, NoMemory>
+fn send_lines(alloc: Global, out: &mut BytesMut, id: &[u8], world: &World) -> Result<bool, NoMemory>
     requires { IsUtf8 id.now }
     ensures fits { IfOk result (λ sent. sent ≡ fits (message id.now (line_dump world.now))) }
     ensures ok { IfOk result (λ sent. Sends out.old.items out.new.items (fitting (message id.now (line_dump world.now)))) }

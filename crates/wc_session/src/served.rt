@@ -12,7 +12,9 @@ use crate::client::Client;
 use crate::handshake::shake;
 use crate::login::log_in;
 use crate::names::buffer_named;
-use crate::objects::{info_objects, infolist_objects, is_buffer_dump, is_line_dump, pong_objects, test_objects};
+use crate::objects::{
+    info_objects, infolist_objects, is_buffer_dump, is_line_dump, pong_objects, test_objects,
+};
 use crate::outcome::Outcome;
 use crate::sending::{null_hdata, reply, reply_lines};
 use crate::sync::{desynchronize, synchronize};
