@@ -1,7 +1,7 @@
 #!/usr/bin/env python3
-"""Checks and measures copies of a running program's buffers and lines, over real sockets.
+"""Checks and measures copies of a running program's buffers, lines and nicklists, over real sockets.
 
-Two clients log in, ask for all events and take the two dumps. Then each types commands at random, from a seed: buffers
+Two clients log in, ask for all events and take the three dumps. Then each types commands at random, from a seed: buffers
 that are added, merged, moved, hidden, renamed and closed, variables, titles, lines. Each client folds the events into
 its copy, and after every round the copies are compared with those of fresh dumps. It ends with 1 where they differ.
 With --lines it prints so many lines into so many buffers instead, and measures the dump of all lines. The program has
@@ -80,14 +80,14 @@ class Message:
 
 
 class Client:
-    """A connection, and a copy of the buffers in groups and of their lines."""
+    """A connection, and a copy of the buffers in groups, of their lines and of their nicklists."""
 
     def __init__(self, port, password, limit):
         self.link = socket.create_connection(("127.0.0.1", port))
         self.link.setsockopt(socket.IPPROTO_TCP, socket.TCP_NODELAY, 1)
-        self.bytes, self.limit, self.groups, self.lines = b"", limit, [], {}
+        self.bytes, self.limit, self.groups, self.lines, self.nicks = b"", limit, [], {}, {}
         self.send("init password=%s\nsync" % password)
-        self.groups, self.lines = self.dumps()
+        self.groups, self.lines, self.nicks = self.dumps()
 
     def send(self, line):
         self.link.sendall(line.encode() + b"\n")
@@ -126,7 +126,16 @@ class Client:
         lines = {}
         for pointers, values in self.until("l").items:
             lines.setdefault(pointers[0], []).append((pointers[-1], values))
-        return groups, lines
+        self.send("(n) nicklist")
+        nicks = {}
+        for (buffer, item), values in self.until("n").items:
+            rows = nicks.setdefault(buffer, [])
+            if values["name"] != "root":
+                rows.append((item, values))
+        return groups, lines, nicks
+
+    def copy(self):
+        return self.groups, self.lines, self.nicks
 
     def place(self, handle):
         return next((g, b) for g, group in enumerate(self.groups) for b, x in enumerate(group) if x["handle"] == handle)
@@ -148,9 +157,11 @@ class Client:
         elif event == "opened":
             new = {k: v for k, v in values.items() if k not in ("number", "prev_buffer", "next_buffer")}
             self.groups.append([dict(handle=handle, **new)])
+            self.nicks[handle] = []
         elif event == "closing":
             self.take_out(handle)
             self.lines.pop(handle, None)
+            self.nicks.pop(handle, None)
         elif event == "cleared":
             self.lines.pop(handle, None)
         elif event == "moved":
@@ -211,7 +222,7 @@ def check(words):
         fresh = clients[round % 2].dumps()
         for client in clients:
             client.settle()
-            if (client.groups, client.lines) != fresh:
+            if client.copy() != fresh:
                 sys.exit("round %d: a copy differs from fresh dumps" % round)
     buffers = sum(len(group) for group in clients[0].groups)
     print("%d rounds of 16 commands: both copies equal fresh dumps; %d buffers at the end" % (words.rounds, buffers))

@@ -2,6 +2,12 @@
 use Rattle.std.proofs.Common.{◌≡◌, ℕ, Bool, true, false, cond, eqb, ◌⊎◌, inl, inr, List, [], ◌∷◌, Option, Some, None, refl, ap, sym, ◌∙◌, not}
 use Rattle.wc_text.specs.declared.names.Cause.{Cause}
 use Rattle.wc_text.specs.declared.names.Cause.TheVariants.{NoMemory}
+use Rattle.std.specs.List.{flat_map}
+use Rattle.std.specs.FinMap.{FinMap}
+use Rattle.std.specs.Ordering.{nat_cmp}
+use Rattle.wc_nicklist.specs.declared.item.Row.{Row}
+use Rattle.wc_nickdiff.specs.declared.push.Push.{Push}
+use Rattle.wc_session.specs.Event.{push_told}
 use Rattle.wc_objects.specs.declared.object.WireMessage.{WireMessage}
 use Rattle.wc_session.specs.declared.client.Client.{Client}
 use Rattle.wc_session.specs.declared.outcome.Outcome.{Outcome}
@@ -12,12 +18,14 @@ use Rattle.wc_model.specs.declared.change.Change.{Change}
 use Rattle.wc_model.specs.declared.notice.Notice.{Notice}
 use Rattle.wc_model.specs.declared.refused.ChangeRefused.{ChangeRefused}
 use Rattle.wc_model.specs.World.{World}
+use Rattle.wc_model.specs.Order.{order}
 use Rattle.wc_model.specs.Apply.{refusal, after}
 use Rattle.wc_model.specs.Notices.{notice}
+use Rattle.wc_model.specs.Touches.{told_after}
 use Rattle.wc_core.specs.Resolved.{Resolved, Stays, Ends as ResolvedEnds, Tells, Asks, resolved, refusal_text, told_refusal}
 use Rattle.wc_core.specs.Typed.{Typed, typed_line, parted}
 use Rattle.wc_core.specs.State.{State, Stepped}
-use Rattle.wc_core.specs.Step.{stays, then_does, sends, told_all, changes, changes_if, tells, asks_if, does_resolved, does, is_quit, runs, follows, lost}
+use Rattle.wc_core.specs.Step.{client_link, pushed_to, push_at, pushed, pushes, stays, then_does, sends, told_all, changes, changes_if, tells, asks_if, does_resolved, does, is_quit, runs, follows, lost}
 use Rattle.wc_core.specs.Served.{or_else, close_of, StaysOrStarves, LeavesBy}
 use Rattle.wc_core.proofs.DidLemmas.{close_of-append, ClosesLater}
 use Rattle.wc_core.proofs.SeatLemmas.{close-sends, close-told}
@@ -26,13 +34,30 @@ closes_none-if : (j : ℕ) (b : Bool) (x y : Stepped) → close_of j x.acts ≡ 
 closes_none-if j true x y p q = p
 closes_none-if j false x y p q = q
 
+-- ---- pushes
+
+pushed-closes : (j : ℕ) (buffer : Handle) (push : Push) (clients : List Client) → close_of j (flat_map (pushed_to buffer push) clients) ≡ None
+pushed-closes j buffer push [] = refl
+pushed-closes j buffer push (client ∷ clients) =
+    close_of-append j (pushed_to buffer push client) (flat_map (pushed_to buffer push) clients)
+    ∙ ap (λ o. or_else o (close_of j (flat_map (pushed_to buffer push) clients))) (close-sends j (client_link client) (push_told buffer push client)) ∙ pushed-closes j buffer push clients
+
+each-closes : (j : ℕ) (state : State) (buffers : List ℕ) → close_of j (flat_map (pushed state) buffers) ≡ None
+each-closes j state [] = refl
+each-closes j state (buffer ∷ buffers) =
+    close_of-append j (pushed state buffer) (flat_map (pushed state) buffers)
+    ∙ ap (λ o. or_else o (close_of j (flat_map (pushed state) buffers))) (pushed-closes j (record { 0 = buffer }) (push_at state buffer) state.clients) ∙ each-closes j state buffers
+
+pub pushes-closes : (j : ℕ) (state : State) → close_of j (pushes state).acts ≡ None
+pushes-closes j state = each-closes j state (order state.world.groups)
+
 -- ---- changes and what is typed
 
-told_all-closes : (j : ℕ) (state : State) (world : World) (n : Notice) → close_of j (told_all state world n).acts ≡ None
-told_all-closes j state world n = close-told j world n state.clients
+told_all-closes : (j : ℕ) (state : State) (told : FinMap nat_cmp (List Row)) (world : World) (n : Notice) → close_of j (told_all state told world n).acts ≡ None
+told_all-closes j state told world n = close-told j world n state.clients
 
 changes-closes : (j : ℕ) (state : State) (change : Change) → close_of j (changes state change).acts ≡ None
-changes-closes j state change = told_all-closes j state (after state.world change) (notice state.world change)
+changes-closes j state change = told_all-closes j state (told_after state.world change.buffer change.what state.told) (after state.world change) (notice state.world change)
 
 changes_if-closes : (j : ℕ) (state : State) (change : Change) (o : Option ChangeRefused) → close_of j (changes_if state change o).acts ≡ None
 changes_if-closes j state change None = changes-closes j state change

@@ -1,5 +1,5 @@
 -- What each of the core's calls does.
-use Rattle.std.proofs.Common.{◌≡◌, ℕ, ◌+◌, ◌-◌, ◌^◌, ◌<◌, ◌≤◌, true, false, List, [], ◌∷◌, ◌++◌, length, inl, inr, Option, Some, None, Err, Bool, not, nat_eq, ◌≢◌, refl, ap, sym, subst, ◌∙◌, arith, append-nil, nat_lt, set, get_or, min, filter, IfSome}
+use Rattle.std.proofs.Common.{◌≡◌, ℕ, ◌+◌, ◌-◌, ◌^◌, ◌<◌, ◌≤◌, true, false, List, [], ◌∷◌, ◌++◌, length, inl, inr, Option, Some, None, Bool, not, nat_eq, ◌≢◌, refl, ap, sym, subst, ◌∙◌, arith, append-nil, nat_lt, set, get_or, min, filter, IfSome}
 use Rattle.std.specs.Prelude.{map}
 use Rattle.std.proofs.lemmas.Bool.{false≢true}
 use Rattle.std.proofs.lemmas.Bool.Decides.{nat_tests}
@@ -25,22 +25,26 @@ use Rattle.wc_model.specs.declared.change.Change.{Change}
 use Rattle.wc_model.specs.declared.change.What.TheVariants as what
 use Rattle.wc_model.specs.declared.notice.Notice.{Notice}
 use Rattle.wc_model.specs.declared.refused.ChangeRefused.{ChangeRefused}
-use Rattle.wc_model.specs.declared.refused.ChangeRefused.TheVariants as refused
 use Rattle.wc_model.specs.World.{World}
 use Rattle.wc_model.specs.Apply.{refusal, after}
-use Rattle.wc_model.specs.Notices.{Accepted, Outcome as ChangeOutcome}
+use Rattle.wc_model.specs.Notices.{Accepted, notice}
+use Rattle.wc_model.specs.Touches.{touched_key}
+use Rattle.std.specs.FinMap.{FinMap}
+use Rattle.std.specs.Ordering.{nat_cmp}
+use Rattle.wc_nicklist.specs.declared.item.Row.{Row}
 use Rattle.wc_core.specs.Typed.{Typed, Nothing, Quits, Refused, Prints, Adds, Closes, Merges, Names, Changes as TypedChanges}
 use Rattle.wc_core.specs.Resolved.{Resolved, Stays, Ends as ResolvedEnds, Tells, Asks, buffer_meant, of_meant, of_named, change_of, line_spec, resolved, refusal_text, told_refusal}
 use Rattle.wc_core.specs.Inputs.{Changes, TellsSome, MayTell}
 use Rattle.wc_core.specs.State.{Stepped}
-use Rattle.wc_core.specs.Step.{client_link, client_limit, sends, told_all, changes, changes_if, tells, asks_if, asks, does_resolved, does, is_quit, leaves, lost, arrives, follows, answers, asked, line_came}
-use Rattle.wc_core.specs.Served.{seat_link, is_open, is_open_at, clients_of, state_of, unsent_on, leaving_on, Distinct, StaysOrStarves, MayDo, MayCome, Starves, told_seat, SeatsServed, OutcomeUtf8}
+use Rattle.wc_core.specs.Step.{client_link, client_limit, stays, pushes, replies, sends, told_all, changes, changes_if, tells, asks_if, asks, does_resolved, does, is_quit, leaves, lost, arrives, follows, answers, asked, line_came}
+use Rattle.wc_core.specs.Served.{seat_link, is_open, is_open_at, clients_of, state_of, unsent_on, leaving_on, Distinct, StaysOrStarves, MayDo, MayCome, Starves, told_seat, SeatsServed, OutcomeUtf8, SeatsKept}
 use Rattle.wc_core.proofs.CloseLemmas.{reply-later, lost-starves}
 use Rattle.wc_core.proofs.DidLemmas.{or_else-none, or-true, Did-stays, Keeps-refl, Keeps-trans, Keeps-seats, MayDo-exact, MayDo-stays, MayDo-starved, MayDo-then}
-use Rattle.wc_core.proofs.SeatLemmas.{SeatsKept, open-length, clients-push, links-push, unsent-push, leaving-push, kept-push, SeatsKept-causes, client-open, client-missing, client-leaving}
+use Rattle.wc_core.proofs.SeatLemmas.{open-length, clients-push, links-push, unsent-push, leaving-push, kept-push, SeatsKept-causes, client-open, client-missing, client-leaving}
 use Rattle.wc_core.proofs.EventLemmas.{served_map, served_kept}
 use Rattle.wc_core.proofs.ServeLemmas.{open_none, told_to_all, Did-told, Keeps-told, Keeps-put, Did-reply, Did-leave, leaving-put}
 use Rattle.wc_core.proofs.ReplyLemmas.{reply_fits}
+use Rattle.wc_core.proofs.PushLemmas.{asked_plain, told_plain}
 
 -- ---- want of memory
 
@@ -53,11 +57,11 @@ starved_only old new s e rises = MayDo-starved old new s (record {
 
 -- ---- notices
 
-told-all : (old : Standing) (world : World) (n : Notice) (new : Standing) → new ≡ record old { world = world; seats = map (told_seat world n) old.seats } → MayDo old new (told_all (state_of old) world n)
+told-all : (old : Standing) (world : World) (n : Notice) (new : Standing) → new ≡ record old { world = world; seats = map (told_seat world n) old.seats } → MayDo old new (told_all (state_of old) world.nicks world n)
 told-all old world n new e =
-    let P : Standing → Type 0 = λ c. MayDo old c (told_all (state_of old) world n) in
+    let P : Standing → Type 0 = λ c. MayDo old c (told_all (state_of old) world.nicks world n) in
     subst P (sym e)
-    (MayDo-exact old (told_to_all old world n) (told_all (state_of old) world n)
+    (MayDo-exact old (told_to_all old world n) (told_all (state_of old) world.nicks world n)
     (Keeps-told old (told_to_all old world n) (served_kept world n old.seats (map (told_seat world n) old.seats) (served_map n.kind n.buffer.0 (told_seat world n) old.seats)) (omega arith))
     (λ distinct. Did-told old world n distinct))
 
@@ -87,16 +91,18 @@ tell-some old mid new n e served counts rises =
     })
 
 -- a change that was made, of which this was noticed
-pub changes-told : (old mid new : Standing) (change : Change) (n : Notice) → mid ≡ record old { world = mid.world } → Accepted old.world change mid.world n → MayTell mid new n → Changes old change new
-changes-told old mid new change n e accepted tells =
+pub changes-told : (old mid new : Standing) (change : Change) (n : Notice) → touched_key change.what ≡ None → mid ≡ record old { world = mid.world } → Accepted old.world change mid.world n → MayTell mid new n → Changes old change new
+changes-told old mid new change n plain e accepted tells =
     let P : Standing → Type 0 = λ c. MayTell c new n in
     by (subst P e tells)
   where
-    made : MayDo old new (told_all (state_of old) mid.world n) → MayDo old new (changes (state_of old) change)
+    made : MayDo old new (told_all (state_of old) mid.world.nicks mid.world n) → MayDo old new (changes (state_of old) change)
     made done =
-        let P : World → Type 0 = λ w. MayDo old new (told_all (state_of old) w n) in
-        let Q : Notice → Type 0 = λ n. MayDo old new (told_all (state_of old) (after old.world change) n) in
-        subst Q accepted.notice (subst P accepted.after done)
+        let behind = after old.world change in
+        let P : World → Type 0 = λ w. MayDo old new (told_all (state_of old) w.nicks w n) in
+        let Q : Notice → Type 0 = λ n. MayDo old new (told_all (state_of old) behind.nicks behind n) in
+        let R : FinMap nat_cmp (List Row) → Type 0 = λ told. MayDo old new (told_all (state_of old) told behind (notice old.world change)) in
+        subst R (sym (told_plain old.world change.buffer change.what plain)) (subst Q accepted.notice (subst P accepted.after done))
 
     by : MayTell (record old { world = mid.world }) new n → Changes old change new
     by (inl told) = inl (accepted.accepted, made (told-all old mid.world n new told))
@@ -109,13 +115,6 @@ starves-only old new e rises = record {
   causes = λ distinct j. inl (ap (λ (c : Standing). leaving_on j c.seats) e);
   count = ap (λ (c : Standing). c.starved) e;
 }
-
--- a refusal, but for want of memory
-pub outcome-refused : (before : World) (change : Change) (behind : World) (reason : ChangeRefused) → (reason ≡ refused.NoMemory → ⊥) → ChangeOutcome before change behind (Err reason) → (behind ≡ before) × (refusal before change ≡ Some reason)
-outcome-refused before change behind (refused.Buffer r) some e = e
-outcome-refused before change behind (refused.NoLine h) some e = e
-outcome-refused before change behind refused.Spent some e = e
-outcome-refused before change behind refused.NoMemory some e = absurd (some refl)
 
 -- ---- changes and refusals
 
@@ -313,7 +312,7 @@ ask-answer old new k s session' answer result at sits same answered done =
 pub ask-served : (old new : Standing) (k : ℕ) (s : Seat) (session' : Known) (request : Request) (result : Outcome) → at_key seat_link k old.seats ≡ Some s → is_open s ≡ true → HasUtf8 request
     → OnServed result (Answers s.session session' result (reply_of old.world old.password s.session.client request)) → OnNoMemory result (session' ≡ s.session)
     → OnServed result (MayDo (replied old k session') new (follows (state_of (replied old k session')) k result)) → OnNoMemory result (Starves (replied old k session') new)
-    → MayDo old new (asked (state_of old) s.session.client (Some request))
+    → MayDo old new (replies (state_of old) s.session.client request)
 ask-served old new k s session' request outcome.Replied at sits utf8 answered same done starved = ask-answer old new k s session' (reply_of old.world old.password s.session.client request) outcome.Replied at sits (reply_fits old.world old.password s.session.client request utf8).link answered done
 ask-served old new k s session' request outcome.Silent at sits utf8 answered same done starved = ask-answer old new k s session' (reply_of old.world old.password s.session.client request) outcome.Silent at sits (reply_fits old.world old.password s.session.client request utf8).link answered done
 ask-served old new k s session' request (outcome.Input buffer text) at sits utf8 answered same done starved = ask-answer old new k s session' (reply_of old.world old.password s.session.client request) (outcome.Input buffer text) at sits (reply_fits old.world old.password s.session.client request utf8).link answered done
@@ -322,7 +321,7 @@ ask-served old new k s session' request outcome.NoMemory at sits utf8 answered s
     let key : client_link session'.client ≡ k = ap (λ (known : Known). client_link known.client) same ∙ at_key-key seat_link k old.seats s at in
     let mid = replied old k session' in
     let keeps = Keeps-put old k s (record { session = session'; leaving = None }) at sits key in
-    MayDo-starved old new (asked (state_of old) s.session.client (Some request)) (record {
+    MayDo-starved old new (replies (state_of old) s.session.client request) (record {
       keeps = Keeps-trans old mid new keeps starved.keeps;
       causes = λ distinct j.
           let P : Option Cause → Type 0 = λ before. StaysOrStarves before (leaving_on j new.seats) in
@@ -357,12 +356,12 @@ ask-opened link seats place s session' world password request result p e opened 
     let key : seat_link y ≡ link.0 = link_same world password request s.session session' result utf8 answered same ∙ at_key-key seat_link link.0 seats s at in
     ap (λ ss. is_open_at (at_key seat_link link.0 ss)) (p.put y) ∙ ap is_open_at (at_key-put_same seat_link link.0 s y seats key at) ∙ open_of (at_key seat_link link.0 seats) s at opened
 
-pub ask-at : (old new : Standing) (link : LinkId) (place : ℕ) (s : Seat) (session' : Known) (request : Request) (result : Outcome) → IsPlace seat_link link.0 old.seats place → s ≡ get_or old.seats place s
+pub ask-at : (old new : Standing) (link : LinkId) (place : ℕ) (s : Seat) (session' : Known) (request : Request) (result : Outcome) → pushes (state_of old) ≡ stays (state_of old) → IsPlace seat_link link.0 old.seats place → s ≡ get_or old.seats place s
     → is_open_at (at_key seat_link link.0 old.seats) ≡ true → HasUtf8 request → OnServed result (Answers s.session session' result (reply_of old.world old.password s.session.client request)) → OnNoMemory result (session' ≡ s.session)
     → OnServed result (MayDo (record old { seats = set old.seats place (record { session = session'; leaving = s.leaving }) }) new (follows (state_of (record old { seats = set old.seats place (record { session = session'; leaving = s.leaving }) })) link.0 result))
     → OnNoMemory result (Starves (record old { seats = set old.seats place (record { session = session'; leaving = s.leaving }) }) new)
     → IfSome (at_key seat_link link.0 old.seats) (λ seat. MayDo old new (asked (state_of old) seat.session.client (Some request)))
-ask-at old new link place s session' request result p e opened utf8 answered same done starved =
+ask-at old new link place s session' request result none p e opened utf8 answered same done starved =
     let at = seat-at link old.seats place s p e in
     let sits = open_of (at_key seat_link link.0 old.seats) s at opened in
     let y : Seat = record { session = session'; leaving = s.leaving } in
@@ -370,7 +369,8 @@ ask-at old new link place s session' request result p e opened utf8 answered sam
     let P : List Seat → Type 0 = λ ss. OnServed result (MayDo (record old { seats = ss }) new (follows (state_of (record old { seats = ss })) link.0 result)) in
     let Q : List Seat → Type 0 = λ ss. OnNoMemory result (Starves (record old { seats = ss }) new) in
     let R : Option Seat → Type 0 = λ o. IfSome o (λ seat. MayDo old new (asked (state_of old) seat.session.client (Some request))) in
-    subst R (sym at) (ask-served old new link.0 s session' request result at sits utf8 answered same (subst P there done) (subst Q there starved))
+    let S : Stepped → Type 0 = λ step. MayDo old new step in
+    subst R (sym at) (subst S (sym (asked_plain old s.session.client request none)) (ask-served old new link.0 s session' request result at sits utf8 answered same (subst P there done) (subst Q there starved)))
 
 -- ---- arrivals
 

@@ -14,8 +14,8 @@ use Rattle.wc_session.specs.Event.{Spelled, IsEventOf, event_messages, with_even
 use Rattle.wc_session.specs.Sending.{spelling}
 use Rattle.wc_session.specs.Sync.{follows, heard}
 use Rattle.wc_core.specs.declared.seat.Seat.{Seat}
-use Rattle.wc_core.specs.Served.{is_open, listens, noted_seat, heard_seat, starved_seat, told_seat, SeatServed, SeatsServed}
-use Rattle.wc_core.proofs.SeatLemmas.{SeatKept, SeatsKept, SeatKept-refl}
+use Rattle.wc_core.specs.Served.{is_open, listens, noted_seat, heard_seat, starved_seat, told_seat, SeatServed, SeatsServed, SeatKept, SeatsKept}
+use Rattle.wc_core.proofs.SeatLemmas.{SeatKept-refl}
 
 abbrev spelt : List WireMessage → List ℕ
 spelt messages = flat_map (λ m. spelling m) messages
@@ -77,7 +77,7 @@ noted_kept kind buffer seat = by (is_open seat) refl where
   by true e = record { link = refl; kept = λ shut. absurd (cc); cause = inl refl }
   by false e = SeatKept-refl seat
 
-starved_kept : (kind : EventKind) (buffer : ℕ) (seat : Seat) → SeatKept seat (starved_seat kind buffer seat)
+pub starved_kept : (kind : EventKind) (buffer : ℕ) (seat : Seat) → SeatKept seat (starved_seat kind buffer seat)
 starved_kept kind buffer seat = by (is_open seat) (follows kind buffer seat.session.client) refl where
   by : (b f : Bool) → is_open seat ≡ b → SeatKept seat (cond (b && f) (record seat { leaving = Some NoMemory }) (noted_seat kind buffer seat))
   by true true e = record { link = refl; kept = λ shut. absurd (cc); cause = inr refl }
@@ -126,14 +126,18 @@ served_heard event w n (a ∷ old) (b ∷ new) is served = (one served.0, served
   one (inl e) = inl (e ∙ told_heard event w n a is)
   one (inr e) = inr (e ∙ starves)
 
-pub served_kept : (w : World) (n : Notice) (old new : List Seat) → SeatsServed n.kind n.buffer.0 (told_seat w n) old new → SeatsKept old new
-served_kept w n [] [] served = tt
-served_kept w n [] (b ∷ new) served = absurd served
-served_kept w n (a ∷ old) [] served = absurd served
-served_kept w n (a ∷ old) (b ∷ new) served = (one served.0, served_kept w n old new served.1) where
+-- who is served, or has left for want of memory, is kept
+pub served_kept_by : (kind : EventKind) (buffer : ℕ) (service : Seat → Seat) → ((seat : Seat) → SeatKept seat (service seat)) → (old new : List Seat) → SeatsServed kind buffer service old new → SeatsKept old new
+served_kept_by kind buffer service keeps [] [] served = tt
+served_kept_by kind buffer service keeps [] (b ∷ new) served = absurd served
+served_kept_by kind buffer service keeps (a ∷ old) [] served = absurd served
+served_kept_by kind buffer service keeps (a ∷ old) (b ∷ new) served = (one served.0, served_kept_by kind buffer service keeps old new served.1) where
   P : Seat → Type 0
   P s = SeatKept a s
 
-  one : SeatServed n.kind n.buffer.0 (told_seat w n) a b → SeatKept a b
-  one (inl e) = subst P (sym e) (told_kept w n a)
-  one (inr e) = subst P (sym e) (starved_kept n.kind n.buffer.0 a)
+  one : SeatServed kind buffer service a b → SeatKept a b
+  one (inl e) = subst P (sym e) (keeps a)
+  one (inr e) = subst P (sym e) (starved_kept kind buffer a)
+
+pub served_kept : (w : World) (n : Notice) (old new : List Seat) → SeatsServed n.kind n.buffer.0 (told_seat w n) old new → SeatsKept old new
+served_kept w n old new served = served_kept_by n.kind n.buffer.0 (told_seat w n) (told_kept w n) old new served

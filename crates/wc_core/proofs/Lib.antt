@@ -8,5 +8,9 @@ pub mod EventLemmas
 pub mod CloseLemmas
 pub mod ServeLemmas
 pub mod ReplyLemmas
+pub mod NickPushes
+pub mod PushSeats
+pub mod PushBytes
+pub mod PushLemmas
 pub mod CoreLemmas
 pub mod MessageLemmas

@@ -23,6 +23,7 @@ use Rattle.wc_model.specs.declared.refused.ChangeRefused.TheVariants as refused
 use Rattle.wc_model.specs.World.{World, last_handle}
 use Rattle.wc_model.specs.declared.notice.Notice.{Notice}
 use Rattle.wc_model.specs.Notices.{Accepted, about, told_groups, name_in}
+use Rattle.wc_model.specs.Touches.{touched_key}
 use Rattle.wc_model.specs.Apply.{after, or_else, of_buffers, spent, is_held, no_line, row_of, refusal_of, refusal}
 use Rattle.wc_world.specs.Texts.{IsChangeText}
 use Rattle.wc_core.specs.Typed.{Typed, Nothing, Quits, Refused, Prints, Adds, Closes, Merges, Names, Changes, typed_line}
@@ -92,6 +93,36 @@ what_text (what.RemoveVar name) utf8 = tt
 what_text (what.Print line) utf8 = utf8
 what_text what.Clear utf8 = utf8
 what_text (what.Flips flips) utf8 = utf8
+what_text (what.AddGroup parent item) utf8 = absurd utf8
+what_text (what.AddNick group item) utf8 = absurd utf8
+what_text (what.RemoveGroup name) utf8 = absurd utf8
+what_text (what.RemoveNick name) utf8 = absurd utf8
+what_text (what.ChangeGroup item) utf8 = absurd utf8
+what_text (what.ChangeNick item) utf8 = absurd utf8
+
+-- what is typed touches no row of a nicklist
+pub untouched : (w : What) → WhatUtf8 w → touched_key w ≡ None
+untouched (what.Add spec) utf8 = refl
+untouched what.Close utf8 = refl
+untouched (what.MoveTo number) utf8 = refl
+untouched (what.MergeInto into) utf8 = refl
+untouched what.Unmerge utf8 = refl
+untouched what.Hide utf8 = refl
+untouched what.Unhide utf8 = refl
+untouched (what.Rename name flips) utf8 = refl
+untouched (what.ShortName name) utf8 = refl
+untouched (what.Title title) utf8 = refl
+untouched (what.SetVar var) utf8 = refl
+untouched (what.RemoveVar name) utf8 = refl
+untouched (what.Print line) utf8 = refl
+untouched what.Clear utf8 = refl
+untouched (what.Flips flips) utf8 = refl
+untouched (what.AddGroup parent item) utf8 = absurd utf8
+untouched (what.AddNick group item) utf8 = absurd utf8
+untouched (what.RemoveGroup name) utf8 = absurd utf8
+untouched (what.RemoveNick name) utf8 = absurd utf8
+untouched (what.ChangeGroup item) utf8 = absurd utf8
+untouched (what.ChangeNick item) utf8 = absurd utf8
 
 pub told_text : (moment : ℕ) (text : List ℕ) → IsUtf8 text → IsChangeText (told_refusal moment text).what
 told_text moment text utf8 = record { tags = All-nil IsUtf8; prefix = ascii_text (codes "=!=") refl; message = utf8 }
@@ -242,6 +273,12 @@ refused_text world h (what.RemoveVar name) utf8 = of_buffers_text (remove_var_re
 refused_text world h (what.Print line) utf8 = or_else_text (of_buffers (no_buffer h world.groups)) (spent 2 world) (of_buffers_text (no_buffer h world.groups) (no_buffer_text h world.groups)) (spent_text 2 world)
 refused_text world h what.Clear utf8 = of_buffers_text (no_buffer h world.groups) (no_buffer_text h world.groups)
 refused_text world h (what.Flips flips) utf8 = no_line_text flips world
+refused_text world h (what.AddGroup parent item) utf8 = absurd utf8
+refused_text world h (what.AddNick group item) utf8 = absurd utf8
+refused_text world h (what.RemoveGroup name) utf8 = absurd utf8
+refused_text world h (what.RemoveNick name) utf8 = absurd utf8
+refused_text world h (what.ChangeGroup item) utf8 = absurd utf8
+refused_text world h (what.ChangeNick item) utf8 = absurd utf8
 
 -- what is told of a refused change is text
 pub refusal-utf8 : (world : World) (change : Change) (reason : ChangeRefused) → WhatUtf8 change.what → refusal world change ≡ Some reason → IsUtf8 (refusal_text reason)
@@ -269,6 +306,12 @@ told_are before behind (what.RemoveVar name) p q = q
 told_are before behind (what.Print line) p q = q
 told_are before behind what.Clear p q = q
 told_are before behind (what.Flips flips) p q = q
+told_are before behind (what.AddGroup parent item) p q = q
+told_are before behind (what.AddNick group item) p q = q
+told_are before behind (what.RemoveGroup name) p q = q
+told_are before behind (what.RemoveNick name) p q = q
+told_are before behind (what.ChangeGroup item) p q = q
+told_are before behind (what.ChangeNick item) p q = q
 
 -- the name of the buffer is text
 pub notice-utf8 : (before : World) (change : Change) (behind : World) (n : Notice) (groups groups' : Groups) → Accepted before change behind n → groups ≡ before.groups → groups' ≡ behind.groups → AreBuffers groups → AreBuffers groups' → IsUtf8 n.full_name

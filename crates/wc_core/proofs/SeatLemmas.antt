@@ -21,7 +21,7 @@ use Rattle.wc_session.specs.Sending.{spelling}
 use Rattle.wc_core.specs.declared.seat.Seat.{Seat}
 use Rattle.wc_core.specs.State.{Act}
 use Rattle.wc_core.specs.Step.{client_link, sends, told_to}
-use Rattle.wc_core.specs.Served.{seat_link, is_open, StaysOrStarves, heard_seat, clients_of, unsent_in, unsent_on, leaving_in, leaving_on, sent_to, close_of, has_end, Absent, Distinct, starved_seat, told_seat, SeatServed, SeatsServed}
+use Rattle.wc_core.specs.Served.{seat_link, is_open, StaysOrStarves, heard_seat, clients_of, unsent_in, unsent_on, leaving_in, leaving_on, sent_to, close_of, has_end, Absent, Distinct, starved_seat, told_seat, SeatServed, SeatsServed, SeatKept, SeatsKept}
 use Rattle.wc_core.proofs.DidLemmas.{sent_to-append, close_of-append, has_end-append}
 
 -- ---- messages for one client
@@ -64,7 +64,7 @@ end-told w n [] = refl
 end-told w n (client ∷ clients) =
     has_end-append (told_to w n client) (flat_map (told_to w n) clients) ∙ rw (end-sends (client_link client) (notice_told w n client)) (end-told w n clients)
 
-other_link : (n j : ℕ) → (n ≡ j → ⊥) → eqb n j ≡ false
+pub other_link : (n j : ℕ) → (n ≡ j → ⊥) → eqb n j ≡ false
 other_link n j ne = by (eqb n j) refl where
   by : (t : Bool) → eqb n j ≡ t → t ≡ false
   by true e = let same : n ≡ j = grind (arith, nat_tests) in absurd (ne same)
@@ -137,12 +137,12 @@ heard-bytes true w n seat p q others none more =
     ap (λ t. seat.session.unsent ++ t) (sym (append-nil (told_text w n seat))) ∙ ap (λ t. seat.session.unsent ++ (told_text w n seat ++ t)) (sym (none refl))
 heard-bytes false w n seat p q others none more = more
 
-kept-bytes : (t : Bool) (seat : Seat) (p q : Option Seat) (others : List ℕ) → (t ≡ true → others ≡ []) → unsent_in p ≡ unsent_in q ++ others
+pub kept-bytes : (t : Bool) (seat : Seat) (p q : Option Seat) (others : List ℕ) → (t ≡ true → others ≡ []) → unsent_in p ≡ unsent_in q ++ others
     → unsent_in (cond t (Some seat) p) ≡ unsent_in (cond t (Some seat) q) ++ others
 kept-bytes true seat p q others none more = sym (append-nil seat.session.unsent) ∙ ap (λ t. seat.session.unsent ++ t) (sym (none refl))
 kept-bytes false seat p q others none more = more
 
-same_number : (n j : ℕ) → eqb n j ≡ true → n ≡ j
+pub same_number : (n j : ℕ) → eqb n j ≡ true → n ≡ j
 same_number n j e = grind (arith, nat_tests)
 
 pub told-bytes : (j : ℕ) (w : World) (n : Notice) (seats : List Seat) → Distinct (map seat_link seats) → unsent_on j (map (told_seat w n) seats) ≡ unsent_on j seats ++ sent_to j (told_acts w n seats)
@@ -160,18 +160,6 @@ told-bytes j w n (seat ∷ seats) distinct = by (is_open seat) (told-bytes j w n
   by false more = kept-bytes (eqb (seat_link seat) j) seat (at_key seat_link j (map (told_seat w n) seats)) (at_key seat_link j seats) (sent_to j (told_acts w n seats)) none more
 
 -- ---- seats where memory may have been refused
-
--- a client that is leaving is left alone, and another one leaves for want of memory at most
-pub record SeatKept (old new : Seat) : Type 0 where
-  pub link : seat_link new ≡ seat_link old
-  pub kept : is_open old ≡ false → new ≡ old
-  pub cause : StaysOrStarves old.leaving new.leaving
-
-abbrev pub SeatsKept : List Seat → List Seat → Type 0
-SeatsKept [] [] = Unit {0}
-SeatsKept [] (b ∷ new) = ⊥
-SeatsKept (a ∷ old) [] = ⊥
-SeatsKept (a ∷ old) (b ∷ new) = SeatKept a b × SeatsKept old new
 
 pub SeatsKept-links : (old new : List Seat) → SeatsKept old new → map seat_link new ≡ map seat_link old
 SeatsKept-links [] [] kept = refl

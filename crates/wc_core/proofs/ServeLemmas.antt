@@ -25,17 +25,17 @@ use Rattle.wc_core.specs.TypedSeen.{lines_left}
 use Rattle.wc_core.specs.State.{State, Stepped}
 use Rattle.wc_core.specs.Inputs.{GoesOn, Stops}
 use Rattle.wc_core.specs.Step.{client_link, sends, stays, then_does, told_all, does, is_quit, runs, leaves}
-use Rattle.wc_core.specs.Served.{seat_link, links_of, is_open, clients_of, state_of, unsent_in, unsent_on, leaving_in, leaving_on, or_else, close_of, StaysOrStarves, LeavesBy, Distinct, Did, Keeps, MayDo, told_seat}
+use Rattle.wc_core.specs.Served.{seat_link, links_of, is_open, clients_of, state_of, unsent_in, unsent_on, leaving_in, leaving_on, or_else, close_of, StaysOrStarves, LeavesBy, Distinct, Did, Keeps, MayDo, told_seat, SeatsKept}
 use Rattle.wc_core.proofs.DidLemmas.{or_else-none, or-false, MayDo-stays, MayDo-then}
 use Rattle.wc_core.proofs.CloseLemmas.{does-closes, typed-later}
-use Rattle.wc_core.proofs.SeatLemmas.{SeatsKept, sent-sends, close-sends, end-sends, close-told, end-told, told-clients, told-leaving, told-bytes, SeatsKept-links, SeatsKept-leaving, clients-put, clients-leave}
+use Rattle.wc_core.proofs.SeatLemmas.{sent-sends, close-sends, end-sends, close-told, end-told, told-clients, told-leaving, told-bytes, SeatsKept-links, SeatsKept-leaving, clients-put, clients-leave}
 
 -- ---- a notice that is told
 
 abbrev pub told_to_all : Standing → World → Notice → Standing
 told_to_all old world n = record old { world = world; seats = map (told_seat world n) old.seats }
 
-pub Did-told : (old : Standing) (world : World) (n : Notice) → Distinct (links_of old) → Did old (told_to_all old world n) (told_all (state_of old) world n)
+pub Did-told : (old : Standing) (world : World) (n : Notice) → Distinct (links_of old) → Did old (told_to_all old world n) (told_all (state_of old) world.nicks world n)
 Did-told old world n distinct = record {
   state = rw (told-clients world n old.seats) refl;
   bytes = λ j. told-bytes j world n old.seats distinct;

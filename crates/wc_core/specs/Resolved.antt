@@ -122,7 +122,9 @@ buffer_text buffers.NoMemory = []
 -- No command sets flags of lines, and want of memory is told by no line.
 abbrev pub refusal_text : ChangeRefused → List ℕ
 refusal_text (refused.Buffer reason) = codes "buffer: " ++ buffer_text reason
+refusal_text (refused.Nick reason) = []
 refusal_text (refused.NoLine h) = []
+refusal_text (refused.TooManyRows limit) = []
 refusal_text refused.Spent = codes "no handle left"
 refusal_text refused.NoMemory = []
 

@@ -36,8 +36,9 @@ abbrev pub clients_of : List Seat → List Client
 clients_of [] = []
 clients_of (seat ∷ seats) = if is_open seat then seat.session.client ∷ clients_of seats else clients_of seats
 
+-- No change that is typed has nicks, so the rows that were last pushed are the rows.
 abbrev pub state_of : Standing → State
-state_of core = record { password = core.password; clients = clients_of core.seats; world = core.world; moment = core.moment }
+state_of core = record { password = core.password; clients = clients_of core.seats; world = core.world; told = core.world.nicks; moment = core.moment }
 
 -- ---- what is seen of a link
 
@@ -247,6 +248,18 @@ SeatsServed kind buffer service [] [] = Unit {0}
 SeatsServed kind buffer service [] (b ∷ new) = ⊥
 SeatsServed kind buffer service (a ∷ old) [] = ⊥
 SeatsServed kind buffer service (a ∷ old) (b ∷ new) = SeatServed kind buffer service a b × SeatsServed kind buffer service old new
+
+-- a client that is leaving is left alone, and another one leaves for want of memory at most
+pub record SeatKept (old new : Seat) : Type 0 where
+  pub link : seat_link new ≡ seat_link old
+  pub kept : is_open old ≡ false → new ≡ old
+  pub cause : StaysOrStarves old.leaving new.leaving
+
+abbrev pub SeatsKept : List Seat → List Seat → Type 0
+SeatsKept [] [] = Unit {0}
+SeatsKept [] (b ∷ new) = ⊥
+SeatsKept (a ∷ old) [] = ⊥
+SeatsKept (a ∷ old) (b ∷ new) = SeatKept a b × SeatsKept old new
 
 -- the text that was typed is UTF-8
 abbrev pub OutcomeUtf8 : Outcome → Type 0

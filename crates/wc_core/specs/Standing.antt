@@ -1,6 +1,6 @@
 -- What contracts see of the core.
-use Rattle.std.specs.Prelude.{ℕ, Bool, List}
-use Rattle.wc_model.specs.World.{World}
+use Rattle.std.specs.Prelude.{◌≡◌, ℕ, Bool, List, []}
+use Rattle.wc_model.specs.World.{World, rows_at}
 use Rattle.wc_core.specs.declared.seat.Seat.{Seat}
 
 pub record Standing : Type 0 where
@@ -14,3 +14,7 @@ pub record Standing : Type 0 where
   pub starved : ℕ
   -- whether the run is to end
   pub quits : Bool
+
+-- no buffer has rows in its nicklist
+abbrev pub HasNoRows : World → Type 0
+HasNoRows world = (buffer : ℕ) → rows_at world buffer ≡ []

@@ -1,6 +1,9 @@
 -- What the core is, seen flat.
-use Rattle.std.specs.Prelude.{ℕ, List, []}
+use Rattle.std.specs.Prelude.{ℕ, List, [], unwrap_or}
+use Rattle.std.specs.FinMap.{FinMap, get}
+use Rattle.std.specs.Ordering.{nat_cmp}
 use Rattle.wc_text.specs.declared.names.Cause.{Cause}
+use Rattle.wc_nicklist.specs.declared.item.Row.{Row}
 use Rattle.wc_model.specs.World.{World, first_world}
 use Rattle.wc_objects.specs.declared.object.WireMessage.{WireMessage}
 use Rattle.wc_session.specs.declared.client.Client.{Client}
@@ -10,8 +13,10 @@ pub record State : Type 0 where
   pub password : List ℕ
   -- the clients that are open, in the order in which they came
   pub clients : List Client
-  -- the buffers and their lines
+  -- the buffers, with their lines and nicklists
   pub world : World
+  -- the rows of each buffer's nicklist as they stood when they were last pushed, and none before that
+  pub told : FinMap nat_cmp (List Row)
   -- the last moment, in milliseconds since 1970
   pub moment : ℕ
 
@@ -29,4 +34,7 @@ pub record Stepped : Type 0 where
 
 -- no client, and the core buffer alone
 abbrev pub first_state : List ℕ → ℕ → State
-first_state password limit = record { password = password; clients = []; world = first_world limit; moment = 0 }
+first_state password limit = record { password = password; clients = []; world = first_world limit; told = (first_world limit).nicks; moment = 0 }
+
+abbrev pub told_at : State → ℕ → List Row
+told_at state buffer = unwrap_or (get state.told buffer) []

@@ -1,7 +1,7 @@
--- The texts of what is typed are UTF-8.
+-- The texts of what is typed are UTF-8, and nothing that is typed changes a nicklist.
 use Rattle.std.specs.Str.{IsUtf8}
 use Rattle.wc_model.specs.declared.change.What.{What}
-use Rattle.wc_model.specs.declared.change.What.TheVariants.{Add, Close, MoveTo, MergeInto, Unmerge, Hide, Unhide, Rename, ShortName, Title, SetVar, RemoveVar, Print, Clear, Flips}
+use Rattle.wc_model.specs.declared.change.What.TheVariants.{Add, Close, MoveTo, MergeInto, Unmerge, Hide, Unhide, Rename, ShortName, Title, SetVar, RemoveVar, Print, Clear, Flips, AddGroup, AddNick, RemoveGroup, RemoveNick, ChangeGroup, ChangeNick}
 use Rattle.wc_world.specs.Texts.{IsChangeText}
 
 -- also the name of a variable that is to be taken out, which a refusal may tell
@@ -21,3 +21,9 @@ WhatUtf8 (SetVar var) = IsChangeText (SetVar var)
 WhatUtf8 (Print line) = IsChangeText (Print line)
 WhatUtf8 Clear = IsChangeText Clear
 WhatUtf8 (Flips flips) = IsChangeText (Flips flips)
+WhatUtf8 (AddGroup parent item) = ⊥
+WhatUtf8 (AddNick group item) = ⊥
+WhatUtf8 (RemoveGroup name) = ⊥
+WhatUtf8 (RemoveNick name) = ⊥
+WhatUtf8 (ChangeGroup item) = ⊥
+WhatUtf8 (ChangeNick item) = ⊥

@@ -4,29 +4,32 @@ ghost use Rattle.std.specs.Str.{IsUtf8};
 ghost use Rattle.wc_outside.specs.Keyed.{at_key, without, IsPlace};
 ghost use Rattle.wc_buffers.specs.Calls.{is_there};
 ghost use Rattle.wc_model.specs.Apply.{refusal};
+ghost use Rattle.wc_model.specs.Touches.{touched_key};
 ghost use Rattle.wc_world.specs.Texts.{IsChangeText};
 ghost use Rattle.wc_relaycmd.specs.Utf8.{HasUtf8};
 ghost use Rattle.wc_session.specs.Served.{OnServed, OnNoMemory};
 ghost use Rattle.wc_core.specs.Events.{Start, Tick, Arrives, Line as LineCame};
 ghost use Rattle.wc_core.specs.Typed.{typed_line, parted};
 ghost use Rattle.wc_core.specs.State.{first_state};
-ghost use Rattle.wc_core.specs.Step.{step, changes, tells, asks, does, is_quit, runs, leaves, lost, follows, asked, client_link};
+ghost use Rattle.wc_core.specs.Step.{step, stays, pushes, changes, tells, asks, does, is_quit, runs, leaves, lost, follows, asked, client_link};
 ghost use Rattle.wc_core.specs.Texts.{WhatUtf8};
 ghost use Rattle.wc_core.specs.Served.{seat_link, state_of, unsent_at, gone_at, is_open_at, left_at, new_seat, departure_of, Absent, links_of, MayDo, MayCome, Starves, OutcomeUtf8};
 ghost use Rattle.wc_core.specs.Inputs.{Changes, MayTell, GoesOn, Stops};
 
 use crate::changes::told_refusal;
+use crate::nick_change::change_world;
+use crate::pushes::{forget_nicks, push_nicks};
 use crate::refusals::refusal_text;
 use crate::resolve::{Resolution, resolve};
 use crate::seat::{
     Departure, Seat, drop_seat, first_departure, open_count, seat_place, tell_notice,
 };
 use crate::typed::read_typed;
-use crate::untouched::Untouched;
 use std::alloc::Global;
 use std::marker::Model;
 use wc_model::{Change, ChangeRefused, Notice};
-use wc_relaycmd::{Request, read_request, split_once};
+use wc_nickdiff::Pending;
+use wc_relaycmd::{Command, Request, read_request, split_once};
 use wc_session::{Outcome, Session};
 use wc_text::{Arrival, Cause, Handle, LinkId, NoMemory, Text};
 use wc_world::World;
@@ -34,12 +37,13 @@ use wc_world::World;
 /// How many clients are open at most.
 const CLIENT_LIMIT: usize = 5;
 
-/// The engine between the loop and the sessions: the clients, and the buffers with their lines.
+/// The engine between the loop and the sessions: the clients, and the buffers with their lines and nicklists.
 #[derive(Drop)]
 pub struct Core {
     alloc: Global,
     password: Text,
     world: World,
+    pending: Pending,
     seats: Vec<Seat>,
     moment: u64,
     starved: u64,
@@ -49,13 +53,16 @@ pub struct Core {
 impl Model for Core {
     ghost use Rattle.std.specs.Coded.{codes};
     ghost use Rattle.std.specs.FinMap as map;
-    ghost use Rattle.wc_core.specs.Standing.{Standing};
+    ghost use Rattle.wc_core.specs.Pushes.{NothingTouched};
+    ghost use Rattle.wc_core.specs.Standing.{Standing, HasNoRows};
 
     ghost Value = { Standing };
 
     ghost coded = { Prim.hlevel (codes, map.code) };
 
     ghost view = { λ core. record { password = core.password; world = core.world; seats = core.seats.items; moment = core.moment; starved = core.starved; quits = core.quits } };
+
+    ghost invariant = { λ core. HasNoRows core.world × NothingTouched core.pending };
 }
 
 impl Core {
@@ -68,10 +75,12 @@ impl Core {
         ensures fresh { IfOk result (λ core. (core.seats ≡ []) × (core.starved ≡ 0) × (core.quits ≡ false)) }
     {
         let world = World::new(alloc, limit)?;
+        let pending = Pending::new(alloc)?;
         Ok(Core {
             alloc,
             password,
             world,
+            pending,
             seats: Vec::new(alloc),
             moment: 0,
             starved: 0,
@@ -93,6 +102,20 @@ impl Core {
         ensures moves { self.new ≡ record self.old { moment = moment } }
     {
         self.moment = moment;
+        self.push_nicks();
+    }
+
+    /// Pushes what became of each nicklist since it was last pushed. That is nothing, since no command changes a nicklist.
+    fn push_nicks(&mut self)
+        ensures none { pushes (state_of self.old) ≡ stays (state_of self.old) }
+        ensures same { self.new ≡ self.old }
+    {
+        let told = push_nicks(&mut self.seats, self.alloc, &self.world, &self.pending);
+        forget_nicks(&self.world, &mut self.pending);
+        if told {
+            return;
+        }
+        self.starve();
     }
 
     /// Counts want of memory.
@@ -148,6 +171,20 @@ impl Core {
         }
     }
 
+    /// Pushes what is to be pushed before a request of a client that is open is answered: nicklists are asked for as they
+    /// then were told.
+    fn push_before(&mut self, place: usize, request: &Request)
+        requires { place < length self.old.seats }
+        ensures none { pushes (state_of self.old) ≡ stays (state_of self.old) }
+        ensures same { self.new ≡ self.old }
+    {
+        if self.seats[place].session.logged_in()
+            && matches!(request.command, Command::Nicklist(_))
+        {
+            self.push_nicks();
+        }
+    }
+
     /// Serves a request of a client that is open.
     fn ask(&mut self, place: usize, link: LinkId, request: Request)
         requires place { IsPlace seat_link link.0 self.old.seats place }
@@ -155,6 +192,7 @@ impl Core {
         requires text { HasUtf8 request }
         ensures { IfSome (at_key seat_link link.0 self.old.seats) (λ seat. MayDo self.old self.new (asked (state_of self.old) seat.session.client (Some request))) }
     {
+        self.push_before(place, &request);
         let outcome = self.seats[place]
             .session
             .request(self.alloc, &self.world, &self.password, request);
@@ -296,12 +334,13 @@ impl Core {
     /// Makes a change, and tells it to each client that asked for its event. It answers why the change is refused, and
     /// nothing where it is made or memory was refused.
     fn change(&mut self, change: Change) -> Option<ChangeRefused>
-        requires { IsChangeText change.what }
+        requires text { IsChangeText change.what }
+        requires plain { touched_key change.what ≡ None }
         ensures made { result ≡ None → Changes self.old change self.new }
         ensures refused { IfSome result (λ reason. (self.new ≡ self.old) × (refusal self.old.world change ≡ Some reason)) }
     {
         let _texts = self.world.buffers().groups();
-        match self.world.change(self.alloc, change, &mut Untouched) {
+        match change_world(self.alloc, &mut self.world, &mut self.pending, change) {
             Ok(notice) => {
                 let _texts_behind = self.world.buffers().groups();
                 self.tell(&notice);
@@ -421,9 +460,10 @@ impl Core {
         self.quits
     }
 
-    /// The buffers, with their lines.
+    /// The buffers, with their lines and nicklists, of which a tick pushes nothing.
     pub fn world(&self) -> &World
-        ensures { result.now ≡ self.now.world }
+        ensures world { result.now ≡ self.now.world }
+        ensures idle { (moment : ℕ) → step (state_of self.now) (Tick moment) ≡ stays (state_of (record self.now { moment = moment })) }
     {
         &self.world
     }

@@ -5,7 +5,9 @@ mod buffer_word;
 mod changes;
 mod core_state;
 mod meant;
+mod nick_change;
 mod number;
+mod pushes;
 mod refusals;
 mod resolve;
 mod seat;
@@ -13,10 +15,11 @@ mod tags;
 mod typed;
 mod typed_buffer;
 mod typed_print;
-mod untouched;
 
 pub use core_state::Core;
 pub use seat::{Departure, Seat};
 
+#[cfg(test)]
+mod push_tests;
 #[cfg(test)]
 mod tests;

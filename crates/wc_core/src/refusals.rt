@@ -61,6 +61,9 @@ pub(crate) fn refusal_text(alloc: Global, refused: &ChangeRefused) -> Result<Tex
     match refused {
         ChangeRefused::Buffer(reason) => buffer_text(alloc, reason),
         ChangeRefused::Spent => Text::from_slice(alloc, b"no handle left"),
-        ChangeRefused::NoLine { handle: _ } | ChangeRefused::NoMemory => Ok(Text::new(alloc)),
+        ChangeRefused::Nick(_)
+        | ChangeRefused::NoLine { handle: _ }
+        | ChangeRefused::TooManyRows { limit: _ }
+        | ChangeRefused::NoMemory => Ok(Text::new(alloc)),
     }
 }

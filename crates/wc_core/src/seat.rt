@@ -91,7 +91,7 @@ fn note_all(seats: &mut [Seat], kind: EventKind, buffer: Handle)
 }
 
 /// Tells an event to each client that it is for. False where one finds no memory for it.
-fn tell_all(seats: &mut [Seat], event: &BufferEvent) -> bool
+pub fn tell_all(seats: &mut [Seat], event: &BufferEvent) -> bool
     ensures told { result ≡ true → seats.new ≡ map (heard_seat event.now) seats.old }
     ensures each { SeatsServed event.now.kind event.now.buffer.0 (heard_seat event.now) seats.old seats.new }
 {
@@ -104,7 +104,7 @@ fn tell_all(seats: &mut [Seat], event: &BufferEvent) -> bool
 }
 
 /// Serves want of memory for an event: each client that it is for leaves.
-fn starve_all(seats: &mut [Seat], kind: EventKind, buffer: Handle)
+pub fn starve_all(seats: &mut [Seat], kind: EventKind, buffer: Handle)
     ensures { seats.new ≡ map (starved_seat kind buffer.0) seats.old }
 {
     for seat in seats.iter_mut() {

@@ -119,6 +119,27 @@ const ROWS: &[Row] = &[
         cause: None,
     },
     Row {
+        what: "the nicklists of all buffers have the root of each",
+        password: "x",
+        lines: "init password=x\ninput core.weechat /buffer add a\n(n) nicklist",
+        unsent: 183,
+        cause: None,
+    },
+    Row {
+        what: "the nicklist of one buffer has its root",
+        password: "x",
+        lines: "init password=x\ninput core.weechat /buffer add a\n(n) nicklist core.a",
+        unsent: 153,
+        cause: None,
+    },
+    Row {
+        what: "a nicklist before the login drops the client",
+        password: "x",
+        lines: "(n) nicklist",
+        unsent: 0,
+        cause: Some(Cause::LoginFailed),
+    },
+    Row {
         what: "quit",
         password: "x",
         lines: "init password=x\nquit\nping a",
@@ -138,6 +159,18 @@ fn serves_one_client(rt: HostRuntime) -> Result<(), Fail> {
         assert!(rt; cause_of(&core) == row.cause, "{what}");
         assert_eq!(rt; core.starved(), 0);
     }
+    Ok(())
+}
+
+#[test]
+fn a_tick_sends_nothing(rt: HostRuntime) -> Result<(), Fail> {
+    let mut core = new_core(rt.alloc(), "x")?;
+    assert!(rt; arrive(&mut core, 1).is_none());
+    say(&mut core, 1, "init password=x\nsync\n(n) nicklist");
+    assert_eq!(rt; unsent_len(&core, 1), 153);
+    core.tick(1700000000100);
+    assert_eq!(rt; unsent_len(&core, 1), 153);
+    assert!(rt; core.is_open(LinkId(1)));
     Ok(())
 }
 

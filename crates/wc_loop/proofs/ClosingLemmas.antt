@@ -26,11 +26,11 @@ use Rattle.wc_session.specs.Reply.{Answer, silent, replies, leaves as drops, typ
 use Rattle.wc_core.specs.Events.{Event, Start, Tick, Arrives, Line as LineCame, Ends, Fails, ListenFails}
 use Rattle.wc_core.specs.Typed.{parted}
 use Rattle.wc_core.specs.State.{State, Act, Sends, Closes, Quits, Stepped}
-use Rattle.wc_core.specs.Step.{step, run, stays, follows, leaves, sends, asked, answers, line_came, lost, client_link}
+use Rattle.wc_core.specs.Step.{step, run, stays, then_does, pushes, is_nicklist, replies as answered, follows, leaves, sends, asked, answers, line_came, lost, client_link}
 use Rattle.wc_core.specs.Served.{or_else, close_of}
 use Rattle.wc_core.proofs.DidLemmas.{close_of-append}
 use Rattle.wc_core.proofs.SeatLemmas.{close-sends}
-use Rattle.wc_core.proofs.CloseLemmas.{runs-closes}
+use Rattle.wc_core.proofs.CloseLemmas.{runs-closes, pushes-closes}
 use Rattle.wc_loop.specs.Lines.{ended, without_cr, line_limit}
 use Rattle.wc_loop.specs.Events.{line_events, read_events}
 use Rattle.wc_loop.specs.Run.{closings}
@@ -89,31 +89,40 @@ follows-one link state (outcome.Input buffer text) = record { acts = none-one li
 follows-one link state (outcome.Leave why) = leaves-one link state why
 follows-one link state outcome.NoMemory = stays-one link state
 
--- messages in front close nothing
-sent-one : (link to : ℕ) (messages : List WireMessage) (stepped : Stepped) → StepsOne link stepped → StepsOne link (record { state = stepped.state; acts = sends to messages ++ stepped.acts })
-sent-one link to messages stepped h =
-    let same : (k : ℕ) → close_of k (sends to messages ++ stepped.acts) ≡ close_of k stepped.acts = λ k. close_of-append k (sends to messages) stepped.acts ∙ ap (λ o. or_else o (close_of k stepped.acts)) (close-sends k to messages) in
+-- acts in front that close nothing
+front-one : (link : ℕ) (front : List Act) (stepped : Stepped) → ((k : ℕ) → close_of k front ≡ None) → StepsOne link stepped → StepsOne link (record { state = stepped.state; acts = front ++ stepped.acts })
+front-one link front stepped none h =
+    let same : (k : ℕ) → close_of k (front ++ stepped.acts) ≡ close_of k stepped.acts = λ k. close_of-append k front stepped.acts ∙ ap (λ o. or_else o (close_of k stepped.acts)) (none k) in
     record {
       acts = record {
         others = λ k n. same k ∙ h.acts.others k n;
-        one = closings-append (sends to messages) stepped.acts ∙ ap (λ cs. cs ++ closings stepped.acts) (no-closes (sends to messages) (λ k. close-sends k to messages)) ∙ h.acts.one ∙ ap (closed_by (record { 0 = link })) (sym (same link));
+        one = closings-append front stepped.acts ∙ ap (λ cs. cs ++ closings stepped.acts) (no-closes front none) ∙ h.acts.one ∙ ap (closed_by (record { 0 = link })) (sym (same link));
       };
       left = left-by h.left (same link);
     }
   where
-    left-by : (close_of link stepped.acts ≡ None) ⊎ (at_key client_link link stepped.state.clients ≡ None) → close_of link (sends to messages ++ stepped.acts) ≡ close_of link stepped.acts
-        → (close_of link (sends to messages ++ stepped.acts) ≡ None) ⊎ (at_key client_link link stepped.state.clients ≡ None)
+    left-by : (close_of link stepped.acts ≡ None) ⊎ (at_key client_link link stepped.state.clients ≡ None) → close_of link (front ++ stepped.acts) ≡ close_of link stepped.acts
+        → (close_of link (front ++ stepped.acts) ≡ None) ⊎ (at_key client_link link stepped.state.clients ≡ None)
     left-by (inl e) q = inl (q ∙ e)
     left-by (inr e) q = inr e
 
 answers-one : (link : ℕ) (state : State) (answer : Answer) → StepsOne link (answers state link answer)
 answers-one link state answer =
     let next : State = record state { clients = put_at client_link link answer.client state.clients } in
-    sent-one link link answer.messages (follows next link answer.outcome) (follows-one link next answer.outcome)
+    front-one link (sends link answer.messages) (follows next link answer.outcome) (λ k. close-sends k link answer.messages) (follows-one link next answer.outcome)
 
 asked-one : (state : State) (client : Client) (request : Option Request) → StepsOne (client_link client) (asked state client request)
 asked-one state client None = stays-one (client_link client) state
-asked-one state client (Some request) = answers-one (client_link client) state (reply_of state.world state.password client request)
+asked-one state client (Some request) = by (client.logged_in && is_nicklist request.command) where
+  link : ℕ
+  link = client_link client
+
+  behind : State
+  behind = (pushes state).state
+
+  by : (b : Bool) → StepsOne link (cond b (then_does (pushes state) (λ next. answered next client request)) (answered state client request))
+  by true = front-one link (pushes state).acts (answered behind client request) (λ k. pushes-closes k state) (answers-one link behind (reply_of behind.world behind.password client request))
+  by false = answers-one link state (reply_of state.world state.password client request)
 
 found-key : (link : ℕ) (clients : List Client) (client : Client) → at_key client_link link clients ≡ Some client → client_link client ≡ link
 found-key link [] client e = absurd (let q : None ≡ Some client = e in cc)
@@ -279,7 +288,19 @@ answers-cause link state answer h =
 
 asked-cause : (state : State) (client : Client) (request : Option Request) → LineCause (close_of (client_link client) (asked state client request).acts)
 asked-cause state client None = tt
-asked-cause state client (Some request) = answers-cause (client_link client) state (reply_of state.world state.password client request) (can-answer state.world state.password client request)
+asked-cause state client (Some request) = by (client.logged_in && is_nicklist request.command) where
+  link : ℕ
+  link = client_link client
+
+  replied : (at : State) → LineCause (close_of link (answered at client request).acts)
+  replied at = answers-cause link at (reply_of at.world at.password client request) (can-answer at.world at.password client request)
+
+  behind : Stepped
+  behind = answered (pushes state).state client request
+
+  by : (b : Bool) → LineCause (close_of link (cond b (then_does (pushes state) (λ next. answered next client request)) (answered state client request)).acts)
+  by true = subst LineCause (sym (close_of-append link (pushes state).acts behind.acts ∙ ap (λ o. or_else o (close_of link behind.acts)) (pushes-closes link state))) (replied (pushes state).state)
+  by false = replied state
 
 line-by : (link : ℕ) (state : State) (line : List ℕ) (o : Option Client) → at_key client_link link state.clients ≡ o → LineCause (close_of link (line_came state line o).acts)
 line-by link state line None e = tt

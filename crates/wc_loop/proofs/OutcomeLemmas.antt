@@ -8,7 +8,8 @@ use Rattle.wc_loop.specs.declared.ending.Ending.{Ending}
 use Rattle.wc_loop.specs.declared.words.Wish.{Wish}
 use Rattle.wc_loop.specs.Headline.{Headline}
 use Rattle.wc_loop.specs.Sources.{AllServed, AllSent}
-use Rattle.wc_loop.specs.Turns.{wakes, IsCaused}
+use Rattle.wc_loop.specs.Served.{IsCalm}
+use Rattle.wc_loop.specs.Turns.{wakes, Stands, IsCaused}
 use Rattle.wc_loop.specs.Endings.{LastOf, StatusOf, StatusFor, IsNumber, IsLast, HasCause, WaitsAtMost, AsksNothing, RunsBy, RunsFor, asks_turns, asks_version, asked_by, printed, status_of, number_of, tells_version}
 
 status_for : (b : Bool) (turns : ℕ) (contents : Option (List ℕ)) (k k' : ℕ) (before after : Seen) (ending : Ending) (last : Option Headless) → RunsFor b turns contents k k' before after ending last → StatusFor b turns contents after (status_of ending) last
@@ -77,6 +78,14 @@ untouched (Ok wish) contents k k' before after ending last r e = untouched_for w
 pub IfSome-headline : (last : Option Headless) (contents : Option (List ℕ)) (before after : Seen) → IfSome last (IsLast contents before after) → IfSome last (Headline contents after)
 IfSome-headline None contents before after left = tt
 IfSome-headline (Some last) contents before after left = left.headline
+
+pub IfSome-stands : (last : Option Headless) (contents : Option (List ℕ)) (before after : Seen) → IfSome last (IsLast contents before after) → IfSome last (λ last. Stands last after)
+IfSome-stands None contents before after left = tt
+IfSome-stands (Some last) contents before after left = left.stands
+
+pub IfSome-calm : (last : Option Headless) (contents : Option (List ℕ)) (before after : Seen) → IfSome last (IsLast contents before after) → IfSome last (λ last. IsCalm last.core.seats)
+IfSome-calm None contents before after left = tt
+IfSome-calm (Some last) contents before after left = left.calm
 
 pub IfSome-causes : (last : Option Headless) (contents : Option (List ℕ)) (before after : Seen) → IfSome last (IsLast contents before after) → IfSome last (λ last. All (IsCaused before after) last.links.closed.items)
 IfSome-causes None contents before after left = tt

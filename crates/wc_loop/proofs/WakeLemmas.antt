@@ -16,7 +16,8 @@ use Rattle.wc_loop.specs.declared.headless.Headless.{Headless}
 use Rattle.wc_outside.specs.Keyed.{at_key, put_at}
 use Rattle.wc_core.specs.Events.{Tick}
 use Rattle.wc_core.specs.Standing.{Standing}
-use Rattle.wc_core.specs.Step.{run, stays}
+use Rattle.wc_core.specs.State.{Stepped}
+use Rattle.wc_core.specs.Step.{step, run, stays, then_does}
 use Rattle.wc_core.specs.Served.{seat_link, state_of, Distinct}
 use Rattle.wc_loop.specs.Events.{is_tick, is_event, wake_events, events_of}
 use Rattle.wc_loop.specs.Links.{link_number, is_undrained, marked_at}
@@ -161,19 +162,20 @@ woken-starved last moment core = starved-by (is_event last moment)
     starved-by true = refl
     starved-by false = refl
 
-pub wake-runs : (last : Option ℕ) (moment : ℕ) (core : Standing) → run (state_of core) (wake_events last moment) ≡ stays (state_of (woken last moment core))
-wake-runs None moment core = refl
-wake-runs (Some last) moment core = tick-runs (is_tick last moment)
+-- the steps of a wait that returned, where a tick does no more than to set the moment
+pub wake-runs : (last : Option ℕ) (moment : ℕ) (core : Standing) → ((m : ℕ) → step (state_of core) (Tick m) ≡ stays (state_of (record core { moment = m }))) → run (state_of core) (wake_events last moment) ≡ stays (state_of (woken last moment core))
+wake-runs None moment core idle = refl
+wake-runs (Some last) moment core idle = tick-runs (is_tick last moment)
   where
     tick-runs : (t : Bool) → run (state_of core) (cond t (Tick moment ∷ []) []) ≡ stays (state_of (cond t (record core { moment = moment }) core))
-    tick-runs true = refl
+    tick-runs true = ap (λ (first : Stepped). then_does first (λ next. run next [])) (idle moment)
     tick-runs false = refl
 
 -- a wait returned
 unfoldable pub Continues-woke : (x y z : Headless) (a b : Seen) (moment' : ℕ) (tokens : List Token) → Call a b (Woke moment' ∷ []) → (IsTrue b.tells → (k : ℕ) → b.sent k ≡ a.sent k) → (IsTrue b.tells → (k : ℕ) → b.choked k ≡ a.choked k)
     → b.used ≡ a.used → ((k : ℕ) → b.there k ≡ a.there k) → ((k : ℕ) → b.undrained k ≡ (a.undrained k || list_any (is_link k) tokens)) → b.listening ≡ (a.listening || list_any is_listener tokens) → All (IsThere a.there) tokens
-    → x.core.quits ≡ false → Begins x y moment' → Reports y z tokens → Continues false 1 0 x z a b
-Continues-woke x y z a b m tokens call sent choked used there undrained listening tokens_there going begins reports =
+    → x.core.quits ≡ false → Begins x y moment' → run (state_of x.core) (wake_events x.clock moment') ≡ stays (state_of y.core) → Reports y z tokens → Continues false 1 0 x z a b
+Continues-woke x y z a b m tokens call sent choked used there undrained listening tokens_there going begins runs reports =
     let core : z.core ≡ woken x.clock m x.core = reports.core ∙ begins.core in
     let seats : z.core.seats ≡ x.core.seats = ap (λ c. c.seats) core ∙ woken-seats x.clock m x.core in
     let quits : z.core.quits ≡ x.core.quits = ap (λ c. c.quits) core ∙ woken-quits x.clock m x.core in
@@ -205,5 +207,5 @@ Continues-woke x y z a b m tokens call sent choked used there undrained listenin
       rises = omega arith;
       advances = λ same below.
           Advances-same (moment x a) (moment z b) seats quits (reports.used ∙ begins.used) (sent t) (choked t) (Woke m ∷ []) (call.taken t) (events_of a.taken (Woke m))
-          (ap (λ c. run (state_of x.core) (wake_events c m)) (sym told.clock) ∙ wake-runs x.clock m x.core ∙ ap (λ c. stays (state_of c)) (sym core));
+          (ap (λ c. run (state_of x.core) (wake_events c m)) (sym told.clock) ∙ runs ∙ ap (λ c. stays (state_of c)) (sym reports.core));
     })

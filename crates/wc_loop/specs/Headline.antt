@@ -36,7 +36,7 @@ abbrev pub Headline : Option (List ℕ) → Seen → Headless → Type 0
 Headline contents seen last =
     IfSome contents (λ configuration. IfOk (settings_in configuration) (λ settings. IsTrue seen.tells → last.core.starved ≡ 0 → HandsOut (first_state settings.password settings.limit) seen last))
 
--- Where that is so, each client that settled by the dump of a part, the lines of all buffers or the buffers in their groups, has exactly this part of the world, by the bytes that were sent to it and those that are unsent.
+-- Where that is so, each client that settled by the dump of a part, the lines of all buffers, the buffers in their groups or the nicklists, has exactly this part of the world, by the bytes that were sent to it and those that are unsent.
 abbrev pub Mirrored : Option (List ℕ) → Seen → Headless → Type 0
 Mirrored contents seen last =
     IfSome contents (λ configuration. IfOk (settings_in configuration) (λ settings.

@@ -136,7 +136,7 @@ struct Served {
     stays: bool,
 }
 
-const SERVED: [Served; 15] = [
+const SERVED: [Served; 16] = [
     Served {
         what: "a ping in whole lines",
         given: b"init password=x\nping 1480802456789\n",
@@ -177,6 +177,13 @@ const SERVED: [Served; 15] = [
         given: b"init password=x\n(h) hdata buffer:0xdead number\n",
         piece: 100,
         sent: b"\0\0\0\x19\0\0\0\0\x01hhda\xff\xff\xff\xff\xff\xff\xff\xff\0\0\0\0",
+        stays: true,
+    },
+    Served {
+        what: "the nicklists of all buffers",
+        given: b"init password=x\nsync\n(n) nicklist\n",
+        piece: 100,
+        sent: b"\0\0\0\x99\0\0\0\0\x01nhda\0\0\0\x14buffer/nicklist_item\0\0\0\x4egroup:chr,visible:chr,level:int,name:str,color:str,prefix:str,prefix_color:str\0\0\0\x01\x011\x014\x01\0\0\0\0\0\0\0\0\x04root\0\0\0\0\0\0\0\0\0\0\0\0",
         stays: true,
     },
     Served {

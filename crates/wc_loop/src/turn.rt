@@ -84,6 +84,7 @@ impl Headless {
         ensures failed { OnErr result (Wakes 0 self.old self.new (S.seen sockets.old) (S.seen sockets.new)) }
         ensures fault { OnErr result (Rose (S.seen sockets.old).faults.waits (S.seen sockets.new).faults.waits) }
     {
+        let _idle = self.core.world();
         match sockets.wait(self.timeout(), ready) {
             Ok(moment) => {
                 self.begin_turn(moment);

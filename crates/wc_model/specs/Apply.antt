@@ -1,5 +1,5 @@
 -- A change of the world: the refusal, where there is one, and the world after it.
-use Rattle.std.specs.Prelude.{ℕ, ◌+◌, false, true, not, Bool, nat_lt, Option, Some, None, List, [], ◌∷◌, ◌++◌, map, find, fold, option_map, if◌then◌else◌}
+use Rattle.std.specs.Prelude.{ℕ, ◌+◌, false, true, not, Bool, nat_lt, nat_le, Option, Some, None, List, [], ◌∷◌, ◌++◌, map, find, fold, option_map, if◌then◌else◌}
 use Rattle.std.specs.List.{list_any}
 use Rattle.std.specs.FinMap.{insert, remove, entries, from_entries}
 use Rattle.wc_text.specs.declared.names.Handle.{Handle}
@@ -10,13 +10,20 @@ use Rattle.wc_buffers.specs.declared.refused.BufferRefused.{BufferRefused}
 use Rattle.wc_buffers.specs.Calls.{Groups, no_buffer, add_refusal, close_refusal, move_refusal, merge_refusal, unmerge_refusal, rename_refusal, short_name_refusal, set_var_refusal, remove_var_refusal, added, closed, moved, merged, unmerged, changed, with_hidden, with_full_name, with_short_name, with_title, with_var, without_var}
 use Rattle.wc_buffers.specs.Vars.{cut_to}
 use Rattle.wc_buffers.specs.declared.row.BufferSpec.{BufferSpec}
+use Rattle.wc_nicklist.specs.declared.item.Item.{Item}
+use Rattle.wc_nicklist.specs.declared.item.Key.{Key}
+use Rattle.wc_nicklist.specs.declared.item.Row.{Row}
+use Rattle.wc_nicklist.specs.declared.refused.NickRefused.{NickRefused}
+use Rattle.wc_nicklist.specs.Calls as nicks
+use Rattle.wc_nicklist.specs.Order.{key_at}
+use Rattle.wc_nicklist.specs.Rows.{find_row, remove_row, change_row}
 use Rattle.wc_model.specs.declared.change.Change.{Change}
 use Rattle.wc_model.specs.declared.change.Flip.{Flip}
 use Rattle.wc_model.specs.declared.change.What.{What}
-use Rattle.wc_model.specs.declared.change.What.TheVariants.{Add, Close, MoveTo, MergeInto, Unmerge, Hide, Unhide, Rename, ShortName, Title, SetVar, RemoveVar, Print, Clear, Flips}
+use Rattle.wc_model.specs.declared.change.What.TheVariants.{Add, Close, MoveTo, MergeInto, Unmerge, Hide, Unhide, Rename, ShortName, Title, SetVar, RemoveVar, Print, Clear, Flips, AddGroup, AddNick, RemoveGroup, RemoveNick, ChangeGroup, ChangeNick}
 use Rattle.wc_model.specs.declared.refused.ChangeRefused.{ChangeRefused}
-use Rattle.wc_model.specs.declared.refused.ChangeRefused.TheVariants.{Buffer, NoLine, Spent}
-use Rattle.wc_model.specs.World.{World, lines_at, last_handle}
+use Rattle.wc_model.specs.declared.refused.ChangeRefused.TheVariants.{Buffer, Nick, NoLine, TooManyRows, Spent}
+use Rattle.wc_model.specs.World.{World, lines_at, rows_at, row_count, row_limit, last_handle}
 use Rattle.wc_model.specs.Order.{order}
 use Rattle.wc_model.specs.LineCuts.{line_of}
 
@@ -53,6 +60,27 @@ is_held content world = list_any (λ buffer. has_content content (lines_at world
 abbrev pub no_line : List Flip → World → Option ChangeRefused
 no_line flips world = option_map (λ (flip : Flip). NoLine flip.content) (find (λ (flip : Flip). not (is_held flip.content world)) flips)
 
+abbrev pub of_nicks : Option NickRefused → Option ChangeRefused
+of_nicks refusal = option_map Nick refusal
+
+-- no nicklist takes a row more
+abbrev pub too_many_rows : World → Option ChangeRefused
+too_many_rows world = if nat_le row_limit (row_count world) then Some (TooManyRows row_limit) else None
+
+abbrev pub adds_row : World → Handle → Bool → List ℕ → Item → Option ChangeRefused
+adds_row world buffer is_group parent item =
+    or_else (of_buffers (no_buffer buffer world.groups))
+    (or_else (of_nicks (nicks.add_refusal is_group parent item.name (rows_at world buffer.0)))
+    (or_else (too_many_rows world) (spent 1 world)))
+
+abbrev pub removes_row : World → Handle → Bool → List ℕ → Option ChangeRefused
+removes_row world buffer is_group name =
+    or_else (of_buffers (no_buffer buffer world.groups)) (of_nicks (nicks.remove_refusal is_group name (rows_at world buffer.0)))
+
+abbrev pub changes_row : World → Handle → Bool → Item → Option ChangeRefused
+changes_row world buffer is_group item =
+    or_else (of_buffers (no_buffer buffer world.groups)) (of_nicks (nicks.change_refusal is_group item.name (rows_at world buffer.0)))
+
 unfoldable pub refusal_of : World → Handle → What → Option ChangeRefused
 refusal_of world buffer (Add spec) = or_else (of_buffers (add_refusal (row_of world.next spec) spec.vars world.groups)) (spent 4 world)
 refusal_of world buffer Close = of_buffers (close_refusal buffer world.groups)
@@ -69,6 +97,12 @@ refusal_of world buffer (RemoveVar name) = of_buffers (remove_var_refusal buffer
 refusal_of world buffer (Print line) = or_else (of_buffers (no_buffer buffer world.groups)) (spent 2 world)
 refusal_of world buffer Clear = of_buffers (no_buffer buffer world.groups)
 refusal_of world buffer (Flips flips) = no_line flips world
+refusal_of world buffer (AddGroup parent item) = adds_row world buffer true parent item
+refusal_of world buffer (AddNick group item) = adds_row world buffer false group item
+refusal_of world buffer (RemoveGroup name) = removes_row world buffer true name
+refusal_of world buffer (RemoveNick name) = removes_row world buffer false name
+refusal_of world buffer (ChangeGroup item) = changes_row world buffer true item
+refusal_of world buffer (ChangeNick item) = changes_row world buffer false item
 
 -- why a change is refused, by the first reason that holds, but for want of memory
 abbrev pub refusal : World → Change → Option ChangeRefused
@@ -89,10 +123,42 @@ with_groups world groups = record world { groups = groups }
 abbrev pub with_lines : World → Handle → List Line → World
 with_lines world buffer lines = record world { lines = insert world.lines buffer.0 lines }
 
+abbrev pub with_rows : World → Handle → List Row → World
+with_rows world buffer rows = record world { nicks = insert world.nicks buffer.0 rows }
+
+-- an item as a row takes it: what is too long is cut
+abbrev pub item_with : Handle → Item → Item
+item_with handle item = record {
+  handle = handle;
+  is_group = item.is_group;
+  visible = item.visible;
+  level = item.level;
+  name = item.name;
+  color = cut_to 64 item.color;
+  prefix = cut_to 64 item.prefix;
+  prefix_color = cut_to 64 item.prefix_color;
+}
+
+-- an item that is added draws its handle, and one that is changed keeps it
+abbrev pub with_row : World → Handle → Bool → List ℕ → Item → World
+with_row world buffer is_group parent item =
+    record (with_rows world buffer (nicks.add_row is_group parent (item_with (record { 0 = world.next }) item) (rows_at world buffer.0))) { next = world.next + 1 }
+
+abbrev pub without_row : World → Handle → Bool → List ℕ → World
+without_row world buffer is_group name = with_rows world buffer (remove_row (key_at is_group name) (rows_at world buffer.0))
+
+abbrev pub handle_in : Option Row → Handle
+handle_in None = record { 0 = 0 }
+handle_in (Some r) = r.item.handle
+
+abbrev pub with_changed_row : World → Handle → Key → Item → World
+with_changed_row world buffer key item =
+    with_rows world buffer (change_row key (item_with (handle_in (find_row key (rows_at world buffer.0))) item) (rows_at world buffer.0))
+
 unfoldable pub after_of : World → Handle → What → World
 after_of world buffer (Add spec) =
-    record world { groups = added (row_of world.next spec) spec.vars world.groups; lines = insert world.lines world.next []; next = world.next + 4 }
-after_of world buffer Close = record world { groups = closed buffer world.groups; lines = remove world.lines buffer.0 }
+    record world { groups = added (row_of world.next spec) spec.vars world.groups; lines = insert world.lines world.next []; nicks = insert world.nicks world.next []; next = world.next + 4 }
+after_of world buffer Close = record world { groups = closed buffer world.groups; lines = remove world.lines buffer.0; nicks = remove world.nicks buffer.0 }
 after_of world buffer (MoveTo number) = with_groups world (moved buffer number world.groups)
 after_of world buffer (MergeInto into) = with_groups world (merged buffer into world.groups)
 after_of world buffer Unmerge = with_groups world (unmerged buffer world.groups)
@@ -107,6 +173,12 @@ after_of world buffer (Print line) =
     record (with_lines world buffer (last_of world.limit (lines_at world buffer.0 ++ line_of world.next line ∷ []))) { next = world.next + 2 }
 after_of world buffer Clear = with_lines world buffer []
 after_of world buffer (Flips flips) = flip_all flips world
+after_of world buffer (AddGroup parent item) = with_row world buffer true parent item
+after_of world buffer (AddNick group item) = with_row world buffer false group item
+after_of world buffer (RemoveGroup name) = without_row world buffer true name
+after_of world buffer (RemoveNick name) = without_row world buffer false name
+after_of world buffer (ChangeGroup item) = with_changed_row world buffer (key_at true item.name) item
+after_of world buffer (ChangeNick item) = with_changed_row world buffer (key_at false item.name) item
 
 abbrev pub after : World → Change → World
 after world change = after_of world change.buffer change.what

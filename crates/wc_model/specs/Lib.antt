@@ -3,4 +3,5 @@ pub mod Laws
 pub mod LineCuts
 pub mod Notices
 pub mod Order
+pub mod Touches
 pub mod World

@@ -7,7 +7,7 @@ use Rattle.wc_buffers.specs.declared.row.BufferRow.{BufferRow}
 use Rattle.wc_buffers.specs.Calls.{Groups, buffer_of, entry_of, number, lacks_var}
 use Rattle.wc_model.specs.declared.change.Change.{Change}
 use Rattle.wc_model.specs.declared.change.What.{What}
-use Rattle.wc_model.specs.declared.change.What.TheVariants.{Add, Close, MoveTo, MergeInto, Unmerge, Hide, Unhide, Rename, ShortName, Title, SetVar, RemoveVar, Print, Clear, Flips}
+use Rattle.wc_model.specs.declared.change.What.TheVariants.{Add, Close, MoveTo, MergeInto, Unmerge, Hide, Unhide, Rename, ShortName, Title, SetVar, RemoveVar, Print, Clear, Flips, AddGroup, AddNick, RemoveGroup, RemoveNick, ChangeGroup, ChangeNick}
 use Rattle.wc_model.specs.declared.notice.EventKind.{EventKind}
 use Rattle.wc_model.specs.declared.notice.EventKind.TheVariants as kind
 use Rattle.wc_model.specs.declared.notice.Notice.{Notice}
@@ -38,6 +38,12 @@ kind_of world buffer (RemoveVar name) = kind.VarRemoved
 kind_of world buffer (Print line) = kind.LineAdded
 kind_of world buffer Clear = kind.Cleared
 kind_of world buffer (Flips flips) = kind.LineDataChanged
+kind_of world buffer (AddGroup parent item) = kind.NickTouched
+kind_of world buffer (AddNick group item) = kind.NickTouched
+kind_of world buffer (RemoveGroup name) = kind.NickTouched
+kind_of world buffer (RemoveNick name) = kind.NickTouched
+kind_of world buffer (ChangeGroup item) = kind.NickTouched
+kind_of world buffer (ChangeNick item) = kind.NickTouched
 
 -- the buffer that is told of, and the groups in which it is told: those behind the change, and before it for a close
 abbrev pub about : World → Handle → What → Handle

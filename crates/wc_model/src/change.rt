@@ -1,4 +1,5 @@
 use wc_buffers::BufferSpec;
+use wc_nicklist::Item;
 use wc_text::{Handle, Items, Pair, Text};
 
 /// A change of the world.
@@ -32,6 +33,18 @@ pub enum What {
     /// The buffer's lines go.
     Clear,
     Flips(Items<Flip>),
+    /// A group below another one, which is named; `root` names the root. It draws its handle, and its level is one more
+    /// than that of the group above.
+    AddGroup { parent: Text, item: Item },
+    /// A nick in a group, which is named; `root` names the root. It draws its handle.
+    AddNick { group: Text, item: Item },
+    /// A group that has neither groups nor nicks goes.
+    RemoveGroup(Text),
+    RemoveNick(Text),
+    /// The group of the item's name gets its other fields, but for the handle and the level.
+    ChangeGroup(Item),
+    /// The nick of the item's name gets its other fields, but for the handle.
+    ChangeNick(Item),
 }
 
 /// A line that filters show or hide from now on.

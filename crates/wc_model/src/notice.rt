@@ -18,6 +18,12 @@ pub enum EventKind {
     Closing,
     LineAdded,
     LineDataChanged,
+    /// A nicklist as a whole. No change is noticed so: it is how nicklists are pushed.
+    Nicklist,
+    /// What became of a nicklist since it was pushed.
+    NicklistDiff,
+    /// A group or a nick came, went or was changed. No client is told of it before the next push.
+    NickTouched,
 }
 
 /// What is noticed of an accepted change. But for a close the values are those behind it; for a close they are those

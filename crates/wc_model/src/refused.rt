@@ -1,4 +1,5 @@
 use wc_buffers::BufferRefused;
+use wc_nicklist::NickRefused;
 use wc_text::{Handle, NoMemory};
 
 /// Why a change was refused. Of several reasons the first in this order is answered.
@@ -6,9 +7,14 @@ use wc_text::{Handle, NoMemory};
 pub enum ChangeRefused {
     #[error("{0}")]
     Buffer(BufferRefused),
+    #[error("{0}")]
+    Nick(NickRefused),
     /// No line that is held has this content.
     #[error("no such line")]
     NoLine { handle: Handle },
+    /// All nicklists together have as many rows as they may.
+    #[error("more than {limit} nicks and groups")]
+    TooManyRows { limit: u64 },
     /// There are not as many handles left as it would draw.
     #[error("no handle left")]
     Spent,

@@ -103,7 +103,7 @@ front_less (suc n) (x ∷ xs) (y ∷ ys) h l e = elim (cases_order x y) [
   ]
 ]
 
-front_same : (n : ℕ) (xs ys : List ℕ) → AreBytes n xs → AreBytes n ys → length xs ≤ n → length xs ≡ length ys → front n xs ≡ front n ys → xs ≡ ys
+pub front_same : (n : ℕ) (xs ys : List ℕ) → AreBytes n xs → AreBytes n ys → length xs ≤ n → length xs ≡ length ys → front n xs ≡ front n ys → xs ≡ ys
 front_same n [] [] h l s i e = refl
 front_same n [] (y ∷ ys) h l s i e = absurd (omega arith)
 front_same n (x ∷ xs) [] h l s i e = absurd (omega arith)

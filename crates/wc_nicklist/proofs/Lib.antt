@@ -9,6 +9,7 @@ pub mod Keys
 pub mod Leaves
 pub mod Lengths
 pub mod Names
+pub mod Numbers
 pub mod OrderLaws
 pub mod Paths
 pub mod Places

@@ -13,7 +13,7 @@ use Rattle.wc_nicklist.specs.Stored.{AllBefore, FirstNotBefore, IsPlace, IsSplit
 use Rattle.wc_nicklist.proofs.OrderLaws.{by_bool, before_chain_at, before_is, before_itself, before_one_way, before_other, key_eq-true, key_eq-same}
 use Rattle.wc_nicklist.proofs.RowLaws.{behind_found, absent_kept, find_key, key_eq-at}
 
--- one step of a search by halves
+-- one step of a search
 behind_at : (x y : Row) (ys : List Row) (m : ℕ) → AllBehind x ys → m < length ys → y ≡ get_or ys m y → before x y ≡ true
 behind_at x y [] m h l e = absurd (omega arith)
 behind_at x y (z ∷ zs) zero h l e = ap (before x) e ∙ h.0

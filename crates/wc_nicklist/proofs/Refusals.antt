@@ -103,3 +103,67 @@ module _ (g : Bool) (name : List ℕ) (rows : List Row) where
       go None f r n = absurd (true≢false (sym f))
       go (Some row) f None n = refl
       go (Some row) f (Some e) n = absurd cc
+
+-- What holds where nothing is refused.
+or_first : (a b : Option NickRefused) → or_else a b ≡ None → a ≡ None
+or_first None b e = refl
+or_first (Some a) b e = absurd cc
+
+or_second : (a b : Option NickRefused) → or_else a b ≡ None → b ≡ None
+or_second None b e = e
+or_second (Some a) b e = absurd cc
+
+when_not : (b : Bool) (e : NickRefused) → when b e ≡ None → b ≡ false
+when_not true e n = absurd cc
+when_not false e n = refl
+
+module _ (g : Bool) (name : List ℕ) (rows : List Row) where
+  pub record MayAdd (above : List ℕ) : Type 0 where
+    pub named : name_refusal g name ≡ None
+    pub parent : is_some (path_below above rows) ≡ true
+    pub absent : find_row (key_at g name) rows ≡ None
+
+  pub may_add : (parent : List ℕ) → add_refusal g parent name rows ≡ None → MayAdd parent
+  unfolding add_refusal
+  may_add parent e =
+      let behind = or_second (name_refusal g name) _ e in
+      let orphan = or_first (when (is_none (path_below parent rows)) (NoParent parent)) _ behind in
+      let taken = or_second (when (is_none (path_below parent rows)) (NoParent parent)) _ behind in
+      record {
+        named = or_first (name_refusal g name) _ e;
+        parent = stands (path_below parent rows) (when_not _ _ orphan);
+        absent = lacks (find_row (key_at g name) rows) (when_not _ _ taken);
+      }
+    where
+      stands : {A : Type 0} (o : Option A) → is_none o ≡ false → is_some o ≡ true
+      stands None t = absurd (true≢false t)
+      stands (Some x) t = refl
+
+      lacks : {A : Type 0} (o : Option A) → is_some o ≡ false → o ≡ None
+      lacks None t = refl
+      lacks (Some x) t = absurd (true≢false t)
+
+  there : (o : Option Row) → is_none o ≡ false → is_some o ≡ true
+  there None t = absurd (true≢false t)
+  there (Some x) t = refl
+
+  pub record MayRemove : Type 0 where
+    pub stands : is_some (find_row (key_at g name) rows) ≡ true
+    pub childless : g ≡ true → has_children (find_row (key_at g name) rows) rows ≡ false
+
+  pub may_remove : remove_refusal g name rows ≡ None → MayRemove
+  unfolding remove_refusal
+  may_remove e =
+      let behind = or_second (name_refusal g name) _ e in
+      record {
+        stands = there (find_row (key_at g name) rows) (when_not _ _ (or_first (when (is_none (find_row (key_at g name) rows)) (NoSuch name)) _ behind));
+        childless = empty g (has_children (find_row (key_at g name) rows) rows) (when_not _ _ (or_second (when (is_none (find_row (key_at g name) rows)) (NoSuch name)) _ behind));
+      }
+    where
+      empty : (a b : Bool) → (a && b) ≡ false → a ≡ true → b ≡ false
+      empty true b e t = e
+      empty false b e t = absurd (true≢false (sym t))
+
+  pub may_change : change_refusal g name rows ≡ None → is_some (find_row (key_at g name) rows) ≡ true
+  unfolding change_refusal
+  may_change e = there (find_row (key_at g name) rows) (when_not _ _ (or_second (name_refusal g name) _ e))

@@ -66,7 +66,7 @@ fn place_below(name: &[u8], is_group: bool) -> u128
 }
 
 /// The first bytes of a text as one number, the first of them highest.
-fn front(bytes: &[u8], count: usize, keeps_case: bool) -> u128
+pub(crate) fn front(bytes: &[u8], count: usize, keeps_case: bool) -> u128
     requires { count ≤ 16 }
     ensures front { result ≡ front count (cased keeps_case bytes.now) }
     ensures bytes { IsBytes bytes.now }

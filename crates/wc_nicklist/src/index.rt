@@ -1,20 +1,15 @@
-ghost use Rattle.std.specs.Prelude.{◌≡◌, ◌≤◌, ◌<◌, ℕ, List, None, Some, OnOk, bytes_eq, if◌then◌else◌, option_copied};
-ghost use Rattle.std.specs.HashMap.{spare};
-ghost use Rattle.wc_nicklist.specs.Index.{at_name};
+ghost use Rattle.std.specs.Prelude.{◌≡◌, None, Some, OnOk, if◌then◌else◌, option_copied};
 
+use crate::by_name::PathsByName;
 use crate::path::Path;
 use std::alloc::Global;
-use std::collections::HashMap;
 use wc_text::NoMemory;
-
-/// The paths of groups, or of nicks, by name.
-type Paths = HashMap<Vec<u8>, Path>;
 
 /// The path of each row, by its key.
 #[derive(Drop)]
 pub(crate) struct Index {
-    groups: Paths,
-    nicks: Paths,
+    groups: PathsByName,
+    nicks: PathsByName,
 }
 
 impl Index {
@@ -28,8 +23,8 @@ impl Index {
         ensures { (k : Key) → path_in result k ≡ None }
     {
         Index {
-            groups: HashMap::new(alloc),
-            nicks: HashMap::new(alloc),
+            groups: PathsByName::new(alloc),
+            nicks: PathsByName::new(alloc),
         }
     }
 
@@ -38,9 +33,9 @@ impl Index {
         ensures { option_copied result ≡ path_in self.now (key_at is_group name.now) }
     {
         if is_group {
-            self.groups.get(name)
+            self.groups.find(name)
         } else {
-            self.nicks.get(name)
+            self.nicks.find(name)
         }
     }
 
@@ -50,8 +45,8 @@ impl Index {
         ensures kept { IndexHasRoom self.old → IndexHasRoom self.new }
         ensures ok { OnOk result (IndexHasRoom self.new) }
     {
-        reserve(&mut self.groups)?;
-        reserve(&mut self.nicks)
+        self.groups.reserve()?;
+        self.nicks.reserve()
     }
 
     /// Notes the path of a key. It takes no memory.
@@ -60,9 +55,9 @@ impl Index {
         ensures { (k : Key) → path_in self.new k ≡ (if key_eq (key_at is_group name.items) k then Some path else path_in self.old k) }
     {
         if is_group {
-            insert(&mut self.groups, name, path);
+            self.groups.insert(name, path);
         } else {
-            insert(&mut self.nicks, name, path);
+            self.nicks.insert(name, path);
         }
     }
 
@@ -71,33 +66,9 @@ impl Index {
         ensures { (k : Key) → path_in self.new k ≡ (if key_eq (key_at is_group name.now) k then None else path_in self.old k) }
     {
         if is_group {
-            remove(&mut self.groups, name);
+            self.groups.remove(name);
         } else {
-            remove(&mut self.nicks, name);
+            self.nicks.remove(name);
         }
     }
-}
-
-fn reserve(paths: &mut Paths) -> Result<(), NoMemory>
-    ensures same { (name : List ℕ) → at_name paths.new name ≡ at_name paths.old name }
-    ensures kept { spare paths.old ≤ spare paths.new }
-    ensures ok { OnOk result (0 < spare paths.new) }
-{
-    paths.reserve(1)?;
-    Ok(())
-}
-
-fn insert(paths: &mut Paths, name: Vec<u8>, path: Path)
-    requires { 0 < spare paths.old }
-    ensures { (q : List ℕ) → at_name paths.new q ≡ (if bytes_eq name.items q then Some path else at_name paths.old q) }
-{
-    let Ok(_) = paths.insert(name, path) else {
-        unreachable!()
-    };
-}
-
-fn remove(paths: &mut Paths, name: &[u8])
-    ensures { (q : List ℕ) → at_name paths.new q ≡ (if bytes_eq name.now q then None else at_name paths.old q) }
-{
-    let _ = paths.remove(name);
 }

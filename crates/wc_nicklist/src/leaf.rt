@@ -1,8 +1,8 @@
-ghost use Rattle.std.specs.Prelude.{◌≡◌, ◌≤◌, ◌<◌, ◌++◌, ◌+◌, ◌∷◌, [], ℕ, Some, length, insert, slice_get, slice_set, vec_len, vec_capacity};
+ghost use Rattle.std.specs.Prelude.{◌≡◌, ◌≤◌, ◌<◌, ◌++◌, ◌+◌, ◌∷◌, [], ℕ, Some, length, insert, slice_get, slice_set, take, vec_len, vec_capacity};
 ghost use Rattle.wc_nicklist.specs.Order.{key, key_at, address, address_of};
 ghost use Rattle.wc_nicklist.specs.Rows.{below, changed_item, changed_row, key_eq, path_eq, Ascending};
 ghost use Rattle.wc_nicklist.specs.declared.item.Row.{Row as RowValue};
-ghost use Rattle.wc_nicklist.specs.Stored.{IsPlace};
+ghost use Rattle.wc_nicklist.specs.Stored.{AllBefore, IsPlace};
 
 use crate::entry::Entry;
 use crate::item::Item;
@@ -15,22 +15,35 @@ pub(crate) const LEAF_ROWS: usize = 64;
 /// What a full leaf keeps when it is split.
 pub(crate) const HALF: usize = LEAF_ROWS / 2;
 
+/// How many rows a search in a leaf passes by at once.
+const STRIDE: usize = 8;
+
 /// The place of an address: the number of rows that stand before it.
+///
+/// Which row is read next hangs on no row before, but for the end of each loop. So a processor goes
+/// ahead and reads several rows from memory at once, where a search by halves waits for each.
 pub(crate) fn place(rows: &[Entry], address: &Address<'_>) -> usize
     requires { Ascending rows.now }
     ensures { IsPlace rows.now (address_of address.now.path.now (key_at address.now.is_group address.now.name.now)) result }
 {
-    let mut low = 0;
-    let mut high = rows.len();
-    while low < high {
-        let middle = low + (high - low) / 2;
-        if stands_before(&rows[middle], address) {
-            low = middle + 1;
-        } else {
-            high = middle;
-        }
+    let mut at = place_by_strides(rows, address);
+    while at < rows.len() && stands_before(&rows[at], address) {
+        at += 1;
     }
-    low
+    at
+}
+
+/// A place up to which the rows stand before an address, less than a stride from the last such.
+fn place_by_strides(rows: &[Entry], address: &Address<'_>) -> usize
+    requires { Ascending rows.now }
+    ensures within { result ≤ length rows.now }
+    ensures left { AllBefore (take result rows.now) (address_of address.now.path.now (key_at address.now.is_group address.now.name.now)) }
+{
+    let mut at = 0;
+    while rows.len() - at >= STRIDE && stands_before(&rows[at + STRIDE - 1], address) {
+        at += STRIDE;
+    }
+    at
 }
 
 /// Puts a row at its place in a leaf that has room.

@@ -1,6 +1,7 @@
 //! Nicklists: groups with their nicks, which contracts see as one flat list of rows.
 #![tactic(auto)]
 
+mod by_name;
 mod digest;
 mod entry;
 #[cfg(test)]
@@ -24,5 +25,6 @@ pub use item::{Item, Key, Row};
 pub use iter::{RowIter, RowView};
 pub use name::Name;
 pub use nicklist::Nicklist;
+pub use order::row_cmp;
 pub use refused::NickRefused;
 pub use touch::Touch;

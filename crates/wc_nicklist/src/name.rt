@@ -46,7 +46,12 @@ impl Name {
 }
 
 impl fmt::Display for Name {
-    fn fmt<W: fmt::Write>(&self, f: &mut fmt::Formatter<W>) -> fmt::Result {
+    ghost use Rattle.std.specs.Fmt.{WritesOnOk};
+    ghost use Rattle.std.specs.Str.{IsUtf8};
+
+    fn fmt<W: fmt::Write>(&self, f: &mut fmt::Formatter<W>) -> fmt::Result
+        ensures text { IsUtf8 self.now → WritesOnOk W.write_str_gives f.old result self.now f.new }
+    {
         match std::str::from_utf8(self.as_slice()) {
             Ok(name) => f.write_str(name),
             Err(_) => fmt::Debug::fmt(self, f),

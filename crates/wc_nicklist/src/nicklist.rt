@@ -167,16 +167,8 @@ impl Nicklist {
         ensures err { OnErr result (self.new ≡ self.old) }
         ensures room { self.old.room ≡ Some parent.now → result ≢ Err NickRefused.NoMemory }
     {
-        if let Some(refused) = refusal_of_name(is_group, item.name.as_slice()) {
+        if let Some(refused) = self.add_refusal(alloc, is_group, parent, item.name.as_slice()) {
             return Err(refused);
-        }
-        if !self.has_parent(parent.as_slice()) {
-            return Err(no_parent(alloc, parent));
-        }
-        if self.has(is_group, item.name.as_slice()) {
-            return Err(NickRefused::NameTaken {
-                name: Name::from_slice(item.name.as_slice()),
-            });
         }
         match self.prepare(alloc, parent) {
             Ok(()) => {
@@ -185,6 +177,33 @@ impl Nicklist {
             }
             Err(NoMemory) => Err(NickRefused::NoMemory),
         }
+    }
+
+    /// Why a group or a nick of this name can't be added below a parent: what `add_group` and
+    /// `add_nick` answer. None where it can.
+    pub fn add_refusal(
+        &self,
+        alloc: Global,
+        is_group: bool,
+        parent: &Text,
+        name: &[u8],
+    ) -> Option<NickRefused>
+        ensures none { result ≡ None → add_refusal is_group parent.now name.now self.now.rows ≡ None }
+        ensures some { IfSome result (λ e. e ≢ NickRefused.NoMemory → add_refusal is_group parent.now name.now self.now.rows ≡ Some e) }
+        ensures room { self.now.room ≡ Some parent.now → result ≢ Some NickRefused.NoMemory }
+    {
+        if let Some(refused) = refusal_of_name(is_group, name) {
+            return Some(refused);
+        }
+        if !self.has_parent(parent.as_slice()) {
+            return Some(no_parent(alloc, parent));
+        }
+        if self.has(is_group, name) {
+            return Some(NickRefused::NameTaken {
+                name: Name::from_slice(name),
+            });
+        }
+        None
     }
 
     /// Whether a group of this name, or the root, is there.
@@ -371,20 +390,31 @@ impl Nicklist {
         ensures refused { IfErr result (λ e. remove_refusal is_group name.now self.old.rows ≡ Some e) }
         ensures err { OnErr result (self.new ≡ self.old) }
     {
-        if let Some(refused) = refusal_of_name(is_group, name) {
+        if let Some(refused) = self.remove_refusal(is_group, name) {
             return Err(refused);
         }
+        Ok(self.take(is_group, name))
+    }
+
+    /// Why the group or the nick of this name can't be taken out: what `remove_group` and
+    /// `remove_nick` answer. None where it can.
+    pub fn remove_refusal(&self, is_group: bool, name: &[u8]) -> Option<NickRefused>
+        ensures { result ≡ remove_refusal is_group name.now self.now.rows }
+    {
+        if let Some(refused) = refusal_of_name(is_group, name) {
+            return Some(refused);
+        }
         let Some(row) = self.stored(is_group, name) else {
-            return Err(NickRefused::NoSuch {
+            return Some(NickRefused::NoSuch {
                 name: Name::from_slice(name),
             });
         };
         if self.is_filled(is_group, row) {
-            return Err(NickRefused::NotEmpty {
+            return Some(NickRefused::NotEmpty {
                 name: Name::from_slice(name),
             });
         }
-        Ok(self.take(is_group, name))
+        None
     }
 
     /// Whether it is a group, and a row stands right below it.
@@ -449,16 +479,27 @@ impl Nicklist {
         ensures refused { IfErr result (λ e. change_refusal is_group item.name self.old.rows ≡ Some e) }
         ensures err { OnErr result (self.new ≡ self.old) }
     {
-        if let Some(refused) = refusal_of_name(is_group, item.name.as_slice()) {
+        if let Some(refused) = self.change_refusal(is_group, item.name.as_slice()) {
             return Err(refused);
-        }
-        if !self.has(is_group, item.name.as_slice()) {
-            return Err(NickRefused::NoSuch {
-                name: Name::from_slice(item.name.as_slice()),
-            });
         }
         self.write(is_group, item);
         Ok(())
+    }
+
+    /// Why the group or the nick of this name can't be changed: what `change_group` and
+    /// `change_nick` answer. None where it can.
+    pub fn change_refusal(&self, is_group: bool, name: &[u8]) -> Option<NickRefused>
+        ensures { result ≡ change_refusal is_group name.now self.now.rows }
+    {
+        if let Some(refused) = refusal_of_name(is_group, name) {
+            return Some(refused);
+        }
+        if !self.has(is_group, name) {
+            return Some(NickRefused::NoSuch {
+                name: Name::from_slice(name),
+            });
+        }
+        None
     }
 
     /// Gives an item that is there other fields.

@@ -1,14 +1,15 @@
 ghost use Rattle.std.specs.Prelude.{◌≡◌, ◌≤◌, ◌<◌, length, drop, min};
 ghost use Rattle.wc_text.specs.Order.{fold_order};
-ghost use Rattle.wc_nicklist.specs.Order.{key_at, key_cmp, address_cmp, address_of, is_before};
+ghost use Rattle.wc_nicklist.specs.Order.{key_at, key_cmp, address, address_cmp, address_of, is_before};
 ghost use Rattle.wc_nicklist.specs.Digest.{IsDigest};
 
 use crate::digest::{Digest, NO_PLACE};
 use crate::entry::Entry;
+use crate::item::Row;
 use std::cmp::Ordering;
 use wc_text::{Text, fold_cmp};
 
-/// Where a row stands: the names of the groups above it, its kind and its name.
+/// Where a row stands: the names of the groups above it, its kind and its name, beside their digest.
 #[derive(Drop)]
 pub(crate) struct Address<'a> {
     pub(crate) path: &'a [Text],
@@ -18,22 +19,81 @@ pub(crate) struct Address<'a> {
     ghost exact: { IsDigest digest path.now is_group name.now },
 }
 
-/// Whether a row stands before an address in canonical order.
+impl Address<'_> {
+    /// The address without its digest.
+    fn names(&self) -> Names<'_>
+        ensures path { result.path.now ≡ self.now.path.now }
+        ensures kind { result.is_group ≡ self.now.is_group }
+        ensures name { result.name.now ≡ self.now.name.now }
+    {
+        Names {
+            path: self.path,
+            is_group: self.is_group,
+            name: self.name,
+        }
+    }
+}
+
+/// The names of the groups above a row, its kind and its name.
+#[derive(Drop)]
+struct Names<'a> {
+    path: &'a [Text],
+    is_group: bool,
+    name: &'a [u8],
+}
+
+impl<'a> Names<'a> {
+    fn of(row: &'a Row) -> Names<'a>
+        ensures path { result.path.now ≡ row.now.path }
+        ensures kind { result.is_group ≡ row.now.item.is_group }
+        ensures name { result.name.now ≡ row.now.item.name }
+    {
+        Names {
+            path: row.path.as_slice(),
+            is_group: row.item.is_group,
+            name: row.item.name.as_slice(),
+        }
+    }
+}
+
+/// The canonical order of two rows: a group, its nicks, then its child groups, each by name.
+pub fn row_cmp(a: &Row, b: &Row) -> Ordering
+    ensures { result ≡ address_cmp (address a.now) (address b.now) }
+{
+    compare(&Names::of(a), &Names::of(b))
+}
+
+/// Whether a row stands before an address in canonical order. Mostly the digests tell, without a look
+/// at the names.
+#[inline(always)]
 pub(crate) fn stands_before(row: &Entry, address: &Address<'_>) -> bool
     ensures { result ≡ is_before row.now (address_of address.now.path.now (key_at address.now.is_group address.now.name.now)) }
 {
     let digest = row.digest();
-    if digest.place != address.digest.place || digest.place == NO_PLACE {
-        return compare(&row.address(), address).is_lt();
+    if digest.place != address.digest.place
+        || digest.place == NO_PLACE
+        || digest.name == address.digest.name
+    {
+        return stands_before_by_names(row, address);
     }
-    if digest.name != address.digest.name {
-        return digest.name < address.digest.name;
+    digest.name < address.digest.name
+}
+
+/// The same by the names, where the digests do not tell. It is kept apart, so that a search has a
+/// short loop.
+#[inline(never)]
+fn stands_before_by_names(row: &Entry, address: &Address<'_>) -> bool
+    ensures { result ≡ is_before row.now (address_of address.now.path.now (key_at address.now.is_group address.now.name.now)) }
+{
+    let digest = row.digest();
+    if digest.place != address.digest.place || digest.place == NO_PLACE {
+        return compare(&row.address().names(), &address.names()).is_lt();
     }
     name_cmp(row.item().name.as_slice(), address.name).is_lt()
 }
 
 /// The canonical order: name by name along the paths, and a nick before a group.
-fn compare(a: &Address<'_>, b: &Address<'_>) -> Ordering
+fn compare(a: &Names<'_>, b: &Names<'_>) -> Ordering
     ensures { result ≡ address_cmp (address_of a.now.path.now (key_at a.now.is_group a.now.name.now)) (address_of b.now.path.now (key_at b.now.is_group b.now.name.now)) }
 {
     let shared = a.path.len().min(b.path.len());
@@ -47,7 +107,7 @@ fn compare(a: &Address<'_>, b: &Address<'_>) -> Ordering
 }
 
 /// The order of two addresses whose first names are alike, where one path ends there.
-fn compare_ends(a: &Address<'_>, b: &Address<'_>, shared: usize) -> Ordering
+fn compare_ends(a: &Names<'_>, b: &Names<'_>, shared: usize) -> Ordering
     requires within_a { shared ≤ length a.now.path.now }
     requires within_b { shared ≤ length b.now.path.now }
     requires one_ends { min (length a.now.path.now) (length b.now.path.now) ≤ shared }

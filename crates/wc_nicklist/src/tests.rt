@@ -1,8 +1,9 @@
 ghost use Rattle.std.specs.Prelude.{IfOk};
 ghost use Rattle.wc_nicklist.specs.Rows.{TextsAreUtf8};
 
-use crate::{Item, Key, NickRefused, Nicklist};
+use crate::{Item, Key, NickRefused, Nicklist, row_cmp};
 use std::alloc::{AllocError, Global};
+use std::cmp::Ordering;
 use std::test::Fail;
 use wc_text::{Handle, NoMemory, Text};
 
@@ -307,5 +308,37 @@ fn a_row_is_copied_and_room_is_made(rt: HostRuntime) -> Result<(), Fail> {
     assert_eq!(rt; copied.map(|row| row.item.handle), Some(Handle(3)));
     assert_eq!(rt; list.count(), 1);
     assert_eq!(rt; list.root(), Handle(1));
+    Ok(())
+}
+
+#[test]
+fn a_nick_stands_before_a_group_beside_it(rt: HostRuntime) -> Result<(), Fail> {
+    let alloc = rt.alloc();
+    let mut list = Nicklist::new(alloc, Handle(1))?;
+    play(
+        &mut list,
+        alloc,
+        &[(Group, "root", "g"), (Nick, "g", "z"), (Group, "g", "A")],
+    )?;
+    let nick = list.row_of(
+        alloc,
+        &Key {
+            is_group: false,
+            name: text(alloc, "z")?,
+        },
+    )?;
+    let group = list.row_of(
+        alloc,
+        &Key {
+            is_group: true,
+            name: text(alloc, "A")?,
+        },
+    )?;
+    let (Some(nick), Some(group)) = (nick, group) else {
+        return Err(Fail::from("a row is not there"));
+    };
+    assert_eq!(rt; row_cmp(&nick, &group), Ordering::Less);
+    assert_eq!(rt; row_cmp(&group, &nick), Ordering::Greater);
+    assert_eq!(rt; row_cmp(&nick, &nick), Ordering::Equal);
     Ok(())
 }

@@ -7,10 +7,13 @@ use Rattle.wc_objects.specs.declared.object.WireMessage.{WireMessage}
 use Rattle.wc_objects.specs.Forms.{well_formed}
 use Rattle.wc_objects.specs.Spelling.{message_bytes}
 use Rattle.wc_model.specs.World.{World}
+use Rattle.wc_model.specs.declared.notice.EventKind.{EventKind}
 use Rattle.wc_model.specs.declared.notice.Notice.{Notice}
-use Rattle.wc_session.specs.declared.client.Client.{Client}
+use Rattle.wc_text.specs.declared.names.Handle.{Handle}
+use Rattle.wc_nickdiff.specs.declared.push.Push.{Push}
+use Rattle.wc_told.specs.NickObjects.{push_kind}
 use Rattle.wc_session.specs.Known.{Known}
-use Rattle.wc_session.specs.Event.{Spelled, IsEventOf, event_messages, notice_told, with_event}
+use Rattle.wc_session.specs.Event.{Spelled, IsEventOf, IsPushOf, event_messages, notice_told, push_messages, push_told, with_event}
 use Rattle.wc_session.specs.Sync.{follows}
 use Rattle.wc_session.specs.Sending.{message, spelling, fits, fitting, reply, null_hdata, is_owed, Sends}
 
@@ -83,30 +86,32 @@ sends_as old new a b e sends = let P : List WireMessage → Type 0 = λ messages
 pub sends_from : (old mid new : List ℕ) (messages : List WireMessage) → mid ≡ old → Sends mid new messages → Sends old new messages
 sends_from old mid new messages e sends = let P : List ℕ → Type 0 = λ bytes. Sends bytes new messages in subst P e sends
 
--- ---- the event of a notice
+-- ---- events
 
-told_none : (world : World) (notice : Notice) (client : Client) → follows notice.kind notice.buffer.0 client ≡ false → notice_told world notice client ≡ []
-unfolding notice_told
-told_none world notice client e = rw e refl
-
-told_some : (world : World) (notice : Notice) (client : Client) → follows notice.kind notice.buffer.0 client ≡ true → notice_told world notice client ≡ event_messages world notice
-unfolding notice_told
-told_some world notice client e = rw e refl
-
--- what a client is told of a notice is behind its bytes, once the event is
-pub event_sends : (event : Spelled) (world : World) (notice : Notice) (session : Known) → IsEventOf event world notice
-    → Sends session.unsent (with_event event session).unsent (notice_told world notice session.client)
-event_sends event world notice session is = by (follows notice.kind notice.buffer.0 session.client) refl
+-- what an event is to tell a client is behind its bytes, once the event is
+told_sends : (event : Spelled) (kind : EventKind) (at : Handle) (messages : List WireMessage) (session : Known) → event.kind ≡ kind → event.buffer ≡ at → Sends [] event.bytes messages
+    → Sends session.unsent (with_event event session).unsent (cond (follows kind at.0 session.client) messages [])
+told_sends event kind at messages session what where_it_is sends = by (follows kind at.0 session.client) refl
   where
-    same : follows event.kind event.buffer.0 session.client ≡ follows notice.kind notice.buffer.0 session.client
-    same = λ i. follows (is.kind i) (is.buffer i).0 session.client
+    same : follows event.kind event.buffer.0 session.client ≡ follows kind at.0 session.client
+    same = λ i. follows (what i) (where_it_is i).0 session.client
 
-    by : (b : Bool) → follows notice.kind notice.buffer.0 session.client ≡ b → Sends session.unsent (with_event event session).unsent (notice_told world notice session.client)
-    by true e = sends_as _ _ _ _ (sym (told_some world notice session.client e)) (record {
-      bytes = ap (λ b. session.unsent ++ cond b event.bytes []) (same ∙ e) ∙ ap (λ (t : List ℕ). session.unsent ++ t) is.bytes.bytes;
-      spelt = is.bytes.spelt;
+    by : (t : Bool) → follows kind at.0 session.client ≡ t → Sends session.unsent (with_event event session).unsent (cond (follows kind at.0 session.client) messages [])
+    by true e = sends_as _ _ _ _ (sym (ap (λ t. cond t messages []) e)) (record {
+      bytes = ap (λ t. session.unsent ++ cond t event.bytes []) (same ∙ e) ∙ ap (λ (t : List ℕ). session.unsent ++ t) sends.bytes;
+      spelt = sends.spelt;
     })
-    by false e = sends_as _ _ _ _ (sym (told_none world notice session.client e)) (record {
-      bytes = ap (λ b. session.unsent ++ cond b event.bytes []) (same ∙ e);
+    by false e = sends_as _ _ _ _ (sym (ap (λ t. cond t messages []) e)) (record {
+      bytes = ap (λ t. session.unsent ++ cond t event.bytes []) (same ∙ e);
       spelt = tt;
     })
+
+pub event_sends : (event : Spelled) (world : World) (notice : Notice) (session : Known) → IsEventOf event world notice
+    → Sends session.unsent (with_event event session).unsent (notice_told world notice session.client)
+unfolding notice_told
+event_sends event world notice session is = told_sends event notice.kind notice.buffer (event_messages world notice) session is.kind is.buffer is.bytes
+
+pub push_sends : (event : Spelled) (buffer : Handle) (push : Push) (session : Known) → IsPushOf event buffer push
+    → Sends session.unsent (with_event event session).unsent (push_told buffer push session.client)
+unfolding push_told
+push_sends event buffer push session is = told_sends event (push_kind push) buffer (push_messages buffer push) session is.kind is.buffer is.bytes

@@ -5,7 +5,9 @@ use Rattle.wc_objects.specs.declared.object.WireMessage.{WireMessage}
 use Rattle.wc_model.specs.declared.notice.EventKind.{EventKind}
 use Rattle.wc_model.specs.declared.notice.Notice.{Notice}
 use Rattle.wc_model.specs.World.{World}
+use Rattle.wc_nickdiff.specs.declared.push.Push.{Push}
 use Rattle.wc_told.specs.BufferObjects.{event_of}
+use Rattle.wc_told.specs.NickObjects.{push_kind, push_message}
 use Rattle.wc_session.specs.declared.client.Client.{Client}
 use Rattle.wc_session.specs.Known.{Known}
 use Rattle.wc_session.specs.Sending.{fitting, Sends}
@@ -45,3 +47,19 @@ with_event event session = record {
 -- what a client is told of a notice
 unfoldable pub notice_told : World → Notice → Client → List WireMessage
 notice_told world notice client = if follows notice.kind notice.buffer.0 client then event_messages world notice else []
+
+-- ---- pushes
+
+-- the message of a push, where it is not too long for one
+abbrev pub push_messages : Handle → Push → List WireMessage
+push_messages buffer push = if_fits (push_message buffer push)
+
+-- this is the event of a push
+pub record IsPushOf (event : Spelled) (at : Handle) (push : Push) : Type 0 where
+  pub kind : event.kind ≡ push_kind push
+  pub buffer : event.buffer ≡ at
+  pub bytes : Sends [] event.bytes (push_messages at push)
+
+-- what a client is told of a push
+unfoldable pub push_told : Handle → Push → Client → List WireMessage
+push_told buffer push client = if follows (push_kind push) buffer.0 client then push_messages buffer push else []

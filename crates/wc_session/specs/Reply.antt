@@ -16,6 +16,7 @@ use Rattle.wc_objects.specs.declared.object.Object.TheVariants as o
 use Rattle.wc_objects.specs.declared.object.WireMessage.{WireMessage}
 use Rattle.wc_told.specs.LineObjects.{line_dump}
 use Rattle.wc_told.specs.BufferObjects.{buffer_dump}
+use Rattle.wc_told.specs.NickObjects.{nick_dump, nick_list}
 use Rattle.wc_session.specs.declared.client.Client.{Client}
 use Rattle.wc_session.specs.declared.outcome.Outcome.{Outcome}
 use Rattle.wc_session.specs.declared.outcome.Outcome.TheVariants as outcome
@@ -73,6 +74,19 @@ hdata_objects world path keys =
     if is_line_dump path keys then line_dump world else (
     if is_buffer_dump path keys then buffer_dump world.groups else null_hdata)
 
+-- the reply to `nicklist`: the nicklists of all buffers or that of one, and else the null hdata
+abbrev pub or_null : Option (List Object) → List Object
+or_null None = null_hdata
+or_null (Some objects) = objects
+
+abbrev pub list_of_named : World → Option Handle → Option (List Object)
+list_of_named world None = None
+list_of_named world (Some buffer) = nick_list world buffer
+
+unfoldable pub nicklist_objects : World → Option (List ℕ) → List Object
+nicklist_objects world None = nick_dump world
+nicklist_objects world (Some name) = or_null (list_of_named world (buffer_named world.groups name))
+
 -- an information that is unknown
 abbrev pub info_objects : List ℕ → List Object
 info_objects name = o.Inf (Some name) None ∷ []
@@ -129,7 +143,7 @@ served world password client id (ask.Init pairs) = init_answer password client p
 served world password client id (ask.Hdata path keys) = replies client (reply id (hdata_objects world path keys))
 served world password client id (ask.Info name) = replies client (reply id (info_objects name))
 served world password client id (ask.Infolist name) = replies client (reply id (infolist_objects name))
-served world password client id (ask.Nicklist buffer) = replies client (reply id null_hdata)
+served world password client id (ask.Nicklist buffer) = replies client (reply id (nicklist_objects world buffer))
 served world password client id (ask.Input buffer text) = input_answer world.groups client buffer text
 served world password client id (ask.Completion buffer position text) = replies client (reply id null_hdata)
 served world password client id (ask.Sync buffers options) = silent (synchronized world.groups client buffers options)

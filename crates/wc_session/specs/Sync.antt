@@ -97,6 +97,9 @@ wants kind.Cleared set = set.buffer
 wants kind.Closing set = set.buffers || set.buffer
 wants kind.LineAdded set = set.buffer
 wants kind.LineDataChanged set = set.buffer
+wants kind.Nicklist set = set.nicklist
+wants kind.NicklistDiff set = set.nicklist
+wants kind.NickTouched set = false
 
 -- an event of a buffer is for a client where either set has an option that it needs
 abbrev pub follows : EventKind → ℕ → Client → Bool

@@ -1,17 +1,28 @@
-ghost use Rattle.std.specs.Prelude.{◌≡◌, IfOk};
+ghost use Rattle.std.specs.Prelude.{◌≡◌, List, [], false, IfOk, MatchOption};
 ghost use Rattle.std.specs.Str.{IsUtf8};
-ghost use Rattle.wc_session.specs.Event.{IsEventOf};
+ghost use Rattle.wc_buffers.specs.Calls.{is_there};
+ghost use Rattle.wc_model.specs.World.{rows_at, root_at};
+ghost use Rattle.wc_nickdiff.specs.Held.{before_at, touches_of};
+ghost use Rattle.wc_nickdiff.specs.NickPush.{nick_push};
+ghost use Rattle.wc_nickdiff.specs.Told.{IsTold};
+ghost use Rattle.wc_nicklist.specs.declared.item.Row.{Row};
+ghost use Rattle.wc_session.specs.Event.{IsEventOf, IsPushOf, push_messages};
+ghost use Rattle.wc_session.specs.Sending.{Sends};
+ghost use Rattle.wc_told.specs.NickForms.{IsPushText};
 
 use crate::sending::send;
 use bytes::BytesMut;
 use std::alloc::Global;
 use std::marker::Model;
 use wc_model::{EventKind, Notice};
+use wc_nickdiff::{Pending, Push};
+use wc_objects::well_formed;
 use wc_text::{Handle, NoMemory};
-use wc_told::{event_id, event_objects};
+use wc_told::{event_id, event_objects, push_kind, push_objects};
 use wc_world::World;
 
-/// The event of a notice, as it is sent. Its bytes are none where nothing is told, or the message would be too long.
+/// The event of a notice or of a push, as it is sent. Its bytes are none where nothing is told, or the message would be
+/// too long.
 #[derive(Drop)]
 pub struct BufferEvent {
     kind: EventKind,
@@ -44,6 +55,32 @@ impl BufferEvent {
         })
     }
 
+    /// Spells the event of a push of a buffer's nicklist, for however many clients are to be sent it.
+    pub fn of_push(alloc: Global, buffer: Handle, push: &Push) -> Result<BufferEvent, NoMemory>
+        requires text { IsPushText push.now }
+        ensures { IfOk result (λ event. IsPushOf event buffer push.now) }
+    {
+        push_event(alloc, buffer, push)
+    }
+
+    /// Spells what became of the nicklist of a buffer since it was told, for however many clients are to be sent it. None
+    /// exactly where the buffer is not there.
+    pub fn of_nicks(
+        alloc: Global,
+        world: &World,
+        pending: &Pending,
+        buffer: Handle,
+    ) -> Result<Option<BufferEvent>, NoMemory>
+        ensures { IfOk result (λ told. MatchOption told (is_there buffer world.now.groups ≡ false) (λ event. (told : List Row) → IsTold (λ k. before_at k (touches_of buffer pending.now)) (rows_at world.now buffer.0) told → IsPushOf event buffer (nick_push (root_at buffer.0) told (rows_at world.now buffer.0)))) }
+    {
+        let Some(list) = world.nicks(buffer) else {
+            return Ok(None);
+        };
+        let _ = list.count();
+        let push = pending.message_of(alloc, buffer, list)?;
+        Ok(Some(push_event(alloc, buffer, &push)?))
+    }
+
     /// What happened.
     pub fn kind(&self) -> EventKind
         ensures { result ≡ self.now.kind }
@@ -64,4 +101,31 @@ impl BufferEvent {
     {
         self.bytes.as_slice()
     }
+}
+
+fn push_event(alloc: Global, buffer: Handle, push: &Push) -> Result<BufferEvent, NoMemory>
+    ensures { IfOk result (λ event. IsPushText push.now → IsPushOf event buffer push.now) }
+{
+    let kind = push_kind(push);
+    let bytes = push_bytes(alloc, buffer, push)?;
+    Ok(BufferEvent {
+        kind,
+        buffer,
+        bytes,
+    })
+}
+
+/// The bytes of a push. What has a text that is not UTF-8 has none, since no message may hold it.
+fn push_bytes(alloc: Global, buffer: Handle, push: &Push) -> Result<BytesMut, NoMemory>
+    ensures { IfOk result (λ bytes. IsPushText push.now → Sends [] bytes.items (push_messages buffer push.now)) }
+{
+    let mut bytes = BytesMut::new(alloc);
+    let Some(objects) = push_objects(alloc, buffer, push)? else {
+        return Ok(bytes);
+    };
+    if !well_formed(&objects) {
+        return Ok(bytes);
+    }
+    let _fits = send(&mut bytes, event_id(push_kind(push)), objects.as_slice())?;
+    Ok(bytes)
 }

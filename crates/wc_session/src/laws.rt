@@ -5,11 +5,13 @@ ghost use Rattle.wc_relaycmd.specs.declared.algorithm.Algorithm.{Algorithm};
 ghost use Rattle.wc_relaycmd.specs.declared.login.Login.{Login};
 ghost use Rattle.wc_relaycmd.specs.Logins.{LetsIn};
 ghost use Rattle.wc_relaycmd.specs.declared.request.Request.{Request};
+ghost use Rattle.wc_text.specs.declared.names.Handle.{Handle};
 ghost use Rattle.wc_model.specs.World.{World};
+ghost use Rattle.wc_nickdiff.specs.declared.push.Push.{Push};
 ghost use Rattle.wc_model.specs.declared.notice.Notice.{Notice};
 ghost use Rattle.wc_session.specs.declared.client.Client.{Client};
 ghost use Rattle.wc_session.specs.Logins.{lets_in};
-ghost use Rattle.wc_session.specs.Event.{Spelled, IsEventOf, with_event, notice_told};
+ghost use Rattle.wc_session.specs.Event.{Spelled, IsEventOf, IsPushOf, with_event, notice_told, push_told};
 ghost use Rattle.wc_session.specs.Known.{Known};
 ghost use Rattle.wc_session.specs.OneReply.{IsOneReply};
 ghost use Rattle.wc_session.specs.Reply.{reply_of};
@@ -28,4 +30,9 @@ pub fn one_reply_each()
 /// The event of a notice puts behind the unsent bytes of each client what that client is to be told of it.
 pub fn event_tells()
     ensures { (event : Spelled) (world : World) (notice : Notice) (session : Known) → IsEventOf event world notice → Sends session.unsent (with_event event session).unsent (notice_told world notice session.client) }
+{}
+
+/// The event of a push puts behind the unsent bytes of each client what that client is to be told of it.
+pub fn push_tells()
+    ensures { (event : Spelled) (buffer : Handle) (push : Push) (session : Known) → IsPushOf event buffer push → Sends session.unsent (with_event event session).unsent (push_told buffer push session.client) }
 {}

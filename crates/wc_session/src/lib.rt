@@ -19,11 +19,13 @@ mod sync_set;
 pub use buffer_event::BufferEvent;
 pub use buffer_sets::BufferSets;
 pub use client::Client;
-pub use laws::{event_tells, lets_in_exactly, one_reply_each};
+pub use laws::{event_tells, lets_in_exactly, one_reply_each, push_tells};
 pub use names::buffer_named;
 pub use outcome::Outcome;
 pub use session::Session;
 pub use sync_set::{BufferSet, SyncSet};
 
+#[cfg(test)]
+mod nick_tests;
 #[cfg(test)]
 mod tests;

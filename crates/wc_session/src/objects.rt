@@ -1,11 +1,15 @@
-ghost use Rattle.std.specs.Prelude.{◌≡◌, ◌∷◌, [], true, Some, IfOk};
+ghost use Rattle.std.specs.Prelude.{◌≡◌, ◌∷◌, [], true, Some, IfOk, IfSome};
 ghost use Rattle.std.specs.Str.{IsUtf8};
 ghost use Rattle.wc_objects.specs.Forms.{well_formed};
-ghost use Rattle.wc_session.specs.Reply.{test_texts, test_numbers, test_objects, is_buffer_dump, is_line_dump, hdata_objects, info_objects, infolist_objects, pong_objects};
+ghost use Rattle.wc_session.specs.Names.{buffer_named};
+ghost use Rattle.wc_session.specs.Reply.{list_of_named, test_texts, test_numbers, test_objects, is_buffer_dump, is_line_dump, hdata_objects, info_objects, infolist_objects, pong_objects};
 
+use crate::names::buffer_named;
 use std::alloc::Global;
 use wc_objects::{Kind, Object};
 use wc_text::{Items, NoMemory, Text};
+use wc_told::nick_list;
+use wc_world::World;
 
 /// The path and the keys by which a client asks for all buffers.
 const BUFFERS_PATH: &[u8] = b"buffer:gui_buffers(*)";
@@ -91,6 +95,21 @@ pub fn is_line_dump(path: &[u8], keys: &[u8]) -> bool
     ensures { result ≡ is_line_dump path.now keys.now }
 {
     path == LINES_PATH && keys == LINES_KEYS
+}
+
+/// The nicklist of the buffer that a text names, where there is one.
+pub fn list_of_named(
+    alloc: Global,
+    world: &World,
+    name: &[u8],
+) -> Result<Option<Items<Object>>, NoMemory>
+    ensures objects { IfOk result (λ told. told ≡ list_of_named world.now (buffer_named world.now.groups name.now)) }
+    ensures formed { IfOk result (λ told. IfSome told (λ objects. well_formed objects ≡ true)) }
+{
+    match buffer_named(world.buffers(), name) {
+        Some(buffer) => nick_list(alloc, world, buffer),
+        None => Ok(None),
+    }
 }
 
 /// An information that is unknown.

@@ -3,7 +3,7 @@ ghost use Rattle.std.specs.Str.{IsUtf8};
 ghost use Rattle.wc_objects.specs.Forms.{well_formed};
 ghost use Rattle.wc_relaycmd.specs.Utf8.{HasUtf8, CommandUtf8};
 ghost use Rattle.wc_session.specs.declared.client.Client.{Client};
-ghost use Rattle.wc_session.specs.Reply.{hdata_objects, replies, input_answer, is_open, served, reply_of};
+ghost use Rattle.wc_session.specs.Reply.{hdata_objects, nicklist_objects, replies, input_answer, is_open, served, reply_of};
 ghost use Rattle.wc_session.specs.Sending.{reply};
 ghost use Rattle.wc_told.specs.LineObjects.{line_dump};
 ghost use Rattle.wc_session.specs.Served.{Gives, IsQuiet};
@@ -13,7 +13,8 @@ use crate::handshake::shake;
 use crate::login::log_in;
 use crate::names::buffer_named;
 use crate::objects::{
-    info_objects, infolist_objects, is_buffer_dump, is_line_dump, pong_objects, test_objects,
+    info_objects, infolist_objects, is_buffer_dump, is_line_dump, list_of_named, pong_objects,
+    test_objects,
 };
 use crate::outcome::Outcome;
 use crate::sending::{null_hdata, reply, reply_lines};
@@ -24,7 +25,7 @@ use wc_buffers::Buffers;
 use wc_objects::Object;
 use wc_relaycmd::{Command, Request};
 use wc_text::{Cause, NoMemory, Text};
-use wc_told::buffer_dump;
+use wc_told::{buffer_dump, nick_dump};
 use wc_world::World;
 
 /// Serves a request by these objects as its reply.
@@ -86,6 +87,30 @@ fn give_hdata(
     give(alloc, out, id, null_hdata(alloc).as_slice())
 }
 
+/// Serves `nicklist`: the nicklists of all buffers, or that of the buffer that is named, and the null hdata where there is
+/// no such buffer.
+#[tactic(auto, unfolding(crate::specs::Reply::nicklist_objects))]
+fn give_nicks(
+    alloc: Global,
+    out: &mut BytesMut,
+    world: &World,
+    id: &[u8],
+    buffer: &Option<Text>,
+) -> Result<Outcome, NoMemory>
+    requires { IsUtf8 id.now }
+    ensures ok { IfOk result (λ outcome. (client : Client) → Gives out.old.items out.new.items outcome client (replies client (reply id.now (nicklist_objects world.now buffer.now)))) }
+    ensures err { OnErr result (out.new.items ≡ out.old.items) }
+{
+    let Some(name) = buffer else {
+        let objects = nick_dump(alloc, world)?;
+        return give(alloc, out, id, objects.as_slice());
+    };
+    if let Some(objects) = list_of_named(alloc, world, name.as_slice())? {
+        return give(alloc, out, id, objects.as_slice());
+    }
+    give(alloc, out, id, null_hdata(alloc).as_slice())
+}
+
 fn input(buffers: &Buffers, buffer: &[u8], text: Text) -> Outcome
     ensures { (client : Client) → IsQuiet result client (input_answer buffers.now client buffer.now text) }
 {
@@ -129,9 +154,8 @@ fn serve_command(
         }
         Command::Info(name) => give(alloc, out, id, info_objects(name).as_slice()),
         Command::Infolist(name) => give(alloc, out, id, infolist_objects(alloc, name).as_slice()),
-        Command::Nicklist(_) | Command::Completion { .. } => {
-            give(alloc, out, id, null_hdata(alloc).as_slice())
-        }
+        Command::Nicklist(buffer) => give_nicks(alloc, out, world, id, &buffer),
+        Command::Completion { .. } => give(alloc, out, id, null_hdata(alloc).as_slice()),
         Command::Input { buffer, text } => Ok(input(world.buffers(), buffer.as_slice(), text)),
         Command::Sync { buffers, options } => {
             synchronize(alloc, client, world.buffers(), &buffers, &options)?;

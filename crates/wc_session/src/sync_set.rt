@@ -121,6 +121,8 @@ impl SyncSet {
             | EventKind::Cleared
             | EventKind::LineAdded
             | EventKind::LineDataChanged => self.buffer,
+            EventKind::Nicklist | EventKind::NicklistDiff => self.nicklist,
+            EventKind::NickTouched => false,
         }
     }
 }

@@ -28,13 +28,13 @@ impl Touch for Untouched {
 
 /// A session, the world and the password that is set.
 #[derive(Drop)]
-struct Bench {
-    session: Session,
-    world: World,
+pub(crate) struct Bench {
+    pub(crate) session: Session,
+    pub(crate) world: World,
     password: Text,
 }
 
-fn text(alloc: Global, text: &str) -> Result<Text, NoMemory>
+pub(crate) fn text(alloc: Global, text: &str) -> Result<Text, NoMemory>
     ensures { IfOk result IsUtf8 }
 {
     Text::from_slice(alloc, text.as_bytes())
@@ -115,7 +115,7 @@ fn shown(outcome: &Outcome) -> &'static str {
 }
 
 /// What a line of the client came to.
-fn ask(alloc: Global, bench: &mut Bench, line: &str) -> Result<&'static str, NoMemory> {
+pub(crate) fn ask(alloc: Global, bench: &mut Bench, line: &str) -> Result<&'static str, NoMemory> {
     match read_request(alloc, line.as_bytes(), bench.session.escaped())? {
         Some(request) => {
             let outcome = bench
@@ -201,7 +201,7 @@ struct Reply {
     bytes: &'static [u8],
 }
 
-fn replies() -> [Reply; 6] {
+fn replies() -> [Reply; 9] {
     [
         Reply {
             line: "ping 1480802456789",
@@ -224,7 +224,19 @@ fn replies() -> [Reply; 6] {
             bytes: b"\0\0\0\x1b\0\0\0\0\x01linl\0\0\0\x06buffer\0\0\0\0",
         },
         Reply {
+            line: "nicklist",
+            bytes: b"\0\0\0\xb6\0\0\0\0\0hda\0\0\0\x14buffer/nicklist_item\0\0\0Ngroup:chr,visible:chr,level:int,name:str,color:str,prefix:str,prefix_color:str\0\0\0\x02\x011\x014\x01\0\0\0\0\0\0\0\0\x04root\0\0\0\0\0\0\0\0\0\0\0\0\x015\x018\x01\0\0\0\0\0\0\0\0\x04root\0\0\0\0\0\0\0\0\0\0\0\0",
+        },
+        Reply {
             line: "nicklist core.weechat",
+            bytes: b"\0\0\0\x98\0\0\0\0\0hda\0\0\0\x14buffer/nicklist_item\0\0\0Ngroup:chr,visible:chr,level:int,name:str,color:str,prefix:str,prefix_color:str\0\0\0\x01\x011\x014\x01\0\0\0\0\0\0\0\0\x04root\0\0\0\0\0\0\0\0\0\0\0\0",
+        },
+        Reply {
+            line: "(n) nicklist 0x5",
+            bytes: b"\0\0\0\x99\0\0\0\0\x01nhda\0\0\0\x14buffer/nicklist_item\0\0\0Ngroup:chr,visible:chr,level:int,name:str,color:str,prefix:str,prefix_color:str\0\0\0\x01\x015\x018\x01\0\0\0\0\0\0\0\0\x04root\0\0\0\0\0\0\0\0\0\0\0\0",
+        },
+        Reply {
+            line: "nicklist core.other",
             bytes: b"\0\0\0\x18\0\0\0\0\0hda\xff\xff\xff\xff\xff\xff\xff\xff\0\0\0\0",
         },
     ]
@@ -375,7 +387,7 @@ fn tells(alloc: Global, bench: &mut Bench, kind: EventKind, buffer: u64) -> Resu
 }
 
 /// A session behind these lines of a client that is logged in.
-fn behind(alloc: Global, script: &str) -> Result<Bench, NoMemory> {
+pub(crate) fn behind(alloc: Global, script: &str) -> Result<Bench, NoMemory> {
     let mut bench = new_bench(alloc, "x")?;
     let _outcome = ask(alloc, &mut bench, "init password=x")?;
     for line in script.split('|') {

@@ -22,16 +22,17 @@ use Rattle.wc_session.specs.Known.{new_client}
 use Rattle.wc_session.specs.Reply.{reply_of}
 use Rattle.wc_session.specs.Sending.{spelling}
 use Rattle.wc_core.specs.Events.{Event, Start, Tick, Arrives, Line as LineCame, Ends, Fails, ListenFails}
-use Rattle.wc_core.specs.State.{State, Closes, first_state}
+use Rattle.wc_core.specs.State.{State, Stepped, Closes, first_state}
 use Rattle.wc_core.specs.Step.{client_link, client_limit, stays, sends, follows, asked, line_came, lost, step, run}
 use Rattle.wc_core.specs.Served.{OutcomeUtf8, messages_to}
 use Rattle.wc_core.specs.Typed.{parted}
 use Rattle.wc_core.proofs.MessageLemmas.{sent_to-messages}
-use Rattle.wc_settled.specs.Held.{HeldPart, Lines, Buffers}
+use Rattle.wc_settled.specs.Held.{HeldPart, Lines, Buffers, Nicks}
 use Rattle.wc_settled.specs.Kept.{IsKept}
-use Rattle.wc_settled.specs.Bytes.{IsSpelt, SpellOnce, RunSpells, PartShows, BytesShow, BuffersShow}
+use Rattle.wc_settled.specs.Bytes.{IsSpelt, SpellOnce, RunSpells, PartShows, BytesShow, BuffersShow, NicksShow}
 use Rattle.wc_settled.proofs.ChangeLemmas.{acts_spelt, sends_spelt, Tells-runs}
 use Rattle.wc_settled.proofs.StepLemmas.{reply_link, reply_text, kept-put, step_keeps}
+use Rattle.wc_settled.proofs.PushLemmas.{pushes_stay, asked_replies}
 use Rattle.wc_settled.proofs.SpeltLemmas.{answer_spelt}
 use Rattle.wc_settled.proofs.TellingLemmas.{AllSpelt}
 use Rattle.wc_settled.proofs.TypedLemmas.{parted_text}
@@ -54,9 +55,10 @@ line_spelt limit link state k line kept = came (at_key client_link k state.clien
       let answer = reply_of state.world state.password client request in
       let next : State = record state { clients = put_at client_link (client_link client) answer.client state.clients } in
       let utf8 = HasUtf8-reads line client.escaped request (reads-request_of line client.escaped request e) in
-      acts_spelt link (sends (client_link client) answer.messages) (follows next (client_link client) answer.outcome).acts
+      subst (λ (s : Stepped). AllSpelt (messages_to link s.acts)) (sym (asked_replies state kept.told kept.world.empty client request))
+      (acts_spelt link (sends (client_link client) answer.messages) (follows next (client_link client) answer.outcome).acts
       (sends_spelt link (client_link client) answer.messages (answer_spelt limit state.world state.password client request kept.world utf8))
-      (follows_spelt limit link next (client_link client) answer.outcome (reply_text state client line request e) (kept-put limit link state (client_link client) answer.client (reply_link state client line request e) kept))
+      (follows_spelt limit link next (client_link client) answer.outcome (reply_text state client line request e) (kept-put limit link state (client_link client) answer.client (reply_link state client line request e) kept)))
 
   came : (o : Option Client) → AllSpelt (messages_to link (line_came state line o).acts)
   came None = tt
@@ -68,7 +70,8 @@ lost_spelt link state k why (Some client) = tt
 
 step_spelt : (limit link : ℕ) (state : State) (event : Event) → IsKept limit link state → AllSpelt (messages_to link (step state event).acts)
 step_spelt limit link state (Start moment) kept = tt
-step_spelt limit link state (Tick moment) kept = tt
+step_spelt limit link state (Tick moment) kept =
+    subst (λ (s : Stepped). AllSpelt (messages_to link s.acts)) (sym (pushes_stay (record state { moment = moment }) kept.told kept.world.empty)) tt
 step_spelt limit link state (Arrives k nonce) kept = by (nat_lt (length state.clients) client_limit) where
   by : (b : Bool) → AllSpelt (messages_to link (cond b (stays (record state { clients = state.clients ++ new_client (record { 0 = k }) nonce ∷ [] })) (record { state = state; acts = Closes k cause.Surplus ∷ [] })).acts)
   by true = tt
@@ -103,6 +106,9 @@ bytes_show = part_shows Lines
 
 pub buffers_show : BuffersShow
 buffers_show = part_shows Buffers
+
+pub nicks_show : NicksShow
+nicks_show = part_shows Nicks
 
 -- ---- bytes spell messages in one way
 

@@ -11,6 +11,7 @@ use Rattle.wc_model.specs.declared.refused.ChangeRefused.{ChangeRefused}
 use Rattle.wc_model.specs.World.{World}
 use Rattle.wc_model.specs.Apply.{refusal, after}
 use Rattle.wc_model.specs.Notices.{notice}
+use Rattle.wc_model.specs.Touches.{told_after}
 use Rattle.wc_objects.specs.declared.object.WireMessage.{WireMessage}
 use Rattle.wc_relaycmd.specs.Cuts.{BeginsWithout}
 use Rattle.wc_session.specs.declared.client.Client.{Client}
@@ -22,13 +23,14 @@ use Rattle.wc_core.specs.Step.{client_link, stays, then_does, sends, told_to, to
 use Rattle.wc_core.specs.Typed.{typed_line}
 use Rattle.wc_core.specs.Served.{messages_to}
 use Rattle.wc_core.proofs.MessageLemmas.{messages_to-append}
+use Rattle.wc_view.specs.NickFold.{NickPart}
 use Rattle.wc_settled.specs.Held.{HeldPart, Held, fold_one, Has}
 use Rattle.wc_settled.specs.Settled.{client_on, is_following}
 use Rattle.wc_settled.specs.Kept.{IsKept}
 use Rattle.wc_settled.specs.Mirrors.{fold_all, mirror_after}
 use Rattle.wc_settled.proofs.ClientLemmas.{following-heard, first-heard, told-first, told_each, messages-sends}
 use Rattle.wc_settled.proofs.IdLemmas.{id_free}
-use Rattle.wc_settled.proofs.HeldLemmas.{change_right}
+use Rattle.wc_settled.proofs.HeldLemmas.{change_right, told_follows}
 use Rattle.wc_settled.proofs.NoticeLemmas.{telling}
 use Rattle.wc_settled.proofs.TellingLemmas.{AllSpelt, event_spelt}
 use Rattle.wc_settled.proofs.TypedLemmas.{OnAsks, typed_text, resolved_told}
@@ -98,9 +100,9 @@ Tells-then which limit link id state first others a b = record {
 -- ---- a change
 
 -- the messages that the client of a link is sent, where it follows all events
-told_event : (limit link : ℕ) (state : State) (world : World) (n : Notice) → IsKept limit link state → is_following (client_on link state) ≡ true
-    → messages_to link (told_all state world n).acts ≡ event_messages world n
-told_event limit link state world n kept follows = by (client_on link state) refl follows where
+told_event : (limit link : ℕ) (state : State) (told : NickPart) (world : World) (n : Notice) → IsKept limit link state → is_following (client_on link state) ≡ true
+    → messages_to link (told_all state told world n).acts ≡ event_messages world n
+told_event limit link state told world n kept follows = by (client_on link state) refl follows where
   by : (o : Option Client) → client_on link state ≡ o → is_following o ≡ true → messages_to link (flat_map (told_to world n) state.clients) ≡ event_messages world n
   by None at e = absurd (false≢true e)
   by (Some client) at e = told-first link world n state.clients client kept.first at ∙ told_each link world n client e
@@ -115,10 +117,10 @@ Tells-changes which limit link id state change free kept told good =
     let tells = telling limit w change.buffer change.what kept.world told good in
     record {
       following = following-heard n.kind n.buffer.0 link state.clients;
-      kept = record { most = kept.most; world = is; first = first-heard n.kind n.buffer.0 link state.clients kept.first };
+      kept = record { most = kept.most; world = is; told = ap (told_after w change.buffer change.what) kept.told ∙ told_follows w change.buffer change.what told; first = first-heard n.kind n.buffer.0 link state.clients kept.first };
       spelt = clients_spelt link v n state.clients (event_spelt limit v n is tells);
       right = λ follows part had.
-          subst (λ part. Has which part v) (sym (ap (fold_all which limit id part) (told_event limit link state v n kept follows)))
+          subst (λ part. Has which part v) (sym (ap (fold_all which limit id part) (told_event limit link state (told_after w change.buffer change.what state.told) v n kept follows)))
           (change_right which limit id part w change kept.world told (id_free id free) good had);
     }
 

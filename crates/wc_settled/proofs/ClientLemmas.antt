@@ -1,5 +1,5 @@
 -- The clients of a link, of which the first alone is told events.
-use Rattle.std.proofs.Common.{◌≡◌, ℕ, Bool, true, false, cond, ◌&&◌, ◌||◌, List, [], ◌∷◌, ◌++◌, map, Some, None, refl, sym, ap, ◌∙◌, arith, eqb, append-nil, not}
+use Rattle.std.proofs.Common.{◌≡◌, ℕ, Bool, true, false, cond, ◌&&◌, ◌||◌, List, [], ◌∷◌, ◌++◌, map, Some, None, option_map, refl, sym, ap, ◌∙◌, arith, eqb, append-nil, not}
 use Rattle.std.specs.List.{flat_map}
 use Rattle.std.proofs.lemmas.Bool.{false≢true}
 use Rattle.std.proofs.lemmas.Bool.Decides.{nat_tests}
@@ -9,10 +9,11 @@ use Rattle.wc_model.specs.declared.notice.EventKind.TheVariants as kind
 use Rattle.wc_model.specs.declared.notice.Notice.{Notice}
 use Rattle.wc_model.specs.World.{World}
 use Rattle.wc_objects.specs.declared.object.WireMessage.{WireMessage}
+use Rattle.wc_told.specs.BufferObjects.{id_of, objects_of}
 use Rattle.wc_session.specs.declared.client.Client.{Client}
 use Rattle.wc_session.specs.declared.sync_set.BufferSet.{BufferSet}
 use Rattle.wc_session.specs.declared.sync_set.SyncSet.{SyncSet}
-use Rattle.wc_session.specs.Event.{notice_told, event_messages}
+use Rattle.wc_session.specs.Event.{notice_told, event_messages, if_fits}
 use Rattle.wc_session.specs.Sync.{no_options, union, set_at, wants, follows, sets_behind, heard}
 use Rattle.wc_core.specs.Step.{client_link, sends, told_to}
 use Rattle.wc_core.specs.Served.{messages_to}
@@ -35,69 +36,83 @@ following-push link client (other ∷ clients) e = by (eqb (client_link other) l
   by true more = refl
   by false more = more
 
--- an event that is wanted by any set of all buffers
-wants_all : (k : EventKind) (set : SyncSet) → set.buffers ≡ true → set.buffer ≡ true → wants k set ≡ true
-wants_all kind.Opened set a b = a
-wants_all kind.TitleChanged set a b = b
-wants_all kind.VarAdded set a b = b
-wants_all kind.VarChanged set a b = b
-wants_all kind.VarRemoved set a b = b
-wants_all kind.Cleared set a b = b
-wants_all kind.LineAdded set a b = b
-wants_all kind.LineDataChanged set a b = b
-wants_all _ set a b = ap (λ t. t || set.buffer) a
+-- an event that some set asks for
+abbrev IsAskable : EventKind → Type 0
+IsAskable kind.NickTouched = ⊥
+IsAskable _ = Unit {0}
 
--- a client that does is told each event
-pub follows_each : (k : EventKind) (buffer : ℕ) (client : Client) → follows_all client ≡ true → follows k buffer client ≡ true
-follows_each k buffer client e = wants_all k (union client.everywhere set) (one client.everywhere.buffers set.buffers (all.0)) (one client.everywhere.buffer set.buffer all.1) where
-  set : SyncSet
-  set = set_at buffer client.sets
+-- it is wanted by any set of all options
+wants_all : (k : EventKind) (set : SyncSet) → IsAskable k → set.buffers ≡ true → set.buffer ≡ true → set.nicklist ≡ true → wants k set ≡ true
+wants_all kind.Opened set is a b n = a
+wants_all kind.TitleChanged set is a b n = b
+wants_all kind.VarAdded set is a b n = b
+wants_all kind.VarChanged set is a b n = b
+wants_all kind.VarRemoved set is a b n = b
+wants_all kind.Cleared set is a b n = b
+wants_all kind.LineAdded set is a b n = b
+wants_all kind.LineDataChanged set is a b n = b
+wants_all kind.Nicklist set is a b n = n
+wants_all kind.NicklistDiff set is a b n = n
+wants_all kind.NickTouched set is a b n = absurd is
+wants_all _ set is a b n = ap (λ t. t || set.buffer) a
 
-  one : (a b : Bool) → a ≡ true → a || b ≡ true
-  one a b e = ap (λ t. t || b) e
+-- a client that does is told each such event
+pub follows_each : (k : EventKind) (buffer : ℕ) (client : Client) → IsAskable k → follows_all client ≡ true → follows k buffer client ≡ true
+follows_each k buffer client is e =
+    wants_all k (union client.everywhere set) is (one client.everywhere.buffers set.buffers all.0) (one client.everywhere.buffer set.buffer all.1) (one client.everywhere.nicklist set.nicklist all.2)
+  where
+    set : SyncSet
+    set = set_at buffer client.sets
 
-  parts : (a b c : Bool) → a && (b && c) ≡ true → (a ≡ true) × (b ≡ true)
-  parts true true c e = (refl, refl)
-  parts true false c e = absurd (false≢true e)
-  parts false b c e = absurd (false≢true e)
+    one : (a b : Bool) → a ≡ true → a || b ≡ true
+    one a b e = ap (λ t. t || b) e
 
-  all : (client.everywhere.buffers ≡ true) × (client.everywhere.buffer ≡ true)
-  all = parts client.everywhere.buffers client.everywhere.buffer client.everywhere.nicklist e
+    parts : (a b c : Bool) → a && (b && c) ≡ true → (a ≡ true) × (b ≡ true) × (c ≡ true)
+    parts true true c e = (refl, refl, e)
+    parts true false c e = absurd (false≢true e)
+    parts false b c e = absurd (false≢true e)
+
+    all : (client.everywhere.buffers ≡ true) × (client.everywhere.buffer ≡ true) × (client.everywhere.nicklist ≡ true)
+    all = parts client.everywhere.buffers client.everywhere.buffer client.everywhere.nicklist e
 
 -- ---- a client that asked for nothing
 
-wants_none : (k : EventKind) (set : SyncSet) → set.buffers ≡ false → set.buffer ≡ false → wants k set ≡ false
-wants_none kind.Opened set a b = a
-wants_none kind.TitleChanged set a b = b
-wants_none kind.VarAdded set a b = b
-wants_none kind.VarChanged set a b = b
-wants_none kind.VarRemoved set a b = b
-wants_none kind.Cleared set a b = b
-wants_none kind.LineAdded set a b = b
-wants_none kind.LineDataChanged set a b = b
-wants_none _ set a b = ap (λ t. t || set.buffer) a ∙ b
+wants_none : (k : EventKind) (set : SyncSet) → set.buffers ≡ false → set.buffer ≡ false → set.nicklist ≡ false → wants k set ≡ false
+wants_none kind.Opened set a b n = a
+wants_none kind.TitleChanged set a b n = b
+wants_none kind.VarAdded set a b n = b
+wants_none kind.VarChanged set a b n = b
+wants_none kind.VarRemoved set a b n = b
+wants_none kind.Cleared set a b n = b
+wants_none kind.LineAdded set a b n = b
+wants_none kind.LineDataChanged set a b n = b
+wants_none kind.Nicklist set a b n = n
+wants_none kind.NicklistDiff set a b n = n
+wants_none kind.NickTouched set a b n = refl
+wants_none _ set a b n = ap (λ t. t || set.buffer) a ∙ b
 
 -- none of its sets has an option
 record AsksNothing (client : Client) : Type 0 where
   buffers : client.everywhere.buffers ≡ false
   buffer : client.everywhere.buffer ≡ false
+  nicklist : client.everywhere.nicklist ≡ false
   sets : client.sets ≡ []
 
 asks_nothing : (client : Client) → asks_events client ≡ false → AsksNothing client
-asks_nothing client e = by client.everywhere.buffers client.everywhere.upgrade client.everywhere.buffer client.everywhere.nicklist client.sets refl refl refl e where
-  by : (a u b n : Bool) (sets : List BufferSet) → client.everywhere.buffers ≡ a → client.everywhere.buffer ≡ b → client.sets ≡ sets → (a || (u || (b || n))) || has_sets sets ≡ false → AsksNothing client
-  by true u b n sets p q r e = absurd (false≢true (sym e))
-  by false true b n sets p q r e = absurd (false≢true (sym e))
-  by false false true n sets p q r e = absurd (false≢true (sym e))
-  by false false false true sets p q r e = absurd (false≢true (sym e))
-  by false false false false (s ∷ sets) p q r e = absurd (false≢true (sym e))
-  by false false false false [] p q r e = record { buffers = p; buffer = q; sets = r }
+asks_nothing client e = by client.everywhere.buffers client.everywhere.upgrade client.everywhere.buffer client.everywhere.nicklist client.sets refl refl refl refl e where
+  by : (a u b n : Bool) (sets : List BufferSet) → client.everywhere.buffers ≡ a → client.everywhere.buffer ≡ b → client.everywhere.nicklist ≡ n → client.sets ≡ sets → (a || (u || (b || n))) || has_sets sets ≡ false → AsksNothing client
+  by true u b n sets p q r s e = absurd (false≢true (sym e))
+  by false true b n sets p q r s e = absurd (false≢true (sym e))
+  by false false true n sets p q r s e = absurd (false≢true (sym e))
+  by false false false true sets p q r s e = absurd (false≢true (sym e))
+  by false false false false (set ∷ sets) p q r s e = absurd (false≢true (sym e))
+  by false false false false [] p q r s e = record { buffers = p; buffer = q; nicklist = r; sets = s }
 
 follows_none : (k : EventKind) (buffer : ℕ) (client : Client) → asks_events client ≡ false → follows k buffer client ≡ false
 follows_none k buffer client e =
     let is = asks_nothing client e in
     ap (λ sets. wants k (union client.everywhere (set_at buffer sets))) is.sets
-    ∙ wants_none k (union client.everywhere no_options) (ap (λ t. t || false) is.buffers) (ap (λ t. t || false) is.buffer)
+    ∙ wants_none k (union client.everywhere no_options) (ap (λ t. t || false) is.buffers) (ap (λ t. t || false) is.buffer) (ap (λ t. t || false) is.nicklist)
 
 no_sets : (k : EventKind) (buffer : ℕ) → sets_behind k buffer [] ≡ []
 no_sets kind.Closing buffer = refl
@@ -244,10 +259,20 @@ module _ (link : ℕ) (world : World) (notice : Notice) where
   unfolding notice_told
   told_nothing client e = rw (follows_none notice.kind notice.buffer.0 client e) refl
 
+  -- the messages of an event of this kind
+  abbrev messages_as : EventKind → List WireMessage
+  messages_as k = if_fits (option_map (λ objects. record { id = id_of k; objects = objects }) (objects_of world k notice))
+
+  -- of a touched row nothing is told
+  told_as : (k : EventKind) (client : Client) → follows_all client ≡ true → cond (follows k notice.buffer.0 client) (messages_as k) no_messages ≡ messages_as k
+  unfolding objects_of
+  told_as kind.NickTouched client e = refl
+  told_as k client e = ap (λ b. cond b (messages_as k) no_messages) (follows_each k notice.buffer.0 client tt e)
+
   -- a client that follows all events is told each
   pub told_each : (client : Client) → follows_all client ≡ true → notice_told world notice client ≡ event_messages world notice
   unfolding notice_told
-  told_each client e = rw (follows_each notice.kind notice.buffer.0 client e) refl
+  told_each client e = told_as notice.kind client e
 
   -- the clients of a link that asked for nothing are told nothing
   told-quiet : (clients : List Client) → is_quiet link clients ≡ true → messages_to link (flat_map (told_to world notice) clients) ≡ []

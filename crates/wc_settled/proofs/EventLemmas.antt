@@ -19,6 +19,7 @@ use Rattle.wc_settled.specs.Settled.{Asked, asked_by, asked_with, asked_in, clie
 use Rattle.wc_settled.specs.Kept.{IsKept}
 use Rattle.wc_settled.specs.Mirrors.{mirror_after, IsFair, StepMirrors, DumpMirrors}
 use Rattle.wc_settled.proofs.IdLemmas.{request_free}
+use Rattle.wc_settled.proofs.PushLemmas.{pushes_stay, asked_replies}
 use Rattle.wc_settled.proofs.ReplyLemmas.{dump_right, reply_right, sends_right}
 use Rattle.wc_settled.proofs.StepLemmas.{asked_here, reply_link, reply_text, right-answers}
 
@@ -65,6 +66,10 @@ asked_now link state k line client request at read here =
     let key = at_key-key client_link k state.clients client at in
     asked_here link k state line (Some client) (ap (λ n. eqb n link) (sym key) ∙ here) at ∙ ap (asked_with client) read
 
+-- what a client has behind what was done
+abbrev HasBehind : (which : HeldPart) → ℕ → ℕ → List ℕ → Held which → Stepped → Type 0
+HasBehind which limit link id part stepped = Has which (mirror_after which limit link id part stepped.acts) stepped.state.world
+
 line_right : (which : HeldPart) (limit link : ℕ) (id : List ℕ) (state : State) (k : ℕ) (line : List ℕ) (part : Held which) → IsKept limit link state → BeginsWithout 95 id → length line ≤ 65536
     → AllByRecursion (IsFair which id) (asked_in link state (LineCame k line)) → is_following (client_on link (step state (LineCame k line)).state) ≡ true → Has which part state.world
     → Has which (mirror_after which limit link id part (step state (LineCame k line)).acts) (step state (LineCame k line)).state.world
@@ -75,9 +80,12 @@ line_right which limit link id state k line part kept free within fair after had
   served client (Some request) at read after =
       let answer = reply_of state.world state.password client request in
       let own = λ (here : eqb (client_link client) link ≡ true). (subst (AllByRecursion (IsFair which id)) (asked_now link state k line client request at read here) fair).0 in
-      right-answers which limit link id state (client_link client) answer part (reply_link state client line request read) (reply_text state client line request read) kept free after
+      let alone = asked_replies state kept.told kept.world.empty client request in
+      let following = subst (λ (s : Stepped). is_following (client_on link s.state) ≡ true) alone after in
+      subst (HasBehind which limit link id part) (sym alone)
+      (right-answers which limit link id state (client_link client) answer part (reply_link state client line request read) (reply_text state client line request read) kept free following
       (sends_right which limit link id state (client_link client) answer.messages part
-      (λ here. reply_right which limit link id state client line request part kept free within read (own here) had) (λ else. had))
+      (λ here. reply_right which limit link id state client line request part kept free within read (own here) had) (λ else. had)))
 
   came : (o : Option Client) → at_key client_link k state.clients ≡ o → is_following (client_on link (line_came state line o).state) ≡ true
       → Has which (mirror_after which limit link id part (line_came state line o).acts) (line_came state line o).state.world
@@ -93,7 +101,8 @@ lost_right which limit link id state k why (Some client) part had = had
 
 pub step_mirrors : (which : HeldPart) → StepMirrors which
 step_mirrors which limit link id state (Start moment) part kept free within fair after had = had
-step_mirrors which limit link id state (Tick moment) part kept free within fair after had = had
+step_mirrors which limit link id state (Tick moment) part kept free within fair after had =
+    subst (HasBehind which limit link id part) (sym (pushes_stay (record state { moment = moment }) kept.told kept.world.empty)) had
 step_mirrors which limit link id state (Arrives k nonce) part kept free within fair after had = by (nat_lt (length state.clients) client_limit) where
   arrived : Bool → Stepped
   arrived b = cond b (stays (record state { clients = state.clients ++ new_client (record { 0 = k }) nonce ∷ [] })) (record { state = state; acts = Closes k cause.Surplus ∷ [] })
@@ -125,10 +134,13 @@ line_dumps which limit link id state k line part dump kept within e takes after 
       let answer = reply_of state.world state.password client request in
       let whole : record { client = client; request = request } ≡ dump = cc in
       let key : eqb (client_link client) link ≡ true = ap (λ n. eqb n link) (at_key-key client_link k state.clients client at) ∙ here in
-      right-answers which limit link id state (client_link client) answer part (reply_link state client line request read) (reply_text state client line request read) kept free after
+      let alone = asked_replies state kept.told kept.world.empty client request in
+      let following = subst (λ (s : Stepped). is_following (client_on link s.state) ≡ true) alone after in
+      subst (HasBehind which limit link id part) (sym alone)
+      (right-answers which limit link id state (client_link client) answer part (reply_link state client line request read) (reply_text state client line request read) kept free following
       (sends_right which limit link id state (client_link client) answer.messages part
       (λ here. dump_right which limit link id state client line request part kept within read (subst (TakesDump which id) (sym whole) takes))
-      (λ else. absurd (let h : false ≡ true = sym else ∙ key in cc)))
+      (λ else. absurd (let h : false ≡ true = sym else ∙ key in cc))))
 
   came : (o : Option Client) → at_key client_link k state.clients ≡ o → eqb k link ≡ true → asked_by line o ≡ dump ∷ [] → is_following (client_on link (line_came state line o).state) ≡ true
       → Has which (mirror_after which limit link id part (line_came state line o).acts) (line_came state line o).state.world

@@ -14,16 +14,18 @@ use Rattle.wc_model.specs.World.{core_row, first_world}
 use Rattle.wc_session.specs.declared.client.Client.{Client}
 use Rattle.wc_session.specs.Known.{new_client}
 use Rattle.wc_session.specs.Logins.{pairs_let_in, lets_in}
-use Rattle.wc_session.specs.Reply.{Answer, silent, leaves, replies, init_answer, served, reply_of, hdata_objects}
+use Rattle.wc_session.specs.Reply.{Answer, silent, leaves, replies, init_answer, served, reply_of, hdata_objects, nicklist_objects}
 use Rattle.wc_session.specs.Sending.{reply}
 use Rattle.wc_session.specs.Sync.{synchronized}
 use Rattle.wc_core.specs.Events.{Event, Line}
-use Rattle.wc_core.specs.State.{State, first_state}
+use Rattle.wc_core.specs.State.{State, Stepped, first_state}
 use Rattle.wc_core.specs.Step.{client_link, line_came, asked, answers, step, run}
 use Rattle.wc_outside.specs.Keyed.{at_key}
-use Rattle.wc_settled.specs.Held.{HeldPart, Lines, Buffers}
+use Rattle.wc_settled.specs.Held.{HeldPart, Lines, Buffers, Nicks}
 use Rattle.wc_settled.specs.Settled.{Asked, asked_by, asked_with, asked_in, asked_on, client_on, follows_all, is_following, has_id, TakesDump, SettledBy}
-use Rattle.wc_settled.specs.Example.{init_line, sync_line, dump_line, buffers_line, three_lines, ThreeLinesSettle, ThreeLinesSettleBuffers}
+use Rattle.wc_settled.specs.Example.{init_line, sync_line, dump_line, buffers_line, nicks_line, three_lines, ThreeLinesSettle, ThreeLinesSettleBuffers, ThreeLinesSettleNicks}
+use Rattle.wc_settled.proofs.PushLemmas.{asked_replies}
+use Rattle.wc_settled.proofs.WorldLemmas.{first_kept}
 
 -- ---- the requests
 
@@ -45,6 +47,9 @@ buffers_request = record {
   command = ask.Hdata (codes "buffer:gui_buffers(*)") (codes "number,full_name,short_name,hidden,title,local_variables");
 }
 
+nicks_request : Request
+nicks_request = record { id = codes "n"; command = ask.Nicklist None }
+
 init_reads : request_of false init_line ≡ Some init_request
 unfolding request_of call_of asked_by_call command_of is_utf8 chars encode init_request
 init_reads = refl
@@ -60,6 +65,10 @@ dump_reads = refl
 buffers_read : request_of false buffers_line ≡ Some buffers_request
 unfolding request_of call_of asked_by_call command_of is_utf8 chars encode buffers_request
 buffers_read = refl
+
+nicks_read : request_of false nicks_line ≡ Some nicks_request
+unfolding request_of call_of asked_by_call command_of is_utf8 chars encode nicks_request
+nicks_read = refl
 
 -- ---- the client behind each
 
@@ -102,6 +111,13 @@ buffers_answered : (limit : ℕ) → reply_of (first_world limit) (codes "x") sy
 unfolding reply_of served buffers_request synchronized
 buffers_answered limit = refl
 
+abbrev told_nicks : ℕ → List WireMessage
+told_nicks limit = reply (codes "n") (nicklist_objects (first_world limit) None)
+
+nicks_answered : (limit : ℕ) → reply_of (first_world limit) (codes "x") synced nicks_request ≡ replies synced (told_nicks limit)
+unfolding reply_of served nicks_request synchronized
+nicks_answered limit = refl
+
 -- ---- the run
 
 abbrev with_client : ℕ → Client → State
@@ -116,7 +132,7 @@ line_state : (limit : ℕ) (client : Client) (line : List ℕ) (request : Reques
 line_state limit client line request answer key reads answered =
     let state = with_client limit client in
     ap (λ o. (line_came state line o).state) (found client key) ∙ ap (λ o. (asked state client o).state) reads
-    ∙ ap (λ a. (answers state (client_link client) a).state) answered ∙ ap (λ n. (answers state n answer).state) key
+    ∙ ap (λ (s : Stepped). s.state) (asked_replies state refl (first_kept limit).empty client request) ∙ ap (λ a. (answers state (client_link client) a).state) answered ∙ ap (λ n. (answers state n answer).state) key
 
 silent_step : (limit : ℕ) (before after : Client) (line : List ℕ) (request : Request) → client_link before ≡ 1 → request_of before.escaped line ≡ Some request
     → reply_of (first_world limit) (codes "x") before request ≡ silent after → (step (with_client limit before) (Line 1 line)).state ≡ with_client limit after
@@ -198,6 +214,10 @@ buffers_asked : TakesDump Buffers (codes "b") (request_by synced buffers_request
 unfolding buffers_request
 buffers_asked = record { logged_in = synced_known; dump = refl; under = refl }
 
+nicks_asked : TakesDump Nicks (codes "n") (request_by synced nicks_request)
+unfolding nicks_request
+nicks_asked = record { logged_in = synced_known; dump = refl; under = refl }
+
 init_apart : (b : ℕ) → has_id (b ∷ []) (request_by came init_request) ≡ false
 unfolding init_request
 init_apart b = refl
@@ -211,3 +231,6 @@ three_lines_settle limit = settles_by dump_line dump_request told dump_reads dum
 
 pub three_lines_settle_buffers : ThreeLinesSettleBuffers
 three_lines_settle_buffers limit = settles_by buffers_line buffers_request told_buffers buffers_read buffers_answered Buffers (codes "b") limit buffers_asked (init_apart 98) (sync_apart 98)
+
+pub three_lines_settle_nicks : ThreeLinesSettleNicks
+three_lines_settle_nicks limit = settles_by nicks_line nicks_request told_nicks nicks_read nicks_answered Nicks (codes "n") limit nicks_asked (init_apart 110) (sync_apart 110)

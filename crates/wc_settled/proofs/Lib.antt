@@ -9,8 +9,11 @@ mod HandleLemmas
 mod HeldLemmas
 mod IdLemmas
 mod ListLemmas
+mod NickDumps
+mod NickWorlds
 mod NoticeLemmas
 mod PrintLemmas
+mod PushLemmas
 mod ReplyLemmas
 mod RowLemmas
 mod RunLemmas

@@ -9,7 +9,7 @@ use Rattle.wc_buffers.specs.Groups.{rows, has}
 use Rattle.wc_buffers.proofs.RefusalLemmas.{there_good, close_good, move_good, merge_good, unmerge_good, rename_good, short_name_good, set_var_good, remove_var_good}
 use Rattle.wc_world.proofs.GroupRows.{some_row}
 use Rattle.wc_model.specs.declared.change.What.{What}
-use Rattle.wc_model.specs.declared.change.What.TheVariants.{Add, Close, MoveTo, MergeInto, Unmerge, Hide, Unhide, Rename, ShortName, Title, SetVar, RemoveVar, Print, Clear, Flips}
+use Rattle.wc_model.specs.declared.change.What.TheVariants.{Add, Close, MoveTo, MergeInto, Unmerge, Hide, Unhide, Rename, ShortName, Title, SetVar, RemoveVar, Print, Clear, Flips, AddGroup, AddNick, RemoveGroup, RemoveNick, ChangeGroup, ChangeNick}
 use Rattle.wc_model.specs.declared.notice.EventKind.{EventKind}
 use Rattle.wc_model.specs.declared.notice.Notice.{Notice}
 use Rattle.wc_model.specs.World.{World, lines_at}
@@ -112,6 +112,12 @@ target_there w h (RemoveVar name) told good old = (remove_var_good h name w.grou
 target_there w h (Print line) told good old = there_good h w.groups (accepted _ (both_accepted _ _ good).0)
 target_there w h Clear told good old = there_good h w.groups (accepted _ good)
 target_there w h (Flips flips) told good old = absurd told
+target_there w h (AddGroup parent item) told good old = absurd told
+target_there w h (AddNick group item) told good old = absurd told
+target_there w h (RemoveGroup name) told good old = absurd told
+target_there w h (RemoveNick name) told good old = absurd told
+target_there w h (ChangeGroup item) told good old = absurd told
+target_there w h (ChangeNick item) told good old = absurd told
 
 -- what is noticed of an accepted change
 pub telling : (limit : ℕ) (w : World) (h : Handle) (a : What) → IsWorldKept limit w → IsTold a → refusal_of w h a ≡ None → IsTelling (notice_of w (after_of w h a) h a)
@@ -131,6 +137,12 @@ telling limit w h (RemoveVar name) is told good = telling_at limit (after_of w h
 telling limit w h (Print line) is told good = telling_at limit (after_of w h (Print line)) _ h _ _ (after_kept limit w h (Print line) is told good) (there_small limit w h is (target_there w h (Print line) told good tt))
 telling limit w h Clear is told good = telling_at limit (after_of w h Clear) _ h _ _ (after_kept limit w h Clear is told good) (there_small limit w h is (target_there w h Clear told good tt))
 telling limit w h (Flips flips) is told good = absurd told
+telling limit w h (AddGroup parent item) is told good = absurd told
+telling limit w h (AddNick group item) is told good = absurd told
+telling limit w h (RemoveGroup name) is told good = absurd told
+telling limit w h (RemoveNick name) is told good = absurd told
+telling limit w h (ChangeGroup item) is told good = absurd told
+telling limit w h (ChangeNick item) is told good = absurd told
 
 -- ---- in the words of the mirror
 

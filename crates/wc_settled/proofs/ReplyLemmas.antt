@@ -1,5 +1,6 @@
 -- What a reply leaves of what a client has.
-use Rattle.std.proofs.Common.{◌≡◌, ℕ, ◌≤◌, Bool, true, false, cond, ◌||◌, List, [], ◌∷◌, length, codes, Some, None, refl, sym, ap, subst, ◌∙◌, arith, eqb, bytes_eq}
+use Rattle.std.proofs.Common.{◌≡◌, ℕ, ◌≤◌, Bool, true, false, cond, ◌||◌, List, [], ◌∷◌, length, codes, Option, Some, None, is_none, refl, sym, ap, subst, ◌∙◌, arith, eqb, bytes_eq}
+use Rattle.std.specs.Prelude.{Ok, Err}
 use Rattle.std.proofs.lemmas.Bool.{false≢true, and_parts}
 use Rattle.std.proofs.lemmas.Slice.Eq.{bytes_eq-Decides}
 use Rattle.wc_text.specs.declared.names.Cause.TheVariants as cause
@@ -11,16 +12,17 @@ use Rattle.wc_relaycmd.specs.declared.request.Command.TheVariants as ask
 use Rattle.wc_relaycmd.specs.declared.request.Request.{Request}
 use Rattle.wc_relaycmd.specs.Answers.{request_of}
 use Rattle.wc_relaycmd.specs.Cuts.{BeginsWithout}
+use Rattle.wc_told.specs.NickObjects.{nick_dump}
 use Rattle.wc_session.specs.declared.client.Client.{Client}
 use Rattle.wc_session.specs.OneReply.{AtMostOne, id_of_reply}
-use Rattle.wc_session.specs.Reply.{is_line_dump, is_open, replies, leaves, hdata_objects, served, reply_of}
+use Rattle.wc_session.specs.Reply.{is_line_dump, is_open, replies, leaves, hdata_objects, nicklist_objects, served, reply_of}
 use Rattle.wc_session.specs.Sending.{message, fits, reply}
 use Rattle.wc_session.proofs.OneReplyLaws.{one_reply}
 use Rattle.wc_session.proofs.SendingLemmas.{fits_within}
 use Rattle.wc_view.specs.BufferFold.{kind_named}
 use Rattle.wc_core.specs.State.{State}
 use Rattle.wc_core.specs.Step.{sends}
-use Rattle.wc_settled.specs.Held.{HeldPart, Lines, Buffers, Held, asks_dump, fold_one, Has}
+use Rattle.wc_settled.specs.Held.{HeldPart, Lines, Buffers, Nicks, Held, asks_dump, fold_one, Has}
 use Rattle.wc_settled.specs.Settled.{TakesDump}
 use Rattle.wc_settled.specs.Kept.{IsKept}
 use Rattle.wc_settled.specs.Mirrors.{fold_all, mirror_after, IsFair}
@@ -37,12 +39,17 @@ pub record IsOther (id other : List ℕ) : Type 0 where
   pub closing : bytes_eq other (codes "_buffer_closing") ≡ false
   pub cleared : bytes_eq other (codes "_buffer_cleared") ≡ false
   pub flags : bytes_eq other (codes "_buffer_line_data_changed") ≡ false
+  pub opened : bytes_eq other (codes "_buffer_opened") ≡ false
+  pub nicklist : bytes_eq other (codes "_nicklist") ≡ false
+  pub diff : bytes_eq other (codes "_nicklist_diff") ≡ false
   pub buffers : kind_named other ≡ None
 
 -- a message under such an id changes nothing
 passed : (which : HeldPart) (limit : ℕ) (id : List ℕ) (part : Held which) (m : WireMessage) → IsOther id m.id → fold_one which limit id part m ≡ part
 passed Lines limit id part m is = rw (is.dump, is.added, is.closing, is.cleared, is.flags) refl
 passed Buffers limit id part m is = rw (is.dump, is.buffers) refl
+passed Nicks limit id (Ok part) m is = rw (is.dump, is.diff, is.nicklist, is.opened, is.closing) refl
+passed Nicks limit id (Err place) m is = rw is.dump refl
 
 unmoved : (which : HeldPart) (limit : ℕ) (id other : List ℕ) (part : Held which) (messages : List WireMessage) → AtMostOne other messages → IsOther id other → fold_all which limit id part messages ≡ part
 unmoved which limit id other part [] one is = refl
@@ -51,7 +58,7 @@ unmoved which limit id other part (m ∷ n ∷ messages) one is = absurd one
 
 -- the id of a request, and that of its reply
 reply_other : (id other : List ℕ) (command : Command) → IsOther id other → bytes_eq (codes "_pong") id ≡ false → IsOther id (id_of_reply other command)
-reply_other id other (ask.Ping text) is pong = record { dump = pong; added = refl; closing = refl; cleared = refl; flags = refl; buffers = refl }
+reply_other id other (ask.Ping text) is pong = record { dump = pong; added = refl; closing = refl; cleared = refl; flags = refl; opened = refl; nicklist = refl; diff = refl; buffers = refl }
 reply_other id other _ is pong = is
 
 no_kind : (other : List ℕ) → BeginsWithout 95 other → kind_named other ≡ None
@@ -78,6 +85,9 @@ free_other id other free apart = record {
   closing = apart_event (codes "buffer_closing") other free;
   cleared = apart_event (codes "buffer_cleared") other free;
   flags = apart_event (codes "buffer_line_data_changed") other free;
+  opened = apart_event (codes "buffer_opened") other free;
+  nicklist = apart_event (codes "nicklist") other free;
+  diff = apart_event (codes "nicklist_diff") other free;
   buffers = no_kind other free;
 }
 
@@ -96,25 +106,33 @@ dump_objects Buffers world path keys e =
     let same = (bytes_eq-Decides path (codes "buffer:gui_buffers(*)")).0 (and_parts (bytes_eq path (codes "buffer:gui_buffers(*)")) _ e).0 in
     let other : is_line_dump path keys ≡ false = ap (λ p. is_line_dump p keys) same in
     rw (other, e) refl
+dump_objects Nicks world path keys e = absurd (false≢true e)
+
+-- the nicklists of all buffers
+nicklist_dump : (world : World) (buffer : Option (List ℕ)) → is_none buffer ≡ true → nicklist_objects world buffer ≡ nick_dump world
+unfolding nicklist_objects
+nicklist_dump world None e = refl
+nicklist_dump world (Some name) e = absurd (false≢true e)
 
 reply_one : (id : List ℕ) (objects : List Object) → fits (message id objects) ≡ true → reply id objects ≡ message id objects ∷ []
 unfolding reply
 reply_one id objects e = rw e refl
 
 -- the dump is the one message that its request gets
-hdata_dump : (which : HeldPart) (world : World) (client : Client) (id path keys : List ℕ) → asks_dump which (ask.Hdata path keys) ≡ true → fits (message id (dump_of which world)) ≡ true
-    → (replies client (reply id (hdata_objects world path keys))).messages ≡ message id (dump_of which world) ∷ []
-hdata_dump which world client id path keys e fit =
-    ap (λ objects. (replies client (reply id objects)).messages) (dump_objects which world path keys e)
-    ∙ ap (λ messages. (replies client messages).messages) (reply_one id (dump_of which world) fit)
+one_dump : (which : HeldPart) (world : World) (client : Client) (id : List ℕ) (objects : List Object) → objects ≡ dump_of which world → fits (message id (dump_of which world)) ≡ true
+    → (replies client (reply id objects)).messages ≡ message id (dump_of which world) ∷ []
+one_dump which world client id objects e fit =
+    ap (λ objects. (replies client (reply id objects)).messages) e ∙ ap (λ messages. (replies client messages).messages) (reply_one id (dump_of which world) fit)
 
 served_dump : (which : HeldPart) (world : World) (password : List ℕ) (client : Client) (id : List ℕ) (command : Command) → asks_dump which command ≡ true
     → fits (message id (dump_of which world)) ≡ true → (served world password client id command).messages ≡ message id (dump_of which world) ∷ []
 unfolding served
-served_dump Lines world password client id (ask.Hdata path keys) e fit = hdata_dump Lines world client id path keys e fit
+served_dump Lines world password client id (ask.Hdata path keys) e fit = one_dump Lines world client id (hdata_objects world path keys) (dump_objects Lines world path keys e) fit
 served_dump Lines world password client id _ e fit = absurd (false≢true e)
-served_dump Buffers world password client id (ask.Hdata path keys) e fit = hdata_dump Buffers world client id path keys e fit
+served_dump Buffers world password client id (ask.Hdata path keys) e fit = one_dump Buffers world client id (hdata_objects world path keys) (dump_objects Buffers world path keys e) fit
 served_dump Buffers world password client id _ e fit = absurd (false≢true e)
+served_dump Nicks world password client id (ask.Nicklist buffer) e fit = one_dump Nicks world client id (nicklist_objects world buffer) (nicklist_dump world buffer e) fit
+served_dump Nicks world password client id _ e fit = absurd (false≢true e)
 
 reply_dump : (which : HeldPart) (world : World) (password : List ℕ) (client : Client) (request : Request) → client.logged_in ≡ true → asks_dump which request.command ≡ true
     → fits (message request.id (dump_of which world)) ≡ true → (reply_of world password client request).messages ≡ message request.id (dump_of which world) ∷ []
@@ -129,6 +147,8 @@ closed_dump Lines (ask.Hdata path keys) e = refl
 closed_dump Lines _ e = absurd (false≢true e)
 closed_dump Buffers (ask.Hdata path keys) e = refl
 closed_dump Buffers _ e = absurd (false≢true e)
+closed_dump Nicks (ask.Nicklist buffer) e = refl
+closed_dump Nicks _ e = absurd (false≢true e)
 
 early_dump : (which : HeldPart) (world : World) (password : List ℕ) (client : Client) (request : Request) → client.logged_in ≡ false → asks_dump which request.command ≡ true
     → (reply_of world password client request).messages ≡ []

@@ -127,7 +127,7 @@ settles which limit link id state (event ∷ events) part before behind dump kep
 -- ---- from the start
 
 pub start_kept : (limit link : ℕ) (password : List ℕ) → limit ≤ 4096 → IsKept limit link (first_state password limit)
-start_kept limit link password most = record { most = most; world = first_kept limit; first = refl }
+start_kept limit link password most = record { most = most; world = first_kept limit; told = refl; first = refl }
 
 kept_on : (limit link : ℕ) (state : State) (events : List Event) → IsKept limit link state → IsKept limit link (run state events).state
 kept_on limit link state [] kept = kept

@@ -68,7 +68,7 @@ date_short : (date : ℕ) → IsAtMost 22 (o.Tim (moment date))
 unfolding value_bytes simple_bytes out-Object out
 date_short date = let h = date_size date in omega arith
 
-level_short : (n : ℤ) → IsAtMost 1 (o.Chr n)
+pub level_short : (n : ℤ) → IsAtMost 1 (o.Chr n)
 unfolding value_bytes simple_bytes out-Object out
 level_short n = omega arith
 
@@ -160,10 +160,10 @@ pointers_size (p ∷ pointers) all =
     omega (arith, length-append (pointer_bytes p) (flat_map pointer_bytes pointers))
 
 -- an item of any line is no longer
-abbrev IsSmall : HdaItem → Type 0
+abbrev pub IsSmall : HdaItem → Type 0
 IsSmall item = length (item_bytes item) ≤ 1700
 
-item_size : (pointers : List ℕ) (values : List Object) (ns : List ℕ) → length pointers ≤ 4 → AllByRecursion (λ p. p < 2 ^ 64) pointers → AreAtMost values ns → total ns ≤ 1615
+pub item_size : (pointers : List ℕ) (values : List Object) (ns : List ℕ) → length pointers ≤ 4 → AllByRecursion (λ p. p < 2 ^ 64) pointers → AreAtMost values ns → total ns ≤ 1615
     → length (flat_map pointer_bytes pointers ++ flat_map value_bytes values) ≤ 1700
 item_size pointers values ns few small all most =
     let front = pointers_size pointers small in
@@ -208,7 +208,7 @@ object_spelt : (path keys : List ℕ) (items : List HdaItem) → object_bytes (o
 unfolding object_bytes
 object_spelt path keys items = rw (← o.rolls-Hda (hda_of path keys items), out-roll-Object) (ap (λ t. codes "hda" ++ t) (hda_spelt path keys items))
 
-spelt_size : (path keys : List ℕ) (items : List HdaItem) → length path ≤ 100 → length keys ≤ 200 → length items ≤ 1048576 → AllByRecursion IsSmall items → length (spelt path keys items) ≤ 1800000000
+pub spelt_size : (path keys : List ℕ) (items : List HdaItem) → length path ≤ 100 → length keys ≤ 200 → length items ≤ 1048576 → AllByRecursion IsSmall items → length (spelt path keys items) ≤ 1800000000
 spelt_size path keys items short named few all =
     let size = items_size items all in
     let count = length-be32 (length items) in

@@ -1,5 +1,5 @@
 -- Each message that is replied keeps the rules.
-use Rattle.std.proofs.Common.{◌≡◌, ℕ, ◌^◌, ◌<◌, Bool, true, false, cond, not, ◌&&◌, ◌||◌, List, [], ◌∷◌, codes, Option, Some, None, refl, arith}
+use Rattle.std.proofs.Common.{◌≡◌, ℕ, ◌^◌, ◌<◌, Bool, true, false, cond, not, ◌&&◌, ◌||◌, List, [], ◌∷◌, codes, Option, Some, None, option_map, refl, arith}
 use Rattle.std.specs.Prelude.{ℤ}
 use Rattle.std.specs.List.{AllByRecursion}
 use Rattle.std.specs.Option.{is_none}
@@ -12,7 +12,9 @@ use denote.Hole.Carrier.{out}
 use Rattle.wc_text.specs.declared.names.Cause.TheVariants as cause
 use Rattle.wc_text.specs.declared.names.Handle.{Handle}
 use Rattle.wc_text.specs.declared.names.Pair.{Pair}
-use Rattle.wc_buffers.specs.Calls.{Groups}
+use Rattle.wc_buffers.specs.declared.entry.BufferEntry.{BufferEntry}
+use Rattle.wc_buffers.specs.Calls.{Groups, handle_of, entry_of}
+use Rattle.wc_buffers.specs.Groups.{rows}
 use Rattle.wc_model.specs.World.{World}
 use Rattle.wc_objects.specs.declared.kind.Kind.{Kind}
 use Rattle.wc_objects.specs.declared.kind.Kind.TheVariants as k
@@ -29,16 +31,19 @@ use Rattle.wc_relaycmd.specs.declared.request.Request.{Request}
 use Rattle.wc_relaycmd.specs.Utf8.{CommandUtf8, HasUtf8}
 use Rattle.wc_told.specs.BufferObjects.{buffer_dump}
 use Rattle.wc_told.specs.LineObjects.{line_dump}
+use Rattle.wc_told.specs.NickObjects.{nick_objects, listed}
 use Rattle.wc_session.specs.declared.client.Client.{Client}
 use Rattle.wc_session.specs.declared.outcome.Outcome.TheVariants as outcome
 use Rattle.wc_session.specs.Handshakes.{choice_in, asks_escapes, entry, handshake_table, handshake_objects}
 use Rattle.wc_session.specs.Logins.{pairs_let_in}
 use Rattle.wc_session.specs.Names.{buffer_named}
-use Rattle.wc_session.specs.Reply.{Answer, silent, leaves, replies, test_texts, test_numbers, test_objects, hdata_objects, is_line_dump, is_buffer_dump, info_objects, infolist_objects, pong_objects, shaken, handshake_reply, handshake_answer, init_answer, typed_into, input_answer, is_open, served, reply_of}
+use Rattle.wc_session.specs.Reply.{Answer, silent, leaves, replies, test_texts, test_numbers, test_objects, hdata_objects, is_line_dump, is_buffer_dump, info_objects, infolist_objects, or_null, list_of_named, nicklist_objects, pong_objects, shaken, handshake_reply, handshake_answer, init_answer, typed_into, input_answer, is_open, served, reply_of}
 use Rattle.wc_session.specs.Sending.{message, fits, fitting, null_hdata, reply}
 use Rattle.wc_session.proofs.Formed.{null_formed, info_formed, infolist_formed, pong_formed, test_formed, handshake_formed}
-use Rattle.wc_settled.specs.Worlds.{IsWorldKept}
+use Rattle.wc_settled.specs.Worlds.{IsBufferKept, IsWorldKept}
 use Rattle.wc_settled.proofs.DumpLemmas.{line_dump_good, buffer_dump_good}
+use Rattle.wc_settled.proofs.NickDumps.{nick_dump_good, nick_list_good}
+use Rattle.wc_settled.proofs.RowLemmas.{row_has}
 use Rattle.wc_settled.proofs.TellingLemmas.{AllSpelt, AreGood, one_spelt, fitting_spelt}
 use Rattle.wc_settled.proofs.WithinLemmas.{simple_str, hda_within}
 
@@ -108,6 +113,18 @@ hdata_good limit world path keys is = by (is_line_dump path keys) (is_buffer_dum
   by true buffers = line_dump_good limit world is
   by false true = buffer_dump_good limit world is
   by false false = null_good
+
+nicklist_good : (limit : ℕ) (world : World) (buffer : Option (List ℕ)) → IsWorldKept limit world → AreGood (nicklist_objects world buffer)
+unfolding nicklist_objects
+nicklist_good limit world None is = nick_dump_good limit world is
+nicklist_good limit world (Some name) is = by (buffer_named world.groups name) where
+  found : (h : Handle) (o : Option BufferEntry) → entry_of h world.groups ≡ o → AreGood (or_null (option_map (λ e. nick_objects (listed world e)) o))
+  found h None at = null_good
+  found h (Some e) at = nick_list_good limit world e is (row_has (IsBufferKept world.next) handle_of h.0 (rows world.groups) e at is.each)
+
+  by : (o : Option Handle) → AreGood (or_null (list_of_named world o))
+  by None = null_good
+  by (Some h) = found h (entry_of h world.groups) refl
 
 test_within : AllByRecursion ObjectWithin test_objects
 unfolding test_objects
@@ -235,7 +252,7 @@ served_spelt limit world password client id (ask.Init pairs) is text utf8 = init
 served_spelt limit world password client id (ask.Hdata path keys) is text utf8 = replies_spelt client _ (reply_spelt id _ text (hdata_good limit world path keys is))
 served_spelt limit world password client id (ask.Info name) is text utf8 = replies_spelt client _ (reply_spelt id _ text (info_good name utf8))
 served_spelt limit world password client id (ask.Infolist name) is text utf8 = replies_spelt client _ (reply_spelt id _ text (infolist_good name utf8))
-served_spelt limit world password client id (ask.Nicklist buffer) is text utf8 = replies_spelt client _ (reply_spelt id _ text null_good)
+served_spelt limit world password client id (ask.Nicklist buffer) is text utf8 = replies_spelt client _ (reply_spelt id _ text (nicklist_good limit world buffer is))
 served_spelt limit world password client id (ask.Input buffer typed) is text utf8 = input_spelt world.groups client buffer typed
 served_spelt limit world password client id (ask.Completion buffer position typed) is text utf8 = replies_spelt client _ (reply_spelt id _ text null_good)
 served_spelt limit world password client id (ask.Sync buffers options) is text utf8 = tt

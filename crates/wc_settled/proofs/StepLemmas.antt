@@ -18,7 +18,7 @@ use Rattle.wc_session.specs.declared.outcome.Outcome.TheVariants as outcome
 use Rattle.wc_session.specs.Known.{new_client}
 use Rattle.wc_session.specs.Reply.{Answer, reply_of}
 use Rattle.wc_core.specs.Events.{Event, Start, Tick, Arrives, Line as LineCame, Ends, Fails, ListenFails}
-use Rattle.wc_core.specs.State.{State, Closes}
+use Rattle.wc_core.specs.State.{State, Stepped, Closes}
 use Rattle.wc_core.specs.Step.{client_link, client_limit, stays, sends, leaves, follows, answers, asked, line_came, lost, step}
 use Rattle.wc_core.specs.Served.{OutcomeUtf8}
 use Rattle.wc_core.specs.Typed.{parted}
@@ -29,10 +29,11 @@ use Rattle.wc_settled.specs.Kept.{is_first_alone, IsKept}
 use Rattle.wc_settled.specs.Mirrors.{mirror_after, StepKeeps}
 use Rattle.wc_settled.proofs.ClientLemmas.{following-push, first-push, first-put, first-without}
 use Rattle.wc_settled.proofs.ChangeLemmas.{mirror-append, Tells-runs}
+use Rattle.wc_settled.proofs.PushLemmas.{asked_replies}
 use Rattle.wc_settled.proofs.TypedLemmas.{parted_text}
 
 kept-clients : (limit link : ℕ) (state : State) (clients : List Client) → IsKept limit link state → is_first_alone link clients ≡ true → IsKept limit link (record state { clients = clients })
-kept-clients limit link state clients kept e = record { most = kept.most; world = kept.world; first = e }
+kept-clients limit link state clients kept e = record { most = kept.most; world = kept.world; told = kept.told; first = e }
 
 kept-leaves : (limit link : ℕ) (state : State) (k : ℕ) (why : Cause) → IsKept limit link state → IsKept limit link (leaves state k why).state
 kept-leaves limit link state k why kept = kept-clients limit link state (without client_link k state.clients) kept (first-without link k state.clients kept.first)
@@ -102,7 +103,8 @@ kept-line limit link state k line kept = came (at_key client_link k state.client
   served : (client : Client) (o : Option Request) → request_of client.escaped line ≡ o → IsKept limit link (asked state client o).state
   served client None e = kept
   served client (Some request) e =
-      kept-answers limit link state (client_link client) (reply_of state.world state.password client request) (reply_link state client line request e) (reply_text state client line request e) kept
+      subst (λ (s : Stepped). IsKept limit link s.state) (sym (asked_replies state kept.told kept.world.empty client request))
+      (kept-answers limit link state (client_link client) (reply_of state.world state.password client request) (reply_link state client line request e) (reply_text state client line request e) kept)
 
   came : (o : Option Client) → IsKept limit link (line_came state line o).state
   came None = kept
@@ -115,8 +117,8 @@ kept-lost limit link state k why None kept = kept
 kept-lost limit link state k why (Some client) kept = kept-leaves limit link state k why kept
 
 pub step_keeps : StepKeeps
-step_keeps limit link state (Start moment) kept = record { most = kept.most; world = kept.world; first = kept.first }
-step_keeps limit link state (Tick moment) kept = record { most = kept.most; world = kept.world; first = kept.first }
+step_keeps limit link state (Start moment) kept = record { most = kept.most; world = kept.world; told = kept.told; first = kept.first }
+step_keeps limit link state (Tick moment) kept = record { most = kept.most; world = kept.world; told = refl; first = kept.first }
 step_keeps limit link state (Arrives k nonce) kept = by (nat_lt (length state.clients) client_limit) where
   came : Client
   came = new_client (record { 0 = k }) nonce
@@ -173,7 +175,8 @@ following-line limit link state k line kept none after = came (at_key client_lin
       → is_following (client_on link (asked state client o).state) ≡ true → is_following (client_on link state) ≡ true
   served client None at e after = after
   served client (Some request) at e after =
-      following-answers limit link state (client_link client) (reply_of state.world state.password client request) (reply_link state client line request e) (other client request at e) (reply_text state client line request e) kept after
+      following-answers limit link state (client_link client) (reply_of state.world state.password client request) (reply_link state client line request e) (other client request at e) (reply_text state client line request e) kept
+      (subst (λ (s : Stepped). is_following (client_on link s.state) ≡ true) (asked_replies state kept.told kept.world.empty client request) after)
 
   came : (o : Option Client) → at_key client_link k state.clients ≡ o → is_following (client_on link (line_came state line o).state) ≡ true → is_following (client_on link state) ≡ true
   came None at after = after

@@ -80,6 +80,9 @@ id_is_text kind.Cleared = refl
 id_is_text kind.Closing = refl
 id_is_text kind.LineAdded = refl
 id_is_text kind.LineDataChanged = refl
+id_is_text kind.Nicklist = refl
+id_is_text kind.NicklistDiff = refl
+id_is_text kind.NickTouched = refl
 
 id_text : (k : EventKind) → IsUtf8 (id_of k)
 id_text k = IsUtf8-from_is_utf8 (id_of k) (id_is_text k)
@@ -126,6 +129,9 @@ objects_good limit v kind.LineAdded n is tells =
     on_newest AreGood n.buffer (lines_at v n.buffer.0) (recursion_from_All IsPrinted (lines_at v n.buffer.0) (is.printed n.buffer.0))
     (λ line printed. record { formed = added_formed n.buffer line printed.text; within = event_within n.buffer line tells.buffer printed })
 objects_good limit v kind.LineDataChanged n is tells = tt
+objects_good limit v kind.Nicklist n is tells = tt
+objects_good limit v kind.NicklistDiff n is tells = tt
+objects_good limit v kind.NickTouched n is tells = tt
 
 -- the event of a notice keeps the rules
 pub event_spelt : (limit : ℕ) (v : World) (n : Notice) → IsWorldKept limit v → IsTelling n → AllSpelt (event_messages v n)
@@ -159,6 +165,9 @@ objects_short limit v kind.LineAdded n is tells =
     on_newest (IsShort kind.LineAdded) n.buffer (lines_at v n.buffer.0) (recursion_from_All IsPrinted (lines_at v n.buffer.0) (is.printed n.buffer.0))
     (λ line printed. added_size (id_of kind.LineAdded) n.buffer line (omega arith) tells.buffer printed)
 objects_short limit v kind.LineDataChanged n is tells = tt
+objects_short limit v kind.Nicklist n is tells = tt
+objects_short limit v kind.NicklistDiff n is tells = tt
+objects_short limit v kind.NickTouched n is tells = tt
 
 fitted : (m : WireMessage) → fitting m ≡ cond (fits m) (m ∷ []) []
 unfolding fitting

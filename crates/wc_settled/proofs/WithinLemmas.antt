@@ -10,6 +10,7 @@ use denote.Hole.Carrier.{out}
 use Rattle.wc_text.specs.declared.names.Handle.{Handle}
 use Rattle.wc_text.specs.declared.names.Pair.{Pair}
 use Rattle.wc_lines.specs.declared.line.Line.{Line}
+use Rattle.wc_nicklist.specs.declared.item.Item.{Item}
 use Rattle.wc_buffers.specs.declared.entry.BufferEntry.{BufferEntry}
 use Rattle.wc_buffers.specs.Calls.{Groups}
 use Rattle.wc_buffers.specs.Groups.{rows}
@@ -24,6 +25,7 @@ use Rattle.wc_objects.specs.declared.object.HdaItem.{HdaItem, roll-HdaItem}
 use Rattle.wc_objects.specs.Within.{SimpleWithin, PairWithin, ValueWithin, ItemWithin, HdaWithin, ObjectWithin}
 use Rattle.wc_told.specs.LineObjects.{truth, moment, texts, line_keys, line_values, added_item, added_objects, dumped_item, dumped_lines, line_dump}
 use Rattle.wc_told.specs.BufferObjects.{count, pair_of, table, about, opened_keys, opened_values, opened_objects, placed_keys, placed_values, placed_objects, renamed_keys, renamed_values, renamed_objects, title_keys, title_values, title_objects, vars_keys, vars_values, vars_objects, named_keys, named_values, named_objects, dump_keys, dumped_values, dumped_buffer, dumped_groups, buffer_dump}
+use Rattle.wc_told.specs.NickObjects.{nick_path, nick_keys, nick_values, nick_item, nick_objects}
 use Rattle.wc_settled.specs.Printed.{IsPrinted}
 use Rattle.wc_settled.specs.Worlds.{IsBufferKept, IsWorldKept}
 use Rattle.wc_settled.proofs.ListLemmas.{all_append, all_front, all_back, all_map, all_flat}
@@ -230,3 +232,22 @@ groups_within next number (group ∷ groups) ended few all =
 pub buffer_dump_within : (limit : ℕ) (world : World) → IsWorldKept limit world → length world.groups ≤ 256 → AllByRecursion ObjectWithin (buffer_dump world.groups)
 buffer_dump_within limit world is few =
     items_within (codes "buffer") dump_keys (dumped_groups 1 world.groups) (groups_within world.next 1 world.groups is.ended (omega arith) is.each)
+
+-- ---- nicklists
+
+nick_all : (i : Item) → AllByRecursion ValueWithin (nick_values i)
+unfolding nick_values
+nick_all i = (
+  value_chr _ (truth_within i.is_group),
+  (
+    value_chr _ (truth_within i.visible),
+    (value_int _ (count_within i.level), (value_str i.name, (value_str i.color, (value_str i.prefix, (value_str i.prefix_color, tt))))),
+  ),
+)
+
+pub nick_within : (buffer : Handle) (i : Item) → buffer.0 < 2 ^ 64 → i.handle.0 < 2 ^ 64 → ItemWithin (nick_item buffer i)
+unfolding ItemWithin
+nick_within buffer i small own = ((small, (own, tt)), nick_all i)
+
+pub nicks_within : (items : List HdaItem) → AllByRecursion ItemWithin items → AllByRecursion ObjectWithin (nick_objects items)
+nicks_within items all = items_within nick_path nick_keys items all

@@ -1,5 +1,5 @@
 -- What always holds of the world holds still after a change.
-use Rattle.std.proofs.Common.{◌≡◌, ℕ, ◌+◌, ◌-◌, ◌<◌, ◌≤◌, ◌^◌, Bool, true, false, cond, ◌&&◌, eqb, ltb, List, [], ◌∷◌, ◌++◌, length, map, All, Option, Some, None, unwrap_or, refl, sym, ap, subst, ◌∙◌, arith, eq-eqb, eqb-true, IsUtf8, map-id}
+use Rattle.std.proofs.Common.{◌≡◌, ℕ, ◌+◌, ◌-◌, ◌<◌, ◌≤◌, ◌^◌, Bool, true, false, cond, ◌&&◌, eqb, ltb, List, [], ◌∷◌, ◌++◌, length, map, All, Option, Some, None, unwrap_or, is_some, refl, sym, ap, subst, ◌∙◌, arith, eq-eqb, eqb-true, IsUtf8, map-id}
 use Rattle.std.specs.Prelude.{pos}
 use Rattle.std.specs.List.{AllByRecursion}
 use Rattle.std.specs.FinMap.{find as find_entry, get, insert, remove, empty, entries, get-insert, get-remove, get-empty, get-entries, get-from_entries}
@@ -31,23 +31,25 @@ use Rattle.wc_world.proofs.First.{core_text}
 use Rattle.wc_world.proofs.HeldLemmas.{tied}
 use Rattle.wc_model.specs.declared.change.LineSpec.{LineSpec}
 use Rattle.wc_model.specs.declared.change.What.{What}
-use Rattle.wc_model.specs.declared.change.What.TheVariants.{Add, Close, MoveTo, MergeInto, Unmerge, Hide, Unhide, Rename, ShortName, Title, SetVar, RemoveVar, Print, Clear, Flips}
+use Rattle.wc_model.specs.declared.change.What.TheVariants.{Add, Close, MoveTo, MergeInto, Unmerge, Hide, Unhide, Rename, ShortName, Title, SetVar, RemoveVar, Print, Clear, Flips, AddGroup, AddNick, RemoveGroup, RemoveNick, ChangeGroup, ChangeNick}
 use Rattle.wc_model.specs.declared.refused.ChangeRefused.{ChangeRefused}
 use Rattle.wc_model.specs.declared.refused.ChangeRefused.TheVariants as refused
 use Rattle.wc_model.specs.World.{World, core_row, first_world, lines_at, last_handle}
 use Rattle.wc_model.specs.LineCuts.{line_of}
 use Rattle.wc_model.specs.Apply.{refusal_of, after_of, of_buffers, or_else as or_refused, spent, with_groups, with_lines, flip_all, flipped, row_of as new_row}
+use Rattle.wc_core.specs.Standing.{HasNoRows}
 use Rattle.wc_settled.specs.Printed.{IsPrinted}
 use Rattle.wc_settled.specs.Worlds.{IsBufferKept, IsWorldKept}
 use Rattle.wc_settled.proofs.ListLemmas.{all_more}
 use Rattle.wc_settled.proofs.HandleLemmas.{has_handles, times_handles, rows_handles, groups_taken, groups_moved, groups_merged, groups_unmerged, handles_updated}
+use Rattle.wc_settled.proofs.NickWorlds.{AreListed, listed_added, listed_closed, rows_inserted, rows_removed}
 use Rattle.wc_settled.proofs.PrintLemmas.{line_printed}
 use Rattle.wc_settled.proofs.RowLemmas.{added_rows, taken_rows, moved_rows, merged_rows, unmerged_rows, updated_rows, row_has}
 use Rattle.wc_settled.proofs.VarLemmas.{AreShort, short_set, short_removed, short_fixed, opened_short, set_name_short}
 
 -- ---- the changes that commands ask for
 
--- texts that are kept whole are text, a line has no level, and no flag of a line is set
+-- texts that are kept whole are text, a line has no level, and no flag of a line is set and no row touched
 abbrev pub IsTold : What → Type 0
 IsTold (Add spec) = IsUtf8 spec.full_name × IsUtf8 spec.short_name × IsUtf8 spec.title × All IsText spec.vars
 IsTold Close = Unit {0}
@@ -64,6 +66,12 @@ IsTold (RemoveVar name) = Unit {0}
 IsTold (Print line) = All IsUtf8 line.tags × (line.notify ≡ pos 0)
 IsTold Clear = Unit {0}
 IsTold (Flips flips) = ⊥
+IsTold (AddGroup parent item) = ⊥
+IsTold (AddNick group item) = ⊥
+IsTold (RemoveGroup name) = ⊥
+IsTold (RemoveNick name) = ⊥
+IsTold (ChangeGroup item) = ⊥
+IsTold (ChangeNick item) = ⊥
 
 -- ---- refusals that do not hold
 
@@ -97,6 +105,8 @@ regrouped limit w gs is groups each same = record {
   within = is.within;
   printed = is.printed;
   none = λ h lacks. is.none h (sym (same h) ∙ lacks);
+  lists = λ h. is.lists h ∙ sym (same h);
+  empty = is.empty;
 }
 
 -- a buffer that is changed by F
@@ -153,13 +163,15 @@ unflipped limit w is = record {
   within = λ q. subst (λ ls. length ls ≤ limit) (sym (unflipped_at w q)) (is.within q);
   printed = λ q. subst (All IsPrinted) (sym (unflipped_at w q)) (is.printed q);
   none = λ q lacks. unflipped_at w q ∙ is.none q lacks;
+  lists = is.lists;
+  empty = is.empty;
 }
 
 -- a world in which the lines of one buffer were changed
 relined : (limit : ℕ) (w v : World) (k : ℕ) (ms : List Line) → IsWorldKept limit w → v.limit ≡ w.limit → 0 < v.next → v.next ≤ 2 ^ 62 + 1
     → AreGroups (handles v.groups) → AllByRecursion (IsBufferKept v.next) (rows v.groups) → ((q : ℕ) → lines_at v q ≡ cond (eqb q k) ms (lines_at w q))
-    → length ms ≤ limit → All IsPrinted ms → ((q : ℕ) → has handle_of q v.groups ≡ false → cond (eqb q k) ms (lines_at w q) ≡ []) → IsWorldKept limit v
-relined limit w v k ms is same started ended groups each lines few printed none = record {
+    → length ms ≤ limit → All IsPrinted ms → ((q : ℕ) → has handle_of q v.groups ≡ false → cond (eqb q k) ms (lines_at w q) ≡ []) → AreListed v → HasNoRows v → IsWorldKept limit v
+relined limit w v k ms is same started ended groups each lines few printed none lists empty = record {
   same = same ∙ is.same;
   started = started;
   ended = ended;
@@ -168,6 +180,8 @@ relined limit w v k ms is same started ended groups each lines few printed none 
   within = λ q. subst (λ ls. length ls ≤ limit) (sym (lines q)) (short q (eqb q k));
   printed = λ q. subst (All IsPrinted) (sym (lines q)) (all q (eqb q k));
   none = λ q lacks. lines q ∙ none q lacks;
+  lists = lists;
+  empty = empty;
 }
   where
     short : (q : ℕ) (b : Bool) → length (cond b ms (lines_at w q)) ≤ limit
@@ -206,7 +220,7 @@ print_kept limit w h spec is there room tags level =
     (put_at w h.0 ms)
     (subst (λ n. length ms ≤ n) is.same (last_within w.limit all))
     (All-drop IsPrinted (length all - w.limit) all (All-push IsPrinted (lines_at w h.0) (line_of w.next spec) (is.printed h.0) (line_printed w.next spec (omega arith) tags level)))
-    (there_or_none w limit h.0 ms is there)
+    (there_or_none w limit h.0 ms is there) is.lists is.empty
 
 -- ---- a new buffer
 
@@ -218,7 +232,7 @@ pub is_new : (limit : ℕ) (w : World) → IsWorldKept limit w → has handle_of
 is_new limit w is = sym (in_rows handle_of w.next w.groups) ∙ never_next w.next (rows w.groups) is.each
 
 add_kept : (limit : ℕ) (w : World) (spec : BufferSpec) → IsWorldKept limit w → add_refusal (new_row w.next spec) spec.vars w.groups ≡ None → w.next + 4 ≤ 2 ^ 62 + 1
-    → IsTold (Add spec) → IsWorldKept limit (record w { groups = added (new_row w.next spec) spec.vars w.groups; lines = insert w.lines w.next []; next = w.next + 4 })
+    → IsTold (Add spec) → IsWorldKept limit (record w { groups = added (new_row w.next spec) spec.vars w.groups; lines = insert w.lines w.next []; nicks = insert w.nicks w.next []; next = w.next + 4 })
 unfolding add_refusal
 add_kept limit w spec is good room told =
     let row = new_row w.next spec in
@@ -228,21 +242,23 @@ add_kept limit w spec is good room told =
     let absent = has_handles w.next w.groups ∙ is_new limit w is in
     let fits = opened_fits row spec.vars (record { full_name = told.0; short_name = told.1; title = told.2 }) told.3 names.0 parts.1 in
     let new : IsBufferKept (w.next + 4) e = record { fit = fits; names = opened_short row spec.vars names.0; some = is.started; below = omega arith; own = omega arith } in
-    relined limit w (record w { groups = added row spec.vars w.groups; lines = insert w.lines w.next []; next = w.next + 4 }) w.next [] is refl (omega arith) room
+    relined limit w (record w { groups = added row spec.vars w.groups; lines = insert w.lines w.next []; nicks = insert w.nicks w.next []; next = w.next + 4 }) w.next [] is refl (omega arith) room
     (subst AreGroups (sym (map-append (map (λ (e : BufferEntry). e.row.handle)) w.groups ((e ∷ []) ∷ []))) (added_are row.handle (handles w.groups) is.groups absent (subst (λ n. n < 256) (sym (rows_handles w.groups)) names.2)))
     (added_rows (IsBufferKept (w.next + 4)) handle_of e w.groups new (all_grown w.next (w.next + 4) (omega arith) w.groups is.each))
     (put_at w w.next []) (omega arith) (All-nil IsPrinted)
     (λ q lacks. by q (eqb q w.next) (or_parts (has handle_of q w.groups) (has handle_of q ((e ∷ []) ∷ [])) (sym (list_any-append (in_group handle_of q) w.groups ((e ∷ []) ∷ [])) ∙ lacks)).0)
+    (λ q. listed_added w.nicks w.next q w.groups e refl (is.lists q)) (λ q. rows_inserted w.nicks w.next q (is.empty q))
   where
     by : (q : ℕ) (b : Bool) → has handle_of q w.groups ≡ false → cond b [] (lines_at w q) ≡ []
     by q true lacks = refl
     by q false lacks = is.none q lacks
 
-close_kept : (limit : ℕ) (w : World) (h : Handle) → IsWorldKept limit w → IsWorldKept limit (record w { groups = closed h w.groups; lines = remove w.lines h.0 })
+close_kept : (limit : ℕ) (w : World) (h : Handle) → IsWorldKept limit w → IsWorldKept limit (record w { groups = closed h w.groups; lines = remove w.lines h.0; nicks = remove w.nicks h.0 })
 close_kept limit w h is =
-    relined limit w (record w { groups = closed h w.groups; lines = remove w.lines h.0 }) h.0 [] is refl is.started is.ended
+    relined limit w (record w { groups = closed h w.groups; lines = remove w.lines h.0; nicks = remove w.nicks h.0 }) h.0 [] is refl is.started is.ended
     (groups_taken h.0 w.groups is.groups) (taken_rows (IsBufferKept w.next) handle_of h.0 w.groups is.each)
     (removed_at w h.0) (omega arith) (All-nil IsPrinted) gone
+    (λ q. listed_closed w.nicks h q w.groups (is.lists q)) (λ q. rows_removed w.nicks h.0 q (is.empty q))
   where
     by : (q : ℕ) (b : Bool) → eqb h.0 q ≡ b → has handle_of q (closed h w.groups) ≡ false → cond b [] (lines_at w q) ≡ []
     by q true t lacks = refl
@@ -293,8 +309,14 @@ after_kept limit w h (Print line) is told good =
     print_kept limit w h line is (there_good h w.groups (accepted _ both.0)) (unspent 2 w both.1) told.0 told.1
 after_kept limit w h Clear is told good =
     relined limit w (with_lines w h []) h.0 [] is refl is.started is.ended is.groups is.each (put_at w h.0 []) (omega arith) (All-nil IsPrinted)
-    (there_or_none w limit h.0 [] is (there_good h w.groups (accepted _ good)))
+    (there_or_none w limit h.0 [] is (there_good h w.groups (accepted _ good))) is.lists is.empty
 after_kept limit w h (Flips flips) is told good = absurd told
+after_kept limit w h (AddGroup parent item) is told good = absurd told
+after_kept limit w h (AddNick group item) is told good = absurd told
+after_kept limit w h (RemoveGroup name) is told good = absurd told
+after_kept limit w h (RemoveNick name) is told good = absurd told
+after_kept limit w h (ChangeGroup item) is told good = absurd told
+after_kept limit w h (ChangeNick item) is told good = absurd told
 
 -- ---- the start
 
@@ -328,4 +350,6 @@ first_kept limit =
       within = λ q. subst (λ ls. length ls ≤ limit) (sym (no_lines limit q)) (omega arith);
       printed = λ q. subst (All IsPrinted) (sym (no_lines limit q)) (All-nil IsPrinted);
       none = λ q lacks. no_lines limit q;
+      lists = λ q. listed_added empty 1 q [] (opened core_row []) refl (ap is_some (get-empty nat_cmp q));
+      empty = λ q. rows_inserted empty 1 q (ap (λ o. unwrap_or o []) (get-empty nat_cmp q));
     }

@@ -10,7 +10,7 @@ use Rattle.wc_core.specs.Events.{Event}
 use Rattle.wc_core.specs.State.{first_state}
 use Rattle.wc_core.specs.Step.{run}
 use Rattle.wc_core.specs.Served.{messages_to, sent_to}
-use Rattle.wc_settled.specs.Held.{HeldPart, Lines, Buffers, nothing, Has}
+use Rattle.wc_settled.specs.Held.{HeldPart, Lines, Buffers, Nicks, nothing, Has}
 use Rattle.wc_settled.specs.Settled.{SettledBy}
 use Rattle.wc_settled.specs.Mirrors.{fold_all, IsShortLine}
 
@@ -38,6 +38,10 @@ Shows limit id bytes world = ShowsPart Lines limit id bytes world
 abbrev pub ShowsBuffers : ℕ → List ℕ → List ℕ → World → Type 0
 ShowsBuffers limit id bytes world = ShowsPart Buffers limit id bytes world
 
+-- it has the nicklists of all buffers
+abbrev pub ShowsNicks : ℕ → List ℕ → List ℕ → World → Type 0
+ShowsNicks limit id bytes world = ShowsPart Nicks limit id bytes world
+
 -- Bytes spell messages in one way at most.
 abbrev pub SpellOnce : Type 0
 SpellOnce = (bytes : List ℕ) (a b : List WireMessage) → Spell bytes a → Spell bytes b → a ≡ b
@@ -60,3 +64,7 @@ BytesShow = PartShows Lines
 -- the buffers in their groups
 abbrev pub BuffersShow : Type 0
 BuffersShow = PartShows Buffers
+
+-- the nicklists of all buffers
+abbrev pub NicksShow : Type 0
+NicksShow = PartShows Nicks

@@ -31,4 +31,6 @@ is_first_alone link (client ∷ clients) = if client_link client == link then is
 pub record IsKept (limit link : ℕ) (state : State) : Type 0 where
   pub most : limit ≤ 4096
   pub world : IsWorldKept limit state.world
+  -- nothing is ever left to be pushed
+  pub told : state.told ≡ state.world.nicks
   pub first : is_first_alone link state.clients ≡ true

@@ -1,4 +1,4 @@
--- Which clients hold the lines of all buffers, or the buffers: those that settled by the dump of them.
+-- Which clients hold the lines of all buffers, the buffers, or the nicklists: those that settled by the dump of them.
 use Rattle.std.specs.Prelude.{◌≡◌, ℕ, Bool, true, false, ◌&&◌, ◌==◌, if◌then◌else◌, List, [], ◌∷◌, ◌++◌, Option, Some, None, bytes_eq}
 use Rattle.std.specs.List.{AllByRecursion}
 use Rattle.wc_outside.specs.Keyed.{at_key}
@@ -8,7 +8,7 @@ use Rattle.wc_session.specs.declared.client.Client.{Client}
 use Rattle.wc_core.specs.Events.{Event, Line}
 use Rattle.wc_core.specs.State.{State}
 use Rattle.wc_core.specs.Step.{client_link, step, run}
-use Rattle.wc_settled.specs.Held.{HeldPart, Lines, Buffers, asks_dump}
+use Rattle.wc_settled.specs.Held.{HeldPart, Lines, Buffers, Nicks, asks_dump}
 
 -- a request, and what was known of its client as it came
 pub record Asked : Type 0 where
@@ -74,3 +74,7 @@ Settled link id state events = SettledBy Lines link id state events
 -- it settled by the buffer dump
 abbrev pub SettledBuffers : ℕ → List ℕ → State → List Event → Type 0
 SettledBuffers link id state events = SettledBy Buffers link id state events
+
+-- it settled by the nicklists of all buffers
+abbrev pub SettledNicks : ℕ → List ℕ → State → List Event → Type 0
+SettledNicks link id state events = SettledBy Nicks link id state events

@@ -1,5 +1,6 @@
 -- What always holds of the world of the core.
-use Rattle.std.specs.Prelude.{◌≡◌, ℕ, ◌+◌, ◌<◌, ◌≤◌, ◌^◌, false, [], length, All}
+use Rattle.std.specs.Prelude.{◌≡◌, ℕ, ◌+◌, ◌<◌, ◌≤◌, ◌^◌, false, [], length, All, is_some}
+use Rattle.std.specs.FinMap.{get}
 use Rattle.std.specs.List.{AllByRecursion}
 use Rattle.wc_text.specs.declared.names.Pair.{Pair}
 use Rattle.wc_buffers.specs.declared.entry.BufferEntry.{BufferEntry}
@@ -7,7 +8,7 @@ use Rattle.wc_buffers.specs.Calls.{handle_of}
 use Rattle.wc_buffers.specs.Groups.{rows, has}
 use Rattle.wc_buffers.specs.Kept.{IsBuffer, handles}
 use Rattle.wc_buffers.specs.Table.{AreGroups}
-use Rattle.wc_model.specs.World.{World, lines_at}
+use Rattle.wc_model.specs.World.{World, lines_at, rows_at}
 use Rattle.wc_settled.specs.Printed.{IsPrinted}
 
 -- a variable with a short name
@@ -33,3 +34,6 @@ pub record IsWorldKept (limit : ℕ) (world : World) : Type 0 where
   pub printed : (h : ℕ) → All IsPrinted (lines_at world h)
   -- a buffer that is not there has no lines
   pub none : (h : ℕ) → has handle_of h world.groups ≡ false → lines_at world h ≡ []
+  -- each buffer that is there has a nicklist, nothing else has, and no command puts a row in
+  pub lists : (h : ℕ) → is_some (get world.nicks h) ≡ has handle_of h world.groups
+  pub empty : (h : ℕ) → rows_at world h ≡ []

@@ -1,8 +1,8 @@
 //! What each client that settled holds.
 
-ghost use Rattle.wc_settled.specs.Bytes.{BuffersShow, BytesShow, RunSpells, SpellOnce};
-ghost use Rattle.wc_settled.specs.Example.{ThreeLinesSettle, ThreeLinesSettleBuffers};
-ghost use Rattle.wc_settled.specs.Held.{Lines, Buffers};
+ghost use Rattle.wc_settled.specs.Bytes.{BuffersShow, BytesShow, NicksShow, RunSpells, SpellOnce};
+ghost use Rattle.wc_settled.specs.Example.{ThreeLinesSettle, ThreeLinesSettleBuffers, ThreeLinesSettleNicks};
+ghost use Rattle.wc_settled.specs.Held.{Lines, Buffers, Nicks};
 ghost use Rattle.wc_settled.specs.Mirrors.{Mirrors, StepMirrors, DumpMirrors, StepKeeps, RunKeeps};
 
 /// A client that settled has exactly the lines of each buffer after any events, and none of a buffer that is not there,
@@ -17,7 +17,14 @@ pub fn settled_client_has_buffers()
     ensures { Mirrors Buffers }
 {}
 
-/// The same by the bytes that it was sent, which spell these messages and no others.
+/// A client that settled by the nicklists has exactly the nicklist of each buffer after any events, by the messages that
+/// it was sent, and no diff that it was sent is refused.
+pub fn settled_client_has_nicks()
+    ensures { Mirrors Nicks }
+{}
+
+/// A client that settled by the line dump has the lines by the bytes that it was sent, which spell these messages and no
+/// others.
 pub fn sent_bytes_show_lines()
     ensures shows { BytesShow }
     ensures spells { RunSpells }
@@ -27,6 +34,11 @@ pub fn sent_bytes_show_lines()
 /// A client that settled by the buffer dump has the buffers by the bytes that it was sent.
 pub fn sent_bytes_show_buffers()
     ensures { BuffersShow }
+{}
+
+/// A client that settled by the nicklists has them by the bytes that it was sent.
+pub fn sent_bytes_show_nicks()
+    ensures { NicksShow }
 {}
 
 /// A client that has the lines of all buffers has them still after one event, and one that takes the dump has them
@@ -42,7 +54,14 @@ pub fn event_keeps_buffers()
     ensures dump { DumpMirrors Buffers }
 {}
 
-/// What the core always keeps of its buffers, lines and clients.
+/// A client that has the nicklists has them still after one event, and one that takes those of all buffers has them behind
+/// it.
+pub fn event_keeps_nicks()
+    ensures kept { StepMirrors Nicks }
+    ensures dump { DumpMirrors Nicks }
+{}
+
+/// What the core always keeps of its buffers, lines, nicklists and clients.
 pub fn core_keeps()
     ensures event { StepKeeps }
     ensures run { RunKeeps }
@@ -52,4 +71,5 @@ pub fn core_keeps()
 pub fn three_lines_settle()
     ensures lines { ThreeLinesSettle }
     ensures buffers { ThreeLinesSettleBuffers }
+    ensures nicks { ThreeLinesSettleNicks }
 {}

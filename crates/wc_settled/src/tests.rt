@@ -206,3 +206,78 @@ fn settled_clients_hold_no_lines_that_are_gone(rt: HostRuntime) -> Result<(), Fa
     assert!(rt; holds(rt.alloc(), &core, 1, CORE, "")?);
     Ok(())
 }
+
+/// What a client says to hold the nicklists from then on.
+const LISTS: &str = "init password=x\nsync\n(n) nicklist";
+
+/// The buffer that is added behind the second.
+const THIRD: u64 = 9;
+
+/// Whether a mirror holds a nicklist without rows of each of these buffers.
+fn has_empty_lists(mirror: &Mirror, buffers: &[u64]) -> bool {
+    for buffer in buffers {
+        match mirror.nicks(Handle(*buffer)) {
+            Some(list) if list.count() == 0 => {}
+            _ => return false,
+        }
+    }
+    true
+}
+
+/// Whether a mirror holds the nicklist of none of these buffers.
+fn lacks_lists(mirror: &Mirror, buffers: &[u64]) -> bool {
+    for buffer in buffers {
+        if mirror.nicks(Handle(*buffer)).is_some() {
+            return false;
+        }
+    }
+    true
+}
+
+/// Whether a client that took all its bytes holds a nicklist without rows of each of the first buffers, and none of the
+/// others.
+fn lists(
+    alloc: Global,
+    core: &Core,
+    number: u64,
+    listed: &[u64],
+    others: &[u64],
+) -> Result<bool, Fail> {
+    let mut mirror = empty_mirror(alloc)?;
+    take_all(
+        alloc,
+        &mut mirror,
+        core.unsent(LinkId(number)).unwrap_or(b""),
+    )?;
+    Ok(has_empty_lists(&mirror, listed) && lacks_lists(&mirror, others))
+}
+
+#[test]
+fn settled_clients_hold_the_nicklists_that_a_dump_gives(rt: HostRuntime) -> Result<(), Fail> {
+    let mut core = new_core(rt.alloc())?;
+    say(&mut core, 1, LISTS);
+    assert!(rt; lists(rt.alloc(), &core, 1, &[CORE], &[SECOND, THIRD])?);
+    say(&mut core, TYPIST, "input core.weechat /buffer add other");
+    assert!(rt; lists(rt.alloc(), &core, 1, &[CORE, SECOND], &[THIRD])?);
+    say(&mut core, TYPIST, "input core.weechat /buffer add third");
+    say(&mut core, TYPIST, "input core.other /buffer close");
+    core.tick(1700000000100);
+    say(&mut core, 2, LISTS);
+    for number in [1, 2] {
+        assert!(rt; lists(rt.alloc(), &core, number, &[CORE, THIRD], &[SECOND])?);
+    }
+    Ok(())
+}
+
+#[test]
+fn clients_that_did_not_settle_hold_other_nicklists(rt: HostRuntime) -> Result<(), Fail> {
+    let mut core = new_core(rt.alloc())?;
+    say(&mut core, 1, "init password=x\nsync");
+    say(&mut core, TYPIST, "input core.weechat /buffer add other");
+    say(&mut core, 2, LISTS);
+    say(&mut core, 2, "desync");
+    say(&mut core, TYPIST, "input core.other /buffer close");
+    assert!(rt; lists(rt.alloc(), &core, 1, &[], &[CORE, SECOND])?);
+    assert!(rt; lists(rt.alloc(), &core, 2, &[CORE, SECOND], &[])?);
+    Ok(())
+}

@@ -79,15 +79,19 @@ from all (g ∷ gs) number found =
 pub groups_dumped : (gs : Groups) → AreBuffers gs → all_items gs 1 (handles gs) ≡ dumped_groups 1 gs
 groups_dumped gs are = from gs gs 1 (rows_found gs are)
 
-lines_from : (world : World) (gs : Groups) → AllByRecursion (λ e. entry_of e.row.handle world.groups ≡ Some e) (rows gs)
-    → all_lines world (handles gs) ≡ flat_map (dumped_lines world) (rows gs)
-lines_from world [] found = refl
-lines_from world (g ∷ gs) found =
+each_from : (all : Groups) (told : BufferEntry → List HdaItem) (gs : Groups) → AllByRecursion (λ e. entry_of e.row.handle all ≡ Some e) (rows gs)
+    → flat_map (each_told all told) (handles gs) ≡ flat_map told (rows gs)
+each_from all told [] found = refl
+each_from all told (g ∷ gs) found =
     let parts = all_parts _ g (rows gs) found in
-    (λ i. group_told world.groups (dumped_lines world) g parts.0 i ++ lines_from world gs parts.1 i) ∙ sym (flat_map-append (dumped_lines world) g (rows gs))
+    (λ i. group_told all told g parts.0 i ++ each_from all told gs parts.1 i) ∙ sym (flat_map-append told g (rows gs))
+
+-- what is told of all buffers
+pub told_of_all : (gs : Groups) (told : BufferEntry → List HdaItem) → AreBuffers gs → flat_map (each_told gs told) (handles gs) ≡ flat_map told (rows gs)
+told_of_all gs told are = each_from gs told gs (rows_found gs are)
 
 pub lines_dumped : (world : World) → AreBuffers world.groups → line_dump world ≡ dump_of (all_lines world (handles world.groups))
-lines_dumped world are = ap dump_of (sym (lines_from world world.groups (rows_found world.groups are)))
+lines_dumped world are = ap dump_of (sym (told_of_all world.groups (dumped_lines world) are))
 
 -- ---- there are as many groups as buffers, or fewer
 

@@ -5,3 +5,6 @@ pub mod EventsFormed
 pub mod Formed
 pub mod LineBytes
 pub mod PartLemmas
+pub mod NickLemmas
+pub mod NicksFormed
+pub mod PushTexts

@@ -37,6 +37,9 @@ id_of kind.Cleared = codes "_buffer_cleared"
 id_of kind.Closing = codes "_buffer_closing"
 id_of kind.LineAdded = codes "_buffer_line_added"
 id_of kind.LineDataChanged = codes "_buffer_line_data_changed"
+id_of kind.Nicklist = codes "_nicklist"
+id_of kind.NicklistDiff = codes "_nicklist_diff"
+id_of kind.NickTouched = []
 
 -- ---- values
 
@@ -121,7 +124,7 @@ abbrev pub named_objects : Notice → List Object
 named_objects notice = about named_keys notice.buffer (named_values notice)
 
 -- The objects of the event of a notice, in the world behind the change. Flags of lines are told of each buffer by
--- itself, and nothing is told of a buffer that is not there.
+-- itself, nicklists are pushed, and nothing is told of a buffer that is not there.
 unfoldable pub objects_of : World → EventKind → Notice → Option (List Object)
 objects_of world kind.Opened notice = option_map (opened_objects notice) (entry_of notice.buffer world.groups)
 objects_of world kind.Moved notice = Some (placed_objects notice)
@@ -138,6 +141,9 @@ objects_of world kind.Cleared notice = Some (named_objects notice)
 objects_of world kind.Closing notice = Some (named_objects notice)
 objects_of world kind.LineAdded notice = option_map (added_objects notice.buffer) (newest (lines_at world notice.buffer.0))
 objects_of world kind.LineDataChanged notice = None
+objects_of world kind.Nicklist notice = None
+objects_of world kind.NicklistDiff notice = None
+objects_of world kind.NickTouched notice = None
 
 abbrev pub event_objects : World → Notice → Option (List Object)
 event_objects world notice = objects_of world notice.kind notice

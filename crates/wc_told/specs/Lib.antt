@@ -3,3 +3,5 @@ pub mod DumpBytes
 pub mod DumpParts
 pub mod Dumps
 pub mod LineObjects
+pub mod NickForms
+pub mod NickObjects

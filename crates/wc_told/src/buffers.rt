@@ -24,7 +24,7 @@ fn dumped_values(
     ensures { IfOk result (λ values. values ≡ dumped_values number (record { row = row.now; vars = vars.now })) }
 {
     let mut values = Items::new(alloc);
-    values.push(Object::Int(count(number)))?;
+    values.push(Object::Int(count(u64::from(number))))?;
     values.push(text(alloc, &row.full_name)?)?;
     values.push(text(alloc, &row.short_name)?)?;
     values.push(Object::Int(truth(row.hidden)))?;

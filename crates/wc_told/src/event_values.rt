@@ -16,7 +16,7 @@ pub(crate) fn named_values(alloc: Global, notice: &Notice) -> Result<Items<Objec
     ensures { IfOk result (λ values. values ≡ named_values notice.now) }
 {
     let mut values = Items::new(alloc);
-    values.push(Object::Int(count(notice.number)))?;
+    values.push(Object::Int(count(u64::from(notice.number))))?;
     values.push(text(alloc, &notice.full_name)?)?;
     Ok(values)
 }

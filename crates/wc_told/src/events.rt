@@ -137,7 +137,7 @@ fn newest_told(
 }
 
 /// The object of the event of a notice, in the world behind the change. None where nothing is told in one event: of
-/// flags of lines, and of a buffer or a line that is not there.
+/// flags of lines, of nicklists, which are pushed, and of a buffer or a line that is not there.
 #[tactic(auto, unfolding(crate::specs::BufferObjects::objects_of))]
 pub fn event_objects(
     alloc: Global,
@@ -162,6 +162,9 @@ pub fn event_objects(
         }
         EventKind::Cleared | EventKind::Closing => Ok(Some(named(alloc, notice)?)),
         EventKind::LineAdded => newest_told(alloc, world, notice.buffer),
-        EventKind::LineDataChanged => Ok(None),
+        EventKind::LineDataChanged
+        | EventKind::Nicklist
+        | EventKind::NicklistDiff
+        | EventKind::NickTouched => Ok(None),
     }
 }

@@ -4,7 +4,7 @@ ghost use Rattle.wc_told.specs.BufferObjects.{id_of};
 
 use wc_model::EventKind;
 
-/// The id under which an event is told.
+/// The id under which an event is told. A touch of a nicklist is told under none.
 pub fn event_id(kind: EventKind) -> &'static [u8]
     ensures id { result.now ≡ id_of kind }
     ensures text { IsUtf8 result.now }
@@ -25,5 +25,8 @@ pub fn event_id(kind: EventKind) -> &'static [u8]
         EventKind::Closing => b"_buffer_closing",
         EventKind::LineAdded => b"_buffer_line_added",
         EventKind::LineDataChanged => b"_buffer_line_data_changed",
+        EventKind::Nicklist => b"_nicklist",
+        EventKind::NicklistDiff => b"_nicklist_diff",
+        EventKind::NickTouched => b"",
     }
 }

@@ -1,4 +1,4 @@
-//! What a client of the relay is told of buffers and lines.
+//! What a client of the relay is told of buffers, lines and nicklists.
 #![tactic(auto)]
 
 mod buffers;
@@ -8,6 +8,7 @@ mod events;
 mod flags;
 mod ids;
 mod line_objects;
+mod nick_objects;
 mod standing;
 mod values;
 
@@ -17,6 +18,9 @@ pub use events::event_objects;
 pub use flags::flag_objects;
 pub use ids::event_id;
 pub use line_objects::{LINE_ADDED, line_added};
+pub use nick_objects::{nick_dump, nick_list, push_kind, push_objects};
 
+#[cfg(test)]
+mod nick_tests;
 #[cfg(test)]
 mod tests;

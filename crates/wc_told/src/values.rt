@@ -15,7 +15,7 @@ pub(crate) fn truth(on: bool) -> i32
 }
 
 /// A number. One that is greater than the protocol can say counts as the greatest.
-pub(crate) fn count(number: u32) -> i32
+pub(crate) fn count(number: u64) -> i32
     ensures { result ≡ count number }
 {
     i32::try_from(number).unwrap_or(i32::MAX)

@@ -16,7 +16,7 @@ use Rattle.wc_buffers.proofs.RefusalLemmas.{there_good, close_good, move_good, m
 use Rattle.wc_world.proofs.GroupRows.{row_of-append, or_some, no_row, some_row, merged_apart, has-take_out, row_of-update}
 use Rattle.wc_model.specs.declared.change.Flip.{Flip}
 use Rattle.wc_model.specs.declared.change.What.{What}
-use Rattle.wc_model.specs.declared.change.What.TheVariants.{Add, Close, MoveTo, MergeInto, Unmerge, Hide, Unhide, Rename, ShortName, Title, SetVar, RemoveVar, Print, Clear, Flips}
+use Rattle.wc_model.specs.declared.change.What.TheVariants.{Add, Close, MoveTo, MergeInto, Unmerge, Hide, Unhide, Rename, ShortName, Title, SetVar, RemoveVar, Print, Clear, Flips, AddGroup, AddNick, RemoveGroup, RemoveNick, ChangeGroup, ChangeNick}
 use Rattle.wc_model.specs.declared.notice.EventKind.{EventKind}
 use Rattle.wc_model.specs.declared.notice.EventKind.TheVariants as event
 use Rattle.wc_model.specs.declared.notice.Notice.{Notice}
@@ -354,6 +354,9 @@ other_message id part event.VarAdded objects free e = absurd (let z = e in cc)
 other_message id part event.VarChanged objects free e = absurd (let z = e in cc)
 other_message id part event.VarRemoved objects free e = absurd (let z = e in cc)
 other_message id part event.Closing objects free e = absurd (let z = e in cc)
+other_message id part event.Nicklist objects free e = absurd (let z = e in cc)
+other_message id part event.NicklistDiff objects free e = absurd (let z = e in cc)
+other_message id part event.NickTouched objects free e = absurd (let z = e in cc)
 
 other_told : (id : List ℕ) (part : Option Groups) (kind : EventKind) (objects : Option (List Object)) → IsFree id → lines_alone kind ≡ true → fold_told_buffers id part (option_map (message_of kind) objects) ≡ part
 other_told id part kind None free e = refl
@@ -363,7 +366,7 @@ abbrev objects_told : World → Handle → What → Option (List Object)
 objects_told world buffer what = event_objects (after_of world buffer what) (notice_of world (after_of world buffer what) buffer what)
 
 change_shows : (id : List ℕ) (world : World) (buffer : Handle) (what : What) → AreGrouped world → IsFree id → refusal_of world buffer what ≡ None → Shown id world buffer what
-unfolding after_of
+unfolding after_of objects_of
 change_shows id world buffer (Add spec) are free ok = open_shows id world buffer spec are free
 change_shows id world buffer Close are free ok = close_shows id world buffer are free ok
 change_shows id world buffer (MoveTo n) are free ok = move_shows id world buffer n are free ok
@@ -379,6 +382,12 @@ change_shows id world buffer (RemoveVar name) are free ok = remove_var_shows id 
 change_shows id world buffer (Print line) are free ok = other_told id (Some (shown_groups world.groups)) event.LineAdded (objects_told world buffer (Print line)) free refl
 change_shows id world buffer Clear are free ok = other_told id (Some (shown_groups world.groups)) event.Cleared (objects_told world buffer Clear) free refl
 change_shows id world buffer (Flips flips) are free ok = other_told id (Some (shown_groups world.groups)) event.LineDataChanged (objects_told world buffer (Flips flips)) free refl
+change_shows id world buffer (AddGroup parent item) are free ok = refl
+change_shows id world buffer (AddNick group item) are free ok = refl
+change_shows id world buffer (RemoveGroup name) are free ok = refl
+change_shows id world buffer (RemoveNick name) are free ok = refl
+change_shows id world buffer (ChangeGroup item) are free ok = refl
+change_shows id world buffer (ChangeNick item) are free ok = refl
 
 pub notice_shows : BufferNoticeShows
 notice_shows id part world change are free accepted had =

@@ -128,11 +128,13 @@ Folds id part kind objects told = fold_buffers id part (message_of kind objects)
 folded : (kind : EventKind) (told : Option Carried) (part : Option Groups) (is : Carried) → told ≡ Some is → changed_by kind told part ≡ option_map (with_event kind is) part
 folded kind told part is e = ap (λ t. changed_by kind t part) e
 
-pub opened_folds : (id : List ℕ) (part : Option Groups) (notice : Notice) (e : BufferEntry) → IsFree id → Folds id part event.Opened (opened_objects notice e) (opened_told notice e)
+pub opened_by : (notice : Notice) (e : BufferEntry) → told_by event.Opened (opened_objects notice e) ≡ Some (opened_told notice e)
 unfolding told_by
+opened_by notice e = read_about (fields_of event.Opened) opened_keys notice.buffer (opened_values notice e) refl ∙ opened_read notice e
+
+pub opened_folds : (id : List ℕ) (part : Option Groups) (notice : Notice) (e : BufferEntry) → IsFree id → Folds id part event.Opened (opened_objects notice e) (opened_told notice e)
 opened_folds id part notice e free =
-    rw (other_id (codes "buffer_opened") id free) (folded event.Opened _ part (opened_told notice e)
-    (read_about (fields_of event.Opened) opened_keys notice.buffer (opened_values notice e) refl ∙ opened_read notice e))
+    rw (other_id (codes "buffer_opened") id free) (folded event.Opened _ part (opened_told notice e) (opened_by notice e))
 
 pub renamed_folds : (id : List ℕ) (part : Option Groups) (notice : Notice) (e : BufferEntry) → IsFree id → Folds id part event.Renamed (renamed_objects notice e) (renamed_told notice e)
 unfolding told_by

@@ -3,7 +3,7 @@ use Rattle.std.proofs.Common.{◌≡◌, ℕ, zero, suc, ◌+◌, ◌<◌, List,
 use Rattle.std.proofs.lemmas.List.{append_assoc, append-nil}
 use Rattle.wc_view.specs.Each.{onto, each, behind}
 
-behind_onto : {A : Type 0} (front : List A) (y : A) (rest : Option (List A)) → behind (front ++ y ∷ []) rest ≡ behind front (onto (Some y) rest)
+pub behind_onto : {A : Type 0} (front : List A) (y : A) (rest : Option (List A)) → behind (front ++ y ∷ []) rest ≡ behind front (onto (Some y) rest)
 behind_onto front y None = refl
 behind_onto front y (Some ys) = ap Some (append_assoc front (y ∷ []) ys)
 

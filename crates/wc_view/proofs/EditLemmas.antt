@@ -12,10 +12,10 @@ use Rattle.wc_view.specs.Parts.{without, flagged, flagged_in, with_flag}
 use Rattle.wc_view.proofs.EntryLemmas.{by_bool, tied, find_here, entry_set}
 
 -- ---- a buffer that goes
-abbrev pub is_other : ℕ → Entry → Bool
+abbrev pub is_other : {V : Type 0} → ℕ → ℕ × V → Bool
 is_other buffer entry = not (eqb entry.0 buffer)
 
-found_else : (q h : ℕ) (es : List Entry) → find nat_cmp q (filter (is_other h) es) ≡ cond (eqb q h) None (find nat_cmp q es)
+pub found_else : {V : Type 0} (q h : ℕ) (es : List (ℕ × V)) → find nat_cmp q (filter (is_other h) es) ≡ cond (eqb q h) None (find nat_cmp q es)
 found_else q h [] = by_bool (eqb q h) _ (λ t. rw t refl) (λ t. rw t refl)
 found_else q h (e ∷ es) = by_bool (eqb e.0 h) _
     (λ t. rw t (found_else q h es ∙ by_bool (eqb q h) _

@@ -28,24 +28,24 @@ last_shorter n (x ∷ xs) l = let e : length (x ∷ xs) - n ≡ suc (length xs -
 pub tied : (q h : ℕ) → eq_by_cmp nat_cmp q h ≡ eqb q h
 tied q h = unsigned_tied q h
 
-find_more_in : (h : ℕ) (xs : List Entry) (e : Entry) → eqb e.0 h ≡ false → find nat_cmp h xs ≡ None → find nat_cmp h (xs ++ e ∷ []) ≡ None
+find_more_in : {V : Type 0} (h : ℕ) (xs : List (ℕ × V)) (e : ℕ × V) → eqb e.0 h ≡ false → find nat_cmp h xs ≡ None → find nat_cmp h (xs ++ e ∷ []) ≡ None
 find_more_in h [] e t n = let z : eqb h e.0 ≡ false = grind (arith, nat_tests) in rw (tied h e.0, z) refl
 find_more_in h (x ∷ xs) e t n = by_bool (eq_by_cmp nat_cmp h x.0) _
     (λ u. absurd (let z : Some x.1 ≡ None = rw u at n in cc))
     (λ u. rw u (find_more_in h xs e t (rw u at n)))
 
-pub find_more : (h i : ℕ) (es : List Entry) (e : Entry) → i < length es → e ≡ get_or es i e → eqb e.0 h ≡ false → find nat_cmp h (take i es) ≡ None → find nat_cmp h (take (i + 1) es) ≡ None
+pub find_more : {V : Type 0} (h i : ℕ) (es : List (ℕ × V)) (e : ℕ × V) → i < length es → e ≡ get_or es i e → eqb e.0 h ≡ false → find nat_cmp h (take i es) ≡ None → find nat_cmp h (take (i + 1) es) ≡ None
 find_more h i es e l is t n = ap (find nat_cmp h) (take_more es i e l) ∙ find_more_in h (take i es) (get_or es i e) (ap (λ z. eqb z.0 h) (sym is) ∙ t) n
 
 -- the entry at a place
-pub find_here : (h i : ℕ) (es : List Entry) (d : Entry) → i < length es → (get_or es i d).0 ≡ h → find nat_cmp h (take i es) ≡ None → find nat_cmp h es ≡ Some (get_or es i d).1
+pub find_here : {V : Type 0} (h i : ℕ) (es : List (ℕ × V)) (d : ℕ × V) → i < length es → (get_or es i d).0 ≡ h → find nat_cmp h (take i es) ≡ None → find nat_cmp h es ≡ Some (get_or es i d).1
 find_here h i [] d l a b = absurd (omega arith)
 find_here h zero (e ∷ es) d l a b = rw (tied h e.0, eq-eqb h e.0 (sym a)) refl
 find_here h (suc i) (e ∷ es) d l a b = by_bool (eq_by_cmp nat_cmp h e.0) _
     (λ t. absurd (let z : Some e.1 ≡ None = rw t at b in cc))
     (λ t. rw t (find_here h i es d (omega arith) a (rw t at b)))
 
-find_set : (h i q : ℕ) (es : List Entry) (v : List MirrorLine) (d : Entry) → i < length es → (get_or es i d).0 ≡ h → find nat_cmp h (take i es) ≡ None
+pub find_set : {V : Type 0} (h i q : ℕ) (es : List (ℕ × V)) (v : V) (d : ℕ × V) → i < length es → (get_or es i d).0 ≡ h → find nat_cmp h (take i es) ≡ None
     → find nat_cmp q (set es i (h, v)) ≡ cond (eq_by_cmp nat_cmp q h) (Some v) (find nat_cmp q es)
 find_set h i q [] v d l a b = absurd (omega arith)
 find_set h zero q (e ∷ es) v d l a b = by_bool (eqb q h) _

@@ -19,7 +19,7 @@ use Rattle.wc_buffers.specs.Calls.{Groups, handle_of, changed, with_full_name}
 use Rattle.wc_buffers.proofs.GroupLaws.{has-map}
 use Rattle.wc_model.specs.declared.change.Flip.{Flip}
 use Rattle.wc_model.specs.declared.change.What.{What}
-use Rattle.wc_model.specs.declared.change.What.TheVariants.{Add, Close, MoveTo, MergeInto, Unmerge, Hide, Unhide, Rename, ShortName, Title, SetVar, RemoveVar, Print, Clear, Flips}
+use Rattle.wc_model.specs.declared.change.What.TheVariants.{Add, Close, MoveTo, MergeInto, Unmerge, Hide, Unhide, Rename, ShortName, Title, SetVar, RemoveVar, Print, Clear, Flips, AddGroup, AddNick, RemoveGroup, RemoveNick, ChangeGroup, ChangeNick}
 use Rattle.wc_model.specs.declared.notice.EventKind.TheVariants as kind
 use Rattle.wc_model.specs.World.{World, lines_at as lines_in}
 use Rattle.wc_model.specs.Order.{order}
@@ -479,6 +479,12 @@ all_show limit id part world buffer (Print line) stands limited free apart had =
 all_show limit id part world buffer Clear stands limited free apart had = plain_shows limit id part world buffer Clear stands limited free apart tt had
 all_show limit id part world buffer (Rename name flips) stands limited free apart had = renamed_shows limit id part world buffer name flips stands free apart had
 all_show limit id part world buffer (Flips flips) stands limited free apart had = flips_shows limit id part world buffer flips stands free apart had
+all_show limit id part world buffer (AddGroup parent item) stands limited free apart had = plain_shows limit id part world buffer (AddGroup parent item) stands limited free apart tt had
+all_show limit id part world buffer (AddNick group item) stands limited free apart had = plain_shows limit id part world buffer (AddNick group item) stands limited free apart tt had
+all_show limit id part world buffer (RemoveGroup name) stands limited free apart had = plain_shows limit id part world buffer (RemoveGroup name) stands limited free apart tt had
+all_show limit id part world buffer (RemoveNick name) stands limited free apart had = plain_shows limit id part world buffer (RemoveNick name) stands limited free apart tt had
+all_show limit id part world buffer (ChangeGroup item) stands limited free apart had = plain_shows limit id part world buffer (ChangeGroup item) stands limited free apart tt had
+all_show limit id part world buffer (ChangeNick item) stands limited free apart had = plain_shows limit id part world buffer (ChangeNick item) stands limited free apart tt had
 
 pub flips_show : FlipsShow
 flips_show limit id part world change stands limited free accepted apart had = all_show limit id part world change.buffer change.what stands limited free apart had

@@ -16,7 +16,7 @@ use Rattle.wc_buffers.specs.Calls.{handle_of, lacks_var, entry_of}
 use Rattle.wc_model.specs.declared.change.Flip.{Flip}
 use Rattle.wc_model.specs.declared.change.LineSpec.{LineSpec}
 use Rattle.wc_model.specs.declared.change.What.{What}
-use Rattle.wc_model.specs.declared.change.What.TheVariants.{Add, Close, MoveTo, MergeInto, Unmerge, Hide, Unhide, Rename, ShortName, Title, SetVar, RemoveVar, Print, Clear, Flips}
+use Rattle.wc_model.specs.declared.change.What.TheVariants.{Add, Close, MoveTo, MergeInto, Unmerge, Hide, Unhide, Rename, ShortName, Title, SetVar, RemoveVar, Print, Clear, Flips, AddGroup, AddNick, RemoveGroup, RemoveNick, ChangeGroup, ChangeNick}
 use Rattle.wc_model.specs.declared.notice.EventKind.{EventKind}
 use Rattle.wc_model.specs.declared.notice.EventKind.TheVariants as kind
 use Rattle.wc_model.specs.declared.notice.Notice.{Notice}
@@ -40,12 +40,13 @@ pub other_id : (rest id : List ℕ) → IsFree id → bytes_eq (95 ∷ rest) id 
 other_id rest [] free = refl
 other_id rest (b ∷ id) free = let e : eqb 95 b ≡ false = grind (arith, nat_tests) in rw e refl
 
--- the events that change no lines
+-- the events that change no lines; a touch of a nicklist is no event
 abbrev pub quiet : EventKind → Bool
 quiet kind.Cleared = false
 quiet kind.Closing = false
 quiet kind.LineAdded = false
 quiet kind.LineDataChanged = false
+quiet kind.NickTouched = false
 quiet _ = true
 
 var_quiet : (b : Bool) → quiet (var_kind b) ≡ true
@@ -72,6 +73,9 @@ quiet_message limit id part kind.Cleared objects q free = absurd (let z = q in c
 quiet_message limit id part kind.Closing objects q free = absurd (let z = q in cc)
 quiet_message limit id part kind.LineAdded objects q free = absurd (let z = q in cc)
 quiet_message limit id part kind.LineDataChanged objects q free = absurd (let z = q in cc)
+quiet_message limit id part kind.Nicklist objects q free = rw (other_id (codes "nicklist") id free) refl
+quiet_message limit id part kind.NicklistDiff objects q free = rw (other_id (codes "nicklist_diff") id free) refl
+quiet_message limit id part kind.NickTouched objects q free = absurd (let z = q in cc)
 
 pub quiet_told : (limit : ℕ) (id : List ℕ) (part : Option Part) (kind : EventKind) (objects : Option (List Object)) → quiet kind ≡ true → IsFree id
     → fold_told limit id part (option_map (message_of kind) objects) ≡ part
@@ -283,6 +287,12 @@ change_shows limit id part world buffer (Print line) stands limited free plain h
 change_shows limit id part world buffer Clear stands limited free plain had =
     subst (λ p. HasAll p (after_of world buffer Clear)) (sym (cleared_told limit id part _ free)) (emptied_shows part world (after_of world buffer Clear) buffer.0 (inserted world (after_of world buffer Clear) buffer.0 [] refl) had)
 change_shows limit id part world buffer (Flips flips) stands limited free plain had = absurd plain
+change_shows limit id part world buffer (AddGroup parent item) stands limited free plain had = had
+change_shows limit id part world buffer (AddNick group item) stands limited free plain had = had
+change_shows limit id part world buffer (RemoveGroup name) stands limited free plain had = had
+change_shows limit id part world buffer (RemoveNick name) stands limited free plain had = had
+change_shows limit id part world buffer (ChangeGroup item) stands limited free plain had = had
+change_shows limit id part world buffer (ChangeNick item) stands limited free plain had = had
 
 pub notice_shows : NoticeShows
 notice_shows limit id part world change stands limited free accepted plain had = change_shows limit id part world change.buffer change.what stands limited free plain had

@@ -1,22 +1,27 @@
 -- What a client makes of the bytes that it takes.
 use Rattle.std.proofs.Common.{◌≡◌, ℕ, List, Option, Some, None, refl, sym, subst}
-use Rattle.std.specs.Prelude.{Result, Ok, Err, IsTrue, OnErr}
+use Rattle.std.specs.Prelude.{true, Result, Ok, Err, IsTrue, IfOk, IfSome, OnErr}
 use Rattle.wc_objects.specs.declared.object.WireMessage.{WireMessage}
 use Rattle.wc_objects.specs.declared.read.MessageRefused.{MessageRefused}
 use Rattle.wc_objects.specs.declared.read.MessageRefused.TheVariants.{BadAt}
+use Rattle.wc_objects.specs.Forms.{well_formed}
 use Rattle.wc_objects.specs.Reading.{GivesFirst, first_message}
 use Rattle.wc_objects.specs.Spells.{FrontSpells, misses_bytes}
 use Rattle.wc_objects.proofs.Fronts.{only, missing}
 use Rattle.wc_view.specs.declared.mirror.MirrorRefused.{MirrorRefused}
-use Rattle.wc_view.specs.declared.mirror.MirrorRefused.TheVariants.{BadMessage, NoMemory}
-use Rattle.wc_view.specs.Taking.{Mirrored, with_message, Takes}
+use Rattle.wc_view.specs.declared.mirror.MirrorRefused.TheVariants.{BadMessage, BadDiff, NoMemory}
+use Rattle.wc_view.specs.Taking.{Mirrored, folded, Takes}
 
 abbrev pub Front : Type 0
 Front = Option (WireMessage × ℕ)
 
 pub takes_found : (read : Result Front ℕ) (message : WireMessage) (size : ℕ) (old new : Mirrored) → read ≡ Ok (Some (message, size))
-    → new ≡ with_message old message → Takes (Ok size) old new read
+    → folded old message ≡ Ok new → Takes (Ok size) old new read
 takes_found read message size old new is e = subst (Takes (Ok size) old new) (sym is) (refl, e)
+
+pub takes_refused : (read : Result Front ℕ) (message : WireMessage) (size place : ℕ) (old new : Mirrored) → read ≡ Ok (Some (message, size))
+    → folded old message ≡ Err place → new ≡ old → Takes (Err (BadDiff place)) old new read
+takes_refused read message size place old new is e same = subst (Takes (Err (BadDiff place)) old new) (sym is) (e, same)
 
 pub takes_none : (read : Result Front ℕ) (old new : Mirrored) → read ≡ Ok None → new ≡ old → Takes (Ok 0) old new read
 takes_none read old new is e = subst (Takes (Ok 0) old new) (sym is) (refl, e)
@@ -30,6 +35,9 @@ unchanged (Ok size) read old new t = tt
 unchanged (Err NoMemory) read old new t = t
 unchanged (Err (BadMessage at)) (Err place) old new t = t.1
 unchanged (Err (BadMessage at)) (Ok front) old new t = absurd t
+unchanged (Err (BadDiff at)) (Ok (Some found)) old new t = t.1
+unchanged (Err (BadDiff at)) (Ok None) old new t = absurd t
+unchanged (Err (BadDiff at)) (Err place) old new t = absurd t
 
 -- reading as a call answers it where memory is found
 abbrev pub answered : Result Front ℕ → Result Front MessageRefused
@@ -61,3 +69,10 @@ takes_spelt bytes result old new t message size f = subst (Takes result old new)
 pub takes_missing : (bytes : List ℕ) (result : Result ℕ MirrorRefused) (old new : Mirrored) → Takes result old new (first_message bytes)
     → IsTrue (misses_bytes bytes) → Takes result old new (Ok None)
 takes_missing bytes result old new t m = subst (Takes result old new) (missing_first bytes m) t
+
+-- what is read keeps the rules of its types
+pub front_formed : {E : Type 0} (result : Result Front E) (bytes : List ℕ) → IfOk result (λ front. IfSome front (λ found. FrontSpells found.0 found.1 bytes))
+    → IfOk result (λ front. IfSome front (λ found. well_formed found.0.objects ≡ true))
+front_formed (Ok (Some found)) bytes h = h.spells.formed
+front_formed (Ok None) bytes h = tt
+front_formed (Err e) bytes h = tt

@@ -10,6 +10,13 @@ pub mod Grouped
 pub mod Ids
 pub mod Items
 pub mod Named
+pub mod NickEntries
+pub mod NickFold
+pub mod NickGroups
+pub mod NickLists
+pub mod NickRows
+pub mod NickSteps
+pub mod NickViews
 pub mod Parts
 pub mod Rows
 pub mod Runs

@@ -2,6 +2,7 @@
 #![tactic(auto)]
 
 mod buffer_lines;
+mod buffer_nicks;
 mod carried;
 mod flags;
 mod grouped;
@@ -10,7 +11,14 @@ mod laws;
 mod mirror;
 mod mirror_buffer;
 mod mirror_line;
+mod mirror_lines;
+mod mirror_nicks;
 mod named;
+mod nick_groups;
+mod nick_items;
+mod nick_laws;
+mod nick_list;
+mod nick_rows;
 mod rows;
 mod told;
 mod values;
@@ -22,10 +30,15 @@ pub use laws::{
 pub use mirror::{Mirror, MirrorRefused};
 pub use mirror_buffer::{MirrorBuffer, SharedBuffer};
 pub use mirror_line::MirrorLine;
+pub use nick_laws::{dump_shows_nicks, notice_shows_nicks, push_shows_nicks};
 
 #[cfg(test)]
 mod buffer_messages;
 #[cfg(test)]
 mod buffer_tests;
+#[cfg(test)]
+mod nick_messages;
+#[cfg(test)]
+mod nick_tests;
 #[cfg(test)]
 mod tests;

@@ -1,27 +1,30 @@
-ghost use Rattle.std.specs.Prelude.{◌≡◌, ℕ, ◌≤◌, List, Option, Some, None, Ok, Err, [], option_map, slice_index_or, IfOk, OnOk, OnErr, IsTrue};
+ghost use Rattle.std.specs.Prelude.{◌≡◌, ℕ, ◌≤◌, Some, None, Ok, [], true, option_map, slice_index_or, IfOk, IfErr, IfSome, OnOk, OnErr, IsTrue};
+ghost use Rattle.std.specs.Option.{option_and_then};
+ghost use Rattle.std.specs.FinMap.{get};
 ghost use Rattle.wc_objects.specs.declared.object.WireMessage.{WireMessage};
+ghost use Rattle.wc_objects.specs.Forms.{well_formed};
 ghost use Rattle.wc_objects.specs.Spells.{FrontSpells, misses_bytes};
 ghost use Rattle.wc_objects.specs.Reading.{GivesFirst, first_message};
 ghost use Rattle.wc_view.specs.BufferFold.{fold_buffers};
-ghost use Rattle.wc_view.specs.Fold.{empties};
 ghost use Rattle.wc_view.specs.Runs.{or_kept};
 ghost use Rattle.wc_view.specs.Ids.{AreIds};
-ghost use Rattle.wc_view.specs.Parts.{Part, lines_at};
-ghost use Rattle.wc_view.specs.Taking.{Mirrored, nothing_taken, with_dump, with_added, with_emptied, with_shown, with_change, with_event, with_lines, with_message, Takes};
+ghost use Rattle.wc_view.specs.NickSteps.{Refuses};
+ghost use Rattle.wc_view.specs.Parts.{lines_at};
+ghost use Rattle.wc_view.specs.Taking.{nothing_taken, folded, Takes};
 
-use crate::buffer_lines::{BufferLines, add_row, lines_of, of_rows, remove_buffer, set_flags};
-use crate::flags::flags_on;
+use crate::buffer_lines::{BufferLines, lines_of};
+use crate::buffer_nicks::{BufferNicks, nicklist_of};
 use crate::mirror_buffer::SharedBuffer;
 use crate::mirror_line::MirrorLine;
-use crate::named::buffer_named;
-use crate::rows::{only_row, rows_on};
+use crate::mirror_lines::fold_lines;
+use crate::mirror_nicks::{make_room, nick_step, take_step};
 use crate::told::{dump_told, event_told};
 use std::alloc::Global;
 use std::marker::Model;
-use wc_model::EventKind;
+use wc_nickdiff::DiffRefused;
+use wc_nicklist::Nicklist;
 use wc_objects::{MessageRefused, WireMessage, read_message};
 use wc_text::{Handle, Items, NoMemory, Text};
-use wc_told::event_id;
 
 /// Why bytes were not taken.
 #[derive(Clone, Copy, Debug, PartialEq, Eq, thiserror::Error)]
@@ -29,20 +32,25 @@ pub enum MirrorRefused {
     /// The first field that breaks a rule begins at this place. It is 0 for a length that no message has.
     #[error("a field breaks a rule at byte {place}")]
     BadMessage { place: usize },
+    /// The item at this place of a diff, from 0, can't be applied to the nicklist that is held.
+    #[error("item {place} of a diff can't be applied")]
+    BadDiff { place: u64 },
     #[error("out of memory")]
     NoMemory,
 }
 
 /// A client's mirror: what it holds by the messages that a relay sent it. Contracts see the limit on the lines of
-/// a buffer, the ids of the dumps of buffers and of lines, and once they were taken, the buffers in groups and the lines
-/// of each buffer.
+/// a buffer, the ids of the dumps of buffers, of lines and of nicklists, and once they were taken, the buffers in groups,
+/// the lines of each buffer and the rows of its nicklist.
 #[derive(Drop)]
 pub struct Mirror {
     limit: usize,
     buffer_dump: Text,
     line_dump: Text,
+    nick_dump: Text,
     buffers: Option<Items<Items<SharedBuffer>>>,
     lines: Option<Vec<BufferLines>>,
+    nicks: Option<Vec<BufferNicks>>,
 }
 
 impl Model for Mirror {
@@ -50,13 +58,14 @@ impl Model for Mirror {
     ghost use Rattle.std.specs.Coded.{codes};
     ghost use Rattle.std.specs.FinMap as map;
     ghost use Rattle.wc_view.specs.Entries.{part_at};
+    ghost use Rattle.wc_view.specs.NickEntries.{nicks_at};
     ghost use Rattle.wc_view.specs.Taking.{Mirrored};
 
     ghost Value = { Mirrored };
 
     ghost coded = { Prim.hlevel (codes, map.code) };
 
-    ghost view = { λ m. record { limit = m.limit; buffer_dump = m.buffer_dump; line_dump = m.line_dump; buffers = m.buffers; lines = option_map (λ v. part_at v.items) m.lines } };
+    ghost view = { λ m. record { limit = m.limit; buffer_dump = m.buffer_dump; line_dump = m.line_dump; nick_dump = m.nick_dump; buffers = m.buffers; lines = option_map (λ v. part_at v.items) m.lines; nicks = option_map (λ v. nicks_at v.items) m.nicks } };
 }
 
 impl Mirror {
@@ -65,16 +74,19 @@ impl Mirror {
     pub fn new(alloc: Global, limit: u32, ids: [Text; 3]) -> Result<Mirror, NoMemory>
         requires some { 1 ≤ limit }
         requires ids { AreIds ids }
-        ensures { IfOk result (λ mirror. mirror ≡ nothing_taken limit (slice_index_or ids 0 []) (slice_index_or ids 1 [])) }
+        ensures { IfOk result (λ mirror. mirror ≡ nothing_taken limit (slice_index_or ids 0 []) (slice_index_or ids 1 []) (slice_index_or ids 2 [])) }
     {
         let buffer_dump = ids[0].copy(alloc)?;
         let line_dump = ids[1].copy(alloc)?;
+        let nick_dump = ids[2].copy(alloc)?;
         Ok(Mirror {
             limit: limit as usize,
             buffer_dump,
             line_dump,
+            nick_dump,
             buffers: None,
             lines: None,
+            nicks: None,
         })
     }
 
@@ -96,98 +108,14 @@ impl Mirror {
         }
     }
 
-    /// The dump of lines sets them.
-    fn take_dump(&mut self, alloc: Global, message: &WireMessage) -> Result<(), NoMemory>
-        ensures ok { OnOk result (self.new ≡ with_dump self.old message.now) }
-        ensures err { OnErr result (self.new ≡ self.old) }
+    /// The nicklist of a buffer. None where the nicklist dump was not taken, or the buffer is not there.
+    pub fn nicks(&self, buffer: Handle) -> Option<&Nicklist>
+        ensures { option_map (λ list. list.now.rows) result ≡ option_and_then (λ part. get part buffer.0) self.now.nicks }
     {
-        let path = b"buffer/lines/line/line_data";
-        let Some(rows) = rows_on(alloc, path, &message.objects)? else {
-            return Ok(());
-        };
-        let entries = of_rows(alloc, rows, self.limit)?;
-        self.lines = Some(entries);
-        Ok(())
-    }
-
-    /// A new line goes behind those of its buffer, once the dump was taken.
-    fn take_line(&mut self, alloc: Global, message: &WireMessage) -> Result<(), NoMemory>
-        ensures ok { OnOk result (self.new ≡ with_added self.old message.now) }
-        ensures err { OnErr result (self.new ≡ self.old) }
-    {
-        let Some(held) = &mut self.lines else {
-            return Ok(());
-        };
-        let Some(rows) = rows_on(alloc, b"line_data", &message.objects)? else {
-            return Ok(());
-        };
-        match only_row(rows) {
-            Some(row) => add_row(held, alloc, row, self.limit),
-            None => Ok(()),
+        match &self.nicks {
+            Some(entries) => nicklist_of(entries.as_slice(), buffer.0),
+            None => None,
         }
-    }
-
-    /// A buffer that is closed or cleared has no lines any more, once the dump was taken.
-    fn take_emptied(&mut self, message: &WireMessage)
-        ensures { self.new ≡ with_emptied self.old message.now }
-    {
-        let Some(entries) = &mut self.lines else {
-            return;
-        };
-        if let Some(buffer) = buffer_named(&message.objects) {
-            remove_buffer(entries, buffer);
-        }
-    }
-
-    /// Flags of lines are set, once the dump was taken.
-    fn take_flags(&mut self, alloc: Global, message: &WireMessage) -> Result<(), NoMemory>
-        ensures ok { OnOk result (self.new ≡ with_shown self.old message.now) }
-        ensures err { OnErr result (self.new ≡ self.old) }
-    {
-        let Some(entries) = &mut self.lines else {
-            return Ok(());
-        };
-        if let Some(flags) = flags_on(alloc, &message.objects)? {
-            set_flags(entries.as_mut_slice(), flags.as_slice());
-        }
-        Ok(())
-    }
-
-    /// Folds the event of a change of lines that are held.
-    fn take_change(&mut self, alloc: Global, message: &WireMessage) -> Result<(), NoMemory>
-        ensures ok { OnOk result (self.new ≡ with_change self.old message.now) }
-        ensures err { OnErr result (self.new ≡ self.old) }
-    {
-        if empties(message.id.as_slice()) {
-            self.take_emptied(message);
-            return Ok(());
-        }
-        if message.id.as_slice() == event_id(EventKind::LineDataChanged) {
-            return self.take_flags(alloc, message);
-        }
-        Ok(())
-    }
-
-    /// Folds an event.
-    fn take_event(&mut self, alloc: Global, message: &WireMessage) -> Result<(), NoMemory>
-        ensures ok { OnOk result (self.new ≡ with_event self.old message.now) }
-        ensures err { OnErr result (self.new ≡ self.old) }
-    {
-        if message.id.as_slice() == event_id(EventKind::LineAdded) {
-            return self.take_line(alloc, message);
-        }
-        self.take_change(alloc, message)
-    }
-
-    /// Folds what a message tells of lines. Where memory is refused, nothing changes.
-    fn fold_lines(&mut self, alloc: Global, message: &WireMessage) -> Result<(), NoMemory>
-        ensures ok { OnOk result (self.new ≡ with_lines self.old message.now) }
-        ensures err { OnErr result (self.new ≡ self.old) }
-    {
-        if message.id.as_slice() == self.line_dump.as_slice() {
-            return self.take_dump(alloc, message);
-        }
-        self.take_event(alloc, message)
     }
 
     /// The groups of buffers that a message tells. None where they stay as they are.
@@ -208,28 +136,33 @@ impl Mirror {
         }
     }
 
-    /// Folds a message. Where memory is refused, nothing changes.
-    fn fold(&mut self, alloc: Global, message: &WireMessage) -> Result<(), NoMemory>
-        ensures ok { OnOk result (self.new ≡ with_message self.old message.now) }
+    /// Folds a message. `BadItem` where it is a diff that can't be applied. Nothing changes after a refusal.
+    #[tactic(auto, using(crate::proofs::FoldLemmas::fold_done, crate::proofs::FoldLemmas::fold_refused))]
+    fn fold(&mut self, alloc: Global, message: &WireMessage) -> Result<(), DiffRefused>
+        requires { well_formed message.now.objects ≡ true }
+        ensures ok { OnOk result (folded self.old message.now ≡ Ok self.new) }
+        ensures refused { IfErr result (λ e. Refuses e (folded self.old message.now)) }
         ensures err { OnErr result (self.new ≡ self.old) }
     {
         let groups = self.told_groups(alloc, message)?;
-        self.fold_lines(alloc, message)?;
-        if let Some(groups) = groups {
-            self.buffers = Some(groups);
-        }
+        let step = nick_step(alloc, &self.nick_dump, &self.nicks, message)?;
+        make_room(&mut self.nicks)?;
+        fold_lines(&mut self.lines, alloc, self.limit, &self.line_dump, message)?;
+        take_step(&mut self.nicks, step);
+        put_groups(&mut self.buffers, groups);
         Ok(())
     }
 
     /// Folds the message at the front of the bytes, as `take` does.
-    #[tactic(auto, using(crate::proofs::TakeLemmas::takes_found, crate::proofs::TakeLemmas::takes_none, crate::proofs::TakeLemmas::takes_bad))]
+    #[tactic(auto, using(crate::proofs::TakeLemmas::takes_found, crate::proofs::TakeLemmas::takes_none, crate::proofs::TakeLemmas::takes_bad, crate::proofs::TakeLemmas::takes_refused))]
     fn take_front(&mut self, alloc: Global, bytes: &[u8]) -> Result<usize, MirrorRefused>
         ensures { Takes result self.old self.new (first_message bytes.now) }
     {
         match front_of(alloc, bytes) {
             Ok(Some((message, size))) => match self.fold(alloc, &message) {
                 Ok(()) => Ok(size),
-                Err(NoMemory) => Err(MirrorRefused::NoMemory),
+                Err(DiffRefused::BadItem { place }) => Err(MirrorRefused::BadDiff { place }),
+                Err(DiffRefused::NoMemory) => Err(MirrorRefused::NoMemory),
             },
             Ok(None) => Ok(0),
             Err(MessageRefused::BadAt { place }) => Err(MirrorRefused::BadMessage { place }),
@@ -256,16 +189,22 @@ impl Mirror {
     }
 }
 
-/// Whether after the event of this id its buffer has no lines any more.
-fn empties(id: &[u8]) -> bool
-    ensures { result ≡ empties id.now }
+/// New groups, where there are some, in place of those that are held.
+fn put_groups(
+    held: &mut Option<Items<Items<SharedBuffer>>>,
+    groups: Option<Items<Items<SharedBuffer>>>,
+)
+    ensures { held.new ≡ or_kept groups held.old }
 {
-    id == event_id(EventKind::Closing) || id == event_id(EventKind::Cleared)
+    if let Some(groups) = groups {
+        *held = Some(groups);
+    }
 }
 
 /// The message at the front of the bytes, as `read_message` gives it.
 fn front_of(alloc: Global, bytes: &[u8]) -> Result<Option<(WireMessage, usize)>, MessageRefused>
-    ensures { GivesFirst result (first_message bytes.now) }
+    ensures front { GivesFirst result (first_message bytes.now) }
+    ensures formed { IfOk result (λ front. IfSome front (λ found. well_formed found.0.objects ≡ true)) }
 {
     read_message(alloc, bytes)
 }

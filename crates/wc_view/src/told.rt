@@ -247,7 +247,7 @@ fn keys_of(kind: EventKind) -> &'static [u8]
 
 /// What the one item of an event tells. None of a message of another kind.
 #[tactic(auto, unfolding(crate::specs::BufferFold::told_by))]
-fn told_by(
+pub(crate) fn told_by(
     alloc: Global,
     kind: EventKind,
     objects: &Items<Object>,

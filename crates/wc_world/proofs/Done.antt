@@ -1,13 +1,16 @@
 -- From what was done to the fields of a world to the clause on the world.
 use Rattle.std.proofs.Common.{◌≡◌, ℕ, ◌+◌, ◌-◌, ◌<◌, ◌≤◌, ◌^◌, Bool, true, false, cond, eqb, ltb, List, [], ◌∷◌, ◌++◌, Option, Some, None, option_map, unwrap_or, is_some, refl, ap, sym, subst, ◌∙◌, arith, eqb-true, le-ltb}
-use Rattle.std.specs.FinMap.{get, insert, remove, get-insert, get-remove}
+use Rattle.std.specs.FinMap.{FinMap, get, insert, remove, get-insert, get-remove}
 use Rattle.std.specs.HashMap.{HashMap}
 use Rattle.std.specs.Cmp.{nat_cmp_total}
+use Rattle.std.specs.Ordering.{nat_cmp}
 use Rattle.wc_text.specs.declared.names.Handle.{Handle}
 use Rattle.wc_text.specs.declared.names.Pair.{Pair}
 use Rattle.wc_lines.specs.declared.line.Line.{Line}
 use Rattle.wc_lines.specs.Held.{Held}
 use Rattle.wc_lines.specs.Ring.{last_of, with_line, without_lines}
+use Rattle.wc_nicklist.specs.Rows.{Nicks}
+use Rattle.wc_nicklist.specs.declared.item.Row.{Row}
 use Rattle.wc_buffers.specs.declared.entry.BufferEntry.{BufferEntry}
 use Rattle.wc_buffers.specs.declared.refused.BufferRefused.{BufferRefused}
 use Rattle.wc_buffers.specs.Calls.{Groups, handle_of, is_there, entry_of, buffer_of, moved, merged, unmerged, changed, move_refusal, merge_refusal, unmerge_refusal, no_buffer, short_name_refusal, set_var_refusal, remove_var_refusal, with_hidden, with_short_name, with_title, with_var, without_var, lacks_var}
@@ -27,9 +30,11 @@ use Rattle.wc_model.specs.LineCuts.{line_of}
 use Rattle.wc_model.specs.Apply.{refusal_of, after_of, with_groups, with_lines, of_buffers}
 use Rattle.wc_model.specs.Notices.{notice_of, notice_at, name_in, flips_in, flips_between, var_kind, Accepted}
 use Rattle.wc_world.specs.Kept.{held_at, held_in, lines_map, world_of, IsWorld, IsHeld, AreApart, IsChangedAt}
+use Rattle.wc_world.specs.Nicks.{list_at, AreNicks}
 use Rattle.wc_world.specs.Told.{told_at}
 use Rattle.wc_world.proofs.GroupRows.{row_of-move, row_of-merge, row_of-unmerge, row_of-update, merged_apart}
 use Rattle.wc_world.proofs.FlipLemmas.{no_flips, no_flips_printed, nothing_flat, apart_more, apart_printed}
+use Rattle.wc_world.proofs.NickLemmas.{kept_nicks, kept_shown, same_lists}
 use Rattle.wc_world.proofs.HeldLemmas.{tied, get_lines, put_lines, changed_to, some_held}
 
 -- ---- lines that stay as they were
@@ -37,8 +42,8 @@ use Rattle.wc_world.proofs.HeldLemmas.{tied, get_lines, put_lines, changed_to, s
 abbrev pub Apart : World → Type 0
 Apart w = (h : ℕ) → AreApart w.next (lines_at w h)
 
-pub are_apart : {S : Type 0} (gs : Groups) (m : HashMap ℕ Held S) (limit next : ℕ) → IsWorld gs m limit next → Apart (world_of gs m limit next)
-are_apart gs m limit next w h = subst (λ o. AreApart next (unwrap_or o [])) (sym (get_lines m h)) (by (held_at m h) refl)
+pub are_apart : {S : Type 0} (gs : Groups) (m : HashMap ℕ Held S) (ns : FinMap nat_cmp (List Row)) (limit next : ℕ) → IsWorld gs m limit next → Apart (world_of gs m ns limit next)
+are_apart gs m ns limit next w h = subst (λ o. AreApart next (unwrap_or o [])) (sym (get_lines m h)) (by (held_at m h) refl)
   where
     by : (o : Option Held) → held_at m h ≡ o → AreApart next (unwrap_or (option_map (λ (x : Held). x.lines) o) [])
     by None e = tt
@@ -48,8 +53,8 @@ pub no_flips_between : (w v : World) → Apart w → ((h : ℕ) → flips_in (li
 no_flips_between w v apart none = nothing_flat (λ h. flips_in (lines_at w h) (lines_at v h)) (order v.groups) none
 
 -- what is held of a buffer, as the world has it
-pub held_shown : {S : Type 0} (gs : Groups) (m : HashMap ℕ Held S) (limit next : ℕ) → IsWorld gs m limit next → (h : ℕ) → held_at m h ≡ held_in (world_of gs m limit next) h
-held_shown gs m limit next w h = by (held_at m h) refl ∙ ap with_limit (sym (get_lines m h))
+pub held_shown : {S : Type 0} (gs : Groups) (m : HashMap ℕ Held S) (ns : FinMap nat_cmp (List Row)) (limit next : ℕ) → IsWorld gs m limit next → (h : ℕ) → held_at m h ≡ held_in (world_of gs m ns limit next) h
+held_shown gs m ns limit next w h = by (held_at m h) refl ∙ ap with_limit (sym (get_lines m h))
   where
     with_limit : Option (List Line) → Option Held
     with_limit o = option_map (λ lines. record { limit = limit; lines = lines }) o
@@ -170,38 +175,38 @@ lined w v b h what ms next kind name ls fs own told is apart r c a n none e t l 
       notice = t ∙ read ∙ meant ∙ sym (n u) ∙ behind;
     })
 
-module _ {S T : Type 0} (gs : Groups) (m : HashMap ℕ Held S) (n : HashMap ℕ Held T) (limit next : ℕ) (w : IsWorld gs m limit next) (h : Handle) where
+module _ {S T : Type 0} (gs : Groups) (m : HashMap ℕ Held S) (n : HashMap ℕ Held T) (ns : FinMap nat_cmp (List Row)) (limit next : ℕ) (w : IsWorld gs m limit next) (h : Handle) where
   there : is_there h gs ≡ true → (x : Held) × (held_at m h.0 ≡ Some x)
   there t = some_held (held_at m h.0) (w.stored h.0 ∙ t)
 
-  lines_there : (x : Held) → held_at m h.0 ≡ Some x → lines_at (world_of gs m limit next) h.0 ≡ x.lines
+  lines_there : (x : Held) → held_at m h.0 ≡ Some x → lines_at (world_of gs m ns limit next) h.0 ≡ x.lines
   lines_there x e = ap (λ o. unwrap_or o []) (get_lines m h.0 ∙ ap (option_map (λ (x : Held). x.lines)) e)
 
-  pub cleared_done : (v : World) (name : List ℕ) (ls fs : List Handle) (told : Notice) → world_of gs m limit next ≡ v → is_there h gs ≡ true → IsChangedAt h.0 without_lines m n
-      → name ≡ name_in (buffer_of h gs) → told ≡ told_at kinds.Cleared h gs name ls fs → ls ≡ [] → fs ≡ [] → Accepted v (record { buffer = h; what = Clear }) (world_of gs n limit next) told
+  pub cleared_done : (v : World) (name : List ℕ) (ls fs : List Handle) (told : Notice) → world_of gs m ns limit next ≡ v → is_there h gs ≡ true → IsChangedAt h.0 without_lines m n
+      → name ≡ name_in (buffer_of h gs) → told ≡ told_at kinds.Cleared h gs name ls fs → ls ≡ [] → fs ≡ [] → Accepted v (record { buffer = h; what = Clear }) (world_of gs n ns limit next) told
   unfolding refusal_of after_of
   cleared_done v name ls fs told is t c e k l f =
       let x = there t in
       let lines = put_lines m n h.0 (without_lines x.0) (changed_to m n h.0 without_lines x.0 x.1 c) in
-      lined (world_of gs m limit next) v (world_of gs n limit next) h Clear [] next kinds.Cleared name ls fs [] told is (are_apart gs m limit next w)
-      (rw t refl) (λ i. record { groups = gs; lines = lines i; limit = limit; next = next }) refl (λ b. refl) refl e k l f
+      lined (world_of gs m ns limit next) v (world_of gs n ns limit next) h Clear [] next kinds.Cleared name ls fs [] told is (are_apart gs m ns limit next w)
+      (rw t refl) (λ i. record { groups = gs; lines = lines i; nicks = ns; limit = limit; next = next }) refl (λ b. refl) refl e k l f
 
-  pub printed_done : (v : World) (spec : LineSpec) (name : List ℕ) (ls fs : List Handle) (told : Notice) → world_of gs m limit next ≡ v → is_there h gs ≡ true → next < 2 ^ 62 → IsChangedAt h.0 (λ x. with_line x (line_of next spec)) m n
-      → name ≡ name_in (buffer_of h gs) → told ≡ told_at kinds.LineAdded h gs name ls fs → ls ≡ record { 0 = next } ∷ [] → fs ≡ [] → Accepted v (record { buffer = h; what = Print spec }) (world_of gs n limit (next + 2)) told
+  pub printed_done : (v : World) (spec : LineSpec) (name : List ℕ) (ls fs : List Handle) (told : Notice) → world_of gs m ns limit next ≡ v → is_there h gs ≡ true → next < 2 ^ 62 → IsChangedAt h.0 (λ x. with_line x (line_of next spec)) m n
+      → name ≡ name_in (buffer_of h gs) → told ≡ told_at kinds.LineAdded h gs name ls fs → ls ≡ record { 0 = next } ∷ [] → fs ≡ [] → Accepted v (record { buffer = h; what = Print spec }) (world_of gs n ns limit (next + 2)) told
   unfolding refusal_of after_of
   printed_done v spec name ls fs told is t below c e k l f =
       let x = there t in
-      let old = world_of gs m limit next in
+      let old = world_of gs m ns limit next in
       let line = line_of next spec in
       let fit = w.fit h.0 x.0 x.1 in
       let lines = put_lines m n h.0 (with_line x.0 line) (changed_to m n h.0 (λ x. with_line x line) x.0 x.1 c) in
       let same : (with_line x.0 line).lines ≡ last_of limit (lines_at old h.0 ++ line ∷ []) = (λ i. last_of (fit.limited i) (sym (lines_there x.0 x.1) i ++ line ∷ [])) in
       let room : ltb (2 ^ 62 + 1) (next + 2) ≡ false = le-ltb (2 ^ 62 + 1) (next + 2) (omega arith) in
-      lined old v (world_of gs n limit (next + 2)) h (Print spec) (last_of limit (lines_at old h.0 ++ line ∷ [])) (next + 2) kinds.LineAdded name ls fs (record { 0 = next } ∷ []) told is (are_apart gs m limit next w)
+      lined old v (world_of gs n ns limit (next + 2)) h (Print spec) (last_of limit (lines_at old h.0 ++ line ∷ [])) (next + 2) kinds.LineAdded name ls fs (record { 0 = next } ∷ []) told is (are_apart gs m ns limit next w)
       (rw (t, room) refl)
-      (λ i. record { groups = gs; lines = (lines ∙ ap (insert (lines_map m) h.0) same) i; limit = limit; next = next + 2 })
+      (λ i. record { groups = gs; lines = (lines ∙ ap (insert (lines_map m) h.0) same) i; nicks = ns; limit = limit; next = next + 2 })
       refl (λ b. refl)
-      (no_flips_printed next limit line (lines_at old h.0) (are_apart gs m limit next w h.0) (omega arith))
+      (no_flips_printed next limit line (lines_at old h.0) (are_apart gs m ns limit next w h.0) (omega arith))
       e k l f
 
 -- ---- what holds of a world still holds
@@ -216,6 +221,9 @@ kept_groups gs hs m limit next e w = record {
   started = w.started;
   ended = w.ended;
 }
+
+pub kept_grouped : {S T : Type 0} (gs hs : Groups) (m : HashMap ℕ Held S) (k : HashMap ℕ Nicks T) (limit next count : ℕ) → ((q : ℕ) → has handle_of q hs ≡ has handle_of q gs) → IsWorld gs m limit next × AreNicks gs k count → IsWorld hs m limit next × AreNicks hs k count
+kept_grouped gs hs m k limit next count e w = (kept_groups gs hs m limit next e w.0, kept_nicks gs hs k count e w.1)
 
 pub same_some : {A : Type 0} (x y : A) → Some x ≡ Some y → x ≡ y
 same_some x y e = ap (λ o. unwrap_or o x) e
@@ -250,3 +258,31 @@ kept_cleared gs m n limit next h c w = kept_changed gs m n limit next next h wit
 
 pub kept_printed : {S T : Type 0} (gs : Groups) (m : HashMap ℕ Held S) (n : HashMap ℕ Held T) (limit next : ℕ) (h : ℕ) (line : Line) → line.content.0 ≡ next + 1 → next < 2 ^ 62 → IsChangedAt h (λ x. with_line x line) m n → IsWorld gs m limit next → IsWorld gs n limit (next + 2)
 kept_printed gs m n limit next h line e below c w = kept_changed gs m n limit next (next + 2) h (λ x. with_line x line) c (λ x i. record { limited = i.limited; apart = apart_printed next (next + 2) x.limit line x.lines i.apart (omega arith) (omega arith) }) (omega arith) (omega arith) w
+
+pub kept_stored : {S T : Type 0} (gs hs : Groups) (m : HashMap ℕ Held S) (n : HashMap ℕ Held T) (limit next : ℕ) → hs ≡ gs → ((q : ℕ) → held_at n q ≡ held_at m q) → IsWorld gs m limit next → IsWorld hs n limit next
+kept_stored gs hs m n limit next e s w = subst (λ g. IsWorld g n limit next) (sym e) (record {
+  stored = λ q. ap is_some (s q) ∙ w.stored q;
+  fit = λ q x f. w.fit q x (sym (s q) ∙ f);
+  below = w.below;
+  some = w.some;
+  most = w.most;
+  started = w.started;
+  ended = w.ended;
+})
+
+-- handles were drawn
+pub kept_drawn : {S : Type 0} (gs : Groups) (m : HashMap ℕ Held S) (limit next next2 : ℕ) → next ≤ next2 → next2 ≤ 2 ^ 62 + 1 → IsWorld gs m limit next → IsWorld gs m limit next2
+kept_drawn gs m limit next next2 le most w = record {
+  stored = w.stored;
+  fit = λ q x e. (let i = w.fit q x e in record { limited = i.limited; apart = apart_more next next2 x.lines (omega arith) i.apart });
+  below = λ q t. (let b = w.below q t in omega arith);
+  some = w.some;
+  most = w.most;
+  started = (let s = w.started in omega arith);
+  ended = most;
+}
+
+-- memory was taken
+pub kept_reserved : {S T U V : Type 0} (gs hs : Groups) (m : HashMap ℕ Held S) (n : HashMap ℕ Held T) (k : HashMap ℕ Nicks U) (l : HashMap ℕ Nicks V) (limit next count : ℕ)
+    → hs ≡ gs → ((q : ℕ) → held_at n q ≡ held_at m q) → ((q : ℕ) → list_at l q ≡ list_at k q) → IsWorld gs m limit next × AreNicks gs k count → IsWorld hs n limit next × AreNicks hs l count
+kept_reserved gs hs m n k l limit next count g s t w = (kept_stored gs hs m n limit next g s w.0, kept_shown gs hs k l count g (same_lists k l t) w.1)

@@ -1,9 +1,12 @@
 -- The world with the core buffer alone.
 use Rattle.std.proofs.Common.{◌≡◌, ℕ, zero, suc, ltb, ◌≤◌, Bool, true, false, cond, eqb, List, [], ◌∷◌, map, Some, None, is_some, refl, ap, sym, subst, ◌∙◌, arith, eqb-true, IsAscii}
-use Rattle.std.specs.FinMap.{insert, empty, from_entries}
+use Rattle.std.specs.FinMap.{FinMap, insert, empty, from_entries}
+use Rattle.std.specs.Ordering.{nat_cmp}
+use Rattle.wc_nicklist.specs.declared.item.Row.{Row}
 use Rattle.std.specs.HashMap.{HashMap}
 use Rattle.std.proofs.lemmas.Bool.{and_parts, ltb-true}
 use Rattle.std.specs.List.{list_all}
+use Rattle.std.specs.Map.{lookup}
 use Rattle.std.proofs.lemmas.Str.{IsUtf8-from_ascii}
 use Rattle.wc_buffers.specs.Kept.{HasText}
 use Rattle.wc_lines.specs.Held.{Held, no_lines}
@@ -19,7 +22,7 @@ or_false : (b : Bool) → cond b true false ≡ b
 or_false true = refl
 or_false false = refl
 
-has_core : (q : ℕ) → has handle_of q (added core_row [] []) ≡ eqb 1 q
+pub has_core : (q : ℕ) → has handle_of q (added core_row [] []) ≡ eqb 1 q
 has_core q = by_bool (eqb 1 q) _ (λ t. rw t refl) (λ t. rw t refl)
 
 pub first_kept : {S : Type 0} (gs : Groups) (n : HashMap ℕ Held S) (limit : ℕ) → gs ≡ added core_row [] [] → ((q : ℕ) → held_at n q ≡ cond (eqb 1 q) (Some (no_lines limit)) None) → 1 ≤ limit → limit ≤ 4096 → IsWorld gs n limit 5
@@ -38,11 +41,14 @@ first_kept gs n limit g c some most = subst (λ g. IsWorld g n limit 5) (sym g) 
     still : (q : ℕ) → is_some (cond (eqb 1 q) (Some (no_lines limit)) None) ≡ eqb 1 q
     still q = by_bool (eqb 1 q) _ (λ t. rw t refl) (λ t. rw t refl)
 
-pub first_is : {S T : Type 0} (gs : Groups) (m : HashMap ℕ Held S) (n : HashMap ℕ Held T) (limit : ℕ) → m.entries ≡ [] → gs ≡ added core_row [] [] → ((q : ℕ) → held_at n q ≡ cond (eqb 1 q) (Some (no_lines limit)) (held_at m q)) → world_of gs n limit 5 ≡ first_world limit
-first_is gs m n limit none g c =
+pub none_held : {S : Type 0} (m : HashMap ℕ Held S) (q : ℕ) → m.entries ≡ [] → held_at m q ≡ None
+none_held m q none = ap (λ (es : List (ℕ × Held)). lookup (eqb q) es) none
+
+pub first_is : {S T : Type 0} (gs : Groups) (m : HashMap ℕ Held S) (n : HashMap ℕ Held T) (ms : FinMap nat_cmp (List Row)) (limit : ℕ) → m.entries ≡ [] → gs ≡ added core_row [] [] → ((q : ℕ) → held_at n q ≡ cond (eqb 1 q) (Some (no_lines limit)) (held_at m q)) → ms ≡ insert empty 1 [] → world_of gs n ms limit 5 ≡ first_world limit
+first_is gs m n ms limit none g c k =
     let nothing : lines_map m ≡ empty = ap (λ (es : List (ℕ × Held)). from_entries (map (λ e. (e.0, e.1.lines)) es)) none in
     let lines : lines_map n ≡ insert empty 1 [] = put_lines m n 1 (no_lines limit) c ∙ ap (λ l. insert l 1 []) nothing in
-    λ i. record { groups = g i; lines = lines i; limit = limit; next = 5 }
+    λ i. record { groups = g i; lines = lines i; nicks = k i; limit = limit; next = 5 }
 
 ascii : (text : List ℕ) → list_all (λ b. ltb b 128) text ≡ true → IsAscii text
 ascii [] e i = omega arith

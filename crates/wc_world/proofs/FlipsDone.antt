@@ -2,7 +2,9 @@
 use Rattle.std.proofs.Common.{◌≡◌, ◌≢◌, ℕ, Bool, true, false, cond, not, eqb, List, [], ◌∷◌, ◌++◌, map, find, flat_map, Option, Some, None, option_map, unwrap_or, is_some, refl, ap, sym, subst, ◌∙◌}
 use Rattle.std.specs.Prelude.{Result, Err}
 use Rattle.std.specs.List.{list_any}
-use Rattle.std.specs.FinMap.{get, entries, find as find_entry, get-entries, get-from_entries, same_map, nat_cmp-IsAntisymmetric}
+use Rattle.wc_nicklist.specs.Rows.{Nicks}
+use Rattle.wc_nicklist.specs.declared.item.Row.{Row}
+use Rattle.std.specs.FinMap.{FinMap, get, entries, find as find_entry, get-entries, get-from_entries, same_map, nat_cmp-IsAntisymmetric}
 use Rattle.std.specs.HashMap.{HashMap}
 use Rattle.std.specs.Ordering.{nat_cmp, eq_by_cmp}
 use Rattle.std.specs.Cmp.{nat_cmp_total}
@@ -25,16 +27,18 @@ use Rattle.wc_model.specs.declared.change.What.TheVariants.{Rename, Flips}
 use Rattle.wc_model.specs.declared.notice.EventKind.TheVariants as kinds
 use Rattle.wc_model.specs.declared.notice.Notice.{Notice}
 use Rattle.wc_model.specs.declared.refused.ChangeRefused.{ChangeRefused}
-use Rattle.wc_model.specs.declared.refused.ChangeRefused.TheVariants.{Buffer, NoLine, Spent, NoMemory}
+use Rattle.wc_model.specs.declared.refused.ChangeRefused.TheVariants.{Buffer, Nick, NoLine, TooManyRows, Spent, NoMemory}
 use Rattle.wc_model.specs.World.{World, lines_at}
 use Rattle.wc_model.specs.Order.{order}
 use Rattle.wc_model.specs.Apply.{refusal, refusal_of, after_of, no_line, flipped, flip_all, with_groups}
 use Rattle.wc_model.specs.Notices.{Outcome, Accepted, flips_in, flips_between, name_in, notice_at}
 use Rattle.wc_world.specs.Flips.{last_flag, differing, all_differing, stored_lines, is_stored, stands_in}
 use Rattle.wc_world.specs.Kept.{held_at, lines_map, world_of, IsWorld, IsHeld}
+use Rattle.wc_world.specs.Nicks.{AreNicks}
 use Rattle.wc_world.specs.Told.{told_at}
 use Rattle.wc_world.proofs.Done.{are_apart, kept_groups, same_some}
 use Rattle.wc_world.proofs.GroupRows.{row_of-update, some_row, in_rows, has-update}
+use Rattle.wc_world.proofs.NickLemmas.{kept_nicks}
 use Rattle.wc_world.proofs.HeldLemmas.{get_lines}
 use Rattle.wc_world.proofs.LastFlags.{apart_flagged, flips_found, flipped_last}
 
@@ -43,7 +47,9 @@ use Rattle.wc_world.proofs.LastFlags.{apart_flagged, flips_found, flipped_last}
 abbrev is_memory : ChangeRefused → Bool
 is_memory NoMemory = true
 is_memory (Buffer e) = false
+is_memory (Nick e) = false
 is_memory (NoLine h) = false
+is_memory (TooManyRows n) = false
 is_memory Spent = false
 
 not_memory : (e : ChangeRefused) → is_memory e ≡ false → e ≢ NoMemory
@@ -56,7 +62,9 @@ not_planned v b c e r is same f = subst (λ r. Outcome v c b r) (sym is) (by e f
     by : (e : ChangeRefused) → (e ≢ NoMemory → refusal v c ≡ Some e) → Outcome v c b (Err e)
     by NoMemory f = same
     by (Buffer e) f = (same, f (not_memory (Buffer e) refl))
+    by (Nick e) f = (same, f (not_memory (Nick e) refl))
     by (NoLine h) f = (same, f (not_memory (NoLine h) refl))
+    by (TooManyRows n) f = (same, f (not_memory (TooManyRows n) refl))
     by Spent f = (same, f (not_memory Spent refl))
 
 pub flips_refused : (v : World) (h : Handle) (flips : List Flip) (e : ChangeRefused) → no_line flips v ≡ Some e → refusal_of v h (Flips flips) ≡ Some e
@@ -76,14 +84,14 @@ rename_flips_refused v h name flips e n r = rw n r
 abbrev pub refused_at : Option Handle → Option ChangeRefused
 refused_at o = option_map (λ (h : Handle). NoLine h) o
 
-stored_shown : {S : Type 0} (gs : Groups) (m : HashMap ℕ Held S) (limit next buffer : ℕ) → stored_lines m buffer ≡ lines_at (world_of gs m limit next) buffer
-stored_shown gs m limit next buffer = ap (λ o. unwrap_or o []) (sym (get_lines m buffer))
+stored_shown : {S : Type 0} (gs : Groups) (m : HashMap ℕ Held S) (nk : FinMap nat_cmp (List Row)) (limit next buffer : ℕ) → stored_lines m buffer ≡ lines_at (world_of gs m nk limit next) buffer
+stored_shown gs m nk limit next buffer = ap (λ o. unwrap_or o []) (sym (get_lines m buffer))
 
-module _ {S : Type 0} (gs : Groups) (m : HashMap ℕ Held S) (limit next : ℕ) (v : World) (is : world_of gs m limit next ≡ v) (flips : List Flip) (ns : List ℕ) (ordered : ns ≡ order gs) where
+module _ {S : Type 0} (gs : Groups) (m : HashMap ℕ Held S) (nk : FinMap nat_cmp (List Row)) (limit next : ℕ) (v : World) (is : world_of gs m nk limit next ≡ v) (flips : List Flip) (ns : List ℕ) (ordered : ns ≡ order gs) where
   pub first_refused : (first : Option Handle) → first ≡ option_map (λ (flip : Flip). flip.content) (find (λ (flip : Flip). not (is_stored m ns flip.content.0)) flips) → no_line flips v ≡ refused_at first
   first_refused first e =
-      let meant : no_line flips (world_of gs m limit next) ≡ option_map (λ (flip : Flip). NoLine flip.content) (find (λ (flip : Flip). not (is_stored m ns flip.content.0)) flips) =
-      λ i. option_map (λ (flip : Flip). NoLine flip.content) (find (λ (flip : Flip). not (list_any (λ buffer. has_content flip.content (sym (stored_shown gs m limit next buffer) i)) (sym ordered i))) flips) in
+      let meant : no_line flips (world_of gs m nk limit next) ≡ option_map (λ (flip : Flip). NoLine flip.content) (find (λ (flip : Flip). not (is_stored m ns flip.content.0)) flips) =
+      λ i. option_map (λ (flip : Flip). NoLine flip.content) (find (λ (flip : Flip). not (list_any (λ buffer. has_content flip.content (sym (stored_shown gs m nk limit next buffer) i)) (sym ordered i))) flips) in
       sym (ap (no_line flips) is) ∙ meant ∙ split (find (λ (flip : Flip). not (is_stored m ns flip.content.0)) flips) ∙ sym (ap refused_at e)
     where
       split : (o : Option Flip) → option_map (λ (flip : Flip). NoLine flip.content) o ≡ refused_at (option_map (λ (flip : Flip). flip.content) o)
@@ -93,7 +101,7 @@ module _ {S : Type 0} (gs : Groups) (m : HashMap ℕ Held S) (limit next : ℕ) 
   pub found_all : (flags : ℕ → Option Bool) (found : List Handle) → ((c : ℕ) → flags c ≡ last_flag flips c) → found ≡ all_differing flags m ns → found ≡ flat_map (λ buffer. differing (last_flag flips) (lines_at v buffer)) (order v.groups)
   found_all flags found last e =
       e
-      ∙ (λ i. flat_map (λ buffer. differing (λ c. last c i) (stored_shown gs m limit next buffer i)) (ordered i))
+      ∙ (λ i. flat_map (λ buffer. differing (λ c. last c i) (stored_shown gs m nk limit next buffer i)) (ordered i))
       ∙ ap (λ (w : World). flat_map (λ buffer. differing (last_flag flips) (lines_at w buffer)) (order w.groups)) is
 
 -- ---- the lines of all buffers
@@ -142,23 +150,23 @@ name_renamed h name gs t =
     let row = some_row handle_of h.0 gs t in
     ap (λ (o : Option BufferEntry). name_in (option_map (λ (x : BufferEntry). x.row) o)) (row_of-update handle_of h.0 (with_full_name name) (λ x. refl) gs ∙ ap (option_map (with_full_name name)) row.1)
 
-module _ {S T : Type 0} (gs : Groups) (m : HashMap ℕ Held S) (n : HashMap ℕ Held T) (limit next : ℕ) (w : IsWorld gs m limit next) (flips : List Flip) (set : (q : ℕ) → held_at n q ≡ option_map (with_flags (last_flag flips)) (held_at m q)) where
-  lines_flipped : lines_map n ≡ (flip_all flips (world_of gs m limit next)).lines
-  lines_flipped = same_map nat_cmp_total nat_cmp-IsAntisymmetric (lines_map n) (flip_all flips (world_of gs m limit next)).lines each
+module _ {S T : Type 0} (gs : Groups) (m : HashMap ℕ Held S) (n : HashMap ℕ Held T) (nk : FinMap nat_cmp (List Row)) (limit next : ℕ) (w : IsWorld gs m limit next) (flips : List Flip) (set : (q : ℕ) → held_at n q ≡ option_map (with_flags (last_flag flips)) (held_at m q)) where
+  lines_flipped : lines_map n ≡ (flip_all flips (world_of gs m nk limit next)).lines
+  lines_flipped = same_map nat_cmp_total nat_cmp-IsAntisymmetric (lines_map n) (flip_all flips (world_of gs m nk limit next)).lines each
     where
       by : (q : ℕ) (o : Option Held) → held_at m q ≡ o → option_map (λ (x : Held). x.lines) (option_map (with_flags (last_flag flips)) o) ≡ option_map (flipped flips) (option_map (λ (x : Held). x.lines) o)
       by q None e = refl
       by q (Some x) e = ap (λ ls. Some ls) (sym (flipped_last next flips x.lines (w.fit q x e).apart))
 
-      each : (q : ℕ) → get (lines_map n) q ≡ get (flip_all flips (world_of gs m limit next)).lines q
+      each : (q : ℕ) → get (lines_map n) q ≡ get (flip_all flips (world_of gs m nk limit next)).lines q
       each q =
           get_lines n q
           ∙ ap (option_map (λ (x : Held). x.lines)) (set q)
           ∙ by q (held_at m q) refl
           ∙ ap (option_map (flipped flips)) (sym (get_lines m q))
-          ∙ sym (get_flipped flips (world_of gs m limit next) q)
+          ∙ sym (get_flipped flips (world_of gs m nk limit next) q)
 
-  at_flagged : (hs : Groups) (b : ℕ) → lines_at (world_of hs n limit next) b ≡ map (flagged (last_flag flips)) (lines_at (world_of gs m limit next) b)
+  at_flagged : (hs : Groups) (b : ℕ) → lines_at (world_of hs n nk limit next) b ≡ map (flagged (last_flag flips)) (lines_at (world_of gs m nk limit next) b)
   at_flagged hs b =
       ap (λ o. unwrap_or o []) (get_lines n b ∙ ap (option_map (λ (x : Held). x.lines)) (set b))
       ∙ by (held_at m b)
@@ -168,11 +176,11 @@ module _ {S T : Type 0} (gs : Groups) (m : HashMap ℕ Held S) (n : HashMap ℕ 
       by None = refl
       by (Some x) = refl
 
-  flips_shown : (hs : Groups) → order hs ≡ order gs → flips_between (world_of gs m limit next) (world_of hs n limit next) ≡ flat_map (λ buffer. differing (last_flag flips) (lines_at (world_of gs m limit next) buffer)) (order gs)
+  flips_shown : (hs : Groups) → order hs ≡ order gs → flips_between (world_of gs m nk limit next) (world_of hs n nk limit next) ≡ flat_map (λ buffer. differing (last_flag flips) (lines_at (world_of gs m nk limit next) buffer)) (order gs)
   flips_shown hs same =
-      let old = world_of gs m limit next in
-      let each : (b : ℕ) → flips_in (lines_at old b) (lines_at (world_of hs n limit next) b) ≡ differing (last_flag flips) (lines_at old b) =
-      λ b. ap (flips_in (lines_at old b)) (at_flagged hs b) ∙ flips_found (last_flag flips) next (lines_at old b) (are_apart gs m limit next w b) in
+      let old = world_of gs m nk limit next in
+      let each : (b : ℕ) → flips_in (lines_at old b) (lines_at (world_of hs n nk limit next) b) ≡ differing (last_flag flips) (lines_at old b) =
+      λ b. ap (flips_in (lines_at old b)) (at_flagged hs b) ∙ flips_found (last_flag flips) next (lines_at old b) (are_apart gs m nk limit next w b) in
       λ i. flat_map (λ b. each b i) (same i)
 
   pub kept_set : IsWorld gs n limit next
@@ -194,33 +202,33 @@ module _ {S T : Type 0} (gs : Groups) (m : HashMap ℕ Held S) (n : HashMap ℕ 
       here None y fit e = absurd cc
       here (Some x) y fit e = subst (IsHeld limit next) (same_some (with_flags (last_flag flips) x) y e) (record { limited = (fit x refl).limited; apart = apart_flagged (last_flag flips) next x.lines (fit x refl).apart })
 
-  module _ (v : World) (h : Handle) (is : world_of gs m limit next ≡ v) (all_held : no_line flips v ≡ None) (ls fs : List Handle) (told : Notice) (l : ls ≡ []) (found : fs ≡ flat_map (λ buffer. differing (last_flag flips) (lines_at v buffer)) (order v.groups)) where
+  module _ (v : World) (h : Handle) (is : world_of gs m nk limit next ≡ v) (all_held : no_line flips v ≡ None) (ls fs : List Handle) (told : Notice) (l : ls ≡ []) (found : fs ≡ flat_map (λ buffer. differing (last_flag flips) (lines_at v buffer)) (order v.groups)) where
     -- what was found is what differs between the two worlds
-    flips_told : (hs : Groups) → order hs ≡ order gs → fs ≡ flips_between (world_of gs m limit next) (world_of hs n limit next)
+    flips_told : (hs : Groups) → order hs ≡ order gs → fs ≡ flips_between (world_of gs m nk limit next) (world_of hs n nk limit next)
     flips_told hs same = found ∙ sym (ap (λ (u : World). flat_map (λ buffer. differing (last_flag flips) (lines_at u buffer)) (order u.groups)) is) ∙ sym (flips_shown hs same)
 
     pub flips_done : (name : List ℕ) → name ≡ name_in (buffer_of (record { 0 = 0 }) gs) → told ≡ told_at kinds.LineDataChanged (record { 0 = 0 }) gs name ls fs
-        → Accepted v (record { buffer = h; what = Flips flips }) (world_of gs n limit next) told
+        → Accepted v (record { buffer = h; what = Flips flips }) (world_of gs n nk limit next) told
     unfolding refusal_of after_of
     flips_done name e t =
-        let old = world_of gs m limit next in
-        let after : world_of gs n limit next ≡ flip_all flips old = λ i. record { groups = gs; lines = lines_flipped i; limit = limit; next = next } in
-        let read : told_at kinds.LineDataChanged (record { 0 = 0 }) gs name ls fs ≡ notice_at kinds.LineDataChanged (record { 0 = 0 }) gs [] (flips_between old (world_of gs n limit next)) = λ i. told_at kinds.LineDataChanged (record { 0 = 0 }) gs (e i) (l i) (flips_told gs refl i) in
-        subst (λ v. Accepted v (record { buffer = h; what = Flips flips }) (world_of gs n limit next) told) is (record {
+        let old = world_of gs m nk limit next in
+        let after : world_of gs n nk limit next ≡ flip_all flips old = λ i. record { groups = gs; lines = lines_flipped i; nicks = nk; limit = limit; next = next } in
+        let read : told_at kinds.LineDataChanged (record { 0 = 0 }) gs name ls fs ≡ notice_at kinds.LineDataChanged (record { 0 = 0 }) gs [] (flips_between old (world_of gs n nk limit next)) = λ i. told_at kinds.LineDataChanged (record { 0 = 0 }) gs (e i) (l i) (flips_told gs refl i) in
+        subst (λ v. Accepted v (record { buffer = h; what = Flips flips }) (world_of gs n nk limit next) told) is (record {
           accepted = ap (no_line flips) is ∙ all_held;
           after = after;
           notice = t ∙ read ∙ ap (λ (u : World). notice_at kinds.LineDataChanged (record { 0 = 0 }) u.groups [] (flips_between old u)) after;
         })
 
     pub rename_done : (hs : Groups) (name : List ℕ) → rename_refusal h name gs ≡ None → hs ≡ changed h (with_full_name name) gs → told ≡ told_at kinds.Renamed h hs name ls fs
-        → Accepted v (record { buffer = h; what = Rename name flips }) (world_of hs n limit next) told
+        → Accepted v (record { buffer = h; what = Rename name flips }) (world_of hs n nk limit next) told
     unfolding refusal_of after_of
     rename_done hs name r g t =
-        let old = world_of gs m limit next in
+        let old = world_of gs m nk limit next in
         let named : name ≡ name_in (buffer_of h hs) = sym (ap (λ gs. name_in (buffer_of h gs)) g ∙ name_renamed h name gs (rename_good h name gs r).0) in
-        let after : world_of hs n limit next ≡ flip_all flips (with_groups old (changed h (with_full_name name) gs)) = λ i. record { groups = g i; lines = lines_flipped i; limit = limit; next = next } in
-        let read : told_at kinds.Renamed h hs name ls fs ≡ notice_at kinds.Renamed h hs [] (flips_between old (world_of hs n limit next)) = λ i. told_at kinds.Renamed h hs (named i) (l i) (flips_told hs (ap order g ∙ order_renamed h name gs) i) in
-        subst (λ v. Accepted v (record { buffer = h; what = Rename name flips }) (world_of hs n limit next) told) is (record {
+        let after : world_of hs n nk limit next ≡ flip_all flips (with_groups old (changed h (with_full_name name) gs)) = λ i. record { groups = g i; lines = lines_flipped i; nicks = nk; limit = limit; next = next } in
+        let read : told_at kinds.Renamed h hs name ls fs ≡ notice_at kinds.Renamed h hs [] (flips_between old (world_of hs n nk limit next)) = λ i. told_at kinds.Renamed h hs (named i) (l i) (flips_told hs (ap order g ∙ order_renamed h name gs) i) in
+        subst (λ v. Accepted v (record { buffer = h; what = Rename name flips }) (world_of hs n nk limit next) told) is (record {
           accepted = rw r (ap (no_line flips) is ∙ all_held);
           after = after;
           notice = t ∙ read ∙ ap (λ (u : World). notice_at kinds.Renamed h u.groups [] (flips_between old u)) after;
@@ -228,3 +236,6 @@ module _ {S T : Type 0} (gs : Groups) (m : HashMap ℕ Held S) (n : HashMap ℕ 
 
 pub kept_renamed : {S : Type 0} (gs hs : Groups) (m : HashMap ℕ Held S) (limit next : ℕ) (h : Handle) (name : List ℕ) → hs ≡ changed h (with_full_name name) gs → IsWorld gs m limit next → IsWorld hs m limit next
 kept_renamed gs hs m limit next h name g w = kept_groups gs hs m limit next (λ q. ap (has handle_of q) g ∙ has-update handle_of h.0 (with_full_name name) (λ x. refl) q gs) w
+
+pub nicks_renamed : {S : Type 0} (gs hs : Groups) (k : HashMap ℕ Nicks S) (count : ℕ) (h : Handle) (name : List ℕ) → hs ≡ changed h (with_full_name name) gs → AreNicks gs k count → AreNicks hs k count
+nicks_renamed gs hs k count h name g w = kept_nicks gs hs k count (λ q. ap (has handle_of q) g ∙ has-update handle_of h.0 (with_full_name name) (λ x. refl) q gs) w

@@ -10,3 +10,8 @@ pub mod First
 pub mod Refused
 pub mod LastFlags
 pub mod FlipsDone
+pub mod MapLemmas
+pub mod Counted
+pub mod NickLemmas
+pub mod CutItems
+pub mod NicksDone

@@ -2,7 +2,9 @@
 use Rattle.std.proofs.Common.{◌≡◌, ℕ, ◌+◌, ◌≤◌, ◌^◌, Bool, true, false, cond, ◌||◌, eqb, ltb, List, [], ◌∷◌, ◌++◌, map, length, Option, Some, None, option_map, is_some, refl, ap, sym, subst, ◌∙◌, arith, eq-eqb, eqb-true, le-ltb}
 use Rattle.std.specs.Prelude.{Result, Ok, Err, OnOk, IfErr}
 use Rattle.std.proofs.lemmas.Bool.Decides.{nat_tests}
-use Rattle.std.specs.FinMap.{insert, remove}
+use Rattle.std.specs.FinMap.{FinMap, insert, remove}
+use Rattle.std.specs.Ordering.{nat_cmp}
+use Rattle.wc_nicklist.specs.declared.item.Row.{Row}
 use Rattle.std.specs.HashMap.{HashMap}
 use Rattle.std.proofs.lemmas.Bool.{false≢true, or_parts}
 use Rattle.std.proofs.lemmas.List.{map-append}
@@ -41,50 +43,57 @@ new_name k e gs t s =
     let found : row_of handle_of k (gs ++ (e ∷ []) ∷ []) ≡ Some e = row_of-append handle_of k gs ((e ∷ []) ∷ []) ∙ ap (λ o. or_some o (row_of handle_of k ((e ∷ []) ∷ []))) (no_row handle_of k gs t) ∙ own in
     ap (λ (o : Option BufferEntry). name_in (option_map (λ (x : BufferEntry). x.row) o)) found
 
-module _ {S T : Type 0} (gs hs : Groups) (m : HashMap ℕ Held S) (n : HashMap ℕ Held T) (limit next : ℕ) (w : IsWorld gs m limit next) (v : World) (is : world_of gs m limit next ≡ v) (h : Handle) (name : List ℕ) (told : Notice) where
+or_false : (b : Bool) → (b || false) ≡ b
+or_false true = refl
+or_false false = refl
+
+or_true : (b : Bool) → (b || true) ≡ true
+or_true true = refl
+or_true false = refl
+
+-- the buffers that are there where one more is, and where one is not any more
+pub has_opened : (gs hs : Groups) (e : BufferEntry) (k : ℕ) → handle_of e ≡ k → hs ≡ gs ++ (e ∷ []) ∷ [] → (q : ℕ) → has handle_of q hs ≡ cond (eqb k q) true (has handle_of q gs)
+has_opened gs hs e k s g q = ap (has handle_of q) g ∙ list_any-append (in_group handle_of q) gs ((e ∷ []) ∷ []) ∙ rw s (by_bool (eqb k q) _ (λ t. rw t (or_true (has handle_of q gs))) (λ t. rw t (or_false (has handle_of q gs))))
+
+pub has_closed : (gs hs : Groups) (h : Handle) → hs ≡ closed h gs → (q : ℕ) → has handle_of q hs ≡ cond (eqb h.0 q) false (has handle_of q gs)
+has_closed gs hs h g q = ap (has handle_of q) g ∙ has-take_out handle_of h.0 q gs
+
+module _ {S T : Type 0} (gs hs : Groups) (m : HashMap ℕ Held S) (n : HashMap ℕ Held T) (ns ms : FinMap nat_cmp (List Row)) (limit next : ℕ) (w : IsWorld gs m limit next) (v : World) (is : world_of gs m ns limit next ≡ v) (h : Handle) (name : List ℕ) (told : Notice) where
   pub added_done : (spec : BufferSpec) → hs ≡ added (new_row next spec) spec.vars gs → add_refusal (new_row next spec) spec.vars gs ≡ None → next + 4 ≤ 2 ^ 62 + 1
-      → ((q : ℕ) → held_at n q ≡ cond (eqb next q) (Some (no_lines limit)) (held_at m q)) → name ≡ spec.full_name → told ≡ told_at kinds.Opened (record { 0 = next }) hs name [] []
-      → Accepted v (record { buffer = h; what = Add spec }) (world_of hs n limit (next + 4)) told
+      → ((q : ℕ) → held_at n q ≡ cond (eqb next q) (Some (no_lines limit)) (held_at m q)) → ms ≡ insert ns next [] → name ≡ spec.full_name → told ≡ told_at kinds.Opened (record { 0 = next }) hs name [] []
+      → Accepted v (record { buffer = h; what = Add spec }) (world_of hs n ms limit (next + 4)) told
   unfolding refusal_of after_of
-  added_done spec g r below c e t =
-      let old = world_of gs m limit next in
+  added_done spec g r below c k e t =
+      let old = world_of gs m ns limit next in
       let new = added (new_row next spec) spec.vars gs in
-      let u : World = record { groups = new; lines = insert (lines_map m) next []; limit = limit; next = next + 4 } in
+      let u : World = record { groups = new; lines = insert (lines_map m) next []; nicks = insert ns next []; limit = limit; next = next + 4 } in
       let lines : lines_map n ≡ insert (lines_map m) next [] = put_lines m n next (no_lines limit) c in
-      let flips : flips_between old u ≡ [] = inserted_flips old u next [] (are_apart gs m limit next w) refl refl in
+      let flips : flips_between old u ≡ [] = inserted_flips old u next [] (are_apart gs m ns limit next w) refl refl in
       let room : ltb (2 ^ 62 + 1) (next + 4) ≡ false = le-ltb (2 ^ 62 + 1) (next + 4) below in
       let named : name_in (buffer_of (record { 0 = next }) new) ≡ spec.full_name = new_name next (opened (new_row next spec) spec.vars) gs (is_new gs m limit next w) refl in
       let read : told_at kinds.Opened (record { 0 = next }) hs name [] [] ≡ told_at kinds.Opened (record { 0 = next }) new (name_in (buffer_of (record { 0 = next }) new)) [] [] = λ i. told_at kinds.Opened (record { 0 = next }) (g i) ((e ∙ sym named) i) [] [] in
       let meant : told_at kinds.Opened (record { 0 = next }) new (name_in (buffer_of (record { 0 = next }) new)) [] [] ≡ notice_of old u h (Add spec) = ap (notice_at kinds.Opened (record { 0 = next }) new []) (sym flips) in
-      subst (λ v. Accepted v (record { buffer = h; what = Add spec }) (world_of hs n limit (next + 4)) told) is (record {
+      subst (λ v. Accepted v (record { buffer = h; what = Add spec }) (world_of hs n ms limit (next + 4)) told) is (record {
         accepted = rw (r, room) refl;
-        after = λ i. record { groups = g i; lines = lines i; limit = limit; next = next + 4 };
+        after = λ i. record { groups = g i; lines = lines i; nicks = k i; limit = limit; next = next + 4 };
         notice = t ∙ read ∙ meant;
       })
 
-  pub closed_done : hs ≡ closed h gs → close_refusal h gs ≡ None → ((q : ℕ) → held_at n q ≡ cond (eqb h.0 q) None (held_at m q)) → name ≡ name_in (buffer_of h gs) → told ≡ told_at kinds.Closing h gs name [] []
-      → Accepted v (record { buffer = h; what = Close }) (world_of hs n limit next) told
+  pub closed_done : hs ≡ closed h gs → close_refusal h gs ≡ None → ((q : ℕ) → held_at n q ≡ cond (eqb h.0 q) None (held_at m q)) → ms ≡ remove ns h.0 → name ≡ name_in (buffer_of h gs) → told ≡ told_at kinds.Closing h gs name [] []
+      → Accepted v (record { buffer = h; what = Close }) (world_of hs n ms limit next) told
   unfolding refusal_of after_of
-  closed_done g r c e t =
-      let old = world_of gs m limit next in
-      let u : World = record { groups = closed h gs; lines = remove (lines_map m) h.0; limit = limit; next = next } in
+  closed_done g r c k e t =
+      let old = world_of gs m ns limit next in
+      let u : World = record { groups = closed h gs; lines = remove (lines_map m) h.0; nicks = remove ns h.0; limit = limit; next = next } in
       let lines : lines_map n ≡ remove (lines_map m) h.0 = removed_lines m n h.0 c in
-      let flips : flips_between old u ≡ [] = removed_flips old u h.0 (are_apart gs m limit next w) refl in
+      let flips : flips_between old u ≡ [] = removed_flips old u h.0 (are_apart gs m ns limit next w) refl in
       let read : told_at kinds.Closing h gs name [] [] ≡ told_at kinds.Closing h gs (name_in (buffer_of h gs)) [] [] = ap (λ x. told_at kinds.Closing h gs x [] []) e in
       let meant : told_at kinds.Closing h gs (name_in (buffer_of h gs)) [] [] ≡ notice_of old u h Close = ap (notice_at kinds.Closing h gs []) (sym flips) in
-      subst (λ v. Accepted v (record { buffer = h; what = Close }) (world_of hs n limit next) told) is (record {
+      subst (λ v. Accepted v (record { buffer = h; what = Close }) (world_of hs n ms limit next) told) is (record {
         accepted = ap of_buffers r;
-        after = λ i. record { groups = g i; lines = lines i; limit = limit; next = next };
+        after = λ i. record { groups = g i; lines = lines i; nicks = k i; limit = limit; next = next };
         notice = t ∙ read ∙ meant;
       })
-
-  or_false : (b : Bool) → (b || false) ≡ b
-  or_false true = refl
-  or_false false = refl
-
-  or_true : (b : Bool) → (b || true) ≡ true
-  or_true true = refl
-  or_true false = refl
 
   grown : (next2 : ℕ) → next ≤ next2 → (x : Held) → IsHeld limit next x → IsHeld limit next2 x
   grown next2 le x i = record { limited = i.limited; apart = apart_more next next2 x.lines (omega arith) i.apart }
@@ -105,7 +114,7 @@ module _ {S T : Type 0} (gs hs : Groups) (m : HashMap ℕ Held S) (n : HashMap �
   }
     where
       has_new : (q : ℕ) → has handle_of q hs ≡ cond (eqb next q) true (has handle_of q gs)
-      has_new q = ap (has handle_of q) g ∙ list_any-append (in_group handle_of q) gs ((e ∷ []) ∷ []) ∙ rw s (by_bool (eqb next q) _ (λ t. rw t (or_true (has handle_of q gs))) (λ t. rw t (or_false (has handle_of q gs))))
+      has_new = has_opened gs hs e next s g
 
       still : (q : ℕ) → is_some (cond (eqb next q) (Some (no_lines limit)) (held_at m q)) ≡ cond (eqb next q) true (has handle_of q gs)
       still q = by_bool (eqb next q) _ (λ t. rw t refl) (λ t. rw t (w.stored q))
@@ -126,7 +135,7 @@ module _ {S T : Type 0} (gs hs : Groups) (m : HashMap ℕ Held S) (n : HashMap �
   }
     where
       has_left : (q : ℕ) → has handle_of q hs ≡ cond (eqb h.0 q) false (has handle_of q gs)
-      has_left q = ap (has handle_of q) g ∙ has-take_out handle_of h.0 q gs
+      has_left = has_closed gs hs h g
 
       still : (q : ℕ) → is_some (cond (eqb h.0 q) None (held_at m q)) ≡ cond (eqb h.0 q) false (has handle_of q gs)
       still q = by_bool (eqb h.0 q) _ (λ t. rw t refl) (λ t. rw t (w.stored q))
@@ -182,14 +191,3 @@ undone gs a b m limit next spec r w g all o f =
     closed_either (record { 0 = next }) a b r o f (may_close (record { 0 = next }) a there other)
     ∙ ap (take_out handle_of next) g
     ∙ taken_back next e gs (is_new gs m limit next w) refl (filled_front gs ((e ∷ []) ∷ []) (subst AllFilled g all.filled))
-
-pub kept_stored : {S T : Type 0} (gs hs : Groups) (m : HashMap ℕ Held S) (n : HashMap ℕ Held T) (limit next : ℕ) → hs ≡ gs → ((q : ℕ) → held_at n q ≡ held_at m q) → IsWorld gs m limit next → IsWorld hs n limit next
-kept_stored gs hs m n limit next e s w = subst (λ g. IsWorld g n limit next) (sym e) (record {
-  stored = λ q. ap is_some (s q) ∙ w.stored q;
-  fit = λ q x f. w.fit q x (sym (s q) ∙ f);
-  below = w.below;
-  some = w.some;
-  most = w.most;
-  started = w.started;
-  ended = w.ended;
-})

@@ -1,10 +1,13 @@
 -- From a refusal of the buffers to the clause on the world.
-use Rattle.std.proofs.Common.{◌≡◌, ◌≢◌, ℕ, ◌+◌, ◌<◌, ◌≤◌, ◌^◌, Bool, true, false, ltb, Option, Some, None, refl, ap, sym, subst, ◌∙◌, arith, lt-ltb, ◌-◌}
+use Rattle.std.proofs.Common.{◌≡◌, ◌≢◌, ℕ, ◌+◌, ◌<◌, ◌≤◌, ◌^◌, Bool, true, false, ltb, List, Option, Some, None, refl, ap, sym, subst, ◌∙◌, arith, lt-ltb, ◌-◌}
 use Rattle.std.specs.Prelude.{Result, Err}
+use Rattle.std.specs.FinMap.{FinMap}
 use Rattle.std.specs.HashMap.{HashMap}
+use Rattle.std.specs.Ordering.{nat_cmp}
 use Rattle.std.proofs.lemmas.Bool.{false≢true}
 use Rattle.wc_text.specs.declared.names.Handle.{Handle}
 use Rattle.wc_lines.specs.Held.{Held}
+use Rattle.wc_nicklist.specs.declared.item.Row.{Row}
 use Rattle.wc_buffers.specs.declared.refused.BufferRefused.{BufferRefused}
 use Rattle.wc_buffers.specs.declared.refused.BufferRefused.TheVariants.{NoBuffer, IsCore, BadName, FixedVar, NameTaken, NoVar, SameGroup, NotMerged, BadNumber, TooMany, NoMemory}
 use Rattle.wc_buffers.specs.Calls.{Groups, is_there, no_buffer, add_refusal}
@@ -55,13 +58,13 @@ refusing v b c e r is same f = subst (λ r. Outcome v c b (Err r)) (sym is) (by 
     by (BadNumber n) f = (same, f (not_memory (BadNumber n) refl))
     by (TooMany n) f = (same, f (not_memory (TooMany n) refl))
 
-pub same_groups : {S : Type 0} (gs hs : Groups) (m : HashMap ℕ Held S) (limit next : ℕ) (v : World) → hs ≡ gs → world_of gs m limit next ≡ v → world_of hs m limit next ≡ v
-same_groups gs hs m limit next v e is = ap (λ g. world_of g m limit next) e ∙ is
+pub same_groups : {S : Type 0} (gs hs : Groups) (m : HashMap ℕ Held S) (ns : FinMap nat_cmp (List Row)) (limit next : ℕ) (v : World) → hs ≡ gs → world_of gs m ns limit next ≡ v → world_of hs m ns limit next ≡ v
+same_groups gs hs m ns limit next v e is = ap (λ g. world_of g m ns limit next) e ∙ is
 
-pub same_stored : {S T : Type 0} (gs hs : Groups) (m : HashMap ℕ Held S) (n : HashMap ℕ Held T) (limit next : ℕ) (v : World) → hs ≡ gs → ((q : ℕ) → held_at n q ≡ held_at m q) → world_of gs m limit next ≡ v → world_of hs n limit next ≡ v
-same_stored gs hs m n limit next v e s is =
+pub same_stored : {S T : Type 0} (gs hs : Groups) (m : HashMap ℕ Held S) (n : HashMap ℕ Held T) (ns ms : FinMap nat_cmp (List Row)) (limit next : ℕ) (v : World) → hs ≡ gs → ((q : ℕ) → held_at n q ≡ held_at m q) → ms ≡ ns → world_of gs m ns limit next ≡ v → world_of hs n ms limit next ≡ v
+same_stored gs hs m n ns ms limit next v e s k is =
     let lines : lines_map n ≡ lines_map m = same_lines m n s in
-    let same : world_of hs n limit next ≡ world_of gs m limit next = λ i. record { groups = e i; lines = lines i; limit = limit; next = next } in
+    let same : world_of hs n ms limit next ≡ world_of gs m ns limit next = λ i. record { groups = e i; lines = lines i; nicks = k i; limit = limit; next = next } in
     same ∙ is
 
 pub out_of_memory : (v b : World) (c : Change) (r : Result Notice ChangeRefused) → r ≡ Err ChangeRefused.NoMemory → b ≡ v → Outcome v c b r

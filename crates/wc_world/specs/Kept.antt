@@ -6,6 +6,7 @@ use Rattle.std.specs.Ordering.{nat_cmp}
 use Rattle.wc_lines.specs.declared.line.Line.{Line}
 use Rattle.wc_lines.specs.Held.{Held}
 use Rattle.wc_lines.specs.Ring.{has_content}
+use Rattle.wc_nicklist.specs.declared.item.Row.{Row}
 use Rattle.wc_buffers.specs.Calls.{Groups, handle_of}
 use Rattle.wc_buffers.specs.Groups.{has}
 use Rattle.wc_model.specs.World.{World}
@@ -42,8 +43,8 @@ pub record IsWorld {S : Type 0} (groups : Groups) (lines : HashMap ℕ Held S) (
   pub ended : next ≤ 2 ^ 62 + 1
 
 -- the world that these fields stand for
-abbrev pub world_of : {S : Type 0} → Groups → HashMap ℕ Held S → ℕ → ℕ → World
-world_of groups held limit next = record { groups = groups; lines = lines_map held; limit = limit; next = next }
+abbrev pub world_of : {S : Type 0} → Groups → HashMap ℕ Held S → FinMap nat_cmp (List Row) → ℕ → ℕ → World
+world_of groups held nicks limit next = record { groups = groups; lines = lines_map held; nicks = nicks; limit = limit; next = next }
 
 -- the lines of a buffer, with how many it holds at most
 abbrev pub held_in : World → ℕ → Option Held

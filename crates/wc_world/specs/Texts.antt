@@ -1,11 +1,12 @@
 -- The texts of a change are text.
 use Rattle.std.specs.Prelude.{All}
 use Rattle.std.specs.Str.{IsUtf8}
+use Rattle.wc_nicklist.specs.Rows.{TextsAreUtf8}
 use Rattle.wc_buffers.specs.Entries.{IsText}
 use Rattle.wc_buffers.specs.declared.row.BufferSpec.{BufferSpec}
 use Rattle.wc_model.specs.declared.change.LineSpec.{LineSpec}
 use Rattle.wc_model.specs.declared.change.What.{What}
-use Rattle.wc_model.specs.declared.change.What.TheVariants.{Add, Close, MoveTo, MergeInto, Unmerge, Hide, Unhide, Rename, ShortName, Title, SetVar, RemoveVar, Print, Clear, Flips}
+use Rattle.wc_model.specs.declared.change.What.TheVariants.{Add, Close, MoveTo, MergeInto, Unmerge, Hide, Unhide, Rename, ShortName, Title, SetVar, RemoveVar, Print, Clear, Flips, AddGroup, AddNick, RemoveGroup, RemoveNick, ChangeGroup, ChangeNick}
 
 pub record IsLineText (spec : LineSpec) : Type 0 where
   pub tags : All IsUtf8 spec.tags
@@ -34,3 +35,9 @@ IsChangeText (RemoveVar name) = Unit {0}
 IsChangeText (Print line) = IsLineText line
 IsChangeText Clear = Unit {0}
 IsChangeText (Flips flips) = Unit {0}
+IsChangeText (AddGroup parent item) = IsUtf8 parent × TextsAreUtf8 item
+IsChangeText (AddNick group item) = IsUtf8 group × TextsAreUtf8 item
+IsChangeText (RemoveGroup name) = Unit {0}
+IsChangeText (RemoveNick name) = Unit {0}
+IsChangeText (ChangeGroup item) = TextsAreUtf8 item
+IsChangeText (ChangeNick item) = TextsAreUtf8 item

@@ -23,7 +23,7 @@ const TAGS_LIMIT: usize = 256;
 
 /// The text cut at the limit. It is copied only where it is too long.
 #[tactic(auto, using(wc_text::proofs::CutLemmas::cut_inside))]
-fn cut_text(alloc: Global, text: Text, limit: usize) -> Result<Text, NoMemory>
+pub(crate) fn cut_text(alloc: Global, text: Text, limit: usize) -> Result<Text, NoMemory>
     requires { IsUtf8 text }
     ensures { IfOk result (λ cut. cut ≡ cut_to limit text) }
 {

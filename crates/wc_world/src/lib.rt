@@ -1,4 +1,4 @@
-//! The world: the buffers and the lines of each, changed as a whole.
+//! The world: the buffers with the lines and the nicklist of each, changed as a whole.
 #![tactic(auto)]
 
 mod all_lines;
@@ -7,13 +7,18 @@ mod cut;
 mod flags;
 mod held;
 mod near;
+mod nick_item;
+mod nicks;
 mod noticed;
 mod on_buffers;
 mod on_flips;
 mod on_lines;
+mod on_nicks;
 mod world;
 
 pub use world::World;
 
+#[cfg(test)]
+mod nick_tests;
 #[cfg(test)]
 mod tests;

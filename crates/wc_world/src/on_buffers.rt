@@ -5,13 +5,14 @@ ghost use Rattle.wc_model.specs.Notices.{Outcome, var_kind};
 ghost use Rattle.wc_model.specs.declared.change.What.{What as WhatValue};
 ghost use Rattle.wc_world.specs.Texts.{IsBufferText};
 
-use crate::held;
 use crate::noticed::{are_buffers, name_of, refused_by, told};
 use crate::world::{LAST_HANDLE, World};
+use crate::{held, nicks};
 use std::alloc::Global;
 use wc_buffers::{BufferRow, BufferSpec};
 use wc_lines::Lines;
 use wc_model::{ChangeRefused, EventKind, Notice};
+use wc_nicklist::Nicklist;
 use wc_text::{Handle, Pair, Text};
 
 /// A variable that is new was added, and else changed.
@@ -39,7 +40,9 @@ impl World {
         let handle = Handle(self.next);
         let full_name = spec.full_name.copy(alloc)?;
         let lines = Lines::new(alloc, self.limit)?;
+        let list = Nicklist::new(alloc, Handle(self.next + 3))?;
         held::reserve(&mut self.held)?;
+        nicks::reserve(&mut self.nicks)?;
         let row = BufferRow {
             handle,
             own_lines: Handle(self.next + 1),
@@ -59,11 +62,12 @@ impl World {
             return Err(ChangeRefused::Spent);
         }
         held::insert(&mut self.held, handle, lines);
+        nicks::insert(&mut self.nicks, handle, list);
         self.next += 4;
         Ok(told(&self.buffers, alloc, EventKind::Opened, handle, full_name))
     }
 
-    /// The buffer goes, and its lines with it.
+    /// The buffer goes, and its lines and its nicklist with it.
     pub(crate) fn close(&mut self, alloc: Global, h: Handle) -> Result<Notice, ChangeRefused>
         ensures { Outcome self.old (record { buffer = h; what = WhatValue.Close }) self.new result }
     {
@@ -74,6 +78,7 @@ impl World {
             Err(refused) => return Err(ChangeRefused::Buffer(refused)),
         }
         held::remove(&mut self.held, h);
+        self.row_count -= nicks::remove(&mut self.nicks, h);
         Ok(notice)
     }
 

@@ -1,24 +1,36 @@
-ghost use Rattle.std.specs.Prelude.{◌≡◌, ◌≤◌, IfOk, option_copied};
+ghost use Rattle.std.specs.Prelude.{◌≡◌, ◌≤◌, ℕ, IfOk, IfSome, option_copied, option_map, is_some};
+ghost use Rattle.std.specs.FinMap.{get};
+ghost use Rattle.wc_buffers.specs.Calls.{is_there};
+ghost use Rattle.wc_nicklist.specs.Rows.{IsRows, Nicks as NicksValue};
 ghost use Rattle.wc_world.specs.Kept.{held_in};
-ghost use Rattle.wc_model.specs.World.{core_row, first_world};
+ghost use Rattle.wc_world.specs.Nicks.{AreCut};
+ghost use Rattle.wc_model.specs.World.{core_row, first_world, rows_at, root_at};
 
 use crate::held::{self, Held as HeldLines};
+use crate::nicks::{self, Lists};
 use std::alloc::Global;
 use std::collections::HashMap;
 use std::marker::Model;
 use wc_buffers::{BufferRow, Buffers};
 use wc_lines::Lines;
+use wc_nicklist::Nicklist;
 use wc_text::{Handle, Items, NoMemory, Text};
 
 /// Handles are numbers up to this one.
 pub(crate) const LAST_HANDLE: u64 = 1 << 62;
 
-/// The buffers in groups, and the lines of each. It changes as a whole: a refused change leaves
-/// it as it was.
+/// All nicklists together have so many rows at most.
+pub(crate) const ROW_LIMIT: u64 = 1 << 20;
+
+/// The buffers in groups, and the lines and the nicklist of each. It changes as a whole: a refused
+/// change leaves it as it was.
 #[derive(Drop)]
 pub struct World {
     pub(crate) buffers: Buffers,
     pub(crate) held: HeldLines,
+    pub(crate) nicks: Lists,
+    /// The rows of all nicklists.
+    pub(crate) row_count: u64,
     pub(crate) limit: u32,
     pub(crate) next: u64,
 }
@@ -28,14 +40,15 @@ impl Model for World {
     ghost use Rattle.std.specs.FinMap as map;
     ghost use Rattle.wc_model.specs.World as model;
     ghost use Rattle.wc_world.specs.Kept.{world_of, IsWorld};
+    ghost use Rattle.wc_world.specs.Nicks.{rows_map, AreNicks};
 
     ghost Value = { model.World };
 
     ghost coded = { Prim.hlevel (codes, map.code) };
 
-    ghost view = { λ a. world_of a.buffers a.held a.limit a.next };
+    ghost view = { λ a. world_of a.buffers a.held (rows_map a.nicks) a.limit a.next };
 
-    ghost invariant = { λ a. IsWorld a.buffers a.held a.limit a.next };
+    ghost invariant = { λ a. IsWorld a.buffers a.held a.limit a.next × AreNicks a.buffers a.nicks a.row_count };
 }
 
 /// What is kept of the core buffer.
@@ -57,7 +70,7 @@ fn core_row(alloc: Global) -> Result<BufferRow, NoMemory>
 }
 
 impl World {
-    /// The core buffer alone, whose handles are 1 to 4. A buffer holds as many lines as the limit.
+    /// The core buffer alone, whose handles are 1 to 4, with no rows in its nicklist. A buffer holds as many lines as the limit.
     pub fn new(alloc: Global, limit: u32) -> Result<World, NoMemory>
         requires some { 1 ≤ limit }
         requires most { limit ≤ 4096 }
@@ -73,9 +86,15 @@ impl World {
         let mut held = HashMap::new(alloc);
         held::reserve(&mut held)?;
         held::insert(&mut held, Handle(1), lines);
+        let list = Nicklist::new(alloc, Handle(4))?;
+        let mut lists = HashMap::new(alloc);
+        nicks::reserve(&mut lists)?;
+        nicks::insert(&mut lists, Handle(1), list);
         Ok(World {
             buffers,
             held,
+            nicks: lists,
+            row_count: 0,
             limit,
             next: 5,
         })
@@ -94,6 +113,19 @@ impl World {
     {
         let _ = &self.buffers;
         self.held.get(&h.0)
+    }
+
+    /// The nicklist of a buffer. None exactly where it is not there.
+    pub fn nicks(&self, h: Handle) -> Option<&Nicklist>
+        ensures there { is_some (option_copied result) ≡ is_there h self.now.groups }
+        ensures stored { option_map (λ (x : NicksValue). x.rows) (option_copied result) ≡ get self.now.nicks h.0 }
+        ensures rows { IfSome result (λ list. list.now.rows ≡ rows_at self.now h.0) }
+        ensures root { IfSome result (λ list. list.now.root ≡ root_at h.0) }
+        ensures held { (b : ℕ) → IsRows (rows_at self.now b) }
+        ensures cut { IfSome result (λ list. AreCut list.now.rows) }
+    {
+        let _ = &self.buffers;
+        self.nicks.get(&h.0)
     }
 
     /// How many lines a buffer holds at most.

@@ -1,6 +1,6 @@
 use Rattle.std.proofs.Common.{sym, ◌∙◌, arith}
 use Rattle.wc_loop.specs.Endings.{number_of, status_of}
-use Rattle.wc_loop.proofs.OutcomeLemmas.{IsNumber-runs, Common-runs, Waits-runs, IfSome-headline, IfSome-causes, printed-by}
+use Rattle.wc_loop.proofs.OutcomeLemmas.{IsNumber-runs, Common-runs, Waits-runs, IfSome-headline, IfSome-stands, IfSome-calm, IfSome-causes, printed-by}
 use Rattle.wc_loop.proofs.MirrorLemmas.{Mirrored-last}
 use Rattle.wc_loop.proofs.program.run_program.Goals as goal
 
@@ -46,3 +46,28 @@ returns-clause-sent g c = λ none.
     let common = Common-runs _ _ _ _ (seen c.args.sockets.now) (seen c.run_words-outcome.new.sockets) _ _ c.requires c.run_words-outcome.ensures.runs in
     let status = c.end.ensures.status (λ seven. omega arith) in
     rw c.end.ensures.last (common.sent (sym status ∙ none))
+
+pub returns-clause-last : goal.returns-clause-last
+returns-clause-last g c =
+    let seen = g.S.Sockets.seen in
+    let common = Common-runs _ _ _ _ (seen c.args.sockets.now) (seen c.run_words-outcome.new.sockets) _ _ c.requires c.run_words-outcome.ensures.runs in
+    rw c.end.ensures.last common.counted
+
+pub returns-clause-stands : goal.returns-clause-stands
+returns-clause-stands g c =
+    let seen = g.S.Sockets.seen in
+    let common = Common-runs _ _ _ _ (seen c.args.sockets.now) (seen c.run_words-outcome.new.sockets) _ _ c.requires c.run_words-outcome.ensures.runs in
+    rw c.end.ensures.last (IfSome-stands _ _ _ _ common.left)
+
+pub returns-clause-calm : goal.returns-clause-calm
+returns-clause-calm g c =
+    let seen = g.S.Sockets.seen in
+    let common = Common-runs _ _ _ _ (seen c.args.sockets.now) (seen c.run_words-outcome.new.sockets) _ _ c.requires c.run_words-outcome.ensures.runs in
+    rw c.end.ensures.last (IfSome-calm _ _ _ _ common.left)
+
+pub returns-clause-asked : goal.returns-clause-asked
+returns-clause-asked g c = λ seven.
+    let seen = g.S.Sockets.seen in
+    let runs = rw c.as_slice.ensures.value at c.run_words-outcome.ensures.runs in
+    let common = Common-runs _ _ _ _ (seen c.args.sockets.now) (seen c.run_words-outcome.new.sockets) _ _ c.requires runs in
+    rw (c.end.ensures.status seven) common.asked

@@ -1,18 +1,14 @@
-use Rattle.std.proofs.Common.{◌≤◌, ◌-◌, length, take, drop}
+use Rattle.std.proofs.Common.{◌≤◌, ◌-◌, length, take}
 use Rattle.wc_nicklist.specs.Order.{key_at, address_of}
-use Rattle.wc_nicklist.specs.Stored.{AllBefore, FirstNotBefore}
+use Rattle.wc_nicklist.specs.Stored.{AllBefore}
 use Rattle.wc_nicklist.proofs.leaf.place.Given as goal
 
--- the rows below `low` stand before the address, and those from `high` on do not
-abbrev pub invariant-loop-low : goal.invariant-loop-low
-invariant-loop-low l =
-    let a = address_of l.address.path.now (key_at l.address.is_group l.address.name.now) in
-    record {
-      order : l.low ≤ l.high;
-      within : l.high ≤ length l.rows;
-      left : AllBefore (take l.low l.rows) a;
-      right : FirstNotBefore (drop l.high l.rows) a;
-    }
+-- the rows so far stand before the address
+abbrev pub invariant-loop-at : goal.invariant-loop-at
+invariant-loop-at l = record {
+  within : l.at ≤ length l.rows;
+  left : AllBefore (take l.at l.rows) (address_of l.address.path.now (key_at l.address.is_group l.address.name.now));
+}
 
-abbrev pub decreases-loop-low : goal.decreases-loop-low
-decreases-loop-low l = l.high - l.low
+abbrev pub decreases-loop-at : goal.decreases-loop-at
+decreases-loop-at l = length l.rows - l.at

@@ -1,4 +1,4 @@
-use Rattle.wc_settled.proofs.ExampleLemmas.{three_lines_settle, three_lines_settle_buffers}
+use Rattle.wc_settled.proofs.ExampleLemmas.{three_lines_settle, three_lines_settle_buffers, three_lines_settle_nicks}
 use Rattle.wc_settled.proofs.laws.three_lines_settle.Goals as goal
 
 pub returns-clause-lines : goal.returns-clause-lines
@@ -6,3 +6,6 @@ returns-clause-lines c = λ limit. three_lines_settle limit
 
 pub returns-clause-buffers : goal.returns-clause-buffers
 returns-clause-buffers c = λ limit. three_lines_settle_buffers limit
+
+pub returns-clause-nicks : goal.returns-clause-nicks
+returns-clause-nicks c = λ limit. three_lines_settle_nicks limit

@@ -1,48 +1,21 @@
-use Rattle.std.proofs.Common.{◌≡◌, ◌≤◌, ℕ, true, false, Some, None, List, length, sym, ap, ◌∙◌, subst}
-use Rattle.std.specs.Prelude.{is_some}
-use Rattle.std.proofs.lemmas.Bool.{true≢false}
-use Rattle.wc_nicklist.specs.declared.refused.NickRefused.TheVariants.{NameTaken}
-use Rattle.wc_nicklist.specs.Calls.{name_refusal}
+use Rattle.std.proofs.Common.{◌≡◌, None, sym, ap, ◌∙◌}
+use Rattle.wc_nicklist.specs.Calls.{add_refusal}
 use Rattle.wc_nicklist.specs.Order.{key_at}
-use Rattle.wc_nicklist.specs.Rows.{find_row, path_below}
-use Rattle.wc_nicklist.proofs.Keeps.{not_memory}
-use Rattle.wc_nicklist.proofs.Refusals.{is_name, add_named, add_orphan, add_taken, add_accepted}
+use Rattle.wc_nicklist.specs.Rows.{find_row, Nicks}
+use Rattle.wc_nicklist.proofs.Refusals.{may_add}
 use Rattle.wc_nicklist.proofs.nicklist.Nicklist.add.Goals as goal
 
-pub returns-in-Some-clause-refused : goal.returns-in-Some-clause-refused
-returns-in-Some-clause-refused c = λ _. add_named c.args.is_group c.args.item.name c.args.self.now.rows c.args.parent.now c.in-Some.refused (ap (name_refusal c.args.is_group) (sym c.as_slice.ensures) ∙ sym c.in-Some.ensures)
+pub prepare-requires : goal.prepare-requires
+prepare-requires c =
+    let e : add_refusal c.args.is_group c.args.parent.now c.args.item.name c.args.self.now.rows ≡ None = ap (λ n. add_refusal c.args.is_group c.args.parent.now n c.args.self.now.rows) (sym c.as_slice.ensures) ∙ c.add_refusal.ensures.none c.in_default.is in
+    (may_add c.args.is_group c.args.item.name c.args.self.now.rows c.args.parent.now e).parent
 
-pub returns-in-Some-clause-room : goal.returns-in-Some-clause-room
-returns-in-Some-clause-room c = λ _ m. not_memory c.args.is_group c.as_slice.result.now c.in-Some.refused (sym c.in-Some.ensures) cc
+pub put-requires-clause-absent : goal.put-requires-clause-absent
+put-requires-clause-absent c =
+    let e : add_refusal c.args.is_group c.args.parent.now c.args.item.name c.args.self.now.rows ≡ None = ap (λ n. add_refusal c.args.is_group c.args.parent.now n c.args.self.now.rows) (sym c.as_slice.ensures) ∙ c.add_refusal.ensures.none c.in_default.is in
+    ap (λ (list : Nicks). find_row (key_at c.args.is_group c.args.item.name) list.rows) c.in-Ok.ensures.ok ∙ (may_add c.args.is_group c.args.item.name c.args.self.now.rows c.args.parent.now e).absent
 
-pub returns-then-not-has_parent-clause-refused : goal.returns-then-not-has_parent-clause-refused
-returns-then-not-has_parent-clause-refused c = λ n.
-    let named : name_refusal c.args.is_group c.args.item.name ≡ None = ap (name_refusal c.args.is_group) (sym c.as_slice.ensures) ∙ sym c.refusal_of_name.ensures ∙ c.in_default.is in
-    let orphan : is_some (path_below c.args.parent.now c.args.self.now.rows) ≡ false = cc in
-    add_orphan c.args.is_group c.args.item.name c.args.self.now.rows c.args.parent.now named orphan ∙ ap Some (sym (c.no_parent.ensures n))
-
-pub returns-then-not-has_parent-clause-room : goal.returns-then-not-has_parent-clause-room
-returns-then-not-has_parent-clause-room c = λ r m.
-    let there : c.has_parent.result ≡ true = c.has_parent.ensures.room (r ∙ ap Some (sym c.as_slice-2.ensures)) in
-    let orphan : c.has_parent.result ≡ false = cc in
-    true≢false (sym there ∙ orphan)
-
-pub from_slice-requires : goal.from_slice-requires
-from_slice-requires c =
-    let named : name_refusal c.args.is_group c.args.item.name ≡ None = ap (name_refusal c.args.is_group) (sym c.as_slice.ensures) ∙ sym c.refusal_of_name.ensures ∙ c.in_default.is in
-    let P : List ℕ → Type 0 = λ l. length l ≤ 64 in
-    subst P (sym c.as_slice-then-has.ensures) (is_name c.args.is_group c.args.item.name named).bounds.1
-
-pub returns-then-has-clause-refused : goal.returns-then-has-clause-refused
-returns-then-has-clause-refused c = λ _.
-    let named : name_refusal c.args.is_group c.args.item.name ≡ None = ap (name_refusal c.args.is_group) (sym c.as_slice.ensures) ∙ sym c.refusal_of_name.ensures ∙ c.in_default.is in
-    let parent : is_some (path_below c.args.parent.now c.args.self.now.rows) ≡ true = cc in
-    let taken : is_some (find_row (key_at c.args.is_group c.args.item.name) c.args.self.now.rows) ≡ true = cc in
-    add_taken c.args.is_group c.args.item.name c.args.self.now.rows c.args.parent.now named parent taken ∙ ap (λ n. Some (NameTaken n)) (sym (c.from_slice.ensures ∙ c.as_slice-then-has.ensures))
-
-pub returns-in-Ok-clause-accepted : goal.returns-in-Ok-clause-accepted
-returns-in-Ok-clause-accepted c =
-    let named : name_refusal c.args.is_group c.args.item.name ≡ None = ap (name_refusal c.args.is_group) (sym c.as_slice.ensures) ∙ sym c.refusal_of_name.ensures ∙ c.in_default.is in
-    let parent : is_some (path_below c.args.parent.now c.args.self.now.rows) ≡ true = cc in
-    let absent : is_some (find_row (key_at c.args.is_group c.args.item.name) c.args.self.now.rows) ≡ false = cc in
-    add_accepted c.args.is_group c.args.item.name c.args.self.now.rows c.args.parent.now named parent absent
+pub put-requires-clause-named : goal.put-requires-clause-named
+put-requires-clause-named c =
+    let e : add_refusal c.args.is_group c.args.parent.now c.args.item.name c.args.self.now.rows ≡ None = ap (λ n. add_refusal c.args.is_group c.args.parent.now n c.args.self.now.rows) (sym c.as_slice.ensures) ∙ c.add_refusal.ensures.none c.in_default.is in
+    (may_add c.args.is_group c.args.item.name c.args.self.now.rows c.args.parent.now e).named

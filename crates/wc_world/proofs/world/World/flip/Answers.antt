@@ -7,6 +7,7 @@ use Rattle.wc_world.specs.Flips.{IsPlan}
 use Rattle.wc_world.specs.Near.{numbers}
 use Rattle.wc_world.specs.Told.{told_at}
 use Rattle.wc_model.specs.declared.notice.EventKind.TheVariants as kinds
+use Rattle.wc_world.specs.Nicks.{rows_map}
 use Rattle.wc_world.proofs.FlipsDone.{not_planned, flips_refused, all_set, kept_set, flips_done}
 use Rattle.wc_world.proofs.world.World.flip.Goals as goal
 
@@ -19,14 +20,16 @@ returns-in_err-plan c =
 pub invariant_of-self : goal.invariant_of-self
 invariant_of-self c =
     let plan : IsPlan c.args.flips c.args.self.now c.in_ok-plan.plan = subst (λ flips. IsPlan flips c.args.self.now c.in_ok-plan.plan) c.as_slice.ensures c.in_ok-plan.ensures in
-    let ordered = ap numbers c.as_slice-2.ensures ∙ plan.ordered ∙ sym (ap (λ (w : World). order w.groups) c.self.view_is) in
-    kept_set c.self.inside.buffers c.self.inside.held c.set_flags.new.held c.self.inside.limit c.self.inside.next c.self.invariant c.args.flips
-    (all_set c.self.inside.buffers c.self.inside.held c.set_flags.new.held c.self.inside.limit c.self.inside.next c.args.flips (flag_at c.in_ok-plan.plan.flags) _ c.self.invariant ordered plan.last c.set_flags.ensures)
+    let ordered = ap numbers c.as_slice-2.ensures ∙ plan.ordered ∙ sym (ap (λ (w : World). order w.groups) c.self.view_is) in (
+      kept_set c.self.inside.buffers c.self.inside.held c.set_flags.new.held (rows_map c.self.inside.nicks) c.self.inside.limit c.self.inside.next c.self.invariant.0 c.args.flips
+          (all_set c.self.inside.buffers c.self.inside.held c.set_flags.new.held c.self.inside.limit c.self.inside.next c.args.flips (flag_at c.in_ok-plan.plan.flags) _ c.self.invariant.0 ordered plan.last c.set_flags.ensures),
+      c.self.invariant.1,
+    )
 
 pub returns : goal.returns
 returns c =
     let plan : IsPlan c.args.flips c.args.self.now c.in_ok-plan.plan = subst (λ flips. IsPlan flips c.args.self.now c.in_ok-plan.plan) c.as_slice.ensures c.in_ok-plan.ensures in
     let ordered = ap numbers c.as_slice-2.ensures ∙ plan.ordered ∙ sym (ap (λ (w : World). order w.groups) c.self.view_is) in
-    flips_done c.self.inside.buffers c.self.inside.held c.set_flags.new.held c.self.inside.limit c.self.inside.next c.self.invariant c.args.flips
-    (all_set c.self.inside.buffers c.self.inside.held c.set_flags.new.held c.self.inside.limit c.self.inside.next c.args.flips (flag_at c.in_ok-plan.plan.flags) _ c.self.invariant ordered plan.last c.set_flags.ensures)
+    flips_done c.self.inside.buffers c.self.inside.held c.set_flags.new.held (rows_map c.self.inside.nicks) c.self.inside.limit c.self.inside.next c.self.invariant.0 c.args.flips
+    (all_set c.self.inside.buffers c.self.inside.held c.set_flags.new.held c.self.inside.limit c.self.inside.next c.args.flips (flag_at c.in_ok-plan.plan.flags) _ c.self.invariant.0 ordered plan.last c.set_flags.ensures)
     c.args.self.now c.args.h c.self.view_is plan.all_held [] c.in_ok-plan.plan.differing c.noticed.result refl plan.found c.in_ok-full_name.full_name c.in_ok-full_name.ensures (c.noticed.ensures ∙ ap (λ lines. told_at kinds.LineDataChanged (record { 0 = 0 }) c.self.inside.buffers c.in_ok-full_name.full_name lines c.in_ok-plan.plan.differing) c.new.ensures)

@@ -1,0 +1,5 @@
+use Rattle.wc_core.proofs.PushLemmas.{tick-done}
+use Rattle.wc_core.proofs.core_state.Core.tick.Goals as goal
+
+pub returns-clause-does : goal.returns-clause-does
+returns-clause-does c = rw (← c.self.view_is) (tick-done _ c.push_nicks.new.self c.args.moment c.push_nicks.ensures.same c.push_nicks.ensures.none)

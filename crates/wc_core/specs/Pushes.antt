@@ -1,0 +1,55 @@
+-- What is told of the nicklists that were touched.
+use Rattle.std.specs.Prelude.{◌≡◌, ℕ, true, List, [], ◌∷◌, ◌++◌, if◌then◌else◌}
+use Rattle.std.specs.List.{flat_map}
+use Rattle.wc_text.specs.declared.names.Handle.{Handle}
+use Rattle.wc_nicklist.specs.declared.item.Row.{Row}
+use Rattle.wc_nickdiff.specs.declared.push.Push.{Push}
+use Rattle.wc_nickdiff.specs.Held.{OfBuffer, before_at, touches_of}
+use Rattle.wc_nickdiff.specs.NickPush.{nick_push}
+use Rattle.wc_nickdiff.specs.Told.{IsTold}
+use Rattle.wc_buffers.specs.Calls.{is_there}
+use Rattle.wc_model.specs.World.{World, rows_at, root_at}
+use Rattle.wc_objects.specs.declared.object.WireMessage.{WireMessage}
+use Rattle.wc_session.specs.declared.client.Client.{Client}
+use Rattle.wc_session.specs.Event.{push_told}
+use Rattle.wc_session.specs.Sending.{spelling}
+use Rattle.wc_core.specs.declared.seat.Seat.{Seat}
+use Rattle.wc_core.specs.Served.{is_open}
+
+-- no key was touched since each buffer's last push
+abbrev pub NothingTouched : List OfBuffer → Type 0
+NothingTouched pending = (buffer : Handle) → touches_of buffer pending ≡ []
+
+-- these are the rows that were told of a buffer
+abbrev pub WasTold : World → List OfBuffer → Handle → List Row → Type 0
+WasTold world pending buffer told = IsTold (λ k. before_at k (touches_of buffer pending)) (rows_at world buffer.0) told
+
+-- these are the rows that were told of each buffer
+abbrev pub AreTold : World → List OfBuffer → (ℕ → List Row) → Type 0
+AreTold world pending told = (buffer : Handle) → WasTold world pending buffer (told buffer.0)
+
+-- what is pushed of a buffer of which these rows were told
+abbrev pub push_of : World → ℕ → List Row → Push
+push_of world buffer told = nick_push (root_at buffer) told (rows_at world buffer)
+
+-- what a client is told of the pushes of these buffers, one after another
+abbrev pub pushes_told : World → (ℕ → List Row) → List ℕ → Client → List WireMessage
+pushes_told world told buffers client = flat_map (λ b. push_told (record { 0 = b }) (push_of world b (told b)) client) buffers
+
+-- a seat with messages behind its unsent bytes, where its client is open
+abbrev pub sent_seat : List WireMessage → Seat → Seat
+sent_seat messages seat =
+    if is_open seat then record seat { session = record seat.session { unsent = seat.session.unsent ++ flat_map (λ m. spelling m) messages } } else seat
+
+-- a seat behind the push of a buffer
+abbrev pub push_seat : Handle → Push → Seat → Seat
+push_seat buffer push seat = sent_seat (push_told buffer push seat.session.client) seat
+
+-- a seat behind the pushes of these buffers
+abbrev pub pushed_seat : World → (ℕ → List Row) → List ℕ → Seat → Seat
+pushed_seat world told buffers seat = sent_seat (pushes_told world told buffers seat.session.client) seat
+
+-- these buffers are there
+abbrev pub AreThere : World → List Handle → Type 0
+AreThere world [] = Unit {0}
+AreThere world (buffer ∷ buffers) = (is_there buffer world.groups ≡ true) × AreThere world buffers

@@ -1,0 +1,14 @@
+pub mod Buffers
+pub mod Compares
+pub mod Copies
+pub mod FullLaw
+pub mod Items
+pub mod Keys
+pub mod Picked
+pub mod PushLaw
+pub mod Sorted
+pub mod Split
+pub mod Steps
+pub mod TouchLaw
+pub mod Touches
+pub mod Written

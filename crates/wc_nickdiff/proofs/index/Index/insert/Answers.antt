@@ -1,0 +1,9 @@
+use Rattle.std.proofs.Common.{Some}
+use Rattle.wc_nickdiff.proofs.Keys.{in_groups, in_nicks}
+use Rattle.wc_nickdiff.proofs.index.Index.insert.Goals as goal
+
+pub returns-then-is_group : goal.returns-then-is_group
+returns-then-is_group c = in_groups c.args.is_group c.if-is_group.true c.args.name.items (Some c.args.place) c.args.self.now c.insert.new.places c.insert.ensures
+
+pub returns-else-is_group : goal.returns-else-is_group
+returns-else-is_group c = in_nicks c.args.is_group c.if-is_group.false c.args.name.items (Some c.args.place) c.args.self.now c.insert-else-is_group.new.places c.insert-else-is_group.ensures

@@ -1,0 +1,48 @@
+ghost use Rattle.std.specs.Prelude.{◌≡◌};
+
+use wc_nicklist::Item;
+
+/// What an item of a diff does.
+#[derive(Clone, Copy, Debug, PartialEq, Eq)]
+pub enum Mark {
+    /// It names the group that the items behind it stand in.
+    Parent,
+    /// It comes in.
+    Added,
+    /// It goes.
+    Removed,
+    /// It gets other fields.
+    Changed,
+}
+
+impl Mark {
+    ghost use Rattle.wc_nickdiff.specs.Apply.{is_parent};
+    ghost use Rattle.wc_nickdiff.specs.Compared.{is_out};
+
+    /// Whether an item with it names a group for those behind it.
+    pub(crate) fn names_parent(self) -> bool
+        ensures { result ≡ is_parent self }
+    {
+        match self {
+            Mark::Parent => true,
+            Mark::Added | Mark::Removed | Mark::Changed => false,
+        }
+    }
+
+    /// Whether an item with it is told as it was before.
+    pub(crate) fn is_out(self) -> bool
+        ensures { result ≡ is_out self }
+    {
+        match self {
+            Mark::Removed => true,
+            Mark::Parent | Mark::Added | Mark::Changed => false,
+        }
+    }
+}
+
+/// An item of a diff.
+#[derive(Drop)]
+pub struct DiffItem {
+    pub mark: Mark,
+    pub item: Item,
+}

@@ -1,0 +1,204 @@
+//! The nicklist that items say.
+
+ghost use Rattle.std.specs.Prelude.{◌≡◌, ◌++◌, ◌∷◌, [], true, false, option_map, option_copied, IfOk, IsTrue};
+ghost use Rattle.std.specs.List.{slice_get};
+ghost use Rattle.std.specs.Vec.Iter.{into_iter_items};
+ghost use Rattle.wc_nicklist.specs.Rows.{last_or, root_name, TextsAreUtf8};
+ghost use Rattle.wc_view.specs.NickFold.{are_rows, is_root_item, rows_listed};
+ghost use Rattle.wc_view.specs.NickLists.{next_row, comes_behind, rows_behind, Took, IsListing, ItemsAreUtf8};
+
+use std::alloc::Global;
+use std::cmp::Ordering;
+use std::vec::IntoIter;
+use wc_nicklist::{Item, NickRefused, Nicklist};
+use wc_text::{Handle, NoMemory, Text, fold_cmp};
+
+/// The name of the root, which is no group's.
+const ROOT_NAME: &[u8] = b"root";
+
+/// A nicklist that is read row by row, each behind those before it.
+#[derive(Drop)]
+pub(crate) struct Listing {
+    pub list: Nicklist,
+    /// The names of the groups that a nick behind the last row stands in.
+    pub path: Vec<Text>,
+    /// The name of the last row, where that is a nick.
+    pub nick: Option<Text>,
+    /// The name of the parent where the path is empty.
+    pub root_name: Text,
+}
+
+impl Listing {
+    /// No row yet, below a root of this handle.
+    fn new(alloc: Global, root: Handle) -> Result<Listing, NoMemory>
+        ensures rows { IfOk result (λ listing. listing.list.rows ≡ []) }
+        ensures listing { IfOk result IsListing }
+        ensures root { IfOk result (λ listing. listing.root_name ≡ root_name) }
+    {
+        Ok(Listing {
+            list: Nicklist::new(alloc, root)?,
+            path: Vec::new(alloc),
+            nick: None,
+            root_name: Text::from_slice(alloc, ROOT_NAME)?,
+        })
+    }
+
+    /// Puts a row behind the others. False where it can't stand there.
+    fn push(&mut self, alloc: Global, item: Item) -> Result<bool, NoMemory>
+        requires utf8 { TextsAreUtf8 item }
+        requires listing { IsListing self.old }
+        requires root { self.old.root_name ≡ root_name }
+        ensures fits { IfOk result (λ fits. fits ≡ are_rows (self.old.list.rows ++ next_row self.old.list.rows item ∷ [])) }
+        ensures after { IfOk result (λ fits. IsTrue fits → self.new.list.rows ≡ self.old.list.rows ++ next_row self.old.list.rows item ∷ []) }
+        ensures listing { IfOk result (λ fits. IsTrue fits → IsListing self.new) }
+        ensures root { IfOk result (λ fits. self.new.root_name ≡ root_name) }
+    {
+        if item.is_group {
+            self.push_group(alloc, item)
+        } else {
+            self.push_nick(alloc, item)
+        }
+    }
+
+    fn push_nick(&mut self, alloc: Global, nick: Item) -> Result<bool, NoMemory>
+        requires kind { nick.is_group ≡ false }
+        requires utf8 { TextsAreUtf8 nick }
+        requires listing { IsListing self.old }
+        requires root { self.old.root_name ≡ root_name }
+        ensures fits { IfOk result (λ fits. fits ≡ are_rows (self.old.list.rows ++ next_row self.old.list.rows nick ∷ [])) }
+        ensures after { IfOk result (λ fits. IsTrue fits → self.new.list.rows ≡ self.old.list.rows ++ next_row self.old.list.rows nick ∷ []) }
+        ensures listing { IfOk result (λ fits. IsTrue fits → IsListing self.new) }
+        ensures root { IfOk result (λ fits. self.new.root_name ≡ root_name) }
+    {
+        if nick.level != 0 {
+            return Ok(false);
+        }
+        if !comes_behind(self.nick.as_ref(), nick.name.as_slice()) {
+            return Ok(false);
+        }
+        let name = nick.name.copy(alloc)?;
+        let parent = parent_in(&self.path, &self.root_name);
+        let outcome = self.list.add_nick(alloc, parent, nick);
+        let taken = is_taken(outcome)?;
+        if !taken {
+            return Ok(false);
+        }
+        self.nick = Some(name);
+        Ok(true)
+    }
+
+    fn push_group(&mut self, alloc: Global, group: Item) -> Result<bool, NoMemory>
+        requires kind { group.is_group ≡ true }
+        requires utf8 { TextsAreUtf8 group }
+        requires listing { IsListing self.old }
+        requires root { self.old.root_name ≡ root_name }
+        ensures fits { IfOk result (λ fits. fits ≡ are_rows (self.old.list.rows ++ next_row self.old.list.rows group ∷ [])) }
+        ensures after { IfOk result (λ fits. IsTrue fits → self.new.list.rows ≡ self.old.list.rows ++ next_row self.old.list.rows group ∷ []) }
+        ensures listing { IfOk result (λ fits. IsTrue fits → IsListing self.new) }
+        ensures root { IfOk result (λ fits. self.new.root_name ≡ root_name) }
+    {
+        if group.level == 0 {
+            return Ok(false);
+        }
+        let depth = (group.level - 1) as usize;
+        if depth > self.path.len() {
+            return Ok(false);
+        }
+        if !comes_behind(sibling_at(&self.path, depth), group.name.as_slice()) {
+            return Ok(false);
+        }
+        let name = group.name.copy(alloc)?;
+        self.path.truncate(depth);
+        let parent = parent_in(&self.path, &self.root_name);
+        let outcome = self.list.add_group(alloc, parent, group);
+        let taken = is_taken(outcome)?;
+        if !taken {
+            return Ok(false);
+        }
+        self.nick = None;
+        let Ok(()) = self.path.push(name) else {
+            return Err(NoMemory);
+        };
+        Ok(true)
+    }
+}
+
+/// Whether a nicklist took a row.
+fn is_taken(outcome: Result<(), NickRefused>) -> Result<bool, NoMemory>
+    ensures { IfOk result (λ taken. Took outcome taken) }
+{
+    match outcome {
+        Ok(()) => Ok(true),
+        Err(NickRefused::NoMemory) => Err(NoMemory),
+        Err(_) => Ok(false),
+    }
+}
+
+/// The name of the group that what has this path stands in.
+fn parent_in<'a>(path: &'a [Text], root_name: &'a Text) -> &'a Text
+    ensures { result.now ≡ last_or root_name.now path.now }
+{
+    match path.last() {
+        Some(name) => name,
+        None => root_name,
+    }
+}
+
+/// The name at a depth of a path, where the path is as deep.
+fn sibling_at(path: &[Text], depth: usize) -> Option<&Text>
+    ensures { option_copied result ≡ slice_get path.now depth }
+{
+    path.get(depth)
+}
+
+/// Whether a name comes behind that of the row before it at its place.
+fn comes_behind(other: Option<&Text>, name: &[u8]) -> bool
+    ensures { result ≡ comes_behind (option_copied other.entry) name.now }
+{
+    match other {
+        Some(other) => fold_cmp(other.as_slice(), name) == Ordering::Less,
+        None => true,
+    }
+}
+
+/// Whether an item is that of the root.
+fn is_root_item(item: &Item) -> bool
+    ensures { result ≡ is_root_item item.now }
+{
+    item.is_group && item.name.as_slice() == ROOT_NAME
+}
+
+/// The nicklist of the rows behind a root of this handle.
+fn list_behind(
+    alloc: Global,
+    root: Handle,
+    rows: IntoIter<Item>,
+) -> Result<Option<Nicklist>, NoMemory>
+    requires { ItemsAreUtf8 (into_iter_items rows) }
+    ensures { IfOk result (λ list. option_map (λ list. list.rows) list ≡ rows_behind (into_iter_items rows)) }
+{
+    let mut listing = Listing::new(alloc, root)?;
+    for item in rows {
+        let fits = listing.push(alloc, item)?;
+        if !fits {
+            return Ok(None);
+        }
+    }
+    Ok(Some(listing.list))
+}
+
+/// The nicklist of items. None where they are something else than one root and behind it rows that a nicklist can
+/// hold, in canonical order.
+pub(crate) fn list_of(alloc: Global, items: Vec<Item>) -> Result<Option<Nicklist>, NoMemory>
+    requires { ItemsAreUtf8 items.items }
+    ensures { IfOk result (λ list. option_map (λ list. list.rows) list ≡ rows_listed items.items) }
+{
+    let mut rows = items.into_iter();
+    let Some(root) = rows.next() else {
+        return Ok(None);
+    };
+    if !is_root_item(&root) {
+        return Ok(None);
+    }
+    list_behind(alloc, root.handle, rows)
+}
