@@ -142,7 +142,7 @@ front_of_rows : (xs ys rest : List Row) (a : List Key) → 0 < length ys → Asc
 front_of_rows xs [] rest a n h b = absurd (omega arith)
 front_of_rows xs (y ∷ ys) rest a n h b = front_before xs y (ys ++ rest) a h b.0
 
-vec_filled : (l : Leaf) → 0 < vec_len l → 0 < length l.items
+pub vec_filled : (l : Leaf) → 0 < vec_len l → 0 < length l.items
 vec_filled l h = let e = l.ok in omega arith
 
 pub leaves_before : (leaves : List Leaf) (a : List Key) (c : ℕ) (l : Leaf) → AreLeaves leaves → Ascending (rows_in leaves) → IsSplitAt leaves c l (drop (suc c) leaves) → AllBefore l.items a → AllBefore (rows_in (take (c + 1) leaves)) a

@@ -6,6 +6,7 @@ pub mod Held
 pub mod Joined
 pub mod Keeps
 pub mod Keys
+pub mod Lasts
 pub mod Leaves
 pub mod Lengths
 pub mod Names

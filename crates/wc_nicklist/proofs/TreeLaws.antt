@@ -1,6 +1,6 @@
 -- The edits of a tree of leaves are those of its rows.
-use Rattle.std.proofs.Common.{◌≡◌, ℕ, zero, suc, ◌+◌, ◌≤◌, ◌<◌, true, false, Option, Some, None, List, [], ◌∷◌, ◌++◌, length, take, drop, refl, sym, ap, ◌∙◌, subst, arith, append_assoc, append-nil, length-take, length-append}
-use Rattle.std.specs.Prelude.{slice_get, slice_set, insert, remove, IfSome, vec_len, vec_capacity}
+use Rattle.std.proofs.Common.{◌≡◌, ℕ, zero, suc, ◌+◌, ◌≤◌, ◌<◌, false, Some, None, List, [], ◌∷◌, ◌++◌, length, take, drop, refl, sym, ap, ◌∙◌, subst, arith, append_assoc, append-nil, length-take, length-append}
+use Rattle.std.specs.Prelude.{slice_set, insert, remove, IsSomeAnd, vec_len, vec_capacity}
 use Rattle.std.specs.Prelude.{◌==◌}
 use Rattle.std.proofs.lemmas.Bool.{true≢false}
 use Rattle.std.proofs.lemmas.List.{take_at, drop_at}
@@ -8,95 +8,52 @@ use Rattle.wc_nicklist.specs.declared.item.Item.{Item}
 use Rattle.wc_nicklist.specs.declared.item.Key.{Key}
 use Rattle.wc_nicklist.specs.declared.item.Row.{Row}
 use Rattle.wc_nicklist.specs.Order.{key, address, address_of}
-use Rattle.wc_nicklist.specs.Rows.{key_eq, find_row, insert_row, remove_row, replace_row, changed_row, change_found, change_row, Keyed, IsRows}
+use Rattle.wc_nicklist.specs.Rows.{find_row, insert_row, remove_row, replace_row, changed_row, change_found, change_row, Keyed, IsRows}
 use Rattle.wc_nicklist.specs.Stored.{AllBefore, FirstNotBefore, IsPlace, IsSplitAt}
 use Rattle.wc_nicklist.specs.Tree.{Leaf, rows_in, IsLeaf, AreLeaves, IsLeafPlace, IsRoomyPlace, AreNearlyLeaves, StandsIn}
 use Rattle.wc_nicklist.proofs.Leaves.{rows_in-append, rows_at, cut_at, front, back, leaves_left, leaves_right, leaves-append, all_before-append, take_when_none}
-use Rattle.wc_nicklist.proofs.Places.{found_place, insert_place, remove_place, replace_place, there_found, drop_of_get, split_at}
-use Rattle.wc_nicklist.proofs.RowLaws.{find_key, key_eq-at}
+use Rattle.wc_nicklist.proofs.Places.{found_place, insert_place, remove_place, replace_place, split_at}
+use Rattle.wc_nicklist.proofs.RowLaws.{find_key}
 
 -- What stands first behind a cut tells whether there is such a row.
 cut_found : (a b : List Row) (path : List (List ℕ)) (k : Key) (r : Row) → IsRows (a ++ b) → AllBefore a (address_of path k) → FirstNotBefore b (address_of path k) → find_row k (a ++ b) ≡ Some r → r.path ≡ path → (rest : List Row) × (b ≡ r ∷ rest)
 cut_found a b path k r ok l f e i = found_place a b (address_of path k) k r ok.ascending l f e (λ j. address_of (i j) (find_key k (a ++ b) r e j))
 
-cut_same : (a b : List Row) (x : Row) (path : List (List ℕ)) (k : Key) → IsRows (a ++ x ∷ b) → AllBefore a (address_of path k) → FirstNotBefore (x ∷ b) (address_of path k) → IfSome (find_row k (a ++ x ∷ b)) (λ r. r.path ≡ path) → key_eq (key x) k ≡ true → find_row k (a ++ x ∷ b) ≡ Some x
-cut_same a b x path k ok l f h t = go (find_row k (a ++ x ∷ b)) refl h
-  where
-    go : (o : Option Row) → find_row k (a ++ x ∷ b) ≡ o → IfSome o (λ r. r.path ≡ path) → o ≡ Some x
-    go None e i = absurd (there_found a b x k t e)
-    go (Some r) e i = let g = cut_found a (x ∷ b) path k r ok l f e i in let j = g.1 in cc
+pub some_leaves : (P : Row → Type 0) (k : Key) (leaves : List Leaf) → IsSomeAnd (find_row k (rows_in leaves)) P → 0 < length leaves
+some_leaves P k [] h = absurd h
+some_leaves P k (l ∷ ls) h = omega arith
 
-cut_other : (a b : List Row) (x : Row) (path : List (List ℕ)) (k : Key) → IsRows (a ++ x ∷ b) → AllBefore a (address_of path k) → FirstNotBefore (x ∷ b) (address_of path k) → IfSome (find_row k (a ++ x ∷ b)) (λ r. r.path ≡ path) → key_eq (key x) k ≡ false → find_row k (a ++ x ∷ b) ≡ None
-cut_other a b x path k ok l f h t = go (find_row k (a ++ x ∷ b)) refl h
-  where
-    go : (o : Option Row) → find_row k (a ++ x ∷ b) ≡ o → IfSome o (λ r. r.path ≡ path) → o ≡ None
-    go None e i = refl
-    go (Some r) e i =
-        let g = cut_found a (x ∷ b) path k r ok l f e i in
-        let j = g.1 in
-        let same : x ≡ r = cc in
-        absurd (true≢false (sym (key_eq-at (key r) k (find_key k (a ++ x ∷ b) r e)) ∙ ap (λ z. key_eq (key z) k) (sym same) ∙ t))
+-- The same in a leaf, where there is such a row: it stands at the place of its address.
+module _ (leaves : List Leaf) (path : List (List ℕ)) (k : Key) (c : ℕ) (p : IsLeafPlace leaves (address_of path k) c) (ok : IsRows (rows_in leaves)) where
+  rest_of : List Row → List Row
+  rest_of xs = xs ++ rows_in (drop (suc c) leaves)
 
-cut_none : (a : List Row) (path : List (List ℕ)) (k : Key) → IsRows (a ++ []) → AllBefore a (address_of path k) → IfSome (find_row k (a ++ [])) (λ r. r.path ≡ path) → find_row k (a ++ []) ≡ None
-cut_none a path k ok l h = go (find_row k (a ++ [])) refl h
-  where
-    go : (o : Option Row) → find_row k (a ++ []) ≡ o → IfSome o (λ r. r.path ≡ path) → o ≡ None
-    go None e i = refl
-    go (Some r) e i = let g = cut_found a [] path k r ok l tt e i in let j = g.1 in absurd cc
-
--- The same in a leaf.
-module _ (leaves : List Leaf) (path : List (List ℕ)) (k : Key) (c n : ℕ) (p : IsLeafPlace leaves (address_of path k) c) (q : IsPlace p.leaf.items (address_of path k) n) (ok : IsRows (rows_in leaves)) (known : IfSome (find_row k (rows_in leaves)) (λ r. r.path ≡ path)) where
-  rest_of : Row → List Row
-  rest_of x = drop (suc n) p.leaf.items ++ rows_in (drop (suc c) leaves)
-
-  back_is : (x : Row) → slice_get p.leaf.items n ≡ Some x → back leaves c p.leaf n ≡ x ∷ rest_of x
+  -- what stands at the place in the leaf
+  at_place : (n : ℕ) (q : IsPlace p.leaf.items (address_of path k) n) (r : Row) → find_row k (rows_in leaves) ≡ Some r → r.path ≡ path → (b : List Row) → drop n p.leaf.items ≡ b → (xs : List Row) × (b ≡ r ∷ xs)
   unfolding rest_of
-  back_is x g = ap (λ z. z ++ rows_in (drop (suc c) leaves)) (drop_of_get p.leaf.items n x g)
-
-  whole_is : (x : Row) → slice_get p.leaf.items n ≡ Some x → rows_in leaves ≡ front leaves c p.leaf n ++ x ∷ rest_of x
-  whole_is x g = (cut_at leaves (address_of path k) c n p q).whole ∙ ap (λ z. front leaves c p.leaf n ++ z) (back_is x g)
-
-  known_in : (rows : List Row) → rows_in leaves ≡ rows → IfSome (find_row k rows) (λ r. r.path ≡ path)
-  known_in rows e = let P : List Row → Type 0 = λ z. IfSome (find_row k z) (λ r. r.path ≡ path) in subst P e known
-
-  pub same_in : (x : Row) → slice_get p.leaf.items n ≡ Some x → key_eq (key x) k ≡ true → find_row k (rows_in leaves) ≡ Some x
-  same_in x g t =
+  at_place n q r e i b d =
       let cut = cut_at leaves (address_of path k) c n p q in
-      let e = whole_is x g in
-      let F : List Row → Type 0 = λ z. FirstNotBefore z (address_of path k) in
-      ap (find_row k) e ∙ cut_same (front leaves c p.leaf n) (rest_of x) x path k (subst IsRows e ok) cut.before_all (subst F (back_is x g) cut.first_not) (known_in _ e) t
+      let g = cut_found (front leaves c p.leaf n) (back leaves c p.leaf n) path k r (subst IsRows cut.whole ok) cut.before_all cut.first_not (ap (find_row k) (sym cut.whole) ∙ e) i in
+      go b d (sym (ap rest_of d) ∙ g.1)
+    where
+      go : (b : List Row) → drop n p.leaf.items ≡ b → {rest : List Row} → rest_of b ≡ r ∷ rest → (xs : List Row) × (b ≡ r ∷ xs)
+      go [] d {rest} g =
+          let last : drop (suc c) leaves ≡ [] = p.right (take_when_none p.leaf.items n (address_of path k) d q.left) in
+          let none : [] ≡ r ∷ rest = sym (ap rows_in last) ∙ g in
+          absurd cc
+      go (x ∷ xs) d g = let first : x ≡ r = cc in (xs, ap (λ z. z ∷ xs) first)
 
-  pub stands_in : (x : Row) → slice_get p.leaf.items n ≡ Some x → key_eq (key x) k ≡ true → StandsIn leaves c n k
-  stands_in x g t = record {
-    leaf = p.leaf;
-    outer = p.split;
-    row = x;
-    found = same_in x g t;
-    inner = split_at p.leaf.items n x (drop (suc n) p.leaf.items) (drop_of_get p.leaf.items n x g);
-  }
-
-  pub other_in : (x : Row) → slice_get p.leaf.items n ≡ Some x → key_eq (key x) k ≡ false → find_row k (rows_in leaves) ≡ None
-  other_in x g t =
-      let cut = cut_at leaves (address_of path k) c n p q in
-      let e = whole_is x g in
-      let F : List Row → Type 0 = λ z. FirstNotBefore z (address_of path k) in
-      ap (find_row k) e ∙ cut_other (front leaves c p.leaf n) (rest_of x) x path k (subst IsRows e ok) cut.before_all (subst F (back_is x g) cut.first_not) (known_in _ e) t
-
-  dropped : (xs : List Row) (m : ℕ) → slice_get xs m ≡ None → drop m xs ≡ []
-  dropped [] zero g = refl
-  dropped [] (suc m) g = refl
-  dropped (x ∷ xs) zero g = absurd cc
-  dropped (x ∷ xs) (suc m) g = dropped xs m g
-
-  pub none_in : slice_get p.leaf.items n ≡ None → find_row k (rows_in leaves) ≡ None
-  none_in g =
-      let a = address_of path k in
-      let cut = cut_at leaves a c n p q in
-      let d = dropped p.leaf.items n g in
-      let last : drop (suc c) leaves ≡ [] = p.right (take_when_none p.leaf.items n a d q.left) in
-      let empty : back leaves c p.leaf n ≡ [] = (λ i. d i ++ rows_in (last i)) in
-      let e : rows_in leaves ≡ front leaves c p.leaf n ++ [] = cut.whole ∙ ap (λ z. front leaves c p.leaf n ++ z) empty in
-      ap (find_row k) e ∙ cut_none (front leaves c p.leaf n) path k (subst IsRows e ok) cut.before_all (known_in _ e)
+  pub stands_in : (n : ℕ) (q : IsPlace p.leaf.items (address_of path k) n) (r : Row) → find_row k (rows_in leaves) ≡ Some r → r.path ≡ path → StandsIn leaves c n k
+  stands_in n q r e i =
+      let g = at_place n q r e i (drop n p.leaf.items) refl in
+      let s = split_at p.leaf.items n r g.0 g.1 in
+      record {
+        leaf = p.leaf;
+        outer = p.split;
+        row = r;
+        found = e;
+        inner = subst (IsSplitAt p.leaf.items n r) (sym s.behind) s;
+      }
 
 -- Leaves with one leaf replaced.
 pub rows_set : (leaves : List Leaf) (c : ℕ) (l m : Leaf) → IsSplitAt leaves c l (drop (suc c) leaves) → rows_in (slice_set leaves c m) ≡ rows_in (take c leaves) ++ (m.items ++ rows_in (drop (suc c) leaves))

@@ -30,3 +30,9 @@ pub record IsDigest (d : Digest) (groups : List (List ℕ)) (g : Bool) (bytes : 
   pub path_bytes : (n : List ℕ) → groups ≡ n ∷ [] → IsBytes n
   pub name : d.name ≡ front 16 (folded bytes)
   pub name_bytes : IsBytes bytes
+
+-- digests of one place with other names, which tell the order of their addresses
+pub record Tells (d e : Digest) : Type 0 where
+  pub place : d.place ≡ e.place
+  pub some : d.place ≡ 255 → ⊥
+  pub name : d.name ≡ e.name → ⊥

@@ -3,7 +3,7 @@ use Rattle.std.specs.Prelude.{◌≡◌, ℕ, suc, ◌≤◌, ◌<◌, Bool, tru
 use Rattle.wc_nicklist.specs.declared.item.Key.{Key}
 use Rattle.wc_nicklist.specs.declared.item.Row.{Row}
 use Rattle.wc_nicklist.specs.Order.{is_before}
-use Rattle.wc_nicklist.specs.Rows.{find_row, path_eq, IsRows}
+use Rattle.wc_nicklist.specs.Rows.{path_eq}
 
 -- the rows, and whether one more comes in without taking memory
 pub record Stored : Type 0 where
@@ -38,10 +38,3 @@ pub record IsSplitAt {A : Type 0} (xs : List A) (n : ℕ) (x : A) (rest : List A
   pub behind : drop (suc n) xs ≡ rest
   pub whole : xs ≡ take n xs ++ x ∷ rest
   pub written : (y : A) → slice_set xs n y ≡ take n xs ++ y ∷ rest
-
--- the row of this key stands at this place
-pub record StandsAt (rows : List Row) (n : ℕ) (k : Key) : Type 0 where
-  pub held : IsRows rows
-  pub row : Row
-  pub found : find_row k rows ≡ Some row
-  pub split : IsSplitAt rows n row (drop (suc n) rows)

@@ -1,10 +1,12 @@
 -- The rows as a tree of two levels: leaves of some rows each, one after the other.
-use Rattle.std.specs.Prelude.{◌≡◌, ℕ, suc, ◌+◌, ◌<◌, ◌≤◌, slice_get, List, [], ◌∷◌, length, take, drop, vec_len, vec_capacity, Some}
+use Rattle.std.specs.Prelude.{◌≡◌, ℕ, suc, ◌+◌, ◌<◌, ◌≤◌, slice_get, List, [], ◌∷◌, ◌++◌, length, take, drop, vec_len, vec_capacity, Some}
 use Rattle.std.specs.List.{flat_map}
 use Rattle.std.specs.declared.alloc.Global.{Global}
 use Rattle.std.specs.declared.vec.Vec.{Vec}
+use Rattle.wc_nicklist.specs.declared.digest.Digest.{Digest}
 use Rattle.wc_nicklist.specs.declared.item.Key.{Key}
 use Rattle.wc_nicklist.specs.declared.item.Row.{Row}
+use Rattle.wc_nicklist.specs.Digest.{IsDigest}
 use Rattle.wc_nicklist.specs.Rows.{find_row}
 use Rattle.wc_nicklist.specs.Stored.{AllBefore, IsSplitAt}
 
@@ -17,6 +19,10 @@ leaf_rows l = l.items
 -- the rows of all leaves
 abbrev pub rows_in : List Leaf → List Row
 rows_in leaves = flat_map leaf_rows leaves
+
+-- the digest is that of the last of these rows, if there is one
+abbrev pub IsLast : Digest → List Row → Type 0
+IsLast d rows = (xs : List Row) (r : Row) → rows ≡ xs ++ r ∷ [] → IsDigest d r.path r.item.is_group r.item.name
 
 -- a leaf has some rows, at most 64, and the memory for 64
 pub record IsLeaf (l : Leaf) : Type 0 where

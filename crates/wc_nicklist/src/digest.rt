@@ -1,5 +1,5 @@
-ghost use Rattle.std.specs.Prelude.{◌≡◌, ◌≤◌, ◌<◌, ◌^◌, ◌∷◌, [], List, ℕ, get_or};
-ghost use Rattle.wc_nicklist.specs.Digest.{front, cased, place_of, IsBytes, IsDigest};
+ghost use Rattle.std.specs.Prelude.{◌≡◌, ◌≤◌, ◌<◌, ◌^◌, ◌∷◌, [], List, ℕ, get_or, IsTrue};
+ghost use Rattle.wc_nicklist.specs.Digest.{front, cased, place_of, IsBytes, IsDigest, Tells};
 ghost use Rattle.wc_nicklist.specs.Order.{kind};
 
 use wc_text::Text;
@@ -23,6 +23,21 @@ pub(crate) struct Digest {
 }
 
 impl Digest {
+    /// The digest where there is no address.
+    pub(crate) fn none() -> Digest {
+        Digest {
+            place: NO_PLACE,
+            name: 0,
+        }
+    }
+
+    /// Whether this and another digest tell the order of their addresses: that of their names.
+    pub(crate) fn tells(&self, other: &Digest) -> bool
+        ensures { IsTrue result → Tells self.now other.now }
+    {
+        self.place == other.place && self.place != NO_PLACE && self.name != other.name
+    }
+
     /// The digest of an address.
     pub(crate) fn of(path: &[Text], is_group: bool, name: &[u8]) -> Digest
         ensures { IsDigest result path.now is_group name.now }

@@ -5,7 +5,7 @@ ghost use Rattle.wc_nicklist.specs.Tree.{rows_in};
 
 use crate::entry::Entry;
 use crate::item::Item;
-use crate::leaf::is_child;
+use crate::leaf::{Leaf, is_child};
 use std::marker::Model;
 
 /// A row that is lent by its nicklist.
@@ -52,7 +52,7 @@ impl<'a> RowView<'a> {
 #[derive(Drop)]
 pub struct RowIter<'a> {
     leaf: &'a [Entry],
-    leaves: &'a [Vec<Entry>],
+    leaves: &'a [Leaf],
 }
 
 impl<'a> Model for RowIter<'a> {
@@ -67,14 +67,14 @@ impl<'a> Model for RowIter<'a> {
 
 impl<'a> RowIter<'a> {
     /// The rows of these leaves.
-    pub(crate) fn new(leaves: &'a [Vec<Entry>]) -> RowIter<'a>
+    pub(crate) fn new(leaves: &'a [Leaf]) -> RowIter<'a>
         ensures { result ≡ rows_in leaves.now }
     {
         RowIter { leaf: &[], leaves }
     }
 
     /// The rows that are left of a leaf, and those of the leaves behind it.
-    pub(crate) fn from_leaf(leaf: &'a [Entry], leaves: &'a [Vec<Entry>]) -> RowIter<'a>
+    pub(crate) fn from_leaf(leaf: &'a [Entry], leaves: &'a [Leaf]) -> RowIter<'a>
         ensures { result ≡ leaf.now ++ rows_in leaves.now }
     {
         RowIter { leaf, leaves }

@@ -1,13 +1,17 @@
-ghost use Rattle.std.specs.Prelude.{◌≡◌, ◌≤◌, ◌<◌, ◌++◌, ◌+◌, ◌∷◌, [], ℕ, Some, length, insert, slice_get, slice_set, take, vec_len, vec_capacity};
+ghost use Rattle.std.specs.Prelude.{◌≡◌, ◌≤◌, ◌<◌, ◌==◌, ◌++◌, ◌+◌, ◌∷◌, [], ℕ, Some, OnOk, IsTrue, length, insert, remove, slice_get, slice_index_or, slice_set, take, vec_len, vec_capacity};
 ghost use Rattle.wc_nicklist.specs.Order.{key, key_at, address, address_of};
-ghost use Rattle.wc_nicklist.specs.Rows.{below, changed_item, changed_row, key_eq, path_eq, Ascending};
+ghost use Rattle.wc_nicklist.specs.Rows.{below, changed_item, changed_row, path_eq, Ascending};
 ghost use Rattle.wc_nicklist.specs.declared.item.Row.{Row as RowValue};
 ghost use Rattle.wc_nicklist.specs.Stored.{AllBefore, IsPlace};
+ghost use Rattle.wc_nicklist.specs.Tree.{IsLast};
 
+use crate::digest::Digest;
 use crate::entry::Entry;
 use crate::item::Item;
 use crate::order::{Address, stands_before};
-use wc_text::Text;
+use std::alloc::Global;
+use std::marker::Model;
+use wc_text::{NoMemory, Text};
 
 /// The most rows of a leaf.
 pub(crate) const LEAF_ROWS: usize = 64;
@@ -17,6 +21,171 @@ pub(crate) const HALF: usize = LEAF_ROWS / 2;
 
 /// How many rows a search in a leaf passes by at once.
 const STRIDE: usize = 8;
+
+/// Rows one after the other, beside the digest of the last of them, so that a search among leaves
+/// reads no row. Contracts see the memory of the rows.
+#[derive(Drop)]
+pub(crate) struct Leaf {
+    last: Digest,
+    rows: Vec<Entry>,
+}
+
+impl Model for Leaf {
+    ghost use Rattle.wc_nicklist.specs.Tree.{Leaf as Rows, IsLast};
+
+    ghost Value = { Rows };
+
+    ghost view = { λ l. l.rows };
+
+    ghost invariant = { λ l. IsLast l.last l.rows.items };
+}
+
+impl Leaf {
+    /// No rows. It takes no memory.
+    pub(crate) fn new(alloc: Global) -> Leaf
+        ensures { result.items ≡ [] }
+    {
+        Leaf {
+            last: Digest::none(),
+            rows: Vec::new(alloc),
+        }
+    }
+
+    pub(crate) fn len(&self) -> usize
+        ensures { result ≡ vec_len self.now }
+    {
+        self.rows.len()
+    }
+
+    pub(crate) fn is_empty(&self) -> bool
+        ensures { result ≡ (vec_len self.now == 0) }
+    {
+        self.rows.is_empty()
+    }
+
+    pub(crate) fn as_slice(&self) -> &[Entry]
+        ensures value { result.now ≡ self.now.items }
+        ensures len { length result.now ≡ vec_len self.now }
+    {
+        self.rows.as_slice()
+    }
+
+    /// Takes the memory for all rows that a leaf may have.
+    pub(crate) fn reserve(&mut self) -> Result<(), NoMemory>
+        requires { self.old.items ≡ [] }
+        ensures items { self.new.items ≡ [] }
+        ensures capacity { vec_capacity self.old ≤ vec_capacity self.new }
+        ensures ok { OnOk result (64 ≤ vec_capacity self.new) }
+    {
+        self.rows.reserve(LEAF_ROWS)?;
+        Ok(())
+    }
+
+    /// Whether its rows, so the last one, stand before an address.
+    pub(crate) fn ends_before(&self, address: &Address<'_>) -> bool
+        requires filled { 0 < vec_len self.now }
+        requires order { Ascending self.now.items }
+        ensures all { IsTrue result → AllBefore self.now.items (address_of address.now.path.now (key_at address.now.is_group address.now.name.now)) }
+        ensures not_all { AllBefore self.now.items (address_of address.now.path.now (key_at address.now.is_group address.now.name.now)) → IsTrue result }
+    {
+        if self.last.tells(&address.digest) {
+            return self.last.name < address.digest.name;
+        }
+        match self.rows.split_last() {
+            Some((row, _)) => stands_before(row, address),
+            None => false,
+        }
+    }
+
+    /// Puts a row behind the others, where there is room.
+    pub(crate) fn push(&mut self, row: Entry)
+        requires { vec_len self.old < vec_capacity self.old }
+        ensures items { self.new.items ≡ self.old.items ++ row ∷ [] }
+        ensures len { vec_len self.new ≡ vec_len self.old + 1 }
+        ensures capacity { vec_capacity self.new ≡ vec_capacity self.old }
+    {
+        self.rows.push_reserved(row);
+        self.last = last_digest(self.rows.as_slice());
+    }
+
+    /// Puts a row at its place, where there is room.
+    pub(crate) fn put(&mut self, row: Entry)
+        requires order { Ascending self.old.items }
+        requires room { vec_len self.old < vec_capacity self.old }
+        ensures place { (n : ℕ) × IsPlace self.old.items (address row) n × (self.new.items ≡ insert self.old.items n row) }
+        ensures len { vec_len self.new ≡ vec_len self.old + 1 }
+        ensures capacity { vec_capacity self.old ≤ vec_capacity self.new }
+    {
+        let at = place(self.rows.as_slice(), &row.address());
+        let Ok(()) = self.rows.insert(at, row) else {
+            unreachable!()
+        };
+        self.last = last_digest(self.rows.as_slice());
+    }
+
+    /// Takes a row out.
+    pub(crate) fn remove(&mut self, at: usize) -> Entry
+        requires { at < vec_len self.old }
+        ensures value { result ≡ slice_index_or self.old.items at result }
+        ensures items { self.new.items ≡ remove self.old.items at }
+        ensures len { vec_len self.new + 1 ≡ vec_len self.old }
+        ensures capacity { vec_capacity self.new ≡ vec_capacity self.old }
+    {
+        let row = self.rows.remove(at);
+        self.last = last_digest(self.rows.as_slice());
+        row
+    }
+
+    /// Moves the second half of its rows, where it is full, into an empty leaf.
+    pub(crate) fn move_half(&mut self, upper: &mut Leaf)
+        requires full { vec_len self.old ≡ 64 }
+        requires empty { upper.old.items ≡ [] }
+        requires roomy { 64 ≤ vec_capacity upper.old }
+        ensures rows { self.old.items ≡ self.new.items ++ upper.new.items }
+        ensures lower_len { vec_len self.new ≡ 32 }
+        ensures upper_len { vec_len upper.new ≡ 32 }
+        ensures lower_capacity { vec_capacity self.new ≡ vec_capacity self.old }
+        ensures upper_capacity { vec_capacity upper.new ≡ vec_capacity upper.old }
+    {
+        move_half(&mut self.rows, &mut upper.rows);
+        self.last = last_digest(self.rows.as_slice());
+        upper.last = last_digest(upper.rows.as_slice());
+    }
+
+    /// Puts the rows of another leaf behind these, where there is room.
+    pub(crate) fn append(&mut self, next: Leaf)
+        requires { vec_len self.old + vec_len next ≤ vec_capacity self.old }
+        ensures items { self.new.items ≡ self.old.items ++ next.items }
+        ensures len { vec_len self.new ≡ vec_len self.old + vec_len next }
+        ensures capacity { vec_capacity self.old ≤ vec_capacity self.new }
+    {
+        let Leaf { last: _, mut rows } = next;
+        let Ok(()) = self.rows.append(&mut rows) else {
+            unreachable!()
+        };
+        self.last = last_digest(self.rows.as_slice());
+    }
+
+    /// Gives the row at a place other fields.
+    pub(crate) fn change_at(&mut self, at: usize, item: Item)
+        requires { at < vec_len self.old }
+        ensures rows { (r : RowValue) → slice_get self.old.items at ≡ Some r → self.new.items ≡ slice_set self.old.items at (changed_row r item) }
+        ensures len { vec_len self.new ≡ vec_len self.old }
+        ensures capacity { vec_capacity self.new ≡ vec_capacity self.old }
+    {
+        change_at(&mut self.rows, at, item);
+    }
+}
+
+/// The digest of the last of these rows.
+fn last_digest(rows: &[Entry]) -> Digest
+    ensures { IsLast result rows.now }
+{
+    match rows.split_last() {
+        Some((row, _)) => row.digest(),
+        None => Digest::none(),
+    }
+}
 
 /// The place of an address: the number of rows that stand before it.
 ///
@@ -46,22 +215,8 @@ fn place_by_strides(rows: &[Entry], address: &Address<'_>) -> usize
     at
 }
 
-/// Puts a row at its place in a leaf that has room.
-pub(crate) fn put(leaf: &mut Vec<Entry>, row: Entry)
-    requires order { Ascending leaf.old.items }
-    requires room { vec_len leaf.old < vec_capacity leaf.old }
-    ensures place { (n : ℕ) × IsPlace leaf.old.items (address row) n × (leaf.new.items ≡ insert leaf.old.items n row) }
-    ensures len { vec_len leaf.new ≡ vec_len leaf.old + 1 }
-    ensures capacity { vec_capacity leaf.old ≤ vec_capacity leaf.new }
-{
-    let at = place(leaf.as_slice(), &row.address());
-    let Ok(()) = leaf.insert(at, row) else {
-        unreachable!()
-    };
-}
-
-/// Moves the second half of a full leaf into an empty one.
-pub(crate) fn move_half(lower: &mut Vec<Entry>, upper: &mut Vec<Entry>)
+/// Moves the second half of the rows of a full leaf.
+fn move_half(lower: &mut Vec<Entry>, upper: &mut Vec<Entry>)
     requires full { vec_len lower.old ≡ 64 }
     requires empty { upper.old.items ≡ [] }
     requires roomy { 64 ≤ vec_capacity upper.old }
@@ -77,24 +232,15 @@ pub(crate) fn move_half(lower: &mut Vec<Entry>, upper: &mut Vec<Entry>)
     }
 }
 
-/// Gives the row at a place of a leaf other fields.
-pub(crate) fn change_at(leaf: &mut Vec<Entry>, at: usize, item: Item)
-    requires { at < vec_len leaf.old }
-    ensures rows { (r : RowValue) → slice_get leaf.old.items at ≡ Some r → leaf.new.items ≡ slice_set leaf.old.items at (changed_row r item) }
-    ensures len { vec_len leaf.new ≡ vec_len leaf.old }
-    ensures capacity { vec_capacity leaf.new ≡ vec_capacity leaf.old }
+/// Gives the row at a place other fields.
+fn change_at(rows: &mut Vec<Entry>, at: usize, item: Item)
+    requires { at < vec_len rows.old }
+    ensures rows { (r : RowValue) → slice_get rows.old.items at ≡ Some r → rows.new.items ≡ slice_set rows.old.items at (changed_row r item) }
+    ensures len { vec_len rows.new ≡ vec_len rows.old }
+    ensures capacity { vec_capacity rows.new ≡ vec_capacity rows.old }
 {
-    let row = &mut leaf[at];
+    let row = &mut rows[at];
     row.change(item);
-}
-
-/// Whether the row has the key of the address.
-#[tactic(auto, unfolding(crate::specs::Rows::key_eq))]
-pub(crate) fn has_key(row: &Entry, address: &Address<'_>) -> bool
-    ensures { result ≡ key_eq (key row.now) (key_at address.now.is_group address.now.name.now) }
-{
-    let item = row.item();
-    item.is_group == address.is_group && item.name.as_slice() == address.name
 }
 
 fn same_path(a: &[Text], b: &[Text]) -> bool

@@ -114,12 +114,14 @@ impl Nicklist {
     {
         let path = self.index.find(is_group, name)?.as_slice();
         let digest = Digest::of(path, is_group, name);
-        self.rows.get(&Address {
-            path,
-            is_group,
-            name,
-            digest,
-        })
+        Some(
+            self.rows.get(&Address {
+                path,
+                is_group,
+                name,
+                digest,
+            }),
+        )
     }
 
     /// Adds a group below a parent, which is a group's name or `root`. Its level is its parent's

@@ -1,4 +1,4 @@
-ghost use Rattle.std.specs.Prelude.{◌≡◌, ◌≤◌, ◌<◌, ◌+◌, ◌++◌, ◌∷◌, [], None, Some, OnOk, IsTrue, IfSome, IfNone, IsSomeAnd, length, option_copied, insert, vec_len, vec_capacity, true, suc, drop, slice_get};
+ghost use Rattle.std.specs.Prelude.{◌≡◌, ◌≤◌, ◌<◌, ◌+◌, ◌++◌, ◌∷◌, [], None, Some, OnOk, IsTrue, IfSome, IsSomeAnd, length, insert, vec_len, vec_capacity, true, suc, drop, slice_get};
 ghost use Rattle.wc_nicklist.specs.Order.{key, key_at, address, address_of};
 ghost use Rattle.wc_nicklist.specs.Rows.{find_row, insert_row, remove_row, change_row, has_child, below, Ascending, IsRows};
 ghost use Rattle.wc_nicklist.specs.Stored.{IsPlace, AllBefore, begins_below};
@@ -8,7 +8,7 @@ use crate::digest::Digest;
 use crate::entry::Entry;
 use crate::item::Item;
 use crate::iter::RowIter;
-use crate::leaf::{HALF, LEAF_ROWS, change_at, has_key, move_half, place, put};
+use crate::leaf::{HALF, LEAF_ROWS, Leaf, place};
 use crate::order::{Address, stands_before};
 use std::alloc::Global;
 use std::marker::Model;
@@ -18,9 +18,9 @@ use wc_text::{NoMemory, Text};
 /// Rows in canonical order, as a tree of two levels: leaves of at most 64 rows each, one after the other.
 #[derive(Drop)]
 pub(crate) struct RowTree {
-    leaves: Vec<Vec<Entry>>,
+    leaves: Vec<Leaf>,
     /// The memory of a leaf that is still to come.
-    spare: Vec<Entry>,
+    spare: Leaf,
     count: usize,
     alloc: Global,
 }
@@ -44,7 +44,7 @@ impl RowTree {
     {
         RowTree {
             leaves: Vec::new(alloc),
-            spare: Vec::new(alloc),
+            spare: Leaf::new(alloc),
             count: 0,
             alloc,
         }
@@ -73,7 +73,7 @@ impl RowTree {
             return Err(NoMemory);
         }
         self.leaves.reserve(1)?;
-        self.spare.reserve(LEAF_ROWS)?;
+        self.spare.reserve()?;
         Ok(())
     }
 
@@ -89,10 +89,10 @@ impl RowTree {
     }
 
     /// The row of a key whose path is known.
-    pub(crate) fn get(&self, address: &Address<'_>) -> Option<&Entry>
+    pub(crate) fn get(&self, address: &Address<'_>) -> &Entry
         requires held { IsRows self.now.rows }
-        requires known { IfSome (find_row (key_at address.now.is_group address.now.name.now) self.now.rows) (λ r. r.path ≡ address.now.path.now) }
-        ensures { option_copied result ≡ find_row (key_at address.now.is_group address.now.name.now) self.now.rows }
+        requires known { IsSomeAnd (find_row (key_at address.now.is_group address.now.name.now) self.now.rows) (λ r. r.path ≡ address.now.path.now) }
+        ensures { find_row (key_at address.now.is_group address.now.name.now) self.now.rows ≡ Some result.now }
     {
         get(self.leaves.as_slice(), address)
     }
@@ -130,7 +130,7 @@ impl RowTree {
 
 /// Whether a row stands right below a group. Its children stand right behind it, so that the next
 /// row tells.
-fn has_child(leaves: &[Vec<Entry>], group: &Entry) -> bool
+fn has_child(leaves: &[Leaf], group: &Entry) -> bool
     requires held { IsRows (rows_in leaves.now) }
     requires leaves { AreLeaves leaves.now }
     requires stands { find_row (key_at true group.now.item.name) (rows_in leaves.now) ≡ Some group.now }
@@ -145,19 +145,17 @@ fn has_child(leaves: &[Vec<Entry>], group: &Entry) -> bool
         name,
         digest,
     };
-    let Some((at, n)) = find(leaves, &address) else {
-        unreachable!()
-    };
+    let (at, n) = find(leaves, &address);
     begins_with_child(rows_behind(leaves, at, n), group)
 }
 
 /// The rows behind one of a leaf.
-fn rows_behind(leaves: &[Vec<Entry>], at: usize, n: usize) -> RowIter<'_>
+fn rows_behind(leaves: &[Leaf], at: usize, n: usize) -> RowIter<'_>
     requires outer { at < length leaves.now }
     requires inner { IfSome (slice_get leaves.now at) (λ l. n < vec_len l) }
     ensures { IfSome (slice_get leaves.now at) (λ l. result ≡ drop (suc n) l.items ++ rows_in (drop (suc at) leaves.now)) }
 {
-    RowIter::from_leaf(&leaves[at][n + 1..], &leaves[at + 1..])
+    RowIter::from_leaf(&leaves[at].as_slice()[n + 1..], &leaves[at + 1..])
 }
 
 fn begins_with_child(mut rows: RowIter<'_>, group: &Entry) -> bool
@@ -170,7 +168,7 @@ fn begins_with_child(mut rows: RowIter<'_>, group: &Entry) -> bool
 }
 
 /// The leaf into which an address belongs.
-fn leaf_of(leaves: &[Vec<Entry>], address: &Address<'_>) -> usize
+fn leaf_of(leaves: &[Leaf], address: &Address<'_>) -> usize
     requires some { 0 < length leaves.now }
     requires leaves { AreLeaves leaves.now }
     requires order { Ascending (rows_in leaves.now) }
@@ -180,7 +178,7 @@ fn leaf_of(leaves: &[Vec<Entry>], address: &Address<'_>) -> usize
     let mut high = leaves.len() - 1;
     while low < high {
         let middle = low + (high - low) / 2;
-        if ends_before(leaves[middle].as_slice(), address) {
+        if leaves[middle].ends_before(address) {
             low = middle + 1;
         } else {
             high = middle;
@@ -189,51 +187,29 @@ fn leaf_of(leaves: &[Vec<Entry>], address: &Address<'_>) -> usize
     low
 }
 
-/// Whether the rows of a leaf, so the last one, stand before an address.
-fn ends_before(leaf: &[Entry], address: &Address<'_>) -> bool
-    requires filled { 0 < length leaf.now }
-    requires order { Ascending leaf.now }
-    ensures all { IsTrue result → AllBefore leaf.now (address_of address.now.path.now (key_at address.now.is_group address.now.name.now)) }
-    ensures not_all { AllBefore leaf.now (address_of address.now.path.now (key_at address.now.is_group address.now.name.now)) → IsTrue result }
-{
-    match leaf.split_last() {
-        Some((row, _)) => stands_before(row, address),
-        None => false,
-    }
-}
-
 /// The leaf and the place in it of the row of a key whose path is known.
-fn find(leaves: &[Vec<Entry>], address: &Address<'_>) -> Option<(usize, usize)>
+fn find(leaves: &[Leaf], address: &Address<'_>) -> (usize, usize)
     requires held { IsRows (rows_in leaves.now) }
     requires leaves { AreLeaves leaves.now }
-    requires known { IfSome (find_row (key_at address.now.is_group address.now.name.now) (rows_in leaves.now)) (λ r. r.path ≡ address.now.path.now) }
-    ensures none { IfNone result (find_row (key_at address.now.is_group address.now.name.now) (rows_in leaves.now) ≡ None) }
-    ensures found { IfSome result (λ p. StandsIn leaves.now p.0 p.1 (key_at address.now.is_group address.now.name.now)) }
+    requires known { IsSomeAnd (find_row (key_at address.now.is_group address.now.name.now) (rows_in leaves.now)) (λ r. r.path ≡ address.now.path.now) }
+    ensures { StandsIn leaves.now result.0 result.1 (key_at address.now.is_group address.now.name.now) }
 {
-    if leaves.is_empty() {
-        return None;
-    }
     let at = leaf_of(leaves, address);
     let n = place(leaves[at].as_slice(), address);
-    match leaves[at].as_slice().get(n) {
-        Some(row) if has_key(row, address) => Some((at, n)),
-        _ => None,
-    }
+    (at, n)
 }
 
-fn get<'a>(leaves: &'a [Vec<Entry>], address: &Address<'_>) -> Option<&'a Entry>
+fn get<'a>(leaves: &'a [Leaf], address: &Address<'_>) -> &'a Entry
     requires held { IsRows (rows_in leaves.now) }
     requires leaves { AreLeaves leaves.now }
-    requires known { IfSome (find_row (key_at address.now.is_group address.now.name.now) (rows_in leaves.now)) (λ r. r.path ≡ address.now.path.now) }
-    ensures { option_copied result ≡ find_row (key_at address.now.is_group address.now.name.now) (rows_in leaves.now) }
+    requires known { IsSomeAnd (find_row (key_at address.now.is_group address.now.name.now) (rows_in leaves.now)) (λ r. r.path ≡ address.now.path.now) }
+    ensures { find_row (key_at address.now.is_group address.now.name.now) (rows_in leaves.now) ≡ Some result.now }
 {
-    match find(leaves, address) {
-        Some((at, n)) => Some(&leaves[at][n]),
-        None => None,
-    }
+    let (at, n) = find(leaves, address);
+    &leaves[at].as_slice()[n]
 }
 
-fn change(leaves: &mut Vec<Vec<Entry>>, path: &[Text], is_group: bool, item: Item)
+fn change(leaves: &mut Vec<Leaf>, path: &[Text], is_group: bool, item: Item)
     requires held { IsRows (rows_in leaves.old.items) }
     requires leaves { AreLeaves leaves.old.items }
     requires known { IsSomeAnd (find_row (key_at is_group item.name) (rows_in leaves.old.items)) (λ r. r.path ≡ path.now) }
@@ -248,13 +224,11 @@ fn change(leaves: &mut Vec<Vec<Entry>>, path: &[Text], is_group: bool, item: Ite
         name,
         digest,
     };
-    let Some((at, n)) = find(leaves.as_slice(), &address) else {
-        unreachable!()
-    };
-    change_at(&mut leaves[at], n, item);
+    let (at, n) = find(leaves.as_slice(), &address);
+    leaves[at].change_at(n, item);
 }
 
-fn remove(leaves: &mut Vec<Vec<Entry>>, address: &Address<'_>) -> Entry
+fn remove(leaves: &mut Vec<Leaf>, address: &Address<'_>) -> Entry
     requires held { IsRows (rows_in leaves.old.items) }
     requires leaves { AreLeaves leaves.old.items }
     requires known { IsSomeAnd (find_row (key_at address.now.is_group address.now.name.now) (rows_in leaves.old.items)) (λ r. r.path ≡ address.now.path.now) }
@@ -262,9 +236,7 @@ fn remove(leaves: &mut Vec<Vec<Entry>>, address: &Address<'_>) -> Entry
     ensures rows { rows_in leaves.new.items ≡ remove_row (key_at address.now.is_group address.now.name.now) (rows_in leaves.old.items) }
     ensures leaves { AreLeaves leaves.new.items }
 {
-    let Some((at, n)) = find(leaves.as_slice(), address) else {
-        unreachable!()
-    };
+    let (at, n) = find(leaves.as_slice(), address);
     let row = leaves[at].remove(n);
     drop_empty(leaves, at);
     join_around(leaves, at);
@@ -272,7 +244,7 @@ fn remove(leaves: &mut Vec<Vec<Entry>>, address: &Address<'_>) -> Entry
 }
 
 /// Drops a leaf that has lost its last row.
-fn drop_empty(leaves: &mut Vec<Vec<Entry>>, at: usize)
+fn drop_empty(leaves: &mut Vec<Leaf>, at: usize)
     requires within { at < vec_len leaves.old }
     requires nearly { AreNearlyLeaves leaves.old.items at }
     ensures rows { rows_in leaves.new.items ≡ rows_in leaves.old.items }
@@ -285,7 +257,7 @@ fn drop_empty(leaves: &mut Vec<Vec<Entry>>, at: usize)
 
 /// Joins a leaf with its neighbours where they have few rows, so that rows which go leave no run of
 /// nearly empty leaves.
-fn join_around(leaves: &mut Vec<Vec<Entry>>, at: usize)
+fn join_around(leaves: &mut Vec<Leaf>, at: usize)
     requires leaves { AreLeaves leaves.old.items }
     ensures rows { rows_in leaves.new.items ≡ rows_in leaves.old.items }
     ensures leaves { AreLeaves leaves.new.items }
@@ -297,7 +269,7 @@ fn join_around(leaves: &mut Vec<Vec<Entry>>, at: usize)
 }
 
 /// Joins a leaf with the next one where they have few rows together.
-fn join(leaves: &mut Vec<Vec<Entry>>, at: usize)
+fn join(leaves: &mut Vec<Leaf>, at: usize)
     requires leaves { AreLeaves leaves.old.items }
     ensures rows { rows_in leaves.new.items ≡ rows_in leaves.old.items }
     ensures leaves { AreLeaves leaves.new.items }
@@ -305,15 +277,13 @@ fn join(leaves: &mut Vec<Vec<Entry>>, at: usize)
     if !are_few(leaves.as_slice(), at) {
         return;
     }
-    let mut next = leaves.remove(at + 1);
-    let Ok(()) = leaves[at].append(&mut next) else {
-        unreachable!()
-    };
+    let next = leaves.remove(at + 1);
+    leaves[at].append(next);
 }
 
 /// Whether a leaf and the next one have few rows together. A full leaf is split into two that have
 /// twice as many, so that they are not joined again at once.
-fn are_few(leaves: &[Vec<Entry>], at: usize) -> bool
+fn are_few(leaves: &[Leaf], at: usize) -> bool
     ensures { IsTrue result → AreFewAt leaves.now at }
 {
     let Some(leaf) = leaves.get(at) else {
@@ -325,7 +295,7 @@ fn are_few(leaves: &[Vec<Entry>], at: usize) -> bool
     }
 }
 
-fn insert(leaves: &mut Vec<Vec<Entry>>, spare: &mut Vec<Entry>, alloc: Global, row: Entry)
+fn insert(leaves: &mut Vec<Leaf>, spare: &mut Leaf, alloc: Global, row: Entry)
     requires room { vec_len leaves.old < vec_capacity leaves.old }
     requires spare_empty { spare.old.items ≡ [] }
     requires roomy { 64 ≤ vec_capacity spare.old }
@@ -337,19 +307,19 @@ fn insert(leaves: &mut Vec<Vec<Entry>>, spare: &mut Vec<Entry>, alloc: Global, r
     ensures spare_empty { spare.new.items ≡ [] }
 {
     if leaves.is_empty() {
-        let mut leaf = mem::replace(spare, Vec::new(alloc));
-        leaf.push_reserved(row);
+        let mut leaf = mem::replace(spare, Leaf::new(alloc));
+        leaf.push(row);
         leaves.push_reserved(leaf);
         return;
     }
     let at = roomy_leaf(leaves, spare, alloc, &row.address());
-    put(&mut leaves[at], row);
+    leaves[at].put(row);
 }
 
 /// A leaf with room into which an address belongs; a full one is split.
 fn roomy_leaf(
-    leaves: &mut Vec<Vec<Entry>>,
-    spare: &mut Vec<Entry>,
+    leaves: &mut Vec<Leaf>,
+    spare: &mut Leaf,
     alloc: Global,
     address: &Address<'_>,
 ) -> usize
@@ -368,17 +338,12 @@ fn roomy_leaf(
     if leaves[at].len() < LEAF_ROWS {
         return at;
     }
-    let upper = mem::replace(spare, Vec::new(alloc));
+    let upper = mem::replace(spare, Leaf::new(alloc));
     split(leaves, at, upper, address)
 }
 
 /// Splits a full leaf, and answers the half into which an address belongs.
-fn split(
-    leaves: &mut Vec<Vec<Entry>>,
-    at: usize,
-    mut upper: Vec<Entry>,
-    address: &Address<'_>,
-) -> usize
+fn split(leaves: &mut Vec<Leaf>, at: usize, mut upper: Leaf, address: &Address<'_>) -> usize
     requires place { IsLeafPlace leaves.old.items (address_of address.now.path.now (key_at address.now.is_group address.now.name.now)) at }
     requires full { IsFullAt leaves.old.items at }
     requires room { vec_len leaves.old < vec_capacity leaves.old }
@@ -391,8 +356,8 @@ fn split(
     ensures leaves { AreLeaves leaves.new.items }
 {
     let lower = &mut leaves[at];
-    move_half(lower, &mut upper);
-    let in_upper = ends_before(lower.as_slice(), address);
+    lower.move_half(&mut upper);
+    let in_upper = lower.ends_before(address);
     let Ok(()) = leaves.insert(at + 1, upper) else {
         unreachable!()
     };

@@ -42,7 +42,7 @@ returns-clause-rows c =
     let same : c.index_mut.result.now ≡ p.place.leaf = c.index_mut.ensures.value ∙ p.place.split.value c.index_mut.result.now in
     let q = c.put.ensures.place in
     let P : List Row → Type 0 = λ z. IsPlace z (address r) q.0 in
-    tree_inserted leaves at r c.put.new.leaf p.place q.0 (subst P (ap (λ l. l.items) same) q.1) (q.2 ∙ ap (λ l. insert l.items q.0 r) same) (ap (find_row (key r)) c.roomy_leaf-at.ensures.rows ∙ c.requires.absent)
+    tree_inserted leaves at r c.put.new.self p.place q.0 (subst P (ap (λ l. l.items) same) q.1) (q.2 ∙ ap (λ l. insert l.items q.0 r) same) (ap (find_row (key r)) c.roomy_leaf-at.ensures.rows ∙ c.requires.absent)
     ∙ ap (insert_row r) c.roomy_leaf-at.ensures.rows
 
 pub returns-clause-leaves : goal.returns-clause-leaves
@@ -56,9 +56,9 @@ returns-clause-leaves c =
     let old = is_leaf_at leaves at p.place.leaf c.roomy_leaf-at.ensures.leaves p.place.split in
     let f = old.roomy in
     let g = p.room in
-    let leaf : IsLeaf c.put.new.leaf = record {
+    let leaf : IsLeaf c.put.new.self = record {
       filled = omega (arith, c.put.ensures.len);
       fits = omega (arith, g, c.put.ensures.len, ap vec_len same);
       roomy = omega (arith, f, c.put.ensures.capacity, ap vec_capacity same);
     } in
-    leaves_set leaves at p.place.leaf c.put.new.leaf c.roomy_leaf-at.ensures.leaves p.place.split leaf
+    leaves_set leaves at p.place.leaf c.put.new.self c.roomy_leaf-at.ensures.leaves p.place.split leaf

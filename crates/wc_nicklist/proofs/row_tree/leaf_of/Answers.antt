@@ -1,7 +1,6 @@
 use Rattle.std.proofs.Common.{◌≡◌, ℕ, ◌+◌, ◌-◌, ◌/◌, ◌<◌, List, length, sym, subst, arith}
 use Rattle.wc_nicklist.specs.declared.item.Row.{Row}
 use Rattle.wc_nicklist.specs.Order.{key_at, address_of}
-use Rattle.wc_nicklist.specs.Rows.{Ascending}
 use Rattle.wc_nicklist.specs.Stored.{AllBefore}
 use Rattle.wc_nicklist.proofs.Leaves.{leaf_at, is_leaf_at, ascending_leaf, leaves_before, place_of, some_leaf, EndsAt}
 use Rattle.wc_nicklist.proofs.row_tree.leaf_of.Goals as goal
@@ -14,7 +13,7 @@ ends_before-requires-clause-filled c =
     let h : m < length c.args.leaves.now = omega arith in
     let s = leaf_at c.args.leaves.now m c.index-leaves-middle.result h c.index-leaves-middle.is in
     let f = (is_leaf_at c.args.leaves.now m c.index-leaves-middle.result c.requires.leaves s).filled in
-    omega (arith, f, c.as_slice.ensures.len)
+    f
 
 pub ends_before-requires-clause-order : goal.ends_before-requires-clause-order
 ends_before-requires-clause-order c =
@@ -22,7 +21,7 @@ ends_before-requires-clause-order c =
     let order = c.loop-low.invariant.order in
     let within = c.loop-low.invariant.within in
     let h : m < length c.args.leaves.now = omega arith in
-    subst Ascending (sym c.as_slice.ensures.value) (ascending_leaf c.args.leaves.now m c.index-leaves-middle.result c.requires.order (leaf_at c.args.leaves.now m c.index-leaves-middle.result h c.index-leaves-middle.is))
+    ascending_leaf c.args.leaves.now m c.index-leaves-middle.result c.requires.order (leaf_at c.args.leaves.now m c.index-leaves-middle.result h c.index-leaves-middle.is)
 
 pub loop-low-preserved-then-ends_before : goal.loop-low-preserved-then-ends_before
 loop-low-preserved-then-ends_before c =
@@ -36,7 +35,7 @@ loop-low-preserved-then-ends_before c =
     record {
       order = omega arith;
       within = within;
-      left = leaves_before c.args.leaves.now a m c.index-leaves-middle.result c.requires.leaves c.requires.order s (subst P c.as_slice.ensures.value (c.ends_before.ensures.all c.if-ends_before.true));
+      left = leaves_before c.args.leaves.now a m c.index-leaves-middle.result c.requires.leaves c.requires.order s (c.ends_before.ensures.all c.if-ends_before.true);
       right = c.loop-low.invariant.right;
     }
 

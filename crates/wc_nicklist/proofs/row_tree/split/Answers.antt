@@ -15,8 +15,8 @@ ends_before-in_upper-requires-clause-order c =
     let leaves = c.args.leaves.now.items in
     let p = c.requires.place in
     let same : c.index_mut-lower.result.now ≡ p.leaf = c.index_mut-lower.ensures.value ∙ p.split.value c.index_mut-lower.result.now in
-    let whole : Ascending (c.move_half.new.lower.items ++ c.move_half.new.upper.items) = subst Ascending (ap (λ l. l.items) (sym same) ∙ c.move_half.ensures.rows) (ascending_leaf leaves c.args.at p.leaf c.requires.order p.split) in
-    subst Ascending (sym c.as_slice.ensures.value) (ascending_left c.move_half.new.lower.items c.move_half.new.upper.items whole)
+    let whole : Ascending (c.move_half.new.self.items ++ c.move_half.new.upper.items) = subst Ascending (ap (λ l. l.items) (sym same) ∙ c.move_half.ensures.rows) (ascending_leaf leaves c.args.at p.leaf c.requires.order p.split) in
+    ascending_left c.move_half.new.self.items c.move_half.new.upper.items whole
 
 pub returns-then-in_upper-clause-place : goal.returns-then-in_upper-clause-place
 returns-then-in_upper-clause-place c =
@@ -24,9 +24,9 @@ returns-then-in_upper-clause-place c =
     let a = address_of c.args.address.now.path.now (key_at c.args.address.now.is_group c.args.address.now.name.now) in
     let p = c.requires.place in
     let same : c.index_mut-lower.result.now ≡ p.leaf = c.index_mut-lower.ensures.value ∙ p.split.value c.index_mut-lower.result.now in
-    let made : c.insert.new.self.items ≡ take c.args.at leaves ++ c.move_half.new.lower ∷ c.move_half.new.upper ∷ drop (suc c.args.at) leaves = c.in-Ok.ensures.items ∙ split_made leaves c.args.at p.leaf c.move_half.new.lower c.move_half.new.upper p.split in
+    let made : c.insert.new.self.items ≡ take c.args.at leaves ++ c.move_half.new.self ∷ c.move_half.new.upper ∷ drop (suc c.args.at) leaves = c.in-Ok.ensures.items ∙ split_made leaves c.args.at p.leaf c.move_half.new.self c.move_half.new.upper p.split in
     let P : List Row → Type 0 = λ z. AllBefore z a in
-    upper_place leaves a c.args.at p c.move_half.new.lower c.move_half.new.upper c.insert.new.self.items (omega (arith, c.move_half.ensures.upper_len)) (ap (λ l. l.items) (sym same) ∙ c.move_half.ensures.rows) (subst P c.as_slice.ensures.value (c.ends_before-in_upper.ensures.all c.if-in_upper.true)) made
+    upper_place leaves a c.args.at p c.move_half.new.self c.move_half.new.upper c.insert.new.self.items (omega (arith, c.move_half.ensures.upper_len)) (ap (λ l. l.items) (sym same) ∙ c.move_half.ensures.rows) (c.ends_before-in_upper.ensures.all c.if-in_upper.true) made
 
 pub returns-then-in_upper-clause-leaves : goal.returns-then-in_upper-clause-leaves
 returns-then-in_upper-clause-leaves c =
@@ -34,12 +34,12 @@ returns-then-in_upper-clause-leaves c =
     let a = address_of c.args.address.now.path.now (key_at c.args.address.now.is_group c.args.address.now.name.now) in
     let p = c.requires.place in
     let same : c.index_mut-lower.result.now ≡ p.leaf = c.index_mut-lower.ensures.value ∙ p.split.value c.index_mut-lower.result.now in
-    let made : c.insert.new.self.items ≡ take c.args.at leaves ++ c.move_half.new.lower ∷ c.move_half.new.upper ∷ drop (suc c.args.at) leaves = c.in-Ok.ensures.items ∙ split_made leaves c.args.at p.leaf c.move_half.new.lower c.move_half.new.upper p.split in
+    let made : c.insert.new.self.items ≡ take c.args.at leaves ++ c.move_half.new.self ∷ c.move_half.new.upper ∷ drop (suc c.args.at) leaves = c.in-Ok.ensures.items ∙ split_made leaves c.args.at p.leaf c.move_half.new.self c.move_half.new.upper p.split in
     let old = is_leaf_at leaves c.args.at p.leaf c.requires.leaves p.split in
     let r = old.roomy in
-    let lower : IsLeaf c.move_half.new.lower = record { filled = omega (arith, c.move_half.ensures.lower_len); fits = omega (arith, c.move_half.ensures.lower_len); roomy = omega (arith, r, c.move_half.ensures.lower_capacity, ap vec_capacity same) } in
+    let lower : IsLeaf c.move_half.new.self = record { filled = omega (arith, c.move_half.ensures.lower_len); fits = omega (arith, c.move_half.ensures.lower_len); roomy = omega (arith, r, c.move_half.ensures.lower_capacity, ap vec_capacity same) } in
     let upper : IsLeaf c.move_half.new.upper = record { filled = omega (arith, c.move_half.ensures.upper_len); fits = omega (arith, c.move_half.ensures.upper_len); roomy = omega (arith, c.requires.roomy, c.move_half.ensures.upper_capacity) } in
-    split_leaves leaves c.args.at p.leaf c.move_half.new.lower c.move_half.new.upper c.insert.new.self.items c.requires.leaves p.split lower upper made
+    split_leaves leaves c.args.at p.leaf c.move_half.new.self c.move_half.new.upper c.insert.new.self.items c.requires.leaves p.split lower upper made
 
 pub returns-else-in_upper-clause-place : goal.returns-else-in_upper-clause-place
 returns-else-in_upper-clause-place c =
@@ -47,9 +47,9 @@ returns-else-in_upper-clause-place c =
     let a = address_of c.args.address.now.path.now (key_at c.args.address.now.is_group c.args.address.now.name.now) in
     let p = c.requires.place in
     let same : c.index_mut-lower.result.now ≡ p.leaf = c.index_mut-lower.ensures.value ∙ p.split.value c.index_mut-lower.result.now in
-    let made : c.insert.new.self.items ≡ take c.args.at leaves ++ c.move_half.new.lower ∷ c.move_half.new.upper ∷ drop (suc c.args.at) leaves = c.in-Ok.ensures.items ∙ split_made leaves c.args.at p.leaf c.move_half.new.lower c.move_half.new.upper p.split in
+    let made : c.insert.new.self.items ≡ take c.args.at leaves ++ c.move_half.new.self ∷ c.move_half.new.upper ∷ drop (suc c.args.at) leaves = c.in-Ok.ensures.items ∙ split_made leaves c.args.at p.leaf c.move_half.new.self c.move_half.new.upper p.split in
     let P : List Row → Type 0 = λ z. AllBefore z a in
-    lower_place leaves a c.args.at p c.move_half.new.lower c.move_half.new.upper c.insert.new.self.items (omega (arith, c.move_half.ensures.lower_len)) (λ b. true≢false (sym (c.ends_before-in_upper.ensures.not_all (subst P (sym c.as_slice.ensures.value) b)) ∙ c.if-in_upper.false)) made
+    lower_place leaves a c.args.at p c.move_half.new.self c.move_half.new.upper c.insert.new.self.items (omega (arith, c.move_half.ensures.lower_len)) (λ b. true≢false (sym (c.ends_before-in_upper.ensures.not_all b) ∙ c.if-in_upper.false)) made
 
 pub returns-else-in_upper-clause-leaves : goal.returns-else-in_upper-clause-leaves
 returns-else-in_upper-clause-leaves c =
@@ -57,9 +57,9 @@ returns-else-in_upper-clause-leaves c =
     let a = address_of c.args.address.now.path.now (key_at c.args.address.now.is_group c.args.address.now.name.now) in
     let p = c.requires.place in
     let same : c.index_mut-lower.result.now ≡ p.leaf = c.index_mut-lower.ensures.value ∙ p.split.value c.index_mut-lower.result.now in
-    let made : c.insert.new.self.items ≡ take c.args.at leaves ++ c.move_half.new.lower ∷ c.move_half.new.upper ∷ drop (suc c.args.at) leaves = c.in-Ok.ensures.items ∙ split_made leaves c.args.at p.leaf c.move_half.new.lower c.move_half.new.upper p.split in
+    let made : c.insert.new.self.items ≡ take c.args.at leaves ++ c.move_half.new.self ∷ c.move_half.new.upper ∷ drop (suc c.args.at) leaves = c.in-Ok.ensures.items ∙ split_made leaves c.args.at p.leaf c.move_half.new.self c.move_half.new.upper p.split in
     let old = is_leaf_at leaves c.args.at p.leaf c.requires.leaves p.split in
     let r = old.roomy in
-    let lower : IsLeaf c.move_half.new.lower = record { filled = omega (arith, c.move_half.ensures.lower_len); fits = omega (arith, c.move_half.ensures.lower_len); roomy = omega (arith, r, c.move_half.ensures.lower_capacity, ap vec_capacity same) } in
+    let lower : IsLeaf c.move_half.new.self = record { filled = omega (arith, c.move_half.ensures.lower_len); fits = omega (arith, c.move_half.ensures.lower_len); roomy = omega (arith, r, c.move_half.ensures.lower_capacity, ap vec_capacity same) } in
     let upper : IsLeaf c.move_half.new.upper = record { filled = omega (arith, c.move_half.ensures.upper_len); fits = omega (arith, c.move_half.ensures.upper_len); roomy = omega (arith, c.requires.roomy, c.move_half.ensures.upper_capacity) } in
-    split_leaves leaves c.args.at p.leaf c.move_half.new.lower c.move_half.new.upper c.insert.new.self.items c.requires.leaves p.split lower upper made
+    split_leaves leaves c.args.at p.leaf c.move_half.new.self c.move_half.new.upper c.insert.new.self.items c.requires.leaves p.split lower upper made
