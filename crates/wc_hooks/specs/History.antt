@@ -1,0 +1,81 @@
+-- Sequences of calls, and what one open pass gives over them.
+use Rattle.std.specs.Prelude.{◌≡◌, ℕ, Bool, true, false, not, ◌==◌, Some, None, List, [], ◌∷◌, ◌++◌, map, filter, option_to_list, if◌then◌else◌}
+use Rattle.wc_hooks.specs.declared.entry.Entry.{Entry}
+use Rattle.wc_hooks.specs.declared.entry.HookId.{HookId}
+use Rattle.wc_hooks.specs.declared.hook_row.HookRow.{HookRow}
+use Rattle.wc_hooks.specs.declared.kind.HookKind.{HookKind}
+use Rattle.wc_hooks.specs.Rows.{without, switched, marked}
+use Rattle.wc_hooks.specs.Passes.{hooks_on, may_run}
+use Rattle.wc_hooks.specs.Table.{Table, with_row, with_rows, with_pass, left_at, next_of, after_next}
+
+pub data Act : Type 0 where
+  hooks : HookRow → Act
+  unhooks : HookId → Act
+  switches : HookId → Bool → Act
+  opens : ℕ → HookKind → List ℕ → Act
+  gives : ℕ → Act
+  ends : HookId → Act
+  closes : ℕ → Act
+
+-- what a call makes of the table
+abbrev pub after : Act → Table → Table
+after (hooks row) table = with_row row table
+after (unhooks id) table = with_rows (without id table.rows) table
+after (switches id on) table = with_rows (switched id on table.rows) table
+after (opens place kind key) table = with_pass place (Some (hooks_on kind key table.rows)) table
+after (gives place) table = after_next table place
+after (ends id) table = with_rows (marked id false table.rows) table
+after (closes place) table = with_pass place None table
+
+abbrev pub after_all : List Act → Table → Table
+after_all [] table = table
+after_all (act ∷ acts) table = after_all acts (after act table)
+
+-- no pass is opened or closed at this place
+abbrev pub leaves : ℕ → Act → Bool
+leaves place (hooks row) = true
+leaves place (unhooks id) = true
+leaves place (switches id on) = true
+leaves place (opens other kind key) = not (other == place)
+leaves place (gives other) = true
+leaves place (ends id) = true
+leaves place (closes other) = not (other == place)
+
+-- those in front, up to and with the first that passes the test
+abbrev pub front : (Entry → Bool) → List Entry → List Entry
+front test [] = []
+front test (entry ∷ left) = if test entry then entry ∷ [] else entry ∷ front test left
+
+-- the entries that the pass at this place looks at in a call, each with whether it may run then
+abbrev pub turn : ℕ → Act → Table → List (Entry × Bool)
+turn place (hooks row) table = []
+turn place (unhooks id) table = []
+turn place (switches id on) table = []
+turn place (opens other kind key) table = []
+turn place (gives other) table =
+    if other == place then map (λ entry. (entry, may_run table.rows entry)) (front (may_run table.rows) (left_at table place)) else []
+turn place (ends id) table = []
+turn place (closes other) table = []
+
+abbrev pub turns : ℕ → List Act → Table → List (Entry × Bool)
+turns place [] table = []
+turns place (act ∷ acts) table = turn place act table ++ turns place acts (after act table)
+
+-- the entries that the pass at this place gives
+abbrev pub gift : ℕ → Act → Table → List Entry
+gift place (hooks row) table = []
+gift place (unhooks id) table = []
+gift place (switches id on) table = []
+gift place (opens other kind key) table = []
+gift place (gives other) table = if other == place then option_to_list (next_of table place) else []
+gift place (ends id) table = []
+gift place (closes other) table = []
+
+abbrev pub gifts : ℕ → List Act → Table → List Entry
+gifts place [] table = []
+gifts place (act ∷ acts) table = gift place act table ++ gifts place acts (after act table)
+
+-- each entry that was left is looked at once and in order, or still left, and those are given that may run at their turn
+pub record IsWalk (place : ℕ) (acts : List Act) (table : Table) : Type 0 where
+  pub order : map (λ seen. seen.0) (turns place acts table) ++ left_at (after_all acts table) place ≡ left_at table place
+  pub given : map (λ seen. seen.0) (filter (λ seen. seen.1) (turns place acts table)) ≡ gifts place acts table
