@@ -25,7 +25,7 @@ import subprocess
 import sys
 
 TOP = os.path.join(os.path.dirname(os.path.abspath(__file__)), "..")
-CRATES = "wc_text: thiserror\nwc_nicklist: thiserror wc_text\nnick_bench: anyhow wc_text wc_nicklist\n"
+CRATES = "wc_text: thiserror\nwc_nicklist: slab thiserror wc_text\nnick_bench: anyhow wc_text wc_nicklist\n"
 ACTS = ("add", "change", "look up", "group", "pass", "remove")
 ORDERS = ("in no order", "in order")
 NICKS = 200000

@@ -1,21 +1,23 @@
 -- The children of a group stand behind it, and the first of them right behind it.
-use Rattle.std.proofs.Common.{◌≡◌, ℕ, true, false, Option, Some, List, [], ◌∷◌, ◌++◌, ◌⊎◌, map, refl, sym, ap, ◌∙◌, subst, inl, inr, suc, take, drop, append_assoc}
+use Rattle.std.proofs.Common.{◌≡◌, ℕ, true, false, Option, Some, List, [], ◌∷◌, ◌++◌, ◌⊎◌, map, refl, sym, ap, ◌∙◌, subst, inl, inr, suc, drop, append_assoc}
+use Rattle.std.proofs.lemmas.List.{map-append}
 use Rattle.std.specs.Prelude.{IfSome, slice_get}
 use Rattle.std.specs.Cmp.Lexicographic.{slice_cmp}
 use Rattle.std.specs.declared.cmp.Ordering.TheVariants.{Less}
 use Rattle.std.proofs.lemmas.Bool.{true≢false, false_from_ne_true}
 use Rattle.wc_nicklist.specs.declared.item.Key.{Key}
 use Rattle.wc_nicklist.specs.declared.item.Row.{Row}
+use Rattle.wc_nicklist.specs.declared.store.Store.{Store}
 use Rattle.wc_nicklist.specs.Order.{key, key_at, group_key, key_cmp, address, before}
 use Rattle.wc_nicklist.specs.Rows.{key_eq, path_eq, find_row, parent_of, below, has_child, AllBehind, Ascending, Keyed, IsRows}
-use Rattle.wc_nicklist.specs.Stored.{begins_below}
-use Rattle.wc_nicklist.specs.Tree.{Leaf, rows_in, StandsIn}
+use Rattle.wc_nicklist.specs.Stored.{entry_row, begins_below}
+use Rattle.wc_nicklist.specs.Tree.{Leaf, entries_in, rows_in, StandsIn}
 use Rattle.wc_nicklist.proofs.OrderLaws.{by_bool, path_eq-true, path_eq-same, before_below, before_further, before_itself, before_less, before_one_way, between, group_address}
 use Rattle.wc_nicklist.proofs.RowLaws.{behind_found, find_key}
 use Rattle.wc_nicklist.proofs.Held.{parent_found}
-use Rattle.wc_nicklist.proofs.Leaves.{ascending_right, behind_in}
+use Rattle.wc_nicklist.proofs.Leaves.{ascending_right, behind_in, front, back}
 use Rattle.wc_nicklist.proofs.Places.{find_place}
-use Rattle.wc_nicklist.proofs.TreeLaws.{whole_row}
+use Rattle.wc_nicklist.proofs.TreeLaws.{whole_entry}
 
 -- nothing stands between two neighbours
 none_between : (a b : List Row) (g y p : Row) (k : Key) → Ascending (a ++ g ∷ y ∷ b) → find_row k (a ++ g ∷ y ∷ b) ≡ Some p → before g p ≡ true → before p y ≡ true → ⊥
@@ -107,16 +109,25 @@ next_tells a (y ∷ b) g ok e = none_in_front a (y ∷ b) g ok.ascending e ∙ b
     absurd (true≢false (sym (next_below a b g y s.0 ok e s.1 s.2) ∙ t)))
     (λ u. rw (t, u) refl))
 
+-- the row under a group's key is a group
+pub is_its_group : (s : Store) (leaves : List Leaf) (g : Row) → find_row (key_at true g.item.name) (rows_in s leaves) ≡ Some g → g.item.is_group ≡ true
+is_its_group s leaves g found = ap (λ k. k.is_group) (find_key (key_at true g.item.name) (rows_in s leaves) g found)
+
 -- the rows behind a place of a leaf
-pub children_behind : (leaves : List Leaf) (c n : ℕ) (g : Row) (behind : List Row) (s : StandsIn leaves c n (key_at true g.item.name)) → IsRows (rows_in leaves) → find_row (key_at true g.item.name) (rows_in leaves) ≡ Some g → IfSome (slice_get leaves c) (λ l. behind ≡ drop (suc n) l.items ++ rows_in (drop (suc c) leaves)) → has_child (below g) (rows_in leaves) ≡ begins_below (below g) behind
-children_behind leaves c n g behind s ok found is =
+pub children_behind : (s : Store) (leaves : List Leaf) (c n : ℕ) (g : Row) (behind : List Row) (t : StandsIn s leaves c n (key_at true g.item.name)) → IsRows (rows_in s leaves) → find_row (key_at true g.item.name) (rows_in s leaves) ≡ Some g → IfSome (slice_get leaves c) (λ l. behind ≡ map (entry_row s) (drop (suc n) l.items ++ entries_in (drop (suc c) leaves))) → has_child (below g) (rows_in s leaves) ≡ begins_below (below g) behind
+children_behind s leaves c n g behind t ok found is =
+    let f = entry_row s in
     let k = key_at true g.item.name in
-    let one : Some s.row ≡ Some g = sym s.found ∙ found in
-    let same : s.row ≡ g = cc in
-    let group : g.item.is_group ≡ true = ap (λ z. z.is_group) (find_key k (rows_in leaves) g found) in
-    let P : Option Leaf → Type 0 = λ o. IfSome o (λ l. behind ≡ drop (suc n) l.items ++ rows_in (drop (suc c) leaves)) in
-    let b : behind ≡ drop (suc n) s.leaf.items ++ rows_in (drop (suc c) leaves) = subst P s.outer.got is in
-    let w = whole_row leaves c n k s ∙ ap (λ z. (rows_in (take c leaves) ++ take n s.leaf.items) ++ z ∷ (drop (suc n) s.leaf.items ++ rows_in (drop (suc c) leaves))) same in
+    let one : Some (f t.entry) ≡ Some g = sym t.found ∙ found in
+    let same : f t.entry ≡ g = cc in
+    let group = is_its_group s leaves g found in
+    let P : Option Leaf → Type 0 = λ o. IfSome o (λ l. behind ≡ map f (drop (suc n) l.items ++ entries_in (drop (suc c) leaves))) in
+    let b : behind ≡ map f (back leaves c t.leaf (suc n)) = subst P t.outer.got is in
+    let w : rows_in s leaves ≡ map f (front leaves c t.leaf n) ++ g ∷ map f (back leaves c t.leaf (suc n)) =
+    ap (map f) (whole_entry s leaves c n k t)
+    ∙ map-append f (front leaves c t.leaf n) (t.entry ∷ back leaves c t.leaf (suc n))
+    ∙ ap (λ z. map f (front leaves c t.leaf n) ++ z ∷ map f (back leaves c t.leaf (suc n))) same
+    in
     ap (has_child (below g)) w
-    ∙ next_tells (rows_in (take c leaves) ++ take n s.leaf.items) (drop (suc n) s.leaf.items ++ rows_in (drop (suc c) leaves)) g (subst IsRows w ok) group
+    ∙ next_tells (map f (front leaves c t.leaf n)) (map f (back leaves c t.leaf (suc n))) g (subst IsRows w ok) group
     ∙ ap (begins_below (below g)) (sym b)

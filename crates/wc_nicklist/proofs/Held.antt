@@ -1,5 +1,5 @@
 -- Edits of rows that a nicklist can hold leave such rows.
-use Rattle.std.proofs.Common.{◌≡◌, ℕ, ◌<◌, ◌≤◌, Bool, true, false, cond, ◌&&◌, ◌||◌, Option, Some, None, List, [], ◌∷◌, ◌++◌, ◌⊎◌, length, refl, sym, ap, ◌∙◌, subst, inl, inr}
+use Rattle.std.proofs.Common.{◌≡◌, ℕ, ◌<◌, ◌≤◌, Bool, true, false, ◌&&◌, ◌||◌, Option, Some, None, List, [], ◌∷◌, ◌++◌, ◌⊎◌, length, refl, sym, ap, ◌∙◌, subst, inl, inr}
 use Rattle.std.proofs.lemmas.Bool.{true≢false}
 use Rattle.wc_nicklist.specs.declared.item.Item.{Item}
 use Rattle.wc_nicklist.specs.declared.item.Key.{Key}
@@ -7,7 +7,6 @@ use Rattle.wc_nicklist.specs.declared.item.Row.{Row}
 use Rattle.wc_nicklist.specs.Order.{key, key_at, group_key}
 use Rattle.wc_nicklist.specs.Rows.{key_eq, path_eq, find_row, insert_row, remove_row, replace_row, changed_row, root_name, is_root, last_or, parent_of, below, below_row, path_below, has_child, TextsAreUtf8, IsHeld, IsRows}
 use Rattle.wc_nicklist.specs.Calls.{row_under}
-use Rattle.wc_nicklist.specs.Kept.{path_of}
 use Rattle.wc_nicklist.proofs.OrderLaws.{by_bool, bytes_true, key_eq-true, path_eq-same}
 use Rattle.wc_nicklist.proofs.RowLaws.{find_key, find-insert, find-remove, find-replace, keyed-insert, keyed-remove, keyed-replace, ascending-insert, ascending-remove, ascending-replace}
 
@@ -184,17 +183,3 @@ held-change rows k r i ok e utf8 = record {
         rw u (ap (λ z. Some (below z)) one))
         (λ u. rw u (ap below_row f)))
         h
-
--- the index after each edit
-pub path_of-insert : (r : Row) (rows : List Row) (k : Key) → find_row (key r) rows ≡ None → path_of (find_row k (insert_row r rows)) ≡ cond (key_eq (key r) k) (Some r.path) (path_of (find_row k rows))
-path_of-insert r rows k a = ap path_of (find-insert r k rows a) ∙ by_bool (key_eq (key r) k) _ (λ t. rw t refl) (λ t. rw t refl)
-
-pub path_of-remove : (k : Key) (rows : List Row) (q : Key) → path_of (find_row q (remove_row k rows)) ≡ cond (key_eq k q) None (path_of (find_row q rows))
-path_of-remove k rows q = ap path_of (find-remove k q rows) ∙ by_bool (key_eq k q) _ (λ t. rw t refl) (λ t. rw t refl)
-
-pub path_of-change : (k : Key) (r : Row) (i : Item) (rows : List Row) (q : Key) → find_row k rows ≡ Some r → path_of (find_row q (replace_row (changed_row r i) rows)) ≡ path_of (find_row q rows)
-path_of-change k r i rows q e =
-    let own : find_row (key r) rows ≡ Some r = ap (λ z. find_row z rows) (find_key k rows r e) ∙ e in
-    ap path_of (find-replace (changed_row r i) r q rows own) ∙ by_bool (key_eq (key r) q) _
-    (λ t. rw t (sym (ap path_of (ap (λ z. find_row z rows) (sym (key_eq-true _ _ t)) ∙ own))))
-    (λ t. rw t refl)

@@ -3,8 +3,8 @@ use Rattle.std.proofs.Common.{◌≡◌, ℕ, suc, ◌+◌, ◌≤◌, List, [],
 use Rattle.std.specs.Prelude.{slice_index_or, slice_set, remove, vec_len, vec_capacity}
 use Rattle.std.proofs.lemmas.List.{drop_at}
 use Rattle.wc_nicklist.specs.Stored.{IsSplitAt}
-use Rattle.wc_nicklist.specs.Tree.{Leaf, rows_in, IsLeaf, AreLeaves, AreFewAt}
-use Rattle.wc_nicklist.proofs.Leaves.{rows_in-append, rows_at, leaves_left, leaves_right, leaves-append}
+use Rattle.wc_nicklist.specs.Tree.{Leaf, entries_in, IsLeaf, AreLeaves, AreFewAt}
+use Rattle.wc_nicklist.proofs.Leaves.{entries_in-append, entries_at, leaves_left, leaves_right, leaves-append}
 use Rattle.wc_nicklist.proofs.Places.{drop_of_get, split_at}
 use Rattle.wc_nicklist.proofs.TreeLaws.{before_made, behind_made, front_length}
 
@@ -41,13 +41,13 @@ module _ (leaves : List Leaf) (c : ℕ) (f : AreFewAt leaves c) where
       let len = front_length leaves c s.within in
       without_split.written j ∙ ap (λ z. z ++ j ∷ rest) (before_made (remove leaves (c + 1)) (take c leaves) (f.leaf ∷ rest) c without len)
 
-  pub joined_rows : (j : Leaf) → j.items ≡ f.leaf.items ++ f.next.items → rows_in (slice_set (remove leaves (c + 1)) c j) ≡ rows_in leaves
-  joined_rows j e =
-      ap rows_in (joined j) ∙ rows_in-append (take c leaves) (j ∷ rest)
-      ∙ ap (λ z. rows_in (take c leaves) ++ (z ++ rows_in rest)) e
-      ∙ ap (λ z. rows_in (take c leaves) ++ z) (append_assoc f.leaf.items f.next.items (rows_in rest))
-      ∙ ap (λ z. rows_in (take c leaves) ++ (f.leaf.items ++ rows_in z)) (sym next_first)
-      ∙ sym (rows_at leaves c f.leaf first_split)
+  pub joined_entries : (j : Leaf) → j.items ≡ f.leaf.items ++ f.next.items → entries_in (slice_set (remove leaves (c + 1)) c j) ≡ entries_in leaves
+  joined_entries j e =
+      ap entries_in (joined j) ∙ entries_in-append (take c leaves) (j ∷ rest)
+      ∙ ap (λ z. entries_in (take c leaves) ++ (z ++ entries_in rest)) e
+      ∙ ap (λ z. entries_in (take c leaves) ++ z) (append_assoc f.leaf.items f.next.items (entries_in rest))
+      ∙ ap (λ z. entries_in (take c leaves) ++ (f.leaf.items ++ entries_in z)) (sym next_first)
+      ∙ sym (entries_at leaves c f.leaf first_split)
 
   pub joined_leaves : (j : Leaf) → AreLeaves leaves → vec_len j ≡ vec_len f.leaf + vec_len f.next → vec_capacity f.leaf ≤ vec_capacity j → AreLeaves (slice_set (remove leaves (c + 1)) c j)
   joined_leaves j h len capacity =

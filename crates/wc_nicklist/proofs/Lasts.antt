@@ -1,64 +1,74 @@
--- The last row of a leaf, and what its digest tells.
-use Rattle.std.proofs.Common.{◌≡◌, ℕ, zero, suc, ◌<◌, Bool, Some, List, [], ◌∷◌, ◌++◌, length, refl, sym, ap, ◌∙◌, subst, arith}
-use Rattle.std.specs.Prelude.{IsTrue, nat_lt, slice_get, slice_set, vec_len}
+-- The last entry of a leaf, and what its digest tells.
+use Rattle.std.proofs.Common.{◌≡◌, ℕ, zero, suc, ◌<◌, ◌≤◌, Bool, false, get_or, drop, List, [], ◌∷◌, ◌++◌, length, map, sym, ap, ◌∙◌, subst, arith, refl}
+use Rattle.std.specs.Prelude.{IsTrue, nat_lt, vec_len}
+use Rattle.std.proofs.lemmas.List.{map-append}
 use Rattle.wc_nicklist.specs.declared.digest.Digest.{Digest}
-use Rattle.wc_nicklist.specs.declared.item.Item.{Item}
+use Rattle.wc_nicklist.specs.declared.entry.Entry.{Entry}
+use Rattle.wc_nicklist.specs.declared.item.Key.{Key}
 use Rattle.wc_nicklist.specs.declared.item.Row.{Row}
+use Rattle.wc_nicklist.specs.declared.store.Store.{Store}
 use Rattle.wc_nicklist.specs.Digest.{IsDigest, Tells}
 use Rattle.wc_nicklist.specs.Order.{key_at, address_of, is_before}
-use Rattle.wc_nicklist.specs.Rows.{changed_row, Ascending}
-use Rattle.wc_nicklist.specs.Stored.{AllBefore}
-use Rattle.wc_nicklist.specs.Tree.{Leaf, IsLast}
+use Rattle.wc_nicklist.specs.Rows.{Ascending}
+use Rattle.wc_nicklist.specs.Stored.{row_or, entry_row, Stands, AllStand, AllBefore, FirstNotBefore}
+use Rattle.wc_nicklist.specs.Tree.{Leaf, leaf_rows, IsLast}
 use Rattle.wc_nicklist.proofs.Digests.{told_name}
-use Rattle.wc_nicklist.proofs.Leaves.{all_with_last, last_before, vec_filled}
+use Rattle.wc_nicklist.proofs.Leaves.{all_with_last, last_before, stand_right, vec_filled}
 
-last_of : (xs : List Row) → 0 < length xs → (ys : List Row) × (r : Row) × (xs ≡ ys ++ r ∷ [])
+-- an entry's digest is that of its row
+pub stands_digest : (s : Store) (e : Entry) → Stands s e → IsDigest e.digest (entry_row s e).path (entry_row s e).item.is_group (entry_row s e).item.name
+stands_digest s e h = subst (λ (r : Row). IsDigest e.digest r.path r.item.is_group r.item.name) (sym (ap row_or h.found)) h.digest
+
+last_of : (xs : List Entry) → 0 < length xs → (ys : List Entry) × (e : Entry) × (xs ≡ ys ++ e ∷ [])
 last_of [] h = absurd (omega arith)
 last_of (x ∷ []) h = ([], x, refl)
 last_of (x ∷ y ∷ zs) h = let l = last_of (y ∷ zs) (omega arith) in (x ∷ l.0, l.1, ap (λ z. x ∷ z) l.2)
 
--- where digests tell it, the last row decides for all
-module _ (l : Leaf) (d e : Digest) (path : List (List ℕ)) (g : Bool) (name : List ℕ) (filled : 0 < vec_len l) (last : IsLast d l.items) (own : IsDigest e path g name) (tells : Tells d e) where
-  told_last : (ys : List Row) (r : Row) → l.items ≡ ys ++ r ∷ [] → nat_lt d.name e.name ≡ is_before r (address_of path (key_at g name))
-  told_last ys r i = told_name r path g name d e (last ys r i) own tells.place tells.some tells.name
+-- the rows of entries, the last of which is apart
+pub rows_with_last : (s : Store) (xs ys : List Entry) (e : Entry) → xs ≡ ys ++ e ∷ [] → map (entry_row s) xs ≡ map (entry_row s) ys ++ entry_row s e ∷ []
+rows_with_last s xs ys e i = ap (map (entry_row s)) i ∙ map-append (entry_row s) ys (e ∷ [])
 
-  pub told_all : Ascending l.items → IsTrue (nat_lt d.name e.name) → AllBefore l.items (address_of path (key_at g name))
+-- where digests tell it, the last row decides for all
+module _ (s : Store) (l : Leaf) (d own : Digest) (path : List (List ℕ)) (g : Bool) (name : List ℕ) (filled : 0 < vec_len l) (stand : AllStand s l.items) (last : IsLast d l.items) (is : IsDigest own path g name) (tells : Tells d own) where
+  told_last : (ys : List Entry) (e : Entry) → l.items ≡ ys ++ e ∷ [] → nat_lt d.name own.name ≡ is_before (entry_row s e) (address_of path (key_at g name))
+  told_last ys e i =
+      let r = entry_row s e in
+      let h = stands_digest s e (stand_right s ys (e ∷ []) (subst (AllStand s) i stand)).0 in
+      told_name r path g name d own (subst (λ z. IsDigest z r.path r.item.is_group r.item.name) (sym (last ys e i)) h) is tells.place tells.some tells.name
+
+  pub told_all : Ascending (leaf_rows s l) → IsTrue (nat_lt d.name own.name) → AllBefore (leaf_rows s l) (address_of path (key_at g name))
   told_all h t =
       let o = last_of l.items (vec_filled l filled) in
+      let rows = rows_with_last s l.items o.0 o.1 o.2 in
       let P : List Row → Type 0 = λ z. AllBefore z (address_of path (key_at g name)) in
-      subst P (sym o.2) (all_with_last o.0 o.1 (address_of path (key_at g name)) (subst Ascending o.2 h) (sym (told_last o.0 o.1 o.2) ∙ t))
+      subst P (sym rows) (all_with_last (map (entry_row s) o.0) (entry_row s o.1) (address_of path (key_at g name)) (subst Ascending rows h) (sym (told_last o.0 o.1 o.2) ∙ t))
 
-  pub told_not_all : AllBefore l.items (address_of path (key_at g name)) → IsTrue (nat_lt d.name e.name)
+  pub told_not_all : AllBefore (leaf_rows s l) (address_of path (key_at g name)) → IsTrue (nat_lt d.name own.name)
   told_not_all h =
       let o = last_of l.items (vec_filled l filled) in
+      let rows = rows_with_last s l.items o.0 o.1 o.2 in
       let P : List Row → Type 0 = λ z. AllBefore z (address_of path (key_at g name)) in
-      told_last o.0 o.1 o.2 ∙ last_before o.0 o.1 (address_of path (key_at g name)) (subst P o.2 h)
+      told_last o.0 o.1 o.2 ∙ last_before (map (entry_row s) o.0) (entry_row s o.1) (address_of path (key_at g name)) (subst P rows h)
 
--- the digest of the last row stays where a row gets other fields
-last_tail : (d : Digest) (x : Row) (ws : List Row) → IsLast d (x ∷ ws) → IsLast d ws
-last_tail d x ws h xs r e = h (x ∷ xs) r (ap (λ z. x ∷ z) e)
+-- what a look-up by index gives stands, and its row is that at the same place
+pub stand_at : (s : Store) (es : List Entry) (n : ℕ) (d : Entry) → AllStand s es → n < length es → Stands s (get_or es n d)
+stand_at s [] n d h l = absurd (omega arith)
+stand_at s (x ∷ xs) zero d h l = h.0
+stand_at s (x ∷ xs) (suc n) d h l = stand_at s xs n d h.1 (omega arith)
 
-last_cons : (d : Digest) (x : Row) (ws : List Row) → 0 < length ws → IsLast d ws → IsLast d (x ∷ ws)
-last_cons d x ws n h [] r e = let i : ws ≡ [] = cc in absurd (omega (arith, n, ap length i))
-last_cons d x ws n h (z ∷ zs) r e = let i : ws ≡ zs ++ r ∷ [] = cc in h zs r i
+pub row_here : (s : Store) (es : List Entry) (n : ℕ) (d : Entry) → n < length es → entry_row s (get_or es n d) ≡ get_or (map (entry_row s) es) n (entry_row s (get_or es n d))
+row_here s [] n d l = absurd (omega arith)
+row_here s (x ∷ xs) zero d l = refl
+row_here s (x ∷ xs) (suc n) d l = row_here s xs n d (omega arith)
 
-one_last : (d : Digest) (x : Row) → IsDigest d x.path x.item.is_group x.item.name → IsLast d (x ∷ [])
-one_last d x h [] r e = let i : x ≡ r = cc in subst (λ z. IsDigest d z.path z.item.is_group z.item.name) i h
-one_last d x h (z ∷ zs) r e = let i : [] ≡ zs ++ r ∷ [] = cc in absurd (none zs i)
-  where
-    none : (zs : List Row) → [] ≡ zs ++ r ∷ [] → ⊥
-    none [] e = cc
-    none (z ∷ zs) e = cc
+-- a search ends at a row that does not stand before the address, or behind the last
+pub first_not : (s : Store) (es : List Entry) (n : ℕ) (d : Entry) (a : List Key) → n < length es → is_before (entry_row s (get_or es n d)) a ≡ false → FirstNotBefore (drop n (map (entry_row s) es)) a
+first_not s [] n d a l h = absurd (omega arith)
+first_not s (x ∷ xs) zero d a l h = h
+first_not s (x ∷ xs) (suc n) d a l h = first_not s xs n d a (omega arith) h
 
-pub kept_last : (d : Digest) (rows : List Row) (n : ℕ) (x : Row) (i : Item) → IsLast d rows → slice_get rows n ≡ Some x → IsLast d (slice_set rows n (changed_row x i))
-kept_last d [] n x i h e = absurd cc
-kept_last d (y ∷ []) zero x i h e = let same : y ≡ x = cc in one_last d (changed_row x i) (subst (λ z. IsDigest d z.path z.item.is_group z.item.name) same (h [] y refl))
-kept_last d (y ∷ []) (suc n) x i h e = absurd cc
-kept_last d (y ∷ z ∷ zs) zero x i h e = last_cons d (changed_row x i) (z ∷ zs) (omega arith) (last_tail d y (z ∷ zs) h)
-kept_last d (y ∷ z ∷ zs) (suc zero) x i h e = last_cons d y (changed_row x i ∷ zs) (omega arith) (kept_last d (z ∷ zs) zero x i (last_tail d y (z ∷ zs) h) e)
-kept_last d (y ∷ z ∷ zs) (suc (suc n)) x i h e = last_cons d y (z ∷ slice_set zs n (changed_row x i)) (omega arith) (kept_last d (z ∷ zs) (suc n) x i (last_tail d y (z ∷ zs) h) e)
-
-pub some_at : (rows : List Row) (n : ℕ) → n < length rows → (x : Row) × (slice_get rows n ≡ Some x)
-some_at [] n h = absurd (omega arith)
-some_at (y ∷ ys) zero h = (y, refl)
-some_at (y ∷ ys) (suc n) h = some_at ys n (omega (arith, h))
+pub none_behind : (s : Store) (es : List Entry) (n : ℕ) (a : List Key) → length es ≤ n → FirstNotBefore (drop n (map (entry_row s) es)) a
+none_behind s [] zero a l = tt
+none_behind s [] (suc n) a l = tt
+none_behind s (x ∷ xs) zero a l = absurd (omega arith)
+none_behind s (x ∷ xs) (suc n) a l = none_behind s xs n a (omega arith)

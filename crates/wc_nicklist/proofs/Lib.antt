@@ -12,6 +12,7 @@ pub mod Lengths
 pub mod Names
 pub mod Numbers
 pub mod OrderLaws
+pub mod Owned
 pub mod Paths
 pub mod Places
 pub mod Refusals

@@ -6,7 +6,8 @@ use Rattle.std.specs.Map.{lookup}
 use Rattle.std.specs.Cmp.Lexicographic.{bytes_decides}
 use Rattle.std.proofs.lemmas.Bool.{true≢false, cond-false}
 use Rattle.std.proofs.lemmas.Bool.Decides.{nat_tests}
-use Rattle.wc_nicklist.specs.declared.by_name.PathsByName.{PathsByName}
+use Rattle.wc_nicklist.specs.declared.store.RowId.{RowId}
+use Rattle.wc_nicklist.specs.declared.by_name.IdsByName.{IdsByName}
 use Rattle.wc_nicklist.specs.Digest.{front, IsBytes}
 use Rattle.wc_nicklist.specs.Index.{are_bytes, is_short, number, at_short, at_long, at_name}
 use Rattle.wc_nicklist.proofs.Digests.{AreBytes, front_same}
@@ -84,32 +85,32 @@ differ a b x y s t n = by_bool (bytes_eq a b) _
     (λ e. e)
 
 -- what an update under a name leaves under any name
-pub short_update : (a : List ℕ) (n : ℕ) (p : PathsByName) (short : _) (w : Option (List (List ℕ))) → is_short a ≡ true → n ≡ number a → ((m : ℕ) → at_short short m ≡ cond (nat_eq n m) w (at_short p.short m)) → (q : List ℕ) → at_name (record { short = short; long = p.long }) q ≡ cond (bytes_eq a q) w (at_name p q)
+pub short_update : (a : List ℕ) (n : ℕ) (p : IdsByName) (short : _) (w : Option RowId) → is_short a ≡ true → n ≡ number a → ((m : ℕ) → at_short short m ≡ cond (nat_eq n m) w (at_short p.short m)) → (q : List ℕ) → at_name (record { short = short; long = p.long }) q ≡ cond (bytes_eq a q) w (at_name p q)
 unfolding at_name
 short_update a n p short w s e h q = by_bool (is_short q) _
     (λ t. rw t (h (number q) ∙ ap (λ b. cond b w (at_short p.short (number q))) (ap (λ k. nat_eq k (number q)) e ∙ by_number a q s t)))
     (λ t. rw t (sym (cond-false (bytes_eq a q) w (at_long p.long q) (differ a q true false s t true≢false))))
 
-pub long_update : (a : List ℕ) (p : PathsByName) (long : _) (w : Option (List (List ℕ))) → is_short a ≡ false → ((m : List ℕ) → at_long long m ≡ cond (bytes_eq a m) w (at_long p.long m)) → (q : List ℕ) → at_name (record { short = p.short; long = long }) q ≡ cond (bytes_eq a q) w (at_name p q)
+pub long_update : (a : List ℕ) (p : IdsByName) (long : _) (w : Option RowId) → is_short a ≡ false → ((m : List ℕ) → at_long long m ≡ cond (bytes_eq a m) w (at_long p.long m)) → (q : List ℕ) → at_name (record { short = p.short; long = long }) q ≡ cond (bytes_eq a q) w (at_name p q)
 unfolding at_name
 long_update a p long w s h q = by_bool (is_short q) _
     (λ t. rw t (sym (cond-false (bytes_eq a q) w (at_short p.short (number q)) (differ a q false true s t (λ e. true≢false (sym e))))))
     (λ t. rw t (h q))
 
 -- maps with the same under each number and each name
-pub name_same : (p : PathsByName) (short : _) (long : _) → ((n : ℕ) → at_short short n ≡ at_short p.short n) → ((m : List ℕ) → at_long long m ≡ at_long p.long m) → (q : List ℕ) → at_name (record { short = short; long = long }) q ≡ at_name p q
+pub name_same : (p : IdsByName) (short : _) (long : _) → ((n : ℕ) → at_short short n ≡ at_short p.short n) → ((m : List ℕ) → at_long long m ≡ at_long p.long m) → (q : List ℕ) → at_name (record { short = short; long = long }) q ≡ at_name p q
 unfolding at_name
 name_same p short long h l q = by_bool (is_short q) _ (λ t. rw t (h (number q))) (λ t. rw t (l q))
 
-pub name_short : (p : PathsByName) (q : List ℕ) → is_short q ≡ true → at_short p.short (number q) ≡ at_name p q
+pub name_short : (p : IdsByName) (q : List ℕ) → is_short q ≡ true → at_short p.short (number q) ≡ at_name p q
 unfolding at_name
 name_short p q t = rw t refl
 
-pub name_long : (p : PathsByName) (q : List ℕ) → is_short q ≡ false → at_long p.long q ≡ at_name p q
+pub name_long : (p : IdsByName) (q : List ℕ) → is_short q ≡ false → at_long p.long q ≡ at_name p q
 unfolding at_name
 name_long p q t = rw t refl
 
-pub name_none : (p : PathsByName) → IsEmpty p.short → IsEmpty p.long → (q : List ℕ) → at_name p q ≡ None
+pub name_none : (p : IdsByName) → IsEmpty p.short → IsEmpty p.long → (q : List ℕ) → at_name p q ≡ None
 unfolding at_name
 name_none p s l q = by_bool (is_short q) _
     (λ t. rw t (ap (λ es. lookup (λ k. nat_eq (number q) k) es) s))

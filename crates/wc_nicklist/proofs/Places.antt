@@ -7,10 +7,10 @@ use borrow.Author.Tests.{ltb-true}
 use Rattle.wc_nicklist.specs.declared.item.Key.{Key}
 use Rattle.wc_nicklist.specs.declared.item.Row.{Row}
 use Rattle.wc_nicklist.specs.Order.{key, address, is_before, before}
-use Rattle.wc_nicklist.specs.Rows.{key_eq, find_row, insert_row, remove_row, replace_row, AllBehind, Ascending, Keyed}
+use Rattle.wc_nicklist.specs.Rows.{key_eq, find_row, insert_row, remove_row, AllBehind, Ascending, Keyed}
 use Rattle.wc_nicklist.specs.Stored.{AllBefore, FirstNotBefore, IsSplitAt}
 use Rattle.wc_nicklist.proofs.OrderLaws.{by_bool, before_chain_at, before_is, before_itself, before_one_way, before_other, key_eq-true, key_eq-same}
-use Rattle.wc_nicklist.proofs.RowLaws.{behind_found, absent_kept, key_eq-at}
+use Rattle.wc_nicklist.proofs.RowLaws.{behind_found, key_eq-at}
 
 -- one step of a search
 behind_at : (x y : Row) (ys : List Row) (m : ℕ) → AllBehind x ys → m < length ys → y ≡ get_or ys m y → before x y ≡ true
@@ -99,14 +99,6 @@ other_key x r xs b h = by_bool (key_eq (key x) (key r)) _
 pub remove_place : (a b : List Row) (r : Row) → Keyed (a ++ r ∷ b) → remove_row (key r) (a ++ r ∷ b) ≡ a ++ b
 remove_place [] b r h = rw (key_eq-same (key r)) (absent_removed (key r) b h.0)
 remove_place (x ∷ xs) b r h = rw (other_key x r xs b h) (ap (λ rows. x ∷ rows) (remove_place xs b r h.1))
-
-pub replace_place : (a b : List Row) (r s : Row) → key s ≡ key r → Keyed (a ++ r ∷ b) → replace_row s (a ++ r ∷ b) ≡ a ++ s ∷ b
-replace_place [] b r s e h =
-    let n : find_row (key s) b ≡ None = ap (λ k. find_row k b) e ∙ h.0 in
-    rw (key_eq-at (key r) (key s) (sym e)) (ap (λ rows. s ∷ rows) (absent_kept s b n))
-replace_place (x ∷ xs) b r s e h =
-    let o : key_eq (key x) (key s) ≡ false = ap (key_eq (key x)) e ∙ other_key x r xs b h in
-    rw o (ap (λ rows. x ∷ rows) (replace_place xs b r s e h.1))
 
 pub find_place : (a b : List Row) (r : Row) → Keyed (a ++ r ∷ b) → find_row (key r) (a ++ r ∷ b) ≡ Some r
 find_place [] b r h = rw (key_eq-same (key r)) refl

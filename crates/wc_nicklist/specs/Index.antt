@@ -1,12 +1,13 @@
--- The index from keys to paths.
+-- The index from keys to the numbers of rows.
 use Rattle.std.specs.Prelude.{ℕ, ◌+◌, ◌*◌, ◌<◌, Bool, ◌&&◌, Option, List, length, if◌then◌else◌, bytes_eq, nat_eq, nat_le, nat_lt}
 use Rattle.std.specs.List.{list_all}
 use Rattle.std.specs.HashMap.{HashMap, get_by, spare}
 use Rattle.std.specs.declared.alloc.Global.{Global}
 use Rattle.std.specs.declared.vec.Vec.{Vec}
-use Rattle.wc_nicklist.specs.declared.by_name.PathsByName.{PathsByName}
+use Rattle.wc_nicklist.specs.declared.by_name.IdsByName.{IdsByName}
 use Rattle.wc_nicklist.specs.declared.index.Index.{Index}
 use Rattle.wc_nicklist.specs.declared.item.Key.{Key}
+use Rattle.wc_nicklist.specs.declared.store.RowId.{RowId}
 use Rattle.wc_nicklist.specs.Digest.{front}
 
 abbrev pub are_bytes : List ℕ → Bool
@@ -26,15 +27,15 @@ at_short m n = get_by (λ k. nat_eq n k) m
 abbrev pub at_long : {X S : Type 0} → HashMap (Vec ℕ Global) X S → List ℕ → Option X
 at_long m name = get_by (λ k. bytes_eq name k.items) m
 
-unfoldable pub at_name : PathsByName → List ℕ → Option (List (List ℕ))
+unfoldable pub at_name : IdsByName → List ℕ → Option RowId
 at_name p name = if is_short name then at_short p.short (number name) else at_long p.long name
 
 -- one more name comes in without taking memory
-abbrev pub HasRoom : PathsByName → Type 0
+abbrev pub HasRoom : IdsByName → Type 0
 HasRoom p = (0 < spare p.short) × (0 < spare p.long)
 
-abbrev pub path_in : Index → Key → Option (List (List ℕ))
-path_in i k = if k.is_group then at_name i.groups k.name else at_name i.nicks k.name
+abbrev pub id_in : Index → Key → Option RowId
+id_in i k = if k.is_group then at_name i.groups k.name else at_name i.nicks k.name
 
 -- one more group or nick comes in without taking memory
 abbrev pub IndexHasRoom : Index → Type 0

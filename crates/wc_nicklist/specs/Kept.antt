@@ -1,24 +1,26 @@
 -- What a nicklist keeps of its parts.
-use Rattle.std.specs.Prelude.{◌≡◌, ℕ, ◌≤◌, Option, Some, None, List, [], IsTrue, vec_capacity}
+use Rattle.std.specs.Prelude.{◌≡◌, ℕ, ◌≤◌, Option, Some, None, List, [], IsTrue, is_some, vec_capacity}
 use Rattle.wc_nicklist.specs.declared.index.Index.{Index}
 use Rattle.wc_nicklist.specs.declared.item.Key.{Key}
 use Rattle.wc_nicklist.specs.declared.item.Row.{Row}
 use Rattle.wc_nicklist.specs.declared.room.Room.{Room}
-use Rattle.wc_nicklist.specs.Index.{path_in, IndexHasRoom}
+use Rattle.wc_nicklist.specs.declared.store.RowId.{RowId}
+use Rattle.wc_nicklist.specs.Index.{id_in, IndexHasRoom}
 use Rattle.wc_nicklist.specs.Rows.{find_row, path_below, IsRows}
-use Rattle.wc_nicklist.specs.Stored.{Stored}
+use Rattle.wc_nicklist.specs.Stored.{row_at, Stored}
 
-abbrev pub path_of : Option Row → Option (List (List ℕ))
-path_of None = None
-path_of (Some r) = Some r.path
+-- the row under the number that a key has, if it has one
+abbrev pub row_under_id : Stored → Option RowId → Option Row
+row_under_id stored None = None
+row_under_id stored (Some id) = row_at stored.store id.0
 
--- the index has the path of each row, and no other
-abbrev pub IsIndexOf : List Row → Index → Type 0
-IsIndexOf rows index = (k : Key) → path_in index k ≡ path_of (find_row k rows)
+-- the index has the number of each row, and no other
+pub record IsIndexOf (stored : Stored) (index : Index) : Type 0 where
+  pub rows : (k : Key) → row_under_id stored (id_in index k) ≡ find_row k stored.rows
+  pub some : (k : Key) → is_some (id_in index k) ≡ is_some (find_row k stored.rows)
 
 -- the parts of a row that is still to come
 pub record IsRoom (r : Room) : Type 0 where
-  pub twice : r.index_path ≡ r.path
   pub empty : r.name.items ≡ []
   pub fits : 64 ≤ vec_capacity r.name
 
@@ -39,5 +41,5 @@ parent_in (Some r) = Some r.parent
 
 pub record IsKept (stored : Stored) (index : Index) (room : Option Room) : Type 0 where
   pub held : IsRows stored.rows
-  pub indexed : IsIndexOf stored.rows index
+  pub indexed : IsIndexOf stored index
   pub prepared : IfRoom stored index room

@@ -1,13 +1,61 @@
 -- The rows as they are stored, and where an address belongs in them.
-use Rattle.std.specs.Prelude.{◌≡◌, ℕ, suc, ◌≤◌, ◌<◌, Bool, true, false, Some, List, [], ◌∷◌, ◌++◌, length, take, drop, slice_get, slice_index_or, slice_set}
+use Rattle.std.specs.Prelude.{◌≡◌, ℕ, suc, ◌≤◌, ◌<◌, ◌⊎◌, Bool, true, false, Option, Some, None, List, [], ◌∷◌, ◌++◌, length, take, drop, slice_get, slice_index_or, slice_set, nat_lt}
+use Rattle.std.specs.declared.alloc.Global.{Global}
+use Rattle.std.specs.declared.boxed.Box.{Box}
+use Rattle.slab.specs.Slab.{get, slab_len}
+use Rattle.wc_nicklist.specs.declared.entry.Entry.{Entry}
 use Rattle.wc_nicklist.specs.declared.item.Key.{Key}
 use Rattle.wc_nicklist.specs.declared.item.Row.{Row}
+use Rattle.wc_nicklist.specs.declared.store.Store.{Store}
+use Rattle.wc_nicklist.specs.Digest.{IsDigest}
 use Rattle.wc_nicklist.specs.Order.{is_before}
 use Rattle.wc_nicklist.specs.Rows.{path_eq}
 
--- the rows, and whether one more comes in without taking memory
+-- the row under a number
+abbrev pub row_in : Option (Box Row Global) → Option Row
+row_in None = None
+row_in (Some b) = Some b.value
+
+abbrev pub row_at : Store → ℕ → Option Row
+row_at s n = row_in (get s.rows n)
+
+-- one more row comes in without taking memory
+abbrev pub store_has_room : Store → Bool
+store_has_room s = nat_lt (slab_len s.rows) s.rows.capacity
+
+-- the row of an entry, and a row of no name where there is none under its number
+abbrev pub no_row : Row
+no_row = record {
+  path = [];
+  item = record { handle = record { 0 = 0 }; is_group = false; visible = false; level = 0; name = []; color = []; prefix = []; prefix_color = [] };
+}
+
+abbrev pub row_or : Option Row → Row
+row_or None = no_row
+row_or (Some r) = r
+
+abbrev pub entry_row : Store → Entry → Row
+entry_row s e = row_or (row_at s e.id.0)
+
+-- the row under the entry's number is there, and has the entry's digest
+pub record Stands (s : Store) (e : Entry) : Type 0 where
+  pub row : Row
+  pub found : row_at s e.id.0 ≡ Some row
+  pub digest : IsDigest e.digest row.path row.item.is_group row.item.name
+
+abbrev pub AllStand : Store → List Entry → Type 0
+AllStand s [] = Unit {0}
+AllStand s (e ∷ es) = Stands s e × AllStand s es
+
+-- one of these entries has this number
+abbrev pub IdIn : ℕ → List Entry → Type 0
+IdIn n [] = ⊥
+IdIn n (e ∷ es) = (e.id.0 ≡ n) ⊎ IdIn n es
+
+-- the rows in their order, where they lie, and whether one more comes in without taking memory
 pub record Stored : Type 0 where
   pub rows : List Row
+  pub store : Store
   pub has_room : Bool
 
 abbrev pub AllBefore : List Row → List Key → Type 0

@@ -1,30 +1,37 @@
--- The rows as a tree of two levels: leaves of some rows each, one after the other.
-use Rattle.std.specs.Prelude.{◌≡◌, ℕ, suc, ◌+◌, ◌<◌, ◌≤◌, slice_get, List, [], ◌∷◌, ◌++◌, length, take, drop, vec_len, vec_capacity, Some}
+-- The rows as a tree of two levels: leaves of some entries each, one after the other.
+use Rattle.std.specs.Prelude.{◌≡◌, ℕ, suc, ◌+◌, ◌<◌, ◌≤◌, slice_get, List, [], ◌∷◌, ◌++◌, length, take, drop, map, vec_len, vec_capacity, Some}
 use Rattle.std.specs.List.{flat_map}
 use Rattle.std.specs.declared.alloc.Global.{Global}
 use Rattle.std.specs.declared.vec.Vec.{Vec}
 use Rattle.wc_nicklist.specs.declared.digest.Digest.{Digest}
+use Rattle.wc_nicklist.specs.declared.entry.Entry.{Entry}
 use Rattle.wc_nicklist.specs.declared.item.Key.{Key}
 use Rattle.wc_nicklist.specs.declared.item.Row.{Row}
-use Rattle.wc_nicklist.specs.Digest.{IsDigest}
+use Rattle.wc_nicklist.specs.declared.store.Store.{Store}
 use Rattle.wc_nicklist.specs.Rows.{find_row}
-use Rattle.wc_nicklist.specs.Stored.{AllBefore, IsSplitAt}
+use Rattle.wc_nicklist.specs.Stored.{row_at, entry_row, AllStand, IdIn, AllBefore, FirstNotBefore, IsSplitAt}
 
 abbrev pub Leaf : Type 0
-Leaf = Vec Row Global
+Leaf = Vec Entry Global
 
-abbrev pub leaf_rows : Leaf → List Row
-leaf_rows l = l.items
+abbrev pub leaf_entries : Leaf → List Entry
+leaf_entries l = l.items
 
--- the rows of all leaves
-abbrev pub rows_in : List Leaf → List Row
-rows_in leaves = flat_map leaf_rows leaves
+abbrev pub leaf_rows : Store → Leaf → List Row
+leaf_rows s l = map (entry_row s) l.items
 
--- the digest is that of the last of these rows, if there is one
-abbrev pub IsLast : Digest → List Row → Type 0
-IsLast d rows = (xs : List Row) (r : Row) → rows ≡ xs ++ r ∷ [] → IsDigest d r.path r.item.is_group r.item.name
+-- the entries of all leaves, and their rows
+abbrev pub entries_in : List Leaf → List Entry
+entries_in leaves = flat_map leaf_entries leaves
 
--- a leaf has some rows, at most 64, and the memory for 64
+abbrev pub rows_in : Store → List Leaf → List Row
+rows_in s leaves = map (entry_row s) (entries_in leaves)
+
+-- the digest is that of the last of these entries, if there is one
+abbrev pub IsLast : Digest → List Entry → Type 0
+IsLast d entries = (xs : List Entry) (e : Entry) → entries ≡ xs ++ e ∷ [] → d ≡ e.digest
+
+-- a leaf has some entries, at most 64, and the memory for 64
 pub record IsLeaf (l : Leaf) : Type 0 where
   pub filled : 0 < vec_len l
   pub fits : vec_len l ≤ 64
@@ -34,26 +41,45 @@ abbrev pub AreLeaves : List Leaf → Type 0
 AreLeaves [] = Unit {0}
 AreLeaves (l ∷ ls) = IsLeaf l × AreLeaves ls
 
-pub record IsTree (leaves : List Leaf) (spare : Leaf) (count : ℕ) : Type 0 where
+-- each entry has a row in the store, and each row there an entry
+pub record IsTree (s : Store) (leaves : List Leaf) (spare : Leaf) (count : ℕ) : Type 0 where
   pub are_leaves : AreLeaves leaves
+  pub stand : AllStand s (entries_in leaves)
   pub spare_empty : spare.items ≡ []
-  pub counted : count ≡ length (rows_in leaves)
+  pub counted : count ≡ length (entries_in leaves)
+  pub owned : (n : ℕ) (r : Row) → row_at s n ≡ Some r → IdIn n (entries_in leaves)
 
 -- an address belongs into this leaf: the rows of the leaves before stand before it, and where those of
 -- this leaf do too, it is the last
-pub record IsLeafPlace (leaves : List Leaf) (a : List Key) (c : ℕ) : Type 0 where
+pub record IsLeafPlace (s : Store) (leaves : List Leaf) (a : List Key) (c : ℕ) : Type 0 where
   pub leaf : Leaf
   pub split : IsSplitAt leaves c leaf (drop (suc c) leaves)
-  pub left : AllBefore (rows_in (take c leaves)) a
-  pub right : AllBefore leaf.items a → drop (suc c) leaves ≡ []
+  pub left : AllBefore (rows_in s (take c leaves)) a
+  pub right : AllBefore (leaf_rows s leaf) a → drop (suc c) leaves ≡ []
 
 -- the row of this key stands at this place of this leaf
-pub record StandsIn (leaves : List Leaf) (c n : ℕ) (k : Key) : Type 0 where
+pub record StandsIn (s : Store) (leaves : List Leaf) (c n : ℕ) (k : Key) : Type 0 where
   pub leaf : Leaf
   pub outer : IsSplitAt leaves c leaf (drop (suc c) leaves)
-  pub row : Row
-  pub found : find_row k (rows_in leaves) ≡ Some row
-  pub inner : IsSplitAt leaf.items n row (drop (suc n) leaf.items)
+  pub entry : Entry
+  pub found : find_row k (rows_in s leaves) ≡ Some (entry_row s entry)
+  pub inner : IsSplitAt leaf.items n entry (drop (suc n) leaf.items)
+
+-- an entry came in where its row belongs
+pub record IsInserted (s : Store) (old new : List Entry) (e : Entry) (a : List Key) : Type 0 where
+  pub front : List Entry
+  pub back : List Entry
+  pub was : old ≡ front ++ back
+  pub is : new ≡ front ++ e ∷ back
+  pub left : AllBefore (map (entry_row s) front) a
+  pub right : FirstNotBefore (map (entry_row s) back) a
+
+-- an entry went
+pub record IsRemoved (old new : List Entry) (e : Entry) : Type 0 where
+  pub front : List Entry
+  pub back : List Entry
+  pub was : old ≡ front ++ e ∷ back
+  pub is : new ≡ front ++ back
 
 -- the leaf there has all its rows
 pub record IsFullAt (leaves : List Leaf) (c : ℕ) : Type 0 where
@@ -62,8 +88,8 @@ pub record IsFullAt (leaves : List Leaf) (c : ℕ) : Type 0 where
   pub full : vec_len leaf ≡ 64
 
 -- the leaf of an address, which has room
-pub record IsRoomyPlace (leaves : List Leaf) (a : List Key) (c : ℕ) : Type 0 where
-  pub place : IsLeafPlace leaves a c
+pub record IsRoomyPlace (s : Store) (leaves : List Leaf) (a : List Key) (c : ℕ) : Type 0 where
+  pub place : IsLeafPlace s leaves a c
   pub room : vec_len place.leaf < 64
 
 -- the leaf there and the next one have few rows together

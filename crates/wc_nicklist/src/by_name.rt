@@ -1,9 +1,9 @@
-ghost use Rattle.std.specs.Prelude.{◌≡◌, ◌≤◌, ◌<◌, ℕ, List, true, false, None, Some, OnOk, IfSome, IfNone, bytes_eq, nat_eq, if◌then◌else◌, option_copied};
+ghost use Rattle.std.specs.Prelude.{◌≡◌, ◌≤◌, ◌<◌, ℕ, List, true, false, None, Some, OnOk, IfSome, IfNone, bytes_eq, nat_eq, if◌then◌else◌};
 ghost use Rattle.std.specs.HashMap.{spare};
 ghost use Rattle.wc_nicklist.specs.Index.{at_name, at_long, at_short, is_short, number, HasRoom};
 
 use crate::digest::front;
-use crate::path::Path;
+use crate::store::RowId;
 use std::alloc::Global;
 use std::collections::HashMap;
 use wc_text::NoMemory;
@@ -11,36 +11,36 @@ use wc_text::NoMemory;
 /// How long a name is at most that is kept as a number.
 const SHORT_BYTES: usize = 15;
 
-type ShortPaths = HashMap<u128, Path>;
+type ShortIds = HashMap<u128, RowId>;
 
-type LongPaths = HashMap<Vec<u8>, Path>;
+type LongIds = HashMap<Vec<u8>, RowId>;
 
-/// The paths of groups, or of nicks, by name. A short name is kept as a number, so that a look-up
+/// The numbers of groups, or of nicks, by name. A short name is kept as a number, so that a look-up
 /// compares it where it stands in the table, and reads no memory of its own.
 #[derive(Drop)]
-pub(crate) struct PathsByName {
-    short: ShortPaths,
-    long: LongPaths,
+pub(crate) struct IdsByName {
+    short: ShortIds,
+    long: LongIds,
 }
 
-impl PathsByName {
-    /// No paths. It takes no memory.
-    pub(crate) fn new(alloc: Global) -> PathsByName
+impl IdsByName {
+    /// No numbers. It takes no memory.
+    pub(crate) fn new(alloc: Global) -> IdsByName
         ensures { (name : List ℕ) → at_name result name ≡ None }
     {
-        PathsByName {
+        IdsByName {
             short: HashMap::new(alloc),
             long: HashMap::new(alloc),
         }
     }
 
-    /// The path of a name.
-    pub(crate) fn find(&self, name: &[u8]) -> Option<&Path>
-        ensures { option_copied result ≡ at_name self.now name.now }
+    /// The number of a name.
+    pub(crate) fn find(&self, name: &[u8]) -> Option<RowId>
+        ensures { result ≡ at_name self.now name.now }
     {
         match number(name) {
-            Some(number) => self.short.get(&number),
-            None => self.long.get(name),
+            Some(number) => self.short.get(&number).copied(),
+            None => self.long.get(name).copied(),
         }
     }
 
@@ -54,18 +54,18 @@ impl PathsByName {
         reserve_long(&mut self.long)
     }
 
-    /// Notes the path of a name. It takes no memory.
-    pub(crate) fn insert(&mut self, name: Vec<u8>, path: Path)
+    /// Notes the number of a name. It takes no memory.
+    pub(crate) fn insert(&mut self, name: Vec<u8>, id: RowId)
         requires { HasRoom self.old }
-        ensures { (q : List ℕ) → at_name self.new q ≡ (if bytes_eq name.items q then Some path else at_name self.old q) }
+        ensures { (q : List ℕ) → at_name self.new q ≡ (if bytes_eq name.items q then Some id else at_name self.old q) }
     {
         match number(name.as_slice()) {
-            Some(number) => insert_short(&mut self.short, number, path),
-            None => insert_long(&mut self.long, name, path),
+            Some(number) => insert_short(&mut self.short, number, id),
+            None => insert_long(&mut self.long, name, id),
         }
     }
 
-    /// Forgets the path of a name.
+    /// Forgets the number of a name.
     pub(crate) fn remove(&mut self, name: &[u8])
         ensures { (q : List ℕ) → at_name self.new q ≡ (if bytes_eq name.now q then None else at_name self.old q) }
     {
@@ -88,50 +88,50 @@ fn number(name: &[u8]) -> Option<u128>
     Some(bytes * 256 + name.len() as u128)
 }
 
-fn reserve_short(paths: &mut ShortPaths) -> Result<(), NoMemory>
-    ensures same { (n : ℕ) → at_short paths.new n ≡ at_short paths.old n }
-    ensures kept { spare paths.old ≤ spare paths.new }
-    ensures ok { OnOk result (0 < spare paths.new) }
+fn reserve_short(ids: &mut ShortIds) -> Result<(), NoMemory>
+    ensures same { (n : ℕ) → at_short ids.new n ≡ at_short ids.old n }
+    ensures kept { spare ids.old ≤ spare ids.new }
+    ensures ok { OnOk result (0 < spare ids.new) }
 {
-    paths.reserve(1)?;
+    ids.reserve(1)?;
     Ok(())
 }
 
-fn insert_short(paths: &mut ShortPaths, number: u128, path: Path)
-    requires { 0 < spare paths.old }
-    ensures { (n : ℕ) → at_short paths.new n ≡ (if nat_eq number n then Some path else at_short paths.old n) }
+fn insert_short(ids: &mut ShortIds, number: u128, id: RowId)
+    requires { 0 < spare ids.old }
+    ensures { (n : ℕ) → at_short ids.new n ≡ (if nat_eq number n then Some id else at_short ids.old n) }
 {
-    let Ok(_) = paths.insert(number, path) else {
+    let Ok(_) = ids.insert(number, id) else {
         unreachable!()
     };
 }
 
-fn remove_short(paths: &mut ShortPaths, number: u128)
-    ensures { (n : ℕ) → at_short paths.new n ≡ (if nat_eq number n then None else at_short paths.old n) }
+fn remove_short(ids: &mut ShortIds, number: u128)
+    ensures { (n : ℕ) → at_short ids.new n ≡ (if nat_eq number n then None else at_short ids.old n) }
 {
-    let _ = paths.remove(&number);
+    let _ = ids.remove(&number);
 }
 
-fn reserve_long(paths: &mut LongPaths) -> Result<(), NoMemory>
-    ensures same { (name : List ℕ) → at_long paths.new name ≡ at_long paths.old name }
-    ensures kept { spare paths.old ≤ spare paths.new }
-    ensures ok { OnOk result (0 < spare paths.new) }
+fn reserve_long(ids: &mut LongIds) -> Result<(), NoMemory>
+    ensures same { (name : List ℕ) → at_long ids.new name ≡ at_long ids.old name }
+    ensures kept { spare ids.old ≤ spare ids.new }
+    ensures ok { OnOk result (0 < spare ids.new) }
 {
-    paths.reserve(1)?;
+    ids.reserve(1)?;
     Ok(())
 }
 
-fn insert_long(paths: &mut LongPaths, name: Vec<u8>, path: Path)
-    requires { 0 < spare paths.old }
-    ensures { (q : List ℕ) → at_long paths.new q ≡ (if bytes_eq name.items q then Some path else at_long paths.old q) }
+fn insert_long(ids: &mut LongIds, name: Vec<u8>, id: RowId)
+    requires { 0 < spare ids.old }
+    ensures { (q : List ℕ) → at_long ids.new q ≡ (if bytes_eq name.items q then Some id else at_long ids.old q) }
 {
-    let Ok(_) = paths.insert(name, path) else {
+    let Ok(_) = ids.insert(name, id) else {
         unreachable!()
     };
 }
 
-fn remove_long(paths: &mut LongPaths, name: &[u8])
-    ensures { (q : List ℕ) → at_long paths.new q ≡ (if bytes_eq name.now q then None else at_long paths.old q) }
+fn remove_long(ids: &mut LongIds, name: &[u8])
+    ensures { (q : List ℕ) → at_long ids.new q ≡ (if bytes_eq name.now q then None else at_long ids.old q) }
 {
-    let _ = paths.remove(name);
+    let _ = ids.remove(name);
 }

@@ -1,36 +1,36 @@
-ghost use Rattle.std.specs.Prelude.{◌≡◌, None, Some, OnOk, if◌then◌else◌, option_copied};
+ghost use Rattle.std.specs.Prelude.{◌≡◌, None, Some, OnOk, if◌then◌else◌};
 
-use crate::by_name::PathsByName;
-use crate::path::Path;
+use crate::by_name::IdsByName;
+use crate::store::RowId;
 use std::alloc::Global;
 use wc_text::NoMemory;
 
-/// The path of each row, by its key.
+/// The number of each row, by its key.
 #[derive(Drop)]
 pub(crate) struct Index {
-    groups: PathsByName,
-    nicks: PathsByName,
+    groups: IdsByName,
+    nicks: IdsByName,
 }
 
 impl Index {
-    ghost use Rattle.wc_nicklist.specs.Index.{path_in, IndexHasRoom};
+    ghost use Rattle.wc_nicklist.specs.Index.{id_in, IndexHasRoom};
     ghost use Rattle.wc_nicklist.specs.Order.{key_at};
     ghost use Rattle.wc_nicklist.specs.Rows.{key_eq};
     ghost use Rattle.wc_nicklist.specs.declared.item.Key.{Key};
 
-    /// No paths. It takes no memory.
+    /// No numbers. It takes no memory.
     pub(crate) fn new(alloc: Global) -> Index
-        ensures { (k : Key) → path_in result k ≡ None }
+        ensures { (k : Key) → id_in result k ≡ None }
     {
         Index {
-            groups: PathsByName::new(alloc),
-            nicks: PathsByName::new(alloc),
+            groups: IdsByName::new(alloc),
+            nicks: IdsByName::new(alloc),
         }
     }
 
-    /// The path of the row of a key.
-    pub(crate) fn find(&self, is_group: bool, name: &[u8]) -> Option<&Path>
-        ensures { option_copied result ≡ path_in self.now (key_at is_group name.now) }
+    /// The number of the row of a key.
+    pub(crate) fn find(&self, is_group: bool, name: &[u8]) -> Option<RowId>
+        ensures { result ≡ id_in self.now (key_at is_group name.now) }
     {
         if is_group {
             self.groups.find(name)
@@ -41,7 +41,7 @@ impl Index {
 
     /// Takes the memory for one group and one nick more.
     pub(crate) fn reserve(&mut self) -> Result<(), NoMemory>
-        ensures same { (k : Key) → path_in self.new k ≡ path_in self.old k }
+        ensures same { (k : Key) → id_in self.new k ≡ id_in self.old k }
         ensures kept { IndexHasRoom self.old → IndexHasRoom self.new }
         ensures ok { OnOk result (IndexHasRoom self.new) }
     {
@@ -49,21 +49,21 @@ impl Index {
         self.nicks.reserve()
     }
 
-    /// Notes the path of a key. It takes no memory.
-    pub(crate) fn insert(&mut self, is_group: bool, name: Vec<u8>, path: Path)
+    /// Notes the number of a key. It takes no memory.
+    pub(crate) fn insert(&mut self, is_group: bool, name: Vec<u8>, id: RowId)
         requires { IndexHasRoom self.old }
-        ensures { (k : Key) → path_in self.new k ≡ (if key_eq (key_at is_group name.items) k then Some path else path_in self.old k) }
+        ensures { (k : Key) → id_in self.new k ≡ (if key_eq (key_at is_group name.items) k then Some id else id_in self.old k) }
     {
         if is_group {
-            self.groups.insert(name, path);
+            self.groups.insert(name, id);
         } else {
-            self.nicks.insert(name, path);
+            self.nicks.insert(name, id);
         }
     }
 
-    /// Forgets the path of a key.
+    /// Forgets the number of a key.
     pub(crate) fn remove(&mut self, is_group: bool, name: &[u8])
-        ensures { (k : Key) → path_in self.new k ≡ (if key_eq (key_at is_group name.now) k then None else path_in self.old k) }
+        ensures { (k : Key) → id_in self.new k ≡ (if key_eq (key_at is_group name.now) k then None else id_in self.old k) }
     {
         if is_group {
             self.groups.remove(name);

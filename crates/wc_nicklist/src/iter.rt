@@ -1,17 +1,19 @@
-ghost use Rattle.std.specs.Prelude.{◌≡◌, ◌++◌};
+ghost use Rattle.std.specs.Prelude.{◌≡◌, ◌++◌, map};
 ghost use Rattle.std.specs.Iterator.{YieldsFirstBy, item_count};
 ghost use Rattle.wc_nicklist.specs.Rows.{below, parent_of, path_eq};
-ghost use Rattle.wc_nicklist.specs.Tree.{rows_in};
+ghost use Rattle.wc_nicklist.specs.Stored.{entry_row, AllStand};
+ghost use Rattle.wc_nicklist.specs.Tree.{entries_in, rows_in};
 
 use crate::entry::Entry;
 use crate::item::Item;
 use crate::leaf::{Leaf, is_child};
+use crate::store::{Store, Stored};
 use std::marker::Model;
 
 /// A row that is lent by its nicklist.
 #[derive(Drop)]
 pub struct RowView<'a> {
-    row: &'a Entry,
+    row: &'a Stored,
 }
 
 impl<'a> Model for RowView<'a> {
@@ -24,7 +26,7 @@ impl<'a> Model for RowView<'a> {
 
 impl<'a> RowView<'a> {
     /// Whether it stands right below a group.
-    pub(crate) fn is_child_of(&self, group: &Entry) -> bool
+    pub(crate) fn is_child_of(&self, group: &Stored) -> bool
         ensures { result ≡ path_eq self.now.path (below group.now) }
     {
         is_child(self.row, group)
@@ -51,33 +53,47 @@ impl<'a> RowView<'a> {
 /// The rows of a nicklist in canonical order, which contracts see as the list of those that are left.
 #[derive(Drop)]
 pub struct RowIter<'a> {
+    store: &'a Store,
     leaf: &'a [Entry],
     leaves: &'a [Leaf],
 }
 
 impl<'a> Model for RowIter<'a> {
-    ghost use Rattle.std.specs.Prelude.{List, ◌++◌};
+    ghost use Rattle.std.specs.Prelude.{List, ◌++◌, map};
     ghost use Rattle.wc_nicklist.specs.declared.item.Row.{Row};
-    ghost use Rattle.wc_nicklist.specs.Tree.{rows_in};
+    ghost use Rattle.wc_nicklist.specs.Stored.{entry_row, AllStand};
+    ghost use Rattle.wc_nicklist.specs.Tree.{entries_in};
 
     ghost Value = { List Row };
 
-    ghost view = { λ a. a.leaf.now ++ rows_in a.leaves.now };
+    ghost view = { λ a. map (entry_row a.store.now) (a.leaf.now ++ entries_in a.leaves.now) };
+
+    ghost invariant = { λ a. AllStand a.store.now (a.leaf.now ++ entries_in a.leaves.now) };
 }
 
 impl<'a> RowIter<'a> {
     /// The rows of these leaves.
-    pub(crate) fn new(leaves: &'a [Leaf]) -> RowIter<'a>
-        ensures { result ≡ rows_in leaves.now }
+    pub(crate) fn new(store: &'a Store, leaves: &'a [Leaf]) -> RowIter<'a>
+        requires { AllStand store.now (entries_in leaves.now) }
+        ensures { result ≡ rows_in store.now leaves.now }
     {
-        RowIter { leaf: &[], leaves }
+        RowIter {
+            store,
+            leaf: &[],
+            leaves,
+        }
     }
 
     /// The rows that are left of a leaf, and those of the leaves behind it.
-    pub(crate) fn from_leaf(leaf: &'a [Entry], leaves: &'a [Leaf]) -> RowIter<'a>
-        ensures { result ≡ leaf.now ++ rows_in leaves.now }
+    pub(crate) fn from_leaf(store: &'a Store, leaf: &'a [Entry], leaves: &'a [Leaf]) -> RowIter<'a>
+        requires { AllStand store.now (leaf.now ++ entries_in leaves.now) }
+        ensures { result ≡ map (entry_row store.now) (leaf.now ++ entries_in leaves.now) }
     {
-        RowIter { leaf, leaves }
+        RowIter {
+            store,
+            leaf,
+            leaves,
+        }
     }
 }
 
@@ -94,8 +110,10 @@ impl<'a> Iterator for RowIter<'a> {
             self.leaf = leaf.as_slice();
             self.leaves = leaves;
         }
-        let (row, leaf) = self.leaf.split_first()?;
+        let (entry, leaf) = self.leaf.split_first()?;
         self.leaf = leaf;
-        Some(RowView { row })
+        Some(RowView {
+            row: self.store.get(entry.id),
+        })
     }
 }

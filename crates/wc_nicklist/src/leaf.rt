@@ -1,14 +1,13 @@
-ghost use Rattle.std.specs.Prelude.{◌≡◌, ◌≤◌, ◌<◌, ◌==◌, ◌++◌, ◌+◌, ◌∷◌, [], ℕ, Some, OnOk, IsTrue, length, insert, remove, slice_get, slice_index_or, slice_set, take, vec_len, vec_capacity};
-ghost use Rattle.wc_nicklist.specs.Order.{key, key_at, address, address_of};
-ghost use Rattle.wc_nicklist.specs.Rows.{below, changed_item, changed_row, path_eq, Ascending};
-ghost use Rattle.wc_nicklist.specs.declared.item.Row.{Row as RowValue};
-ghost use Rattle.wc_nicklist.specs.Stored.{AllBefore, IsPlace};
-ghost use Rattle.wc_nicklist.specs.Tree.{IsLast};
+ghost use Rattle.std.specs.Prelude.{◌≡◌, ◌≤◌, ◌<◌, ◌==◌, ◌++◌, ◌+◌, ◌∷◌, [], ℕ, OnOk, IsTrue, length, insert, map, remove, slice_index_or, take, vec_len, vec_capacity};
+ghost use Rattle.wc_nicklist.specs.Order.{key_at, address_of};
+ghost use Rattle.wc_nicklist.specs.Rows.{below, path_eq, Ascending};
+ghost use Rattle.wc_nicklist.specs.Stored.{entry_row, AllBefore, AllStand, IsPlace};
+ghost use Rattle.wc_nicklist.specs.Tree.{leaf_rows, IsLast};
 
 use crate::digest::Digest;
 use crate::entry::Entry;
-use crate::item::Item;
 use crate::order::{Address, stands_before};
+use crate::store::{Store, Stored};
 use std::alloc::Global;
 use std::marker::Model;
 use wc_text::{NoMemory, Text};
@@ -22,22 +21,22 @@ pub(crate) const HALF: usize = LEAF_ROWS / 2;
 /// How many rows a search in a leaf passes by at once.
 const STRIDE: usize = 8;
 
-/// Rows one after the other, beside the digest of the last of them, so that a search among leaves
-/// reads no row. Contracts see the memory of the rows.
+/// The entries of rows one after the other, beside the digest of the last of them, so that a search
+/// among leaves reads no entry. Contracts see the memory of the entries.
 #[derive(Drop)]
 pub(crate) struct Leaf {
     last: Digest,
-    rows: Vec<Entry>,
+    entries: Vec<Entry>,
 }
 
 impl Model for Leaf {
-    ghost use Rattle.wc_nicklist.specs.Tree.{Leaf as Rows, IsLast};
+    ghost use Rattle.wc_nicklist.specs.Tree.{Leaf as Entries, IsLast};
 
-    ghost Value = { Rows };
+    ghost Value = { Entries };
 
-    ghost view = { λ l. l.rows };
+    ghost view = { λ l. l.entries };
 
-    ghost invariant = { λ l. IsLast l.last l.rows.items };
+    ghost invariant = { λ l. IsLast l.last l.entries.items };
 }
 
 impl Leaf {
@@ -47,27 +46,27 @@ impl Leaf {
     {
         Leaf {
             last: Digest::none(),
-            rows: Vec::new(alloc),
+            entries: Vec::new(alloc),
         }
     }
 
     pub(crate) fn len(&self) -> usize
         ensures { result ≡ vec_len self.now }
     {
-        self.rows.len()
+        self.entries.len()
     }
 
     pub(crate) fn is_empty(&self) -> bool
         ensures { result ≡ (vec_len self.now == 0) }
     {
-        self.rows.is_empty()
+        self.entries.is_empty()
     }
 
     pub(crate) fn as_slice(&self) -> &[Entry]
         ensures value { result.now ≡ self.now.items }
         ensures len { length result.now ≡ vec_len self.now }
     {
-        self.rows.as_slice()
+        self.entries.as_slice()
     }
 
     /// Takes the memory for all rows that a leaf may have.
@@ -77,50 +76,61 @@ impl Leaf {
         ensures capacity { vec_capacity self.old ≤ vec_capacity self.new }
         ensures ok { OnOk result (64 ≤ vec_capacity self.new) }
     {
-        self.rows.reserve(LEAF_ROWS)?;
+        self.entries.reserve(LEAF_ROWS)?;
         Ok(())
     }
 
     /// Whether its rows, so the last one, stand before an address.
-    pub(crate) fn ends_before(&self, address: &Address<'_>) -> bool
+    pub(crate) fn ends_before(&self, store: &Store, address: &Address<'_>) -> bool
         requires filled { 0 < vec_len self.now }
-        requires order { Ascending self.now.items }
-        ensures all { IsTrue result → AllBefore self.now.items (address_of address.now.path.now (key_at address.now.is_group address.now.name.now)) }
-        ensures not_all { AllBefore self.now.items (address_of address.now.path.now (key_at address.now.is_group address.now.name.now)) → IsTrue result }
+        requires stand { AllStand store.now self.now.items }
+        requires order { Ascending (leaf_rows store.now self.now) }
+        ensures all { IsTrue result → AllBefore (leaf_rows store.now self.now) (address_of address.now.path.now (key_at address.now.is_group address.now.name.now)) }
+        ensures not_all { AllBefore (leaf_rows store.now self.now) (address_of address.now.path.now (key_at address.now.is_group address.now.name.now)) → IsTrue result }
     {
         if self.last.tells(&address.digest) {
             return self.last.name < address.digest.name;
         }
-        match self.rows.split_last() {
-            Some((row, _)) => stands_before(row, address),
+        match self.entries.split_last() {
+            Some((entry, _)) => stands_before(store, entry, address),
             None => false,
         }
     }
 
     /// Puts a row behind the others, where there is room.
-    pub(crate) fn push(&mut self, row: Entry)
+    pub(crate) fn push(&mut self, entry: Entry)
         requires { vec_len self.old < vec_capacity self.old }
-        ensures items { self.new.items ≡ self.old.items ++ row ∷ [] }
+        ensures items { self.new.items ≡ self.old.items ++ entry ∷ [] }
         ensures len { vec_len self.new ≡ vec_len self.old + 1 }
         ensures capacity { vec_capacity self.new ≡ vec_capacity self.old }
     {
-        self.rows.push_reserved(row);
-        self.last = last_digest(self.rows.as_slice());
+        self.entries.push_reserved(entry);
+        self.last = last_digest(self.entries.as_slice());
     }
 
-    /// Puts a row at its place, where there is room.
-    pub(crate) fn put(&mut self, row: Entry)
-        requires order { Ascending self.old.items }
+    /// The place of an address: the number of rows that stand before it.
+    pub(crate) fn place(&self, store: &Store, address: &Address<'_>) -> usize
+        requires stand { AllStand store.now self.now.items }
+        requires order { Ascending (leaf_rows store.now self.now) }
+        ensures { IsPlace (leaf_rows store.now self.now) (address_of address.now.path.now (key_at address.now.is_group address.now.name.now)) result }
+    {
+        place(store, self.entries.as_slice(), address)
+    }
+
+    /// Puts a row at the place of its address, where there is room.
+    pub(crate) fn put(&mut self, store: &Store, address: &Address<'_>, entry: Entry)
+        requires stand { AllStand store.now self.old.items }
+        requires order { Ascending (leaf_rows store.now self.old) }
         requires room { vec_len self.old < vec_capacity self.old }
-        ensures place { (n : ℕ) × IsPlace self.old.items (address row) n × (self.new.items ≡ insert self.old.items n row) }
+        ensures place { (n : ℕ) × IsPlace (leaf_rows store.now self.old) (address_of address.now.path.now (key_at address.now.is_group address.now.name.now)) n × (self.new.items ≡ insert self.old.items n entry) }
         ensures len { vec_len self.new ≡ vec_len self.old + 1 }
         ensures capacity { vec_capacity self.old ≤ vec_capacity self.new }
     {
-        let at = place(self.rows.as_slice(), &row.address());
-        let Ok(()) = self.rows.insert(at, row) else {
+        let at = place(store, self.entries.as_slice(), address);
+        let Ok(()) = self.entries.insert(at, entry) else {
             unreachable!()
         };
-        self.last = last_digest(self.rows.as_slice());
+        self.last = last_digest(self.entries.as_slice());
     }
 
     /// Takes a row out.
@@ -131,9 +141,9 @@ impl Leaf {
         ensures len { vec_len self.new + 1 ≡ vec_len self.old }
         ensures capacity { vec_capacity self.new ≡ vec_capacity self.old }
     {
-        let row = self.rows.remove(at);
-        self.last = last_digest(self.rows.as_slice());
-        row
+        let entry = self.entries.remove(at);
+        self.last = last_digest(self.entries.as_slice());
+        entry
     }
 
     /// Moves the second half of its rows, where it is full, into an empty leaf.
@@ -147,9 +157,9 @@ impl Leaf {
         ensures lower_capacity { vec_capacity self.new ≡ vec_capacity self.old }
         ensures upper_capacity { vec_capacity upper.new ≡ vec_capacity upper.old }
     {
-        move_half(&mut self.rows, &mut upper.rows);
-        self.last = last_digest(self.rows.as_slice());
-        upper.last = last_digest(upper.rows.as_slice());
+        move_half(&mut self.entries, &mut upper.entries);
+        self.last = last_digest(self.entries.as_slice());
+        upper.last = last_digest(upper.entries.as_slice());
     }
 
     /// Puts the rows of another leaf behind these, where there is room.
@@ -159,30 +169,23 @@ impl Leaf {
         ensures len { vec_len self.new ≡ vec_len self.old + vec_len next }
         ensures capacity { vec_capacity self.old ≤ vec_capacity self.new }
     {
-        let Leaf { last: _, mut rows } = next;
-        let Ok(()) = self.rows.append(&mut rows) else {
+        let Leaf {
+            last: _,
+            mut entries,
+        } = next;
+        let Ok(()) = self.entries.append(&mut entries) else {
             unreachable!()
         };
-        self.last = last_digest(self.rows.as_slice());
-    }
-
-    /// Gives the row at a place other fields.
-    pub(crate) fn change_at(&mut self, at: usize, item: Item)
-        requires { at < vec_len self.old }
-        ensures rows { (r : RowValue) → slice_get self.old.items at ≡ Some r → self.new.items ≡ slice_set self.old.items at (changed_row r item) }
-        ensures len { vec_len self.new ≡ vec_len self.old }
-        ensures capacity { vec_capacity self.new ≡ vec_capacity self.old }
-    {
-        change_at(&mut self.rows, at, item);
+        self.last = last_digest(self.entries.as_slice());
     }
 }
 
 /// The digest of the last of these rows.
-fn last_digest(rows: &[Entry]) -> Digest
-    ensures { IsLast result rows.now }
+fn last_digest(entries: &[Entry]) -> Digest
+    ensures { IsLast result entries.now }
 {
-    match rows.split_last() {
-        Some((row, _)) => row.digest(),
+    match entries.split_last() {
+        Some((entry, _)) => entry.digest,
         None => Digest::none(),
     }
 }
@@ -191,25 +194,27 @@ fn last_digest(rows: &[Entry]) -> Digest
 ///
 /// Which row is read next hangs on no row before, but for the end of each loop. So a processor goes
 /// ahead and reads several rows from memory at once, where a search by halves waits for each.
-pub(crate) fn place(rows: &[Entry], address: &Address<'_>) -> usize
-    requires { Ascending rows.now }
-    ensures { IsPlace rows.now (address_of address.now.path.now (key_at address.now.is_group address.now.name.now)) result }
+fn place(store: &Store, entries: &[Entry], address: &Address<'_>) -> usize
+    requires stand { AllStand store.now entries.now }
+    requires order { Ascending (map (entry_row store.now) entries.now) }
+    ensures { IsPlace (map (entry_row store.now) entries.now) (address_of address.now.path.now (key_at address.now.is_group address.now.name.now)) result }
 {
-    let mut at = place_by_strides(rows, address);
-    while at < rows.len() && stands_before(&rows[at], address) {
+    let mut at = place_by_strides(store, entries, address);
+    while at < entries.len() && stands_before(store, &entries[at], address) {
         at += 1;
     }
     at
 }
 
 /// A place up to which the rows stand before an address, less than a stride from the last such.
-fn place_by_strides(rows: &[Entry], address: &Address<'_>) -> usize
-    requires { Ascending rows.now }
-    ensures within { result ≤ length rows.now }
-    ensures left { AllBefore (take result rows.now) (address_of address.now.path.now (key_at address.now.is_group address.now.name.now)) }
+fn place_by_strides(store: &Store, entries: &[Entry], address: &Address<'_>) -> usize
+    requires stand { AllStand store.now entries.now }
+    requires order { Ascending (map (entry_row store.now) entries.now) }
+    ensures within { result ≤ length entries.now }
+    ensures left { AllBefore (take result (map (entry_row store.now) entries.now)) (address_of address.now.path.now (key_at address.now.is_group address.now.name.now)) }
 {
     let mut at = 0;
-    while rows.len() - at >= STRIDE && stands_before(&rows[at + STRIDE - 1], address) {
+    while entries.len() - at >= STRIDE && stands_before(store, &entries[at + STRIDE - 1], address) {
         at += STRIDE;
     }
     at
@@ -227,20 +232,9 @@ fn move_half(lower: &mut Vec<Entry>, upper: &mut Vec<Entry>)
     ensures upper_capacity { vec_capacity upper.new ≡ vec_capacity upper.old }
 {
     while lower.len() > HALF {
-        let row = lower.remove(HALF);
-        upper.push_reserved(row);
+        let entry = lower.remove(HALF);
+        upper.push_reserved(entry);
     }
-}
-
-/// Gives the row at a place other fields.
-fn change_at(rows: &mut Vec<Entry>, at: usize, item: Item)
-    requires { at < vec_len rows.old }
-    ensures rows { (r : RowValue) → slice_get rows.old.items at ≡ Some r → rows.new.items ≡ slice_set rows.old.items at (changed_row r item) }
-    ensures len { vec_len rows.new ≡ vec_len rows.old }
-    ensures capacity { vec_capacity rows.new ≡ vec_capacity rows.old }
-{
-    let row = &mut rows[at];
-    row.change(item);
 }
 
 fn same_path(a: &[Text], b: &[Text]) -> bool
@@ -258,7 +252,7 @@ fn same_path(a: &[Text], b: &[Text]) -> bool
 }
 
 /// Whether a row stands right below a group.
-pub(crate) fn is_child(row: &Entry, group: &Entry) -> bool
+pub(crate) fn is_child(row: &Stored, group: &Stored) -> bool
     ensures { result ≡ path_eq row.now.path (below group.now) }
 {
     is_below(row.path(), group.path(), group.item().name.as_slice())

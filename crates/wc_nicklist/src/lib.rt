@@ -17,6 +17,7 @@ mod path;
 mod refused;
 mod room;
 mod row_tree;
+mod store;
 #[cfg(test)]
 mod tests;
 mod touch;

@@ -3,18 +3,16 @@ ghost use Rattle.wc_nicklist.specs.Calls.{is_bad_name, name_refusal, add_refusal
 ghost use Rattle.wc_nicklist.specs.Order.{key_at};
 ghost use Rattle.wc_nicklist.specs.Rows.{find_row, remove_row, change_row, path_below, is_root, has_child, below, TextsAreUtf8, IsRows, Nicks};
 
-use crate::digest::Digest;
-use crate::entry::{Entry, slot};
 use crate::index::Index;
 use crate::item::{Item, Key, Row};
 use crate::iter::RowIter;
 use crate::leaf::is_below;
 use crate::name::{NAME_LIMIT, Name};
-use crate::order::Address;
 use crate::path::Path;
 use crate::refused::NickRefused;
 use crate::room::Room;
 use crate::row_tree::RowTree;
+use crate::store::{Stored, into_item, slot, write_row};
 use std::alloc::Global;
 use std::marker::Model;
 use wc_text::{Handle, Items, NoMemory, Text};
@@ -108,20 +106,12 @@ impl Nicklist {
         }
     }
 
-    fn stored(&self, is_group: bool, name: &[u8]) -> Option<&Entry>
+    fn stored(&self, is_group: bool, name: &[u8]) -> Option<&Stored>
         ensures row { option_copied result ≡ find_row (key_at is_group name.now) self.now.rows }
         ensures held { IsRows self.now.rows }
     {
-        let path = self.index.find(is_group, name)?.as_slice();
-        let digest = Digest::of(path, is_group, name);
-        Some(
-            self.rows.get(&Address {
-                path,
-                is_group,
-                name,
-                digest,
-            }),
-        )
+        let id = self.index.find(is_group, name)?;
+        Some(self.rows.get(id))
     }
 
     /// Adds a group below a parent, which is a group's name or `root`. Its level is its parent's
@@ -273,14 +263,12 @@ impl Nicklist {
         ensures same { self.new ≡ self.old }
     {
         let path = self.below(alloc, parent.as_slice())?;
-        let index_path = path.share()?;
         let name = Vec::with_capacity(alloc, NAME_LIMIT)?;
         let slot = slot(alloc, path.share()?)?;
         let parent = parent.copy(alloc)?;
         Ok(Room {
             parent,
             path,
-            index_path,
             name,
             slot,
         })
@@ -319,8 +307,8 @@ impl Nicklist {
         requires { IsSome (path_below parent.now self.now.rows) }
         ensures { IsTrue result → path_below parent.now self.now.rows ≡ Some path.now }
     {
-        match self.index.find(true, parent) {
-            Some(above) => is_below(path, above.as_slice(), parent),
+        match self.stored(true, parent) {
+            Some(above) => is_below(path, above.path(), parent),
             None => path.is_empty(),
         }
     }
@@ -329,10 +317,10 @@ impl Nicklist {
         requires { IsSome (path_below parent.now self.now.rows) }
         ensures { IfOk result (λ path. path_below parent.now self.now.rows ≡ Some path) }
     {
-        let Some(above) = self.index.find(true, parent) else {
+        let Some(above) = self.stored(true, parent) else {
             return Ok(Items::new(alloc));
         };
-        let mut path = above.copy(alloc)?;
+        let mut path = above.copy_path(alloc)?;
         let name = Text::from_slice(alloc, parent)?;
         path.push(name)?;
         Ok(path)
@@ -352,14 +340,13 @@ impl Nicklist {
         let Room {
             parent: _,
             path,
-            index_path,
             name,
             slot,
         } = room;
         let name = filled(name, item.name.as_slice());
-        self.index.insert(is_group, name, index_path);
         let item = placed(is_group, path.as_slice(), item);
-        self.rows.insert(Entry::new(slot, path, item));
+        let id = self.rows.insert(write_row(slot, path, item));
+        self.index.insert(is_group, name, id);
     }
 
     /// Takes a group out that has no nicks and no groups. A refusal changes nothing: `IsRoot`,
@@ -420,7 +407,7 @@ impl Nicklist {
     }
 
     /// Whether it is a group, and a row stands right below it.
-    fn is_filled(&self, is_group: bool, row: &Entry) -> bool
+    fn is_filled(&self, is_group: bool, row: &Stored) -> bool
         requires { find_row (key_at is_group row.now.item.name) self.now.rows ≡ Some row.now }
         ensures { result ≡ (is_group && has_child (below row.now) self.now.rows) }
     {
@@ -434,20 +421,13 @@ impl Nicklist {
         ensures item { item_of (find_row (key_at is_group name.now) self.old.rows) ≡ Some result }
         ensures after { self.new ≡ with_rows (remove_row (key_at is_group name.now) self.old.rows) self.old }
     {
-        let Some(path) = self.index.find(is_group, name) else {
+        let Some(id) = self.index.find(is_group, name) else {
             unreachable!()
         };
-        let path = path.as_slice();
-        let digest = Digest::of(path, is_group, name);
-        let row = self.rows.remove(&Address {
-            path,
-            is_group,
-            name,
-            digest,
-        });
+        let row = self.rows.remove(id);
         self.index.remove(is_group, name);
         self.room = None;
-        row.into_item()
+        into_item(row)
     }
 
     /// Gives the group of the item's name its other fields, but for the level. A refusal changes
@@ -510,10 +490,10 @@ impl Nicklist {
         requires utf8 { TextsAreUtf8 item }
         ensures { self.new ≡ with_rows (change_row (key_at is_group item.name) item self.old.rows) self.old }
     {
-        let Some(path) = self.index.find(is_group, item.name.as_slice()) else {
+        let Some(id) = self.index.find(is_group, item.name.as_slice()) else {
             unreachable!()
         };
-        self.rows.change(path.as_slice(), is_group, item);
+        self.rows.change(id, item);
         self.room = None;
     }
 }

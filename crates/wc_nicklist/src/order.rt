@@ -2,10 +2,12 @@ ghost use Rattle.std.specs.Prelude.{◌≡◌, ◌≤◌, ◌<◌, length, drop,
 ghost use Rattle.wc_text.specs.Order.{fold_order};
 ghost use Rattle.wc_nicklist.specs.Order.{key_at, key_cmp, address, address_cmp, address_of, is_before};
 ghost use Rattle.wc_nicklist.specs.Digest.{IsDigest};
+ghost use Rattle.wc_nicklist.specs.Stored.{entry_row, Stands};
 
 use crate::digest::{Digest, NO_PLACE};
 use crate::entry::Entry;
 use crate::item::Row;
+use crate::store::{Store, Stored};
 use std::cmp::Ordering;
 use wc_text::{Text, fold_cmp};
 
@@ -43,6 +45,18 @@ struct Names<'a> {
 }
 
 impl<'a> Names<'a> {
+    fn of_stored(row: &'a Stored) -> Names<'a>
+        ensures path { result.path.now ≡ row.now.path }
+        ensures kind { result.is_group ≡ row.now.item.is_group }
+        ensures name { result.name.now ≡ row.now.item.name }
+    {
+        Names {
+            path: row.path(),
+            is_group: row.item().is_group,
+            name: row.item().name.as_slice(),
+        }
+    }
+
     fn of(row: &'a Row) -> Names<'a>
         ensures path { result.path.now ≡ row.now.path }
         ensures kind { result.is_group ≡ row.now.item.is_group }
@@ -64,17 +78,18 @@ pub fn row_cmp(a: &Row, b: &Row) -> Ordering
 }
 
 /// Whether a row stands before an address in canonical order. Mostly the digests tell, without a look
-/// at the names.
+/// at the row.
 #[inline(always)]
-pub(crate) fn stands_before(row: &Entry, address: &Address<'_>) -> bool
-    ensures { result ≡ is_before row.now (address_of address.now.path.now (key_at address.now.is_group address.now.name.now)) }
+pub(crate) fn stands_before(store: &Store, entry: &Entry, address: &Address<'_>) -> bool
+    requires { Stands store.now entry.now }
+    ensures { result ≡ is_before (entry_row store.now entry.now) (address_of address.now.path.now (key_at address.now.is_group address.now.name.now)) }
 {
-    let digest = row.digest();
+    let digest = entry.digest;
     if digest.place != address.digest.place
         || digest.place == NO_PLACE
         || digest.name == address.digest.name
     {
-        return stands_before_by_names(row, address);
+        return stands_before_by_names(store, entry, address);
     }
     digest.name < address.digest.name
 }
@@ -82,12 +97,14 @@ pub(crate) fn stands_before(row: &Entry, address: &Address<'_>) -> bool
 /// The same by the names, where the digests do not tell. It is kept apart, so that a search has a
 /// short loop.
 #[inline(never)]
-fn stands_before_by_names(row: &Entry, address: &Address<'_>) -> bool
-    ensures { result ≡ is_before row.now (address_of address.now.path.now (key_at address.now.is_group address.now.name.now)) }
+fn stands_before_by_names(store: &Store, entry: &Entry, address: &Address<'_>) -> bool
+    requires { Stands store.now entry.now }
+    ensures { result ≡ is_before (entry_row store.now entry.now) (address_of address.now.path.now (key_at address.now.is_group address.now.name.now)) }
 {
-    let digest = row.digest();
+    let row = store.get(entry.id);
+    let digest = entry.digest;
     if digest.place != address.digest.place || digest.place == NO_PLACE {
-        return compare(&row.address().names(), &address.names()).is_lt();
+        return compare(&Names::of_stored(row), &address.names()).is_lt();
     }
     name_cmp(row.item().name.as_slice(), address.name).is_lt()
 }

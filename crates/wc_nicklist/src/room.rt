@@ -1,5 +1,5 @@
-use crate::entry::Slot;
 use crate::path::Path;
+use crate::store::Slot;
 use wc_text::Text;
 
 /// The memory of a row that is still to come under a parent.
@@ -7,7 +7,6 @@ use wc_text::Text;
 pub(crate) struct Room {
     pub(crate) parent: Text,
     pub(crate) path: Path,
-    pub(crate) index_path: Path,
     pub(crate) name: Vec<u8>,
     pub(crate) slot: Slot,
 }

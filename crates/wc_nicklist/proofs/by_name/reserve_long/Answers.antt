@@ -2,4 +2,4 @@ use Rattle.wc_nicklist.proofs.Names.{at_long-same}
 use Rattle.wc_nicklist.proofs.by_name.reserve_long.Goals as goal
 
 pub returns-clause-same : goal.returns-clause-same
-returns-clause-same c = at_long-same c.args.paths.now c.reserve.new.self c.in_ok-reserve.ensures.entries.2
+returns-clause-same c = at_long-same c.args.ids.now c.reserve.new.self c.in_ok-reserve.ensures.entries.2

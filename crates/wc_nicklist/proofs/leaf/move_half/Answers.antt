@@ -22,12 +22,12 @@ loop-lower-preserved c =
     let low = c.loop-lower.lower.ok in
     let h : 32 < length c.loop-lower.lower.items = omega arith in
     record {
-      rows = half_step c.args.lower.now.items c.loop-lower.lower.items c.remove-row.new.self.items c.loop-lower.upper.items c.push_reserved.new.self.items c.remove-row.result 32 h c.remove-row.ensures.items c.remove-row.ensures.value c.push_reserved.ensures.items i.rows;
-      total = omega (arith, i.total, c.remove-row.ensures.len, c.push_reserved.ensures.len);
-      half = omega (arith, c.remove-row.ensures.len);
+      rows = half_step c.args.lower.now.items c.loop-lower.lower.items c.remove-entry.new.self.items c.loop-lower.upper.items c.push_reserved.new.self.items c.remove-entry.result 32 h c.remove-entry.ensures.items c.remove-entry.ensures.value c.push_reserved.ensures.items i.rows;
+      total = omega (arith, i.total, c.remove-entry.ensures.len, c.push_reserved.ensures.len);
+      half = omega (arith, c.remove-entry.ensures.len);
       roomy = omega (arith, i.roomy, c.push_reserved.ensures.capacity);
       upper_capacity = omega (arith, i.upper_capacity, c.push_reserved.ensures.capacity);
-      lower_capacity = omega (arith, i.lower_capacity, c.remove-row.ensures.capacity);
+      lower_capacity = omega (arith, i.lower_capacity, c.remove-entry.ensures.capacity);
     }
 
 pub returns-clause-rows : goal.returns-clause-rows

@@ -1,57 +1,63 @@
-use Rattle.std.proofs.Common.{◌≡◌, List, refl, sym, ap, ◌∙◌, subst, arith}
-use Rattle.std.specs.Prelude.{insert, vec_len, vec_capacity}
-use Rattle.wc_nicklist.specs.declared.item.Row.{Row}
-use Rattle.wc_nicklist.specs.Order.{key, key_at, address, address_of}
-use Rattle.wc_nicklist.specs.Rows.{find_row, insert_row, Ascending}
-use Rattle.wc_nicklist.specs.Stored.{IsPlace}
-use Rattle.wc_nicklist.specs.Tree.{IsLeaf, IsRoomyPlace}
-use Rattle.wc_nicklist.proofs.Leaves.{is_leaf_at, ascending_leaf}
-use Rattle.wc_nicklist.proofs.TreeLaws.{tree_inserted, leaves_set, moved_roomy}
+use Rattle.std.proofs.Common.{◌≡◌, List, map, sym, ap, ◌∙◌, subst, arith}
+use Rattle.std.specs.Prelude.{insert, slice_set, vec_len, vec_capacity}
+use Rattle.wc_nicklist.specs.declared.entry.Entry.{Entry}
+use Rattle.wc_nicklist.specs.Order.{key_at, address_of}
+use Rattle.wc_nicklist.specs.Rows.{Ascending}
+use Rattle.wc_nicklist.specs.Stored.{entry_row, AllStand, IsPlace}
+use Rattle.wc_nicklist.specs.Tree.{Leaf, leaf_rows, entries_in, IsLeaf, IsInserted}
+use Rattle.wc_nicklist.proofs.Leaves.{is_leaf_at, ascending_leaf, stand_leaf}
+use Rattle.wc_nicklist.proofs.TreeLaws.{tree_inserted, leaves_set}
 use Rattle.wc_nicklist.proofs.row_tree.insert.Goals as goal
+
+pub put-requires-clause-stand : goal.put-requires-clause-stand
+put-requires-clause-stand c =
+    let s = c.args.store.now in
+    let leaves = c.roomy_leaf-at.new.leaves.items in
+    let p = c.roomy_leaf-at.ensures.place in
+    let same : c.index_mut.result.now ≡ p.place.leaf = c.index_mut.ensures.value ∙ p.place.split.value c.index_mut.result.now in
+    let P : Leaf → Type 0 = λ l. AllStand s l.items in
+    subst P (sym same) (stand_leaf s leaves c.roomy_leaf-at.result p.place.leaf (subst (AllStand s) (sym c.roomy_leaf-at.ensures.entries) c.requires.stand) p.place.split)
 
 pub put-requires-clause-order : goal.put-requires-clause-order
 put-requires-clause-order c =
-    let r = c.args.row in
+    let s = c.args.store.now in
     let leaves = c.roomy_leaf-at.new.leaves.items in
-    let at = c.roomy_leaf-at.result in
-    let here : address_of c.address.result.path.now (key_at c.address.result.is_group c.address.result.name.now) ≡ address r = λ i. address_of (c.address.ensures.path i) (key_at (c.address.ensures.kind i) (c.address.ensures.name i)) in
-    let p : IsRoomyPlace leaves (address r) at = moved_roomy refl here c.roomy_leaf-at.ensures.place in
+    let p = c.roomy_leaf-at.ensures.place in
     let same : c.index_mut.result.now ≡ p.place.leaf = c.index_mut.ensures.value ∙ p.place.split.value c.index_mut.result.now in
-    subst Ascending (ap (λ l. l.items) (sym same)) (ascending_leaf leaves at p.place.leaf (subst Ascending (sym c.roomy_leaf-at.ensures.rows) c.requires.held.ascending) p.place.split)
+    let P : Leaf → Type 0 = λ l. Ascending (leaf_rows s l) in
+    let Q : List Entry → Type 0 = λ z. Ascending (map (entry_row s) z) in
+    subst P (sym same) (ascending_leaf s leaves c.roomy_leaf-at.result p.place.leaf (subst Q (sym c.roomy_leaf-at.ensures.entries) c.requires.order) p.place.split)
 
 pub put-requires-clause-room : goal.put-requires-clause-room
 put-requires-clause-room c =
-    let r = c.args.row in
     let leaves = c.roomy_leaf-at.new.leaves.items in
     let at = c.roomy_leaf-at.result in
-    let here : address_of c.address.result.path.now (key_at c.address.result.is_group c.address.result.name.now) ≡ address r = λ i. address_of (c.address.ensures.path i) (key_at (c.address.ensures.kind i) (c.address.ensures.name i)) in
-    let p : IsRoomyPlace leaves (address r) at = moved_roomy refl here c.roomy_leaf-at.ensures.place in
+    let p = c.roomy_leaf-at.ensures.place in
     let same : c.index_mut.result.now ≡ p.place.leaf = c.index_mut.ensures.value ∙ p.place.split.value c.index_mut.result.now in
     let old = is_leaf_at leaves at p.place.leaf c.roomy_leaf-at.ensures.leaves p.place.split in
     let f = old.roomy in
     let g = p.room in
     omega (arith, f, g, ap vec_len same, ap vec_capacity same)
 
-pub returns-clause-rows : goal.returns-clause-rows
-returns-clause-rows c =
-    let r = c.args.row in
+pub returns-clause-entries : goal.returns-clause-entries
+returns-clause-entries c =
+    let s = c.args.store.now in
+    let a = address_of c.args.address.now.path.now (key_at c.args.address.now.is_group c.args.address.now.name.now) in
     let leaves = c.roomy_leaf-at.new.leaves.items in
     let at = c.roomy_leaf-at.result in
-    let here : address_of c.address.result.path.now (key_at c.address.result.is_group c.address.result.name.now) ≡ address r = λ i. address_of (c.address.ensures.path i) (key_at (c.address.ensures.kind i) (c.address.ensures.name i)) in
-    let p : IsRoomyPlace leaves (address r) at = moved_roomy refl here c.roomy_leaf-at.ensures.place in
+    let p = c.roomy_leaf-at.ensures.place in
     let same : c.index_mut.result.now ≡ p.place.leaf = c.index_mut.ensures.value ∙ p.place.split.value c.index_mut.result.now in
     let q = c.put.ensures.place in
-    let P : List Row → Type 0 = λ z. IsPlace z (address r) q.0 in
-    tree_inserted leaves at r c.put.new.self p.place q.0 (subst P (ap (λ l. l.items) same) q.1) (q.2 ∙ ap (λ l. insert l.items q.0 r) same) (ap (find_row (key r)) c.roomy_leaf-at.ensures.rows ∙ c.requires.absent)
-    ∙ ap (insert_row r) c.roomy_leaf-at.ensures.rows
+    let P : Leaf → Type 0 = λ l. IsPlace (leaf_rows s l) a q.0 in
+    let new = entries_in (slice_set leaves at c.put.new.self) in
+    let came = tree_inserted s leaves at a c.args.entry c.put.new.self p.place q.0 (subst P same q.1) (q.2 ∙ ap (λ l. insert l.items q.0 c.args.entry) same) in
+    subst (λ z. IsInserted s z new c.args.entry a) c.roomy_leaf-at.ensures.entries came
 
 pub returns-clause-leaves : goal.returns-clause-leaves
 returns-clause-leaves c =
-    let r = c.args.row in
     let leaves = c.roomy_leaf-at.new.leaves.items in
     let at = c.roomy_leaf-at.result in
-    let here : address_of c.address.result.path.now (key_at c.address.result.is_group c.address.result.name.now) ≡ address r = λ i. address_of (c.address.ensures.path i) (key_at (c.address.ensures.kind i) (c.address.ensures.name i)) in
-    let p : IsRoomyPlace leaves (address r) at = moved_roomy refl here c.roomy_leaf-at.ensures.place in
+    let p = c.roomy_leaf-at.ensures.place in
     let same : c.index_mut.result.now ≡ p.place.leaf = c.index_mut.ensures.value ∙ p.place.split.value c.index_mut.result.now in
     let old = is_leaf_at leaves at p.place.leaf c.roomy_leaf-at.ensures.leaves p.place.split in
     let f = old.roomy in

@@ -12,8 +12,8 @@ invariant-loop-low l =
     record {
       order : l.low ≤ l.high;
       within : l.high + 1 ≤ length l.leaves;
-      left : AllBefore (rows_in (take l.low l.leaves)) a;
-      right : EndsAt l.leaves a l.high;
+      left : AllBefore (rows_in l.store (take l.low l.leaves)) a;
+      right : EndsAt l.store l.leaves a l.high;
     }
 
 abbrev pub decreases-loop-low : goal.decreases-loop-low

@@ -16,15 +16,16 @@ filled-name-requires-clause-fits c =
     let name : length c.as_slice.result.now ≤ 64 = subst P (sym c.as_slice.ensures) short in
     omega (arith, name, fits)
 
--- the new row and its path come in together
+-- the new row and its number come in together
 pub invariant_of-self : goal.invariant_of-self
 invariant_of-self c =
-    let room : RoomStands c.self.inside.rows c.self.inside.index c.in-Some.room = subst (IfRoom c.self.inside.rows c.self.inside.index) (sym c.take.ensures.value ∙ c.in-Some.is) c.self.invariant.prepared in
-    let absent : find_row (key_at c.args.is_group c.args.item.name) c.self.inside.rows.rows ≡ None = ap (λ s. find_row (key_at c.args.is_group c.args.item.name) s.rows) c.self.view_is ∙ c.requires.absent in
+    let a = c.self.inside in
+    let room : RoomStands a.rows a.index c.in-Some.room = subst (IfRoom a.rows a.index) (sym c.take.ensures.value ∙ c.in-Some.is) c.self.invariant.prepared in
+    let absent : find_row (key_at c.args.is_group c.args.item.name) a.rows.rows ≡ None = ap (λ s. find_row (key_at c.args.is_group c.args.item.name) s.rows) c.self.view_is ∙ c.requires.absent in
     let r = c.in-Some.room in
-    let item : c.new.result.item ≡ (row_under c.args.is_group r.path c.args.item).item = c.new.ensures.item ∙ sym c.placed-item.ensures ∙ ap (λ p. (row_under c.args.is_group p c.args.item).item) c.as_slice-2.ensures in
-    let row : c.new.result ≡ row_under c.args.is_group r.path c.args.item = λ i. record { path = c.new.ensures.path i; item = item i } in
-    subst (IsKept c.insert-2.new.self c.insert.new.self) (sym c.take.ensures.after)
-    (put_kept c.self.inside.rows c.insert-2.new.self c.self.inside.index c.insert.new.self c.in-Some.room c.args.is_group c.args.item c.filled-name.result.items c.new.result
+    let item : c.write_row.result.value.item ≡ (row_under c.args.is_group r.path c.args.item).item = c.write_row.ensures.item ∙ sym c.placed-item.ensures ∙ ap (λ p. (row_under c.args.is_group p c.args.item).item) c.as_slice-2.ensures in
+    let row : c.write_row.result.value ≡ row_under c.args.is_group r.path c.args.item = λ i. record { path = c.write_row.ensures.path i; item = item i } in
+    subst (IsKept c.insert-id.new.self c.insert.new.self) (sym c.take.ensures.after)
+    (put_kept a.rows c.insert-id.new.self a.index c.insert.new.self r c.args.is_group c.args.item c.filled-name.result.items c.write_row.result.value c.insert-id.result
     c.self.invariant.held c.self.invariant.indexed room absent c.requires.named c.requires.utf8
-    (c.filled-name.ensures ∙ c.as_slice.ensures) row c.insert-2.ensures c.insert.ensures)
+    (c.filled-name.ensures ∙ c.as_slice.ensures) row c.insert-id.ensures.rows c.insert-id.ensures.fresh c.insert-id.ensures.at c.insert.ensures)

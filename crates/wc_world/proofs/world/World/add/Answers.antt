@@ -1,4 +1,4 @@
-use Rattle.std.proofs.Common.{rules, ◌∙◌, Some, Err, cond, eqb, refl, ap, arith}
+use Rattle.std.proofs.Common.{◌∙◌, Some, Err, cond, eqb, refl, ap, arith}
 use Rattle.std.proofs.lemmas.Result.{err_from_is_err_and}
 use Rattle.wc_nicklist.specs.Rows.{Nicks}
 use Rattle.wc_buffers.specs.Calls.{opened}
@@ -17,7 +17,9 @@ pub invariant_of-self : goal.invariant_of-self
 invariant_of-self c = kept_reserved c.self.inside.buffers c.self.inside.buffers c.self.inside.held c.reserve.new.held c.self.inside.nicks c.self.inside.nicks c.self.inside.limit c.self.inside.next c.self.inside.row_count refl c.in_err-reserve.ensures.same (λ q. refl) c.self.invariant
 
 pub returns-in_err-reserve : goal.returns-in_err-reserve
-returns-in_err-reserve c = out_of_memory c.args.self.now _ _ _ (search rules) (same_stored c.self.inside.buffers c.self.inside.buffers c.self.inside.held c.reserve.new.held (rows_map c.self.inside.nicks) (rows_map c.self.inside.nicks) c.self.inside.limit c.self.inside.next c.args.self.now refl c.in_err-reserve.ensures.same refl c.self.view_is)
+returns-in_err-reserve c =
+    let p = err_from_is_err_and c.from_residual-in_err-reserve.result c.from_residual-in_err-reserve.ensures.1 in
+    out_of_memory c.args.self.now _ _ _ (p.1 ∙ ap Err p.2) (same_stored c.self.inside.buffers c.self.inside.buffers c.self.inside.held c.reserve.new.held (rows_map c.self.inside.nicks) (rows_map c.self.inside.nicks) c.self.inside.limit c.self.inside.next c.args.self.now refl c.in_err-reserve.ensures.same refl c.self.view_is)
 
 pub invariant_of-self-in_err-reserve-2 : goal.invariant_of-self-in_err-reserve-2
 invariant_of-self-in_err-reserve-2 c = kept_reserved c.self.inside.buffers c.self.inside.buffers c.self.inside.held c.reserve.new.held c.self.inside.nicks c.reserve-2.new.lists c.self.inside.limit c.self.inside.next c.self.inside.row_count refl c.in_ok-reserve.ensures.same c.in_err-reserve-2.ensures.same c.self.invariant
