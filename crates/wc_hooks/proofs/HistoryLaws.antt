@@ -1,6 +1,6 @@
 -- What one open pass gives over any sequence of calls.
-use Rattle.std.proofs.Common.{◌≡◌, ◌≢◌, ℕ, ◌<◌, Bool, true, false, not, Option, Some, None, List, [], ◌∷◌, ◌++◌, length, map, arith, refl, sym, ap, ◌∙◌, length-set, append_assoc}
-use Rattle.std.specs.Prelude.{filter, find, option_to_list, unwrap_or, ◌==◌}
+use Rattle.std.proofs.Common.{◌≡◌, ◌≢◌, ℕ, ◌+◌, ◌<◌, Bool, true, false, not, Option, Some, None, List, [], ◌∷◌, ◌++◌, length, map, arith, refl, sym, ap, ◌∙◌, length-set, append_assoc}
+use Rattle.std.specs.Prelude.{filter, find, option_to_list, ◌==◌}
 use Rattle.std.specs.List.{list_all}
 use Rattle.std.proofs.lemmas.Bool.{and_parts, false≢true}
 use Rattle.std.proofs.lemmas.Bool.Decides.{nat_tests}
@@ -8,11 +8,21 @@ use Rattle.std.proofs.lemmas.List.{get_or-set_same, get_or-set_other, map-append
 use Rattle.std.proofs.lemmas.List.Elements.{filter-append}
 use Rattle.wc_hooks.specs.declared.entry.Entry.{Entry}
 use Rattle.wc_hooks.specs.Passes.{behind, may_run, left_behind, with_given}
-use Rattle.wc_hooks.specs.Table.{Table, IsOpen, left_at, next_of, with_pass, with_rows}
+use Rattle.wc_hooks.specs.Table.{Table, Going, IsOpen, left_at, left_of, looked_at, over_at, next_of, with_pass, with_marks}
 use Rattle.wc_hooks.specs.History.{Act, hooks, unhooks, switches, opens, gives, ends, closes, after, after_all, leaves, front, turn, turns, gift, IsWalk}
-use Rattle.wc_hooks.proofs.Order.{by_bool, keeps_first, drops_first}
-use Rattle.wc_hooks.proofs.Turns.{find_on, find_here, behind_on, behind_here}
-use Rattle.wc_hooks.proofs.Keeps.{open_inside}
+use Rattle.wc_hooks.proofs.Lists.{by_bool, keeps_first, drops_first, open_inside}
+
+find_on : (p : Entry → Bool) (e : Entry) (es : List Entry) → p e ≡ false → find p (e ∷ es) ≡ find p es
+find_on p e es f = rw f refl
+
+find_here : (p : Entry → Bool) (e : Entry) (es : List Entry) → p e ≡ true → find p (e ∷ es) ≡ Some e
+find_here p e es t = rw t refl
+
+behind_on : (p : Entry → Bool) (e : Entry) (es : List Entry) → p e ≡ false → behind p (e ∷ es) ≡ behind p es
+behind_on p e es f = rw f refl
+
+behind_here : (p : Entry → Bool) (e : Entry) (es : List Entry) → p e ≡ true → behind p (e ∷ es) ≡ es
+behind_here p e es t = rw t refl
 
 front_here : (p : Entry → Bool) (e : Entry) (es : List Entry) → p e ≡ true → front p (e ∷ es) ≡ e ∷ []
 front_here p e es t = rw t refl
@@ -50,63 +60,68 @@ passing-front p (e ∷ es) = by_bool (p e)
     (λ t. ap (passing p) (front_on p e es t) ∙ passing_on p e (front p es) t ∙ passing-front p es ∙ ap option_to_list (sym (find_on p e es t)))
 
 -- what is left at a place, after something was put at a place
-left_put : (t : Table) (place : ℕ) (left : List Entry) → place < length t.passes → left_at (with_pass place (Some left) t) place ≡ left
-left_put t place left inside = ap (λ o. unwrap_or o []) (get_or-set_same t.passes place (Some left) None inside)
+left_put : (t : Table) (place : ℕ) (pass : Going) → place < length t.passes → left_at (with_pass place (Some pass) t) place ≡ pass.left
+left_put t place pass inside = ap left_of (get_or-set_same t.passes place (Some pass) None inside)
 
-left_elsewhere : (t : Table) (other place : ℕ) (pass : Option (List Entry)) → (other == place) ≡ false → left_at (with_pass other pass t) place ≡ left_at t place
-left_elsewhere t other place pass differ = let no : place ≢ other = grind (arith, nat_tests) in ap (λ o. unwrap_or o []) (get_or-set_other t.passes other place pass None no)
+left_elsewhere : (t : Table) (other place : ℕ) (pass : Option Going) → (other == place) ≡ false → left_at (with_pass other pass t) place ≡ left_at t place
+left_elsewhere t other place pass differ = let no : place ≢ other = grind (arith, nat_tests) in ap left_of (get_or-set_other t.passes other place pass None no)
 
 -- one call
-turn_here : (t : Table) (other place : ℕ) → (other == place) ≡ true → turn place (gives other) t ≡ flagged (may_run t.rows) (front (may_run t.rows) (left_at t place))
-turn_here t other place same = rw same refl
+turn_here : (t : Table) (other place steps : ℕ) → (other == place) ≡ true → turn place (gives other steps) t ≡ flagged (may_run t.rows t.marks) (front (may_run t.rows t.marks) (left_at t place))
+turn_here t other place steps same = rw same refl
 
-turn_elsewhere : (t : Table) (other place : ℕ) → (other == place) ≡ false → turn place (gives other) t ≡ []
-turn_elsewhere t other place differ = rw differ refl
+turn_elsewhere : (t : Table) (other place steps : ℕ) → (other == place) ≡ false → turn place (gives other steps) t ≡ []
+turn_elsewhere t other place steps differ = rw differ refl
 
-gift_here : (t : Table) (other place : ℕ) → (other == place) ≡ true → gift place (gives other) t ≡ option_to_list (next_of t place)
-gift_here t other place same = rw same refl
+gift_here : (t : Table) (other place steps : ℕ) → (other == place) ≡ true → gift place (gives other steps) t ≡ option_to_list (next_of t place)
+gift_here t other place steps same = rw same refl
 
-gift_elsewhere : (t : Table) (other place : ℕ) → (other == place) ≡ false → gift place (gives other) t ≡ []
-gift_elsewhere t other place differ = rw differ refl
+gift_elsewhere : (t : Table) (other place steps : ℕ) → (other == place) ≡ false → gift place (gives other steps) t ≡ []
+gift_elsewhere t other place steps differ = rw differ refl
 
-left_after : (t : Table) (other place : ℕ) → other ≡ place → place < length t.passes → left_at (after (gives other) t) place ≡ left_behind t.rows (left_at t place)
-left_after t other place same inside = ap (λ o. left_at (after (gives o) t) place) same ∙ left_put (with_rows (with_given (next_of t place) t.rows) t) place (left_behind t.rows (left_at t place)) inside
+left_after : (t : Table) (other place steps : ℕ) → other ≡ place → place < length t.passes → left_at (after (gives other steps) t) place ≡ left_behind t.rows t.marks (left_at t place)
+left_after t other place steps same inside =
+    ap (λ o. left_at (after (gives o steps) t) place) same
+    ∙ left_put (with_marks (with_given (next_of t place) t.marks) t) place (record { left = left_behind t.rows t.marks (left_at t place); looked = looked_at t place + steps; over = over_at t place }) inside
+
+other_place : (other place : ℕ) → not (other == place) ≡ true → (other == place) ≡ false
+other_place other place quiet = by_bool (other == place) (λ same. absurd (false≢true (sym (ap not same) ∙ quiet))) (λ differ. differ)
 
 turn_order : (act : Act) (t : Table) (place : ℕ) → place < length t.passes → leaves place act ≡ true → map (λ seen. seen.0) (turn place act t) ++ left_at (after act t) place ≡ left_at t place
 turn_order (hooks row) t place inside quiet = refl
 turn_order (unhooks id) t place inside quiet = refl
 turn_order (switches id on) t place inside quiet = refl
-turn_order (opens other kind key) t place inside quiet = left_elsewhere t other place _ (by_bool (other == place) (λ same. absurd (false≢true (sym (ap not same) ∙ quiet))) (λ differ. differ))
-turn_order (gives other) t place inside quiet =
-    let p = may_run t.rows in
+turn_order (opens other kind key) t place inside quiet = left_elsewhere t other place _ (other_place other place quiet)
+turn_order (gives other steps) t place inside quiet =
+    let p = may_run t.rows t.marks in
     by_bool (other == place)
     (λ here. let same : other ≡ place = grind (arith, nat_tests) in
-    (λ i. map (λ seen. seen.0) (turn_here t other place here i) ++ left_after t other place same inside i)
-    ∙ ap (λ l. l ++ left_behind t.rows (left_at t place)) (names p (front p (left_at t place)))
+    (λ i. map (λ seen. seen.0) (turn_here t other place steps here i) ++ left_after t other place steps same inside i)
+    ∙ ap (λ l. l ++ left_behind t.rows t.marks (left_at t place)) (names p (front p (left_at t place)))
     ∙ front-behind p (left_at t place))
-    (λ differ. ap (λ l. map (λ seen. seen.0) l ++ left_at (after (gives other) t) place) (turn_elsewhere t other place differ)
-    ∙ left_elsewhere (with_rows (with_given (next_of t other) t.rows) t) other place _ differ)
+    (λ differ. ap (λ l. map (λ seen. seen.0) l ++ left_at (after (gives other steps) t) place) (turn_elsewhere t other place steps differ)
+    ∙ left_elsewhere (with_marks (with_given (next_of t other) t.marks) t) other place _ differ)
 turn_order (ends id) t place inside quiet = refl
-turn_order (closes other) t place inside quiet = left_elsewhere t other place _ (by_bool (other == place) (λ same. absurd (false≢true (sym (ap not same) ∙ quiet))) (λ differ. differ))
+turn_order (closes other) t place inside quiet = left_elsewhere t other place None (other_place other place quiet)
 
 turn_given : (act : Act) (t : Table) (place : ℕ) → map (λ seen. seen.0) (filter (λ seen. seen.1) (turn place act t)) ≡ gift place act t
 turn_given (hooks row) t place = refl
 turn_given (unhooks id) t place = refl
 turn_given (switches id on) t place = refl
 turn_given (opens other kind key) t place = refl
-turn_given (gives other) t place =
+turn_given (gives other steps) t place =
     by_bool (other == place)
-    (λ here. ap (λ l. map (λ seen. seen.0) (filter (λ seen. seen.1) l)) (turn_here t other place here) ∙ passing-front (may_run t.rows) (left_at t place) ∙ sym (gift_here t other place here))
-    (λ differ. ap (λ l. map (λ seen. seen.0) (filter (λ seen. seen.1) l)) (turn_elsewhere t other place differ) ∙ sym (gift_elsewhere t other place differ))
+    (λ here. ap (λ l. map (λ seen. seen.0) (filter (λ seen. seen.1) l)) (turn_here t other place steps here) ∙ passing-front (may_run t.rows t.marks) (left_at t place) ∙ sym (gift_here t other place steps here))
+    (λ differ. ap (λ l. map (λ seen. seen.0) (filter (λ seen. seen.1) l)) (turn_elsewhere t other place steps differ) ∙ sym (gift_elsewhere t other place steps differ))
 turn_given (ends id) t place = refl
 turn_given (closes other) t place = refl
 
-places_after : (act : Act) (t : Table) → length (after act t).passes ≡ length t.passes
+pub places_after : (act : Act) (t : Table) → length (after act t).passes ≡ length t.passes
 places_after (hooks row) t = refl
 places_after (unhooks id) t = refl
 places_after (switches id on) t = refl
 places_after (opens other kind key) t = length-set t.passes other _
-places_after (gives other) t = length-set t.passes other _
+places_after (gives other steps) t = length-set t.passes other _
 places_after (ends id) t = refl
 places_after (closes other) t = length-set t.passes other _
 

@@ -1,31 +1,31 @@
 -- Sequences of calls, and what one open pass gives over them.
-use Rattle.std.specs.Prelude.{◌≡◌, ℕ, Bool, true, false, not, ◌==◌, Some, None, List, [], ◌∷◌, ◌++◌, map, filter, option_to_list, if◌then◌else◌}
+use Rattle.std.specs.Prelude.{◌≡◌, ℕ, ◌+◌, Bool, true, not, ◌==◌, Some, List, [], ◌∷◌, ◌++◌, map, filter, option_to_list, if◌then◌else◌}
 use Rattle.wc_hooks.specs.declared.entry.Entry.{Entry}
 use Rattle.wc_hooks.specs.declared.entry.HookId.{HookId}
-use Rattle.wc_hooks.specs.declared.hook_row.HookRow.{HookRow}
 use Rattle.wc_hooks.specs.declared.kind.HookKind.{HookKind}
-use Rattle.wc_hooks.specs.Rows.{without, switched, marked}
-use Rattle.wc_hooks.specs.Passes.{hooks_on, may_run}
-use Rattle.wc_hooks.specs.Table.{Table, with_row, with_rows, with_pass, left_at, next_of, after_next}
+use Rattle.wc_hooks.specs.Rows.{HookRow, switched}
+use Rattle.wc_hooks.specs.Passes.{may_run, unmarked}
+use Rattle.wc_hooks.specs.Table.{Table, with_row, without_row, with_rows, with_marks, with_pass, without_pass, opening, left_at, next_of, after_next}
 
+-- a call of `next` with the steps that it took
 pub data Act : Type 0 where
   hooks : HookRow → Act
   unhooks : HookId → Act
   switches : HookId → Bool → Act
   opens : ℕ → HookKind → List ℕ → Act
-  gives : ℕ → Act
+  gives : ℕ → ℕ → Act
   ends : HookId → Act
   closes : ℕ → Act
 
 -- what a call makes of the table
 abbrev pub after : Act → Table → Table
 after (hooks row) table = with_row row table
-after (unhooks id) table = with_rows (without id table.rows) table
+after (unhooks id) table = without_row id table
 after (switches id on) table = with_rows (switched id on table.rows) table
-after (opens place kind key) table = with_pass place (Some (hooks_on kind key table.rows)) table
-after (gives place) table = after_next table place
-after (ends id) table = with_rows (marked id false table.rows) table
-after (closes place) table = with_pass place None table
+after (opens place kind key) table = with_pass place (Some (opening kind key table)) table
+after (gives place steps) table = after_next table place steps
+after (ends id) table = with_marks (unmarked id table.marks) table
+after (closes place) table = without_pass place table
 
 abbrev pub after_all : List Act → Table → Table
 after_all [] table = table
@@ -37,7 +37,7 @@ leaves place (hooks row) = true
 leaves place (unhooks id) = true
 leaves place (switches id on) = true
 leaves place (opens other kind key) = not (other == place)
-leaves place (gives other) = true
+leaves place (gives other steps) = true
 leaves place (ends id) = true
 leaves place (closes other) = not (other == place)
 
@@ -52,8 +52,8 @@ turn place (hooks row) table = []
 turn place (unhooks id) table = []
 turn place (switches id on) table = []
 turn place (opens other kind key) table = []
-turn place (gives other) table =
-    if other == place then map (λ entry. (entry, may_run table.rows entry)) (front (may_run table.rows) (left_at table place)) else []
+turn place (gives other steps) table =
+    if other == place then map (λ entry. (entry, may_run table.rows table.marks entry)) (front (may_run table.rows table.marks) (left_at table place)) else []
 turn place (ends id) table = []
 turn place (closes other) table = []
 
@@ -67,13 +67,27 @@ gift place (hooks row) table = []
 gift place (unhooks id) table = []
 gift place (switches id on) table = []
 gift place (opens other kind key) table = []
-gift place (gives other) table = if other == place then option_to_list (next_of table place) else []
+gift place (gives other steps) table = if other == place then option_to_list (next_of table place) else []
 gift place (ends id) table = []
 gift place (closes other) table = []
 
 abbrev pub gifts : ℕ → List Act → Table → List Entry
 gifts place [] table = []
 gifts place (act ∷ acts) table = gift place act table ++ gifts place acts (after act table)
+
+-- the steps that the calls of `next` of the pass at this place take
+abbrev pub steps_of : ℕ → Act → ℕ
+steps_of place (hooks row) = 0
+steps_of place (unhooks id) = 0
+steps_of place (switches id on) = 0
+steps_of place (opens other kind key) = 0
+steps_of place (gives other steps) = if other == place then steps else 0
+steps_of place (ends id) = 0
+steps_of place (closes other) = 0
+
+abbrev pub all_steps : ℕ → List Act → ℕ
+all_steps place [] = 0
+all_steps place (act ∷ acts) = steps_of place act + all_steps place acts
 
 -- each entry that was left is looked at once and in order, or still left, and those are given that may run at their turn
 pub record IsWalk (place : ℕ) (acts : List Act) (table : Table) : Type 0 where

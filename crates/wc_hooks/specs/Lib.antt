@@ -1,6 +1,10 @@
+pub mod Filings
 pub mod History
 pub mod Inside
 pub mod Kinds
 pub mod Passes
+pub mod Past
+pub mod Ranks
 pub mod Rows
+pub mod Slots
 pub mod Table

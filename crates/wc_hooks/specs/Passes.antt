@@ -1,31 +1,41 @@
 -- What a pass takes at its opening, and what it gives of that at each turn.
-use Rattle.std.specs.Prelude.{ℕ, Bool, true, not, ◌&&◌, Option, Some, None, List, [], ◌∷◌, map, filter, find, if◌then◌else◌}
+use Rattle.std.specs.Prelude.{ℕ, Bool, not, ◌&&◌, ◌==◌, Option, List, [], ◌∷◌, ◌++◌, map, filter, find, option_to_list, if◌then◌else◌}
+use Rattle.std.specs.List.{list_any}
 use Rattle.wc_hooks.specs.declared.entry.Entry.{Entry}
-use Rattle.wc_hooks.specs.declared.hook_row.HookRow.{HookRow}
+use Rattle.wc_hooks.specs.declared.entry.HookId.{HookId}
+use Rattle.wc_hooks.specs.declared.entry.Owner.{Owner}
 use Rattle.wc_hooks.specs.declared.kind.HookKind.{HookKind}
-use Rattle.wc_hooks.specs.Rows.{filed, entry_of, is_on, runs, marked}
+use Rattle.wc_hooks.specs.Kinds.{same_owner}
+use Rattle.wc_hooks.specs.Rows.{HookRow, filed, entry_of, is_on}
 
 -- the enabled entries of a kind and a key, by priority downward, ties by creation
 abbrev pub hooks_on : HookKind → List ℕ → List HookRow → List Entry
 hooks_on kind key rows = map entry_of (filter (λ row. row.enabled) (filed kind key rows))
 
+-- some entry of this owner is marked as running
+abbrev pub runs : Owner → List Entry → Bool
+runs owner marks = list_any (λ mark. same_owner mark.owner owner) marks
+
 -- it lives, is enabled, and no entry of its owner is marked as running
-abbrev pub may_run : List HookRow → Entry → Bool
-may_run rows entry = is_on entry.id rows && not (runs entry.owner rows)
+abbrev pub may_run : List HookRow → List Entry → Entry → Bool
+may_run rows marks entry = is_on entry.id rows && not (runs entry.owner marks)
 
 -- the first of what is left that may run
-abbrev pub due : List HookRow → List Entry → Option Entry
-due rows left = find (may_run rows) left
+abbrev pub due : List HookRow → List Entry → List Entry → Option Entry
+due rows marks left = find (may_run rows marks) left
 
 -- what stands behind the first that passes the test
-abbrev pub behind : (Entry → Bool) → List Entry → List Entry
+abbrev pub behind : {A : Type 0} → (A → Bool) → List A → List A
 behind test [] = []
-behind test (entry ∷ left) = if test entry then left else behind test left
+behind test (first ∷ left) = if test first then left else behind test left
 
-abbrev pub left_behind : List HookRow → List Entry → List Entry
-left_behind rows left = behind (may_run rows) left
+abbrev pub left_behind : List HookRow → List Entry → List Entry → List Entry
+left_behind rows marks left = behind (may_run rows marks) left
 
 -- the entry that was given, if any, is marked as running
-abbrev pub with_given : Option Entry → List HookRow → List HookRow
-with_given None rows = rows
-with_given (Some entry) rows = marked entry.id true rows
+abbrev pub with_given : Option Entry → List Entry → List Entry
+with_given given marks = marks ++ option_to_list given
+
+-- the entry with this number is not marked
+abbrev pub unmarked : HookId → List Entry → List Entry
+unmarked id marks = filter (λ mark. not (mark.id.0 == id.0)) marks

@@ -1,12 +1,21 @@
--- The entries that live, in one list: by priority downward, ties by creation.
-use Rattle.std.specs.Prelude.{ℕ, Bool, true, false, not, ◌&&◌, ◌==◌, nat_lt, nat_le, List, [], ◌∷◌, length, map, filter, if◌then◌else◌, bytes_eq}
-use Rattle.std.specs.List.{list_any, list_all}
+-- The entries that live, in one list: by kind and key, then by priority downward, ties by creation.
+use Rattle.std.specs.Prelude.{ℕ, Bool, true, not, ◌&&◌, ◌==◌, List, length, map, filter, if◌then◌else◌, bytes_eq}
+use Rattle.std.specs.List.{list_any}
 use Rattle.wc_hooks.specs.declared.entry.Entry.{Entry}
 use Rattle.wc_hooks.specs.declared.entry.HookId.{HookId}
 use Rattle.wc_hooks.specs.declared.entry.Owner.{Owner}
-use Rattle.wc_hooks.specs.declared.hook_row.HookRow.{HookRow}
 use Rattle.wc_hooks.specs.declared.kind.HookKind.{HookKind}
-use Rattle.wc_hooks.specs.Kinds.{is_relay, same_kind, same_owner}
+use Rattle.wc_hooks.specs.Kinds.{is_relay, same_kind}
+use Rattle.wc_hooks.specs.Ranks.{Rank, put_by, falls_by}
+
+-- an entry that lives
+pub record HookRow : Type 0 where
+  pub id : HookId
+  pub kind : HookKind
+  pub key : List ℕ
+  pub priority : ℕ
+  pub owner : Owner
+  pub enabled : Bool
 
 abbrev pub is_id : HookId → HookRow → Bool
 is_id id row = row.id.0 == id.0
@@ -18,15 +27,14 @@ is_for kind key row = same_kind row.kind kind && bytes_eq row.key key
 abbrev pub filed : HookKind → List ℕ → List HookRow → List HookRow
 filed kind key rows = filter (is_for kind key) rows
 
--- behind all that have its priority or a higher one
-abbrev pub put_in : HookRow → List HookRow → List HookRow
-put_in row [] = row ∷ []
-put_in row (other ∷ rows) = if nat_lt other.priority row.priority then row ∷ (other ∷ rows) else other ∷ put_in row rows
+abbrev pub rank_of : HookRow → Rank
+rank_of row = record { kind = row.kind; key = row.key; priority = row.priority }
 
--- by priority downward
+abbrev pub put_in : HookRow → List HookRow → List HookRow
+put_in row rows = put_by rank_of row rows
+
 abbrev pub falls : List HookRow → Bool
-falls [] = true
-falls (row ∷ rows) = list_all (λ other. nat_le other.priority row.priority) rows && falls rows
+falls rows = falls_by rank_of rows
 
 abbrev pub without : HookId → List HookRow → List HookRow
 without id rows = filter (λ row. not (is_id id row)) rows
@@ -38,13 +46,6 @@ with_switch id on row = if is_id id row then record row { enabled = on } else ro
 abbrev pub switched : HookId → Bool → List HookRow → List HookRow
 switched id on rows = map (with_switch id on) rows
 
-abbrev pub with_mark : HookId → Bool → HookRow → HookRow
-with_mark id running row = if is_id id row then record row { running = running } else row
-
--- the one with this number marked as running, or not
-abbrev pub marked : HookId → Bool → List HookRow → List HookRow
-marked id running rows = map (with_mark id running) rows
-
 -- one with this number lives
 abbrev pub lives : HookId → List HookRow → Bool
 lives id rows = list_any (is_id id) rows
@@ -52,10 +53,6 @@ lives id rows = list_any (is_id id) rows
 -- one with this number lives and is enabled
 abbrev pub is_on : HookId → List HookRow → Bool
 is_on id rows = list_any (λ row. is_id id row && row.enabled) rows
-
--- some entry of this owner is marked as running
-abbrev pub runs : Owner → List HookRow → Bool
-runs owner rows = list_any (λ row. row.running && same_owner row.owner owner) rows
 
 -- how many are of the kind of relay sessions, and of all other kinds
 abbrev pub relays : List HookRow → ℕ
@@ -69,5 +66,4 @@ entry_of row = record { id = row.id; owner = row.owner }
 
 -- an entry that was just hooked
 abbrev pub new_row : HookId → HookKind → List ℕ → ℕ → Owner → HookRow
-new_row id kind key priority owner =
-    record { id = id; kind = kind; key = key; priority = priority; owner = owner; enabled = true; running = false }
+new_row id kind key priority owner = record { id = id; kind = kind; key = key; priority = priority; owner = owner; enabled = true }

@@ -1,5 +1,5 @@
 ghost use Rattle.std.specs.Prelude.{◌≡◌};
-ghost use Rattle.wc_hooks.specs.Kinds.{is_relay, same_kind};
+ghost use Rattle.wc_hooks.specs.Kinds.{is_relay, same_kind, kind_number};
 
 /// What an entry is hooked for.
 #[derive(Clone, Copy, Debug, PartialEq, Eq)]
@@ -33,5 +33,20 @@ impl HookKind {
         ensures { result ≡ same_kind self other }
     {
         self == other
+    }
+
+    /// Its place among the kinds.
+    pub(crate) fn number(self) -> u8
+        ensures { result ≡ kind_number self }
+    {
+        match self {
+            HookKind::Relay => 0,
+            HookKind::Signal => 1,
+            HookKind::Print => 2,
+            HookKind::Modifier => 3,
+            HookKind::Command => 4,
+            HookKind::CommandRun => 5,
+            HookKind::Timer => 6,
+        }
     }
 }

@@ -1,25 +1,33 @@
-ghost use Rattle.std.specs.Prelude.{◌≤◌, is_some, ◌≡◌, ◌≢◌, ◌+◌, ◌-◌, ◌^◌, ◌<◌, ◌==◌, ℕ, List, true, false, None, Some, IsTrue, IfOk, IfSome, IfNone, OnErr, is_none, IsOkUnless, Ok, Err, if◌then◌else◌, not};
-ghost use Rattle.std.specs.List.{list_all, slice_set, slice_index_or};
+ghost use Rattle.std.specs.Prelude.{◌≤◌, is_some, ◌≡◌, ◌≢◌, ◌+◌, ◌-◌, ◌^◌, ◌<◌, ◌==◌, ℕ, List, true, false, None, Some, IsTrue, IfOk, IfSome, IfNone, OnErr, is_none, IsOkUnless, Ok, Err, if◌then◌else◌};
 ghost use Rattle.wc_hooks.specs.declared.kind.HookKind.{HookKind};
 ghost use Rattle.wc_hooks.specs.declared.refused.HookRefused.{HookRefused};
 ghost use Rattle.wc_hooks.specs.Kinds.{is_relay};
-ghost use Rattle.wc_hooks.specs.Rows.{new_row, put_in, without, switched, marked, lives, relays, others, filed, is_for};
-ghost use Rattle.wc_hooks.specs.Passes.{hooks_on};
-ghost use Rattle.wc_hooks.specs.Table.{new_table, with_row, with_rows, with_pass, pass_at, IsOpen, has_no_place, is_place_for, is_full_for, next_of, after_next, IsTable, IsFiled, IsFresh, other_passes};
+ghost use Rattle.wc_hooks.specs.Rows.{new_row, without, switched, lives, relays, others, filed};
+ghost use Rattle.wc_hooks.specs.Passes.{unmarked};
+ghost use Rattle.wc_hooks.specs.Table.{new_table, with_row, without_row, with_rows, with_marks, with_pass, without_pass, opening, pass_at, looked_at, IsOpen, has_no_place, is_place_for, is_full_for, is_bounded, next_of, after_next, IsTable, IsFiled, IsFresh, other_passes};
 
+use crate::cursor::{Cursor, move_all};
 use crate::entry::{Entry, HookId, Owner};
-use crate::hook_row::HookRow;
 use crate::kind::HookKind;
-use crate::places::{OTHER_PLACES, RELAY_PLACE, free_place, new_places};
+use crate::marks::{mark_given, unmark};
+use crate::past::unchanged;
+use crate::places::{
+    RELAY_PLACE, cursor_at, is_any_open, is_open, new_places, place_for, put_cursor,
+};
 use crate::refused::HookRefused;
-use crate::rows;
-use crate::snapshot::Snapshot;
+use crate::slot::Slot;
+use crate::slots::Slots;
+use crate::steps::Steps;
 use std::alloc::Global;
 use std::marker::Model;
+use std::sync::ledger::Ledger;
 use wc_text::{NoMemory, Text};
 
 /// How many entries of other kinds than the one of relay sessions may live.
 const OTHER_LIMIT: u32 = 960;
+
+/// As many entries as can live, and so as can be marked as running.
+const ENTRY_LIMIT: usize = 1024;
 
 /// A pass that is open. It can't be let go: `close_pass` takes it back.
 pub struct Pass {
@@ -39,11 +47,18 @@ impl Model for Pass {
 /// A pass takes the enabled entries of its kind and key as they stand at its opening, by priority downward, ties by creation.
 /// At each turn it gives the first of those left that lives, is enabled, and of whose owner no entry is marked as running.
 /// Entries may be hooked, unhooked and switched, and further passes opened, while passes are open.
+///
+/// A pass copies nothing: it is a place in the entries of its kind and key. So an entry that is unhooked while a pass is open
+/// stays filed until the last pass is closed, and each entry notes what it was as each open pass opened.
 #[derive(Drop)]
 pub struct HookTable {
-    rows: Vec<HookRow>,
+    slots: Slots,
     hooked: u64,
-    passes: Vec<Snapshot>,
+    cursors: Vec<Option<Cursor>>,
+    marks: Vec<Entry>,
+    relays: usize,
+    others: usize,
+    has_gone: bool,
 }
 
 impl Model for HookTable {
@@ -59,15 +74,20 @@ impl Model for HookTable {
 }
 
 impl HookTable {
-    /// A table without entries, and with no pass open. It takes the room for all passes.
+    /// A table without entries, and with no pass open. It takes the room for all passes and marks.
     pub fn new(alloc: Global) -> Result<HookTable, NoMemory>
         ensures { IfOk result (λ table. table ≡ new_table) }
     {
-        let passes = new_places(alloc)?;
+        let cursors = new_places(alloc)?;
+        let marks = Vec::with_capacity(alloc, ENTRY_LIMIT)?;
         Ok(HookTable {
-            rows: Vec::new(alloc),
+            slots: Slots::new(alloc),
             hooked: 0,
-            passes,
+            cursors,
+            marks,
+            relays: 0,
+            others: 0,
+            has_gone: false,
         })
     }
 
@@ -92,7 +112,7 @@ impl HookTable {
         ensures room { is_full_for kind self.old ≡ false → IsOkUnless result HookRefused.NoMemory }
         ensures err { OnErr result (self.new ≡ self.old) }
     {
-        if !kind.is_relay() && rows::others(self.rows.as_slice()) == OTHER_LIMIT as usize {
+        if !kind.is_relay() && self.others == OTHER_LIMIT as usize {
             return Err(HookRefused::TooMany { limit: OTHER_LIMIT });
         }
         match self.file(alloc, kind, key, priority, owner) {
@@ -121,30 +141,41 @@ impl HookTable {
     {
         let key = key.copy(alloc)?;
         let id = HookId(self.hooked + 1);
-        let row = HookRow {
+        let slot = Slot {
             id,
             kind,
             key,
             priority,
             owner,
             enabled: true,
-            running: false,
+            gone: false,
+            past: unchanged(),
         };
-        rows::put(&mut self.rows, row)?;
+        let at = self.slots.put(slot)?;
+        move_all(&mut self.cursors, at);
         self.hooked += 1;
+        self.relays = one_more(self.relays, kind.is_relay());
+        self.others = one_more(self.others, !kind.is_relay());
         Ok(id)
     }
 
     /// Takes the entry out, with its mark of running. False exactly where no entry with this number lives; then nothing changes.
     pub fn unhook(&mut self, id: HookId) -> bool
         ensures found { result ≡ lives id self.old.rows }
-        ensures after { self.new ≡ with_rows (without id self.old.rows) self.old }
+        ensures after { self.new ≡ without_row id self.old }
         ensures missing { result ≡ false → self.new ≡ self.old }
-        ensures by_key { (kind : HookKind) → (key : List ℕ) → filed kind key self.new.rows ≡ without id (filed kind key self.old.rows) }
+        ensures by_key { (kind : HookKind) (key : List ℕ) → filed kind key self.new.rows ≡ without id (filed kind key self.old.rows) }
     {
-        let found = rows::lives(self.rows.as_slice(), id);
-        rows::remove(&mut self.rows, id);
-        found
+        if !self.slots.lives(id) {
+            return false;
+        }
+        // with no pass open nothing is gone, and nothing needs to stay
+        self.has_gone = is_any_open(self.cursors.as_slice());
+        self.slots.leave(id, self.has_gone);
+        unmark(&mut self.marks, id);
+        self.relays = self.slots.relays();
+        self.others = self.slots.others();
+        true
     }
 
     /// Enables or disables the entry. False exactly where no entry with this number lives; then nothing changes.
@@ -152,10 +183,10 @@ impl HookTable {
         ensures found { result ≡ lives id self.old.rows }
         ensures after { self.new ≡ with_rows (switched id on self.old.rows) self.old }
         ensures missing { result ≡ false → self.new ≡ self.old }
-        ensures by_key { (kind : HookKind) → (key : List ℕ) → filed kind key self.new.rows ≡ switched id on (filed kind key self.old.rows) }
+        ensures by_key { (kind : HookKind) (key : List ℕ) → filed kind key self.new.rows ≡ switched id on (filed kind key self.old.rows) }
     {
-        let found = rows::lives(self.rows.as_slice(), id);
-        rows::switch(self.rows.as_mut_slice(), id, on);
+        let found = self.slots.lives(id);
+        self.slots.switch(id, on);
         found
     }
 
@@ -167,63 +198,72 @@ impl HookTable {
         ensures refused { IfNone result (self.new ≡ self.old) }
         ensures place { IfSome result (λ pass. is_place_for kind pass ≡ true) }
         ensures free { IfSome result (λ pass. pass_at self.old pass ≡ None) }
-        ensures opened { IfSome result (λ pass. self.new ≡ with_pass pass (Some (hooks_on kind key.now self.old.rows)) self.old) }
+        ensures opened { IfSome result (λ pass. self.new ≡ with_pass pass (Some (opening kind key.now self.old)) self.old) }
         ensures is_open { IfSome result (λ pass. IsOpen self.new pass) }
         ensures apart { IfSome result (λ pass. (place : ℕ) → IsOpen self.old place → place ≢ pass) }
         ensures others { (place : ℕ) → IsOpen self.old place → pass_at self.new place ≡ pass_at self.old place }
         ensures count { IfSome result (λ pass. other_passes self.new ≡ (if is_relay kind then other_passes self.old else other_passes self.old + 1)) }
     {
-        let place = self.place_for(kind)?;
-        self.passes[place].open(self.rows.as_slice(), kind, key);
+        let place = place_for(self.cursors.as_slice(), kind)?;
+        let (start, count) = self.slots.open(place, kind, key);
+        let cursor = Cursor {
+            start,
+            count,
+            seen: 0,
+            hooked: self.hooked,
+            looked: 0,
+        };
+        put_cursor(&mut self.cursors, place, Some(cursor));
         Some(Pass { place })
-    }
-
-    /// A free place for a pass of this kind.
-    fn place_for(&self, kind: HookKind) -> Option<usize>
-        requires { IsTrue (is_relay kind) → pass_at self.now 16 ≡ None }
-        ensures none { is_none result ≡ has_no_place kind self.now }
-        ensures place { IfSome result (λ place. is_place_for kind place ≡ true) }
-        ensures free { IfSome result (λ place. pass_at self.now place ≡ None) }
-    {
-        if kind.is_relay() {
-            return Some(RELAY_PLACE);
-        }
-        free_place(&self.passes[..OTHER_PLACES])
     }
 
     /// The next entry of the pass that lives, is enabled, and of whose owner no entry is marked as running. It is marked as
     /// running. None exactly where no entry that is left may run. It takes no memory.
-    pub fn next(&mut self, pass: &mut Pass) -> Option<Entry>
+    ///
+    /// A step is one entry looked at. Over all calls of one pass the steps are at most the entries that are filed under its
+    /// kind and key, and none where none was filed there as it opened.
+    pub fn next<L: Ledger>(&mut self, pass: &mut Pass, steps: &mut Steps<L>) -> Option<Entry>
         requires { IsOpen self.old pass.old }
         ensures given { result ≡ next_of self.old pass.old }
-        ensures after { self.new ≡ after_next self.old pass.old }
+        ensures after { self.new ≡ after_next self.old pass.old (steps.new - steps.old) }
+        ensures steps { steps.new + looked_at self.old pass.old ≡ steps.old + looked_at self.new pass.old }
+        ensures bound { is_bounded self.new pass.old ≡ true }
         ensures pass { pass.new ≡ pass.old }
         ensures is_open { IsOpen self.new pass.new }
         ensures others { (place : ℕ) → place ≢ pass.old → pass_at self.new place ≡ pass_at self.old place }
         ensures count { other_passes self.new ≡ other_passes self.old }
     {
-        let given = self.passes[pass.place].next(self.rows.as_slice());
-        rows::mark_given(self.rows.as_mut_slice(), given);
+        let mut cursor = cursor_at(&self.cursors, pass.place);
+        let given = self
+            .slots
+            .next(self.marks.as_slice(), pass.place, &mut cursor, steps);
+        put_cursor(&mut self.cursors, pass.place, Some(cursor));
+        mark_given(&mut self.marks, given);
         given
     }
 
     /// Takes the entry's mark of running away. Where it is gone or is not marked, nothing changes.
     pub fn end_run(&mut self, id: HookId)
-        ensures { self.new ≡ with_rows (marked id false self.old.rows) self.old }
+        ensures { self.new ≡ with_marks (unmarked id self.old.marks) self.old }
     {
-        rows::mark(self.rows.as_mut_slice(), id, false);
+        unmark(&mut self.marks, id);
     }
 
-    /// Closes a pass.
+    /// Closes a pass. With the last one the entries that are gone are no longer filed.
     pub fn close_pass(&mut self, pass: Pass)
         requires { IsOpen self.old pass }
-        ensures after { self.new ≡ with_pass pass None self.old }
+        ensures after { self.new ≡ without_pass pass self.old }
         ensures closed { pass_at self.new pass ≡ None }
         ensures others { (place : ℕ) → place ≢ pass → pass_at self.new place ≡ pass_at self.old place }
         ensures count { pass < 16 → other_passes self.new + 1 ≡ other_passes self.old }
     {
         let Pass { place } = pass;
-        self.passes[place].close();
+        put_cursor(&mut self.cursors, place, None);
+        if !self.has_gone || is_any_open(self.cursors.as_slice()) {
+            return;
+        }
+        self.slots.purge();
+        self.has_gone = false;
     }
 
     /// Whether an entry with this number lives.
@@ -231,7 +271,7 @@ impl HookTable {
         ensures found { result ≡ lives id self.now.rows }
         ensures law { IsTable self.now }
     {
-        rows::lives(self.rows.as_slice(), id)
+        self.slots.lives(id)
     }
 
     /// How many entries for relay sessions live.
@@ -239,13 +279,29 @@ impl HookTable {
         ensures count { result ≡ relays self.now.rows }
         ensures most { result ≤ 64 }
     {
-        rows::relays(self.rows.as_slice()) as u32
+        self.relays as u32
     }
 
     /// Whether the pass that tells relay sessions is open.
     pub fn is_relay_open(&self) -> bool
         ensures { result ≡ is_some (pass_at self.now 16) }
     {
-        self.passes[RELAY_PLACE].is_open()
+        is_open(&self.cursors, RELAY_PLACE)
     }
+
+    /// How many entries the pass looked at.
+    #[cfg(test)]
+    pub(crate) fn looked(&self, pass: &Pass) -> usize {
+        match self.cursors.as_slice().get(pass.place) {
+            Some(Some(cursor)) => cursor.looked,
+            _ => usize::MAX,
+        }
+    }
+}
+
+fn one_more(count: usize, is_one: bool) -> usize
+    requires { count ≤ 960 }
+    ensures { result ≡ (if is_one then count + 1 else count) }
+{
+    if is_one { count + 1 } else { count }
 }

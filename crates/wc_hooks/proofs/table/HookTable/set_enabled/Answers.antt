@@ -1,28 +1,33 @@
-use Rattle.std.proofs.Common.{◌≡◌, ◌∙◌, sym, ap, length}
-use Rattle.std.proofs.lemmas.List.{with_items_is, length-map}
-use Rattle.wc_hooks.specs.Inside.{table_of}
-use Rattle.wc_hooks.specs.Rows.{switched, with_switch, lives}
-use Rattle.wc_hooks.proofs.Keeps.{carry_rows, keeps_switch}
+use Rattle.std.proofs.Common.{◌∙◌, ap, sym}
+use Rattle.wc_hooks.specs.Inside.{seen_as}
+use Rattle.wc_hooks.specs.Rows.{lives}
+use Rattle.wc_hooks.proofs.LiveRows.{lives_is}
+use Rattle.wc_hooks.proofs.Calls.{kept_switched, seen_switched}
 use Rattle.wc_hooks.proofs.ByKey.{switched_by_key, switches_none}
 use Rattle.wc_hooks.proofs.table.HookTable.set_enabled.Goals as goal
 
 pub invariant_of-self : goal.invariant_of-self
 invariant_of-self c =
-    let t = table_of c.self.inside in
-    let changed : c.switch.new.rows ≡ switched c.args.id c.args.on t.rows = c.switch.ensures ∙ ap (switched c.args.id c.args.on) c.as_mut_slice.ensures.value in
-    let same : length c.switch.new.rows ≡ c.self.inside.rows.len = ap length changed ∙ length-map t.rows (with_switch c.args.id c.args.on) ∙ sym c.self.inside.rows.ok.0 in
-    carry_rows t _ (switched c.args.id c.args.on t.rows) (with_items_is c.self.inside.rows c.switch.new.rows same ∙ changed) (keeps_switch t c.args.id c.args.on c.self.invariant)
+    let a = c.self.inside in
+    record { kept = kept_switched a.slots a.cursors.items a.marks.items a.hooked a.relays a.others a.has_gone c.self.invariant.kept c.args.id c.args.on c.switch.new.self c.switch.ensures; room = c.self.invariant.room }
 
-pub returns-clause-by_key : goal.returns-clause-by_key
-returns-clause-by_key c =
-    let t = table_of c.self.inside in
-    let changed : c.switch.new.rows ≡ switched c.args.id c.args.on t.rows = c.switch.ensures ∙ ap (switched c.args.id c.args.on) c.as_mut_slice.ensures.value in
-    let same : length c.switch.new.rows ≡ c.self.inside.rows.len = ap length changed ∙ length-map t.rows (with_switch c.args.id c.args.on) ∙ sym c.self.inside.rows.ok.0 in
-    switched_by_key t c.args.self.now _ c.args.id c.args.on c.self.view_is (with_items_is c.self.inside.rows c.switch.new.rows same ∙ changed)
+pub returns-clause-found : goal.returns-clause-found
+returns-clause-found c = c.lives-found.ensures ∙ lives_is c.args.id c.self.inside.slots ∙ ap (λ t. lives c.args.id t.rows) c.self.view_is
+
+pub returns-clause-after : goal.returns-clause-after
+returns-clause-after c =
+    let a = c.self.inside in
+    seen_switched a.slots a.cursors.items a.marks.items a.hooked a.relays a.others a.has_gone c.self.invariant.kept c.args.id c.args.on c.switch.new.self c.args.self.now c.self.view_is c.switch.ensures
 
 pub returns-clause-missing : goal.returns-clause-missing
 returns-clause-missing c none =
-    let t = table_of c.self.inside in
-    let changed : c.switch.new.rows ≡ switched c.args.id c.args.on t.rows = c.switch.ensures ∙ ap (switched c.args.id c.args.on) c.as_mut_slice.ensures.value in
-    let same : length c.switch.new.rows ≡ c.self.inside.rows.len = ap length changed ∙ length-map t.rows (with_switch c.args.id c.args.on) ∙ sym c.self.inside.rows.ok.0 in
-    switches_none t c.args.self.now _ c.args.id c.args.on c.self.view_is (with_items_is c.self.inside.rows c.switch.new.rows same ∙ changed) (sym (c.lives-found.ensures ∙ ap (lives c.args.id) c.as_slice.ensures.value) ∙ none)
+    let a = c.self.inside in
+    switches_none c.args.self.now (seen_as c.switch.new.self a.cursors.items a.marks.items a.hooked) c.args.id c.args.on
+    (seen_switched a.slots a.cursors.items a.marks.items a.hooked a.relays a.others a.has_gone c.self.invariant.kept c.args.id c.args.on c.switch.new.self c.args.self.now c.self.view_is c.switch.ensures)
+    (sym (c.lives-found.ensures ∙ lives_is c.args.id c.self.inside.slots ∙ ap (λ t. lives c.args.id t.rows) c.self.view_is) ∙ none)
+
+pub returns-clause-by_key : goal.returns-clause-by_key
+returns-clause-by_key c =
+    let a = c.self.inside in
+    switched_by_key c.args.self.now (seen_as c.switch.new.self a.cursors.items a.marks.items a.hooked) c.args.id c.args.on
+    (seen_switched a.slots a.cursors.items a.marks.items a.hooked a.relays a.others a.has_gone c.self.invariant.kept c.args.id c.args.on c.switch.new.self c.args.self.now c.self.view_is c.switch.ensures)

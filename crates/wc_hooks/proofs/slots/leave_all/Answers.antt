@@ -1,0 +1,13 @@
+use Rattle.std.proofs.Common.{◌∙◌, get_or, set, ap, sym}
+use Rattle.wc_hooks.specs.Slots.{with_leave}
+use Rattle.wc_hooks.proofs.Changes.{changes_next}
+use Rattle.wc_hooks.proofs.slots.leave_all.Goals as goal
+
+pub loop-slot-preserved : goal.loop-slot-preserved
+loop-slot-preserved c =
+    let change = with_leave c.args.id in
+    let at = c.loop-slot.slot-index in
+    let slot = c.slot-item.result in
+    ap (set c.loop-slot.slots at) (c.leave.ensures ∙ ap change (sym c.slot-item.is))
+    ∙ ap (λ slots. set slots at (change slot)) c.loop-slot.invariant
+    ∙ changes_next change at c.args.slots.now slot c.loop-slot-test.true (c.slot-item.is ∙ ap (λ slots. get_or slots at slot) c.loop-slot.invariant)
