@@ -1,0 +1,43 @@
+-- Informations, and lists of them.
+use Rattle.std.specs.Prelude.{ℕ, ℤ, List, [], ◌∷◌, ◌++◌, unwrap_or, Option, Some, None, codes, bytes_eq, if◌then◌else◌}
+use Rattle.wc_text.specs.declared.names.Handle.{Handle}
+use Rattle.wc_buffers.specs.declared.entry.BufferEntry.{BufferEntry}
+use Rattle.wc_buffers.specs.declared.row.BufferRow.{BufferRow}
+use Rattle.wc_buffers.specs.Calls.{Groups, entry_of, number}
+use Rattle.wc_objects.specs.declared.object.InlVar.{InlVar, roll-InlVar}
+use Rattle.wc_objects.specs.declared.object.Object.{Object}
+use Rattle.wc_objects.specs.declared.object.Object.TheVariants as o
+use Rattle.wc_told.specs.BufferObjects.{count, text}
+use Rattle.wc_told.specs.LineObjects.{truth}
+use Rattle.wc_hdata.specs.Steps.{all_buffers}
+
+-- the informations that there are
+abbrev pub info_of : List ℕ → Option (List ℕ)
+info_of name =
+    if bytes_eq name (codes "version") then Some (codes "4.0.0") else (if bytes_eq name (codes "version_number") then Some (codes "67108864") else None)
+
+-- a variable of a list
+unfoldable pub variable : List ℕ → Object → InlVar
+variable name value = roll-InlVar (record { name = name; value = value })
+
+-- what the list of buffers has of one
+unfoldable pub variables_of : ℤ → Handle → BufferRow → List InlVar
+variables_of number buffer row =
+    variable (codes "pointer") (o.Ptr buffer.0) ∷
+    variable (codes "number") (o.Int number) ∷
+    variable (codes "full_name") (text row.full_name) ∷
+    variable (codes "short_name") (text row.short_name) ∷
+    variable (codes "title") (text row.title) ∷
+    variable (codes "hidden") (o.Int (truth row.hidden)) ∷ []
+
+abbrev pub listed : Groups → Handle → Option BufferEntry → List (List InlVar)
+listed groups buffer None = []
+listed groups buffer (Some e) = variables_of (count (unwrap_or (number buffer groups) 0)) buffer e.row ∷ []
+
+abbrev pub listed_all : Groups → List Handle → List (List InlVar)
+listed_all groups [] = []
+listed_all groups (buffer ∷ buffers) = listed groups buffer (entry_of buffer groups) ++ listed_all groups buffers
+
+-- the list of all buffers in their order; one of another name is empty
+abbrev pub infolist_object : Groups → List ℕ → Object
+infolist_object groups name = o.Inl name (if bytes_eq name (codes "buffer") then listed_all groups (all_buffers groups) else [])

@@ -1,0 +1,16 @@
+pub mod Along
+pub mod Answers
+pub mod Cuts
+pub mod Dumps
+pub mod Hdata
+pub mod Infos
+pub mod Keys
+pub mod Lists
+pub mod Names
+pub mod Paths
+pub mod Reached
+pub mod Refusals
+pub mod Starts
+pub mod Steps
+pub mod Values
+pub mod Walk

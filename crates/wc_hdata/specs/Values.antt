@@ -1,0 +1,90 @@
+-- The values of what a path reaches, by their keys.
+use Rattle.std.specs.Prelude.{ℕ, Option, Some, None, List, [], ◌∷◌, map, length, unwrap_or}
+use Rattle.std.specs.List.{filter_map}
+use Rattle.wc_text.specs.declared.names.Handle.{Handle}
+use Rattle.wc_lines.specs.declared.line.Line.{Line}
+use Rattle.wc_buffers.specs.declared.entry.BufferEntry.{BufferEntry}
+use Rattle.wc_buffers.specs.Calls.{Groups, entry_of, number}
+use Rattle.wc_model.specs.Order.{prev_of, next_of}
+use Rattle.wc_model.specs.World.{World}
+use Rattle.wc_objects.specs.declared.kind.Kind.TheVariants as Kinds
+use Rattle.wc_objects.specs.declared.object.Object.{Object}
+use Rattle.wc_objects.specs.declared.object.Object.TheVariants as o
+use Rattle.wc_objects.specs.declared.object.HdaItem.{HdaItem, roll-HdaItem}
+use Rattle.wc_told.specs.BufferObjects.{count, table, text}
+use Rattle.wc_told.specs.LineObjects.{moment, texts, truth}
+use Rattle.wc_hdata.specs.declared.key.Key.{Key}
+use Rattle.wc_hdata.specs.declared.key.Key.TheVariants as k
+use Rattle.wc_hdata.specs.Lists.{lines_in}
+use Rattle.wc_hdata.specs.Reached.{HeldLine, Place, Buffer, Lines, Line_at, Data_at}
+use Rattle.wc_hdata.specs.Walk.{Node}
+
+-- of a buffer
+abbrev pub of_entry : Groups → Handle → Key → BufferEntry → Option Object
+of_entry groups buffer k.Number e = Some (o.Int (count (unwrap_or (number buffer groups) 0)))
+of_entry groups buffer k.FullName e = Some (text e.row.full_name)
+of_entry groups buffer k.ShortName e = Some (text e.row.short_name)
+of_entry groups buffer k.Hidden e = Some (o.Int (truth e.row.hidden))
+of_entry groups buffer k.Title e = Some (text e.row.title)
+of_entry groups buffer k.LocalVariables e = Some (table e.vars)
+of_entry groups buffer k.PrevBuffer e = Some (o.Ptr (prev_of buffer.0 groups))
+of_entry groups buffer k.NextBuffer e = Some (o.Ptr (next_of buffer.0 groups))
+of_entry groups buffer _ e = None
+
+abbrev pub of_buffer : Groups → Handle → Key → Option BufferEntry → Option Object
+of_buffer groups buffer key None = None
+of_buffer groups buffer key (Some e) = of_entry groups buffer key e
+
+-- of a list of lines: the pointers of its first and its last line, where it has lines, and how many it has
+abbrev pub line_number : Option HeldLine → ℕ
+line_number None = 0
+line_number (Some held) = held.line.handle.0
+
+abbrev pub first_of : List HeldLine → Option HeldLine
+first_of [] = None
+first_of (held ∷ lines) = Some held
+
+abbrev pub last_of : List HeldLine → Option HeldLine
+last_of [] = None
+last_of (held ∷ []) = Some held
+last_of (held ∷ (next ∷ lines)) = last_of (next ∷ lines)
+
+abbrev pub of_lines : Key → List HeldLine → Option Object
+of_lines k.FirstLine lines = Some (o.Ptr (line_number (first_of lines)))
+of_lines k.LastLine lines = Some (o.Ptr (line_number (last_of lines)))
+of_lines k.LinesCount lines = Some (o.Int (count (length lines)))
+of_lines _ lines = None
+
+-- of a line, and of what it says
+abbrev pub of_line : Key → Line → Option Object
+of_line k.Data line = Some (o.Ptr line.content.0)
+of_line _ line = None
+
+abbrev pub of_data : Key → HeldLine → Option Object
+of_data k.Buffer held = Some (o.Ptr held.buffer.0)
+of_data k.Date held = Some (o.Tim (moment held.line.date))
+of_data k.DatePrinted held = Some (o.Tim (moment held.line.date_printed))
+of_data k.Displayed held = Some (o.Chr (truth held.line.displayed))
+of_data k.NotifyLevel held = Some (o.Chr held.line.notify)
+of_data k.Highlight held = Some (o.Chr (truth held.line.highlight))
+of_data k.TagsArray held = Some (o.Arr Kinds.Str (texts held.line.tags))
+of_data k.Prefix held = Some (text held.line.prefix)
+of_data k.Message held = Some (text held.line.message)
+of_data _ held = None
+
+-- of a place
+unfoldable pub value_of : World → Place → Key → Option Object
+value_of world (Buffer buffer) key = of_buffer world.groups buffer key (entry_of buffer world.groups)
+value_of world (Lines list) key = of_lines key (lines_in world list)
+value_of world (Line_at held) key = of_line key held.line
+value_of world (Data_at held) key = of_data key held
+
+-- the values that the keys name, in their order
+abbrev pub values_of : World → List Key → Place → List Object
+values_of world keys place = filter_map (value_of world place) keys
+
+abbrev pub item_of : World → List Key → Node → HdaItem
+item_of world keys node = roll-HdaItem (record { pointers = node.pointers; values = values_of world keys node.place })
+
+abbrev pub items_of : World → List Key → List Node → List HdaItem
+items_of world keys nodes = map (item_of world keys) nodes

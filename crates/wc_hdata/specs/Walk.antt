@@ -1,0 +1,65 @@
+-- A path is gone through step by step, from all that was reached.
+use Rattle.std.specs.Prelude.{ℕ, ◌+◌, List, [], ◌∷◌, ◌++◌, map, length, Option, Some, None}
+use Rattle.std.specs.List.{flat_map}
+use Rattle.wc_buffers.specs.Calls.{Groups, buffer_of}
+use Rattle.wc_buffers.specs.declared.row.BufferRow.{BufferRow}
+use Rattle.wc_model.specs.World.{World}
+use Rattle.wc_hdata.specs.declared.path.Step.{Step}
+use Rattle.wc_hdata.specs.declared.reached.LineList.{LineList}
+use Rattle.wc_hdata.specs.declared.reached.LineList.TheVariants.{Own, Mixed}
+use Rattle.wc_hdata.specs.declared.nodes.Node.{Node as LentNode}
+use Rattle.wc_hdata.specs.Reached.{Place, Buffer, Lines, Line_at, Data_at, place_of}
+use Rattle.wc_hdata.specs.Steps.{reach}
+
+-- ---- pointers
+
+abbrev pub row_number : (BufferRow → ℕ) → Option BufferRow → ℕ
+row_number number None = 0
+row_number number (Some row) = number row
+
+abbrev pub list_pointer : Groups → LineList → ℕ
+list_pointer groups (Own buffer) = row_number (λ row. row.own_lines.0) (buffer_of buffer groups)
+list_pointer groups (Mixed buffer) = row_number (λ row. row.mixed_lines.0) (buffer_of buffer groups)
+
+-- what names a place
+abbrev pub pointer_of : Groups → Place → ℕ
+pointer_of groups (Buffer buffer) = buffer.0
+pointer_of groups (Lines list) = list_pointer groups list
+pointer_of groups (Line_at held) = held.line.handle.0
+pointer_of groups (Data_at held) = held.line.content.0
+
+-- ---- what was reached
+
+-- the pointers of a place and of those that led to it, from the first
+pub record Node : Type 0 where
+  pub pointers : List ℕ
+  pub place : Place
+
+abbrev pub node_of : LentNode → Node
+node_of node = record { pointers = node.pointers; place = place_of node.place }
+
+abbrev pub nodes_of : List LentNode → List Node
+nodes_of nodes = map node_of nodes
+
+abbrev pub led : Groups → List ℕ → Place → Node
+led groups pointers place = record { pointers = pointers ++ pointer_of groups place ∷ []; place = place }
+
+abbrev pub all_led : Groups → List ℕ → List Place → List Node
+all_led groups pointers places = map (led groups pointers) places
+
+-- what a step gives from one, and from all
+abbrev pub onward : World → Step → Node → List Node
+onward world step node = all_led world.groups node.pointers (reach world step node.place)
+
+abbrev pub onward_all : World → Step → List Node → List Node
+onward_all world step nodes = flat_map (onward world step) nodes
+
+-- what is reached at the end
+abbrev pub walked : World → List Step → List Node → List Node
+walked world [] nodes = nodes
+walked world (step ∷ steps) nodes = walked world steps (onward_all world step nodes)
+
+-- how many pointers are given on the way, by all elements together
+abbrev pub visits : World → List Step → List Node → ℕ
+visits world [] nodes = length nodes
+visits world (step ∷ steps) nodes = length nodes + visits world steps (onward_all world step nodes)

@@ -1,0 +1,102 @@
+//! The values of a buffer, by their keys.
+
+ghost use Rattle.std.specs.Prelude.{◌≡◌, None, Some, IfOk, MatchOption, unwrap_or};
+ghost use Rattle.wc_buffers.specs.Calls.{entry_of, number};
+ghost use Rattle.wc_hdata.specs.Steps.{all_buffers};
+ghost use Rattle.wc_hdata.specs.Values.{of_buffer};
+ghost use Rattle.wc_model.specs.Order.{before_in, behind_in, first_of};
+ghost use Rattle.wc_told.specs.BufferObjects.{count};
+ghost use Rattle.wc_world.specs.Near.{numbers};
+
+use crate::key::Key;
+use crate::values::{count, table, text, truth};
+use std::alloc::Global;
+use wc_buffers::{BufferRow, Buffers, Vars};
+use wc_objects::Object;
+use wc_text::{Handle, NoMemory};
+
+/// The buffer before another among all, or 0.
+fn before(all: &[Handle], buffer: Handle) -> u64
+    ensures { result ≡ before_in 0 buffer.0 (numbers all.now) }
+{
+    let mut before = 0;
+    for other in all {
+        if other.0 == buffer.0 {
+            return before;
+        }
+        before = other.0;
+    }
+    0
+}
+
+/// The buffer behind another among all, or 0.
+fn behind(all: &[Handle], buffer: Handle) -> u64
+    ensures { result ≡ behind_in buffer.0 (numbers all.now) }
+{
+    let mut left = all;
+    while let Some((first, others)) = left.split_first() {
+        if first.0 == buffer.0 {
+            return first_of(others);
+        }
+        left = others;
+    }
+    0
+}
+
+fn first_of(handles: &[Handle]) -> u64
+    ensures { result ≡ first_of (numbers handles.now) }
+{
+    match handles.first() {
+        Some(first) => first.0,
+        None => 0,
+    }
+}
+
+/// What stands of a buffer: its row and its variables. None exactly where it is not there.
+pub(crate) fn standing(buffers: &Buffers, buffer: Handle) -> Option<(&BufferRow, &Vars)>
+    ensures { MatchOption result (entry_of buffer buffers.now ≡ None) (λ parts. entry_of buffer buffers.now ≡ Some (record { row = parts.0.now; vars = parts.1.now })) }
+{
+    let row = buffers.get(buffer)?;
+    let vars = buffers.vars(buffer)?;
+    Some((row, vars))
+}
+
+/// The value of a buffer that a key names. None where it is not there, and for other keys than those of buffers.
+/// `all` are all buffers in their order.
+#[tactic(auto, using(crate::proofs::Orders::prev_is, crate::proofs::Orders::next_is))]
+pub(crate) fn of_buffer(
+    alloc: Global,
+    buffers: &Buffers,
+    all: &[Handle],
+    buffer: Handle,
+    key: Key,
+) -> Result<Option<Object>, NoMemory>
+    requires { all.now ≡ all_buffers buffers.now }
+    ensures { IfOk result (λ value. value ≡ of_buffer buffers.now buffer key (entry_of buffer buffers.now)) }
+{
+    let Some((row, vars)) = standing(buffers, buffer) else {
+        return Ok(None);
+    };
+    let value = match key {
+        Key::Number => Object::Int(number(buffers, buffer)),
+        Key::FullName => text(alloc, &row.full_name)?,
+        Key::ShortName => text(alloc, &row.short_name)?,
+        Key::Hidden => Object::Int(i32::from(truth(row.hidden))),
+        Key::Title => text(alloc, &row.title)?,
+        Key::LocalVariables => table(alloc, vars)?,
+        Key::PrevBuffer => Object::Ptr(before(all, buffer)),
+        Key::NextBuffer => Object::Ptr(behind(all, buffer)),
+        _ => return Ok(None),
+    };
+    Ok(Some(value))
+}
+
+/// The number of a buffer, as a message has it.
+pub(crate) fn number(buffers: &Buffers, buffer: Handle) -> i32
+    ensures { result ≡ count (unwrap_or (number buffer buffers.now) 0) }
+{
+    match buffers.number(buffer) {
+        Some(number) => count(u64::from(number)),
+        None => 0,
+    }
+}

@@ -1,0 +1,118 @@
+//! The answers to the requests `info` and `infolist`.
+
+ghost use Rattle.std.specs.Prelude.{◌≡◌, ◌++◌, ◌∷◌, [], IfOk, OnOk};
+ghost use Rattle.std.specs.Option.{option_copied};
+ghost use Rattle.wc_buffers.specs.Calls.{entry_of};
+ghost use Rattle.wc_hdata.specs.Infos.{info_of, infolist_object, listed, listed_all, variable, variables_of};
+ghost use Rattle.wc_hdata.specs.Steps.{all_buffers};
+
+use crate::buffer_values::{number, standing};
+use crate::reach::all_buffers;
+use crate::values::{text, truth};
+use std::alloc::Global;
+use wc_buffers::{BufferRow, Buffers};
+use wc_objects::{InlVar, Object};
+use wc_text::{Handle, Items, NoMemory, Text};
+use wc_world::World;
+
+/// The name of the version.
+const VERSION: &[u8] = b"version";
+
+/// The name of the version as a number.
+const VERSION_NUMBER: &[u8] = b"version_number";
+
+/// The name of the list of buffers.
+const BUFFERS: &[u8] = b"buffer";
+
+/// An information of this name. None where it is unknown.
+pub fn info(name: &[u8]) -> Option<&'static [u8]>
+    ensures { option_copied result ≡ info_of name.now }
+{
+    if name == VERSION {
+        return Some(b"4.0.0");
+    }
+    if name == VERSION_NUMBER {
+        return Some(b"67108864");
+    }
+    None
+}
+
+/// Puts a variable behind others.
+#[tactic(auto, unfolding(crate::specs::Infos::variable))]
+fn push_variable(
+    alloc: Global,
+    vars: &mut Items<InlVar>,
+    name: &[u8],
+    value: Object,
+) -> Result<(), NoMemory>
+    ensures { OnOk result (vars.new ≡ vars.old ++ variable name.now value ∷ []) }
+{
+    let name = Text::from_slice(alloc, name)?;
+    vars.push(InlVar { name, value })
+}
+
+/// What the list of buffers has of one.
+#[tactic(auto, unfolding(crate::specs::Infos::variables_of))]
+fn variables_of(
+    alloc: Global,
+    number: i32,
+    buffer: Handle,
+    row: &BufferRow,
+) -> Result<Items<InlVar>, NoMemory>
+    ensures { IfOk result (λ vars. vars ≡ variables_of number buffer row.now) }
+{
+    let mut vars = Items::new(alloc);
+    let hidden = Object::Int(i32::from(truth(row.hidden)));
+    push_variable(alloc, &mut vars, b"pointer", Object::Ptr(buffer.0))?;
+    push_variable(alloc, &mut vars, b"number", Object::Int(number))?;
+    push_variable(alloc, &mut vars, b"full_name", text(alloc, &row.full_name)?)?;
+    push_variable(
+        alloc,
+        &mut vars,
+        b"short_name",
+        text(alloc, &row.short_name)?,
+    )?;
+    push_variable(alloc, &mut vars, b"title", text(alloc, &row.title)?)?;
+    push_variable(alloc, &mut vars, b"hidden", hidden)?;
+    Ok(vars)
+}
+
+/// Puts what the list of buffers has of one behind others, where it is there.
+fn push_listed(
+    alloc: Global,
+    items: &mut Items<Items<InlVar>>,
+    buffers: &Buffers,
+    buffer: Handle,
+) -> Result<(), NoMemory>
+    ensures { OnOk result (items.new ≡ items.old ++ listed buffers.now buffer (entry_of buffer buffers.now)) }
+{
+    if let Some((row, _vars)) = standing(buffers, buffer) {
+        items.push(variables_of(alloc, number(buffers, buffer), buffer, row)?)?;
+    }
+    Ok(())
+}
+
+fn listed_all(alloc: Global, buffers: &Buffers) -> Result<Items<Items<InlVar>>, NoMemory>
+    ensures { IfOk result (λ items. items ≡ listed_all buffers.now (all_buffers buffers.now)) }
+{
+    let all = all_buffers(alloc, buffers)?;
+    let mut items = Items::new(alloc);
+    for buffer in all.as_slice() {
+        push_listed(alloc, &mut items, buffers, *buffer)?;
+    }
+    Ok(items)
+}
+
+/// The list of informations of this name, as WeeChat's relay protocol answers `infolist`: `buffer` lists all buffers in their
+/// order, and a list of another name is empty.
+pub fn infolist(alloc: Global, world: &World, name: &[u8]) -> Result<Object, NoMemory>
+    ensures { IfOk result (λ object. object ≡ infolist_object world.now.groups name.now) }
+{
+    let items = if name == BUFFERS {
+        listed_all(alloc, world.buffers())?
+    } else {
+        Items::new(alloc)
+    };
+    let name = Text::from_slice(alloc, name)?;
+    Ok(Object::Inl { name, items })
+}

@@ -1,0 +1,80 @@
+ghost use Rattle.std.specs.Prelude.{◌≡◌, ◌++◌, IfOk, OnOk, Option};
+ghost use Rattle.wc_hdata.specs.Keys.{keys_of, keys_text, has_key, with_key, key_text};
+
+use crate::cuts::split_once;
+use crate::element::Element;
+use crate::key::Key;
+use std::alloc::Global;
+use wc_text::{Items, NoMemory, Text};
+
+/// The keys of an element that a request asks for: those that the text names between commas, in its order, or all where
+/// it is empty. A repeated key stands where it came first, and a name that is no key of the element is passed over.
+pub fn read_keys(alloc: Global, element: Element, text: &[u8]) -> Result<Items<Key>, NoMemory>
+    ensures { IfOk result (λ keys. keys ≡ keys_of element text.now) }
+{
+    if text.is_empty() {
+        return copy_keys(alloc, element.keys());
+    }
+    let mut keys = Items::new(alloc);
+    let mut rest = Some(text);
+    while let Some(names) = rest {
+        let (name, behind) = split_once(names, b',');
+        push_key(&mut keys, Key::named(element, name))?;
+        rest = behind;
+    }
+    Ok(keys)
+}
+
+fn copy_keys(alloc: Global, keys: &[Key]) -> Result<Items<Key>, NoMemory>
+    ensures { IfOk result (λ copy. copy ≡ keys.now) }
+{
+    let mut copy = Items::new(alloc);
+    for key in keys {
+        copy.push(*key)?;
+    }
+    Ok(copy)
+}
+
+/// Puts a key behind the others, unless it stands among them.
+fn push_key(keys: &mut Items<Key>, key: Option<Key>) -> Result<(), NoMemory>
+    ensures { OnOk result (keys.new ≡ with_key keys.old key) }
+{
+    let Some(key) = key else {
+        return Ok(());
+    };
+    if has_key(keys.as_slice(), key) {
+        return Ok(());
+    }
+    keys.push(key)
+}
+
+fn has_key(keys: &[Key], key: Key) -> bool
+    ensures { result ≡ has_key keys.now key }
+{
+    keys.iter().any(|other| other.is(key))
+}
+
+/// The keys as a message names them: each name, a colon and the letters of its type, which commas join.
+#[tactic(auto, unfolding(crate::specs::Keys::keys_text))]
+pub fn keys_text(alloc: Global, keys: &[Key]) -> Result<Text, NoMemory>
+    ensures { IfOk result (λ text. text ≡ keys_text keys.now) }
+{
+    let mut text = Text::new(alloc);
+    let Some((first, others)) = keys.split_first() else {
+        return Ok(text);
+    };
+    append_key(&mut text, *first)?;
+    for key in others {
+        text.append(b",")?;
+        append_key(&mut text, *key)?;
+    }
+    Ok(text)
+}
+
+fn append_key(text: &mut Text, key: Key) -> Result<(), NoMemory>
+    ensures { OnOk result (text.new ≡ text.old ++ key_text key) }
+{
+    text.append(key.name())?;
+    text.append(b":")?;
+    text.append(key.kind().letters())
+}
