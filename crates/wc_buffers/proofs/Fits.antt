@@ -13,9 +13,9 @@ use Rattle.wc_text.proofs.CutLemmas.{cut_within, cut_utf8}
 use Rattle.wc_buffers.specs.declared.row.BufferRow.{BufferRow}
 use Rattle.wc_buffers.specs.declared.entry.BufferEntry.{BufferEntry}
 use Rattle.wc_buffers.specs.declared.refused.BufferRefused.{BufferRefused}
-use Rattle.wc_buffers.specs.Calls.{is_bad_name, bad_name, is_fixed, bad_var_names, fixed_vars, bad_names, or_else, when, too_many_vars, opened, with_hidden, with_full_name, with_short_name, with_title, with_var, without_var, lacks_var, is_full}
+use Rattle.wc_buffers.specs.Calls.{is_bad_name, bad_name, is_fixed, bad_var_names, fixed_vars, bad_names, or_else, when, too_many_vars, new_entry, with_hidden, with_full_name, with_short_name, with_title, with_var, without_var, lacks_var, is_full}
 use Rattle.wc_buffers.specs.Entries.{IsText}
-use Rattle.wc_buffers.specs.Kept.{IsVar, AreVars, HasText, IsBuffer}
+use Rattle.wc_buffers.specs.Kept.{IsVar, AreVars, HasUtf8Row, IsBuffer}
 use Rattle.wc_buffers.specs.Vars.{cut_to, var, var_of, set_var, remove_var, plugin_var, name_var, set_fixed, set_all, vars_of}
 use Rattle.wc_buffers.proofs.GroupLaws.{by_bool}
 
@@ -59,7 +59,7 @@ two a b [] e = absurd cc
 two a b (x ∷ []) e = absurd cc
 two a b (x ∷ y ∷ vs) e = let p : x ≡ a = cc in let q : y ≡ b = cc in λ i. p i ∷ q i ∷ vs
 
--- another variable stands behind them
+-- another variable comes after them
 keeps_first : (full : List ℕ) (p : Pair) (vs : List Pair) → is_fixed p.name ≡ false → take 2 vs ≡ plugin_var full ∷ name_var full ∷ [] → take 2 (set_var p vs) ≡ plugin_var full ∷ name_var full ∷ []
 keeps_first full p vs own e =
     let o = or_parts (bytes_eq p.name (codes "plugin")) (bytes_eq p.name (codes "name")) own in
@@ -161,7 +161,7 @@ good_name limit name e =
 
 -- ---- buffers
 
-pub opened_fits : (row : BufferRow) (vars : List Pair) → HasText row → All IsText vars → bad_names row vars ≡ None → too_many_vars row.full_name vars ≡ None → IsBuffer (opened row vars)
+pub opened_fits : (row : BufferRow) (vars : List Pair) → HasUtf8Row row → All IsText vars → bad_names row vars ≡ None → too_many_vars row.full_name vars ≡ None → IsBuffer (new_entry row vars)
 unfolding bad_names too_many_vars vars_of
 opened_fits row vars text all good few =
     let a = or_none (bad_name 256 row.full_name) _ good in

@@ -3,7 +3,7 @@ use Rattle.std.proofs.Common.{◌≡◌, ℕ, ◌+◌, ◌≤◌, Bool, true, fa
 use Rattle.std.specs.List.{list_any, prefix_len}
 use Rattle.std.proofs.lemmas.Bool.Decides.{nat_tests}
 use Rattle.std.proofs.lemmas.List.{take-map, drop-map, map-append, length-map}
-use Rattle.wc_buffers.specs.Groups.{filled, AllFilled, rows, in_group, has, row_of, place, times_in, times, only, without, update, take_out, pick, append_to, merge, others, own, move_group, part, unmerge}
+use Rattle.wc_buffers.specs.Groups.{filled_groups, AllFilled, rows, in_group, has, row_of, place, times_in, times, only, without, update, take_out, pick, append_to, merge, others, own, move_group, part, unmerge}
 
 pub by_bool : (b : Bool) (P : Type 0) → (b ≡ true → P) → (b ≡ false → P) → P
 by_bool true P at_true at_false = at_true refl
@@ -45,7 +45,7 @@ find-map f p q same (x ∷ xs) = rw (same x) (elim (q x) as (λ b. cond b (Some 
   | false ↦ find-map f p q same xs
 ])
 
-pub filled-some : {A : Type 0} (x : A) (xs : List A) (gs : List (List A)) → filled ((x ∷ xs) ∷ gs) ≡ (x ∷ xs) ∷ filled gs
+pub filled-some : {A : Type 0} (x : A) (xs : List A) (gs : List (List A)) → filled_groups ((x ∷ xs) ∷ gs) ≡ (x ∷ xs) ∷ filled_groups gs
 filled-some x xs gs = rw (lt-ltb 0 (suc (length xs)) (omega arith)) refl
 
 -- ---- the edits under a map that keeps the keys
@@ -72,7 +72,7 @@ module _ {A B : Type 0} (f : A → B) (k : A → ℕ) (key : B → ℕ) (same : 
   pub row_of-map : (h : ℕ) (gs : List (List A)) → row_of key h (shown gs) ≡ option_map f (row_of k h gs)
   row_of-map h gs = ap (find (λ y. eqb (key y) h)) (rows-map gs) ∙ find-map f (λ y. eqb (key y) h) (λ x. eqb (k x) h) (test h) (rows gs)
 
-  filled-map : (gs : List (List A)) → shown (filled gs) ≡ filled (shown gs)
+  filled-map : (gs : List (List A)) → shown (filled_groups gs) ≡ filled_groups (shown gs)
   filled-map gs = filter-map (map f) (λ g. ltb 0 (length g)) (λ g. ltb 0 (length g)) (λ g. ap (ltb 0) (length-map g f)) gs
 
   pub only-map : (h : ℕ) (g : List A) → map f (only k h g) ≡ only key h (map f g)
@@ -88,7 +88,7 @@ module _ {A B : Type 0} (f : A → B) (k : A → ℕ) (key : B → ℕ) (same : 
       one x = rw (same x) (elim (eqb (k x) h) as (λ b. f (cond b (F x) x) ≡ cond b (G (f x)) (f x)) [ true ↦ agree x | false ↦ refl ])
 
   pub take_out-map : (h : ℕ) (gs : List (List A)) → shown (take_out k h gs) ≡ take_out key h (shown gs)
-  take_out-map h gs = filled-map (map (without k h) gs) ∙ ap filled (map-square (map f) (map f) (without k h) (without key h) (without-map h) gs)
+  take_out-map h gs = filled-map (map (without k h) gs) ∙ ap filled_groups (map-square (map f) (map f) (without k h) (without key h) (without-map h) gs)
 
   pub pick-map : (h : ℕ) (gs : List (List A)) → map f (pick k h gs) ≡ pick key h (shown gs)
   pick-map h gs = flat_map-square f (map f) (only k h) (only key h) (only-map h) gs
@@ -115,7 +115,7 @@ module _ {A B : Type 0} (f : A → B) (k : A → ℕ) (key : B → ℕ) (same : 
       ∙ rw (map-append (map f) (own k h gs) (drop n os), ← take-map (map f) n os, ← drop-map (map f) n os, others-map h gs, own-map h gs) refl
 
   part-map : (h : ℕ) (g : List A) → shown (part k h g) ≡ part key h (map f g)
-  part-map h g = rw (in_group-map h g) (elim (in_group k h g) as (λ b. shown (cond b (filled (without k h g ∷ only k h g ∷ [])) (g ∷ [])) ≡ cond b (filled (without key h (map f g) ∷ only key h (map f g) ∷ [])) (map f g ∷ [])) [
+  part-map h g = rw (in_group-map h g) (elim (in_group k h g) as (λ b. shown (cond b (filled_groups (without k h g ∷ only k h g ∷ [])) (g ∷ [])) ≡ cond b (filled_groups (without key h (map f g) ∷ only key h (map f g) ∷ [])) (map f g ∷ [])) [
     | true ↦ filled-map (without k h g ∷ only k h g ∷ []) ∙ rw (without-map h g, only-map h g) refl
     | false ↦ refl
   ])
@@ -136,7 +136,7 @@ module _ {A B : Type 0} (f : A → B) (k : A → ℕ) (key : B → ℕ) (same : 
   AllFilled-map ([] ∷ gs) all = absurd all
   AllFilled-map ((x ∷ xs) ∷ gs) all = AllFilled-map gs all
 
--- ---- how often a key stands after an edit
+-- ---- how often a key is after an edit
 
 module _ {A : Type 0} (key : A → ℕ) where
   pub times_in-append : (h : ℕ) (xs ys : List A) → times_in key h (xs ++ ys) ≡ times_in key h xs + times_in key h ys
@@ -167,7 +167,7 @@ module _ {A : Type 0} (key : A → ℕ) where
   times_in-only h n [] = grind (arith, nat_tests)
   times_in-only h n (x ∷ xs) = grind (arith, nat_tests, times_in-only h n xs)
 
-  pub times-filled : (h : ℕ) (gs : List (List A)) → times key h (filled gs) ≡ times key h gs
+  pub times-filled : (h : ℕ) (gs : List (List A)) → times key h (filled_groups gs) ≡ times key h gs
   times-filled h [] = refl
   times-filled h ([] ∷ gs) = omega (arith, times-filled h gs)
   times-filled h ((x ∷ xs) ∷ gs) = rw (filled-some x xs gs, times-filled h gs) refl
@@ -194,7 +194,7 @@ module _ {A : Type 0} (key : A → ℕ) where
       omega (arith, times-append h (take m os) (own key n gs ++ drop m os), times-append h (own key n gs) (drop m os), times-append h (take m os) (drop m os), ap (times key h) all, times-split h n gs)
 
   times-part : (h n : ℕ) (g : List A) → times key h (part key n g) ≡ times_in key h g
-  times-part h n g = elim (in_group key n g) as (λ b. times key h (cond b (filled (without key n g ∷ only key n g ∷ [])) (g ∷ [])) ≡ times_in key h g) [
+  times-part h n g = elim (in_group key n g) as (λ b. times key h (cond b (filled_groups (without key n g ∷ only key n g ∷ [])) (g ∷ [])) ≡ times_in key h g) [
     | true ↦ times-filled h (without key n g ∷ only key n g ∷ []) ∙ grind (arith, nat_tests, times_in-without h n g, times_in-only h n g)
     | false ↦ omega arith
   ]
@@ -203,14 +203,14 @@ module _ {A : Type 0} (key : A → ℕ) where
   times-unmerge h n [] = refl
   times-unmerge h n (g ∷ gs) = omega (arith, times-append h (part key n g) (unmerge key n gs), times-part h n g, times-unmerge h n gs)
 
-  -- rows that are put behind those of one group
+  -- rows that are put after those of one group
   pub times-append_to : (h n : ℕ) (new : List A) (gs : List (List A)) → times key n gs ≤ 1 → times key h (append_to key n new gs) ≡ times key h gs + cond (has key n gs) (times_in key h new) 0
   times-append_to h n new [] once = omega arith
   times-append_to h n new (g ∷ gs) once =
       let later : times key n gs ≤ 1 = omega arith in
       grind (arith, nat_tests, times-append_to h n new gs later, times_in-append h g new, in_group_tells n g, has_tells n gs)
 
-  -- a row that is put behind those of another group
+  -- a row that is put after those of another group
   pub times-merge : (h n into : ℕ) (gs : List (List A)) → times key into gs ≤ 1 → has key into gs ≡ true → eqb n into ≡ false → times key h (merge key n into gs) ≡ times key h gs
   times-merge h n into gs once there apart =
       let rest = take_out key n gs in

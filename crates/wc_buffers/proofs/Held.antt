@@ -6,13 +6,13 @@ use Rattle.std.specs.declared.vec.Vec.{Vec}
 use Rattle.wc_text.specs.declared.names.Handle.{Handle}
 use Rattle.wc_buffers.specs.declared.entry.BufferEntry.{BufferEntry}
 use Rattle.wc_buffers.specs.Calls.{handle_of}
-use Rattle.wc_buffers.specs.Kept.{at_handle, entry_at, shown, IsKept, AreBuffers}
+use Rattle.wc_buffers.specs.Kept.{at_handle, entry_at, groups_of_handles, AreBuffersKept, AreBuffers}
 use Rattle.wc_buffers.specs.Table.{key, AreGroups}
 use Rattle.wc_buffers.proofs.GroupLaws.{times-map, AllFilled-map}
 use Rattle.wc_buffers.proofs.Named.{named-shown}
 use Rattle.wc_buffers.proofs.Shown.{key_at, there-shown, entry-shown, rows-shown}
 
-pub are_buffers : {S T : Type 0} (gs : List (List Handle)) (entries : HashMap ℕ BufferEntry S) (names : HashMap (Vec ℕ Global) Handle T) → IsKept gs entries names → AreGroups gs → AreBuffers (shown entries gs)
+pub are_buffers : {S T : Type 0} (gs : List (List Handle)) (entries : HashMap ℕ BufferEntry S) (names : HashMap (Vec ℕ Global) Handle T) → AreBuffersKept gs entries names → AreGroups gs → AreBuffers (groups_of_handles entries gs)
 are_buffers gs entries names kept are = record {
   once = λ h. omega (arith, times-map (entry_at entries) key handle_of (key_at entries kept.keyed) h gs, are.once h);
   filled = AllFilled-map (entry_at entries) key handle_of (key_at entries kept.keyed) gs are.filled;

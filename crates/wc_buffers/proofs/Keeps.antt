@@ -12,7 +12,7 @@ use Rattle.wc_text.specs.declared.names.Handle.{Handle}
 use Rattle.wc_buffers.specs.declared.entry.BufferEntry.{BufferEntry}
 use Rattle.wc_buffers.specs.Calls.{handle_of, with_full_name}
 use Rattle.wc_buffers.specs.Groups.{in_group, has, take_out, update}
-use Rattle.wc_buffers.specs.Kept.{at_handle, at_name, blank, entry_at, shown, IsKept, IsBuffer, IsChangedAt}
+use Rattle.wc_buffers.specs.Kept.{at_handle, at_name, blank, entry_at, groups_of_handles, AreBuffersKept, IsBuffer, IsEntryChanged}
 use Rattle.wc_buffers.specs.Table.{key}
 use Rattle.wc_buffers.proofs.GroupLaws.{by_bool, take_out-map, has_tells, times-take_out}
 use Rattle.wc_buffers.proofs.Shown.{key_at}
@@ -25,7 +25,7 @@ Names T = HashMap (Vec ℕ Global) Handle T
 
 -- ---- maps that have the same everywhere
 
-pub kept_same : {S T : Type 0} → (gs : List (List Handle)) (es es2 : Entries S) (ns ns2 : Names T) → ((q : ℕ) → at_handle es2 q ≡ at_handle es q) → ((s : List ℕ) → at_name ns2 s ≡ at_name ns s) → IsKept gs es ns → IsKept gs es2 ns2
+pub kept_same : {S T : Type 0} → (gs : List (List Handle)) (es es2 : Entries S) (ns ns2 : Names T) → ((q : ℕ) → at_handle es2 q ≡ at_handle es q) → ((s : List ℕ) → at_name ns2 s ≡ at_name ns s) → AreBuffersKept gs es ns → AreBuffersKept gs es2 ns2
 kept_same gs es es2 ns ns2 e n kept = record {
   stored = λ h. ap is_some (e h) ∙ kept.stored h;
   keyed = λ h x i. kept.keyed h x (sym (e h) ∙ i);
@@ -35,14 +35,14 @@ kept_same gs es es2 ns ns2 e n kept = record {
   led = λ name h i. let r = kept.led name h (sym (n name) ∙ i) in (r.0, e h.0 ∙ r.1, r.2);
 }
 
-pub shown_same : {S : Type 0} → (gs : List (List Handle)) (es es2 : Entries S) → ((q : ℕ) → at_handle es2 q ≡ at_handle es q) → shown es2 gs ≡ shown es gs
+pub shown_same : {S : Type 0} → (gs : List (List Handle)) (es es2 : Entries S) → ((q : ℕ) → at_handle es2 q ≡ at_handle es q) → groups_of_handles es2 gs ≡ groups_of_handles es gs
 shown_same gs es es2 e =
     let same : (λ (h : Handle). entry_at es2 h) ≡ (λ (h : Handle). entry_at es h) = λ i h. unwrap_or (e h.0 i) (blank h) in
     λ i. map (map (same i)) gs
 
 -- ---- groups of the same handles
 
-pub kept_moved : {S T : Type 0} → (gs gs2 : List (List Handle)) (es : Entries S) (ns : Names T) → ((q : ℕ) → has key q gs2 ≡ has key q gs) → IsKept gs es ns → IsKept gs2 es ns
+pub kept_moved : {S T : Type 0} → (gs gs2 : List (List Handle)) (es : Entries S) (ns : Names T) → ((q : ℕ) → has key q gs2 ≡ has key q gs) → AreBuffersKept gs es ns → AreBuffersKept gs2 es ns
 kept_moved gs gs2 es ns same kept = record {
   stored = λ h. kept.stored h ∙ sym (same h);
   keyed = kept.keyed;
@@ -54,7 +54,7 @@ kept_moved gs gs2 es ns same kept = record {
 
 -- ---- maps that differ under one handle
 
--- where a handle does not stand, what is stored under it does not matter
+-- where a handle does not are, what is stored under it does not matter
 shown_other-in : {S : Type 0} → (h : ℕ) (g : List Handle) (es es2 : Entries S) → in_group key h g ≡ false → ((q : ℕ) → eqb h q ≡ false → at_handle es2 q ≡ at_handle es q) → map (entry_at es2) g ≡ map (entry_at es) g
 shown_other-in h [] es es2 e same = refl
 shown_other-in h (x ∷ xs) es es2 e same =
@@ -64,7 +64,7 @@ shown_other-in h (x ∷ xs) es es2 e same =
     let rest = shown_other-in h xs es es2 o.1 same in
     λ i. unwrap_or (here i) (blank x) ∷ rest i
 
-shown_other : {S : Type 0} → (h : ℕ) (gs : List (List Handle)) (es es2 : Entries S) → has key h gs ≡ false → ((q : ℕ) → eqb h q ≡ false → at_handle es2 q ≡ at_handle es q) → shown es2 gs ≡ shown es gs
+shown_other : {S : Type 0} → (h : ℕ) (gs : List (List Handle)) (es es2 : Entries S) → has key h gs ≡ false → ((q : ℕ) → eqb h q ≡ false → at_handle es2 q ≡ at_handle es q) → groups_of_handles es2 gs ≡ groups_of_handles es gs
 shown_other h [] es es2 e same = refl
 shown_other h (g ∷ gs) es es2 e same =
     let o = or_parts (in_group key h g) (has key h gs) e in
@@ -88,7 +88,7 @@ has-added q h gs = list_any-append (in_group key q) gs ((record { 0 = h } ∷ []
     by false true = refl
     by false false = refl
 
-pub shown_added : {S : Type 0} → (e : BufferEntry) (gs : List (List Handle)) (es es2 : Entries S) → has key e.row.handle.0 gs ≡ false → ((q : ℕ) → at_handle es2 q ≡ cond (eqb e.row.handle.0 q) (Some e) (at_handle es q)) → shown es2 (gs ++ (e.row.handle ∷ []) ∷ []) ≡ shown es gs ++ (e ∷ []) ∷ []
+pub shown_added : {S : Type 0} → (e : BufferEntry) (gs : List (List Handle)) (es es2 : Entries S) → has key e.row.handle.0 gs ≡ false → ((q : ℕ) → at_handle es2 q ≡ cond (eqb e.row.handle.0 q) (Some e) (at_handle es q)) → groups_of_handles es2 (gs ++ (e.row.handle ∷ []) ∷ []) ≡ groups_of_handles es gs ++ (e ∷ []) ∷ []
 shown_added e gs es es2 absent new =
     let here = set_here e.row.handle.0 es es2 (Some e) new in
     let rest = shown_other e.row.handle.0 gs es es2 absent (set_there e.row.handle.0 es es2 (Some e) new) in
@@ -101,7 +101,7 @@ IsFree name ns = at_name ns name ≡ None
 pub kept_added : {S T : Type 0} → (e : BufferEntry) (gs : List (List Handle)) (es es2 : Entries S) (ns ns2 : Names T) → 0 < e.row.handle.0 → has key e.row.handle.0 gs ≡ false → IsBuffer e → IsFree e.row.full_name ns
     → ((q : ℕ) → at_handle es2 q ≡ cond (eqb e.row.handle.0 q) (Some e) (at_handle es q))
     → ((s : List ℕ) → at_name ns2 s ≡ cond (bytes_eq e.row.full_name s) (Some e.row.handle) (at_name ns s))
-    → IsKept gs es ns → IsKept (gs ++ (e.row.handle ∷ []) ∷ []) es2 ns2
+    → AreBuffersKept gs es ns → AreBuffersKept (gs ++ (e.row.handle ∷ []) ∷ []) es2 ns2
 kept_added e gs es es2 ns ns2 above absent fits free new names kept = record {
   stored = λ q. stored q (eqb e.row.handle.0 q) refl;
   keyed = λ q x i. keyed q x i (eqb e.row.handle.0 q) refl;
@@ -172,7 +172,7 @@ lacks h gs = grind (arith, nat_tests, times-take_out key h h gs, has_tells key h
 has-taken : (q h : ℕ) (gs : List (List Handle)) → eqb h q ≡ false → has key q (take_out key h gs) ≡ has key q gs
 has-taken q h gs t = grind (arith, nat_tests, times-take_out key q h gs, has_tells key q (take_out key h gs), has_tells key q gs)
 
-pub shown_taken : {S T : Type 0} (h : ℕ) (gs : List (List Handle)) (es es2 : Entries S) (ns : Names T) → IsKept gs es ns → ((q : ℕ) → at_handle es2 q ≡ cond (eqb h q) None (at_handle es q)) → shown es2 (take_out key h gs) ≡ take_out handle_of h (shown es gs)
+pub shown_taken : {S T : Type 0} (h : ℕ) (gs : List (List Handle)) (es es2 : Entries S) (ns : Names T) → AreBuffersKept gs es ns → ((q : ℕ) → at_handle es2 q ≡ cond (eqb h q) None (at_handle es q)) → groups_of_handles es2 (take_out key h gs) ≡ take_out handle_of h (groups_of_handles es gs)
 shown_taken h gs es es2 ns kept new =
     shown_other h (take_out key h gs) es es2 (lacks h gs) (set_there h es es2 None new)
     ∙ take_out-map (entry_at es) key handle_of (key_at es kept.keyed) h gs
@@ -180,7 +180,7 @@ shown_taken h gs es es2 ns kept new =
 pub kept_taken : {S T : Type 0} (h : ℕ) (e : BufferEntry) (gs : List (List Handle)) (es es2 : Entries S) (ns ns2 : Names T) → at_handle es h ≡ Some e
     → ((q : ℕ) → at_handle es2 q ≡ cond (eqb h q) None (at_handle es q))
     → ((s : List ℕ) → at_name ns2 s ≡ cond (bytes_eq e.row.full_name s) None (at_name ns s))
-    → IsKept gs es ns → IsKept (take_out key h gs) es2 ns2
+    → AreBuffersKept gs es ns → AreBuffersKept (take_out key h gs) es2 ns2
 kept_taken h e gs es es2 ns ns2 is new names kept = record {
   stored = λ q. stored q (eqb h q) refl;
   keyed = λ q x i. let o = there q x i in kept.keyed q x o.1;
@@ -234,14 +234,14 @@ kept_taken h e gs es es2 ns ns2 is new names kept = record {
 
 -- ---- a buffer that is changed
 
-changed_here : {S : Type 0} (h : ℕ) (f : BufferEntry → BufferEntry) (es es2 : Entries S) → IsChangedAt h f es es2 → (q : ℕ) (e : BufferEntry) → at_handle es q ≡ Some e → at_handle es2 q ≡ Some (cond (eqb h q) (f e) e)
+changed_here : {S : Type 0} (h : ℕ) (f : BufferEntry → BufferEntry) (es es2 : Entries S) → IsEntryChanged h f es es2 → (q : ℕ) (e : BufferEntry) → at_handle es q ≡ Some e → at_handle es2 q ≡ Some (cond (eqb h q) (f e) e)
 changed_here h f es es2 new q e i = new q ∙ ap (λ o. cond (eqb h q) (option_map f o) o) i ∙ by (eqb h q)
   where
     by : (t : Bool) → cond t (Some (f e)) (Some e) ≡ Some (cond t (f e) e)
     by true = refl
     by false = refl
 
-changed_nowhere : {S : Type 0} (h : ℕ) (f : BufferEntry → BufferEntry) (es es2 : Entries S) → IsChangedAt h f es es2 → (q : ℕ) → at_handle es q ≡ None → at_handle es2 q ≡ None
+changed_nowhere : {S : Type 0} (h : ℕ) (f : BufferEntry → BufferEntry) (es es2 : Entries S) → IsEntryChanged h f es es2 → (q : ℕ) → at_handle es q ≡ None → at_handle es2 q ≡ None
 changed_nowhere h f es es2 new q i = new q ∙ ap (λ o. cond (eqb h q) (option_map f o) o) i ∙ by (eqb h q)
   where
     by : (t : Bool) → ◌≡◌ {A = Option BufferEntry} (cond t None None) None
@@ -249,14 +249,14 @@ changed_nowhere h f es es2 new q i = new q ∙ ap (λ o. cond (eqb h q) (option_
     by false = refl
 
 -- what it was before
-was : {S : Type 0} (h : ℕ) (f : BufferEntry → BufferEntry) (es es2 : Entries S) → IsChangedAt h f es es2 → (q : ℕ) (x : BufferEntry) → at_handle es2 q ≡ Some x → (e : BufferEntry) × (at_handle es q ≡ Some e) × (x ≡ cond (eqb h q) (f e) e)
+was : {S : Type 0} (h : ℕ) (f : BufferEntry → BufferEntry) (es es2 : Entries S) → IsEntryChanged h f es es2 → (q : ℕ) (x : BufferEntry) → at_handle es2 q ≡ Some x → (e : BufferEntry) × (at_handle es q ≡ Some e) × (x ≡ cond (eqb h q) (f e) e)
 was h f es es2 new q x i = by (at_handle es q) refl
   where
     by : (o : Option BufferEntry) → at_handle es q ≡ o → (e : BufferEntry) × (at_handle es q ≡ Some e) × (x ≡ cond (eqb h q) (f e) e)
     by None j = let n = changed_nowhere h f es es2 new q j in absurd cc
     by (Some e) j = let n : Some x ≡ Some (cond (eqb h q) (f e) e) = sym i ∙ changed_here h f es es2 new q e j in (e, j, cc)
 
-pub shown_changed : {S T : Type 0} (h : ℕ) (f : BufferEntry → BufferEntry) (gs : List (List Handle)) (es es2 : Entries S) (ns : Names T) → IsKept gs es ns → IsChangedAt h f es es2 → is_some (at_handle es h) ≡ true → shown es2 gs ≡ update handle_of h f (shown es gs)
+pub shown_changed : {S T : Type 0} (h : ℕ) (f : BufferEntry → BufferEntry) (gs : List (List Handle)) (es es2 : Entries S) (ns : Names T) → AreBuffersKept gs es ns → IsEntryChanged h f es es2 → is_some (at_handle es h) ≡ true → groups_of_handles es2 gs ≡ update handle_of h f (groups_of_handles es gs)
 shown_changed h f gs es es2 ns kept new there = each gs
   where
     one : (x : Handle) → entry_at es2 x ≡ cond (eqb (handle_of (entry_at es x)) h) (f (entry_at es x)) (entry_at es x)
@@ -281,12 +281,12 @@ shown_changed h f gs es es2 ns kept new there = each gs
     group [] = refl
     group (x ∷ xs) = let o = one x in let r = group xs in λ i. o i ∷ r i
 
-    each : (hs : List (List Handle)) → shown es2 hs ≡ update handle_of h f (shown es hs)
+    each : (hs : List (List Handle)) → groups_of_handles es2 hs ≡ update handle_of h f (groups_of_handles es hs)
     each [] = refl
     each (g ∷ hs) = let o = group g in let r = each hs in λ i. o i ∷ r i
 
 pub kept_changed : {S T : Type 0} (h : ℕ) (f : BufferEntry → BufferEntry) (gs : List (List Handle)) (es es2 : Entries S) (ns : Names T) → ((e : BufferEntry) → (f e).row.handle ≡ e.row.handle) → ((e : BufferEntry) → (f e).row.full_name ≡ e.row.full_name)
-    → ((e : BufferEntry) → at_handle es h ≡ Some e → IsBuffer e → IsBuffer (f e)) → IsChangedAt h f es es2 → IsKept gs es ns → IsKept gs es2 ns
+    → ((e : BufferEntry) → at_handle es h ≡ Some e → IsBuffer e → IsBuffer (f e)) → IsEntryChanged h f es es2 → AreBuffersKept gs es ns → AreBuffersKept gs es2 ns
 kept_changed h f gs es es2 ns same_handle same_name fits new kept = record {
   stored = λ q. stored q (at_handle es q) refl;
   keyed = λ q x i. let o = was h f es es2 new q x i in subst (λ (y : BufferEntry). y.row.handle.0 ≡ q) (sym o.2) (ap (λ (k : Handle). k.0) (handle o.0 (eqb h q)) ∙ kept.keyed q o.0 o.1);
@@ -313,7 +313,7 @@ kept_changed h f gs es es2 ns same_handle same_name fits new kept = record {
     stored q (Some e) i = ap is_some (changed_here h f es es2 new q e i) ∙ sym (sym (kept.stored q) ∙ ap is_some i)
 
 -- nothing was changed
-pub unchanged : {S : Type 0} (h : ℕ) (es es2 : Entries S) → IsChangedAt h (λ e. e) es es2 → (q : ℕ) → at_handle es2 q ≡ at_handle es q
+pub unchanged : {S : Type 0} (h : ℕ) (es es2 : Entries S) → IsEntryChanged h (λ e. e) es es2 → (q : ℕ) → at_handle es2 q ≡ at_handle es q
 unchanged h es es2 new q = new q ∙ by (eqb h q) (at_handle es q)
   where
     by : (t : Bool) (o : Option BufferEntry) → cond t (option_map (λ e. e) o) o ≡ o
@@ -326,10 +326,10 @@ unchanged h es es2 new q = new q ∙ by (eqb h q) (at_handle es q)
 pub kept_renamed : {S T : Type 0} (k : Handle) (e : BufferEntry) (name : List ℕ) (gs : List (List Handle)) (es es2 : Entries S) (ns ns1 ns2 : Names T) → at_handle es k.0 ≡ Some e
     → (IsBuffer e → IsBuffer (with_full_name name e))
     → ((other : Handle) → at_name ns name ≡ Some other → other.0 ≡ k.0)
-    → IsChangedAt k.0 (with_full_name name) es es2
+    → IsEntryChanged k.0 (with_full_name name) es es2
     → ((s : List ℕ) → at_name ns1 s ≡ cond (bytes_eq e.row.full_name s) None (at_name ns s))
     → ((s : List ℕ) → at_name ns2 s ≡ cond (bytes_eq name s) (Some k) (at_name ns1 s))
-    → IsKept gs es ns → IsKept gs es2 ns2
+    → AreBuffersKept gs es ns → AreBuffersKept gs es2 ns2
 kept_renamed {S} {T} k e name gs es es2 ns ns1 ns2 is fits free new left put kept = record {
   stored = λ q. stored q (at_handle es q) refl;
   keyed = λ q x i. let o = was k.0 f es es2 new q x i in subst (λ (y : BufferEntry). y.row.handle.0 ≡ q) (sym o.2) (ap (λ (j : Handle). j.0) (handle o.0 (eqb k.0 q)) ∙ kept.keyed q o.0 o.1);

@@ -8,14 +8,14 @@ use Rattle.std.specs.declared.alloc.Global.{Global}
 use Rattle.std.specs.declared.vec.Vec.{Vec}
 use Rattle.wc_text.specs.declared.names.Handle.{Handle}
 use Rattle.wc_buffers.specs.declared.entry.BufferEntry.{BufferEntry}
-use Rattle.wc_buffers.specs.Calls.{handle_of, named, is_named, other_named}
+use Rattle.wc_buffers.specs.Calls.{handle_of, handle_of_name, is_named, other_named}
 use Rattle.wc_buffers.specs.Groups.{rows, in_group, has}
-use Rattle.wc_buffers.specs.Kept.{at_handle, at_name, blank, entry_at, shown, IsKept}
+use Rattle.wc_buffers.specs.Kept.{at_handle, at_name, blank, entry_at, groups_of_handles, AreBuffersKept}
 use Rattle.wc_buffers.specs.Table.{key}
 use Rattle.wc_buffers.proofs.GroupLaws.{by_bool, rows-map}
 use Rattle.wc_buffers.proofs.Shown.{key_at, in_rows}
 
-module _ {S T : Type 0} (gs : List (List Handle)) (entries : HashMap ℕ BufferEntry S) (names : HashMap (Vec ℕ Global) Handle T) (kept : IsKept gs entries names) (name : List ℕ) where
+module _ {S T : Type 0} (gs : List (List Handle)) (entries : HashMap ℕ BufferEntry S) (names : HashMap (Vec ℕ Global) Handle T) (kept : AreBuffersKept gs entries names) (name : List ℕ) where
   handle_at : Handle → Handle
   handle_at x = (entry_at entries x).row.handle
 
@@ -101,7 +101,7 @@ module _ {S T : Type 0} (gs : List (List Handle)) (entries : HashMap ℕ BufferE
     here : in_group key h.0 (rows gs) ≡ true
     here = let r = kept.led name h leads in in_rows h.0 gs ∙ sym (kept.stored h.0) ∙ ap is_some r.1
 
-  rows-shown : rows (shown entries gs) ≡ map (entry_at entries) (rows gs)
+  rows-shown : rows (groups_of_handles entries gs) ≡ map (entry_at entries) (rows gs)
   rows-shown = rows-map (entry_at entries) key handle_of (key_at entries kept.keyed) gs
 
   not_found : (es : List BufferEntry) → list_any (is_named name) es ≡ false → find (is_named name) es ≡ None
@@ -112,21 +112,21 @@ module _ {S T : Type 0} (gs : List (List Handle)) (entries : HashMap ℕ BufferE
   none_other own [] e = refl
   none_other own (x ∷ xs) e = let o = or_parts (is_named name x) (list_any (is_named name) xs) e in rw o.0 (none_other own xs o.1)
 
-  pub named-shown : (o : Option Handle) → at_name names name ≡ o → o ≡ named name (shown entries gs)
+  pub named-shown : (o : Option Handle) → at_name names name ≡ o → o ≡ handle_of_name name (groups_of_handles entries gs)
   named-shown None e = sym (ap (λ es. option_map (λ (x : BufferEntry). x.row.handle) (find (is_named name) es)) rows-shown ∙ ap (option_map (λ (x : BufferEntry). x.row.handle)) (not_found (map (entry_at entries) (rows gs)) (none_named e (rows gs) all_there)))
   named-shown (Some h) e = sym (ap (λ es. option_map (λ (x : BufferEntry). x.row.handle) (find (is_named name) es)) rows-shown ∙ found_named h e (rows gs) all_there (here h e))
 
-  pub not_taken : (own : Handle) → at_name names name ≡ None → false ≡ list_any (other_named name own) (rows (shown entries gs))
+  pub not_taken : (own : Handle) → at_name names name ≡ None → false ≡ list_any (other_named name own) (rows (groups_of_handles entries gs))
   not_taken own e = sym (ap (list_any (other_named name own)) rows-shown ∙ none_other own (map (entry_at entries) (rows gs)) (none_named e (rows gs) all_there))
 
-  pub taken_by : (own h : Handle) → at_name names name ≡ Some h → not (eqb h.0 own.0) ≡ list_any (other_named name own) (rows (shown entries gs))
+  pub taken_by : (own h : Handle) → at_name names name ≡ Some h → not (eqb h.0 own.0) ≡ list_any (other_named name own) (rows (groups_of_handles entries gs))
   taken_by own h e = sym (ap (list_any (other_named name own)) rows-shown ∙ any_other h e own (rows gs) all_there ∙ ap (λ b. b && not (eqb h.0 own.0)) (here h e))
 
   -- where no other buffer has the name, it leads to this one or to none
-  pub free_but : (own other : Handle) → list_any (other_named name own) (rows (shown entries gs)) ≡ false → at_name names name ≡ Some other → other.0 ≡ own.0
+  pub free_but : (own other : Handle) → list_any (other_named name own) (rows (groups_of_handles entries gs)) ≡ false → at_name names name ≡ Some other → other.0 ≡ own.0
   free_but own other free e = let n = not-false (eqb other.0 own.0) (taken_by own other e ∙ free) in eqb-true other.0 own.0 n
 
-  pub free_for_new : (own : Handle) → has key own.0 gs ≡ false → list_any (other_named name own) (rows (shown entries gs)) ≡ false → at_name names name ≡ None
+  pub free_for_new : (own : Handle) → has key own.0 gs ≡ false → list_any (other_named name own) (rows (groups_of_handles entries gs)) ≡ false → at_name names name ≡ None
   free_for_new own absent free = by (at_name names name) refl
     where
       by : (o : Option Handle) → at_name names name ≡ o → o ≡ None

@@ -11,7 +11,7 @@ use Rattle.wc_text.specs.declared.names.Handle.{Handle}
 use Rattle.wc_buffers.specs.declared.entry.BufferEntry.{BufferEntry}
 use Rattle.wc_buffers.specs.Calls.{handle_of, number, are_together, is_alone}
 use Rattle.wc_buffers.specs.Groups.{rows, in_group, has, place, row_of}
-use Rattle.wc_buffers.specs.Kept.{at_handle, blank, entry_at, shown, IsKept, handles}
+use Rattle.wc_buffers.specs.Kept.{at_handle, blank, entry_at, groups_of_handles, AreBuffersKept, handles}
 use Rattle.wc_buffers.specs.Table.{key}
 use Rattle.wc_buffers.proofs.GroupLaws.{by_bool, list_any-map, in_group-map, has-map, place-map, row_of-map, rows-map}
 
@@ -40,17 +40,17 @@ pub in_rows : (h : ℕ) (gs : List (List Handle)) → in_group key h (rows gs) �
 in_rows h [] = refl
 in_rows h (g ∷ gs) = list_any-append (λ x. eqb (key x) h) g (rows gs) ∙ ap (λ b. in_group key h g || b) (in_rows h gs)
 
-module _ {S T : Type 0} (gs : List (List Handle)) (entries : HashMap ℕ BufferEntry S) (names : HashMap (Vec ℕ Global) Handle T) (kept : IsKept gs entries names) where
+module _ {S T : Type 0} (gs : List (List Handle)) (entries : HashMap ℕ BufferEntry S) (names : HashMap (Vec ℕ Global) Handle T) (kept : AreBuffersKept gs entries names) where
   same : (h : Handle) → handle_of (entry_at entries h) ≡ key h
   same = key_at entries kept.keyed
 
-  pub has-shown : (h : ℕ) → has handle_of h (shown entries gs) ≡ has key h gs
+  pub has-shown : (h : ℕ) → has handle_of h (groups_of_handles entries gs) ≡ has key h gs
   has-shown h = has-map (entry_at entries) key handle_of same h gs
 
-  pub there-shown : (h : ℕ) → is_some (at_handle entries h) ≡ has handle_of h (shown entries gs)
+  pub there-shown : (h : ℕ) → is_some (at_handle entries h) ≡ has handle_of h (groups_of_handles entries gs)
   there-shown h = kept.stored h ∙ sym (has-shown h)
 
-  pub entry-shown : (h : ℕ) → at_handle entries h ≡ row_of handle_of h (shown entries gs)
+  pub entry-shown : (h : ℕ) → at_handle entries h ≡ row_of handle_of h (groups_of_handles entries gs)
   entry-shown h = sym (row_of-map (entry_at entries) key handle_of same h gs ∙ by_bool (has key h gs) _ here nowhere)
     where
       here : has key h gs ≡ true → option_map (entry_at entries) (row_of key h gs) ≡ at_handle entries h
@@ -67,30 +67,30 @@ module _ {S T : Type 0} (gs : List (List Handle)) (entries : HashMap ℕ BufferE
           by None i = refl
           by (Some e) i = absurd (false≢true (sym i))
 
-  pub number-shown : (h : Handle) → option_map (λ n. n + 1) (place key h.0 gs) ≡ number h (shown entries gs)
+  pub number-shown : (h : Handle) → option_map (λ n. n + 1) (place key h.0 gs) ≡ number h (groups_of_handles entries gs)
   number-shown h = ap (option_map (λ n. n + 1)) (sym (place-map (entry_at entries) key handle_of same h.0 gs))
 
-  pub rows-shown : length (rows gs) ≡ length (rows (shown entries gs))
+  pub rows-shown : length (rows gs) ≡ length (rows (groups_of_handles entries gs))
   rows-shown = sym (ap length (rows-map (entry_at entries) key handle_of same gs) ∙ length-map (rows gs) (entry_at entries))
 
-  pub handles-shown : gs ≡ handles (shown entries gs)
+  pub handles-shown : gs ≡ handles (groups_of_handles entries gs)
   handles-shown = each gs
     where
       one : (g : List Handle) → g ≡ map (λ (e : BufferEntry). e.row.handle) (map (entry_at entries) g)
       one [] = refl
       one (x ∷ xs) = let e = same x in λ i. record { 0 = sym e i } ∷ one xs i
 
-      each : (hs : List (List Handle)) → hs ≡ handles (shown entries hs)
+      each : (hs : List (List Handle)) → hs ≡ handles (groups_of_handles entries hs)
       each [] = refl
       each (g ∷ hs) = λ i. one g i ∷ each hs i
 
-  pub together-shown : (h into : Handle) → list_any (λ g. in_group key h.0 g && in_group key into.0 g) gs ≡ are_together h into (shown entries gs)
+  pub together-shown : (h into : Handle) → list_any (λ g. in_group key h.0 g && in_group key into.0 g) gs ≡ are_together h into (groups_of_handles entries gs)
   together-shown h into = sym (list_any-map (map (entry_at entries)) (λ g. in_group handle_of h.0 g && in_group handle_of into.0 g) (λ g. in_group key h.0 g && in_group key into.0 g) both gs)
     where
       both : (g : List Handle) → (in_group handle_of h.0 (map (entry_at entries) g) && in_group handle_of into.0 (map (entry_at entries) g)) ≡ (in_group key h.0 g && in_group key into.0 g)
       both g = rw (in_group-map (entry_at entries) key handle_of same h.0 g, in_group-map (entry_at entries) key handle_of same into.0 g) refl
 
-  pub alone-shown : (h : Handle) → list_any (λ g. in_group key h.0 g && eqb (length g) 1) gs ≡ is_alone h (shown entries gs)
+  pub alone-shown : (h : Handle) → list_any (λ g. in_group key h.0 g && eqb (length g) 1) gs ≡ is_alone h (groups_of_handles entries gs)
   alone-shown h = sym (list_any-map (map (entry_at entries)) (λ g. in_group handle_of h.0 g && eqb (length g) 1) (λ g. in_group key h.0 g && eqb (length g) 1) both gs)
     where
       both : (g : List Handle) → (in_group handle_of h.0 (map (entry_at entries) g) && eqb (length (map (entry_at entries) g)) 1) ≡ (in_group key h.0 g && eqb (length g) 1)

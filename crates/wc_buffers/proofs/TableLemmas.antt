@@ -1,4 +1,4 @@
--- Groups of handles, each handle once: where a handle stands, and what an edit there leaves.
+-- Groups of handles, each handle once: where a handle is, and what an edit there leaves.
 use Rattle.std.proofs.Common.{◌≡◌, ℕ, suc, ◌+◌, ◌≤◌, ◌<◌, Bool, true, false, cond, not, ◌&&◌, ◌||◌, ltb, eqb, List, [], ◌∷◌, ◌++◌, map, take, drop, set, get_or, length, insert, remove, position, Option, Some, None, refl, ap, sym, subst, ◌∙◌, arith, append_assoc, append-nil, take_at, drop_at, length-append, lt-ltb, le-ltb, eqb-true, take-append-drop}
 use Rattle.std.specs.List.{list_any, position_or_len}
 use Rattle.std.proofs.lemmas.Bool.{false≢true, or_parts}
@@ -8,7 +8,7 @@ use Rattle.std.proofs.lemmas.List.Concat.{flat_map-append}
 use Rattle.std.proofs.lemmas.List.Elements.{filter-append}
 use Rattle.std.proofs.lemmas.List.Folds.{list_any-append}
 use Rattle.wc_text.specs.declared.names.Handle.{Handle}
-use Rattle.wc_buffers.specs.Groups.{filled, AllFilled, rows, in_group, has, place, times_in, times, only, without, take_out, pick, append_to, others, own, move_group, part, unmerge}
+use Rattle.wc_buffers.specs.Groups.{filled_groups, AllFilled, rows, in_group, has, place, times_in, times, only, without, take_out, pick, append_to, others, own, move_group, part, unmerge}
 use Rattle.wc_buffers.specs.Table.{key, AllEmpty, AreGroups}
 use Rattle.wc_buffers.proofs.GroupLaws.{by_bool, filled-some, times-append, in_group_tells, has_tells, times-take_out, times-append_to, times-move_group, times-unmerge}
 
@@ -62,17 +62,17 @@ position_none p xs e = by_bool (list_any p xs) _
 pub written : {X : Type 0} (front back : List X) (x y : X) (n : ℕ) → length front ≡ n → set (front ++ x ∷ back) n y ≡ front ++ y ∷ back
 written front back x y n e = set_at front x back y n e
 
-behind : {X : Type 0} (front back : List X) (x : X) (n : ℕ) → length front ≡ n → drop (suc n) (front ++ x ∷ back) ≡ back
-behind front back x n e =
+following : {X : Type 0} (front back : List X) (x : X) (n : ℕ) → length front ≡ n → drop (suc n) (front ++ x ∷ back) ≡ back
+following front back x n e =
     let l : length (front ++ x ∷ []) ≡ suc n = (let a = length-append front (x ∷ []) in omega arith) in
     ap (drop (suc n)) (sym (append_assoc front (x ∷ []) back)) ∙ drop_at (front ++ x ∷ []) back (suc n) l
 
 pub removed : {X : Type 0} (front back : List X) (x : X) (n : ℕ) → length front ≡ n → remove (front ++ x ∷ back) n ≡ front ++ back
-removed front back x n e = rw (take_at front (x ∷ back) n e, behind front back x n e) refl
+removed front back x n e = rw (take_at front (x ∷ back) n e, following front back x n e) refl
 
--- one more right behind the place
-pub put_behind : {X : Type 0} (front back : List X) (x y : X) (n : ℕ) → length front ≡ n → insert (front ++ x ∷ back) (n + 1) y ≡ front ++ x ∷ y ∷ back
-put_behind front back x y n e =
+-- one more right after the place
+pub put_after : {X : Type 0} (front back : List X) (x y : X) (n : ℕ) → length front ≡ n → insert (front ++ x ∷ back) (n + 1) y ≡ front ++ x ∷ y ∷ back
+put_after front back x y n e =
     let l : length (front ++ x ∷ []) ≡ n + 1 = (let a = length-append front (x ∷ []) in omega arith) in
     let s = append_assoc front (x ∷ []) back in
     ap (λ z. insert z (n + 1) y) (sym s) ∙ rw (take_at (front ++ x ∷ []) back (n + 1) l, drop_at (front ++ x ∷ []) back (n + 1) l) (append_assoc front (x ∷ []) (y ∷ back))
@@ -138,11 +138,11 @@ AllFilled-tail : (g : List Handle) (gs : List (List Handle)) → AllFilled (g �
 AllFilled-tail [] gs a = absurd a
 AllFilled-tail (x ∷ xs) gs a = a
 
-filled-group : (g : List Handle) (gs : List (List Handle)) → 0 < length g → filled (g ∷ gs) ≡ g ∷ filled gs
+filled-group : (g : List Handle) (gs : List (List Handle)) → 0 < length g → filled_groups (g ∷ gs) ≡ g ∷ filled_groups gs
 filled-group [] gs l = absurd (omega arith)
 filled-group (x ∷ xs) gs l = filled-some x xs gs
 
-filled-none : (g : List Handle) (gs : List (List Handle)) → length g ≡ 0 → filled (g ∷ gs) ≡ filled gs
+filled-none : (g : List Handle) (gs : List (List Handle)) → length g ≡ 0 → filled_groups (g ∷ gs) ≡ filled_groups gs
 filled-none [] gs l = refl
 filled-none (x ∷ xs) gs l = absurd (omega arith)
 
@@ -158,7 +158,7 @@ groups-le-rows [] a = omega arith
 groups-le-rows ([] ∷ gs) a = absurd a
 groups-le-rows ((x ∷ xs) ∷ gs) a = omega (arith, groups-le-rows gs a, length-append xs (rows gs))
 
--- ---- a handle that stands once
+-- ---- a handle that is once
 
 pub record StandsAt (h n : ℕ) (gs : List (List Handle)) : Type 0 where
   pub front : List (List Handle)
@@ -203,10 +203,10 @@ length-without h (x ∷ xs) = by (eqb x.0 h) (length-without h xs)
     by true e = omega arith
     by false e = omega arith
 
-rows-filled : (gs : List (List Handle)) → length (rows (filled gs)) ≡ length (rows gs)
+rows-filled : (gs : List (List Handle)) → length (rows (filled_groups gs)) ≡ length (rows gs)
 rows-filled [] = refl
 rows-filled ([] ∷ gs) = rows-filled gs
-rows-filled ((x ∷ xs) ∷ gs) = rw (filled-some x xs gs) (omega (arith, rows-filled gs, length-append xs (rows (filled gs)), length-append xs (rows gs)))
+rows-filled ((x ∷ xs) ∷ gs) = rw (filled-some x xs gs) (omega (arith, rows-filled gs, length-append xs (rows (filled_groups gs)), length-append xs (rows gs)))
 
 rows-without : (h : ℕ) (gs : List (List Handle)) → length (rows (map (without key h) gs)) + times key h gs ≡ length (rows gs)
 rows-without h [] = refl
@@ -227,11 +227,11 @@ module _ (h n : ℕ) (gs : List (List Handle)) (s : StandsAt h n gs) (are : AreG
   back_filled : AllFilled s.back
   back_filled = AllFilled-tail s.group s.back (AllFilled-right s.front (s.group ∷ s.back) (subst AllFilled s.whole are.filled))
 
-  take_out_parts : take_out key h gs ≡ s.front ++ (filled (without key h s.group ∷ map (without key h) s.back))
+  take_out_parts : take_out key h gs ≡ s.front ++ (filled_groups (without key h s.group ∷ map (without key h) s.back))
   take_out_parts =
-      ap (take_out key h) s.whole ∙ ap filled (map-append (without key h) s.front (s.group ∷ s.back))
+      ap (take_out key h) s.whole ∙ ap filled_groups (map-append (without key h) s.front (s.group ∷ s.back))
       ∙ filter-append (λ g. ltb 0 (length g)) (map (without key h) s.front) (map (without key h) (s.group ∷ s.back))
-      ∙ ap (λ l. l ++ filled (without key h s.group ∷ map (without key h) s.back)) (take_out_same h s.front s.before front_filled)
+      ∙ ap (λ l. l ++ filled_groups (without key h s.group ∷ map (without key h) s.back)) (take_out_same h s.front s.before front_filled)
 
   pub take_out_some : 0 < length (without key h s.group) → take_out key h gs ≡ s.front ++ without key h s.group ∷ s.back
   take_out_some l = take_out_parts ∙ ap (λ x. s.front ++ x) (filled-group (without key h s.group) (map (without key h) s.back) l ∙ ap (λ x. without key h s.group ∷ x) (take_out_same h s.back s.after back_filled))
@@ -262,7 +262,7 @@ module _ (h n : ℕ) (gs : List (List Handle)) (s : StandsAt h n gs) (are : AreG
       ap (pick key h) s.whole ∙ flat_map-append (only key h) s.front (s.group ∷ s.back)
       ∙ rw (pick_none h s.front s.before, pick_none h s.back s.after) (append-nil (only key h s.group))
 
-  unmerge_parts : unmerge key h gs ≡ s.front ++ (filled (without key h s.group ∷ only key h s.group ∷ []) ++ s.back)
+  unmerge_parts : unmerge key h gs ≡ s.front ++ (filled_groups (without key h s.group ∷ only key h s.group ∷ []) ++ s.back)
   unmerge_parts =
       ap (unmerge key h) s.whole ∙ flat_map-append (part key h) s.front (s.group ∷ s.back)
       ∙ rw (unmerge_same h s.front s.before, s.here, unmerge_same h s.back s.after) refl
@@ -287,7 +287,7 @@ only_alone h (x ∷ xs) e = by (eqb x.0 h.0) refl e (only_alone h xs)
 
 -- ---- what is kept
 
-AllFilled-filled : (gs : List (List Handle)) → AllFilled (filled gs)
+AllFilled-filled : (gs : List (List Handle)) → AllFilled (filled_groups gs)
 AllFilled-filled [] = tt
 AllFilled-filled ([] ∷ gs) = AllFilled-filled gs
 AllFilled-filled ((x ∷ xs) ∷ gs) = rw (filled-some x xs gs) (AllFilled-filled gs)
@@ -352,7 +352,7 @@ unmerged_are h n gs are s rest =
       few = (let f = are.few in omega (arith, rows-unmerged h n gs are s rest));
     }
 
--- a buffer that is not alone leaves others behind
+-- a buffer that is not alone leaves others after
 pub leaves_others : (h n : ℕ) (gs : List (List Handle)) → (s : StandsAt h n gs) → list_any (λ g. in_group key h g && eqb (length g) 1) gs ≡ false → 0 < length (without key h s.group)
 leaves_others h n gs s e =
     let p : List Handle → Bool = λ g. in_group key h g && eqb (length g) 1 in
@@ -420,18 +420,18 @@ module _ (h n : ℕ) (gs : List (List Handle)) (are : AreGroups gs) (e : place k
   pub appended_there : (new w : List Handle) → w ≡ at.group ++ new → set gs n w ≡ append_to key h new gs
   appended_there new w is = set_there w ∙ rw is (sym (append_to_at h n gs at are new))
 
--- the new group stands right behind
+-- the new group is right after
 module _ (h : Handle) (n : ℕ) (gs : List (List Handle)) (are : AreGroups gs) (e : place key h.0 gs ≡ Some n) where
   pub unmerged_there : (w : List Handle) → w ≡ without key h.0 (at h.0 n gs are e).group → 0 < length w → insert (set gs n w) (n + 1) (h ∷ []) ≡ unmerge key h.0 gs
   unmerged_there w is l =
       let s = at h.0 n gs are e in
-      ap (λ v. insert v (n + 1) (h ∷ [])) (set_there h.0 n gs are e w) ∙ put_behind s.front s.back w (h ∷ []) n s.long
+      ap (λ v. insert v (n + 1) (h ∷ [])) (set_there h.0 n gs are e w) ∙ put_after s.front s.back w (h ∷ []) n s.long
       ∙ rw is (sym (unmerge_at h.0 n gs s are (h ∷ []) (only_alone h s.group s.alone) (omega arith) (subst (λ v. 0 < length v) is l)))
 
   pub unmerged_length : (w : List Handle) → length (insert (set gs n w) (n + 1) (h ∷ [])) ≡ length gs + 1
   unmerged_length w =
       let s = at h.0 n gs are e in
-      omega (arith, ap (λ v. length (insert v (n + 1) (h ∷ []))) (set_there h.0 n gs are e w), ap length (put_behind s.front s.back w (h ∷ []) n s.long), length-append s.front (w ∷ (h ∷ []) ∷ s.back), long_there h.0 n gs are e)
+      omega (arith, ap (λ v. length (insert v (n + 1) (h ∷ []))) (set_there h.0 n gs are e w), ap length (put_after s.front s.back w (h ∷ []) n s.long), length-append s.front (w ∷ (h ∷ []) ∷ s.back), long_there h.0 n gs are e)
 
 -- a group has no more handles than there are
 pub group-le-rows : (h n : ℕ) (gs : List (List Handle)) → (s : StandsAt h n gs) → length s.group ≤ length (rows gs)

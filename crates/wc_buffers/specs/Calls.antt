@@ -10,35 +10,35 @@ use Rattle.wc_buffers.specs.declared.refused.BufferRefused.TheVariants.{NoBuffer
 use Rattle.wc_buffers.specs.Groups.{rows, has, place, row_of, update, take_out, merge, move_group, unmerge, in_group}
 use Rattle.wc_buffers.specs.Vars.{cut_to, var, var_of, set_var, remove_var, set_fixed, vars_of}
 
-abbrev pub Groups : Type 0
-Groups = List (List BufferEntry)
+abbrev pub EntryGroups : Type 0
+EntryGroups = List (List BufferEntry)
 
 abbrev pub handle_of : BufferEntry → ℕ
 handle_of e = e.row.handle.0
 
-abbrev pub is_there : Handle → Groups → Bool
+abbrev pub is_there : Handle → EntryGroups → Bool
 is_there h gs = has handle_of h.0 gs
 
--- what stands of a buffer
-abbrev pub entry_of : Handle → Groups → Option BufferEntry
+-- what is of a buffer
+abbrev pub entry_of : Handle → EntryGroups → Option BufferEntry
 entry_of h gs = row_of handle_of h.0 gs
 
-abbrev pub buffer_of : Handle → Groups → Option BufferRow
+abbrev pub buffer_of : Handle → EntryGroups → Option BufferRow
 buffer_of h gs = option_map (λ (e : BufferEntry). e.row) (entry_of h gs)
 
-abbrev pub vars_at : Handle → Groups → Option (List Pair)
+abbrev pub vars_at : Handle → EntryGroups → Option (List Pair)
 vars_at h gs = option_map (λ (e : BufferEntry). e.vars) (entry_of h gs)
 
 -- one plus the place of the group that holds the buffer
-abbrev pub number : Handle → Groups → Option ℕ
+abbrev pub number : Handle → EntryGroups → Option ℕ
 number h gs = option_map (λ n. n + 1) (place handle_of h.0 gs)
 
 -- the first buffer of a full name
 abbrev pub is_named : List ℕ → BufferEntry → Bool
 is_named name e = bytes_eq name e.row.full_name
 
-abbrev pub named : List ℕ → Groups → Option Handle
-named name gs = option_map (λ (e : BufferEntry). e.row.handle) (find (is_named name) (rows gs))
+abbrev pub handle_of_name : List ℕ → EntryGroups → Option Handle
+handle_of_name name gs = option_map (λ (e : BufferEntry). e.row.handle) (find (is_named name) (rows gs))
 
 -- whether a buffer other than this one has the full name
 abbrev pub other_named : List ℕ → Handle → BufferEntry → Bool
@@ -47,8 +47,8 @@ other_named name h e = is_named name e && not (handle_of e == h.0)
 -- ---- refusals
 
 -- what a call that takes memory answers, where memory is found
-abbrev pub Answers : Option BufferRefused → Option BufferRefused → Type 0
-Answers due answer = answer ≢ Some NoMemory → answer ≡ due
+abbrev pub AnswersRefusal : Option BufferRefused → Option BufferRefused → Type 0
+AnswersRefusal due answer = answer ≢ Some NoMemory → answer ≡ due
 
 -- a reason where it holds, and the first of several
 abbrev pub when : Bool → BufferRefused → Option BufferRefused
@@ -58,7 +58,7 @@ abbrev pub or_else : Option BufferRefused → Option BufferRefused → Option Bu
 or_else None b = b
 or_else (Some a) b = Some a
 
-abbrev pub no_buffer : Handle → Groups → Option BufferRefused
+abbrev pub no_buffer : Handle → EntryGroups → Option BufferRefused
 no_buffer h gs = when (not (is_there h gs)) (NoBuffer h)
 
 -- empty, or above its limit
@@ -81,8 +81,8 @@ bad_var_names vars = option_map (λ (v : Pair). BadName (length v.name)) (find (
 abbrev pub fixed_vars : List Pair → Option BufferRefused
 fixed_vars vars = option_map (λ (v : Pair). FixedVar v.name) (find (λ (v : Pair). is_fixed v.name) vars)
 
-abbrev pub name_taken : List ℕ → Handle → Groups → Option BufferRefused
-name_taken name h gs = when (list_any (other_named name h) (rows gs)) (NameTaken name)
+abbrev pub refusal_of_name : List ℕ → Handle → EntryGroups → Option BufferRefused
+refusal_of_name name h gs = when (list_any (other_named name h) (rows gs)) (NameTaken name)
 
 -- what of a new buffer is refused whatever is there
 unfoldable pub bad_names : BufferRow → List Pair → Option BufferRefused
@@ -92,50 +92,50 @@ bad_names row vars =
     (or_else (bad_var_names vars)
     (fixed_vars vars)))
 
-unfoldable pub no_room : Groups → Option BufferRefused
+unfoldable pub no_room : EntryGroups → Option BufferRefused
 no_room gs = when (nat_le 256 (length (rows gs))) (TooMany 256)
 
 unfoldable pub too_many_vars : List ℕ → List Pair → Option BufferRefused
 too_many_vars full_name vars = when (nat_lt 64 (length (vars_of full_name vars))) (TooMany 64)
 
 -- all but the number of its variables
-unfoldable pub add_refusal_so_far : BufferRow → List Pair → Groups → Option BufferRefused
-add_refusal_so_far row vars gs = or_else (bad_names row vars) (or_else (name_taken row.full_name row.handle gs) (no_room gs))
+unfoldable pub add_refusal_so_far : BufferRow → List Pair → EntryGroups → Option BufferRefused
+add_refusal_so_far row vars gs = or_else (bad_names row vars) (or_else (refusal_of_name row.full_name row.handle gs) (no_room gs))
 
-unfoldable pub add_refusal : BufferRow → List Pair → Groups → Option BufferRefused
+unfoldable pub add_refusal : BufferRow → List Pair → EntryGroups → Option BufferRefused
 add_refusal row vars gs = or_else (add_refusal_so_far row vars gs) (too_many_vars row.full_name vars)
 
-unfoldable pub close_refusal : Handle → Groups → Option BufferRefused
+unfoldable pub close_refusal : Handle → EntryGroups → Option BufferRefused
 close_refusal h gs = or_else (no_buffer h gs) (when (h.0 == 1) IsCore)
 
-unfoldable pub move_refusal : Handle → ℕ → Groups → Option BufferRefused
+unfoldable pub move_refusal : Handle → ℕ → EntryGroups → Option BufferRefused
 move_refusal h n gs = or_else (no_buffer h gs) (when ((n == 0) || nat_lt (length gs) n) (BadNumber n))
 
--- whether the two stand in one group
-abbrev pub are_together : Handle → Handle → Groups → Bool
+-- whether the two are in one group
+abbrev pub are_together : Handle → Handle → EntryGroups → Bool
 are_together h into gs = list_any (λ g. in_group handle_of h.0 g && in_group handle_of into.0 g) gs
 
 -- the number where there is one
 abbrev pub same_group : Option ℕ → Option BufferRefused
 same_group n = option_map SameGroup n
 
-unfoldable pub merge_refusal : Handle → Handle → Groups → Option BufferRefused
+unfoldable pub merge_refusal : Handle → Handle → EntryGroups → Option BufferRefused
 merge_refusal h into gs =
     or_else (no_buffer h gs)
     (or_else (no_buffer into gs)
     (if are_together h into gs then same_group (number h gs) else None))
 
 -- whether the buffer is the only one of its group
-abbrev pub is_alone : Handle → Groups → Bool
+abbrev pub is_alone : Handle → EntryGroups → Bool
 is_alone h gs = list_any (λ g. in_group handle_of h.0 g && (length g == 1)) gs
 
-unfoldable pub unmerge_refusal : Handle → Groups → Option BufferRefused
+unfoldable pub unmerge_refusal : Handle → EntryGroups → Option BufferRefused
 unmerge_refusal h gs = or_else (no_buffer h gs) (when (is_alone h gs) NotMerged)
 
-unfoldable pub rename_refusal : Handle → List ℕ → Groups → Option BufferRefused
-rename_refusal h name gs = or_else (no_buffer h gs) (or_else (bad_name 256 name) (name_taken name h gs))
+unfoldable pub rename_refusal : Handle → List ℕ → EntryGroups → Option BufferRefused
+rename_refusal h name gs = or_else (no_buffer h gs) (or_else (bad_name 256 name) (refusal_of_name name h gs))
 
-unfoldable pub short_name_refusal : Handle → List ℕ → Groups → Option BufferRefused
+unfoldable pub short_name_refusal : Handle → List ℕ → EntryGroups → Option BufferRefused
 short_name_refusal h name gs = or_else (no_buffer h gs) (bad_name 128 name)
 
 -- whether a buffer has no such variable, and whether it has as many as are allowed
@@ -148,19 +148,19 @@ is_full None = true
 is_full (Some e) = nat_le 64 (length e.vars)
 
 -- what is refused of any variable that is set or removed
-unfoldable pub var_refusal : Handle → List ℕ → Groups → Option BufferRefused
+unfoldable pub var_refusal : Handle → List ℕ → EntryGroups → Option BufferRefused
 var_refusal h name gs = or_else (no_buffer h gs) (or_else (bad_name 64 name) (fixed_var name))
 
-unfoldable pub set_var_refusal : Handle → List ℕ → Groups → Option BufferRefused
+unfoldable pub set_var_refusal : Handle → List ℕ → EntryGroups → Option BufferRefused
 set_var_refusal h name gs = or_else (var_refusal h name gs) (when (lacks_var name (entry_of h gs) && is_full (entry_of h gs)) (TooMany 64))
 
-unfoldable pub remove_var_refusal : Handle → List ℕ → Groups → Option BufferRefused
+unfoldable pub remove_var_refusal : Handle → List ℕ → EntryGroups → Option BufferRefused
 remove_var_refusal h name gs = or_else (var_refusal h name gs) (when (lacks_var name (entry_of h gs)) (NoVar name))
 
 -- ---- the groups after each call
 
-abbrev pub opened : BufferRow → List Pair → BufferEntry
-opened row vars = record {
+abbrev pub new_entry : BufferRow → List Pair → BufferEntry
+new_entry row vars = record {
   row = record {
     handle = row.handle;
     own_lines = row.own_lines;
@@ -174,20 +174,20 @@ opened row vars = record {
 }
 
 -- a group of its own at the end
-abbrev pub added : BufferRow → List Pair → Groups → Groups
-added row vars gs = gs ++ (opened row vars ∷ []) ∷ []
+abbrev pub with_buffer : BufferRow → List Pair → EntryGroups → EntryGroups
+with_buffer row vars gs = gs ++ (new_entry row vars ∷ []) ∷ []
 
-abbrev pub closed : Handle → Groups → Groups
-closed h gs = take_out handle_of h.0 gs
+abbrev pub without_buffer : Handle → EntryGroups → EntryGroups
+without_buffer h gs = take_out handle_of h.0 gs
 
-abbrev pub moved : Handle → ℕ → Groups → Groups
-moved h n gs = move_group handle_of h.0 (n - 1) gs
+abbrev pub move_group_to : Handle → ℕ → EntryGroups → EntryGroups
+move_group_to h n gs = move_group handle_of h.0 (n - 1) gs
 
-abbrev pub merged : Handle → Handle → Groups → Groups
-merged h into gs = merge handle_of h.0 into.0 gs
+abbrev pub merge_groups : Handle → Handle → EntryGroups → EntryGroups
+merge_groups h into gs = merge handle_of h.0 into.0 gs
 
-abbrev pub unmerged : Handle → Groups → Groups
-unmerged h gs = unmerge handle_of h.0 gs
+abbrev pub unmerge_group : Handle → EntryGroups → EntryGroups
+unmerge_group h gs = unmerge handle_of h.0 gs
 
 -- a buffer with another row or other variables
 abbrev pub with_hidden : Bool → BufferEntry → BufferEntry
@@ -208,5 +208,5 @@ with_var name value e = record { row = e.row; vars = set_var (var name value) e.
 abbrev pub without_var : List ℕ → BufferEntry → BufferEntry
 without_var name e = record { row = e.row; vars = remove_var name e.vars }
 
-abbrev pub changed : Handle → (BufferEntry → BufferEntry) → Groups → Groups
-changed h f gs = update handle_of h.0 f gs
+abbrev pub with_entry : Handle → (BufferEntry → BufferEntry) → EntryGroups → EntryGroups
+with_entry h f gs = update handle_of h.0 f gs

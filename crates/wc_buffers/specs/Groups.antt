@@ -3,8 +3,8 @@ use Rattle.std.specs.Prelude.{ℕ, ◌+◌, Bool, not, ◌==◌, nat_lt, Option,
 use Rattle.std.specs.List.{list_any, flat_map}
 
 -- the groups that have rows
-abbrev pub filled : {A : Type 0} → List (List A) → List (List A)
-filled gs = filter (λ g. nat_lt 0 (length g)) gs
+abbrev pub filled_groups : {A : Type 0} → List (List A) → List (List A)
+filled_groups gs = filter (λ g. nat_lt 0 (length g)) gs
 
 -- no group is empty
 abbrev pub AllFilled : {A : Type 0} → List (List A) → Type 0
@@ -32,7 +32,7 @@ module _ {A : Type 0} (key : A → ℕ) where
   abbrev pub place : ℕ → List (List A) → Option ℕ
   place h gs = position (in_group h) gs
 
-  -- how often the key stands
+  -- how often the key is
   abbrev pub times_in : ℕ → List A → ℕ
   times_in h [] = 0
   times_in h (x ∷ xs) = (if key x == h then 1 else 0) + times_in h xs
@@ -54,21 +54,21 @@ module _ {A : Type 0} (key : A → ℕ) where
 
   -- the row of the key taken out, and its group where that is left empty
   abbrev pub take_out : ℕ → List (List A) → List (List A)
-  take_out h gs = filled (map (without h) gs)
+  take_out h gs = filled_groups (map (without h) gs)
 
   -- the row of the key alone
   abbrev pub pick : ℕ → List (List A) → List A
   pick h gs = flat_map (only h) gs
 
-  -- rows behind those of the key's group
+  -- rows after those of the key's group
   abbrev pub append_to : ℕ → List A → List (List A) → List (List A)
   append_to h new gs = map (λ g. if in_group h g then g ++ new else g) gs
 
-  -- the row of the first key taken out and put behind the rows of the second key's group
+  -- the row of the first key taken out and put after the rows of the second key's group
   abbrev pub merge : ℕ → ℕ → List (List A) → List (List A)
   merge h into gs = append_to into (pick h gs) (take_out h gs)
 
-  -- the group of the key, so that n groups stand before it
+  -- the group of the key, so that n groups are before it
   abbrev pub others : ℕ → List (List A) → List (List A)
   others h gs = filter (λ g. not (in_group h g)) gs
 
@@ -78,9 +78,9 @@ module _ {A : Type 0} (key : A → ℕ) where
   abbrev pub move_group : ℕ → ℕ → List (List A) → List (List A)
   move_group h n gs = take n (others h gs) ++ (own h gs ++ drop n (others h gs))
 
-  -- the row of the key as a group behind its old one, which goes where it is left empty
+  -- the row of the key as a group after its old one, which goes where it is left empty
   abbrev pub part : ℕ → List A → List (List A)
-  part h g = if in_group h g then filled (without h g ∷ only h g ∷ []) else g ∷ []
+  part h g = if in_group h g then filled_groups (without h g ∷ only h g ∷ []) else g ∷ []
 
   abbrev pub unmerge : ℕ → List (List A) → List (List A)
   unmerge h gs = flat_map (part h) gs

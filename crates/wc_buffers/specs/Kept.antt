@@ -8,7 +8,7 @@ use Rattle.wc_text.specs.declared.names.Handle.{Handle}
 use Rattle.wc_text.specs.declared.names.Pair.{Pair}
 use Rattle.wc_buffers.specs.declared.row.BufferRow.{BufferRow}
 use Rattle.wc_buffers.specs.declared.entry.BufferEntry.{BufferEntry}
-use Rattle.wc_buffers.specs.Calls.{handle_of, entry_of, named}
+use Rattle.wc_buffers.specs.Calls.{handle_of, entry_of, handle_of_name}
 use Rattle.wc_buffers.specs.Groups.{rows, has, times, AllFilled}
 use Rattle.wc_buffers.specs.Table.{key}
 use Rattle.wc_buffers.specs.Vars.{plugin_var, name_var}
@@ -23,22 +23,22 @@ abbrev pub AreVars : List Pair → Type 0
 AreVars [] = Unit {0}
 AreVars (v ∷ vs) = IsVar v × AreVars vs
 
-pub record HasText (r : BufferRow) : Type 0 where
+pub record HasUtf8Row (r : BufferRow) : Type 0 where
   pub full_name : IsUtf8 r.full_name
   pub short_name : IsUtf8 r.short_name
   pub title : IsUtf8 r.title
 
 pub record IsBuffer (e : BufferEntry) : Type 0 where
-  pub text : HasText e.row
+  pub text : HasUtf8Row e.row
   pub full_name : (0 < length e.row.full_name) × (length e.row.full_name ≤ 256)
   pub short_name : (0 < length e.row.short_name) × (length e.row.short_name ≤ 128)
   pub title : length e.row.title ≤ 1024
   pub vars : AreVars e.vars
   pub few : length e.vars ≤ 64
-  -- the variables `plugin` and `name` stand first
+  -- the variables `plugin` and `name` are first
   pub first : take 2 e.vars ≡ plugin_var e.row.full_name ∷ name_var e.row.full_name ∷ []
 
--- what stands under a handle, and under the bytes of a name
+-- what is under a handle, and under the bytes of a name
 abbrev pub at_handle : {X S : Type 0} → HashMap ℕ X S → ℕ → Option X
 at_handle m h = get_by (nat_eq h) m
 
@@ -56,10 +56,10 @@ abbrev pub entry_at : {S : Type 0} → HashMap ℕ BufferEntry S → Handle → 
 entry_at entries h = unwrap_or (at_handle entries h.0) (blank h)
 
 -- the groups of buffers that these groups of handles stand for
-abbrev pub shown : {S : Type 0} → HashMap ℕ BufferEntry S → List (List Handle) → List (List BufferEntry)
-shown entries gs = map (map (entry_at entries)) gs
+abbrev pub groups_of_handles : {S : Type 0} → HashMap ℕ BufferEntry S → List (List Handle) → List (List BufferEntry)
+groups_of_handles entries gs = map (map (entry_at entries)) gs
 
-pub record IsKept {S T : Type 0} (gs : List (List Handle)) (entries : HashMap ℕ BufferEntry S) (names : HashMap (Vec ℕ Global) Handle T) : Type 0 where
+pub record AreBuffersKept {S T : Type 0} (gs : List (List Handle)) (entries : HashMap ℕ BufferEntry S) (names : HashMap (Vec ℕ Global) Handle T) : Type 0 where
   -- each handle of the groups has a buffer, and no other
   pub stored : (h : ℕ) → is_some (at_handle entries h) ≡ has key h gs
   pub keyed : (h : ℕ) (e : BufferEntry) → at_handle entries h ≡ Some e → e.row.handle.0 ≡ h
@@ -76,11 +76,11 @@ pub record AreBuffers (gs : List (List BufferEntry)) : Type 0 where
   pub few : length (rows gs) ≤ 256
   pub never_null : has handle_of 0 gs ≡ false
   pub fit : (h : Handle) (e : BufferEntry) → entry_of h gs ≡ Some e → IsBuffer e
-  pub names : (h : Handle) (e : BufferEntry) → entry_of h gs ≡ Some e → named e.row.full_name gs ≡ Some h
+  pub names : (h : Handle) (e : BufferEntry) → entry_of h gs ≡ Some e → handle_of_name e.row.full_name gs ≡ Some h
 
 -- the buffer of a handle changed by f, and the others as they were
-abbrev pub IsChangedAt : {S T : Type 0} → ℕ → (BufferEntry → BufferEntry) → HashMap ℕ BufferEntry S → HashMap ℕ BufferEntry T → Type 0
-IsChangedAt h f old new = (q : ℕ) → at_handle new q ≡ (if nat_eq h q then option_map f (at_handle old q) else at_handle old q)
+abbrev pub IsEntryChanged : {S T : Type 0} → ℕ → (BufferEntry → BufferEntry) → HashMap ℕ BufferEntry S → HashMap ℕ BufferEntry T → Type 0
+IsEntryChanged h f old new = (q : ℕ) → at_handle new q ≡ (if nat_eq h q then option_map f (at_handle old q) else at_handle old q)
 
 -- the handles of the buffers
 abbrev pub handles : List (List BufferEntry) → List (List Handle)

@@ -19,13 +19,13 @@ pub record AreGroups (gs : List (List Handle)) : Type 0 where
   pub few : length (rows gs) ≤ 256
 
 -- 257 groups are there or spare
-pub record IsStored (groups spare : Vec (List Handle) Global) : Type 0 where
+pub record IsGroupsStored (groups spare : Vec (List Handle) Global) : Type 0 where
   pub groups_are : AreGroups groups.items
   pub emptied : AllEmpty spare.items
   pub shared : length groups.items + length spare.items ≡ 257
   pub room : 257 ≤ vec_capacity groups
   pub spare_room : 257 ≤ vec_capacity spare
 
-pub record IsTable (groups spare : Vec (List Handle) Global) (count : ℕ) : Type 0 where
-  pub stored : IsStored groups spare
+pub record IsGroupTable (groups spare : Vec (List Handle) Global) (count : ℕ) : Type 0 where
+  pub stored : IsGroupsStored groups spare
   pub counted : count ≡ length (rows groups.items)

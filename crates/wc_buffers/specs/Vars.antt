@@ -33,8 +33,8 @@ abbrev pub remove_var : List ℕ → List Pair → List Pair
 remove_var name [] = []
 remove_var name (v ∷ vs) = if bytes_eq name v.name then vs else v ∷ remove_var name vs
 
--- The two variables that every buffer has first: what stands before the first dot of its full name,
--- or all of it, and what stands behind that dot.
+-- The two variables that every buffer has first: what is before the first dot of its full name,
+-- or all of it, and what comes after that dot.
 abbrev pub plugin_var : List ℕ → Pair
 plugin_var full_name = pair (codes "plugin") (before_first (λ b. b == 46) full_name)
 

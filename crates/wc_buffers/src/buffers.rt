@@ -1,5 +1,5 @@
 ghost use Rattle.std.specs.Prelude.{◌≡◌, [], map, length, IfOk, option_copied};
-ghost use Rattle.wc_buffers.specs.Calls.{is_there, buffer_of, vars_at, entry_of, number, named};
+ghost use Rattle.wc_buffers.specs.Calls.{is_there, buffer_of, vars_at, entry_of, number, handle_of_name};
 ghost use Rattle.wc_buffers.specs.Groups.{rows};
 ghost use Rattle.wc_buffers.specs.Kept.{AreBuffers, handles};
 
@@ -30,13 +30,13 @@ pub struct Buffers {
 impl Model for Buffers {
     ghost use Rattle.std.specs.Prelude.{List};
     ghost use Rattle.wc_buffers.specs.declared.entry.BufferEntry.{BufferEntry};
-    ghost use Rattle.wc_buffers.specs.Kept.{shown, IsKept};
+    ghost use Rattle.wc_buffers.specs.Kept.{groups_of_handles, AreBuffersKept};
 
     ghost Value = { List (List BufferEntry) };
 
-    ghost view = { λ a. shown a.entries a.table };
+    ghost view = { λ a. groups_of_handles a.entries a.table };
 
-    ghost invariant = { λ a. IsKept a.table a.entries a.names };
+    ghost invariant = { λ a. AreBuffersKept a.table a.entries a.names };
 }
 
 impl Buffers {
@@ -66,7 +66,7 @@ impl Buffers {
 
     /// The buffer of a full name. None exactly where no buffer has it.
     pub fn find(&self, full_name: &[u8]) -> Option<Handle>
-        ensures { result ≡ named full_name.now self.now }
+        ensures { result ≡ handle_of_name full_name.now self.now }
     {
         match self.names.get(full_name) {
             Some(h) => Some(*h),

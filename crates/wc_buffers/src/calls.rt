@@ -1,8 +1,8 @@
 ghost use Rattle.std.specs.Prelude.{◌≡◌, ◌≢◌, ◌<◌, None, Some, OnOk, OnErr, IfOk, IfErr, All, false, true};
 ghost use Rattle.std.specs.Str.{IsUtf8};
-ghost use Rattle.wc_buffers.specs.Calls.{is_there, buffer_of, entry_of, opened, added, closed, moved, merged, unmerged, changed, with_hidden, with_full_name, with_short_name, with_title, with_var, without_var, lacks_var, no_buffer, add_refusal, close_refusal, move_refusal, merge_refusal, unmerge_refusal, rename_refusal, short_name_refusal, set_var_refusal, remove_var_refusal};
+ghost use Rattle.wc_buffers.specs.Calls.{is_there, buffer_of, entry_of, new_entry, with_buffer, without_buffer, move_group_to, merge_groups, unmerge_group, with_entry, with_hidden, with_full_name, with_short_name, with_title, with_var, without_var, lacks_var, no_buffer, add_refusal, close_refusal, move_refusal, merge_refusal, unmerge_refusal, rename_refusal, short_name_refusal, set_var_refusal, remove_var_refusal};
 ghost use Rattle.wc_buffers.specs.Entries.{IsText};
-ghost use Rattle.wc_buffers.specs.Kept.{HasText};
+ghost use Rattle.wc_buffers.specs.Kept.{HasUtf8Row};
 ghost use Rattle.wc_buffers.specs.Vars.{cut_to};
 
 use crate::buffers::Buffers;
@@ -16,9 +16,9 @@ use wc_text::{Handle, Items, NoMemory, Pair, Text, cut};
 
 /// A new buffer. Its title is cut at 1024 bytes.
 fn opened(alloc: Global, row: BufferRow, vars: &[Pair]) -> Result<BufferEntry, NoMemory>
-    requires text { HasText row }
+    requires text { HasUtf8Row row }
     requires vars { All IsText vars.now }
-    ensures { IfOk result (λ entry. entry ≡ opened row vars.now) }
+    ensures { IfOk result (λ entry. entry ≡ new_entry row vars.now) }
 {
     let vars = Vars::of(alloc, row.full_name.as_slice(), vars)?;
     let row = cut_title(alloc, row)?;
@@ -38,7 +38,7 @@ fn cut_title(alloc: Global, row: BufferRow) -> Result<BufferRow, NoMemory>
 
 impl Buffers {
     /// Adds a buffer as a group of its own at the end. Its variables begin with `plugin`, the part
-    /// of its full name before the first dot, and `name`, the part behind that dot. Of a repeated
+    /// of its full name before the first dot, and `name`, the part after that dot. Of a repeated
     /// name in the others the last value counts. A refusal changes nothing: `BadName` of a full
     /// name, a short name or a variable, `FixedVar`, `NameTaken`, `TooMany` at 256 buffers and then
     /// at more than 64 variables, in this order.
@@ -50,10 +50,10 @@ impl Buffers {
     ) -> Result<(), BufferRefused>
         requires handle { 0 < row.handle.0 }
         requires absent { is_there row.handle self.old ≡ false }
-        requires text { HasText row }
+        requires text { HasUtf8Row row }
         requires vars { All IsText vars.now }
         ensures accepted { OnOk result (add_refusal row vars.now self.old ≡ None) }
-        ensures after { OnOk result (self.new ≡ added row vars.now self.old) }
+        ensures after { OnOk result (self.new ≡ with_buffer row vars.now self.old) }
         ensures refused { IfErr result (λ e. e ≢ BufferRefused.NoMemory → add_refusal row vars.now self.old ≡ Some e) }
         ensures err { OnErr result (self.new ≡ self.old) }
     {
@@ -75,7 +75,7 @@ impl Buffers {
     pub fn close(&mut self, h: Handle) -> Result<BufferRow, BufferRefused>
         ensures accepted { OnOk result (close_refusal h self.old ≡ None) }
         ensures row { IfOk result (λ row. buffer_of h self.old ≡ Some row) }
-        ensures after { OnOk result (self.new ≡ closed h self.old) }
+        ensures after { OnOk result (self.new ≡ without_buffer h self.old) }
         ensures refused { IfErr result (λ e. close_refusal h self.old ≡ Some e) }
         ensures err { OnErr result (self.new ≡ self.old) }
     {
@@ -90,7 +90,7 @@ impl Buffers {
     /// order.
     pub fn move_to(&mut self, h: Handle, number: u32) -> Result<(), BufferRefused>
         ensures accepted { OnOk result (move_refusal h number self.old ≡ None) }
-        ensures after { OnOk result (self.new ≡ moved h number self.old) }
+        ensures after { OnOk result (self.new ≡ move_group_to h number self.old) }
         ensures refused { IfErr result (λ e. move_refusal h number self.old ≡ Some e) }
         ensures err { OnErr result (self.new ≡ self.old) }
     {
@@ -101,11 +101,11 @@ impl Buffers {
         Ok(())
     }
 
-    /// Takes a buffer out of its group and puts it behind those of another's. It takes no memory. A
+    /// Takes a buffer out of its group and puts it after those of another's. It takes no memory. A
     /// refusal changes nothing: `NoBuffer` of either, `SameGroup`, in this order.
     pub fn merge(&mut self, h: Handle, into: Handle) -> Result<(), BufferRefused>
         ensures accepted { OnOk result (merge_refusal h into self.old ≡ None) }
-        ensures after { OnOk result (self.new ≡ merged h into self.old) }
+        ensures after { OnOk result (self.new ≡ merge_groups h into self.old) }
         ensures refused { IfErr result (λ e. merge_refusal h into self.old ≡ Some e) }
         ensures err { OnErr result (self.new ≡ self.old) }
     {
@@ -116,11 +116,11 @@ impl Buffers {
         Ok(())
     }
 
-    /// Puts a buffer as a new group directly behind its old one. It takes no memory. A refusal
+    /// Puts a buffer as a new group directly after its old one. It takes no memory. A refusal
     /// changes nothing: `NoBuffer`, `NotMerged`, in this order.
     pub fn unmerge(&mut self, h: Handle) -> Result<(), BufferRefused>
         ensures accepted { OnOk result (unmerge_refusal h self.old ≡ None) }
-        ensures after { OnOk result (self.new ≡ unmerged h self.old) }
+        ensures after { OnOk result (self.new ≡ unmerge_group h self.old) }
         ensures refused { IfErr result (λ e. unmerge_refusal h self.old ≡ Some e) }
         ensures err { OnErr result (self.new ≡ self.old) }
     {
@@ -135,7 +135,7 @@ impl Buffers {
     /// `NoBuffer`.
     pub fn hide(&mut self, h: Handle) -> Result<(), BufferRefused>
         ensures accepted { OnOk result (no_buffer h self.old ≡ None) }
-        ensures after { OnOk result (self.new ≡ changed h (with_hidden true) self.old) }
+        ensures after { OnOk result (self.new ≡ with_entry h (with_hidden true) self.old) }
         ensures refused { IfErr result (λ e. no_buffer h self.old ≡ Some e) }
         ensures err { OnErr result (self.new ≡ self.old) }
     {
@@ -146,7 +146,7 @@ impl Buffers {
     /// nothing: `NoBuffer`.
     pub fn unhide(&mut self, h: Handle) -> Result<(), BufferRefused>
         ensures accepted { OnOk result (no_buffer h self.old ≡ None) }
-        ensures after { OnOk result (self.new ≡ changed h (with_hidden false) self.old) }
+        ensures after { OnOk result (self.new ≡ with_entry h (with_hidden false) self.old) }
         ensures refused { IfErr result (λ e. no_buffer h self.old ≡ Some e) }
         ensures err { OnErr result (self.new ≡ self.old) }
     {
@@ -155,7 +155,7 @@ impl Buffers {
 
     fn set_hidden(&mut self, h: Handle, hidden: bool) -> Result<(), BufferRefused>
         ensures accepted { OnOk result (no_buffer h self.old ≡ None) }
-        ensures after { OnOk result (self.new ≡ changed h (with_hidden hidden) self.old) }
+        ensures after { OnOk result (self.new ≡ with_entry h (with_hidden hidden) self.old) }
         ensures refused { IfErr result (λ e. no_buffer h self.old ≡ Some e) }
         ensures err { OnErr result (self.new ≡ self.old) }
     {
@@ -177,7 +177,7 @@ impl Buffers {
     ) -> Result<(), BufferRefused>
         requires { IsUtf8 full_name.now }
         ensures accepted { OnOk result (rename_refusal h full_name.now self.old ≡ None) }
-        ensures after { OnOk result (self.new ≡ changed h (with_full_name full_name.now) self.old) }
+        ensures after { OnOk result (self.new ≡ with_entry h (with_full_name full_name.now) self.old) }
         ensures refused { IfErr result (λ e. e ≢ BufferRefused.NoMemory → rename_refusal h full_name.now self.old ≡ Some e) }
         ensures err { OnErr result (self.new ≡ self.old) }
     {
@@ -198,7 +198,7 @@ impl Buffers {
     ) -> Result<(), BufferRefused>
         requires { IsUtf8 name.now }
         ensures accepted { OnOk result (short_name_refusal h name.now self.old ≡ None) }
-        ensures after { OnOk result (self.new ≡ changed h (with_short_name name.now) self.old) }
+        ensures after { OnOk result (self.new ≡ with_entry h (with_short_name name.now) self.old) }
         ensures refused { IfErr result (λ e. e ≢ BufferRefused.NoMemory → short_name_refusal h name.now self.old ≡ Some e) }
         ensures err { OnErr result (self.new ≡ self.old) }
     {
@@ -215,7 +215,7 @@ impl Buffers {
     pub fn set_title(&mut self, alloc: Global, h: Handle, title: &Text) -> Result<(), BufferRefused>
         requires { IsUtf8 title.now }
         ensures accepted { OnOk result (no_buffer h self.old ≡ None) }
-        ensures after { OnOk result (self.new ≡ changed h (with_title (cut_to 1024 title.now)) self.old) }
+        ensures after { OnOk result (self.new ≡ with_entry h (with_title (cut_to 1024 title.now)) self.old) }
         ensures refused { IfErr result (λ e. e ≢ BufferRefused.NoMemory → no_buffer h self.old ≡ Some e) }
         ensures err { OnErr result (self.new ≡ self.old) }
     {
@@ -241,7 +241,7 @@ impl Buffers {
         requires name { IsUtf8 name.now }
         requires value { IsUtf8 value.now }
         ensures accepted { OnOk result (set_var_refusal h name.now self.old ≡ None) }
-        ensures after { OnOk result (self.new ≡ changed h (with_var name.now value.now) self.old) }
+        ensures after { OnOk result (self.new ≡ with_entry h (with_var name.now value.now) self.old) }
         ensures new { IfOk result (λ new. new ≡ lacks_var name.now (entry_of h self.old)) }
         ensures refused { IfErr result (λ e. e ≢ BufferRefused.NoMemory → set_var_refusal h name.now self.old ≡ Some e) }
         ensures err { OnErr result (self.new ≡ self.old) }
@@ -257,7 +257,7 @@ impl Buffers {
     /// `BadName` where the name is empty or above 64 bytes, `FixedVar`, `NoVar`, in this order.
     pub fn remove_var(&mut self, alloc: Global, h: Handle, name: &Text) -> Result<(), BufferRefused>
         ensures accepted { OnOk result (remove_var_refusal h name.now self.old ≡ None) }
-        ensures after { OnOk result (self.new ≡ changed h (without_var name.now) self.old) }
+        ensures after { OnOk result (self.new ≡ with_entry h (without_var name.now) self.old) }
         ensures refused { IfErr result (λ e. e ≢ BufferRefused.NoMemory → remove_var_refusal h name.now self.old ≡ Some e) }
         ensures err { OnErr result (self.new ≡ self.old) }
     {

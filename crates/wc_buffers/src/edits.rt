@@ -1,7 +1,7 @@
 ghost use Rattle.std.specs.Prelude.{◌≡◌, ◌==◌, ◌<◌, ◌≤◌, ◌-◌, ◌&&◌, ◌++◌, ◌∷◌, [], OnOk, OnErr, IfOk, Some, true, false, length};
 ghost use Rattle.std.specs.List.{list_any};
 ghost use Rattle.std.specs.Str.{IsUtf8};
-ghost use Rattle.wc_buffers.specs.Calls.{is_there, buffer_of, entry_of, closed, moved, merged, unmerged, changed, with_hidden, with_full_name, with_short_name, with_title, with_var, without_var, lacks_var, other_named, are_together, is_alone, is_bad_name, is_fixed, is_full};
+ghost use Rattle.wc_buffers.specs.Calls.{is_there, buffer_of, entry_of, without_buffer, move_group_to, merge_groups, unmerge_group, with_entry, with_hidden, with_full_name, with_short_name, with_title, with_var, without_var, lacks_var, other_named, are_together, is_alone, is_bad_name, is_fixed, is_full};
 ghost use Rattle.wc_buffers.specs.Groups.{rows};
 ghost use Rattle.wc_buffers.specs.Kept.{IsBuffer};
 
@@ -37,7 +37,7 @@ impl Buffers {
     pub(crate) fn take(&mut self, h: Handle) -> BufferRow
         requires { is_there h self.old ≡ true }
         ensures row { buffer_of h self.old ≡ Some result }
-        ensures after { self.new ≡ closed h self.old }
+        ensures after { self.new ≡ without_buffer h self.old }
     {
         let entry = entries::remove(&mut self.entries, h);
         names::remove(&mut self.names, entry.row.full_name.as_slice());
@@ -50,28 +50,28 @@ impl Buffers {
         requires there { is_there h self.old ≡ true }
         requires above { 0 < number }
         requires within { number - 1 < length self.old }
-        ensures { self.new ≡ moved h number self.old }
+        ensures { self.new ≡ move_group_to h number self.old }
     {
         let _ = &self.entries;
         self.table.move_group(h, number as usize - 1);
     }
 
-    /// Takes a buffer out of its group and puts it behind those of another's.
+    /// Takes a buffer out of its group and puts it after those of another's.
     pub(crate) fn append(&mut self, h: Handle, into: Handle)
         requires there { is_there h self.old ≡ true }
         requires target { is_there into self.old ≡ true }
         requires apart { are_together h into self.old ≡ false }
-        ensures { self.new ≡ merged h into self.old }
+        ensures { self.new ≡ merge_groups h into self.old }
     {
         let _ = &self.entries;
         self.table.merge(h, into);
     }
 
-    /// A buffer that has others in its group as a new group behind it.
+    /// A buffer that has others in its group as a new group after it.
     pub(crate) fn part(&mut self, h: Handle)
         requires there { is_there h self.old ≡ true }
         requires merged { is_alone h self.old ≡ false }
-        ensures { self.new ≡ unmerged h self.old }
+        ensures { self.new ≡ unmerge_group h self.old }
     {
         let _ = &self.entries;
         self.table.unmerge(h);
@@ -79,7 +79,7 @@ impl Buffers {
 
     pub(crate) fn put_hidden(&mut self, h: Handle, hidden: bool)
         requires { is_there h self.old ≡ true }
-        ensures { self.new ≡ changed h (with_hidden hidden) self.old }
+        ensures { self.new ≡ with_entry h (with_hidden hidden) self.old }
     {
         entries::set_hidden(&mut self.entries, h, hidden);
     }
@@ -94,7 +94,7 @@ impl Buffers {
         requires fits { is_bad_name 256 name.now ≡ false }
         requires utf8 { IsUtf8 name.now }
         requires free { list_any (other_named name.now h) (rows self.old) ≡ false }
-        ensures ok { OnOk result (self.new ≡ changed h (with_full_name name.now) self.old) }
+        ensures ok { OnOk result (self.new ≡ with_entry h (with_full_name name.now) self.old) }
         ensures err { OnErr result (self.new ≡ self.old) }
     {
         let key = names::key_of(alloc, name.as_slice())?;
@@ -110,7 +110,7 @@ impl Buffers {
         requires there { is_there h self.old ≡ true }
         requires fits { is_bad_name 128 name ≡ false }
         requires utf8 { IsUtf8 name }
-        ensures { self.new ≡ changed h (with_short_name name) self.old }
+        ensures { self.new ≡ with_entry h (with_short_name name) self.old }
     {
         entries::set_short_name(&mut self.entries, h, name);
     }
@@ -119,7 +119,7 @@ impl Buffers {
         requires there { is_there h self.old ≡ true }
         requires fits { length title ≤ 1024 }
         requires utf8 { IsUtf8 title }
-        ensures { self.new ≡ changed h (with_title title) self.old }
+        ensures { self.new ≡ with_entry h (with_title title) self.old }
     {
         entries::set_title(&mut self.entries, h, title);
     }
@@ -137,7 +137,7 @@ impl Buffers {
         requires room { (lacks_var name.now (entry_of h self.old) && is_full (entry_of h self.old)) ≡ false }
         requires utf8 { IsUtf8 name.now }
         requires value { IsUtf8 value.now }
-        ensures ok { OnOk result (self.new ≡ changed h (with_var name.now value.now) self.old) }
+        ensures ok { OnOk result (self.new ≡ with_entry h (with_var name.now value.now) self.old) }
         ensures new { IfOk result (λ new. new ≡ lacks_var name.now (entry_of h self.old)) }
         ensures err { OnErr result (self.new ≡ self.old) }
     {
@@ -148,7 +148,7 @@ impl Buffers {
     pub(crate) fn drop_var(&mut self, h: Handle, name: &[u8])
         requires there { is_there h self.old ≡ true }
         requires own { is_fixed name.now ≡ false }
-        ensures { self.new ≡ changed h (without_var name.now) self.old }
+        ensures { self.new ≡ with_entry h (without_var name.now) self.old }
     {
         entries::remove_var(&mut self.entries, h, name);
     }

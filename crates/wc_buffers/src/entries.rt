@@ -2,7 +2,7 @@ ghost use Rattle.std.specs.Prelude.{◌≡◌, ◌<◌, IsSome, IsSomeAnd, OnOk,
 ghost use Rattle.std.specs.HashMap.{spare};
 ghost use Rattle.std.specs.Str.{IsUtf8};
 ghost use Rattle.wc_buffers.specs.Calls.{with_hidden, with_full_name, with_short_name, with_title, with_var, without_var, lacks_var};
-ghost use Rattle.wc_buffers.specs.Kept.{at_handle, IsChangedAt};
+ghost use Rattle.wc_buffers.specs.Kept.{at_handle, IsEntryChanged};
 
 use crate::entry::BufferEntry;
 use std::alloc::Global;
@@ -46,7 +46,7 @@ pub(crate) fn remove(entries: &mut Entries, h: Handle) -> BufferEntry
 
 pub(crate) fn set_hidden(entries: &mut Entries, h: Handle, hidden: bool)
     requires { IsSome (at_handle entries.old h.0) }
-    ensures { IsChangedAt h.0 (with_hidden hidden) entries.old entries.new }
+    ensures { IsEntryChanged h.0 (with_hidden hidden) entries.old entries.new }
 {
     let Some(entry) = entries.get_mut(&h.0) else {
         unreachable!()
@@ -56,7 +56,7 @@ pub(crate) fn set_hidden(entries: &mut Entries, h: Handle, hidden: bool)
 
 pub(crate) fn set_short_name(entries: &mut Entries, h: Handle, name: Text)
     requires { IsSome (at_handle entries.old h.0) }
-    ensures { IsChangedAt h.0 (with_short_name name) entries.old entries.new }
+    ensures { IsEntryChanged h.0 (with_short_name name) entries.old entries.new }
 {
     let Some(entry) = entries.get_mut(&h.0) else {
         unreachable!()
@@ -66,7 +66,7 @@ pub(crate) fn set_short_name(entries: &mut Entries, h: Handle, name: Text)
 
 pub(crate) fn set_title(entries: &mut Entries, h: Handle, title: Text)
     requires { IsSome (at_handle entries.old h.0) }
-    ensures { IsChangedAt h.0 (with_title title) entries.old entries.new }
+    ensures { IsEntryChanged h.0 (with_title title) entries.old entries.new }
 {
     let Some(entry) = entries.get_mut(&h.0) else {
         unreachable!()
@@ -83,9 +83,9 @@ pub(crate) fn set_full_name(
     name: Text,
 ) -> Result<Text, NoMemory>
     requires { IsSome (at_handle entries.old h.0) }
-    ensures ok { OnOk result (IsChangedAt h.0 (with_full_name name) entries.old entries.new) }
+    ensures ok { OnOk result (IsEntryChanged h.0 (with_full_name name) entries.old entries.new) }
     ensures old { IfOk result (λ old. IsSomeAnd (at_handle entries.old h.0) (λ e. e.row.full_name ≡ old)) }
-    ensures err { OnErr result (IsChangedAt h.0 (λ e. e) entries.old entries.new) }
+    ensures err { OnErr result (IsEntryChanged h.0 (λ e. e) entries.old entries.new) }
 {
     let Some(entry) = entries.get_mut(&h.0) else {
         unreachable!()
@@ -104,9 +104,9 @@ pub(crate) fn set_var(
 ) -> Result<bool, NoMemory>
     requires there { IsSome (at_handle entries.old h.0) }
     requires utf8 { IsUtf8 value.now }
-    ensures ok { OnOk result (IsChangedAt h.0 (with_var name.now value.now) entries.old entries.new) }
+    ensures ok { OnOk result (IsEntryChanged h.0 (with_var name.now value.now) entries.old entries.new) }
     ensures new { IfOk result (λ new. new ≡ lacks_var name.now (at_handle entries.old h.0)) }
-    ensures err { OnErr result (IsChangedAt h.0 (λ e. e) entries.old entries.new) }
+    ensures err { OnErr result (IsEntryChanged h.0 (λ e. e) entries.old entries.new) }
 {
     let Some(entry) = entries.get_mut(&h.0) else {
         unreachable!()
@@ -118,7 +118,7 @@ pub(crate) fn set_var(
 /// Takes a variable of a buffer out.
 pub(crate) fn remove_var(entries: &mut Entries, h: Handle, name: &[u8])
     requires { IsSome (at_handle entries.old h.0) }
-    ensures { IsChangedAt h.0 (without_var name.now) entries.old entries.new }
+    ensures { IsEntryChanged h.0 (without_var name.now) entries.old entries.new }
 {
     let Some(entry) = entries.get_mut(&h.0) else {
         unreachable!()

@@ -53,7 +53,7 @@ impl Group {
         self.handles.iter().any(|other| other.0 == h.0)
     }
 
-    /// Puts a buffer behind the others. It takes no memory.
+    /// Puts a buffer after the others. It takes no memory.
     pub(crate) fn push(&mut self, h: Handle)
         requires { length self.old < 256 }
         ensures { self.new ≡ self.old ++ h ∷ [] }

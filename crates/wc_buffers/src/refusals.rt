@@ -2,7 +2,7 @@ ghost use Rattle.std.specs.Prelude.{◌≡◌, ◌≢◌, length, find, option_c
 ghost use Rattle.wc_text.specs.declared.names.Pair.{Pair};
 ghost use Rattle.std.specs.List.{list_any};
 ghost use Rattle.wc_buffers.specs.Groups.{rows};
-ghost use Rattle.wc_buffers.specs.Calls.{Answers, no_buffer, is_bad_name, bad_name, bad_names, is_fixed, fixed_var, name_taken, other_named, add_refusal_so_far, close_refusal, move_refusal, merge_refusal, unmerge_refusal, rename_refusal, short_name_refusal, var_refusal, set_var_refusal, remove_var_refusal, lacks_var, is_full, no_room, bad_var_names, fixed_vars, are_together, is_alone, entry_of};
+ghost use Rattle.wc_buffers.specs.Calls.{AnswersRefusal, no_buffer, is_bad_name, bad_name, bad_names, is_fixed, fixed_var, refusal_of_name, other_named, add_refusal_so_far, close_refusal, move_refusal, merge_refusal, unmerge_refusal, rename_refusal, short_name_refusal, var_refusal, set_var_refusal, remove_var_refusal, lacks_var, is_full, no_room, bad_var_names, fixed_vars, are_together, is_alone, entry_of};
 
 use crate::buffers::Buffers;
 use crate::group::MOST_BUFFERS;
@@ -59,7 +59,7 @@ fn refused_fixed(alloc: Global, name: &Text) -> BufferRefused
 }
 
 fn fixed_var(alloc: Global, name: &Text) -> Option<BufferRefused>
-    ensures { Answers (fixed_var name.now) result }
+    ensures { AnswersRefusal (fixed_var name.now) result }
 {
     if is_fixed(name.as_slice()) {
         return Some(refused_fixed(alloc, name));
@@ -88,7 +88,7 @@ fn first_fixed(vars: &[Pair]) -> Option<&Pair>
 
 /// The first variable that every buffer has by itself.
 fn fixed_vars(alloc: Global, vars: &[Pair]) -> Option<BufferRefused>
-    ensures { Answers (fixed_vars vars.now) result }
+    ensures { AnswersRefusal (fixed_vars vars.now) result }
 {
     match first_fixed(vars) {
         Some(var) => Some(refused_fixed(alloc, &var.name)),
@@ -99,7 +99,7 @@ fn fixed_vars(alloc: Global, vars: &[Pair]) -> Option<BufferRefused>
 /// The first reason for which a new buffer can't have these names.
 #[tactic(auto, unfolding(crate::specs::Calls::bad_names))]
 fn bad_names(alloc: Global, row: &BufferRow, vars: &[Pair]) -> Option<BufferRefused>
-    ensures { Answers (bad_names row.now vars.now) result }
+    ensures { AnswersRefusal (bad_names row.now vars.now) result }
 {
     if let Some(refused) = bad_name(FULL_NAME_LIMIT, row.full_name.as_slice()) {
         return Some(refused);
@@ -124,7 +124,7 @@ impl Buffers {
     }
 
     fn name_taken(&self, alloc: Global, name: &Text, h: Handle) -> Option<BufferRefused>
-        ensures { Answers (name_taken name.now h self.now) result }
+        ensures { AnswersRefusal (refusal_of_name name.now h self.now) result }
     {
         if self.is_taken(name.as_slice(), h) {
             return match name.copy(alloc) {
@@ -155,7 +155,7 @@ impl Buffers {
         row: &BufferRow,
         vars: &[Pair],
     ) -> Option<BufferRefused>
-        ensures { Answers (add_refusal_so_far row.now vars.now self.now) result }
+        ensures { AnswersRefusal (add_refusal_so_far row.now vars.now self.now) result }
     {
         if let Some(refused) = bad_names(alloc, row, vars) {
             return Some(refused);
@@ -227,7 +227,7 @@ impl Buffers {
     /// Why `rename` would refuse this full name, if it would. None otherwise; nothing changes.
     #[tactic(auto, unfolding(crate::specs::Calls::rename_refusal))]
     pub fn rename_refusal(&self, alloc: Global, h: Handle, name: &Text) -> Option<BufferRefused>
-        ensures { Answers (rename_refusal h name.now self.now) result }
+        ensures { AnswersRefusal (rename_refusal h name.now self.now) result }
     {
         if let Some(refused) = self.no_buffer(h) {
             return Some(refused);
@@ -251,7 +251,7 @@ impl Buffers {
     /// The first reason not to set or remove any variable of this name.
     #[tactic(auto, unfolding(crate::specs::Calls::var_refusal))]
     fn var_refusal(&self, alloc: Global, h: Handle, name: &Text) -> Option<BufferRefused>
-        ensures { Answers (var_refusal h name.now self.now) result }
+        ensures { AnswersRefusal (var_refusal h name.now self.now) result }
     {
         if let Some(refused) = self.no_buffer(h) {
             return Some(refused);
@@ -269,7 +269,7 @@ impl Buffers {
         h: Handle,
         name: &Text,
     ) -> Option<BufferRefused>
-        ensures { Answers (set_var_refusal h name.now self.now) result }
+        ensures { AnswersRefusal (set_var_refusal h name.now self.now) result }
     {
         if let Some(refused) = self.var_refusal(alloc, h, name) {
             return Some(refused);
@@ -289,7 +289,7 @@ impl Buffers {
         h: Handle,
         name: &Text,
     ) -> Option<BufferRefused>
-        ensures { Answers (remove_var_refusal h name.now self.now) result }
+        ensures { AnswersRefusal (remove_var_refusal h name.now self.now) result }
     {
         if let Some(refused) = self.var_refusal(alloc, h, name) {
             return Some(refused);

@@ -21,7 +21,7 @@ pub enum BufferRefused {
     /// The buffer has no such variable.
     #[error("no such variable: {name}")]
     NoVar { name: Text },
-    /// The two buffers stand in one group already.
+    /// The two buffers are in one group already.
     #[error("the same group: {number}")]
     SameGroup { number: u32 },
     /// The buffer is the only one of its group.

@@ -1,7 +1,7 @@
 ghost use Rattle.std.specs.Prelude.{◌≡◌, ℕ, ◌<◌, ◌++◌, ◌∷◌, ◌&&◌, ◌==◌, [], length, true, false, IfOk, option_map, ◌+◌};
 ghost use Rattle.std.specs.List.{list_any};
 ghost use Rattle.wc_buffers.specs.Groups.{rows, has, in_group, place, take_out, append_to, merge, move_group, unmerge};
-ghost use Rattle.wc_buffers.specs.Table.{key, AreGroups, IsStored};
+ghost use Rattle.wc_buffers.specs.Table.{key, AreGroups, IsGroupsStored};
 
 use crate::group::{Group, MOST_BUFFERS};
 use crate::iter::GroupIter;
@@ -9,7 +9,7 @@ use std::alloc::Global;
 use std::marker::Model;
 use wc_text::{Handle, NoMemory};
 
-/// How many groups there is room for: one that is made before another goes stands beside as many
+/// How many groups there is room for: one that is made before another goes is beside as many
 /// groups as there are buffers.
 const MOST_GROUPS: usize = MOST_BUFFERS + 1;
 
@@ -28,13 +28,13 @@ pub(crate) struct GroupTable {
 impl Model for GroupTable {
     ghost use Rattle.std.specs.Prelude.{List};
     ghost use Rattle.wc_text.specs.declared.names.Handle.{Handle};
-    ghost use Rattle.wc_buffers.specs.Table.{IsTable};
+    ghost use Rattle.wc_buffers.specs.Table.{IsGroupTable};
 
     ghost Value = { List (List Handle) };
 
     ghost view = { λ a. a.groups.items };
 
-    ghost invariant = { λ a. IsTable a.groups a.spare a.count };
+    ghost invariant = { λ a. IsGroupTable a.groups a.spare a.count };
 }
 
 impl GroupTable {
@@ -88,7 +88,7 @@ impl GroupTable {
         }
     }
 
-    /// Whether two buffers stand in one group.
+    /// Whether two buffers are in one group.
     pub(crate) fn are_together(&self, h: Handle, into: Handle) -> bool
         ensures { result ≡ list_any (λ g. in_group key h.0 g && in_group key into.0 g) self.now }
     {
@@ -125,7 +125,7 @@ impl GroupTable {
         self.count -= 1;
     }
 
-    /// The group of a buffer, so that this many groups stand before it.
+    /// The group of a buffer, so that this many groups are before it.
     pub(crate) fn move_group(&mut self, h: Handle, before: usize)
         requires there { has key h.0 self.old ≡ true }
         requires within { before < length self.old }
@@ -134,7 +134,7 @@ impl GroupTable {
         move_group(&mut self.groups, &mut self.spare, h, before);
     }
 
-    /// Takes a buffer out of its group and puts it behind those of another's.
+    /// Takes a buffer out of its group and puts it after those of another's.
     pub(crate) fn merge(&mut self, h: Handle, into: Handle)
         requires there { has key h.0 self.old ≡ true }
         requires target { has key into.0 self.old ≡ true }
@@ -146,7 +146,7 @@ impl GroupTable {
         append(&mut self.groups, &mut self.spare, into, h);
     }
 
-    /// A buffer that has others in its group as a new group behind it.
+    /// A buffer that has others in its group as a new group after it.
     pub(crate) fn unmerge(&mut self, h: Handle)
         requires there { has key h.0 self.old ≡ true }
         requires merged { list_any (λ g. in_group key h.0 g && (length g == 1)) self.old ≡ false }
@@ -164,10 +164,10 @@ fn place_of(groups: &[Group], h: Handle) -> Option<usize>
 }
 
 fn add(groups: &mut Vec<Group>, spare: &mut Vec<Group>, h: Handle)
-    requires stored { IsStored groups.old spare.old }
+    requires stored { IsGroupsStored groups.old spare.old }
     requires room { length (rows groups.old.items) < 256 }
     requires absent { has key h.0 groups.old.items ≡ false }
-    ensures stored { IsStored groups.new spare.new }
+    ensures stored { IsGroupsStored groups.new spare.new }
     ensures added { groups.new.items ≡ groups.old.items ++ (h ∷ []) ∷ [] }
 {
     let Some(mut group) = spare.pop() else {
@@ -178,9 +178,9 @@ fn add(groups: &mut Vec<Group>, spare: &mut Vec<Group>, h: Handle)
 }
 
 fn remove(groups: &mut Vec<Group>, spare: &mut Vec<Group>, h: Handle)
-    requires stored { IsStored groups.old spare.old }
+    requires stored { IsGroupsStored groups.old spare.old }
     requires there { has key h.0 groups.old.items ≡ true }
-    ensures stored { IsStored groups.new spare.new }
+    ensures stored { IsGroupsStored groups.new spare.new }
     ensures removed { groups.new.items ≡ take_out key h.0 groups.old.items }
 {
     let Some(place) = place_of(groups.as_slice(), h) else {
@@ -195,10 +195,10 @@ fn remove(groups: &mut Vec<Group>, spare: &mut Vec<Group>, h: Handle)
 }
 
 fn move_group(groups: &mut Vec<Group>, spare: &mut Vec<Group>, h: Handle, before: usize)
-    requires stored { IsStored groups.old spare.old }
+    requires stored { IsGroupsStored groups.old spare.old }
     requires there { has key h.0 groups.old.items ≡ true }
     requires within { before < length groups.old.items }
-    ensures stored { IsStored groups.new spare.new }
+    ensures stored { IsGroupsStored groups.new spare.new }
     ensures moved { groups.new.items ≡ move_group key h.0 before groups.old.items }
 {
     let Some(place) = place_of(groups.as_slice(), h) else {
@@ -210,13 +210,13 @@ fn move_group(groups: &mut Vec<Group>, spare: &mut Vec<Group>, h: Handle, before
     };
 }
 
-/// Puts a buffer that is not there behind those of another's group.
+/// Puts a buffer that is not there after those of another's group.
 fn append(groups: &mut Vec<Group>, spare: &mut Vec<Group>, into: Handle, h: Handle)
-    requires stored { IsStored groups.old spare.old }
+    requires stored { IsGroupsStored groups.old spare.old }
     requires there { has key into.0 groups.old.items ≡ true }
     requires absent { has key h.0 groups.old.items ≡ false }
     requires room { length (rows groups.old.items) < 256 }
-    ensures stored { IsStored groups.new spare.new }
+    ensures stored { IsGroupsStored groups.new spare.new }
     ensures appended { groups.new.items ≡ append_to key into.0 (h ∷ []) groups.old.items }
 {
     let Some(place) = place_of(groups.as_slice(), into) else {
@@ -227,10 +227,10 @@ fn append(groups: &mut Vec<Group>, spare: &mut Vec<Group>, into: Handle, h: Hand
 }
 
 fn unmerge(groups: &mut Vec<Group>, spare: &mut Vec<Group>, h: Handle)
-    requires stored { IsStored groups.old spare.old }
+    requires stored { IsGroupsStored groups.old spare.old }
     requires there { has key h.0 groups.old.items ≡ true }
     requires merged { list_any (λ g. in_group key h.0 g && (length g == 1)) groups.old.items ≡ false }
-    ensures stored { IsStored groups.new spare.new }
+    ensures stored { IsGroupsStored groups.new spare.new }
     ensures unmerged { groups.new.items ≡ unmerge key h.0 groups.old.items }
 {
     let Some(place) = place_of(groups.as_slice(), h) else {

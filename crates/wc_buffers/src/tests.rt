@@ -1,6 +1,6 @@
 ghost use Rattle.std.specs.Prelude.{◌≡◌, IfOk, All};
 ghost use Rattle.wc_buffers.specs.Entries.{IsText};
-ghost use Rattle.wc_buffers.specs.Kept.{HasText};
+ghost use Rattle.wc_buffers.specs.Kept.{HasUtf8Row};
 
 use crate::{BufferRefused, BufferRow, Buffers};
 use std::alloc::{AllocError, Global};
@@ -9,7 +9,7 @@ use wc_text::{Handle, Items, NoMemory, Pair, Text};
 
 /// A row with this handle and full name, and with a short name.
 fn row(alloc: Global, handle: u64, full_name: &str) -> Result<BufferRow, NoMemory>
-    ensures text { IfOk result HasText }
+    ensures text { IfOk result HasUtf8Row }
     ensures handle { IfOk result (λ row. row.handle.0 ≡ handle) }
 {
     Ok(BufferRow {
@@ -147,7 +147,7 @@ fn four(alloc: Global) -> Result<Buffers, BufferRefused> {
     Ok(buffers)
 }
 
-/// Calls one after the other, each with its answer and the groups behind it.
+/// Calls one after the other, each with its answer and the groups after it.
 const CALLS: [(Act, u64, u32, &str, &str); 22] = [
     (Act::Merge, 9, 5, "done", "1 | 5 9 | 13 | "),
     (Act::Merge, 13, 5, "done", "1 | 5 9 13 | "),
@@ -194,7 +194,7 @@ fn groups_merge_move_and_unmerge(rt: HostRuntime) -> Result<(), Fail> {
     Ok(())
 }
 
-/// Calls one after the other, each with its answer and the variables of the buffer behind it.
+/// Calls one after the other, each with its answer and the variables of the buffer after it.
 const TEXTS: [(Named, u64, &str, &str, &str, &str); 16] = [
     (Named::Set, 5, "x", "1", "done", "plugin=core name=a x=1 "),
     (
@@ -337,7 +337,7 @@ fn names_and_variables_follow_the_calls(rt: HostRuntime) -> Result<(), Fail> {
     Ok(())
 }
 
-/// A text of this many letters, and what stands behind them.
+/// A text of this many letters, and what comes after them.
 fn long(alloc: Global, letters: usize, end: &str) -> Result<String, AllocError> {
     let mut text = String::new(alloc);
     for _ in 0..letters {

@@ -17,7 +17,7 @@ use wc_text::{NoMemory, Pair, Text, cut};
 pub(crate) const VALUE_LIMIT: usize = 1024;
 
 /// The variables of a buffer, which contracts see as the list of their names and values, in the
-/// order in which they were set first. The names `plugin` and `name` stand first.
+/// order in which they were set first. The names `plugin` and `name` are first.
 #[derive(Drop)]
 pub struct Vars {
     vars: IndexMap<Vec<u8>, Pair>,
@@ -121,7 +121,7 @@ impl Vars {
     }
 }
 
-/// A variable and the key that it stands under.
+/// A variable and the key that it is under.
 #[derive(Drop)]
 struct Entry {
     key: Vec<u8>,
@@ -175,10 +175,10 @@ fn dot_place(text: &[u8]) -> Option<usize>
     text.iter().position(|byte| *byte == b'.')
 }
 
-/// The part of a full name before its first dot, and the part behind it, which is empty without one.
+/// The part of a full name before its first dot, and the part after it, which is empty without one.
 fn part_at_dot(full_name: &[u8]) -> (&[u8], &[u8])
     ensures before { result.0.now ≡ before_first (λ b. b == 46) full_name.now }
-    ensures behind { result.1.now ≡ after_first (λ b. b == 46) full_name.now }
+    ensures following { result.1.now ≡ after_first (λ b. b == 46) full_name.now }
 {
     match dot_place(full_name) {
         Some(place) => (full_name.split_at(place).0, full_name.split_at(place + 1).1),

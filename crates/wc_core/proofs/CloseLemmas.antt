@@ -22,13 +22,13 @@ use Rattle.wc_model.specs.Order.{order}
 use Rattle.wc_model.specs.Apply.{refusal, after}
 use Rattle.wc_model.specs.Notices.{notice}
 use Rattle.wc_model.specs.Touches.{told_after}
-use Rattle.wc_core.specs.Resolved.{Resolved, Stays, Ends as ResolvedEnds, Tells, Asks, resolved, refusal_text, told_refusal}
-use Rattle.wc_core.specs.Typed.{Typed, typed_line, parted}
+use Rattle.wc_core.specs.Resolved.{Effect, Stays, Ends as ResolvedEnds, Tells, Asks, effect_of, refusal_text, told_refusal}
+use Rattle.wc_core.specs.Typed.{TypedCommand, typed_line, lines_of_text}
 use Rattle.wc_core.specs.State.{State, Stepped}
-use Rattle.wc_core.specs.Step.{client_link, pushed_to, push_at, pushed, pushes, stays, then_does, sends, told_all, changes, changes_if, tells, asks_if, does_resolved, does, is_quit, runs, follows, lost}
+use Rattle.wc_core.specs.Step.{client_link, pushed_to, push_at, pushes_of, push_step, no_step, then_does, sends, tell_all_step, change_step, change_step_if, refusal_step, ask_step_if, effect_step, typed_step, is_quit, lines_step, outcome_step, loss_step}
 use Rattle.wc_core.specs.Served.{or_else, close_of, StaysOrStarves, LeavesBy}
 use Rattle.wc_core.proofs.DidLemmas.{close_of-append, ClosesLater}
-use Rattle.wc_core.proofs.SeatLemmas.{close-sends, close-told}
+use Rattle.wc_core.proofs.ConnectionLemmas.{close-sends, close-told}
 
 closes_none-if : (j : ℕ) (b : Bool) (x y : Stepped) → close_of j x.acts ≡ None → close_of j y.acts ≡ None → close_of j (cond b x y).acts ≡ None
 closes_none-if j true x y p q = p
@@ -42,65 +42,65 @@ pushed-closes j buffer push (client ∷ clients) =
     close_of-append j (pushed_to buffer push client) (flat_map (pushed_to buffer push) clients)
     ∙ ap (λ o. or_else o (close_of j (flat_map (pushed_to buffer push) clients))) (close-sends j (client_link client) (push_told buffer push client)) ∙ pushed-closes j buffer push clients
 
-each-closes : (j : ℕ) (state : State) (buffers : List ℕ) → close_of j (flat_map (pushed state) buffers) ≡ None
+each-closes : (j : ℕ) (state : State) (buffers : List ℕ) → close_of j (flat_map (pushes_of state) buffers) ≡ None
 each-closes j state [] = refl
 each-closes j state (buffer ∷ buffers) =
-    close_of-append j (pushed state buffer) (flat_map (pushed state) buffers)
-    ∙ ap (λ o. or_else o (close_of j (flat_map (pushed state) buffers))) (pushed-closes j (record { 0 = buffer }) (push_at state buffer) state.clients) ∙ each-closes j state buffers
+    close_of-append j (pushes_of state buffer) (flat_map (pushes_of state) buffers)
+    ∙ ap (λ o. or_else o (close_of j (flat_map (pushes_of state) buffers))) (pushed-closes j (record { 0 = buffer }) (push_at state buffer) state.clients) ∙ each-closes j state buffers
 
-pub pushes-closes : (j : ℕ) (state : State) → close_of j (pushes state).acts ≡ None
+pub pushes-closes : (j : ℕ) (state : State) → close_of j (push_step state).acts ≡ None
 pushes-closes j state = each-closes j state (order state.world.groups)
 
 -- ---- changes and what is typed
 
-told_all-closes : (j : ℕ) (state : State) (told : FinMap nat_cmp (List Row)) (world : World) (n : Notice) → close_of j (told_all state told world n).acts ≡ None
+told_all-closes : (j : ℕ) (state : State) (told : FinMap nat_cmp (List Row)) (world : World) (n : Notice) → close_of j (tell_all_step state told world n).acts ≡ None
 told_all-closes j state told world n = close-told j world n state.clients
 
-changes-closes : (j : ℕ) (state : State) (change : Change) → close_of j (changes state change).acts ≡ None
+changes-closes : (j : ℕ) (state : State) (change : Change) → close_of j (change_step state change).acts ≡ None
 changes-closes j state change = told_all-closes j state (told_after state.world change.buffer change.what state.told) (after state.world change) (notice state.world change)
 
-changes_if-closes : (j : ℕ) (state : State) (change : Change) (o : Option ChangeRefused) → close_of j (changes_if state change o).acts ≡ None
+changes_if-closes : (j : ℕ) (state : State) (change : Change) (o : Option ChangeRefused) → close_of j (change_step_if state change o).acts ≡ None
 changes_if-closes j state change None = changes-closes j state change
 changes_if-closes j state change (Some reason) = refl
 
-tells-closes : (j : ℕ) (state : State) (text : List ℕ) → close_of j (tells state text).acts ≡ None
+tells-closes : (j : ℕ) (state : State) (text : List ℕ) → close_of j (refusal_step state text).acts ≡ None
 tells-closes j state text = changes_if-closes j state (told_refusal state.moment text) (refusal state.world (told_refusal state.moment text))
 
-asks_if-closes : (j : ℕ) (state : State) (change : Change) (o : Option ChangeRefused) → close_of j (asks_if state change o).acts ≡ None
+asks_if-closes : (j : ℕ) (state : State) (change : Change) (o : Option ChangeRefused) → close_of j (ask_step_if state change o).acts ≡ None
 asks_if-closes j state change None = changes-closes j state change
 asks_if-closes j state change (Some reason) = tells-closes j state (refusal_text reason)
 
-resolved-closes : (j : ℕ) (state : State) (r : Resolved) → close_of j (does_resolved state r).acts ≡ None
+resolved-closes : (j : ℕ) (state : State) (r : Effect) → close_of j (effect_step state r).acts ≡ None
 resolved-closes j state Stays = refl
 resolved-closes j state ResolvedEnds = refl
 resolved-closes j state (Tells text) = tells-closes j state text
 resolved-closes j state (Asks change) = asks_if-closes j state change (refusal state.world change)
 
-pub does-closes : (j : ℕ) (state : State) (buffer : Handle) (typed : Typed) → close_of j (does state buffer typed).acts ≡ None
-does-closes j state buffer typed = resolved-closes j state (resolved state.world state.moment buffer typed)
+pub does-closes : (j : ℕ) (state : State) (buffer : Handle) (typed : TypedCommand) → close_of j (typed_step state buffer typed).acts ≡ None
+does-closes j state buffer typed = resolved-closes j state (effect_of state.world state.moment buffer typed)
 
 then-closes : (j : ℕ) (first : Stepped) (next : State → Stepped) → close_of j first.acts ≡ None → close_of j (next first.state).acts ≡ None → close_of j (then_does first next).acts ≡ None
 then-closes j first next p q = close_of-append j first.acts (next first.state).acts ∙ ap (λ o. or_else o (close_of j (next first.state).acts)) p ∙ q
 
-pub runs-closes : (j : ℕ) (state : State) (buffer : Handle) (lines : List (List ℕ)) → close_of j (runs state buffer lines).acts ≡ None
+pub runs-closes : (j : ℕ) (state : State) (buffer : Handle) (lines : List (List ℕ)) → close_of j (lines_step state buffer lines).acts ≡ None
 runs-closes j state buffer [] = refl
 runs-closes j state buffer (line ∷ lines) =
-    let first = does state buffer (typed_line line) in
-    closes_none-if j (not (is_there buffer state.world.groups)) (stays state) (cond (is_quit (typed_line line)) first (then_does first (λ next. runs next buffer lines))) refl
-    (closes_none-if j (is_quit (typed_line line)) first (then_does first (λ next. runs next buffer lines)) (does-closes j state buffer (typed_line line))
-    (then-closes j first (λ next. runs next buffer lines) (does-closes j state buffer (typed_line line)) (runs-closes j first.state buffer lines)))
+    let first = typed_step state buffer (typed_line line) in
+    closes_none-if j (not (is_there buffer state.world.groups)) (no_step state) (cond (is_quit (typed_line line)) first (then_does first (λ next. lines_step next buffer lines))) refl
+    (closes_none-if j (is_quit (typed_line line)) first (then_does first (λ next. lines_step next buffer lines)) (does-closes j state buffer (typed_line line))
+    (then-closes j first (λ next. lines_step next buffer lines) (does-closes j state buffer (typed_line line)) (runs-closes j first.state buffer lines)))
 
-pub typed-later : (state : State) (buffer : Handle) (typed : Typed) (lines : List (List ℕ)) → ClosesLater (does state buffer typed) (λ next. runs next buffer lines)
+pub typed-later : (state : State) (buffer : Handle) (typed : TypedCommand) (lines : List (List ℕ)) → ClosesLater (typed_step state buffer typed) (λ next. lines_step next buffer lines)
 typed-later state buffer typed lines = record { first_none = λ j. does-closes j state buffer typed; same = λ j s t. runs-closes j s buffer lines ∙ sym (runs-closes j t buffer lines) }
 
-follows-same : (j k : ℕ) (o : Outcome) (s t : State) → close_of j (follows s k o).acts ≡ close_of j (follows t k o).acts
+follows-same : (j k : ℕ) (o : Outcome) (s t : State) → close_of j (outcome_step s k o).acts ≡ close_of j (outcome_step t k o).acts
 follows-same j k outcome.Replied s t = refl
 follows-same j k outcome.Silent s t = refl
-follows-same j k (outcome.Input buffer text) s t = runs-closes j s buffer (parted text) ∙ sym (runs-closes j t buffer (parted text))
+follows-same j k (outcome.Input buffer text) s t = runs-closes j s buffer (lines_of_text text) ∙ sym (runs-closes j t buffer (lines_of_text text))
 follows-same j k (outcome.Leave why) s t = refl
 follows-same j k outcome.NoMemory s t = refl
 
-pub reply-later : (k : ℕ) (state : State) (messages : List WireMessage) (o : Outcome) → ClosesLater (record { state = state; acts = sends k messages }) (λ next. follows next k o)
+pub reply-later : (k : ℕ) (state : State) (messages : List WireMessage) (o : Outcome) → ClosesLater (record { state = state; acts = sends k messages }) (λ next. outcome_step next k o)
 reply-later k state messages o = record { first_none = λ j. close-sends j k messages; same = λ j s t. follows-same j k o s t }
 
 starve_else : (before closes after : Option Cause) → StaysOrStarves None closes → after ≡ or_else before closes → StaysOrStarves before after
@@ -108,7 +108,7 @@ starve_else None closes after (inl none) e = inl (e ∙ none)
 starve_else None closes after (inr starved) e = inr (e ∙ starved)
 starve_else (Some why) closes after closed e = inl e
 
-lost-closes : (j k : ℕ) (state : State) (o : Option Client) → StaysOrStarves None (close_of j (lost state k NoMemory o).acts)
+lost-closes : (j k : ℕ) (state : State) (o : Option Client) → StaysOrStarves None (close_of j (loss_step state k NoMemory o).acts)
 lost-closes j k state None = inl refl
 lost-closes j k state (Some client) = by (eqb k j) where
   by : (t : Bool) → StaysOrStarves None (or_else (cond t (Some NoMemory) None) None)
@@ -116,8 +116,8 @@ lost-closes j k state (Some client) = by (eqb k j) where
   by false = inl refl
 
 -- a client that is lost for want of memory leaves for that cause
-pub lost-starves : (j k : ℕ) (state : State) (o : Option Client) (before after : Option Cause) → (after ≡ or_else before (close_of j (lost state k NoMemory o).acts)) ⊎ StaysOrStarves before after → StaysOrStarves before after
-lost-starves j k state o before after (inl e) = starve_else before (close_of j (lost state k NoMemory o).acts) after (lost-closes j k state o) e
+pub lost-starves : (j k : ℕ) (state : State) (o : Option Client) (before after : Option Cause) → (after ≡ or_else before (close_of j (loss_step state k NoMemory o).acts)) ⊎ StaysOrStarves before after → StaysOrStarves before after
+lost-starves j k state o before after (inl e) = starve_else before (close_of j (loss_step state k NoMemory o).acts) after (lost-closes j k state o) e
 lost-starves j k state o before after (inr e) = e
 
 -- the cause for which a client that was open is leaving

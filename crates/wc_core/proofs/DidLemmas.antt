@@ -4,11 +4,11 @@ use Rattle.std.specs.Prelude.{map}
 use Rattle.wc_text.specs.declared.names.Cause.{Cause}
 use Rattle.wc_text.specs.declared.names.Cause.TheVariants.{NoMemory}
 use Rattle.wc_outside.specs.Keyed.{at_key}
-use Rattle.wc_core.specs.declared.seat.Seat.{Seat}
-use Rattle.wc_core.specs.Standing.{Standing}
+use Rattle.wc_core.specs.declared.connection.Connection.{Connection}
+use Rattle.wc_core.specs.CoreView.{CoreView}
 use Rattle.wc_core.specs.State.{State, Act, Stepped}
-use Rattle.wc_core.specs.Step.{stays, then_does}
-use Rattle.wc_core.specs.Served.{seat_link, links_of, state_of, unsent_on, leaving_in, leaving_on, sent_by, sent_to, or_else, close_by, close_of, is_end, has_end, Distinct, Did, StaysOrStarves, LeavesBy, Keeps, MayDo, Starves}
+use Rattle.wc_core.specs.Step.{no_step, then_does}
+use Rattle.wc_core.specs.Served.{connection_link, links_of, state_of, unsent_on, leaving_in, leaving_on, sent_by, sent_to, or_else, close_by, close_of, is_end, has_end, Distinct, Follows, StaysOrStarves, LeavesBy, KeepsClients, FollowsUnlessStarved, RanOutOfMemory}
 
 pub sent_to-append : (j : ℕ) (a b : List Act) → sent_to j (a ++ b) ≡ sent_to j a ++ sent_to j b
 sent_to-append j [] b = refl
@@ -43,50 +43,50 @@ has_end-append [] b = refl
 has_end-append (x ∷ a) b = ap (λ t. is_end x || t) (has_end-append a b) ∙ sym (or-assoc (is_end x) (has_end a) (has_end b))
 
 -- nothing is done
-pub Did-stays : (a : Standing) → Did a a (stays (state_of a))
-Did-stays a = record { state = refl; bytes = λ j. sym (append-nil (unsent_on j a.seats)); leaving = λ j. sym (or_else-none (leaving_on j a.seats)); quits = sym (or-false a.quits) }
+pub Follows-stays : (a : CoreView) → Follows a a (no_step (state_of a))
+Follows-stays a = record { state = refl; bytes = λ j. sym (append-nil (unsent_on j a.connections)); leaving = λ j. sym (or_else-none (leaving_on j a.connections)); quits = sym (or-false a.quits) }
 
--- one step behind another
-pub Did-then : (a b c : Standing) (first : Stepped) (next : State → Stepped) → Did a b first → Did b c (next (state_of b)) → Did a c (then_does first next)
-Did-then a b c first next f g =
-    let P : State → Type 0 = λ s. Did b c (next s) in
-    let h : Did b c (next first.state) = subst P f.state g in
+-- one step after another
+pub Follows-then : (a b c : CoreView) (first : Stepped) (next : State → Stepped) → Follows a b first → Follows b c (next (state_of b)) → Follows a c (then_does first next)
+Follows-then a b c first next f g =
+    let P : State → Type 0 = λ s. Follows b c (next s) in
+    let h : Follows b c (next first.state) = subst P f.state g in
     let acts = (next first.state).acts in
     record {
       state = h.state;
-      bytes = λ j. h.bytes j ∙ ap (λ t. t ++ sent_to j acts) (f.bytes j) ∙ append_assoc (unsent_on j a.seats) (sent_to j first.acts) (sent_to j acts) ∙ ap (λ t. unsent_on j a.seats ++ t) (sym (sent_to-append j first.acts acts));
-      leaving = λ j. h.leaving j ∙ ap (λ o. or_else o (close_of j acts)) (f.leaving j) ∙ or_else-assoc (leaving_on j a.seats) (close_of j first.acts) (close_of j acts) ∙ ap (λ o. or_else (leaving_on j a.seats) o) (sym (close_of-append j first.acts acts));
+      bytes = λ j. h.bytes j ∙ ap (λ t. t ++ sent_to j acts) (f.bytes j) ∙ append_assoc (unsent_on j a.connections) (sent_to j first.acts) (sent_to j acts) ∙ ap (λ t. unsent_on j a.connections ++ t) (sym (sent_to-append j first.acts acts));
+      leaving = λ j. h.leaving j ∙ ap (λ o. or_else o (close_of j acts)) (f.leaving j) ∙ or_else-assoc (leaving_on j a.connections) (close_of j first.acts) (close_of j acts) ∙ ap (λ o. or_else (leaving_on j a.connections) o) (sym (close_of-append j first.acts acts));
       quits = h.quits ∙ ap (λ t. t || has_end acts) f.quits ∙ or-assoc a.quits (has_end first.acts) (has_end acts) ∙ ap (λ t. a.quits || t) (sym (has_end-append first.acts acts));
     }
 
-pub Keeps-refl : (a : Standing) → Keeps a a
-Keeps-refl a = record { rises = omega arith; links = refl; kept = λ j s. refl }
+pub KeepsClients-refl : (a : CoreView) → KeepsClients a a
+KeepsClients-refl a = record { rises = omega arith; links = refl; kept = λ j s. refl }
 
-pub Keeps-trans : (a b c : Standing) → Keeps a b → Keeps b c → Keeps a c
-Keeps-trans a b c f g = record {
+pub KeepsClients-trans : (a b c : CoreView) → KeepsClients a b → KeepsClients b c → KeepsClients a c
+KeepsClients-trans a b c f g = record {
   rises = (let p = f.rises in let q = g.rises in omega arith);
   links = g.links ∙ f.links;
   kept = λ j s.
       let same = f.kept j s in
-      let P : Option Seat → Type 0 = λ o. IsSome (leaving_in o) in
+      let P : Option Connection → Type 0 = λ o. IsSome (leaving_in o) in
       g.kept j (subst P (sym same) s) ∙ same;
 }
 
--- the same seats, and want of memory may be counted
-pub Keeps-seats : (a b : Standing) → b.seats ≡ a.seats → a.starved ≤ b.starved → Keeps a b
-Keeps-seats a b e rises = record { rises = rises; links = ap (map seat_link) e; kept = λ j s. ap (at_key seat_link j) e }
+-- the same connections, and want of memory may be counted
+pub KeepsClients-connections : (a b : CoreView) → b.connections ≡ a.connections → a.starved ≤ b.starved → KeepsClients a b
+KeepsClients-connections a b e rises = record { rises = rises; links = ap (map connection_link) e; kept = λ j s. ap (at_key connection_link j) e }
 
-pub MayDo-exact : (a b : Standing) (s : Stepped) → Keeps a b → (Distinct (links_of a) → Did a b s) → MayDo a b s
-MayDo-exact a b s keeps did = record { keeps = keeps; causes = λ distinct j. inl ((did distinct).leaving j); does = λ same below distinct. did distinct }
+pub FollowsUnlessStarved-exact : (a b : CoreView) (s : Stepped) → KeepsClients a b → (Distinct (links_of a) → Follows a b s) → FollowsUnlessStarved a b s
+FollowsUnlessStarved-exact a b s keeps did = record { keeps = keeps; causes = λ distinct j. inl ((did distinct).leaving j); does = λ same below distinct. did distinct }
 
-pub MayDo-stays : (a : Standing) → MayDo a a (stays (state_of a))
-MayDo-stays a = MayDo-exact a a (stays (state_of a)) (Keeps-refl a) (λ distinct. Did-stays a)
+pub FollowsUnlessStarved-stays : (a : CoreView) → FollowsUnlessStarved a a (no_step (state_of a))
+FollowsUnlessStarved-stays a = FollowsUnlessStarved-exact a a (no_step (state_of a)) (KeepsClients-refl a) (λ distinct. Follows-stays a)
 
-pub MayDo-starved : (a b : Standing) (s : Stepped) → Starves a b → MayDo a b s
-MayDo-starved a b s f = record { keeps = f.keeps; causes = λ distinct j. inr (f.causes distinct j); does = λ same below distinct. (let e = f.count in absurd (omega arith)) }
+pub FollowsUnlessStarved-starved : (a b : CoreView) (s : Stepped) → RanOutOfMemory a b → FollowsUnlessStarved a b s
+FollowsUnlessStarved-starved a b s f = record { keeps = f.keeps; causes = λ distinct j. inr (f.causes distinct j); does = λ same below distinct. (let e = f.count in absurd (omega arith)) }
 
 -- a client that is leaving stays so for the same cause
-leaving-stays : (a b : Standing) (j : ℕ) (why : Cause) → Keeps a b → leaving_on j a.seats ≡ Some why → leaving_on j b.seats ≡ Some why
+leaving-stays : (a b : CoreView) (j : ℕ) (why : Cause) → KeepsClients a b → leaving_on j a.connections ≡ Some why → leaving_on j b.connections ≡ Some why
 leaving-stays a b j why keeps e =
     let P : Option Cause → Type 0 = λ o. IsSome o in
     ap leaving_in (keeps.kept j (subst P (sym e) (some_is why))) ∙ e
@@ -99,34 +99,34 @@ pub record ClosesLater (first : Stepped) (next : State → Stepped) : Type 0 whe
   pub first_none : (j : ℕ) → close_of j first.acts ≡ None
   pub same : (j : ℕ) (s t : State) → close_of j (next s).acts ≡ close_of j (next t).acts
 
-causes-then : (a b c : Standing) (first : Stepped) (next : State → Stepped) (j : ℕ) → ClosesLater first next → Keeps b c
-    → LeavesBy (leaving_on j a.seats) (close_of j first.acts) (leaving_on j b.seats) → LeavesBy (leaving_on j b.seats) (close_of j (next (state_of b)).acts) (leaving_on j c.seats)
-    → LeavesBy (leaving_on j a.seats) (close_of j (then_does first next).acts) (leaving_on j c.seats)
+causes-then : (a b c : CoreView) (first : Stepped) (next : State → Stepped) (j : ℕ) → ClosesLater first next → KeepsClients b c
+    → LeavesBy (leaving_on j a.connections) (close_of j first.acts) (leaving_on j b.connections) → LeavesBy (leaving_on j b.connections) (close_of j (next (state_of b)).acts) (leaving_on j c.connections)
+    → LeavesBy (leaving_on j a.connections) (close_of j (then_does first next).acts) (leaving_on j c.connections)
 causes-then a b c first next j closes keeps f g = by (stays_by f) g where
   whole : close_of j (next (state_of b)).acts ≡ close_of j (then_does first next).acts
   whole =
       closes.same j (state_of b) first.state ∙ ap (λ o. or_else o (close_of j (next first.state).acts)) (sym (closes.first_none j))
       ∙ sym (close_of-append j first.acts (next first.state).acts)
 
-  stays_by : LeavesBy (leaving_on j a.seats) (close_of j first.acts) (leaving_on j b.seats) → StaysOrStarves (leaving_on j a.seats) (leaving_on j b.seats)
-  stays_by (inl e) = inl (e ∙ ap (or_else (leaving_on j a.seats)) (closes.first_none j) ∙ or_else-none (leaving_on j a.seats))
+  stays_by : LeavesBy (leaving_on j a.connections) (close_of j first.acts) (leaving_on j b.connections) → StaysOrStarves (leaving_on j a.connections) (leaving_on j b.connections)
+  stays_by (inl e) = inl (e ∙ ap (or_else (leaving_on j a.connections)) (closes.first_none j) ∙ or_else-none (leaving_on j a.connections))
   stays_by (inr e) = e
 
-  by : StaysOrStarves (leaving_on j a.seats) (leaving_on j b.seats) → LeavesBy (leaving_on j b.seats) (close_of j (next (state_of b)).acts) (leaving_on j c.seats)
-      → LeavesBy (leaving_on j a.seats) (close_of j (then_does first next).acts) (leaving_on j c.seats)
-  by (inl e) (inl g) = inl (g ∙ ap (λ o. or_else o (close_of j (next (state_of b)).acts)) e ∙ ap (or_else (leaving_on j a.seats)) whole)
+  by : StaysOrStarves (leaving_on j a.connections) (leaving_on j b.connections) → LeavesBy (leaving_on j b.connections) (close_of j (next (state_of b)).acts) (leaving_on j c.connections)
+      → LeavesBy (leaving_on j a.connections) (close_of j (then_does first next).acts) (leaving_on j c.connections)
+  by (inl e) (inl g) = inl (g ∙ ap (λ o. or_else o (close_of j (next (state_of b)).acts)) e ∙ ap (or_else (leaving_on j a.connections)) whole)
   by (inl e) (inr (inl g)) = inr (inl (g ∙ e))
   by (inl e) (inr (inr g)) = inr (inr g)
   by (inr e) g = inr (inr (leaving-stays b c j NoMemory keeps e))
 
-pub MayDo-then : (a b c : Standing) (first : Stepped) (next : State → Stepped) → ClosesLater first next → MayDo a b first → MayDo b c (next (state_of b)) → MayDo a c (then_does first next)
-MayDo-then a b c first next closes f g = record {
-  keeps = Keeps-trans a b c f.keeps g.keeps;
+pub FollowsUnlessStarved-then : (a b c : CoreView) (first : Stepped) (next : State → Stepped) → ClosesLater first next → FollowsUnlessStarved a b first → FollowsUnlessStarved b c (next (state_of b)) → FollowsUnlessStarved a c (then_does first next)
+FollowsUnlessStarved-then a b c first next closes f g = record {
+  keeps = KeepsClients-trans a b c f.keeps g.keeps;
   causes = λ distinct j. causes-then a b c first next j closes g.keeps (f.causes distinct j) (g.causes (subst Distinct (sym f.keeps.links) distinct) j);
   does = λ same below distinct.
       let p = f.keeps.rises in
       let q = g.keeps.rises in
       let half : b.starved ≡ a.starved = omega arith in
       let rest : c.starved ≡ b.starved = omega arith in
-      Did-then a b c first next (f.does half below distinct) (g.does rest (omega arith) (subst Distinct (sym f.keeps.links) distinct));
+      Follows-then a b c first next (f.does half below distinct) (g.does rest (omega arith) (subst Distinct (sym f.keeps.links) distinct));
 }

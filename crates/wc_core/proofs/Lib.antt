@@ -3,13 +3,13 @@ pub mod TypedLemmas
 pub mod ResolvedWords
 pub mod ResolvedTexts
 pub mod DidLemmas
-pub mod SeatLemmas
+pub mod ConnectionLemmas
 pub mod EventLemmas
 pub mod CloseLemmas
 pub mod ServeLemmas
 pub mod ReplyLemmas
 pub mod NickPushes
-pub mod PushSeats
+pub mod PushConnections
 pub mod PushBytes
 pub mod PushLemmas
 pub mod CoreLemmas

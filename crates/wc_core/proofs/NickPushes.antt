@@ -8,7 +8,7 @@ use Rattle.wc_nicklist.proofs.OrderLaws.{path_eq-same}
 use Rattle.wc_nickdiff.specs.declared.diff_item.Mark.TheVariants.{Added, Removed, Changed}
 use Rattle.wc_nickdiff.specs.declared.push.Push.{Push}
 use Rattle.wc_nickdiff.specs.declared.push.Push.TheVariants.{Nothing}
-use Rattle.wc_nickdiff.specs.NickPush.{stays, changes, is_group, is_nick, outs, ins, changed, root_item, op, with_parents, push_of, nick_push}
+use Rattle.wc_nickdiff.specs.NickPush.{stays, change_list, is_group, is_nick, outs, ins, changed_rows, root_item, op, with_parents, push_of, nick_push}
 use Rattle.wc_nickdiff.proofs.PushLaw.{item_eq-same}
 use Rattle.wc_nickdiff.proofs.Split.{split_of}
 
@@ -27,14 +27,14 @@ none_in : (rows : List Row) → IsRows rows → ins rows rows ≡ []
 none_in rows ok = none_kept (λ r. not (stays (find_row (key r) rows) (Some r))) rows [] rows refl
     (λ pre r post e. ap (λ o. not (stays o (Some r))) (found rows pre r post ok e) ∙ ap not (path_eq-same r.path))
 
-none_changed : (rows : List Row) → IsRows rows → changed rows rows ≡ []
-none_changed rows ok = none_kept (λ r. changes (find_row (key r) rows) (Some r)) rows [] rows refl
-    (λ pre r post e. ap (λ o. changes o (Some r)) (found rows pre r post ok e) ∙ rw (path_eq-same r.path, item_eq-same r.item) refl)
+none_changed : (rows : List Row) → IsRows rows → changed_rows rows rows ≡ []
+none_changed rows ok = none_kept (λ r. change_list (find_row (key r) rows) (Some r)) rows [] rows refl
+    (λ pre r post e. ap (λ o. change_list o (Some r)) (found rows pre r post ok e) ∙ rw (path_eq-same r.path, item_eq-same r.item) refl)
 
 pub push_same : (root : Handle) (rows : List Row) → IsRows rows → nick_push root rows rows ≡ Nothing
 push_same root rows ok =
-    ap (λ o. given o (ins rows rows) (changed rows rows)) (none_out rows ok)
-    ∙ ap (λ i. given [] i (changed rows rows)) (none_in rows ok)
+    ap (λ o. given o (ins rows rows) (changed_rows rows rows)) (none_out rows ok)
+    ∙ ap (λ i. given [] i (changed_rows rows rows)) (none_in rows ok)
     ∙ ap (λ c. given [] [] c) (none_changed rows ok)
   where
     given : List Row → List Row → List Row → Push

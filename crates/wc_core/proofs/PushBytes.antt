@@ -1,4 +1,4 @@
--- The bytes that pushes put behind the unsent ones of each link are those of the step's messages.
+-- The bytes that pushes put after the unsent ones of each link are those of the step's messages.
 use Rattle.std.proofs.Common.{◌≡◌, ℕ, Bool, true, false, cond, eqb, List, [], ◌∷◌, ◌++◌, append_assoc, append-nil, Option, Some, refl, ap, sym, subst, ◌∙◌}
 use Rattle.std.specs.Prelude.{map}
 use Rattle.std.specs.List.{flat_map}
@@ -11,14 +11,14 @@ use Rattle.wc_objects.specs.declared.object.WireMessage.{WireMessage}
 use Rattle.wc_session.specs.declared.client.Client.{Client}
 use Rattle.wc_session.specs.Event.{push_told}
 use Rattle.wc_session.specs.Sending.{spelling}
-use Rattle.wc_core.specs.declared.seat.Seat.{Seat}
+use Rattle.wc_core.specs.declared.connection.Connection.{Connection}
 use Rattle.wc_core.specs.State.{State, Act, told_at}
-use Rattle.wc_core.specs.Step.{client_link, sends, pushed_to, pushes}
-use Rattle.wc_core.specs.Pushes.{push_of, sent_seat, push_seat, pushed_seat}
-use Rattle.wc_core.specs.Served.{seat_link, is_open, clients_of, unsent_in, unsent_on, sent_to, Absent, Distinct}
+use Rattle.wc_core.specs.Step.{client_link, sends, pushed_to, push_step}
+use Rattle.wc_core.specs.Pushes.{push_of, sent_connection, push_connection, pushed_connection}
+use Rattle.wc_core.specs.Served.{connection_link, is_open, clients_of, unsent_in, unsent_on, sent_to, Absent, Distinct}
 use Rattle.wc_core.proofs.DidLemmas.{sent_to-append}
-use Rattle.wc_core.proofs.SeatLemmas.{sent-sends, other_link, same_number, kept-bytes}
-use Rattle.wc_core.proofs.PushSeats.{pushed_first, pushed_none, map_more, map_none}
+use Rattle.wc_core.proofs.ConnectionLemmas.{sent-sends, other_link, same_number, kept-bytes}
+use Rattle.wc_core.proofs.PushConnections.{pushed_first, pushed_none, map_more, map_none}
 use Rattle.wc_outside.specs.Keyed.{at_key}
 
 abbrev spelt : List WireMessage → List ℕ
@@ -31,13 +31,13 @@ no_bytes = []
 abbrev sends_all : (Client → List WireMessage) → List Client → List Act
 sends_all f clients = flat_map (λ client. sends (client_link client) (f client)) clients
 
--- a seat behind the messages for its client
-abbrev with_messages : (Client → List WireMessage) → Seat → Seat
-with_messages f seat = sent_seat (f seat.session.client) seat
+-- a connection after the messages for its client
+abbrev with_messages : (Client → List WireMessage) → Connection → Connection
+with_messages f connection = sent_connection (f connection.session.client) connection
 
--- the same of a seat that is open
-abbrev open_with : (Client → List WireMessage) → Seat → Seat
-open_with f seat = record seat { session = record seat.session { unsent = seat.session.unsent ++ spelt (f seat.session.client) } }
+-- the same of a connection that is open
+abbrev open_with : (Client → List WireMessage) → Connection → Connection
+open_with f connection = record connection { session = record connection.session { unsent = connection.session.unsent ++ spelt (f connection.session.client) } }
 
 acts_more : (j : ℕ) (f : Client → List WireMessage) (client : Client) (clients : List Client)
     → sent_to j (sends_all f (client ∷ clients)) ≡ cond (eqb (client_link client) j) (spelt (f client)) no_bytes ++ sent_to j (sends_all f clients)
@@ -45,56 +45,56 @@ acts_more j f client clients =
     sent_to-append j (sends (client_link client) (f client)) (sends_all f clients)
     ∙ ap (λ t. t ++ sent_to j (sends_all f clients)) (sent-sends j (client_link client) (f client))
 
--- a link without a seat is sent nothing
-none_absent : (j : ℕ) (f : Client → List WireMessage) (seats : List Seat) → Absent j (map seat_link seats) → sent_to j (sends_all f (clients_of seats)) ≡ []
+-- a link without a connection is sent nothing
+none_absent : (j : ℕ) (f : Client → List WireMessage) (connections : List Connection) → Absent j (map connection_link connections) → sent_to j (sends_all f (clients_of connections)) ≡ []
 none_absent j f [] absent = refl
-none_absent j f (seat ∷ seats) absent = by (is_open seat) (none_absent j f seats absent.1) where
-  by : (b : Bool) → sent_to j (sends_all f (clients_of seats)) ≡ [] → sent_to j (sends_all f (cond b (seat.session.client ∷ clients_of seats) (clients_of seats))) ≡ []
+none_absent j f (connection ∷ connections) absent = by (is_open connection) (none_absent j f connections absent.1) where
+  by : (b : Bool) → sent_to j (sends_all f (clients_of connections)) ≡ [] → sent_to j (sends_all f (cond b (connection.session.client ∷ clients_of connections) (clients_of connections))) ≡ []
   by true more =
-      acts_more j f seat.session.client (clients_of seats)
-      ∙ ap (λ t. cond t (spelt (f seat.session.client)) no_bytes ++ sent_to j (sends_all f (clients_of seats))) (other_link (seat_link seat) j absent.0) ∙ more
+      acts_more j f connection.session.client (clients_of connections)
+      ∙ ap (λ t. cond t (spelt (f connection.session.client)) no_bytes ++ sent_to j (sends_all f (clients_of connections))) (other_link (connection_link connection) j absent.0) ∙ more
   by false more = more
 
-open_bytes : (t : Bool) (f : Client → List WireMessage) (seat : Seat) (p q : Option Seat) (others : List ℕ) → (t ≡ true → others ≡ []) → unsent_in p ≡ unsent_in q ++ others
-    → unsent_in (cond t (Some (open_with f seat)) p) ≡ unsent_in (cond t (Some seat) q) ++ (cond t (spelt (f seat.session.client)) no_bytes ++ others)
-open_bytes true f seat p q others none more =
-    ap (λ t. seat.session.unsent ++ t) (sym (append-nil (spelt (f seat.session.client)))) ∙ ap (λ t. seat.session.unsent ++ (spelt (f seat.session.client) ++ t)) (sym (none refl))
-open_bytes false f seat p q others none more = more
+open_bytes : (t : Bool) (f : Client → List WireMessage) (connection : Connection) (p q : Option Connection) (others : List ℕ) → (t ≡ true → others ≡ []) → unsent_in p ≡ unsent_in q ++ others
+    → unsent_in (cond t (Some (open_with f connection)) p) ≡ unsent_in (cond t (Some connection) q) ++ (cond t (spelt (f connection.session.client)) no_bytes ++ others)
+open_bytes true f connection p q others none more =
+    ap (λ t. connection.session.unsent ++ t) (sym (append-nil (spelt (f connection.session.client)))) ∙ ap (λ t. connection.session.unsent ++ (spelt (f connection.session.client) ++ t)) (sym (none refl))
+open_bytes false f connection p q others none more = more
 
-sent_bytes : (j : ℕ) (f : Client → List WireMessage) (seats : List Seat) → Distinct (map seat_link seats) → unsent_on j (map (with_messages f) seats) ≡ unsent_on j seats ++ sent_to j (sends_all f (clients_of seats))
+sent_bytes : (j : ℕ) (f : Client → List WireMessage) (connections : List Connection) → Distinct (map connection_link connections) → unsent_on j (map (with_messages f) connections) ≡ unsent_on j connections ++ sent_to j (sends_all f (clients_of connections))
 sent_bytes j f [] distinct = refl
-sent_bytes j f (seat ∷ seats) distinct = by (is_open seat) (sent_bytes j f seats distinct.1) where
-  none : eqb (seat_link seat) j ≡ true → sent_to j (sends_all f (clients_of seats)) ≡ []
-  none e = let P : ℕ → Type 0 = λ n. Absent n (map seat_link seats) in none_absent j f seats (subst P (same_number (seat_link seat) j e) distinct.0)
+sent_bytes j f (connection ∷ connections) distinct = by (is_open connection) (sent_bytes j f connections distinct.1) where
+  none : eqb (connection_link connection) j ≡ true → sent_to j (sends_all f (clients_of connections)) ≡ []
+  none e = let P : ℕ → Type 0 = λ n. Absent n (map connection_link connections) in none_absent j f connections (subst P (same_number (connection_link connection) j e) distinct.0)
 
-  by : (b : Bool) → unsent_on j (map (with_messages f) seats) ≡ unsent_on j seats ++ sent_to j (sends_all f (clients_of seats))
-      → unsent_in (cond (eqb (seat_link (cond b (open_with f seat) seat)) j) (Some (cond b (open_with f seat) seat)) (at_key seat_link j (map (with_messages f) seats)))
-      ≡ unsent_in (cond (eqb (seat_link seat) j) (Some seat) (at_key seat_link j seats)) ++ sent_to j (sends_all f (cond b (seat.session.client ∷ clients_of seats) (clients_of seats)))
+  by : (b : Bool) → unsent_on j (map (with_messages f) connections) ≡ unsent_on j connections ++ sent_to j (sends_all f (clients_of connections))
+      → unsent_in (cond (eqb (connection_link (cond b (open_with f connection) connection)) j) (Some (cond b (open_with f connection) connection)) (at_key connection_link j (map (with_messages f) connections)))
+      ≡ unsent_in (cond (eqb (connection_link connection) j) (Some connection) (at_key connection_link j connections)) ++ sent_to j (sends_all f (cond b (connection.session.client ∷ clients_of connections) (clients_of connections)))
   by true more =
-      open_bytes (eqb (seat_link seat) j) f seat (at_key seat_link j (map (with_messages f) seats)) (at_key seat_link j seats) (sent_to j (sends_all f (clients_of seats))) none more
-      ∙ ap (λ t. unsent_in (cond (eqb (seat_link seat) j) (Some seat) (at_key seat_link j seats)) ++ t) (sym (acts_more j f seat.session.client (clients_of seats)))
-  by false more = kept-bytes (eqb (seat_link seat) j) seat (at_key seat_link j (map (with_messages f) seats)) (at_key seat_link j seats) (sent_to j (sends_all f (clients_of seats))) none more
+      open_bytes (eqb (connection_link connection) j) f connection (at_key connection_link j (map (with_messages f) connections)) (at_key connection_link j connections) (sent_to j (sends_all f (clients_of connections))) none more
+      ∙ ap (λ t. unsent_in (cond (eqb (connection_link connection) j) (Some connection) (at_key connection_link j connections)) ++ t) (sym (acts_more j f connection.session.client (clients_of connections)))
+  by false more = kept-bytes (eqb (connection_link connection) j) connection (at_key connection_link j (map (with_messages f) connections)) (at_key connection_link j connections) (sent_to j (sends_all f (clients_of connections))) none more
 
-sent_link : (messages : List WireMessage) (seat : Seat) → seat_link (sent_seat messages seat) ≡ seat_link seat
-sent_link messages seat = by (is_open seat) where
-  by : (b : Bool) → seat_link (cond b (record seat { session = record seat.session { unsent = seat.session.unsent ++ spelt messages } }) seat) ≡ seat_link seat
+sent_link : (messages : List WireMessage) (connection : Connection) → connection_link (sent_connection messages connection) ≡ connection_link connection
+sent_link messages connection = by (is_open connection) where
+  by : (b : Bool) → connection_link (cond b (record connection { session = record connection.session { unsent = connection.session.unsent ++ spelt messages } }) connection) ≡ connection_link connection
   by true = refl
   by false = refl
 
-sent_links : (f : Client → List WireMessage) (seats : List Seat) → map seat_link (map (with_messages f) seats) ≡ map seat_link seats
+sent_links : (f : Client → List WireMessage) (connections : List Connection) → map connection_link (map (with_messages f) connections) ≡ map connection_link connections
 sent_links f [] = refl
-sent_links f (seat ∷ seats) = ap (λ k. k ∷ map seat_link (map (with_messages f) seats)) (sent_link (f seat.session.client) seat) ∙ ap (λ ns. seat_link seat ∷ ns) (sent_links f seats)
+sent_links f (connection ∷ connections) = ap (λ k. k ∷ map connection_link (map (with_messages f) connections)) (sent_link (f connection.session.client) connection) ∙ ap (λ ns. connection_link connection ∷ ns) (sent_links f connections)
 
-sent_clients : (f : Client → List WireMessage) (seats : List Seat) → clients_of (map (with_messages f) seats) ≡ clients_of seats
+sent_clients : (f : Client → List WireMessage) (connections : List Connection) → clients_of (map (with_messages f) connections) ≡ clients_of connections
 sent_clients f [] = refl
-sent_clients f (seat ∷ seats) = by (is_open seat) refl (sent_clients f seats) where
+sent_clients f (connection ∷ connections) = by (is_open connection) refl (sent_clients f connections) where
   others : List Client
-  others = clients_of (map (with_messages f) seats)
+  others = clients_of (map (with_messages f) connections)
 
-  by : (b : Bool) → is_open seat ≡ b → others ≡ clients_of seats
-      → cond (is_open (cond b (open_with f seat) seat)) ((cond b (open_with f seat) seat).session.client ∷ others) others ≡ cond b (seat.session.client ∷ clients_of seats) (clients_of seats)
-  by true e more = ap (λ b. cond b (seat.session.client ∷ others) others) e ∙ ap (λ clients. seat.session.client ∷ clients) more
-  by false e more = ap (λ b. cond b (seat.session.client ∷ others) others) e ∙ more
+  by : (b : Bool) → is_open connection ≡ b → others ≡ clients_of connections
+      → cond (is_open (cond b (open_with f connection) connection)) ((cond b (open_with f connection) connection).session.client ∷ others) others ≡ cond b (connection.session.client ∷ clients_of connections) (clients_of connections)
+  by true e more = ap (λ b. cond b (connection.session.client ∷ others) others) e ∙ ap (λ clients. connection.session.client ∷ clients) more
+  by false e more = ap (λ b. cond b (connection.session.client ∷ others) others) e ∙ more
 
 -- ---- one buffer after another
 
@@ -102,23 +102,23 @@ sent_clients f (seat ∷ seats) = by (is_open seat) refl (sent_clients f seats) 
 abbrev pushed_all : World → (ℕ → List Row) → List Client → List ℕ → List Act
 pushed_all w told clients buffers = flat_map (λ b. flat_map (pushed_to (record { 0 = b }) (push_of w b (told b))) clients) buffers
 
-buffer_bytes : (j : ℕ) (w : World) (told : ℕ → List Row) (buffers : List ℕ) (seats : List Seat) → Distinct (map seat_link seats) → unsent_on j (map (pushed_seat w told buffers) seats) ≡ unsent_on j seats ++ sent_to j (pushed_all w told (clients_of seats) buffers)
-buffer_bytes j w told [] seats distinct = ap (unsent_on j) (map_none (pushed_seat w told []) (pushed_none w told) seats) ∙ sym (append-nil (unsent_on j seats))
-buffer_bytes j w told (b ∷ buffers) seats distinct =
+buffer_bytes : (j : ℕ) (w : World) (told : ℕ → List Row) (buffers : List ℕ) (connections : List Connection) → Distinct (map connection_link connections) → unsent_on j (map (pushed_connection w told buffers) connections) ≡ unsent_on j connections ++ sent_to j (pushed_all w told (clients_of connections) buffers)
+buffer_bytes j w told [] connections distinct = ap (unsent_on j) (map_none (pushed_connection w told []) (pushed_none w told) connections) ∙ sym (append-nil (unsent_on j connections))
+buffer_bytes j w told (b ∷ buffers) connections distinct =
     let buffer : Handle = record { 0 = b } in
     let push : Push = push_of w b (told b) in
     let first : Client → List WireMessage = push_told buffer push in
-    let behind = map (push_seat buffer push) seats in
-    let clients = clients_of seats in
-    ap (unsent_on j) (map_more (pushed_seat w told (b ∷ buffers)) (pushed_seat w told buffers) (push_seat buffer push) (pushed_first w told buffer buffers) seats)
-    ∙ buffer_bytes j w told buffers behind (subst Distinct (sym (sent_links first seats)) distinct)
-    ∙ ap (λ cs. unsent_on j behind ++ sent_to j (pushed_all w told cs buffers)) (sent_clients first seats)
-    ∙ ap (λ bytes. bytes ++ sent_to j (pushed_all w told clients buffers)) (sent_bytes j first seats distinct)
-    ∙ append_assoc (unsent_on j seats) (sent_to j (sends_all first clients)) (sent_to j (pushed_all w told clients buffers))
-    ∙ ap (λ bytes. unsent_on j seats ++ bytes) (sym (sent_to-append j (sends_all first clients) (pushed_all w told clients buffers)))
+    let following = map (push_connection buffer push) connections in
+    let clients = clients_of connections in
+    ap (unsent_on j) (map_more (pushed_connection w told (b ∷ buffers)) (pushed_connection w told buffers) (push_connection buffer push) (pushed_first w told buffer buffers) connections)
+    ∙ buffer_bytes j w told buffers following (subst Distinct (sym (sent_links first connections)) distinct)
+    ∙ ap (λ cs. unsent_on j following ++ sent_to j (pushed_all w told cs buffers)) (sent_clients first connections)
+    ∙ ap (λ bytes. bytes ++ sent_to j (pushed_all w told clients buffers)) (sent_bytes j first connections distinct)
+    ∙ append_assoc (unsent_on j connections) (sent_to j (sends_all first clients)) (sent_to j (pushed_all w told clients buffers))
+    ∙ ap (λ bytes. unsent_on j connections ++ bytes) (sym (sent_to-append j (sends_all first clients) (pushed_all w told clients buffers)))
 
-pub pushes-sent : (j : ℕ) (state : State) (w : World) (old new : List Seat) → state.world ≡ w → state.clients ≡ clients_of old → Distinct (map seat_link old) → new ≡ map (pushed_seat w (told_at state) (order w.groups)) old
-    → unsent_on j new ≡ unsent_on j old ++ sent_to j (pushes state).acts
+pub pushes-sent : (j : ℕ) (state : State) (w : World) (old new : List Connection) → state.world ≡ w → state.clients ≡ clients_of old → Distinct (map connection_link old) → new ≡ map (pushed_connection w (told_at state) (order w.groups)) old
+    → unsent_on j new ≡ unsent_on j old ++ sent_to j (push_step state).acts
 pushes-sent j state w old new same clients distinct e =
     let told = told_at state in
     ap (unsent_on j) e

@@ -23,11 +23,11 @@ use Rattle.wc_world.proofs.HeldLemmas.{tied}
 use Rattle.wc_relaycmd.specs.declared.request.Request.{Request}
 use Rattle.wc_session.specs.declared.client.Client.{Client}
 use Rattle.wc_session.specs.Event.{push_told}
-use Rattle.wc_core.specs.Standing.{Standing, HasNoRows}
+use Rattle.wc_core.specs.CoreView.{CoreView, HasNoRows}
 use Rattle.wc_core.specs.State.{State, Act, Stepped}
-use Rattle.wc_core.specs.Step.{stays, then_does, is_nicklist, pushed_to, pushed, pushes, replies, asked}
-use Rattle.wc_core.specs.Served.{state_of, unsent_on, leaving_on, MayDo}
-use Rattle.wc_core.proofs.DidLemmas.{or_else-none, or-false, Keeps-seats, MayDo-exact}
+use Rattle.wc_core.specs.Step.{no_step, then_does, is_nicklist, pushed_to, pushes_of, push_step, reply_step, request_step}
+use Rattle.wc_core.specs.Served.{state_of, unsent_on, leaving_on, FollowsUnlessStarved}
+use Rattle.wc_core.proofs.DidLemmas.{or_else-none, or-false, KeepsClients-connections, FollowsUnlessStarved-exact}
 
 -- ---- no rows
 
@@ -77,14 +77,14 @@ after_rows world buffer (what.ChangeGroup item) e none = absurd (cc)
 after_rows world buffer (what.ChangeNick item) e none = absurd (cc)
 
 -- what a change comes to that touches no row
-pub rows_stay : (before : World) (change : Change) (behind : World) (result : Result Notice ChangeRefused) → Outcome before change behind result → touched_key change.what ≡ None → HasNoRows before → HasNoRows behind
-rows_stay before change behind (Ok notice) made plain none = subst HasNoRows (sym made.after) (after_rows before change.buffer change.what plain none)
-rows_stay before change behind (Err (refused.Buffer reason)) made plain none = subst HasNoRows (sym made.0) none
-rows_stay before change behind (Err (refused.Nick reason)) made plain none = subst HasNoRows (sym made.0) none
-rows_stay before change behind (Err (refused.NoLine h)) made plain none = subst HasNoRows (sym made.0) none
-rows_stay before change behind (Err (refused.TooManyRows limit)) made plain none = subst HasNoRows (sym made.0) none
-rows_stay before change behind (Err refused.Spent) made plain none = subst HasNoRows (sym made.0) none
-rows_stay before change behind (Err refused.NoMemory) made plain none = subst HasNoRows (sym made) none
+pub rows_stay : (before : World) (change : Change) (following : World) (result : Result Notice ChangeRefused) → Outcome before change following result → touched_key change.what ≡ None → HasNoRows before → HasNoRows following
+rows_stay before change following (Ok notice) made plain none = subst HasNoRows (sym made.after) (after_rows before change.buffer change.what plain none)
+rows_stay before change following (Err (refused.Buffer reason)) made plain none = subst HasNoRows (sym made.0) none
+rows_stay before change following (Err (refused.Nick reason)) made plain none = subst HasNoRows (sym made.0) none
+rows_stay before change following (Err (refused.NoLine h)) made plain none = subst HasNoRows (sym made.0) none
+rows_stay before change following (Err (refused.TooManyRows limit)) made plain none = subst HasNoRows (sym made.0) none
+rows_stay before change following (Err refused.Spent) made plain none = subst HasNoRows (sym made.0) none
+rows_stay before change following (Err refused.NoMemory) made plain none = subst HasNoRows (sym made) none
 
 -- ---- the steps
 
@@ -93,39 +93,39 @@ unfolding push_told
 told_none buffer [] = refl
 told_none buffer (client ∷ clients) = told_none buffer clients
 
-pushed_none : (core : Standing) (buffer : ℕ) → rows_at core.world buffer ≡ [] → pushed (state_of core) buffer ≡ []
+pushed_none : (core : CoreView) (buffer : ℕ) → rows_at core.world buffer ≡ [] → pushes_of (state_of core) buffer ≡ []
 pushed_none core buffer none =
     let clients = (state_of core).clients in
     let told : List Row → List Act = λ rows. flat_map (pushed_to (record { 0 = buffer }) (nick_push (root_at buffer) rows rows)) clients in
     ap told none ∙ told_none (record { 0 = buffer }) clients
 
-all_none : (core : Standing) (buffers : List ℕ) → HasNoRows core.world → flat_map (pushed (state_of core)) buffers ≡ []
+all_none : (core : CoreView) (buffers : List ℕ) → HasNoRows core.world → flat_map (pushes_of (state_of core)) buffers ≡ []
 all_none core [] none = refl
 all_none core (buffer ∷ buffers) none =
-    ap (λ acts. acts ++ flat_map (pushed (state_of core)) buffers) (pushed_none core buffer (none buffer)) ∙ all_none core buffers none
+    ap (λ acts. acts ++ flat_map (pushes_of (state_of core)) buffers) (pushed_none core buffer (none buffer)) ∙ all_none core buffers none
 
-pub no_pushes : (core : Standing) → HasNoRows core.world → pushes (state_of core) ≡ stays (state_of core)
+pub no_pushes : (core : CoreView) → HasNoRows core.world → push_step (state_of core) ≡ no_step (state_of core)
 no_pushes core none =
     let done : List Act → Stepped = λ acts. record { state = state_of core; acts = acts } in
     ap done (all_none core (order core.world.groups) none)
 
-pub tick-done : (old new : Standing) (moment : ℕ) → new ≡ record old { moment = moment } → pushes (state_of (record old { moment = moment })) ≡ stays (state_of (record old { moment = moment })) → MayDo old new (pushes (state_of (record old { moment = moment })))
+pub tick-done : (old new : CoreView) (moment : ℕ) → new ≡ record old { moment = moment } → push_step (state_of (record old { moment = moment })) ≡ no_step (state_of (record old { moment = moment })) → FollowsUnlessStarved old new (push_step (state_of (record old { moment = moment })))
 tick-done old new moment same none =
-    let next : Standing = record old { moment = moment } in
-    let P : Stepped → Type 0 = λ s. MayDo old next s in
-    let Q : Standing → Type 0 = λ c. MayDo old c (pushes (state_of next)) in
+    let next : CoreView = record old { moment = moment } in
+    let P : Stepped → Type 0 = λ s. FollowsUnlessStarved old next s in
+    let Q : CoreView → Type 0 = λ c. FollowsUnlessStarved old c (push_step (state_of next)) in
     subst Q (sym same) (subst P (sym none)
-    (MayDo-exact old next (stays (state_of next)) (Keeps-seats old next refl (omega arith))
-    (λ distinct. record { state = refl; bytes = λ j. sym (append-nil (unsent_on j old.seats)); leaving = λ j. sym (or_else-none (leaving_on j old.seats)); quits = sym (or-false old.quits) })))
+    (FollowsUnlessStarved-exact old next (no_step (state_of next)) (KeepsClients-connections old next refl (omega arith))
+    (λ distinct. record { state = refl; bytes = λ j. sym (append-nil (unsent_on j old.connections)); leaving = λ j. sym (or_else-none (leaving_on j old.connections)); quits = sym (or-false old.quits) })))
 
 -- so a request for nicklists is served as any other
-pub asked_plain : (core : Standing) (client : Client) (request : Request) → pushes (state_of core) ≡ stays (state_of core) → asked (state_of core) client (Some request) ≡ replies (state_of core) client request
+pub asked_plain : (core : CoreView) (client : Client) (request : Request) → push_step (state_of core) ≡ no_step (state_of core) → request_step (state_of core) client (Some request) ≡ reply_step (state_of core) client request
 asked_plain core client request none = by (client.logged_in && is_nicklist request.command) where
   state : State
   state = state_of core
 
-  by : (b : Bool) → cond b (then_does (pushes state) (λ next. replies next client request)) (replies state client request) ≡ replies state client request
-  by true = ap (λ (first : Stepped). then_does first (λ next. replies next client request)) none
+  by : (b : Bool) → cond b (then_does (push_step state) (λ next. reply_step next client request)) (reply_step state client request) ≡ reply_step state client request
+  by true = ap (λ (first : Stepped). then_does first (λ next. reply_step next client request)) none
   by false = refl
 
 -- a change without nicks keeps the rows, but for those of a buffer that comes or goes

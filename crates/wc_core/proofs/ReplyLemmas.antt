@@ -5,12 +5,12 @@ use Rattle.std.specs.Str.{IsUtf8}
 use Rattle.wc_text.specs.declared.names.Pair.{Pair}
 use Rattle.wc_text.specs.declared.names.Cause.TheVariants as cause
 use Rattle.wc_text.specs.declared.names.Handle.{Handle}
-use Rattle.wc_buffers.specs.Calls.{Groups}
+use Rattle.wc_buffers.specs.Calls.{EntryGroups}
 use Rattle.wc_model.specs.World.{World}
 use Rattle.wc_relaycmd.specs.declared.request.Command.{Command}
 use Rattle.wc_relaycmd.specs.declared.request.Command.TheVariants as ask
 use Rattle.wc_relaycmd.specs.declared.request.Request.{Request}
-use Rattle.wc_relaycmd.specs.Utf8.{CommandUtf8, HasUtf8}
+use Rattle.wc_relaycmd.specs.Utf8.{CommandUtf8, RequestIsUtf8}
 use Rattle.wc_objects.specs.declared.object.WireMessage.{WireMessage}
 use Rattle.wc_session.specs.declared.client.Client.{Client}
 use Rattle.wc_session.specs.declared.outcome.Outcome.TheVariants as outcome
@@ -64,14 +64,14 @@ typed_fits : (client : Client) (text : List ℕ) (buffer : Option Handle) → Is
 typed_fits client text None utf8 = silent_fits client client refl
 typed_fits client text (Some buffer) utf8 = record { link = refl; text = utf8 }
 
-input_fits : (groups : Groups) (client : Client) (buffer text : List ℕ) → IsUtf8 text → Fits client (input_answer groups client buffer text)
+input_fits : (groups : EntryGroups) (client : Client) (buffer text : List ℕ) → IsUtf8 text → Fits client (input_answer groups client buffer text)
 input_fits groups client buffer text utf8 = typed_fits client text (buffer_named groups buffer) utf8
 
-synchronized_link : (groups : Groups) (client : Client) (buffers : List (List ℕ)) (options : Option (List (List ℕ))) → (synchronized groups client buffers options).link ≡ client.link
+synchronized_link : (groups : EntryGroups) (client : Client) (buffers : List (List ℕ)) (options : Option (List (List ℕ))) → (synchronized groups client buffers options).link ≡ client.link
 unfolding synchronized
 synchronized_link groups client buffers options = refl
 
-desynchronized_link : (groups : Groups) (client : Client) (buffers : List (List ℕ)) (options : Option (List (List ℕ))) → (desynchronized groups client buffers options).link ≡ client.link
+desynchronized_link : (groups : EntryGroups) (client : Client) (buffers : List (List ℕ)) (options : Option (List (List ℕ))) → (desynchronized groups client buffers options).link ≡ client.link
 unfolding desynchronized
 desynchronized_link groups client buffers options = refl
 
@@ -91,7 +91,7 @@ served_fits world password client id ask.Test utf8 = replies_fits client client 
 served_fits world password client id (ask.Ping text) utf8 = replies_fits client client _ refl
 served_fits world password client id ask.Quit utf8 = record { link = refl; text = tt }
 
-pub reply_fits : (world : World) (password : List ℕ) (client : Client) (request : Request) → HasUtf8 request → Fits client (reply_of world password client request)
+pub reply_fits : (world : World) (password : List ℕ) (client : Client) (request : Request) → RequestIsUtf8 request → Fits client (reply_of world password client request)
 unfolding reply_of
 reply_fits world password client request utf8 =
     if_fits client (client.logged_in || is_open request.command) (served world password client request.id request.command) (leaves client cause.LoginFailed)

@@ -13,7 +13,7 @@ use Rattle.wc_buffers.specs.declared.refused.BufferRefused.{BufferRefused}
 use Rattle.wc_buffers.specs.declared.refused.BufferRefused.TheVariants as buffers
 use Rattle.wc_buffers.specs.Entries.{IsText}
 use Rattle.wc_buffers.specs.Kept.{IsBuffer, AreBuffers}
-use Rattle.wc_buffers.specs.Calls.{Groups, entry_of, number, is_bad_name, is_fixed, when, or_else as first_of, no_buffer, bad_name, fixed_var, bad_var_names, fixed_vars, name_taken, bad_names, no_room, too_many_vars, add_refusal_so_far, add_refusal, close_refusal, move_refusal, are_together, same_group, merge_refusal, unmerge_refusal, rename_refusal, short_name_refusal, var_refusal, set_var_refusal, remove_var_refusal}
+use Rattle.wc_buffers.specs.Calls.{EntryGroups, entry_of, number, is_bad_name, is_fixed, when, or_else as first_of, no_buffer, bad_name, fixed_var, bad_var_names, fixed_vars, refusal_of_name, bad_names, no_room, too_many_vars, add_refusal_so_far, add_refusal, close_refusal, move_refusal, are_together, same_group, merge_refusal, unmerge_refusal, rename_refusal, short_name_refusal, var_refusal, set_var_refusal, remove_var_refusal}
 use Rattle.wc_model.specs.declared.change.Change.{Change}
 use Rattle.wc_model.specs.declared.change.Flip.{Flip}
 use Rattle.wc_model.specs.declared.change.What.{What}
@@ -24,17 +24,17 @@ use Rattle.wc_model.specs.World.{World, last_handle}
 use Rattle.wc_model.specs.declared.notice.Notice.{Notice}
 use Rattle.wc_model.specs.Notices.{Accepted, about, told_groups, name_in}
 use Rattle.wc_model.specs.Touches.{touched_key}
-use Rattle.wc_model.specs.Apply.{after, or_else, of_buffers, spent, is_held, no_line, row_of, refusal_of, refusal}
+use Rattle.wc_model.specs.Apply.{after, or_else, of_buffers, refusal_of_handles, is_held, no_line, row_of, refusal_of, refusal}
 use Rattle.wc_world.specs.Texts.{IsChangeText}
-use Rattle.wc_core.specs.Typed.{Typed, Nothing, Quits, Refused, Prints, Adds, Closes, Merges, Names, Changes, typed_line}
-use Rattle.wc_core.specs.Resolved.{Resolved, Stays, Ends, Tells, Asks, buffer_meant, no_such_buffer, of_meant, of_named, change_of, line_spec, core_spec, plugin_in, renamed, resolved, buffer_text, refusal_text, told_refusal}
+use Rattle.wc_core.specs.Typed.{TypedCommand, Nothing, Quits, Refused, Prints, Adds, Closes, Merges, Names, Changes, typed_line}
+use Rattle.wc_core.specs.Resolved.{Effect, Stays, Ends, Tells, Asks, buffer_meant, no_such_buffer, of_meant, of_named, change_of, line_spec, core_spec, plugin_in, rename_of, effect_of, buffer_text, refusal_text, told_refusal}
 use Rattle.wc_core.specs.Texts.{WhatUtf8}
 use Rattle.wc_core.proofs.TypedLemmas.{ascii_text, TypedUtf8, typed_utf8}
 use Rattle.wc_core.proofs.ResolvedWords.{plugin_before}
 
 -- ---- what a line comes to
 
-abbrev pub ResolvedUtf8 : Resolved → Type 0
+abbrev pub ResolvedUtf8 : Effect → Type 0
 ResolvedUtf8 Stays = Unit {0}
 ResolvedUtf8 Ends = Unit {0}
 ResolvedUtf8 (Tells text) = IsUtf8 text
@@ -44,7 +44,7 @@ meant_text : (change : Handle → Change) → ((b : Handle) → WhatUtf8 (change
 meant_text change each None = ascii_text no_such_buffer refl
 meant_text change each (Some buffer) = each buffer
 
-named_text : (groups : Groups) (buffer : Handle) (change : Handle → Change) → ((b : Handle) → WhatUtf8 (change b).what) → (o : Option (List ℕ)) → ResolvedUtf8 (of_named groups buffer change o)
+named_text : (groups : EntryGroups) (buffer : Handle) (change : Handle → Change) → ((b : Handle) → WhatUtf8 (change b).what) → (o : Option (List ℕ)) → ResolvedUtf8 (of_named groups buffer change o)
 named_text groups buffer change each None = each buffer
 named_text groups buffer change each (Some word) = meant_text change each (buffer_meant groups word)
 
@@ -52,7 +52,7 @@ plugin_text : (o : Option BufferEntry) → ((e : BufferEntry) → o ≡ Some e �
 plugin_text None fit = IsUtf8-nil
 plugin_text (Some e) fit = subst IsUtf8 (plugin_before e.row.full_name) (before_text 46 e.row.full_name (lit< tt) (fit e refl).text.full_name)
 
-renamed_text : (groups : Groups) (buffer : Handle) (name : List ℕ) → AreBuffers groups → IsUtf8 name → WhatUtf8 (renamed groups buffer name)
+renamed_text : (groups : EntryGroups) (buffer : Handle) (name : List ℕ) → AreBuffers groups → IsUtf8 name → WhatUtf8 (rename_of groups buffer name)
 renamed_text groups buffer name are utf8 =
     let plugin = plugin_in (option_map (λ (e : BufferEntry). e.row) (entry_of buffer groups)) in
     IsUtf8-append (plugin ++ codes ".") name (IsUtf8-append plugin (codes ".") (plugin_text (entry_of buffer groups) (are.fit buffer)) (ascii_text (codes ".") refl)) utf8
@@ -60,8 +60,8 @@ renamed_text groups buffer name are utf8 =
 added_text : (name : List ℕ) → IsUtf8 name → WhatUtf8 (what.Add (core_spec name))
 added_text name utf8 = record { full_name = IsUtf8-append (codes "core.") name (ascii_text (codes "core.") refl) utf8; short_name = utf8; title = IsUtf8-nil; vars = All-nil IsText }
 
-pub resolved-utf8 : (world : World) (moment : ℕ) (buffer : Handle) (typed : Typed) → AreBuffers world.groups → TypedUtf8 typed → ResolvedUtf8 (resolved world moment buffer typed)
-unfolding resolved
+pub resolved-utf8 : (world : World) (moment : ℕ) (buffer : Handle) (typed : TypedCommand) → AreBuffers world.groups → TypedUtf8 typed → ResolvedUtf8 (effect_of world moment buffer typed)
+unfolding effect_of
 resolved-utf8 world moment buffer Nothing are utf8 = tt
 resolved-utf8 world moment buffer Quits are utf8 = tt
 resolved-utf8 world moment buffer (Refused text) are utf8 = utf8
@@ -74,7 +74,7 @@ resolved-utf8 world moment buffer (Names name) are utf8 = renamed_text world.gro
 resolved-utf8 world moment buffer (Changes w) are utf8 = utf8
 
 -- the same of a line that was read
-pub line-utf8 : (world : World) (moment : ℕ) (buffer : Handle) (typed : Typed) (line : List ℕ) (r : Resolved) → AreBuffers world.groups → IsUtf8 line → typed ≡ typed_line line → r ≡ resolved world moment buffer typed → ResolvedUtf8 r
+pub line-utf8 : (world : World) (moment : ℕ) (buffer : Handle) (typed : TypedCommand) (line : List ℕ) (r : Effect) → AreBuffers world.groups → IsUtf8 line → typed ≡ typed_line line → r ≡ effect_of world moment buffer typed → ResolvedUtf8 r
 line-utf8 world moment buffer typed line r are utf8 read e = subst ResolvedUtf8 (sym e) (resolved-utf8 world moment buffer typed are (subst TypedUtf8 (sym read) (typed_utf8 line utf8)))
 
 pub what_text : (w : What) → WhatUtf8 w → IsChangeText w
@@ -145,7 +145,7 @@ first_text : (a b : Option BufferRefused) → BufferUtf8 a → BufferUtf8 b → 
 first_text None b p q = q
 first_text (Some r) b p q = p
 
-no_buffer_text : (h : Handle) (gs : Groups) → BufferUtf8 (no_buffer h gs)
+no_buffer_text : (h : Handle) (gs : EntryGroups) → BufferUtf8 (no_buffer h gs)
 no_buffer_text h gs = when_text _ (buffers.NoBuffer h) (ascii_text (codes "no such buffer") refl)
 
 bad_name_text : (limit : ℕ) (name : List ℕ) → BufferUtf8 (bad_name limit name)
@@ -163,7 +163,7 @@ fixed_vars_text vars = by (find (λ (v : Pair). is_fixed v.name) vars) where
   by None = tt
   by (Some v) = ascii_text (codes "fixed variable") refl
 
-taken_text : (name : List ℕ) (h : Handle) (gs : Groups) → IsUtf8 name → BufferUtf8 (name_taken name h gs)
+taken_text : (name : List ℕ) (h : Handle) (gs : EntryGroups) → IsUtf8 name → BufferUtf8 (refusal_of_name name h gs)
 taken_text name h gs utf8 = when_text _ (buffers.NameTaken name) (IsUtf8-append (codes "name taken: ") name (ascii_text (codes "name taken: ") refl) utf8)
 
 too_many_text : (b : Bool) (limit : ℕ) → BufferUtf8 (when b (buffers.TooMany limit))
@@ -176,19 +176,19 @@ bad_names_text row vars =
     (first_text (bad_name 128 row.short_name) _ (bad_name_text 128 row.short_name)
     (first_text (bad_var_names vars) (fixed_vars vars) (bad_vars_text vars) (fixed_vars_text vars)))
 
-so_far_text : (row : BufferRow) (vars : List Pair) (gs : Groups) → IsUtf8 row.full_name → BufferUtf8 (add_refusal_so_far row vars gs)
+so_far_text : (row : BufferRow) (vars : List Pair) (gs : EntryGroups) → IsUtf8 row.full_name → BufferUtf8 (add_refusal_so_far row vars gs)
 unfolding add_refusal_so_far no_room
-so_far_text row vars gs utf8 = first_text (bad_names row vars) _ (bad_names_text row vars) (first_text (name_taken row.full_name row.handle gs) (no_room gs) (taken_text row.full_name row.handle gs utf8) (too_many_text _ 256))
+so_far_text row vars gs utf8 = first_text (bad_names row vars) _ (bad_names_text row vars) (first_text (refusal_of_name row.full_name row.handle gs) (no_room gs) (taken_text row.full_name row.handle gs utf8) (too_many_text _ 256))
 
-add_text : (row : BufferRow) (vars : List Pair) (gs : Groups) → IsUtf8 row.full_name → BufferUtf8 (add_refusal row vars gs)
+add_text : (row : BufferRow) (vars : List Pair) (gs : EntryGroups) → IsUtf8 row.full_name → BufferUtf8 (add_refusal row vars gs)
 unfolding add_refusal too_many_vars
 add_text row vars gs utf8 = first_text (add_refusal_so_far row vars gs) (too_many_vars row.full_name vars) (so_far_text row vars gs utf8) (too_many_text _ 64)
 
-close_text : (h : Handle) (gs : Groups) → BufferUtf8 (close_refusal h gs)
+close_text : (h : Handle) (gs : EntryGroups) → BufferUtf8 (close_refusal h gs)
 unfolding close_refusal
 close_text h gs = first_text (no_buffer h gs) _ (no_buffer_text h gs) (when_text _ buffers.IsCore (ascii_text (codes "core buffer") refl))
 
-move_text : (h : Handle) (n : ℕ) (gs : Groups) → BufferUtf8 (move_refusal h n gs)
+move_text : (h : Handle) (n : ℕ) (gs : EntryGroups) → BufferUtf8 (move_refusal h n gs)
 unfolding move_refusal
 move_text h n gs = first_text (no_buffer h gs) _ (no_buffer_text h gs) (when_text _ (buffers.BadNumber n) (ascii_text (codes "bad number") refl))
 
@@ -200,33 +200,33 @@ together_text : (b : Bool) (o : Option ℕ) → BufferUtf8 (cond b (same_group o
 together_text true o = same_text o
 together_text false o = tt
 
-merge_text : (h into : Handle) (gs : Groups) → BufferUtf8 (merge_refusal h into gs)
+merge_text : (h into : Handle) (gs : EntryGroups) → BufferUtf8 (merge_refusal h into gs)
 unfolding merge_refusal
 merge_text h into gs = first_text (no_buffer h gs) _ (no_buffer_text h gs) (first_text (no_buffer into gs) _ (no_buffer_text into gs) (together_text (are_together h into gs) (number h gs)))
 
-unmerge_text : (h : Handle) (gs : Groups) → BufferUtf8 (unmerge_refusal h gs)
+unmerge_text : (h : Handle) (gs : EntryGroups) → BufferUtf8 (unmerge_refusal h gs)
 unfolding unmerge_refusal
 unmerge_text h gs = first_text (no_buffer h gs) _ (no_buffer_text h gs) (when_text _ buffers.NotMerged (ascii_text (codes "not merged") refl))
 
-rename_text : (h : Handle) (name : List ℕ) (gs : Groups) → IsUtf8 name → BufferUtf8 (rename_refusal h name gs)
+rename_text : (h : Handle) (name : List ℕ) (gs : EntryGroups) → IsUtf8 name → BufferUtf8 (rename_refusal h name gs)
 unfolding rename_refusal
-rename_text h name gs utf8 = first_text (no_buffer h gs) _ (no_buffer_text h gs) (first_text (bad_name 256 name) (name_taken name h gs) (bad_name_text 256 name) (taken_text name h gs utf8))
+rename_text h name gs utf8 = first_text (no_buffer h gs) _ (no_buffer_text h gs) (first_text (bad_name 256 name) (refusal_of_name name h gs) (bad_name_text 256 name) (taken_text name h gs utf8))
 
-short_text : (h : Handle) (name : List ℕ) (gs : Groups) → BufferUtf8 (short_name_refusal h name gs)
+short_text : (h : Handle) (name : List ℕ) (gs : EntryGroups) → BufferUtf8 (short_name_refusal h name gs)
 unfolding short_name_refusal
 short_text h name gs = first_text (no_buffer h gs) (bad_name 128 name) (no_buffer_text h gs) (bad_name_text 128 name)
 
-var_text : (h : Handle) (name : List ℕ) (gs : Groups) → BufferUtf8 (var_refusal h name gs)
+var_text : (h : Handle) (name : List ℕ) (gs : EntryGroups) → BufferUtf8 (var_refusal h name gs)
 unfolding var_refusal
 var_text h name gs =
     first_text (no_buffer h gs) _ (no_buffer_text h gs)
     (first_text (bad_name 64 name) (fixed_var name) (bad_name_text 64 name) (when_text (is_fixed name) (buffers.FixedVar name) (ascii_text (codes "fixed variable") refl)))
 
-set_text : (h : Handle) (name : List ℕ) (gs : Groups) → BufferUtf8 (set_var_refusal h name gs)
+set_text : (h : Handle) (name : List ℕ) (gs : EntryGroups) → BufferUtf8 (set_var_refusal h name gs)
 unfolding set_var_refusal
 set_text h name gs = first_text (var_refusal h name gs) _ (var_text h name gs) (too_many_text _ 64)
 
-remove_text : (h : Handle) (name : List ℕ) (gs : Groups) → IsUtf8 name → BufferUtf8 (remove_var_refusal h name gs)
+remove_text : (h : Handle) (name : List ℕ) (gs : EntryGroups) → IsUtf8 name → BufferUtf8 (remove_var_refusal h name gs)
 unfolding remove_var_refusal
 remove_text h name gs utf8 =
     first_text (var_refusal h name gs) _ (var_text h name gs)
@@ -240,7 +240,7 @@ or_else_text : (a b : Option ChangeRefused) → RefusedUtf8 a → RefusedUtf8 b 
 or_else_text None b p q = q
 or_else_text (Some r) b p q = p
 
-spent_text : (count : ℕ) (world : World) → RefusedUtf8 (spent count world)
+spent_text : (count : ℕ) (world : World) → RefusedUtf8 (refusal_of_handles count world)
 spent_text count world = by (nat_lt (last_handle + 1) (world.next + count)) where
   by : (b : Bool) → RefusedUtf8 (cond b (Some refused.Spent) None)
   by true = ascii_text (codes "no handle left") refl
@@ -255,7 +255,7 @@ no_line_text flips world = by (find (λ (flip : Flip). not (is_held flip.content
 refused_text : (world : World) (h : Handle) (w : What) → WhatUtf8 w → RefusedUtf8 (refusal_of world h w)
 unfolding refusal_of
 refused_text world h (what.Add spec) utf8 =
-    or_else_text (of_buffers (add_refusal (row_of world.next spec) spec.vars world.groups)) (spent 4 world)
+    or_else_text (of_buffers (add_refusal (row_of world.next spec) spec.vars world.groups)) (refusal_of_handles 4 world)
     (of_buffers_text (add_refusal (row_of world.next spec) spec.vars world.groups) (add_text (row_of world.next spec) spec.vars world.groups utf8.full_name)) (spent_text 4 world)
 refused_text world h what.Close utf8 = of_buffers_text (close_refusal h world.groups) (close_text h world.groups)
 refused_text world h (what.MoveTo n) utf8 = of_buffers_text (move_refusal h n world.groups) (move_text h n world.groups)
@@ -270,7 +270,7 @@ refused_text world h (what.ShortName name) utf8 = of_buffers_text (short_name_re
 refused_text world h (what.Title title) utf8 = of_buffers_text (no_buffer h world.groups) (no_buffer_text h world.groups)
 refused_text world h (what.SetVar var) utf8 = of_buffers_text (set_var_refusal h var.name world.groups) (set_text h var.name world.groups)
 refused_text world h (what.RemoveVar name) utf8 = of_buffers_text (remove_var_refusal h name world.groups) (remove_text h name world.groups utf8)
-refused_text world h (what.Print line) utf8 = or_else_text (of_buffers (no_buffer h world.groups)) (spent 2 world) (of_buffers_text (no_buffer h world.groups) (no_buffer_text h world.groups)) (spent_text 2 world)
+refused_text world h (what.Print line) utf8 = or_else_text (of_buffers (no_buffer h world.groups)) (refusal_of_handles 2 world) (of_buffers_text (no_buffer h world.groups) (no_buffer_text h world.groups)) (spent_text 2 world)
 refused_text world h what.Clear utf8 = of_buffers_text (no_buffer h world.groups) (no_buffer_text h world.groups)
 refused_text world h (what.Flips flips) utf8 = no_line_text flips world
 refused_text world h (what.AddGroup parent item) utf8 = absurd utf8
@@ -290,32 +290,32 @@ row_text : (o : Option BufferEntry) → ((e : BufferEntry) → o ≡ Some e → 
 row_text None fit = IsUtf8-nil
 row_text (Some e) fit = (fit e refl).text.full_name
 
-told_are : (before behind : World) (w : What) → AreBuffers before.groups → AreBuffers behind.groups → AreBuffers (told_groups before behind w)
-told_are before behind what.Close p q = p
-told_are before behind (what.Add spec) p q = q
-told_are before behind (what.MoveTo n) p q = q
-told_are before behind (what.MergeInto into) p q = q
-told_are before behind what.Unmerge p q = q
-told_are before behind what.Hide p q = q
-told_are before behind what.Unhide p q = q
-told_are before behind (what.Rename name flips) p q = q
-told_are before behind (what.ShortName name) p q = q
-told_are before behind (what.Title title) p q = q
-told_are before behind (what.SetVar var) p q = q
-told_are before behind (what.RemoveVar name) p q = q
-told_are before behind (what.Print line) p q = q
-told_are before behind what.Clear p q = q
-told_are before behind (what.Flips flips) p q = q
-told_are before behind (what.AddGroup parent item) p q = q
-told_are before behind (what.AddNick group item) p q = q
-told_are before behind (what.RemoveGroup name) p q = q
-told_are before behind (what.RemoveNick name) p q = q
-told_are before behind (what.ChangeGroup item) p q = q
-told_are before behind (what.ChangeNick item) p q = q
+told_are : (before following : World) (w : What) → AreBuffers before.groups → AreBuffers following.groups → AreBuffers (told_groups before following w)
+told_are before following what.Close p q = p
+told_are before following (what.Add spec) p q = q
+told_are before following (what.MoveTo n) p q = q
+told_are before following (what.MergeInto into) p q = q
+told_are before following what.Unmerge p q = q
+told_are before following what.Hide p q = q
+told_are before following what.Unhide p q = q
+told_are before following (what.Rename name flips) p q = q
+told_are before following (what.ShortName name) p q = q
+told_are before following (what.Title title) p q = q
+told_are before following (what.SetVar var) p q = q
+told_are before following (what.RemoveVar name) p q = q
+told_are before following (what.Print line) p q = q
+told_are before following what.Clear p q = q
+told_are before following (what.Flips flips) p q = q
+told_are before following (what.AddGroup parent item) p q = q
+told_are before following (what.AddNick group item) p q = q
+told_are before following (what.RemoveGroup name) p q = q
+told_are before following (what.RemoveNick name) p q = q
+told_are before following (what.ChangeGroup item) p q = q
+told_are before following (what.ChangeNick item) p q = q
 
 -- the name of the buffer is text
-pub notice-utf8 : (before : World) (change : Change) (behind : World) (n : Notice) (groups groups' : Groups) → Accepted before change behind n → groups ≡ before.groups → groups' ≡ behind.groups → AreBuffers groups → AreBuffers groups' → IsUtf8 n.full_name
-notice-utf8 before change behind n groups groups' made e e' p q =
+pub notice-utf8 : (before : World) (change : Change) (following : World) (n : Notice) (groups groups' : EntryGroups) → Accepted before change following n → groups ≡ before.groups → groups' ≡ following.groups → AreBuffers groups → AreBuffers groups' → IsUtf8 n.full_name
+notice-utf8 before change following n groups groups' made e e' p q =
     let w = change.what in
     let later : AreBuffers (after before change).groups = subst (λ (world : World). AreBuffers world.groups) made.after (subst AreBuffers e' q) in
     let are = told_are before (after before change) w (subst AreBuffers e p) later in

@@ -6,15 +6,15 @@ use Rattle.std.specs.Option.{option_copied}
 use Rattle.wc_text.specs.declared.names.Handle.{Handle}
 use Rattle.wc_text.specs.Words.{is_filled}
 use Rattle.wc_buffers.specs.declared.entry.BufferEntry.{BufferEntry}
-use Rattle.wc_buffers.specs.Calls.{Groups}
+use Rattle.wc_buffers.specs.Calls.{EntryGroups}
 use Rattle.std.proofs.lemmas.Bool.Decides.{nat_tests}
 use Rattle.wc_buffers.specs.Groups.{rows, AllFilled}
 use Rattle.wc_buffers.specs.Kept.{handles, AreBuffers}
-use Rattle.wc_core.specs.Resolved.{first_in, first_in_group, numbered}
-use Rattle.wc_relaycmd.specs.Cuts.{before, behind}
+use Rattle.wc_core.specs.Resolved.{first_in, first_in_group, first_of_number}
+use Rattle.wc_relaycmd.specs.Cuts.{before, following}
 use Rattle.wc_core.specs.Typed.{tags_of}
 
--- what stands before the first dot
+-- what is before the first dot
 pub plugin_before : (name : List ℕ) → before 46 name ≡ before_first (λ b. eqb b 46) name
 plugin_before [] = refl
 plugin_before (b ∷ name) = by (eqb b 46) (plugin_before name) where
@@ -34,16 +34,16 @@ first_same : (group : List BufferEntry) → first_in group ≡ slice_get (map (�
 first_same [] = refl
 first_same (e ∷ group) = refl
 
-places_same : (groups : Groups) (n : ℕ) → first_in_group (slice_get groups n) ≡ at_place (handles groups) n
+places_same : (groups : EntryGroups) (n : ℕ) → first_in_group (slice_get groups n) ≡ at_place (handles groups) n
 places_same [] n = refl
 places_same (g ∷ groups) zero = first_same g
 places_same (g ∷ groups) (suc n) = places_same groups n
 
-pub no_number : (groups : Groups) (number : ℕ) → number < 1 → numbered groups number ≡ None
+pub no_number : (groups : EntryGroups) (number : ℕ) → number < 1 → first_of_number groups number ≡ None
 no_number groups zero none = refl
 no_number groups (suc n) none = absurd (omega arith)
 
-pub numbered_at : (groups : Groups) (number left : ℕ) → 1 ≤ number → left ≡ number - 1 → numbered groups number ≡ at_place (handles groups) left
+pub numbered_at : (groups : EntryGroups) (number left : ℕ) → 1 ≤ number → left ≡ number - 1 → first_of_number groups number ≡ at_place (handles groups) left
 numbered_at groups zero left some e = absurd (omega arith)
 numbered_at groups (suc n) left some e = let same : n ≡ left = omega arith in places_same groups n ∙ ap (at_place (handles groups)) same
 
@@ -55,42 +55,42 @@ pub at_next : (g : List Handle) (gs : List (List Handle)) (left next : ℕ) → 
 at_next g gs zero next some e = absurd (some refl)
 at_next g gs (suc n) next some e = let same : n ≡ next = omega arith in ap (at_place gs) same
 
--- a number behind the last group
-slice_get-past : (groups : Groups) (n : ℕ) → length groups ≤ n → slice_get groups n ≡ None
+-- a number after the last group
+slice_get-past : (groups : EntryGroups) (n : ℕ) → length groups ≤ n → slice_get groups n ≡ None
 slice_get-past [] n past = refl
 slice_get-past (g ∷ groups) zero past = absurd (omega arith)
 slice_get-past (g ∷ groups) (suc n) past = slice_get-past groups n (omega arith)
 
-few_groups : (groups : Groups) → AllFilled groups → length groups ≤ length (rows groups)
+few_groups : (groups : EntryGroups) → AllFilled groups → length groups ≤ length (rows groups)
 few_groups [] filled = omega arith
 few_groups ([] ∷ groups) filled = absurd filled
 few_groups ((e ∷ group) ∷ groups) filled = omega (arith, few_groups groups filled, length-append group (rows groups))
 
-numbered-past : (groups : Groups) (n : ℕ) → length groups < n → numbered groups n ≡ None
+numbered-past : (groups : EntryGroups) (n : ℕ) → length groups < n → first_of_number groups n ≡ None
 numbered-past groups zero past = absurd (omega arith)
 numbered-past groups (suc n) past = ap first_in_group (slice_get-past groups n (omega arith))
 
 -- a number that is too large for its type
-pub numbered_most : (groups : Groups) (n number : ℕ) → AreBuffers groups → number ≡ min n (2 ^ 32 - 1) → numbered groups number ≡ numbered groups n
+pub numbered_most : (groups : EntryGroups) (n number : ℕ) → AreBuffers groups → number ≡ min n (2 ^ 32 - 1) → first_of_number groups number ≡ first_of_number groups n
 numbered_most groups n number are e = by (nat_le n (2 ^ 32 - 1)) refl where
   few : length groups ≤ 256
   few = omega (arith, few_groups groups are.filled, are.few)
 
-  by : (t : Bool) → nat_le n (2 ^ 32 - 1) ≡ t → numbered groups number ≡ numbered groups n
-  by true small = let below : n ≤ 2 ^ 32 - 1 = grind (arith, nat_tests) in let same : number ≡ n = omega arith in ap (numbered groups) same
+  by : (t : Bool) → nat_le n (2 ^ 32 - 1) ≡ t → first_of_number groups number ≡ first_of_number groups n
+  by true small = let below : n ≤ 2 ^ 32 - 1 = grind (arith, nat_tests) in let same : number ≡ n = omega arith in ap (first_of_number groups) same
   by false large = let above : 2 ^ 32 - 1 < n = grind (arith, nat_tests) in numbered-past groups number (omega (arith, few)) ∙ sym (numbered-past groups n (omega (arith, few)))
 
 -- ---- tags
 
-abbrev parts_behind : Option (List ℕ) → List (List ℕ)
-parts_behind None = []
-parts_behind (Some text) = slice_split (λ b. eqb b 44) text
+abbrev parts_after : Option (List ℕ) → List (List ℕ)
+parts_after None = []
+parts_after (Some text) = slice_split (λ b. eqb b 44) text
 
-parts_front : (text : List ℕ) → slice_split (λ b. eqb b 44) text ≡ before 44 text ∷ parts_behind (behind 44 text)
+parts_front : (text : List ℕ) → slice_split (λ b. eqb b 44) text ≡ before 44 text ∷ parts_after (following 44 text)
 parts_front [] = refl
 parts_front (b ∷ text) = by (eqb b 44) (parts_front text) where
-  by : (t : Bool) → slice_split (λ b. eqb b 44) text ≡ before 44 text ∷ parts_behind (behind 44 text)
-      → cond t ([] ∷ slice_split (λ b. eqb b 44) text) (onto_first b (slice_split (λ b. eqb b 44) text)) ≡ cond t [] (b ∷ before 44 text) ∷ parts_behind (cond t (Some text) (behind 44 text))
+  by : (t : Bool) → slice_split (λ b. eqb b 44) text ≡ before 44 text ∷ parts_after (following 44 text)
+      → cond t ([] ∷ slice_split (λ b. eqb b 44) text) (onto_first b (slice_split (λ b. eqb b 44) text)) ≡ cond t [] (b ∷ before 44 text) ∷ parts_after (cond t (Some text) (following 44 text))
   by true more = refl
   by false more = ap (onto_first b) more
 
@@ -99,19 +99,19 @@ abbrev pub tags_left : Option (Bor (List ℕ)) → List (List ℕ)
 tags_left None = []
 tags_left (Some text) = tags_of text.now
 
-abbrev tags_behind : Option (List ℕ) → List (List ℕ)
-tags_behind o = filter is_filled (parts_behind o)
+abbrev tags_after : Option (List ℕ) → List (List ℕ)
+tags_after o = filter is_filled (parts_after o)
 
-tags_left-behind : (left : Option (Bor (List ℕ))) → tags_left left ≡ tags_behind (option_copied left)
-tags_left-behind None = refl
-tags_left-behind (Some text) = refl
+tags_left-following : (left : Option (Bor (List ℕ))) → tags_left left ≡ tags_after (option_copied left)
+tags_left-following None = refl
+tags_left-following (Some text) = refl
 
 one_more : (b : Bool) (tag : List ℕ) (tags : List (List ℕ)) → cond b (tag ∷ tags) tags ≡ cond b (tag ∷ []) [] ++ tags
 one_more true tag tags = refl
 one_more false tag tags = refl
 
 -- the first tag, and the others
-pub tags_split : (text : List ℕ) (left : Option (Bor (List ℕ))) → option_copied left ≡ behind 44 text → tags_of text ≡ filter is_filled (before 44 text ∷ []) ++ tags_left left
+pub tags_split : (text : List ℕ) (left : Option (Bor (List ℕ))) → option_copied left ≡ following 44 text → tags_of text ≡ filter is_filled (before 44 text ∷ []) ++ tags_left left
 tags_split text left e =
-    ap (filter is_filled) (parts_front text) ∙ one_more (is_filled (before 44 text)) (before 44 text) (tags_behind (behind 44 text))
-    ∙ ap (λ tags. filter is_filled (before 44 text ∷ []) ++ tags) (sym (tags_left-behind left ∙ ap tags_behind e))
+    ap (filter is_filled) (parts_front text) ∙ one_more (is_filled (before 44 text)) (before 44 text) (tags_after (following 44 text))
+    ∙ ap (λ tags. filter is_filled (before 44 text ∷ []) ++ tags) (sym (tags_left-following left ∙ ap tags_after e))

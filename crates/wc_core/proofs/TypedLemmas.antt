@@ -6,12 +6,12 @@ use Rattle.std.proofs.lemmas.Str.{IsUtf8-nil, IsUtf8-append}
 use Rattle.std.specs.Str.{IsUtf8, bytes_eq}
 use Rattle.std.specs.Borrow.{Bor}
 use Rattle.std.specs.Option.{option_copied}
-use Rattle.wc_relaycmd.specs.Cuts.{before, behind}
+use Rattle.wc_relaycmd.specs.Cuts.{before, following}
 use Rattle.wc_relaycmd.specs.Words.{word_of, rest_of}
 use Rattle.wc_relaycmd.proofs.WordLemmas.{Parts-made}
 use Rattle.wc_relaycmd.specs.Lists.{pieces_of}
-use Rattle.wc_relaycmd.specs.Utf8.{AllUtf8}
-use Rattle.wc_relaycmd.proofs.Utf8Lemmas.{cut_text, before_text, behind_text, parts_text, put_byte, all_pieces_text}
+use Rattle.wc_relaycmd.specs.Utf8.{AreUtf8Words}
+use Rattle.wc_relaycmd.proofs.Utf8Lemmas.{cut_text, before_text, after_text, parts_text, put_byte, all_pieces_text}
 use Rattle.std.proofs.lemmas.List.Elements.{All-nil, All-cons}
 use Rattle.std.proofs.lemmas.Slice.Eq.{starts_is}
 use Rattle.std.specs.Str.Parse.{digits_value}
@@ -19,7 +19,7 @@ use Rattle.wc_text.specs.Integer.{is_numeral}
 use Rattle.wc_text.specs.Words.{is_filled}
 use Rattle.wc_model.specs.declared.change.What.TheVariants as what
 use Rattle.wc_core.specs.Texts.{WhatUtf8}
-use Rattle.wc_core.specs.Typed.{Typed, Nothing, Quits, Refused, Prints, Adds, Closes, Merges, Names, Changes, no_text_here, wrong_arguments, unknown_command, printed_by, printed, tags_of, is_first, second_of, behind_second, print_tagged, print_on, print_command, wrong_buffer, one_word, without_words, some_text, moves_to, close_command, starts, set_property, buffer_word, buffer_command, quit_command, command, slashed, typed_line, parted_from, parted}
+use Rattle.wc_core.specs.Typed.{TypedCommand, Nothing, Quits, Refused, Prints, Adds, Closes, Merges, Names, Changes, no_text_here, wrong_arguments, unknown_command, print_unless_empty, print_words, tags_of, is_first, second_of, after_second, print_tagged, print_on, print_command, wrong_buffer, one_word, without_words, some_text, moves_to, close_command, starts, set_property, buffer_word, buffer_command, quit_command, command, slash_command, typed_line, lines_parted, lines_of_text}
 use Rattle.wc_core.specs.TypedSeen.{lines_left, LeftUtf8}
 
 -- whether each byte is ASCII
@@ -41,7 +41,7 @@ pub record LineUtf8 (words : List (List ℕ)) (front text : List ℕ) : Type 0 w
   pub prefix : IsUtf8 front
   pub message : IsUtf8 text
 
-abbrev pub TypedUtf8 : Typed → Type 0
+abbrev pub TypedUtf8 : TypedCommand → Type 0
 TypedUtf8 Nothing = Unit {0}
 TypedUtf8 Quits = Unit {0}
 TypedUtf8 (Refused text) = IsUtf8 text
@@ -52,15 +52,15 @@ TypedUtf8 (Merges buffer) = Unit {0}
 TypedUtf8 (Names name) = IsUtf8 name
 TypedUtf8 (Changes w) = WhatUtf8 w
 
-typed_if : (b : Bool) (x y : Typed) → TypedUtf8 x → TypedUtf8 y → TypedUtf8 (cond b x y)
+typed_if : (b : Bool) (x y : TypedCommand) → TypedUtf8 x → TypedUtf8 y → TypedUtf8 (cond b x y)
 typed_if true x y p q = p
 typed_if false x y p q = q
 
--- the first word of a text, and what stands behind it
+-- the first word of a text, and what comes after it
 word_text : (text : List ℕ) → IsUtf8 text → IsUtf8 (word_of text) × IsUtf8 (rest_of text)
 word_text text utf8 = parts_text text (word_of text) (rest_of text) (Parts-made text) utf8
 
-second_text : (text : List ℕ) → IsUtf8 text → IsUtf8 (second_of text) × IsUtf8 (behind_second text)
+second_text : (text : List ℕ) → IsUtf8 text → IsUtf8 (second_of text) × IsUtf8 (after_second text)
 second_text text utf8 = word_text (rest_of text) (word_text text utf8).1
 
 no_text : TypedUtf8 no_text_here
@@ -74,7 +74,7 @@ unknown_text name utf8 = IsUtf8-append (codes "unknown command: /") name (ascii_
 
 -- ---- `/print`
 
-filled_texts : (texts : List (List ℕ)) → AllUtf8 texts → All IsUtf8 (filter is_filled texts)
+filled_texts : (texts : List (List ℕ)) → AreUtf8Words texts → All IsUtf8 (filter is_filled texts)
 filled_texts [] utf8 = All-nil IsUtf8
 filled_texts (text ∷ texts) utf8 = by (is_filled text) (filled_texts texts utf8.1) where
   by : (b : Bool) → All IsUtf8 (filter is_filled texts) → All IsUtf8 (cond b (text ∷ filter is_filled texts) (filter is_filled texts))
@@ -84,34 +84,34 @@ filled_texts (text ∷ texts) utf8 = by (is_filled text) (filled_texts texts utf
 tags_text : (word : List ℕ) → IsUtf8 word → All IsUtf8 (tags_of word)
 tags_text word utf8 = filled_texts (pieces_of word) (all_pieces_text word utf8)
 
-printed_text : (buffer : Option (List ℕ)) (tags : List (List ℕ)) (text : List ℕ) → All IsUtf8 tags → IsUtf8 text → TypedUtf8 (printed buffer tags text)
+printed_text : (buffer : Option (List ℕ)) (tags : List (List ℕ)) (text : List ℕ) → All IsUtf8 tags → IsUtf8 text → TypedUtf8 (print_words buffer tags text)
 printed_text buffer tags [] all utf8 = wrong_text (codes "print") (ascii_text (codes "print") refl)
-printed_text buffer tags (b ∷ text) all utf8 = by (behind 9 (b ∷ text)) refl where
-  by : (o : Option (List ℕ)) → behind 9 (b ∷ text) ≡ o → TypedUtf8 (printed_by buffer tags (b ∷ text) o)
+printed_text buffer tags (b ∷ text) all utf8 = by (following 9 (b ∷ text)) refl where
+  by : (o : Option (List ℕ)) → following 9 (b ∷ text) ≡ o → TypedUtf8 (print_unless_empty buffer tags (b ∷ text) o)
   by None e = record { tags = all; prefix = IsUtf8-nil; message = utf8 }
-  by (Some message) e = record { tags = all; prefix = before_text 9 (b ∷ text) (lit< tt) utf8; message = behind_text 9 (b ∷ text) message (lit< tt) utf8 e }
+  by (Some message) e = record { tags = all; prefix = before_text 9 (b ∷ text) (lit< tt) utf8; message = after_text 9 (b ∷ text) message (lit< tt) utf8 e }
 
 tagged_text : (buffer : Option (List ℕ)) (text : List ℕ) → IsUtf8 text → TypedUtf8 (print_tagged buffer text)
 tagged_text buffer text utf8 =
     let second = second_text text utf8 in
-    typed_if (is_first (codes "-tags") text) (printed buffer (tags_of (second_of text)) (behind_second text)) (printed buffer [] text)
-    (printed_text buffer (tags_of (second_of text)) (behind_second text) (tags_text (second_of text) second.0) second.1)
+    typed_if (is_first (codes "-tags") text) (print_words buffer (tags_of (second_of text)) (after_second text)) (print_words buffer [] text)
+    (printed_text buffer (tags_of (second_of text)) (after_second text) (tags_text (second_of text) second.0) second.1)
     (printed_text buffer [] text (All-nil IsUtf8) utf8)
 
 on_text : (tags : List (List ℕ)) (text : List ℕ) → All IsUtf8 tags → IsUtf8 text → TypedUtf8 (print_on tags text)
 on_text tags text all utf8 =
-    typed_if (is_first (codes "-buffer") text) (printed (Some (second_of text)) tags (behind_second text)) (printed None tags text)
-    (printed_text (Some (second_of text)) tags (behind_second text) all (second_text text utf8).1)
+    typed_if (is_first (codes "-buffer") text) (print_words (Some (second_of text)) tags (after_second text)) (print_words None tags text)
+    (printed_text (Some (second_of text)) tags (after_second text) all (second_text text utf8).1)
     (printed_text None tags text all utf8)
 
 print_text : (text : List ℕ) → IsUtf8 text → TypedUtf8 (print_command text)
 print_text text utf8 =
     let second = second_text text utf8 in
-    typed_if (is_first (codes "-buffer") text) (print_tagged (Some (second_of text)) (behind_second text))
-    (cond (is_first (codes "-tags") text) (print_on (tags_of (second_of text)) (behind_second text)) (printed None [] text))
-    (tagged_text (Some (second_of text)) (behind_second text) second.1)
-    (typed_if (is_first (codes "-tags") text) (print_on (tags_of (second_of text)) (behind_second text)) (printed None [] text)
-    (on_text (tags_of (second_of text)) (behind_second text) (tags_text (second_of text) second.0) second.1)
+    typed_if (is_first (codes "-buffer") text) (print_tagged (Some (second_of text)) (after_second text))
+    (cond (is_first (codes "-tags") text) (print_on (tags_of (second_of text)) (after_second text)) (print_words None [] text))
+    (tagged_text (Some (second_of text)) (after_second text) second.1)
+    (typed_if (is_first (codes "-tags") text) (print_on (tags_of (second_of text)) (after_second text)) (print_words None [] text)
+    (on_text (tags_of (second_of text)) (after_second text) (tags_text (second_of text) second.0) second.1)
     (printed_text None [] text (All-nil IsUtf8) utf8))
 
 -- ---- `/buffer`
@@ -119,16 +119,16 @@ print_text text utf8 =
 wrong_buffer_text : TypedUtf8 wrong_buffer
 wrong_buffer_text = wrong_text (codes "buffer") (ascii_text (codes "buffer") refl)
 
-one_word_text : (typed : List ℕ → Typed) → ((word : List ℕ) → IsUtf8 word → TypedUtf8 (typed word)) → (text : List ℕ) → IsUtf8 text → TypedUtf8 (one_word typed text)
+one_word_text : (typed : List ℕ → TypedCommand) → ((word : List ℕ) → IsUtf8 word → TypedUtf8 (typed word)) → (text : List ℕ) → IsUtf8 text → TypedUtf8 (one_word typed text)
 one_word_text typed each [] utf8 = wrong_buffer_text
 one_word_text typed each (b ∷ text) utf8 =
     typed_if (nat_lt 0 (length (rest_of (b ∷ text)))) wrong_buffer (typed (word_of (b ∷ text))) wrong_buffer_text (each (word_of (b ∷ text)) (word_text (b ∷ text) utf8).0)
 
-without_words_text : (typed : Typed) → TypedUtf8 typed → (text : List ℕ) → TypedUtf8 (without_words typed text)
+without_words_text : (typed : TypedCommand) → TypedUtf8 typed → (text : List ℕ) → TypedUtf8 (without_words typed text)
 without_words_text typed utf8 [] = utf8
 without_words_text typed utf8 (b ∷ text) = wrong_buffer_text
 
-some_text_text : (typed : List ℕ → Typed) → ((text : List ℕ) → IsUtf8 text → TypedUtf8 (typed text)) → (text : List ℕ) → IsUtf8 text → TypedUtf8 (some_text typed text)
+some_text_text : (typed : List ℕ → TypedCommand) → ((text : List ℕ) → IsUtf8 text → TypedUtf8 (typed text)) → (text : List ℕ) → IsUtf8 text → TypedUtf8 (some_text typed text)
 some_text_text typed each [] utf8 = wrong_buffer_text
 some_text_text typed each (b ∷ text) utf8 = each (b ∷ text) utf8
 
@@ -139,12 +139,12 @@ close_text : (text : List ℕ) → IsUtf8 text → TypedUtf8 (close_command text
 close_text [] utf8 = tt
 close_text (b ∷ text) utf8 = one_word_text (λ name. Closes (Some name)) (λ word u. tt) (b ∷ text) utf8
 
--- what stands behind the front of a word that ends in `_`
-behind_front : (front word : List ℕ) → starts (front ++ 95 ∷ []) word ≡ true → length (front ++ 95 ∷ []) ≡ 13 → IsUtf8 word → IsUtf8 (drop 13 word)
-behind_front front word begins long utf8 =
+-- what comes after the front of a word that ends in `_`
+after_front : (front word : List ℕ) → starts (front ++ 95 ∷ []) word ≡ true → length (front ++ 95 ∷ []) ≡ 13 → IsUtf8 word → IsUtf8 (drop 13 word)
+after_front front word begins long utf8 =
     let whole : word ≡ (front ++ 95 ∷ []) ++ drop (length (front ++ 95 ∷ [])) word = (starts_is Decides-eqb word (front ++ 95 ∷ []) (starts (front ++ 95 ∷ []) word) refl).0 begins in
-    let parted : word ≡ front ++ 95 ∷ drop 13 word = whole ∙ append_assoc front (95 ∷ []) (drop (length (front ++ 95 ∷ [])) word) ∙ ap (λ n. front ++ 95 ∷ drop n word) long in
-    (cut_text front 95 (drop 13 word) (lit< tt) (subst IsUtf8 parted utf8)).1
+    let lines_of_text : word ≡ front ++ 95 ∷ drop 13 word = whole ∙ append_assoc front (95 ∷ []) (drop (length (front ++ 95 ∷ [])) word) ∙ ap (λ n. front ++ 95 ∷ drop n word) long in
+    (cut_text front 95 (drop 13 word) (lit< tt) (subst IsUtf8 lines_of_text utf8)).1
 
 set_text : (word text : List ℕ) → IsUtf8 word → IsUtf8 text → TypedUtf8 (set_property word text)
 set_text word text w t =
@@ -152,11 +152,11 @@ set_text word text w t =
     if_typed (bytes_eq word (codes "short_name")) _ _ (λ e. some_text_text (λ value. Changes (what.ShortName value)) (λ value u. u) text t) (λ e.
     if_typed (bytes_eq word (codes "title")) _ _ (λ e. some_text_text (λ value. Changes (what.Title value)) (λ value u. u) text t) (λ e.
     if_typed (starts (codes "localvar_set_") word) _ _
-    (λ begins. some_text_text (λ value. Changes (what.SetVar (record { name = drop 13 word; value = value }))) (λ value u. (behind_front (codes "localvar_set") word begins refl w, u)) text t) (λ e.
+    (λ begins. some_text_text (λ value. Changes (what.SetVar (record { name = drop 13 word; value = value }))) (λ value u. (after_front (codes "localvar_set") word begins refl w, u)) text t) (λ e.
     if_typed (starts (codes "localvar_del_") word) _ _
-    (λ begins. without_words_text (Changes (what.RemoveVar (drop 13 word))) (behind_front (codes "localvar_del") word begins refl w) text) (λ e. wrong_buffer_text)))))
+    (λ begins. without_words_text (Changes (what.RemoveVar (drop 13 word))) (after_front (codes "localvar_del") word begins refl w) text) (λ e. wrong_buffer_text)))))
   where
-    if_typed : (b : Bool) (x y : Typed) → (b ≡ true → TypedUtf8 x) → (b ≡ false → TypedUtf8 y) → TypedUtf8 (cond b x y)
+    if_typed : (b : Bool) (x y : TypedCommand) → (b ≡ true → TypedUtf8 x) → (b ≡ false → TypedUtf8 y) → TypedUtf8 (cond b x y)
     if_typed true x y p q = p refl
     if_typed false x y p q = q refl
 
@@ -187,7 +187,7 @@ command_text name text n t =
     (typed_if (bytes_eq name (codes "buffer")) _ _ (buffer_text text t)
     (typed_if (bytes_eq name (codes "quit")) _ _ (quit_text text) (unknown_text name n)))
 
-slashed_text : (text : List ℕ) → IsUtf8 text → TypedUtf8 (slashed text)
+slashed_text : (text : List ℕ) → IsUtf8 text → TypedUtf8 (slash_command text)
 slashed_text [] utf8 = command_text [] [] IsUtf8-nil IsUtf8-nil
 slashed_text (b ∷ text) utf8 =
     let parts = word_text (b ∷ text) utf8 in
@@ -198,41 +198,41 @@ pub typed_utf8 : (line : List ℕ) → IsUtf8 line → TypedUtf8 (typed_line lin
 unfolding typed_line
 typed_utf8 [] utf8 = tt
 typed_utf8 (b ∷ text) utf8 = by (eqb b 47) refl where
-  by : (t : Bool) → eqb b 47 ≡ t → TypedUtf8 (cond t (slashed text) no_text_here)
+  by : (t : Bool) → eqb b 47 ≡ t → TypedUtf8 (cond t (slash_command text) no_text_here)
   by true e = let same : b ≡ 47 = grind (arith, nat_tests) in slashed_text text (cut_text [] b text (omega (arith, same)) utf8).1
   by false e = no_text
 
 -- ---- the lines of a text
 
--- the lines behind the first one
-abbrev pub lines_behind : Option (List ℕ) → List (List ℕ)
-lines_behind None = []
-lines_behind (Some text) = parted text
+-- the lines after the first one
+abbrev pub lines_after : Option (List ℕ) → List (List ℕ)
+lines_after None = []
+lines_after (Some text) = lines_of_text text
 
-parted_front : (line text : List ℕ) → parted_from line text ≡ (line ++ before 10 text) ∷ lines_behind (behind 10 text)
+parted_front : (line text : List ℕ) → lines_parted line text ≡ (line ++ before 10 text) ∷ lines_after (following 10 text)
 parted_front line [] = ap (λ l. l ∷ []) (sym (append-nil line))
 parted_front line (b ∷ text) = by (eqb b 10) (parted_front (line ++ b ∷ []) text) where
-  by : (t : Bool) → parted_from (line ++ b ∷ []) text ≡ ((line ++ b ∷ []) ++ before 10 text) ∷ lines_behind (behind 10 text)
-      → cond t (line ∷ parted_from [] text) (parted_from (line ++ b ∷ []) text) ≡ (line ++ cond t [] (b ∷ before 10 text)) ∷ lines_behind (cond t (Some text) (behind 10 text))
-  by true more = ap (λ l. l ∷ parted text) (sym (append-nil line))
-  by false more = more ∙ ap (λ l. l ∷ lines_behind (behind 10 text)) (append_assoc line (b ∷ []) (before 10 text))
+  by : (t : Bool) → lines_parted (line ++ b ∷ []) text ≡ ((line ++ b ∷ []) ++ before 10 text) ∷ lines_after (following 10 text)
+      → cond t (line ∷ lines_parted [] text) (lines_parted (line ++ b ∷ []) text) ≡ (line ++ cond t [] (b ∷ before 10 text)) ∷ lines_after (cond t (Some text) (following 10 text))
+  by true more = ap (λ l. l ∷ lines_of_text text) (sym (append-nil line))
+  by false more = more ∙ ap (λ l. l ∷ lines_after (following 10 text)) (append_assoc line (b ∷ []) (before 10 text))
 
 -- the first line of a text, and the others
-pub parted_split : (text : List ℕ) → parted text ≡ before 10 text ∷ lines_behind (behind 10 text)
+pub parted_split : (text : List ℕ) → lines_of_text text ≡ before 10 text ∷ lines_after (following 10 text)
 parted_split text = parted_front [] text
 
-pub lines_left-behind : (left : Option (Bor (List ℕ))) → lines_left left ≡ lines_behind (option_copied left)
-lines_left-behind None = refl
-lines_left-behind (Some text) = refl
+pub lines_left-following : (left : Option (Bor (List ℕ))) → lines_left left ≡ lines_after (option_copied left)
+lines_left-following None = refl
+lines_left-following (Some text) = refl
 
 -- the first line is text, and so are the others
 pub first_utf8 : (text : List ℕ) → IsUtf8 text → IsUtf8 (before 10 text)
 first_utf8 text utf8 = before_text 10 text (lit< tt) utf8
 
-pub others_utf8 : (text : List ℕ) (left : Option (Bor (List ℕ))) → IsUtf8 text → option_copied left ≡ behind 10 text → LeftUtf8 left
+pub others_utf8 : (text : List ℕ) (left : Option (Bor (List ℕ))) → IsUtf8 text → option_copied left ≡ following 10 text → LeftUtf8 left
 others_utf8 text None utf8 e = tt
-others_utf8 text (Some rest) utf8 e = behind_text 10 text rest.now (lit< tt) utf8 (sym e)
+others_utf8 text (Some rest) utf8 e = after_text 10 text rest.now (lit< tt) utf8 (sym e)
 
 -- the lines that are left are those of the text
-pub lines_left-split : (text : List ℕ) (left : Option (Bor (List ℕ))) → option_copied left ≡ behind 10 text → before 10 text ∷ lines_left left ≡ parted text
-lines_left-split text left e = ap (λ lines. before 10 text ∷ lines) (lines_left-behind left ∙ ap lines_behind e) ∙ sym (parted_split text)
+pub lines_left-split : (text : List ℕ) (left : Option (Bor (List ℕ))) → option_copied left ≡ following 10 text → before 10 text ∷ lines_left left ≡ lines_of_text text
+lines_left-split text left e = ap (λ lines. before 10 text ∷ lines) (lines_left-following left ∙ ap lines_after e) ∙ sym (parted_split text)

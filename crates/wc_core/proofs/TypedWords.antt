@@ -11,7 +11,7 @@ use Rattle.wc_relaycmd.specs.Words.{word_of, rest_of}
 use Rattle.wc_model.specs.declared.change.What.TheVariants as what
 use Rattle.wc_core.specs.declared.buffer_word.BufferWord.{BufferWord}
 use Rattle.wc_core.specs.declared.buffer_word.BufferWord.TheVariants as words
-use Rattle.wc_core.specs.Typed.{Typed, Adds, Merges, Changes, wrong_buffer, one_word, without_words, moves_to, close_command, set_property, buffer_word, buffer_command}
+use Rattle.wc_core.specs.Typed.{TypedCommand, Adds, Merges, Changes, wrong_buffer, one_word, without_words, moves_to, close_command, set_property, buffer_word, buffer_command}
 use Rattle.wc_core.specs.TypedSeen.{set_var_property, number_of, word_named}
 
 fourth : {A : Type 0} (a b c : Bool) (x y z w : A) → a ≡ false → b ≡ false → c ≡ false → cond a x (cond b y (cond c z w)) ≡ w
@@ -26,7 +26,7 @@ pub other_property : (word text : List ℕ) → bytes_eq word (codes "name") ≡
 other_property word text name short title = fourth (bytes_eq word (codes "name")) (bytes_eq word (codes "short_name")) (bytes_eq word (codes "title")) _ _ _ (set_var_property word text) name short title
 
 -- what each word asks for
-abbrev pub word_typed : BufferWord → List ℕ → Typed
+abbrev pub word_typed : BufferWord → List ℕ → TypedCommand
 word_typed words.Add text = one_word (λ name. Adds name) text
 word_typed words.Close text = close_command text
 word_typed words.Move text = one_word moves_to text
@@ -37,7 +37,7 @@ word_typed words.Unhide text = without_words (Changes what.Unhide) text
 word_typed words.Clear text = without_words (Changes what.Clear) text
 word_typed words.Set text = set_property (word_of text) (rest_of text)
 
-abbrev pub typed_by : Option BufferWord → List ℕ → Typed
+abbrev pub typed_by : Option BufferWord → List ℕ → TypedCommand
 typed_by None text = wrong_buffer
 typed_by (Some word) text = word_typed word text
 

@@ -4,7 +4,7 @@ pub mod Pushes
 pub mod Resolved
 pub mod ResolvedSeen
 pub mod Served
-pub mod Standing
+pub mod CoreView
 pub mod State
 pub mod Step
 pub mod Texts

@@ -13,7 +13,7 @@ use Rattle.wc_objects.specs.declared.object.WireMessage.{WireMessage}
 use Rattle.wc_session.specs.declared.client.Client.{Client}
 use Rattle.wc_session.specs.Event.{push_told}
 use Rattle.wc_session.specs.Sending.{spelling}
-use Rattle.wc_core.specs.declared.seat.Seat.{Seat}
+use Rattle.wc_core.specs.declared.connection.Connection.{Connection}
 use Rattle.wc_core.specs.Served.{is_open}
 
 -- no key was touched since each buffer's last push
@@ -36,18 +36,18 @@ push_of world buffer told = nick_push (root_at buffer) told (rows_at world buffe
 abbrev pub pushes_told : World → (ℕ → List Row) → List ℕ → Client → List WireMessage
 pushes_told world told buffers client = flat_map (λ b. push_told (record { 0 = b }) (push_of world b (told b)) client) buffers
 
--- a seat with messages behind its unsent bytes, where its client is open
-abbrev pub sent_seat : List WireMessage → Seat → Seat
-sent_seat messages seat =
-    if is_open seat then record seat { session = record seat.session { unsent = seat.session.unsent ++ flat_map (λ m. spelling m) messages } } else seat
+-- a connection with messages after its unsent bytes, where its client is open
+abbrev pub sent_connection : List WireMessage → Connection → Connection
+sent_connection messages connection =
+    if is_open connection then record connection { session = record connection.session { unsent = connection.session.unsent ++ flat_map (λ m. spelling m) messages } } else connection
 
--- a seat behind the push of a buffer
-abbrev pub push_seat : Handle → Push → Seat → Seat
-push_seat buffer push seat = sent_seat (push_told buffer push seat.session.client) seat
+-- a connection after the push of a buffer
+abbrev pub push_connection : Handle → Push → Connection → Connection
+push_connection buffer push connection = sent_connection (push_told buffer push connection.session.client) connection
 
--- a seat behind the pushes of these buffers
-abbrev pub pushed_seat : World → (ℕ → List Row) → List ℕ → Seat → Seat
-pushed_seat world told buffers seat = sent_seat (pushes_told world told buffers seat.session.client) seat
+-- a connection after the pushes of these buffers
+abbrev pub pushed_connection : World → (ℕ → List Row) → List ℕ → Connection → Connection
+pushed_connection world told buffers connection = sent_connection (pushes_told world told buffers connection.session.client) connection
 
 -- these buffers are there
 abbrev pub AreThere : World → List Handle → Type 0

@@ -8,7 +8,7 @@ use Rattle.wc_buffers.specs.declared.entry.BufferEntry.{BufferEntry}
 use Rattle.wc_buffers.specs.declared.row.BufferSpec.{BufferSpec}
 use Rattle.wc_buffers.specs.declared.refused.BufferRefused.{BufferRefused}
 use Rattle.wc_buffers.specs.declared.refused.BufferRefused.TheVariants as buffers
-use Rattle.wc_buffers.specs.Calls.{Groups, buffer_of}
+use Rattle.wc_buffers.specs.Calls.{EntryGroups, buffer_of}
 use Rattle.wc_buffers.specs.declared.row.BufferRow.{BufferRow}
 use Rattle.wc_model.specs.declared.change.Change.{Change}
 use Rattle.wc_model.specs.declared.change.What.{What}
@@ -18,15 +18,15 @@ use Rattle.wc_model.specs.declared.refused.ChangeRefused.{ChangeRefused}
 use Rattle.wc_model.specs.declared.refused.ChangeRefused.TheVariants as refused
 use Rattle.wc_model.specs.World.{World}
 use Rattle.wc_session.specs.Names.{buffer_named}
-use Rattle.wc_core.specs.Typed.{Typed, Nothing, Quits, Refused, Prints, Adds, Closes, Merges, Names, Changes}
+use Rattle.wc_core.specs.Typed.{TypedCommand, Nothing, Quits, Refused, Prints, Adds, Closes, Merges, Names, Changes}
 
-pub data Resolved : Type 0 where
-  Stays : Resolved
+pub data Effect : Type 0 where
+  Stays : Effect
   -- the run is to end
-  Ends : Resolved
+  Ends : Effect
   -- a refusal is told
-  Tells : List ℕ → Resolved
-  Asks : Change → Resolved
+  Tells : List ℕ → Effect
+  Asks : Change → Effect
 
 -- ---- buffers that a command names
 
@@ -39,23 +39,23 @@ first_in_group None = None
 first_in_group (Some group) = first_in group
 
 -- the first buffer of the group of this number
-abbrev pub numbered : Groups → ℕ → Option Handle
-numbered groups zero = None
-numbered groups (suc n) = first_in_group (slice_get groups n)
+abbrev pub first_of_number : EntryGroups → ℕ → Option Handle
+first_of_number groups zero = None
+first_of_number groups (suc n) = first_in_group (slice_get groups n)
 
 -- a buffer by the number of its group, its full name or its handle
-unfoldable pub buffer_meant : Groups → List ℕ → Option Handle
-buffer_meant groups word = if is_numeral word then numbered groups (digits_value 10 word) else buffer_named groups word
+unfoldable pub buffer_meant : EntryGroups → List ℕ → Option Handle
+buffer_meant groups word = if is_numeral word then first_of_number groups (digits_value 10 word) else buffer_named groups word
 
 abbrev pub no_such_buffer : List ℕ
 no_such_buffer = codes "buffer: no such buffer"
 
 -- what is asked of the buffer that is meant, where it is there
-abbrev pub of_meant : (Handle → Change) → Option Handle → Resolved
+abbrev pub of_meant : (Handle → Change) → Option Handle → Effect
 of_meant change None = Tells no_such_buffer
 of_meant change (Some buffer) = Asks (change buffer)
 
-abbrev pub of_named : Groups → Handle → (Handle → Change) → Option (List ℕ) → Resolved
+abbrev pub of_named : EntryGroups → Handle → (Handle → Change) → Option (List ℕ) → Effect
 of_named groups buffer change None = Asks (change buffer)
 of_named groups buffer change (Some word) = of_meant change (buffer_meant groups word)
 
@@ -84,25 +84,25 @@ core_spec name = record { full_name = codes "core." ++ name; short_name = name; 
 abbrev pub null : Handle
 null = record { 0 = 0 }
 
--- what stands before the first dot of a buffer's full name, or all of it
+-- what is before the first dot of a buffer's full name, or all of it
 abbrev pub plugin_in : Option BufferRow → List ℕ
 plugin_in None = []
 plugin_in (Some row) = before_first (λ b. b == 46) row.full_name
 
-abbrev pub renamed : Groups → Handle → List ℕ → What
-renamed groups buffer name = what.Rename (plugin_in (buffer_of buffer groups) ++ codes "." ++ name) []
+abbrev pub rename_of : EntryGroups → Handle → List ℕ → What
+rename_of groups buffer name = what.Rename (plugin_in (buffer_of buffer groups) ++ codes "." ++ name) []
 
-unfoldable pub resolved : World → ℕ → Handle → Typed → Resolved
-resolved world moment buffer Nothing = Stays
-resolved world moment buffer Quits = Ends
-resolved world moment buffer (Refused text) = Tells text
-resolved world moment buffer (Prints name tags prefix message) =
+unfoldable pub effect_of : World → ℕ → Handle → TypedCommand → Effect
+effect_of world moment buffer Nothing = Stays
+effect_of world moment buffer Quits = Ends
+effect_of world moment buffer (Refused text) = Tells text
+effect_of world moment buffer (Prints name tags prefix message) =
     of_named world.groups buffer (λ b. change_of b (what.Print (line_spec moment tags prefix message))) name
-resolved world moment buffer (Adds name) = Asks (change_of null (what.Add (core_spec name)))
-resolved world moment buffer (Closes name) = of_named world.groups buffer (λ b. change_of b what.Close) name
-resolved world moment buffer (Merges name) = of_meant (λ into. change_of buffer (what.MergeInto into)) (buffer_meant world.groups name)
-resolved world moment buffer (Names name) = Asks (change_of buffer (renamed world.groups buffer name))
-resolved world moment buffer (Changes w) = Asks (change_of buffer w)
+effect_of world moment buffer (Adds name) = Asks (change_of null (what.Add (core_spec name)))
+effect_of world moment buffer (Closes name) = of_named world.groups buffer (λ b. change_of b what.Close) name
+effect_of world moment buffer (Merges name) = of_meant (λ into. change_of buffer (what.MergeInto into)) (buffer_meant world.groups name)
+effect_of world moment buffer (Names name) = Asks (change_of buffer (rename_of world.groups buffer name))
+effect_of world moment buffer (Changes w) = Asks (change_of buffer w)
 
 -- ---- the texts of refusals
 

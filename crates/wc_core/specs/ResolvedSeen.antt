@@ -4,16 +4,16 @@ use Rattle.wc_buffers.specs.declared.refused.BufferRefused.{BufferRefused}
 use Rattle.wc_buffers.specs.declared.refused.BufferRefused.TheVariants as buffers
 use Rattle.wc_core.specs.declared.resolve.Resolution.{Resolution}
 use Rattle.wc_core.specs.declared.resolve.Resolution.TheVariants as resolution
-use Rattle.wc_core.specs.Resolved.{Resolved, Stays, Ends, Tells, Asks}
+use Rattle.wc_core.specs.Resolved.{Effect, Stays, Ends, Tells, Asks}
 
-abbrev pub outcome_of : Resolution → Resolved
+abbrev pub outcome_of : Resolution → Effect
 outcome_of resolution.Stays = Stays
 outcome_of resolution.Ends = Ends
 outcome_of (resolution.Tells text) = Tells text
 outcome_of (resolution.Asks change) = Asks change
 
 -- the name that a refusal tells
-abbrev pub name_meant : BufferRefused → List ℕ
-name_meant (buffers.NameTaken name) = name
-name_meant (buffers.NoVar name) = name
-name_meant _ = []
+abbrev pub name_in_refusal : BufferRefused → List ℕ
+name_in_refusal (buffers.NameTaken name) = name
+name_in_refusal (buffers.NoVar name) = name
+name_in_refusal _ = []

@@ -15,83 +15,83 @@ use Rattle.wc_session.specs.declared.client.Client.{Client}
 use Rattle.wc_session.specs.Event.{Spelled, with_event, notice_told}
 use Rattle.wc_session.specs.Known.{new_session}
 use Rattle.wc_session.specs.Sending.{spelling}
-use Rattle.wc_session.specs.Sync.{follows, heard}
+use Rattle.wc_session.specs.Sync.{follows, after_event}
 use Rattle.std.specs.List.{flat_map}
-use Rattle.wc_core.specs.declared.seat.Seat.{Seat}
-use Rattle.wc_core.specs.declared.seat.Departure.{Departure}
-use Rattle.wc_core.specs.Standing.{Standing}
+use Rattle.wc_core.specs.declared.connection.Connection.{Connection}
+use Rattle.wc_core.specs.declared.connection.Departure.{Departure}
+use Rattle.wc_core.specs.CoreView.{CoreView}
 use Rattle.wc_core.specs.State.{State, Act, Sends, Closes, Quits, Stepped}
 
-abbrev pub seat_link : Seat → ℕ
-seat_link seat = seat.session.client.link.0
+abbrev pub connection_link : Connection → ℕ
+connection_link connection = connection.session.client.link.0
 
-abbrev pub links_of : Standing → List ℕ
-links_of core = map seat_link core.seats
+abbrev pub links_of : CoreView → List ℕ
+links_of core = map connection_link core.connections
 
-abbrev pub is_open : Seat → Bool
-is_open seat = is_none seat.leaving
+abbrev pub is_open : Connection → Bool
+is_open connection = is_none connection.leaving
 
 -- the clients that are not leaving
-abbrev pub clients_of : List Seat → List Client
+abbrev pub clients_of : List Connection → List Client
 clients_of [] = []
-clients_of (seat ∷ seats) = if is_open seat then seat.session.client ∷ clients_of seats else clients_of seats
+clients_of (connection ∷ connections) = if is_open connection then connection.session.client ∷ clients_of connections else clients_of connections
 
 -- No change that is typed has nicks, so the rows that were last pushed are the rows.
-abbrev pub state_of : Standing → State
-state_of core = record { password = core.password; clients = clients_of core.seats; world = core.world; told = core.world.nicks; moment = core.moment }
+abbrev pub state_of : CoreView → State
+state_of core = record { password = core.password; clients = clients_of core.connections; world = core.world; told = core.world.nicks; moment = core.moment }
 
 -- ---- what is seen of a link
 
-abbrev pub unsent_at : Option Seat → Option (List ℕ)
+abbrev pub unsent_at : Option Connection → Option (List ℕ)
 unsent_at None = None
-unsent_at (Some seat) = Some seat.session.unsent
+unsent_at (Some connection) = Some connection.session.unsent
 
-abbrev pub unsent_in : Option Seat → List ℕ
+abbrev pub unsent_in : Option Connection → List ℕ
 unsent_in None = []
-unsent_in (Some seat) = seat.session.unsent
+unsent_in (Some connection) = connection.session.unsent
 
 -- the bytes that are still to be sent on a link
-abbrev pub unsent_on : ℕ → List Seat → List ℕ
-unsent_on link seats = unsent_in (at_key seat_link link seats)
+abbrev pub unsent_on : ℕ → List Connection → List ℕ
+unsent_on link connections = unsent_in (at_key connection_link link connections)
 
-abbrev pub leaving_in : Option Seat → Option Cause
+abbrev pub leaving_in : Option Connection → Option Cause
 leaving_in None = None
-leaving_in (Some seat) = seat.leaving
+leaving_in (Some connection) = connection.leaving
 
 -- why the client of a link is leaving, if it is
-abbrev pub leaving_on : ℕ → List Seat → Option Cause
-leaving_on link seats = leaving_in (at_key seat_link link seats)
+abbrev pub leaving_on : ℕ → List Connection → Option Cause
+leaving_on link connections = leaving_in (at_key connection_link link connections)
 
-abbrev pub is_open_at : Option Seat → Bool
+abbrev pub is_open_at : Option Connection → Bool
 is_open_at None = false
-is_open_at (Some seat) = is_open seat
+is_open_at (Some connection) = is_open connection
 
--- the seats after the first unsent bytes of a link are gone
-abbrev pub gone_at : ℕ → ℕ → List Seat → Option Seat → List Seat
-gone_at link count seats None = seats
-gone_at link count seats (Some seat) = put_at seat_link link (record seat { session = record seat.session { unsent = drop count seat.session.unsent } }) seats
+-- the connections after the first unsent bytes of a link are gone
+abbrev pub gone_at : ℕ → ℕ → List Connection → Option Connection → List Connection
+gone_at link count connections None = connections
+gone_at link count connections (Some connection) = put_at connection_link link (record connection { session = record connection.session { unsent = drop count connection.session.unsent } }) connections
 
--- the seats after the client of a link began to leave, where it is open
-abbrev pub left_if : Bool → ℕ → Cause → List Seat → Seat → List Seat
-left_if true link cause seats seat = put_at seat_link link (record seat { leaving = Some cause }) seats
-left_if false link cause seats seat = seats
+-- the connections after the client of a link began to leave, where it is open
+abbrev pub left_if : Bool → ℕ → Cause → List Connection → Connection → List Connection
+left_if true link cause connections connection = put_at connection_link link (record connection { leaving = Some cause }) connections
+left_if false link cause connections connection = connections
 
-abbrev pub left_at : ℕ → Cause → List Seat → Option Seat → List Seat
-left_at link cause seats None = seats
-left_at link cause seats (Some seat) = left_if (is_open seat) link cause seats seat
+abbrev pub left_at : ℕ → Cause → List Connection → Option Connection → List Connection
+left_at link cause connections None = connections
+left_at link cause connections (Some connection) = left_if (is_open connection) link cause connections connection
 
--- the seat of a client that came
-abbrev pub new_seat : LinkId → List ℕ → Seat
-new_seat link nonce = record { session = new_session link nonce; leaving = None }
+-- the connection of a client that came
+abbrev pub new_connection : LinkId → List ℕ → Connection
+new_connection link nonce = record { session = new_session link nonce; leaving = None }
 
 -- the first client that is leaving
 abbrev pub departure_by : LinkId → Option Cause → Option Departure → Option Departure
 departure_by link None others = others
 departure_by link (Some cause) others = Some (record { link = link; cause = cause })
 
-abbrev pub departure_of : List Seat → Option Departure
+abbrev pub departure_of : List Connection → Option Departure
 departure_of [] = None
-departure_of (seat ∷ seats) = departure_by seat.session.client.link seat.leaving (departure_of seats)
+departure_of (connection ∷ connections) = departure_by connection.session.client.link connection.leaving (departure_of connections)
 
 -- ---- what the acts do to a link
 
@@ -149,12 +149,12 @@ abbrev pub Distinct : List ℕ → Type 0
 Distinct [] = Unit {0}
 Distinct (n ∷ ns) = Absent n ns × Distinct ns
 
--- The core after a step: what it holds is what the step says, the bytes for each link stand behind its unsent ones, and
+-- The core after a step: what it holds is what the step says, the bytes for each link come after its unsent ones, and
 -- the clients that the acts close are leaving.
-pub record Did (old new : Standing) (stepped : Stepped) : Type 0 where
+pub record Follows (old new : CoreView) (stepped : Stepped) : Type 0 where
   pub state : state_of new ≡ stepped.state
-  pub bytes : (link : ℕ) → unsent_on link new.seats ≡ unsent_on link old.seats ++ sent_to link stepped.acts
-  pub leaving : (link : ℕ) → leaving_on link new.seats ≡ or_else (leaving_on link old.seats) (close_of link stepped.acts)
+  pub bytes : (link : ℕ) → unsent_on link new.connections ≡ unsent_on link old.connections ++ sent_to link stepped.acts
+  pub leaving : (link : ℕ) → leaving_on link new.connections ≡ or_else (leaving_on link old.connections) (close_of link stepped.acts)
   pub quits : new.quits ≡ (old.quits || has_end stepped.acts)
 
 -- why a client is leaving: as before, or for want of memory
@@ -166,100 +166,100 @@ abbrev pub LeavesBy : Option Cause → Option Cause → Option Cause → Type 0
 LeavesBy before closes after = (after ≡ or_else before closes) ⊎ StaysOrStarves before after
 
 -- what holds also where memory was refused: the same links have a client, and a client that is leaving stays as it is
-pub record Keeps (old new : Standing) : Type 0 where
+pub record KeepsClients (old new : CoreView) : Type 0 where
   pub rises : old.starved ≤ new.starved
   pub links : links_of new ≡ links_of old
-  pub kept : (link : ℕ) → IsSome (leaving_on link old.seats) → at_key seat_link link new.seats ≡ at_key seat_link link old.seats
+  pub kept : (link : ℕ) → IsSome (leaving_on link old.connections) → at_key connection_link link new.connections ≡ at_key connection_link link old.connections
 
 -- The step is done, unless some growth was refused. Who begins to leave does so for the cause that the step's acts give,
 -- or for want of memory.
-pub record MayDo (old new : Standing) (stepped : Stepped) : Type 0 where
-  pub keeps : Keeps old new
-  pub causes : Distinct (links_of old) → (link : ℕ) → LeavesBy (leaving_on link old.seats) (close_of link stepped.acts) (leaving_on link new.seats)
-  pub does : new.starved ≡ old.starved → old.starved < 2 ^ 64 - 1 → Distinct (links_of old) → Did old new stepped
+pub record FollowsUnlessStarved (old new : CoreView) (stepped : Stepped) : Type 0 where
+  pub keeps : KeepsClients old new
+  pub causes : Distinct (links_of old) → (link : ℕ) → LeavesBy (leaving_on link old.connections) (close_of link stepped.acts) (leaving_on link new.connections)
+  pub does : new.starved ≡ old.starved → old.starved < 2 ^ 64 - 1 → Distinct (links_of old) → Follows old new stepped
 
 -- memory was refused
-pub record Starves (old new : Standing) : Type 0 where
-  pub keeps : Keeps old new
-  pub causes : Distinct (links_of old) → (link : ℕ) → StaysOrStarves (leaving_on link old.seats) (leaving_on link new.seats)
+pub record RanOutOfMemory (old new : CoreView) : Type 0 where
+  pub keeps : KeepsClients old new
+  pub causes : Distinct (links_of old) → (link : ℕ) → StaysOrStarves (leaving_on link old.connections) (leaving_on link new.connections)
   pub count : new.starved ≡ min (old.starved + 1) (2 ^ 64 - 1)
 
--- a refused arrival has no seat
+-- a refused arrival has no connection
 abbrev pub refusal : ℕ → Option Cause → List Act
 refusal link None = []
 refusal link (Some cause) = Closes link cause ∷ []
 
 -- the core after an arrival, which may be refused
-pub record Came (link : ℕ) (old new : Standing) (refused : Option Cause) (stepped : Stepped) : Type 0 where
+pub record AdmitsArrivalAt (link : ℕ) (old new : CoreView) (refused : Option Cause) (stepped : Stepped) : Type 0 where
   pub state : state_of new ≡ stepped.state
-  pub bytes : (other : ℕ) → unsent_on other new.seats ≡ unsent_on other old.seats
-  pub leaving : (other : ℕ) → leaving_on other new.seats ≡ leaving_on other old.seats
+  pub bytes : (other : ℕ) → unsent_on other new.connections ≡ unsent_on other old.connections
+  pub leaving : (other : ℕ) → leaving_on other new.connections ≡ leaving_on other old.connections
   pub quits : new.quits ≡ old.quits
   pub acts : stepped.acts ≡ refusal link refused
 
-abbrev pub seats_after : List Seat → List Seat → ℕ → Option Cause → Type 0
-seats_after old new link None = map seat_link new ≡ map seat_link old ++ link ∷ []
-seats_after old new link (Some cause) = new ≡ old
+abbrev pub connections_after : List Connection → List Connection → ℕ → Option Cause → Type 0
+connections_after old new link None = map connection_link new ≡ map connection_link old ++ link ∷ []
+connections_after old new link (Some cause) = new ≡ old
 
-pub record MayCome (link : ℕ) (old new : Standing) (refused : Option Cause) (stepped : Stepped) : Type 0 where
+pub record AdmitsUnlessStarved (link : ℕ) (old new : CoreView) (refused : Option Cause) (stepped : Stepped) : Type 0 where
   pub rises : old.starved ≤ new.starved
-  pub seats : seats_after old.seats new.seats link refused
-  pub kept : (other : ℕ) → IsSome (leaving_on other old.seats) → at_key seat_link other new.seats ≡ at_key seat_link other old.seats
+  pub connections : connections_after old.connections new.connections link refused
+  pub kept : (other : ℕ) → IsSome (leaving_on other old.connections) → at_key connection_link other new.connections ≡ at_key connection_link other old.connections
   -- it is refused for the cause that the step's acts give, or for want of memory
   pub cause : IfSome refused (λ why. (stepped.acts ≡ Closes link why ∷ []) ⊎ (why ≡ NoMemory))
-  pub comes : new.starved ≡ old.starved → old.starved < 2 ^ 64 - 1 → Came link old new refused stepped
+  pub comes : new.starved ≡ old.starved → old.starved < 2 ^ 64 - 1 → AdmitsArrivalAt link old new refused stepped
 
 -- ---- a notice that is told
 
 -- an event is for an open client that asked for it
-abbrev pub listens : EventKind → ℕ → Seat → Bool
-listens kind buffer seat = is_open seat && follows kind buffer seat.session.client
+abbrev pub listens : EventKind → ℕ → Connection → Bool
+listens kind buffer connection = is_open connection && follows kind buffer connection.session.client
 
--- a seat behind an event that is not told
-abbrev pub noted_seat : EventKind → ℕ → Seat → Seat
-noted_seat kind buffer seat =
-    if is_open seat then record seat { session = record seat.session { client = heard kind buffer seat.session.client } } else seat
+-- a connection after an event that is not told
+abbrev pub noted_connection : EventKind → ℕ → Connection → Connection
+noted_connection kind buffer connection =
+    if is_open connection then record connection { session = record connection.session { client = after_event kind buffer connection.session.client } } else connection
 
--- a seat behind an event
-abbrev pub heard_seat : Spelled → Seat → Seat
-heard_seat event seat = if is_open seat then record seat { session = with_event event seat.session } else seat
+-- a connection after an event
+abbrev pub heard_connection : Spelled → Connection → Connection
+heard_connection event connection = if is_open connection then record connection { session = with_event event connection.session } else connection
 
--- a seat where no memory is found for an event: its client leaves, where the event is for it
-abbrev pub starved_seat : EventKind → ℕ → Seat → Seat
-starved_seat kind buffer seat =
-    if listens kind buffer seat then record seat { leaving = Some NoMemory } else noted_seat kind buffer seat
+-- a connection where no memory is found for an event: its client leaves, where the event is for it
+abbrev pub starved_connection : EventKind → ℕ → Connection → Connection
+starved_connection kind buffer connection =
+    if listens kind buffer connection then record connection { leaving = Some NoMemory } else noted_connection kind buffer connection
 
--- a seat once a notice is told, in the world behind the change
-abbrev pub told_seat : World → Notice → Seat → Seat
-told_seat world notice seat =
-    if is_open seat then record seat {
+-- a connection once a notice is told, in the world after the change
+abbrev pub told_connection : World → Notice → Connection → Connection
+told_connection world notice connection =
+    if is_open connection then record connection {
       session = record {
-        client = heard notice.kind notice.buffer.0 seat.session.client;
-        unsent = seat.session.unsent ++ flat_map (λ m. spelling m) (notice_told world notice seat.session.client);
+        client = after_event notice.kind notice.buffer.0 connection.session.client;
+        unsent = connection.session.unsent ++ flat_map (λ m. spelling m) (notice_told world notice connection.session.client);
       };
-    } else seat
+    } else connection
 
--- a seat behind this service of it, or one whose client leaves for want of memory, where the service was for it
-abbrev pub SeatServed : EventKind → ℕ → (Seat → Seat) → Seat → Seat → Type 0
-SeatServed kind buffer service old new = (new ≡ service old) ⊎ (new ≡ starved_seat kind buffer old)
+-- a connection after this service of it, or one whose client leaves for want of memory, where the service was for it
+abbrev pub ConnectionServed : EventKind → ℕ → (Connection → Connection) → Connection → Connection → Type 0
+ConnectionServed kind buffer service old new = (new ≡ service old) ⊎ (new ≡ starved_connection kind buffer old)
 
-abbrev pub SeatsServed : EventKind → ℕ → (Seat → Seat) → List Seat → List Seat → Type 0
-SeatsServed kind buffer service [] [] = Unit {0}
-SeatsServed kind buffer service [] (b ∷ new) = ⊥
-SeatsServed kind buffer service (a ∷ old) [] = ⊥
-SeatsServed kind buffer service (a ∷ old) (b ∷ new) = SeatServed kind buffer service a b × SeatsServed kind buffer service old new
+abbrev pub ConnectionsServed : EventKind → ℕ → (Connection → Connection) → List Connection → List Connection → Type 0
+ConnectionsServed kind buffer service [] [] = Unit {0}
+ConnectionsServed kind buffer service [] (b ∷ new) = ⊥
+ConnectionsServed kind buffer service (a ∷ old) [] = ⊥
+ConnectionsServed kind buffer service (a ∷ old) (b ∷ new) = ConnectionServed kind buffer service a b × ConnectionsServed kind buffer service old new
 
 -- a client that is leaving is left alone, and another one leaves for want of memory at most
-pub record SeatKept (old new : Seat) : Type 0 where
-  pub link : seat_link new ≡ seat_link old
+pub record ConnectionKept (old new : Connection) : Type 0 where
+  pub link : connection_link new ≡ connection_link old
   pub kept : is_open old ≡ false → new ≡ old
   pub cause : StaysOrStarves old.leaving new.leaving
 
-abbrev pub SeatsKept : List Seat → List Seat → Type 0
-SeatsKept [] [] = Unit {0}
-SeatsKept [] (b ∷ new) = ⊥
-SeatsKept (a ∷ old) [] = ⊥
-SeatsKept (a ∷ old) (b ∷ new) = SeatKept a b × SeatsKept old new
+abbrev pub ConnectionsKept : List Connection → List Connection → Type 0
+ConnectionsKept [] [] = Unit {0}
+ConnectionsKept [] (b ∷ new) = ⊥
+ConnectionsKept (a ∷ old) [] = ⊥
+ConnectionsKept (a ∷ old) (b ∷ new) = ConnectionKept a b × ConnectionsKept old new
 
 -- the text that was typed is UTF-8
 abbrev pub OutcomeUtf8 : Outcome → Type 0

@@ -15,7 +15,7 @@ pub record State : Type 0 where
   pub clients : List Client
   -- the buffers, with their lines and nicklists
   pub world : World
-  -- the rows of each buffer's nicklist as they stood when they were last pushed, and none before that
+  -- the rows of each buffer's nicklist as they was when they were last pushed, and none before that
   pub told : FinMap nat_cmp (List Row)
   -- the last moment, in milliseconds since 1970
   pub moment : ℕ

@@ -30,11 +30,11 @@ use Rattle.wc_session.specs.declared.outcome.Outcome.TheVariants as outcome
 use Rattle.wc_session.specs.Event.{notice_told, push_told}
 use Rattle.wc_session.specs.Known.{new_client}
 use Rattle.wc_session.specs.Reply.{Answer, reply_of}
-use Rattle.wc_session.specs.Sync.{heard}
+use Rattle.wc_session.specs.Sync.{after_event}
 use Rattle.wc_core.specs.Events.{Event, Start, Tick, Arrives, Line as LineCame, Ends, Fails, ListenFails}
-use Rattle.wc_core.specs.Resolved.{Resolved, Stays, Ends as ResolvedEnds, Tells, Asks, resolved, refusal_text, told_refusal}
+use Rattle.wc_core.specs.Resolved.{Effect, Stays, Ends as ResolvedEnds, Tells, Asks, effect_of, refusal_text, told_refusal}
 use Rattle.wc_core.specs.State.{State, Act, Sends, Closes, Quits, Stepped, told_at}
-use Rattle.wc_core.specs.Typed.{Typed, Quits as TypedQuits, typed_line, parted}
+use Rattle.wc_core.specs.Typed.{TypedCommand, Quits as TypedQuits, typed_line, lines_of_text}
 
 abbrev pub client_link : Client → ℕ
 client_link client = client.link.0
@@ -43,8 +43,8 @@ client_link client = client.link.0
 abbrev pub client_limit : ℕ
 client_limit = 5
 
-abbrev pub stays : State → Stepped
-stays state = record { state = state; acts = [] }
+abbrev pub no_step : State → Stepped
+no_step state = record { state = state; acts = [] }
 
 abbrev pub then_does : Stepped → (State → Stepped) → Stepped
 then_does first others = record { state = (others first.state).state; acts = first.acts ++ (others first.state).acts }
@@ -58,32 +58,32 @@ sends link messages = map (Sends link) messages
 abbrev pub told_to : World → Notice → Client → List Act
 told_to world notice client = sends (client_link client) (notice_told world notice client)
 
--- the world behind a change of which this is noticed, the rows that then were last pushed, and what each client is told
-abbrev pub told_all : State → FinMap nat_cmp (List Row) → World → Notice → Stepped
-told_all state told world notice = record {
-  state = record state { world = world; told = told; clients = map (heard notice.kind notice.buffer.0) state.clients };
+-- the world after a change of which this is noticed, the rows that then were last pushed, and what each client is told
+abbrev pub tell_all_step : State → FinMap nat_cmp (List Row) → World → Notice → Stepped
+tell_all_step state told world notice = record {
+  state = record state { world = world; told = told; clients = map (after_event notice.kind notice.buffer.0) state.clients };
   acts = flat_map (told_to world notice) state.clients;
 }
 
 -- an accepted change
-abbrev pub changes : State → Change → Stepped
-changes state change = told_all state (told_after state.world change.buffer change.what state.told) (after state.world change) (notice state.world change)
+abbrev pub change_step : State → Change → Stepped
+change_step state change = tell_all_step state (told_after state.world change.buffer change.what state.told) (after state.world change) (notice state.world change)
 
-abbrev pub changes_if : State → Change → Option ChangeRefused → Stepped
-changes_if state change None = changes state change
-changes_if state change (Some reason) = stays state
+abbrev pub change_step_if : State → Change → Option ChangeRefused → Stepped
+change_step_if state change None = change_step state change
+change_step_if state change (Some reason) = no_step state
 
 -- a refusal is told by a line of the core buffer, where there are handles for it
-abbrev pub tells : State → List ℕ → Stepped
-tells state text = changes_if state (told_refusal state.moment text) (refusal state.world (told_refusal state.moment text))
+abbrev pub refusal_step : State → List ℕ → Stepped
+refusal_step state text = change_step_if state (told_refusal state.moment text) (refusal state.world (told_refusal state.moment text))
 
 -- a change, or why it is refused
-abbrev pub asks_if : State → Change → Option ChangeRefused → Stepped
-asks_if state change None = changes state change
-asks_if state change (Some reason) = tells state (refusal_text reason)
+abbrev pub ask_step_if : State → Change → Option ChangeRefused → Stepped
+ask_step_if state change None = change_step state change
+ask_step_if state change (Some reason) = refusal_step state (refusal_text reason)
 
-abbrev pub asks : State → Change → Stepped
-asks state change = asks_if state change (refusal state.world change)
+abbrev pub ask_step : State → Change → Stepped
+ask_step state change = ask_step_if state change (refusal state.world change)
 
 -- ---- pushes of nicklists
 
@@ -94,93 +94,93 @@ pushed_to buffer push client = sends (client_link client) (push_told buffer push
 abbrev pub push_at : State → ℕ → Push
 push_at state buffer = nick_push (root_at buffer) (told_at state buffer) (rows_at state.world buffer)
 
-abbrev pub pushed : State → ℕ → List Act
-pushed state buffer = flat_map (pushed_to (record { 0 = buffer }) (push_at state buffer)) state.clients
+abbrev pub pushes_of : State → ℕ → List Act
+pushes_of state buffer = flat_map (pushed_to (record { 0 = buffer }) (push_at state buffer)) state.clients
 
 -- what became of each nicklist is pushed to each client that asked for it, in the order of buffers
-abbrev pub pushes : State → Stepped
-pushes state = record { state = record state { told = state.world.nicks }; acts = flat_map (pushed state) (order state.world.groups) }
+abbrev pub push_step : State → Stepped
+push_step state = record { state = record state { told = state.world.nicks }; acts = flat_map (pushes_of state) (order state.world.groups) }
 
 -- ---- what is typed
 
-abbrev pub does_resolved : State → Resolved → Stepped
-does_resolved state Stays = stays state
-does_resolved state ResolvedEnds = record { state = state; acts = Quits ∷ [] }
-does_resolved state (Tells text) = tells state text
-does_resolved state (Asks change) = asks state change
+abbrev pub effect_step : State → Effect → Stepped
+effect_step state Stays = no_step state
+effect_step state ResolvedEnds = record { state = state; acts = Quits ∷ [] }
+effect_step state (Tells text) = refusal_step state text
+effect_step state (Asks change) = ask_step state change
 
 -- one line that is typed into a buffer
-abbrev pub does : State → Handle → Typed → Stepped
-does state buffer typed = does_resolved state (resolved state.world state.moment buffer typed)
+abbrev pub typed_step : State → Handle → TypedCommand → Stepped
+typed_step state buffer typed = effect_step state (effect_of state.world state.moment buffer typed)
 
-abbrev pub is_quit : Typed → Bool
+abbrev pub is_quit : TypedCommand → Bool
 is_quit TypedQuits = true
 is_quit _ = false
 
--- The lines that are typed into a buffer, one after another. Behind a `/quit` nothing is done, and once the buffer is
+-- The lines that are typed into a buffer, one after another. After a `/quit` nothing is done, and once the buffer is
 -- closed neither.
-abbrev pub runs : State → Handle → List (List ℕ) → Stepped
-runs state buffer [] = stays state
-runs state buffer (line ∷ lines) =
+abbrev pub lines_step : State → Handle → List (List ℕ) → Stepped
+lines_step state buffer [] = no_step state
+lines_step state buffer (line ∷ lines) =
     let typed = typed_line line in
-    if not (is_there buffer state.world.groups) then stays state else (
-    if is_quit typed then does state buffer typed else then_does (does state buffer typed) (λ next. runs next buffer lines))
+    if not (is_there buffer state.world.groups) then no_step state else (
+    if is_quit typed then typed_step state buffer typed else then_does (typed_step state buffer typed) (λ next. lines_step next buffer lines))
 
 -- ---- clients
 
-abbrev pub leaves : State → ℕ → Cause → Stepped
-leaves state link cause = record { state = record state { clients = without client_link link state.clients }; acts = Closes link cause ∷ [] }
+abbrev pub leave_step : State → ℕ → Cause → Stepped
+leave_step state link cause = record { state = record state { clients = without client_link link state.clients }; acts = Closes link cause ∷ [] }
 
--- what an answer asks of the core, behind its messages
-abbrev pub follows : State → ℕ → Outcome → Stepped
-follows state link outcome.Replied = stays state
-follows state link outcome.Silent = stays state
-follows state link (outcome.Input buffer text) = runs state buffer (parted text)
-follows state link (outcome.Leave cause) = leaves state link cause
-follows state link outcome.NoMemory = stays state
+-- what an answer asks of the core, after its messages
+abbrev pub outcome_step : State → ℕ → Outcome → Stepped
+outcome_step state link outcome.Replied = no_step state
+outcome_step state link outcome.Silent = no_step state
+outcome_step state link (outcome.Input buffer text) = lines_step state buffer (lines_of_text text)
+outcome_step state link (outcome.Leave cause) = leave_step state link cause
+outcome_step state link outcome.NoMemory = no_step state
 
-abbrev pub answers : State → ℕ → Answer → Stepped
-answers state link answer =
+abbrev pub answer_step : State → ℕ → Answer → Stepped
+answer_step state link answer =
     then_does (record { state = record state { clients = put_at client_link link answer.client state.clients }; acts = sends link answer.messages })
-    (λ next. follows next link answer.outcome)
+    (λ next. outcome_step next link answer.outcome)
 
 abbrev pub is_nicklist : Command → Bool
 is_nicklist (ask.Nicklist buffer) = true
 is_nicklist _ = false
 
-abbrev pub replies : State → Client → Request → Stepped
-replies state client request = answers state (client_link client) (reply_of state.world state.password client request)
+abbrev pub reply_step : State → Client → Request → Stepped
+reply_step state client request = answer_step state (client_link client) (reply_of state.world state.password client request)
 
 -- a line of a client, where it is open and its line is a request; what is to be pushed comes before a nicklist
-abbrev pub asked : State → Client → Option Request → Stepped
-asked state client None = stays state
-asked state client (Some request) =
-    if client.logged_in && is_nicklist request.command then then_does (pushes state) (λ next. replies next client request) else replies state client request
+abbrev pub request_step : State → Client → Option Request → Stepped
+request_step state client None = no_step state
+request_step state client (Some request) =
+    if client.logged_in && is_nicklist request.command then then_does (push_step state) (λ next. reply_step next client request) else reply_step state client request
 
-abbrev pub line_came : State → List ℕ → Option Client → Stepped
-line_came state line None = stays state
-line_came state line (Some client) = asked state client (request_of client.escaped line)
+abbrev pub line_step : State → List ℕ → Option Client → Stepped
+line_step state line None = no_step state
+line_step state line (Some client) = request_step state client (request_of client.escaped line)
 
-abbrev pub lost : State → ℕ → Cause → Option Client → Stepped
-lost state link cause None = stays state
-lost state link cause (Some client) = leaves state link cause
+abbrev pub loss_step : State → ℕ → Cause → Option Client → Stepped
+loss_step state link cause None = no_step state
+loss_step state link cause (Some client) = leave_step state link cause
 
-abbrev pub arrives : State → ℕ → List ℕ → Stepped
-arrives state link nonce =
-    if nat_lt (length state.clients) client_limit then stays (record state { clients = state.clients ++ new_client (record { 0 = link }) nonce ∷ [] })
+abbrev pub arrival_step : State → ℕ → List ℕ → Stepped
+arrival_step state link nonce =
+    if nat_lt (length state.clients) client_limit then no_step (record state { clients = state.clients ++ new_client (record { 0 = link }) nonce ∷ [] })
     else record { state = state; acts = Closes link Surplus ∷ [] }
 
 -- what the core does at an event
 abbrev pub step : State → Event → Stepped
-step state (Start moment) = stays (record state { moment = moment })
-step state (Tick moment) = pushes (record state { moment = moment })
-step state (Arrives link nonce) = arrives state link nonce
-step state (LineCame link line) = line_came state line (at_key client_link link state.clients)
-step state (Ends link) = lost state link Ended (at_key client_link link state.clients)
-step state (Fails link) = lost state link Failed (at_key client_link link state.clients)
-step state ListenFails = stays state
+step state (Start moment) = no_step (record state { moment = moment })
+step state (Tick moment) = push_step (record state { moment = moment })
+step state (Arrives link nonce) = arrival_step state link nonce
+step state (LineCame link line) = line_step state line (at_key client_link link state.clients)
+step state (Ends link) = loss_step state link Ended (at_key client_link link state.clients)
+step state (Fails link) = loss_step state link Failed (at_key client_link link state.clients)
+step state ListenFails = no_step state
 
 -- what it does at one event after another
 abbrev pub run : State → List Event → Stepped
-run state [] = stays state
+run state [] = no_step state
 run state (event ∷ events) = then_does (step state event) (λ next. run next events)

@@ -5,57 +5,57 @@ use Rattle.std.specs.Str.{bytes_eq}
 use Rattle.std.specs.Str.Parse.{digits_value}
 use Rattle.wc_text.specs.Integer.{is_numeral}
 use Rattle.wc_text.specs.Words.{is_filled}
-use Rattle.wc_relaycmd.specs.Cuts.{before, behind}
+use Rattle.wc_relaycmd.specs.Cuts.{before, following}
 use Rattle.wc_relaycmd.specs.Words.{word_of, rest_of}
 use Rattle.wc_model.specs.declared.change.What.{What}
 use Rattle.wc_model.specs.declared.change.What.TheVariants as what
 
-pub data Typed : Type 0 where
-  Nothing : Typed
-  Quits : Typed
+pub data TypedCommand : Type 0 where
+  Nothing : TypedCommand
+  Quits : TypedCommand
   -- a refusal, which is told on the core buffer
-  Refused : List ℕ → Typed
+  Refused : List ℕ → TypedCommand
   -- a line of the buffer that is named, or else of the one into which it was typed: its tags, prefix and message
-  Prints : Option (List ℕ) → List (List ℕ) → List ℕ → List ℕ → Typed
+  Prints : Option (List ℕ) → List (List ℕ) → List ℕ → List ℕ → TypedCommand
   -- a new buffer
-  Adds : List ℕ → Typed
+  Adds : List ℕ → TypedCommand
   -- the buffer that is named is closed, or else the one into which it was typed
-  Closes : Option (List ℕ) → Typed
+  Closes : Option (List ℕ) → TypedCommand
   -- the buffer is merged into the one that is named
-  Merges : List ℕ → Typed
-  -- the buffer gets another name behind the first dot of its full name
-  Names : List ℕ → Typed
+  Merges : List ℕ → TypedCommand
+  -- the buffer gets another name after the first dot of its full name
+  Names : List ℕ → TypedCommand
   -- another change of the buffer
-  Changes : What → Typed
+  Changes : What → TypedCommand
 
--- the lines of a text, which LFs part, where `line` stands before the text
-abbrev pub parted_from : List ℕ → List ℕ → List (List ℕ)
-parted_from line [] = line ∷ []
-parted_from line (b ∷ text) = if b == 10 then line ∷ parted_from [] text else parted_from (line ++ b ∷ []) text
+-- the lines of a text, which LFs part, where `line` is before the text
+abbrev pub lines_parted : List ℕ → List ℕ → List (List ℕ)
+lines_parted line [] = line ∷ []
+lines_parted line (b ∷ text) = if b == 10 then line ∷ lines_parted [] text else lines_parted (line ++ b ∷ []) text
 
-abbrev pub parted : List ℕ → List (List ℕ)
-parted text = parted_from [] text
+abbrev pub lines_of_text : List ℕ → List (List ℕ)
+lines_of_text text = lines_parted [] text
 
-abbrev pub unknown_command : List ℕ → Typed
+abbrev pub unknown_command : List ℕ → TypedCommand
 unknown_command name = Refused (codes "unknown command: /" ++ name)
 
-abbrev pub wrong_arguments : List ℕ → Typed
+abbrev pub wrong_arguments : List ℕ → TypedCommand
 wrong_arguments name = Refused (codes "wrong arguments: /" ++ name)
 
-abbrev pub no_text_here : Typed
+abbrev pub no_text_here : TypedCommand
 no_text_here = Refused (codes "no text here")
 
 -- ---- `/print`
 
 -- a tab parts the prefix of a line from its message
-abbrev pub printed_by : Option (List ℕ) → List (List ℕ) → List ℕ → Option (List ℕ) → Typed
-printed_by buffer tags text None = Prints buffer tags [] text
-printed_by buffer tags text (Some message) = Prints buffer tags (before 9 text) message
+abbrev pub print_unless_empty : Option (List ℕ) → List (List ℕ) → List ℕ → Option (List ℕ) → TypedCommand
+print_unless_empty buffer tags text None = Prints buffer tags [] text
+print_unless_empty buffer tags text (Some message) = Prints buffer tags (before 9 text) message
 
 -- the text of a line is not empty
-abbrev pub printed : Option (List ℕ) → List (List ℕ) → List ℕ → Typed
-printed buffer tags [] = wrong_arguments (codes "print")
-printed buffer tags (b ∷ text) = printed_by buffer tags (b ∷ text) (behind 9 (b ∷ text))
+abbrev pub print_words : Option (List ℕ) → List (List ℕ) → List ℕ → TypedCommand
+print_words buffer tags [] = wrong_arguments (codes "print")
+print_words buffer tags (b ∷ text) = print_unless_empty buffer tags (b ∷ text) (following 9 (b ∷ text))
 
 -- the tags of a word, which commas part
 abbrev pub tags_of : List ℕ → List (List ℕ)
@@ -64,60 +64,60 @@ tags_of word = filter is_filled (slice_split (λ b. b == 44) word)
 abbrev pub is_first : List ℕ → List ℕ → Bool
 is_first word text = bytes_eq (word_of text) word
 
--- the second word of a text, and what stands behind it
+-- the second word of a text, and what comes after it
 abbrev pub second_of : List ℕ → List ℕ
 second_of text = word_of (rest_of text)
 
-abbrev pub behind_second : List ℕ → List ℕ
-behind_second text = rest_of (rest_of text)
+abbrev pub after_second : List ℕ → List ℕ
+after_second text = rest_of (rest_of text)
 
--- behind the buffer there may be tags, and behind the tags a buffer; another first word is the start of the text
-abbrev pub print_tagged : Option (List ℕ) → List ℕ → Typed
+-- after the buffer there may be tags, and after the tags a buffer; another first word is the start of the text
+abbrev pub print_tagged : Option (List ℕ) → List ℕ → TypedCommand
 print_tagged buffer text =
-    if is_first (codes "-tags") text then printed buffer (tags_of (second_of text)) (behind_second text) else printed buffer [] text
+    if is_first (codes "-tags") text then print_words buffer (tags_of (second_of text)) (after_second text) else print_words buffer [] text
 
-abbrev pub print_on : List (List ℕ) → List ℕ → Typed
+abbrev pub print_on : List (List ℕ) → List ℕ → TypedCommand
 print_on tags text =
-    if is_first (codes "-buffer") text then printed (Some (second_of text)) tags (behind_second text) else printed None tags text
+    if is_first (codes "-buffer") text then print_words (Some (second_of text)) tags (after_second text) else print_words None tags text
 
-abbrev pub print_command : List ℕ → Typed
+abbrev pub print_command : List ℕ → TypedCommand
 print_command text =
-    if is_first (codes "-buffer") text then print_tagged (Some (second_of text)) (behind_second text) else (
-    if is_first (codes "-tags") text then print_on (tags_of (second_of text)) (behind_second text) else printed None [] text)
+    if is_first (codes "-buffer") text then print_tagged (Some (second_of text)) (after_second text) else (
+    if is_first (codes "-tags") text then print_on (tags_of (second_of text)) (after_second text) else print_words None [] text)
 
 -- ---- `/buffer`
 
-abbrev pub wrong_buffer : Typed
+abbrev pub wrong_buffer : TypedCommand
 wrong_buffer = wrong_arguments (codes "buffer")
 
--- one word, and nothing behind it
-abbrev pub one_word : (List ℕ → Typed) → List ℕ → Typed
+-- one word, and nothing after it
+abbrev pub one_word : (List ℕ → TypedCommand) → List ℕ → TypedCommand
 one_word typed [] = wrong_buffer
 one_word typed (b ∷ text) = if nat_lt 0 (length (rest_of (b ∷ text))) then wrong_buffer else typed (word_of (b ∷ text))
 
 -- no word
-abbrev pub without_words : Typed → List ℕ → Typed
+abbrev pub without_words : TypedCommand → List ℕ → TypedCommand
 without_words typed [] = typed
 without_words typed (b ∷ text) = wrong_buffer
 
 -- a text up to the end, which is not empty
-abbrev pub some_text : (List ℕ → Typed) → List ℕ → Typed
+abbrev pub some_text : (List ℕ → TypedCommand) → List ℕ → TypedCommand
 some_text typed [] = wrong_buffer
 some_text typed (b ∷ text) = typed (b ∷ text)
 
 -- a number; one that is too large for a number of a buffer counts as the largest
-abbrev pub moves_to : List ℕ → Typed
+abbrev pub moves_to : List ℕ → TypedCommand
 moves_to word = if is_numeral word then Changes (what.MoveTo (min (digits_value 10 word) (2 ^ 32 - 1))) else wrong_buffer
 
-abbrev pub close_command : List ℕ → Typed
+abbrev pub close_command : List ℕ → TypedCommand
 close_command [] = Closes None
 close_command (b ∷ text) = one_word (λ name. Closes (Some name)) (b ∷ text)
 
 abbrev pub starts : List ℕ → List ℕ → Bool
 starts front word = starts_with nat_eq word front
 
--- a property of the buffer: `localvar_set_X` and `localvar_del_X` name a variable by what stands behind
-abbrev pub set_property : List ℕ → List ℕ → Typed
+-- a property of the buffer: `localvar_set_X` and `localvar_del_X` name a variable by what comes after
+abbrev pub set_property : List ℕ → List ℕ → TypedCommand
 set_property word text =
     if bytes_eq word (codes "name") then some_text (λ value. Names value) text else (
     if bytes_eq word (codes "short_name") then some_text (λ value. Changes (what.ShortName value)) text else (
@@ -125,7 +125,7 @@ set_property word text =
     if starts (codes "localvar_set_") word then some_text (λ value. Changes (what.SetVar (record { name = drop 13 word; value = value }))) text else (
     if starts (codes "localvar_del_") word then without_words (Changes (what.RemoveVar (drop 13 word))) text else wrong_buffer))))
 
-abbrev pub buffer_word : List ℕ → List ℕ → Typed
+abbrev pub buffer_word : List ℕ → List ℕ → TypedCommand
 buffer_word word text =
     if bytes_eq word (codes "add") then one_word (λ name. Adds name) text else (
     if bytes_eq word (codes "close") then close_command text else (
@@ -137,28 +137,28 @@ buffer_word word text =
     if bytes_eq word (codes "clear") then without_words (Changes what.Clear) text else (
     if bytes_eq word (codes "set") then set_property (word_of text) (rest_of text) else wrong_buffer))))))))
 
-abbrev pub buffer_command : List ℕ → Typed
+abbrev pub buffer_command : List ℕ → TypedCommand
 buffer_command text = buffer_word (word_of text) (rest_of text)
 
 -- ---- commands
 
--- `/quit` has no words behind it
-abbrev pub quit_command : List ℕ → Typed
+-- `/quit` has no words after it
+abbrev pub quit_command : List ℕ → TypedCommand
 quit_command [] = Quits
 quit_command (b ∷ text) = wrong_arguments (codes "quit")
 
-abbrev pub command : List ℕ → List ℕ → Typed
+abbrev pub command : List ℕ → List ℕ → TypedCommand
 command name rest =
     if bytes_eq name (codes "print") then print_command rest else (
     if bytes_eq name (codes "buffer") then buffer_command rest else (
     if bytes_eq name (codes "quit") then quit_command rest else unknown_command name))
 
--- what one line asks for behind a `/`
-abbrev pub slashed : List ℕ → Typed
-slashed [] = command [] []
-slashed (b ∷ text) = if b == 47 then no_text_here else command (word_of (b ∷ text)) (rest_of (b ∷ text))
+-- what one line asks for after a `/`
+abbrev pub slash_command : List ℕ → TypedCommand
+slash_command [] = command [] []
+slash_command (b ∷ text) = if b == 47 then no_text_here else command (word_of (b ∷ text)) (rest_of (b ∷ text))
 
--- what one line asks for: a command behind a `/`, and else nothing that a buffer can take
-unfoldable pub typed_line : List ℕ → Typed
+-- what one line asks for: a command after a `/`, and else nothing that a buffer can take
+unfoldable pub typed_line : List ℕ → TypedCommand
 typed_line [] = Nothing
-typed_line (b ∷ text) = if b == 47 then slashed text else no_text_here
+typed_line (b ∷ text) = if b == 47 then slash_command text else no_text_here

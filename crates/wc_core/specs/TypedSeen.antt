@@ -10,16 +10,16 @@ use Rattle.wc_core.specs.declared.buffer_word.BufferWord.{BufferWord}
 use Rattle.wc_core.specs.declared.buffer_word.BufferWord.TheVariants as words
 use Rattle.wc_core.specs.declared.buffer_word.Property.{Property}
 use Rattle.wc_core.specs.declared.buffer_word.Property.TheVariants as properties
-use Rattle.wc_core.specs.declared.typed.Asked.{Asked}
-use Rattle.wc_core.specs.declared.typed.Asked.TheVariants as asked
-use Rattle.wc_core.specs.Typed.{Typed, Nothing, Quits, Refused, Prints, Adds, Closes, Merges, Names, Changes, parted, tags_of, wrong_buffer, some_text, without_words, starts}
+use Rattle.wc_core.specs.declared.typed.CommandText.{CommandText}
+use Rattle.wc_core.specs.declared.typed.CommandText.TheVariants as asked
+use Rattle.wc_core.specs.Typed.{TypedCommand, Nothing, Quits, Refused, Prints, Adds, Closes, Merges, Names, Changes, lines_of_text, tags_of, wrong_buffer, some_text, without_words, starts}
 
 -- a word that was found
 abbrev pub word_in : Option (Bor (List ℕ)) → Option (List ℕ)
 word_in None = None
 word_in (Some word) = Some word.now
 
-abbrev pub meaning : Asked → Typed
+abbrev pub meaning : CommandText → TypedCommand
 meaning asked.Nothing = Nothing
 meaning asked.Quit = Quits
 meaning (asked.Refused front name) = Refused (front.now ++ name.now)
@@ -63,19 +63,19 @@ only_word [] = None
 only_word (b ∷ text) = if nat_lt 0 (length (rest_of (b ∷ text))) then None else Some (word_of (b ∷ text))
 
 -- a property that is set to a text
-abbrev pub property_set : Property → List ℕ → Typed
+abbrev pub property_set : Property → List ℕ → TypedCommand
 property_set properties.Name text = some_text (λ value. Names value) text
 property_set properties.ShortName text = some_text (λ value. Changes (what.ShortName value)) text
 property_set properties.Title text = some_text (λ value. Changes (what.Title value)) text
 property_set (properties.SetVar name) text = some_text (λ value. Changes (what.SetVar (record { name = name.now; value = value }))) text
 property_set (properties.RemoveVar name) text = without_words (Changes (what.RemoveVar name.now)) text
 
-abbrev pub set_to : Option Property → List ℕ → Typed
+abbrev pub set_to : Option Property → List ℕ → TypedCommand
 set_to None text = wrong_buffer
 set_to (Some property) text = property_set property text
 
 -- the variable that a word names is set or removed
-abbrev pub set_var_property : List ℕ → List ℕ → Typed
+abbrev pub set_var_property : List ℕ → List ℕ → TypedCommand
 set_var_property word text =
     if starts (codes "localvar_set_") word then some_text (λ value. Changes (what.SetVar (record { name = drop 13 word; value = value }))) text else (
     if starts (codes "localvar_del_") word then without_words (Changes (what.RemoveVar (drop 13 word))) text else wrong_buffer)
@@ -89,7 +89,7 @@ number_of word = if is_numeral word then Some (min (digits_value 10 word) (2 ^ 3
 -- the lines of what is left of a text, where something is
 abbrev pub lines_left : Option (Bor (List ℕ)) → List (List ℕ)
 lines_left None = []
-lines_left (Some text) = parted text.now
+lines_left (Some text) = lines_of_text text.now
 
 -- how long it is, with one for the line feed in front
 abbrev pub length_left : Option (Bor (List ℕ)) → ℕ

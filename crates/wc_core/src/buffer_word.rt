@@ -2,7 +2,7 @@ ghost use Rattle.std.specs.Prelude.{◌≡◌, ℕ, List};
 ghost use Rattle.wc_core.specs.Typed.{set_property};
 ghost use Rattle.wc_core.specs.TypedSeen.{name_of, word_named, set_to, set_var_property};
 
-/// The word behind `/buffer`.
+/// The word after `/buffer`.
 #[derive(Clone, Copy, PartialEq, Eq)]
 pub(crate) enum BufferWord {
     Add,
@@ -61,9 +61,9 @@ pub(crate) enum Property<'a> {
     Name,
     ShortName,
     Title,
-    /// The variable that is named behind `localvar_set_`.
+    /// The variable that is named after `localvar_set_`.
     SetVar(&'a [u8]),
-    /// The variable that is named behind `localvar_del_`.
+    /// The variable that is named after `localvar_del_`.
     RemoveVar(&'a [u8]),
 }
 

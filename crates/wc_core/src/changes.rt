@@ -2,7 +2,7 @@ ghost use Rattle.std.specs.Prelude.{◌≡◌, ◌++◌, IfOk};
 ghost use Rattle.std.specs.Option.{option_copied};
 ghost use Rattle.wc_model.specs.declared.change.What.TheVariants as what;
 ghost use Rattle.wc_core.specs.Typed.{tags_of};
-ghost use Rattle.wc_core.specs.Resolved.{line_spec, core_spec, plugin_in, renamed, told_refusal};
+ghost use Rattle.wc_core.specs.Resolved.{line_spec, core_spec, plugin_in, rename_of, told_refusal};
 
 use crate::refusals::joined;
 use crate::tags::read_tags;
@@ -75,7 +75,7 @@ pub(crate) fn add(alloc: Global, name: &[u8]) -> Result<What, NoMemory>
     }))
 }
 
-/// What stands before the first dot of a buffer's full name, or all of it.
+/// What is before the first dot of a buffer's full name, or all of it.
 #[tactic(auto, using(crate::proofs::ResolvedWords::plugin_before))]
 fn plugin_in(row: Option<&BufferRow>) -> &[u8]
     ensures { result.now ≡ plugin_in (option_copied row.entry) }
@@ -86,14 +86,14 @@ fn plugin_in(row: Option<&BufferRow>) -> &[u8]
     }
 }
 
-/// Another name behind the first dot of a buffer's full name.
+/// Another name after the first dot of a buffer's full name.
 pub(crate) fn rename(
     alloc: Global,
     buffers: &Buffers,
     buffer: Handle,
     name: &[u8],
 ) -> Result<What, NoMemory>
-    ensures { IfOk result (λ w. w ≡ renamed buffers.now buffer name.now) }
+    ensures { IfOk result (λ w. w ≡ rename_of buffers.now buffer name.now) }
 {
     let mut full_name = joined(alloc, plugin_in(buffers.get(buffer)), b".")?;
     full_name.append(name)?;

@@ -1,29 +1,30 @@
 ghost use Rattle.std.specs.Prelude.{◌≡◌, ◌≢◌, ◌⊎◌, ◌∷◌, ◌≤◌, ◌^◌, ◌-◌, ◌+◌, ◌<◌, ◌++◌, [], ℕ, min, List, length, true, false, Some, None, IfOk, IfSome};
 ghost use Rattle.std.specs.Option.{option_copied};
 ghost use Rattle.std.specs.Str.{IsUtf8};
-ghost use Rattle.wc_outside.specs.Keyed.{at_key, without, IsPlace};
+ghost use Rattle.wc_outside.specs.Keyed.{at_key, without, IsKeyPlace};
 ghost use Rattle.wc_buffers.specs.Calls.{is_there};
 ghost use Rattle.wc_model.specs.Apply.{refusal};
 ghost use Rattle.wc_model.specs.Touches.{touched_key};
 ghost use Rattle.wc_world.specs.Texts.{IsChangeText};
-ghost use Rattle.wc_relaycmd.specs.Utf8.{HasUtf8};
+ghost use Rattle.wc_relaycmd.specs.Utf8.{RequestIsUtf8};
 ghost use Rattle.wc_session.specs.Served.{OnServed, OnNoMemory};
 ghost use Rattle.wc_core.specs.Events.{Start, Tick, Arrives, Line as LineCame};
-ghost use Rattle.wc_core.specs.Typed.{typed_line, parted};
+ghost use Rattle.wc_core.specs.Typed.{typed_line, lines_of_text};
 ghost use Rattle.wc_core.specs.State.{first_state};
-ghost use Rattle.wc_core.specs.Step.{step, stays, pushes, changes, tells, asks, does, is_quit, runs, leaves, lost, follows, asked, client_link};
+ghost use Rattle.wc_core.specs.Step.{step, no_step, push_step, change_step, refusal_step, ask_step, typed_step, is_quit, lines_step, leave_step, loss_step, outcome_step, request_step, client_link};
 ghost use Rattle.wc_core.specs.Texts.{WhatUtf8};
-ghost use Rattle.wc_core.specs.Served.{seat_link, state_of, unsent_at, gone_at, is_open_at, left_at, new_seat, departure_of, Absent, links_of, MayDo, MayCome, Starves, OutcomeUtf8};
-ghost use Rattle.wc_core.specs.Inputs.{Changes, MayTell, GoesOn, Stops};
+ghost use Rattle.wc_core.specs.Served.{connection_link, state_of, unsent_at, gone_at, is_open_at, left_at, new_connection, departure_of, Absent, links_of, FollowsUnlessStarved, AdmitsUnlessStarved, RanOutOfMemory, OutcomeUtf8};
+ghost use Rattle.wc_core.specs.Inputs.{MakesChange, MayTell, GoesOn, Stops};
 
 use crate::changes::told_refusal;
+use crate::connection::{
+    Connection, Departure, connection_place, drop_connection, first_departure, open_count,
+    tell_notice,
+};
 use crate::nick_change::change_world;
 use crate::pushes::{forget_nicks, push_nicks};
 use crate::refusals::refusal_text;
 use crate::resolve::{Resolution, resolve};
-use crate::seat::{
-    Departure, Seat, drop_seat, first_departure, open_count, seat_place, tell_notice,
-};
 use crate::typed::read_typed;
 use std::alloc::Global;
 use std::marker::Model;
@@ -44,7 +45,7 @@ pub struct Core {
     password: Text,
     world: World,
     pending: Pending,
-    seats: Vec<Seat>,
+    connections: Vec<Connection>,
     moment: u64,
     starved: u64,
     quits: bool,
@@ -54,13 +55,13 @@ impl Model for Core {
     ghost use Rattle.std.specs.Coded.{codes};
     ghost use Rattle.std.specs.FinMap as map;
     ghost use Rattle.wc_core.specs.Pushes.{NothingTouched};
-    ghost use Rattle.wc_core.specs.Standing.{Standing, HasNoRows};
+    ghost use Rattle.wc_core.specs.CoreView.{CoreView, HasNoRows};
 
-    ghost Value = { Standing };
+    ghost Value = { CoreView };
 
     ghost coded = { Prim.hlevel (codes, map.code) };
 
-    ghost view = { λ core. record { password = core.password; world = core.world; seats = core.seats.items; moment = core.moment; starved = core.starved; quits = core.quits } };
+    ghost view = { λ core. record { password = core.password; world = core.world; connections = core.connections.items; moment = core.moment; starved = core.starved; quits = core.quits } };
 
     ghost invariant = { λ core. HasNoRows core.world × NothingTouched core.pending };
 }
@@ -72,7 +73,7 @@ impl Core {
         requires some { 1 ≤ limit }
         requires most { limit ≤ 4096 }
         ensures state { IfOk result (λ core. state_of core ≡ first_state password limit) }
-        ensures fresh { IfOk result (λ core. (core.seats ≡ []) × (core.starved ≡ 0) × (core.quits ≡ false)) }
+        ensures fresh { IfOk result (λ core. (core.connections ≡ []) × (core.starved ≡ 0) × (core.quits ≡ false)) }
     {
         let world = World::new(alloc, limit)?;
         let pending = Pending::new(alloc)?;
@@ -81,7 +82,7 @@ impl Core {
             password,
             world,
             pending,
-            seats: Vec::new(alloc),
+            connections: Vec::new(alloc),
             moment: 0,
             starved: 0,
             quits: false,
@@ -90,7 +91,7 @@ impl Core {
 
     /// Sets the starting moment, in milliseconds since 1970.
     pub fn start(&mut self, moment: u64)
-        ensures does { MayDo self.old self.new (step (state_of self.old) (Start moment)) }
+        ensures does { FollowsUnlessStarved self.old self.new (step (state_of self.old) (Start moment)) }
         ensures moves { self.new ≡ record self.old { moment = moment } }
     {
         self.moment = moment;
@@ -98,7 +99,7 @@ impl Core {
 
     /// Sets the last moment, in milliseconds since 1970.
     pub fn tick(&mut self, moment: u64)
-        ensures does { MayDo self.old self.new (step (state_of self.old) (Tick moment)) }
+        ensures does { FollowsUnlessStarved self.old self.new (step (state_of self.old) (Tick moment)) }
         ensures moves { self.new ≡ record self.old { moment = moment } }
     {
         self.moment = moment;
@@ -107,10 +108,15 @@ impl Core {
 
     /// Pushes what became of each nicklist since it was last pushed. That is nothing, since no command changes a nicklist.
     fn push_nicks(&mut self)
-        ensures none { pushes (state_of self.old) ≡ stays (state_of self.old) }
+        ensures none { push_step (state_of self.old) ≡ no_step (state_of self.old) }
         ensures same { self.new ≡ self.old }
     {
-        let told = push_nicks(&mut self.seats, self.alloc, &self.world, &self.pending);
+        let told = push_nicks(
+            &mut self.connections,
+            self.alloc,
+            &self.world,
+            &self.pending,
+        );
         forget_nicks(&self.world, &mut self.pending);
         if told {
             return;
@@ -129,24 +135,24 @@ impl Core {
     /// Admits an arrival. It answers why where that is refused: as many clients as are allowed are open, or there is no
     /// memory. The link of a refused arrival is to be closed, and is no client.
     pub fn accepted(&mut self, arrival: Arrival) -> Option<Cause>
-        ensures comes { Absent arrival.link.0 (links_of self.old) → MayCome arrival.link.0 self.old self.new result (step (state_of self.old) (Arrives arrival.link.0 arrival.nonce)) }
-        ensures admitted { result ≡ None → self.new ≡ record self.old { seats = self.old.seats ++ new_seat arrival.link arrival.nonce ∷ [] } }
+        ensures comes { Absent arrival.link.0 (links_of self.old) → AdmitsUnlessStarved arrival.link.0 self.old self.new result (step (state_of self.old) (Arrives arrival.link.0 arrival.nonce)) }
+        ensures admitted { result ≡ None → self.new ≡ record self.old { connections = self.old.connections ++ new_connection arrival.link arrival.nonce ∷ [] } }
         ensures refused { IfSome result (λ cause. self.new ≡ record self.old { starved = self.new.starved }) }
         ensures cause { IfSome result (λ cause. (cause ≡ Cause.Surplus) ⊎ (cause ≡ Cause.NoMemory)) }
         ensures rises { self.old.starved ≤ self.new.starved }
     {
-        if open_count(&self.seats) >= CLIENT_LIMIT {
+        if open_count(&self.connections) >= CLIENT_LIMIT {
             return Some(Cause::Surplus);
         }
         let Ok(session) = Session::new(self.alloc, arrival.link, arrival.nonce) else {
             self.starve();
             return Some(Cause::NoMemory);
         };
-        let seat = Seat {
+        let connection = Connection {
             session,
             leaving: None,
         };
-        if self.seats.push(seat).is_err() {
+        if self.connections.push(connection).is_err() {
             self.starve();
             return Some(Cause::NoMemory);
         }
@@ -156,15 +162,15 @@ impl Core {
     /// Serves a line of a client, where the client is open and the line is a request. A client that finds no memory for
     /// its reply or an event leaves with that cause.
     pub fn relay_line(&mut self, link: LinkId, line: &[u8])
-        ensures { MayDo self.old self.new (step (state_of self.old) (LineCame link.0 line.now)) }
+        ensures { FollowsUnlessStarved self.old self.new (step (state_of self.old) (LineCame link.0 line.now)) }
     {
-        let Some(place) = seat_place(&self.seats, link) else {
+        let Some(place) = connection_place(&self.connections, link) else {
             return;
         };
-        if !self.seats[place].is_open() {
+        if !self.connections[place].is_open() {
             return;
         }
-        match read_request(self.alloc, line, self.seats[place].session.escaped()) {
+        match read_request(self.alloc, line, self.connections[place].session.escaped()) {
             Ok(Some(request)) => self.ask(place, link, request),
             Ok(None) => {}
             Err(NoMemory) => self.starve_out(link),
@@ -174,11 +180,11 @@ impl Core {
     /// Pushes what is to be pushed before a request of a client that is open is answered: nicklists are asked for as they
     /// then were told.
     fn push_before(&mut self, place: usize, request: &Request)
-        requires { place < length self.old.seats }
-        ensures none { pushes (state_of self.old) ≡ stays (state_of self.old) }
+        requires { place < length self.old.connections }
+        ensures none { push_step (state_of self.old) ≡ no_step (state_of self.old) }
         ensures same { self.new ≡ self.old }
     {
-        if self.seats[place].session.logged_in()
+        if self.connections[place].session.logged_in()
             && matches!(request.command, Command::Nicklist(_))
         {
             self.push_nicks();
@@ -187,24 +193,24 @@ impl Core {
 
     /// Serves a request of a client that is open.
     fn ask(&mut self, place: usize, link: LinkId, request: Request)
-        requires place { IsPlace seat_link link.0 self.old.seats place }
-        requires opened { is_open_at (at_key seat_link link.0 self.old.seats) ≡ true }
-        requires text { HasUtf8 request }
-        ensures { IfSome (at_key seat_link link.0 self.old.seats) (λ seat. MayDo self.old self.new (asked (state_of self.old) seat.session.client (Some request))) }
+        requires place { IsKeyPlace connection_link link.0 self.old.connections place }
+        requires opened { is_open_at (at_key connection_link link.0 self.old.connections) ≡ true }
+        requires text { RequestIsUtf8 request }
+        ensures { IfSome (at_key connection_link link.0 self.old.connections) (λ connection. FollowsUnlessStarved self.old self.new (request_step (state_of self.old) connection.session.client (Some request))) }
     {
         self.push_before(place, &request);
-        let outcome = self.seats[place]
+        let outcome = self.connections[place]
             .session
             .request(self.alloc, &self.world, &self.password, request);
         self.follow(link, outcome);
     }
 
-    /// Does what an answer asks, behind its messages.
+    /// Does what an answer asks, after its messages.
     fn follow(&mut self, link: LinkId, outcome: Outcome)
-        requires opened { is_open_at (at_key seat_link link.0 self.old.seats) ≡ true }
+        requires opened { is_open_at (at_key connection_link link.0 self.old.connections) ≡ true }
         requires text { OutcomeUtf8 outcome }
-        ensures does { OnServed outcome (MayDo self.old self.new (follows (state_of self.old) link.0 outcome)) }
-        ensures refused { OnNoMemory outcome (Starves self.old self.new) }
+        ensures does { OnServed outcome (FollowsUnlessStarved self.old self.new (outcome_step (state_of self.old) link.0 outcome)) }
+        ensures refused { OnNoMemory outcome (RanOutOfMemory self.old self.new) }
     {
         match outcome {
             Outcome::Replied | Outcome::Silent => {}
@@ -216,40 +222,40 @@ impl Core {
 
     /// Marks a client that is open as leaving.
     fn leave(&mut self, place: usize, link: LinkId, cause: Cause)
-        requires place { IsPlace seat_link link.0 self.old.seats place }
-        requires opened { is_open_at (at_key seat_link link.0 self.old.seats) ≡ true }
-        ensures does { MayDo self.old self.new (leaves (state_of self.old) link.0 cause) }
-        ensures gone { is_open_at (at_key seat_link link.0 self.new.seats) ≡ false }
+        requires place { IsKeyPlace connection_link link.0 self.old.connections place }
+        requires opened { is_open_at (at_key connection_link link.0 self.old.connections) ≡ true }
+        ensures does { FollowsUnlessStarved self.old self.new (leave_step (state_of self.old) link.0 cause) }
+        ensures gone { is_open_at (at_key connection_link link.0 self.new.connections) ≡ false }
         ensures starved { self.new.starved ≡ self.old.starved }
-        ensures leaves { self.new ≡ record self.old { seats = left_at link.0 cause self.old.seats (at_key seat_link link.0 self.old.seats) } }
+        ensures leaves { self.new ≡ record self.old { connections = left_at link.0 cause self.old.connections (at_key connection_link link.0 self.old.connections) } }
     {
-        self.seats[place].leaving = Some(cause);
+        self.connections[place].leaving = Some(cause);
     }
 
     /// Marks the client of a link as leaving for want of memory.
     fn starve_out(&mut self, link: LinkId)
-        ensures { Starves self.old self.new }
+        ensures { RanOutOfMemory self.old self.new }
     {
         self.lose(link, Cause::NoMemory);
         self.starve();
     }
 
-    /// Runs a text that is typed into a buffer, line by line. Behind a `/quit` nothing is run, nor once the buffer is
+    /// Runs a text that is typed into a buffer, line by line. After a `/quit` nothing is run, nor once the buffer is
     /// closed, nor where memory was refused.
     fn run_lines(&mut self, buffer: Handle, text: &[u8])
         requires { IsUtf8 text.now }
-        ensures { MayDo self.old self.new (runs (state_of self.old) buffer (parted text.now)) }
+        ensures { FollowsUnlessStarved self.old self.new (lines_step (state_of self.old) buffer (lines_of_text text.now)) }
     {
         let mut left = Some(text);
         while let Some(rest) = left {
-            let (line, behind) = split_once(rest, b'\n');
+            let (line, following) = split_once(rest, b'\n');
             if !self.has_buffer(buffer) {
                 return;
             }
             if self.run_line(buffer, line) {
                 return;
             }
-            left = behind;
+            left = following;
         }
     }
 
@@ -262,7 +268,7 @@ impl Core {
         }
     }
 
-    /// Runs a line that is typed into a buffer that is there. It answers whether what is behind the line is skipped.
+    /// Runs a line that is typed into a buffer that is there. It answers whether what is after the line is skipped.
     fn run_line(&mut self, buffer: Handle, line: &[u8]) -> bool
         requires { IsUtf8 line.now }
         ensures goes_on { result ≡ false → GoesOn self.old self.new buffer line.now }
@@ -278,7 +284,7 @@ impl Core {
     /// Does what a line asks for that is typed into a buffer. It answers whether the run is to end.
     fn do_line(&mut self, buffer: Handle, line: &[u8]) -> bool
         requires { IsUtf8 line.now }
-        ensures does { MayDo self.old self.new (does (state_of self.old) buffer (typed_line line.now)) }
+        ensures does { FollowsUnlessStarved self.old self.new (typed_step (state_of self.old) buffer (typed_line line.now)) }
         ensures quits { result ≡ is_quit (typed_line line.now) }
     {
         let _texts = self.world.buffers().groups();
@@ -307,7 +313,7 @@ impl Core {
     /// Makes a change, or tells why it is refused.
     fn ask_change(&mut self, change: Change)
         requires { WhatUtf8 change.what }
-        ensures { MayDo self.old self.new (asks (state_of self.old) change) }
+        ensures { FollowsUnlessStarved self.old self.new (ask_step (state_of self.old) change) }
     {
         let Some(reason) = self.change(change) else {
             return;
@@ -321,7 +327,7 @@ impl Core {
     /// Tells a refusal by a line of the core buffer, where there are handles for it.
     fn tell_refusal(&mut self, text: Text)
         requires { IsUtf8 text }
-        ensures { MayDo self.old self.new (tells (state_of self.old) text) }
+        ensures { FollowsUnlessStarved self.old self.new (refusal_step (state_of self.old) text) }
     {
         match told_refusal(self.alloc, self.moment, text) {
             Ok(line) => {
@@ -336,13 +342,13 @@ impl Core {
     fn change(&mut self, change: Change) -> Option<ChangeRefused>
         requires text { IsChangeText change.what }
         requires plain { touched_key change.what ≡ None }
-        ensures made { result ≡ None → Changes self.old change self.new }
+        ensures made { result ≡ None → MakesChange self.old change self.new }
         ensures refused { IfSome result (λ reason. (self.new ≡ self.old) × (refusal self.old.world change ≡ Some reason)) }
     {
         let _texts = self.world.buffers().groups();
         match change_world(self.alloc, &mut self.world, &mut self.pending, change) {
             Ok(notice) => {
-                let _texts_behind = self.world.buffers().groups();
+                let _texts_after = self.world.buffers().groups();
                 self.tell(&notice);
                 None
             }
@@ -359,7 +365,7 @@ impl Core {
         requires { IsUtf8 notice.now.full_name }
         ensures { MayTell self.old self.new notice.now }
     {
-        let told = tell_notice(&mut self.seats, self.alloc, &self.world, notice);
+        let told = tell_notice(&mut self.connections, self.alloc, &self.world, notice);
         if told {
             return;
         }
@@ -369,9 +375,9 @@ impl Core {
     /// Serves the loss of a link for this cause: its client, if it is open, is leaving. The cause NoMemory counts as
     /// want of memory.
     pub fn link_gone(&mut self, link: LinkId, cause: Cause)
-        ensures does { MayDo self.old self.new (lost (state_of self.old) link.0 cause (at_key client_link link.0 (state_of self.old).clients)) }
-        ensures gone { is_open_at (at_key seat_link link.0 self.new.seats) ≡ false }
-        ensures leaves { self.new ≡ record self.old { seats = left_at link.0 cause self.old.seats (at_key seat_link link.0 self.old.seats); starved = self.new.starved } }
+        ensures does { FollowsUnlessStarved self.old self.new (loss_step (state_of self.old) link.0 cause (at_key client_link link.0 (state_of self.old).clients)) }
+        ensures gone { is_open_at (at_key connection_link link.0 self.new.connections) ≡ false }
+        ensures leaves { self.new ≡ record self.old { connections = left_at link.0 cause self.old.connections (at_key connection_link link.0 self.old.connections); starved = self.new.starved } }
         ensures starved { cause ≢ Cause.NoMemory → self.new.starved ≡ self.old.starved }
         ensures starves { cause ≡ Cause.NoMemory → self.new.starved ≡ min (self.old.starved + 1) (2 ^ 64 - 1) }
     {
@@ -383,15 +389,15 @@ impl Core {
     }
 
     fn lose(&mut self, link: LinkId, cause: Cause)
-        ensures does { MayDo self.old self.new (lost (state_of self.old) link.0 cause (at_key client_link link.0 (state_of self.old).clients)) }
-        ensures gone { is_open_at (at_key seat_link link.0 self.new.seats) ≡ false }
+        ensures does { FollowsUnlessStarved self.old self.new (loss_step (state_of self.old) link.0 cause (at_key client_link link.0 (state_of self.old).clients)) }
+        ensures gone { is_open_at (at_key connection_link link.0 self.new.connections) ≡ false }
         ensures starved { self.new.starved ≡ self.old.starved }
-        ensures leaves { self.new ≡ record self.old { seats = left_at link.0 cause self.old.seats (at_key seat_link link.0 self.old.seats) } }
+        ensures leaves { self.new ≡ record self.old { connections = left_at link.0 cause self.old.connections (at_key connection_link link.0 self.old.connections) } }
     {
-        let Some(place) = seat_place(&self.seats, link) else {
+        let Some(place) = connection_place(&self.connections, link) else {
             return;
         };
-        if !self.seats[place].is_open() {
+        if !self.connections[place].is_open() {
             return;
         }
         self.leave(place, link, cause);
@@ -399,51 +405,51 @@ impl Core {
 
     /// The first client that is leaving.
     pub fn departure(&self) -> Option<Departure>
-        ensures { result ≡ departure_of self.now.seats }
+        ensures { result ≡ departure_of self.now.connections }
     {
-        first_departure(&self.seats)
+        first_departure(&self.connections)
     }
 
     /// Forgets the client of a link, as the link is closed.
     pub fn forget(&mut self, link: LinkId)
-        ensures { self.new ≡ record self.old { seats = without seat_link link.0 self.old.seats } }
+        ensures { self.new ≡ record self.old { connections = without connection_link link.0 self.old.connections } }
     {
-        drop_seat(&mut self.seats, link);
+        drop_connection(&mut self.connections, link);
     }
 
     /// The unsent bytes of the client of a link, also while it is leaving. None where there is no such client.
     pub fn unsent(&self, link: LinkId) -> Option<&[u8]>
-        ensures { option_copied result ≡ unsent_at (at_key seat_link link.0 self.now.seats) }
+        ensures { option_copied result ≡ unsent_at (at_key connection_link link.0 self.now.connections) }
     {
-        let place = seat_place(&self.seats, link)?;
-        Some(self.seats[place].session.unsent())
+        let place = connection_place(&self.connections, link)?;
+        Some(self.connections[place].session.unsent())
     }
 
     /// Takes the first unsent bytes of a client away.
     pub fn gone(&mut self, link: LinkId, count: usize)
-        requires { IfSome (unsent_at (at_key seat_link link.0 self.old.seats)) (λ unsent. count ≤ length unsent) }
-        ensures { self.new ≡ record self.old { seats = gone_at link.0 count self.old.seats (at_key seat_link link.0 self.old.seats) } }
+        requires { IfSome (unsent_at (at_key connection_link link.0 self.old.connections)) (λ unsent. count ≤ length unsent) }
+        ensures { self.new ≡ record self.old { connections = gone_at link.0 count self.old.connections (at_key connection_link link.0 self.old.connections) } }
     {
-        if let Some(place) = seat_place(&self.seats, link) {
-            self.seats[place].session.gone(count);
+        if let Some(place) = connection_place(&self.connections, link) {
+            self.connections[place].session.gone(count);
         }
     }
 
     /// Whether a link has a client that is not leaving.
     pub fn is_open(&self, link: LinkId) -> bool
-        ensures { result ≡ is_open_at (at_key seat_link link.0 self.now.seats) }
+        ensures { result ≡ is_open_at (at_key connection_link link.0 self.now.connections) }
     {
-        match seat_place(&self.seats, link) {
-            Some(place) => self.seats[place].is_open(),
+        match connection_place(&self.connections, link) {
+            Some(place) => self.connections[place].is_open(),
             None => false,
         }
     }
 
     /// The clients that are open and those that are leaving, in the order in which they came.
-    pub fn seats(&self) -> &[Seat]
-        ensures { result.now ≡ self.now.seats }
+    pub fn connections(&self) -> &[Connection]
+        ensures { result.now ≡ self.now.connections }
     {
-        self.seats.as_slice()
+        self.connections.as_slice()
     }
 
     /// How often want of memory cut something short or made a client leave.
@@ -463,7 +469,7 @@ impl Core {
     /// The buffers, with their lines and nicklists, of which a tick pushes nothing.
     pub fn world(&self) -> &World
         ensures world { result.now ≡ self.now.world }
-        ensures idle { (moment : ℕ) → step (state_of self.now) (Tick moment) ≡ stays (state_of (record self.now { moment = moment })) }
+        ensures idle { (moment : ℕ) → step (state_of self.now) (Tick moment) ≡ no_step (state_of (record self.now { moment = moment })) }
     {
         &self.world
     }

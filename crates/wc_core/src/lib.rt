@@ -3,6 +3,7 @@
 
 mod buffer_word;
 mod changes;
+mod connection;
 mod core_state;
 mod meant;
 mod nick_change;
@@ -10,14 +11,13 @@ mod number;
 mod pushes;
 mod refusals;
 mod resolve;
-mod seat;
 mod tags;
 mod typed;
 mod typed_buffer;
 mod typed_print;
 
+pub use connection::{Connection, Departure};
 pub use core_state::Core;
-pub use seat::{Departure, Seat};
 
 #[cfg(test)]
 mod push_tests;

@@ -1,5 +1,5 @@
 ghost use Rattle.std.specs.Prelude.{◌≡◌, ℕ, ◌^◌, ◌-◌, min};
-ghost use Rattle.wc_core.specs.Resolved.{numbered, first_in, buffer_meant};
+ghost use Rattle.wc_core.specs.Resolved.{first_of_number, first_in, buffer_meant};
 
 use crate::number::read_number;
 use wc_buffers::Buffers;
@@ -9,7 +9,7 @@ use wc_text::Handle;
 /// The first buffer of the group of a number, which may be larger than the largest of its type.
 #[tactic(auto, using(crate::proofs::ResolvedWords::numbered_at, crate::proofs::ResolvedWords::at_next, crate::proofs::ResolvedWords::at_first, crate::proofs::ResolvedWords::numbered_most))]
 fn numbered(buffers: &Buffers, number: u32) -> Option<Handle>
-    ensures { (n : ℕ) → number ≡ min n (2 ^ 32 - 1) → result ≡ numbered buffers.now n }
+    ensures { (n : ℕ) → number ≡ min n (2 ^ 32 - 1) → result ≡ first_of_number buffers.now n }
 {
     let mut left = number.checked_sub(1)?;
     for group in buffers.groups() {

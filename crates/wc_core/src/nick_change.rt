@@ -3,7 +3,7 @@ ghost use Rattle.wc_model.specs.Notices.{Outcome};
 ghost use Rattle.wc_model.specs.Touches.{touched_key};
 ghost use Rattle.wc_world.specs.Texts.{IsChangeText};
 ghost use Rattle.wc_core.specs.Pushes.{NothingTouched};
-ghost use Rattle.wc_core.specs.Standing.{HasNoRows};
+ghost use Rattle.wc_core.specs.CoreView.{HasNoRows};
 
 use std::alloc::Global;
 use wc_model::{Change, ChangeRefused, Notice, What};

@@ -3,8 +3,8 @@ ghost use Rattle.std.specs.Str.{IsUtf8};
 ghost use Rattle.wc_nicklist.specs.Rows.{TextsAreUtf8};
 ghost use Rattle.wc_world.specs.Texts.{IsChangeText};
 
+use crate::connection::Connection;
 use crate::pushes::{forget_nicks, push_nicks};
-use crate::seat::Seat;
 use std::alloc::Global;
 use std::test::Fail;
 use wc_buffers::BufferSpec;
@@ -32,7 +32,7 @@ const CLIENTS: [&str; 3] = [
 struct Bench {
     world: World,
     pending: Pending,
-    seats: Vec<Seat>,
+    connections: Vec<Connection>,
 }
 
 fn text(alloc: Global, text: &str) -> Result<Text, NoMemory>
@@ -82,7 +82,12 @@ fn parted(alloc: Global, name: &str) -> Result<What, NoMemory>
     Ok(What::RemoveNick(text(alloc, name)?))
 }
 
-fn seated(alloc: Global, world: &World, link: u64, script: &str) -> Result<Seat, NoMemory> {
+fn with_connection(
+    alloc: Global,
+    world: &World,
+    link: u64,
+    script: &str,
+) -> Result<Connection, NoMemory> {
     let password = text(alloc, "x")?;
     let mut session = Session::new(alloc, LinkId(link), *b"abcdbcdecdefdefg")?;
     for line in script.lines() {
@@ -90,7 +95,7 @@ fn seated(alloc: Global, world: &World, link: u64, script: &str) -> Result<Seat,
             let _outcome = session.request(alloc, world, &password, request);
         }
     }
-    Ok(Seat {
+    Ok(Connection {
         session,
         leaving: None,
     })
@@ -100,13 +105,13 @@ fn new_bench(alloc: Global) -> Result<Bench, NoMemory> {
     let mut bench = Bench {
         world: World::new(alloc, 3)?,
         pending: Pending::new(alloc)?,
-        seats: Vec::new(alloc),
+        connections: Vec::new(alloc),
     };
     bench.play(alloc, Handle(0), added(alloc, "core.a")?);
     bench.play(alloc, Handle(0), added(alloc, "core.b")?);
     for script in CLIENTS {
-        let seat = seated(alloc, &bench.world, 1, script)?;
-        if bench.seats.push(seat).is_err() {
+        let connection = with_connection(alloc, &bench.world, 1, script)?;
+        if bench.connections.push(connection).is_err() {
             return Err(NoMemory);
         }
     }
@@ -124,15 +129,15 @@ impl Bench {
     /// How many bytes are then sent to all clients together, where each is told what became of the nicklists.
     fn push(&mut self, alloc: Global) -> usize {
         let before = self.sent();
-        let _told = push_nicks(&mut self.seats, alloc, &self.world, &self.pending);
+        let _told = push_nicks(&mut self.connections, alloc, &self.world, &self.pending);
         forget_nicks(&self.world, &mut self.pending);
         self.sent().saturating_sub(before)
     }
 
     fn sent(&self) -> usize {
         let mut sent: usize = 0;
-        for seat in self.seats.as_slice() {
-            sent = sent.saturating_add(seat.session.unsent().len());
+        for connection in self.connections.as_slice() {
+            sent = sent.saturating_add(connection.session.unsent().len());
         }
         sent
     }
@@ -145,7 +150,7 @@ fn pushes_come_in_the_order_of_buffers_to_who_asked(rt: HostRuntime) -> Result<(
     bench.play(alloc, B, joined(alloc, "dan")?);
     bench.play(alloc, A, joined(alloc, "al")?);
     assert!(rt; bench.push(alloc) > 0);
-    let [all, one, none] = bench.seats.as_slice() else {
+    let [all, one, none] = bench.connections.as_slice() else {
         return Err("there are three clients")?;
     };
     assert!(rt; !one.session.unsent().is_empty());

@@ -6,12 +6,12 @@ ghost use Rattle.wc_nickdiff.specs.Held.{touches_of};
 ghost use Rattle.wc_buffers.specs.Calls.{is_there};
 ghost use Rattle.wc_model.specs.Order.{order};
 ghost use Rattle.wc_world.specs.Near.{numbers};
-ghost use Rattle.wc_core.specs.Pushes.{NothingTouched, WasTold, AreTold, AreThere, push_of, push_seat, pushed_seat};
+ghost use Rattle.wc_core.specs.Pushes.{NothingTouched, WasTold, AreTold, AreThere, push_of, push_connection, pushed_connection};
 ghost use Rattle.wc_core.specs.State.{State, told_at};
-ghost use Rattle.wc_core.specs.Step.{pushes};
-ghost use Rattle.wc_core.specs.Served.{seat_link, clients_of, unsent_on, sent_to, Distinct, SeatsKept};
+ghost use Rattle.wc_core.specs.Step.{push_step};
+ghost use Rattle.wc_core.specs.Served.{connection_link, clients_of, unsent_on, sent_to, Distinct, ConnectionsKept};
 
-use crate::seat::{Seat, starve_all, tell_all};
+use crate::connection::{Connection, starve_all, tell_all};
 use std::alloc::Global;
 use wc_model::EventKind;
 use wc_nickdiff::Pending;
@@ -22,15 +22,20 @@ use wc_world::World;
 /// Pushes what became of each nicklist since it was told to each client that is open and asked for it, in the order of
 /// buffers. A buffer of which no key was touched costs no more than to see that. What is sent is what the step says. False
 /// where memory is refused: who is not told leaves.
-pub fn push_nicks(seats: &mut [Seat], alloc: Global, world: &World, pending: &Pending) -> bool
-    ensures told { result ≡ true → (told : ℕ → List Row) → AreTold world.now pending.now told → seats.new ≡ map (pushed_seat world.now told (order world.now.groups)) seats.old }
-    ensures sent { result ≡ true → (state : State) → state.world ≡ world.now → state.clients ≡ clients_of seats.old → AreTold world.now pending.now (told_at state) → Distinct (map seat_link seats.old) → (link : ℕ) → unsent_on link seats.new ≡ unsent_on link seats.old ++ sent_to link (pushes state).acts }
-    ensures kept { SeatsKept seats.old seats.new }
-    ensures idle { NothingTouched pending.now → (result ≡ true) × (seats.new ≡ seats.old) }
+pub fn push_nicks(
+    connections: &mut [Connection],
+    alloc: Global,
+    world: &World,
+    pending: &Pending,
+) -> bool
+    ensures told { result ≡ true → (told : ℕ → List Row) → AreTold world.now pending.now told → connections.new ≡ map (pushed_connection world.now told (order world.now.groups)) connections.old }
+    ensures sent { result ≡ true → (state : State) → state.world ≡ world.now → state.clients ≡ clients_of connections.old → AreTold world.now pending.now (told_at state) → Distinct (map connection_link connections.old) → (link : ℕ) → unsent_on link connections.new ≡ unsent_on link connections.old ++ sent_to link (push_step state).acts }
+    ensures kept { ConnectionsKept connections.old connections.new }
+    ensures idle { NothingTouched pending.now → (result ≡ true) × (connections.new ≡ connections.old) }
 {
     let mut told = true;
     for group in world.buffers().groups() {
-        let pushed = push_group(seats, alloc, world, pending, group);
+        let pushed = push_group(connections, alloc, world, pending, group);
         told &= pushed;
     }
     told
@@ -38,19 +43,19 @@ pub fn push_nicks(seats: &mut [Seat], alloc: Global, world: &World, pending: &Pe
 
 /// Pushes what became of the nicklists of the buffers of a group.
 fn push_group(
-    seats: &mut [Seat],
+    connections: &mut [Connection],
     alloc: Global,
     world: &World,
     pending: &Pending,
     group: &[Handle],
 ) -> bool
-    ensures told { result ≡ true → AreThere world.now group.now → (told : ℕ → List Row) → AreTold world.now pending.now told → seats.new ≡ map (pushed_seat world.now told (numbers group.now)) seats.old }
-    ensures kept { SeatsKept seats.old seats.new }
-    ensures idle { NothingTouched pending.now → (result ≡ true) × (seats.new ≡ seats.old) }
+    ensures told { result ≡ true → AreThere world.now group.now → (told : ℕ → List Row) → AreTold world.now pending.now told → connections.new ≡ map (pushed_connection world.now told (numbers group.now)) connections.old }
+    ensures kept { ConnectionsKept connections.old connections.new }
+    ensures idle { NothingTouched pending.now → (result ≡ true) × (connections.new ≡ connections.old) }
 {
     let mut told = true;
     for buffer in group {
-        let pushed = push_buffer(seats, alloc, world, pending, *buffer);
+        let pushed = push_buffer(connections, alloc, world, pending, *buffer);
         told &= pushed;
     }
     told
@@ -58,25 +63,25 @@ fn push_group(
 
 /// Pushes what became of the nicklist of a buffer. Where no memory is found for it, each client that follows it leaves.
 fn push_buffer(
-    seats: &mut [Seat],
+    connections: &mut [Connection],
     alloc: Global,
     world: &World,
     pending: &Pending,
     buffer: Handle,
 ) -> bool
-    ensures told { result ≡ true → is_there buffer world.now.groups ≡ true → (told : List Row) → WasTold world.now pending.now buffer told → seats.new ≡ map (push_seat buffer (push_of world.now buffer.0 told)) seats.old }
-    ensures kept { SeatsKept seats.old seats.new }
-    ensures idle { touches_of buffer pending.now ≡ [] → (result ≡ true) × (seats.new ≡ seats.old) }
+    ensures told { result ≡ true → is_there buffer world.now.groups ≡ true → (told : List Row) → WasTold world.now pending.now buffer told → connections.new ≡ map (push_connection buffer (push_of world.now buffer.0 told)) connections.old }
+    ensures kept { ConnectionsKept connections.old connections.new }
+    ensures idle { touches_of buffer pending.now ≡ [] → (result ≡ true) × (connections.new ≡ connections.old) }
 {
     let _rows = world.nicks(buffer);
     if pending.held(buffer) == 0 {
         return true;
     }
     match BufferEvent::of_nicks(alloc, world, pending, buffer) {
-        Ok(Some(event)) => tell_all(seats, &event),
+        Ok(Some(event)) => tell_all(connections, &event),
         Ok(None) => true,
         Err(NoMemory) => {
-            starve_all(seats, EventKind::NicklistDiff, buffer);
+            starve_all(connections, EventKind::NicklistDiff, buffer);
             false
         }
     }

@@ -1,6 +1,6 @@
 ghost use Rattle.std.specs.Prelude.{◌≡◌, ◌++◌, IfOk, codes};
 ghost use Rattle.wc_core.specs.Resolved.{buffer_text, refusal_text};
-ghost use Rattle.wc_core.specs.ResolvedSeen.{name_meant};
+ghost use Rattle.wc_core.specs.ResolvedSeen.{name_in_refusal};
 
 use std::alloc::Global;
 use wc_buffers::BufferRefused;
@@ -18,7 +18,7 @@ pub(crate) fn joined(alloc: Global, front: &[u8], rest: &[u8]) -> Result<Text, N
 
 /// Why a call of the buffers was refused, without the name that is meant.
 fn reason(refused: &BufferRefused) -> &'static [u8]
-    ensures { result.now ++ name_meant refused.now ≡ buffer_text refused.now }
+    ensures { result.now ++ name_in_refusal refused.now ≡ buffer_text refused.now }
 {
     match refused {
         BufferRefused::NoBuffer { handle: _ } => b"no such buffer",
@@ -37,7 +37,7 @@ fn reason(refused: &BufferRefused) -> &'static [u8]
 
 /// The name that a refusal tells.
 fn name_meant(refused: &BufferRefused) -> &[u8]
-    ensures { result.now ≡ name_meant refused.now }
+    ensures { result.now ≡ name_in_refusal refused.now }
 {
     match refused {
         BufferRefused::NameTaken { name } | BufferRefused::NoVar { name } => name.as_slice(),

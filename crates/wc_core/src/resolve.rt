@@ -1,7 +1,7 @@
 ghost use Rattle.std.specs.Prelude.{◌≡◌, IfOk, IfErr, false};
 ghost use Rattle.wc_model.specs.declared.change.What.TheVariants as what;
 ghost use Rattle.wc_core.specs.Typed.{Merges};
-ghost use Rattle.wc_core.specs.Resolved.{Asks, Tells, no_such_buffer, change_of, buffer_meant, of_meant, of_named, resolved};
+ghost use Rattle.wc_core.specs.Resolved.{Asks, Tells, no_such_buffer, change_of, buffer_meant, of_meant, of_named, effect_of};
 ghost use Rattle.wc_core.specs.Step.{is_quit};
 ghost use Rattle.wc_core.specs.TypedSeen.{meaning, word_in};
 ghost use Rattle.wc_core.specs.ResolvedSeen.{outcome_of};
@@ -9,7 +9,7 @@ ghost use Rattle.wc_core.specs.ResolvedSeen.{outcome_of};
 use crate::changes::{add, print, rename};
 use crate::meant::buffer_meant;
 use crate::refusals::joined;
-use crate::typed::Asked;
+use crate::typed::CommandText;
 use std::alloc::Global;
 use wc_buffers::Buffers;
 use wc_model::{Change, What};
@@ -86,23 +86,23 @@ fn set_var(alloc: Global, name: &[u8], value: &[u8]) -> Result<What, NoMemory>
 }
 
 /// What a line that was typed into a buffer at this moment, in milliseconds since 1970, comes to.
-#[tactic(auto, unfolding(crate::specs::Resolved::resolved))]
+#[tactic(auto, unfolding(crate::specs::Resolved::effect_of))]
 pub(crate) fn resolve(
     alloc: Global,
     world: &World,
     moment: u64,
     buffer: Handle,
-    asked: Asked<'_>,
+    asked: CommandText<'_>,
 ) -> Result<Resolution, NoMemory>
-    ensures resolved { IfOk result (λ r. outcome_of r ≡ resolved world.now moment buffer (meaning asked.entry)) }
+    ensures resolved { IfOk result (λ r. outcome_of r ≡ effect_of world.now moment buffer (meaning asked.entry)) }
     ensures goes_on { IfErr result (λ e. is_quit (meaning asked.entry) ≡ false) }
 {
     let buffers = world.buffers();
     match asked {
-        Asked::Nothing => Ok(Resolution::Stays),
-        Asked::Quit => Ok(Resolution::Ends),
-        Asked::Refused { front, name } => Ok(Resolution::Tells(joined(alloc, front, name)?)),
-        Asked::Print {
+        CommandText::Nothing => Ok(Resolution::Stays),
+        CommandText::Quit => Ok(Resolution::Ends),
+        CommandText::Refused { front, name } => Ok(Resolution::Tells(joined(alloc, front, name)?)),
+        CommandText::Print {
             buffer: name,
             tags,
             prefix,
@@ -111,18 +111,24 @@ pub(crate) fn resolve(
             let line = print(alloc, moment, tags, prefix, message)?;
             of_named(alloc, buffers, buffer, name, line)
         }
-        Asked::Add(name) => Ok(asks(NULL, add(alloc, name)?)),
-        Asked::Close(name) => of_named(alloc, buffers, buffer, name, What::Close),
-        Asked::MoveTo(number) => Ok(asks(buffer, What::MoveTo(number))),
-        Asked::Merge(name) => merge(alloc, buffers, buffer, name),
-        Asked::Unmerge => Ok(asks(buffer, What::Unmerge)),
-        Asked::Hide => Ok(asks(buffer, What::Hide)),
-        Asked::Unhide => Ok(asks(buffer, What::Unhide)),
-        Asked::Clear => Ok(asks(buffer, What::Clear)),
-        Asked::Name(name) => Ok(asks(buffer, rename(alloc, buffers, buffer, name)?)),
-        Asked::ShortName(name) => Ok(asks(buffer, What::ShortName(Text::from_slice(alloc, name)?))),
-        Asked::Title(title) => Ok(asks(buffer, What::Title(Text::from_slice(alloc, title)?))),
-        Asked::SetVar { name, value } => Ok(asks(buffer, set_var(alloc, name, value)?)),
-        Asked::RemoveVar(name) => Ok(asks(buffer, What::RemoveVar(Text::from_slice(alloc, name)?))),
+        CommandText::Add(name) => Ok(asks(NULL, add(alloc, name)?)),
+        CommandText::Close(name) => of_named(alloc, buffers, buffer, name, What::Close),
+        CommandText::MoveTo(number) => Ok(asks(buffer, What::MoveTo(number))),
+        CommandText::Merge(name) => merge(alloc, buffers, buffer, name),
+        CommandText::Unmerge => Ok(asks(buffer, What::Unmerge)),
+        CommandText::Hide => Ok(asks(buffer, What::Hide)),
+        CommandText::Unhide => Ok(asks(buffer, What::Unhide)),
+        CommandText::Clear => Ok(asks(buffer, What::Clear)),
+        CommandText::Name(name) => Ok(asks(buffer, rename(alloc, buffers, buffer, name)?)),
+        CommandText::ShortName(name) => Ok(asks(
+            buffer,
+            What::ShortName(Text::from_slice(alloc, name)?),
+        )),
+        CommandText::Title(title) => Ok(asks(buffer, What::Title(Text::from_slice(alloc, title)?))),
+        CommandText::SetVar { name, value } => Ok(asks(buffer, set_var(alloc, name, value)?)),
+        CommandText::RemoveVar(name) => Ok(asks(
+            buffer,
+            What::RemoveVar(Text::from_slice(alloc, name)?),
+        )),
     }
 }

@@ -6,7 +6,7 @@ use std::alloc::Global;
 use wc_relaycmd::split_once;
 use wc_text::{Items, NoMemory, Text};
 
-/// Puts a tag behind the others, where it is not empty.
+/// Puts a tag after the others, where it is not empty.
 fn push_filled(tags: &mut Items<Text>, alloc: Global, tag: &[u8]) -> Result<(), NoMemory>
     ensures { OnOk result (tags.new ≡ tags.old ++ filter is_filled (tag.now ∷ [])) }
 {
@@ -23,9 +23,9 @@ pub(crate) fn read_tags(alloc: Global, word: &[u8]) -> Result<Items<Text>, NoMem
     let mut tags = Items::new(alloc);
     let mut left = Some(word);
     while let Some(rest) = left {
-        let (tag, behind) = split_once(rest, b',');
+        let (tag, following) = split_once(rest, b',');
         push_filled(&mut tags, alloc, tag)?;
-        left = behind;
+        left = following;
     }
     Ok(tags)
 }

@@ -5,7 +5,7 @@ use wc_text::{Arrival, Cause, Handle, LinkId, NoMemory, Text};
 
 const NONCE: [u8; 16] = *b"abcdbcdecdefdefg";
 
-/// A core with this password that keeps three lines, behind the first wait.
+/// A core with this password that keeps three lines, after the first wait.
 fn new_core(alloc: Global, password: &str) -> Result<Core, NoMemory> {
     let mut core = Core::new(alloc, Text::from_slice(alloc, password.as_bytes())?, 3)?;
     core.start(1700000000000);
@@ -213,7 +213,7 @@ fn answers_a_handshake_without_a_common_algorithm(rt: HostRuntime) -> Result<(),
     Ok(())
 }
 
-/// What is typed, and the prefix and message of the newest line behind it.
+/// What is typed, and the prefix and message of the newest line after it.
 struct TypedRow {
     typed: &'static str,
     prefix: &'static str,
@@ -390,7 +390,7 @@ fn tells_lines_to_those_who_asked(rt: HostRuntime) -> Result<(), Fail> {
     Ok(())
 }
 
-/// What is typed, and the buffers before and behind in the last bytes of its event.
+/// What is typed, and the buffers before and after in the last bytes of its event.
 const PLACES: [(&str, &[u8]); 4] = [
     ("input core.b /buffer merge core.a", b"\x015\x01d"),
     ("input core.c /buffer merge core.a", b"\x019\x010"),
@@ -436,7 +436,7 @@ fn prints_on_another_buffer(rt: HostRuntime) -> Result<(), Fail> {
 }
 
 #[test]
-fn skips_what_stands_behind_a_close(rt: HostRuntime) -> Result<(), Fail> {
+fn skips_what_stands_after_a_close(rt: HostRuntime) -> Result<(), Fail> {
     let mut core = new_core(rt.alloc(), "x")?;
     assert!(rt; arrive(&mut core, 1).is_none());
     say(

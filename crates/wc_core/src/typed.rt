@@ -1,5 +1,5 @@
 ghost use Rattle.std.specs.Prelude.{◌≡◌};
-ghost use Rattle.wc_core.specs.Typed.{no_text_here, unknown_command, wrong_arguments, quit_command, command, slashed, typed_line};
+ghost use Rattle.wc_core.specs.Typed.{no_text_here, unknown_command, wrong_arguments, quit_command, command, slash_command, typed_line};
 ghost use Rattle.wc_core.specs.TypedSeen.{meaning};
 
 use crate::typed_buffer::buffer_command;
@@ -12,7 +12,7 @@ const WRONG: &[u8] = b"wrong arguments: /";
 
 /// What a line that is typed into a buffer asks for.
 #[derive(Drop)]
-pub enum Asked<'a> {
+pub enum CommandText<'a> {
     Nothing,
     /// The end of the run.
     Quit,
@@ -39,7 +39,7 @@ pub enum Asked<'a> {
     Hide,
     Unhide,
     Clear,
-    /// Another name behind the first dot of the full name.
+    /// Another name after the first dot of the full name.
     Name(&'a [u8]),
     ShortName(&'a [u8]),
     Title(&'a [u8]),
@@ -50,41 +50,41 @@ pub enum Asked<'a> {
     RemoveVar(&'a [u8]),
 }
 
-fn no_text_here<'a>() -> Asked<'a>
+fn no_text_here<'a>() -> CommandText<'a>
     ensures { meaning result ≡ no_text_here }
 {
-    Asked::Refused {
+    CommandText::Refused {
         front: b"no text here",
         name: b"",
     }
 }
 
-fn unknown_command(name: &[u8]) -> Asked<'_>
+fn unknown_command(name: &[u8]) -> CommandText<'_>
     ensures { meaning result ≡ unknown_command name.now }
 {
-    Asked::Refused {
+    CommandText::Refused {
         front: UNKNOWN,
         name,
     }
 }
 
-pub(crate) fn wrong_arguments(name: &[u8]) -> Asked<'_>
+pub(crate) fn wrong_arguments(name: &[u8]) -> CommandText<'_>
     ensures { meaning result ≡ wrong_arguments name.now }
 {
-    Asked::Refused { front: WRONG, name }
+    CommandText::Refused { front: WRONG, name }
 }
 
-fn quit_command(text: &[u8]) -> Asked<'_>
+fn quit_command(text: &[u8]) -> CommandText<'_>
     ensures { meaning result ≡ quit_command text.now }
 {
     if text.is_empty() {
-        Asked::Quit
+        CommandText::Quit
     } else {
         wrong_arguments(b"quit")
     }
 }
 
-fn command<'a>(name: &'a [u8], text: &'a [u8]) -> Asked<'a>
+fn command<'a>(name: &'a [u8], text: &'a [u8]) -> CommandText<'a>
     ensures { meaning result ≡ command name.now text.now }
 {
     if name == b"print".as_slice() {
@@ -98,9 +98,9 @@ fn command<'a>(name: &'a [u8], text: &'a [u8]) -> Asked<'a>
     }
 }
 
-/// What stands behind a `/`, which a second `/` makes a text.
-fn slashed(text: &[u8]) -> Asked<'_>
-    ensures { meaning result ≡ slashed text.now }
+/// What comes after a `/`, which a second `/` makes a text.
+fn slashed(text: &[u8]) -> CommandText<'_>
+    ensures { meaning result ≡ slash_command text.now }
 {
     if let [b'/', ..] = text {
         return no_text_here();
@@ -111,11 +111,11 @@ fn slashed(text: &[u8]) -> Asked<'_>
 
 /// Reads a line that is typed into a buffer. What does not begin with a `/` is a text, which no buffer takes.
 #[tactic(auto, unfolding(crate::specs::Typed::typed_line))]
-pub fn read_typed(line: &[u8]) -> Asked<'_>
+pub fn read_typed(line: &[u8]) -> CommandText<'_>
     ensures { meaning result ≡ typed_line line.now }
 {
     match line {
-        [] => Asked::Nothing,
+        [] => CommandText::Nothing,
         [b'/', text @ ..] => slashed(text),
         _ => no_text_here(),
     }

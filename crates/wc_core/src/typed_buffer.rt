@@ -6,10 +6,10 @@ ghost use Rattle.wc_core.specs.TypedSeen.{meaning, only_word, property_set};
 
 use crate::buffer_word::{BufferWord, Property, read_property};
 use crate::number::read_number;
-use crate::typed::{Asked, wrong_arguments};
+use crate::typed::{CommandText, wrong_arguments};
 use wc_relaycmd::cut_word;
 
-fn wrong_buffer<'a>() -> Asked<'a>
+fn wrong_buffer<'a>() -> CommandText<'a>
     ensures { meaning result ≡ wrong_buffer }
 {
     wrong_arguments(b"buffer")
@@ -27,47 +27,47 @@ fn only_word(text: &[u8]) -> Option<&[u8]>
 }
 
 /// A new buffer of this name.
-fn add(text: &[u8]) -> Asked<'_>
+fn add(text: &[u8]) -> CommandText<'_>
     ensures { meaning result ≡ one_word (λ name. Adds name) text.now }
 {
     match only_word(text) {
-        Some(name) => Asked::Add(name),
+        Some(name) => CommandText::Add(name),
         None => wrong_buffer(),
     }
 }
 
-fn close(text: &[u8]) -> Asked<'_>
+fn close(text: &[u8]) -> CommandText<'_>
     ensures { meaning result ≡ close_command text.now }
 {
     if text.is_empty() {
-        return Asked::Close(None);
+        return CommandText::Close(None);
     }
     match only_word(text) {
-        Some(name) => Asked::Close(Some(name)),
+        Some(name) => CommandText::Close(Some(name)),
         None => wrong_buffer(),
     }
 }
 
-fn move_to(text: &[u8]) -> Asked<'_>
+fn move_to(text: &[u8]) -> CommandText<'_>
     ensures { meaning result ≡ one_word moves_to text.now }
 {
     match only_word(text).and_then(read_number) {
-        Some(number) => Asked::MoveTo(number),
+        Some(number) => CommandText::MoveTo(number),
         None => wrong_buffer(),
     }
 }
 
-fn merge(text: &[u8]) -> Asked<'_>
+fn merge(text: &[u8]) -> CommandText<'_>
     ensures { meaning result ≡ one_word (λ name. Merges name) text.now }
 {
     match only_word(text) {
-        Some(name) => Asked::Merge(name),
+        Some(name) => CommandText::Merge(name),
         None => wrong_buffer(),
     }
 }
 
-/// What is asked where no word stands behind it.
-fn bare<'a>(asked: Asked<'a>, text: &'a [u8]) -> Asked<'a>
+/// What is asked where no word comes after it.
+fn bare<'a>(asked: CommandText<'a>, text: &'a [u8]) -> CommandText<'a>
     ensures { meaning result ≡ without_words (meaning asked.entry) text.now }
 {
     if text.is_empty() {
@@ -77,8 +77,8 @@ fn bare<'a>(asked: Asked<'a>, text: &'a [u8]) -> Asked<'a>
     }
 }
 
-/// What is asked where a text stands behind it.
-fn valued<'a>(asked: Asked<'a>, text: &'a [u8]) -> Asked<'a>
+/// What is asked where a text comes after it.
+fn valued<'a>(asked: CommandText<'a>, text: &'a [u8]) -> CommandText<'a>
     ensures { meaning result ≡ some_text (λ value. meaning asked.entry) text.now }
 {
     if text.is_empty() {
@@ -89,19 +89,19 @@ fn valued<'a>(asked: Asked<'a>, text: &'a [u8]) -> Asked<'a>
 }
 
 /// A property of the buffer.
-fn set_to<'a>(property: Property<'a>, text: &'a [u8]) -> Asked<'a>
+fn set_to<'a>(property: Property<'a>, text: &'a [u8]) -> CommandText<'a>
     ensures { meaning result ≡ property_set property.entry text.now }
 {
     match property {
-        Property::Name => valued(Asked::Name(text), text),
-        Property::ShortName => valued(Asked::ShortName(text), text),
-        Property::Title => valued(Asked::Title(text), text),
-        Property::SetVar(name) => valued(Asked::SetVar { name, value: text }, text),
-        Property::RemoveVar(name) => bare(Asked::RemoveVar(name), text),
+        Property::Name => valued(CommandText::Name(text), text),
+        Property::ShortName => valued(CommandText::ShortName(text), text),
+        Property::Title => valued(CommandText::Title(text), text),
+        Property::SetVar(name) => valued(CommandText::SetVar { name, value: text }, text),
+        Property::RemoveVar(name) => bare(CommandText::RemoveVar(name), text),
     }
 }
 
-fn set(text: &[u8]) -> Asked<'_>
+fn set(text: &[u8]) -> CommandText<'_>
     ensures { meaning result ≡ set_property (word_of text.now) (rest_of text.now) }
 {
     let (word, rest) = cut_word(text);
@@ -112,7 +112,7 @@ fn set(text: &[u8]) -> Asked<'_>
 }
 
 /// What `/buffer` asks for.
-pub(crate) fn buffer_command(text: &[u8]) -> Asked<'_>
+pub(crate) fn buffer_command(text: &[u8]) -> CommandText<'_>
     ensures { meaning result ≡ buffer_command text.now }
 {
     let (word, rest) = cut_word(text);
@@ -121,10 +121,10 @@ pub(crate) fn buffer_command(text: &[u8]) -> Asked<'_>
         Some(BufferWord::Close) => close(rest),
         Some(BufferWord::Move) => move_to(rest),
         Some(BufferWord::Merge) => merge(rest),
-        Some(BufferWord::Unmerge) => bare(Asked::Unmerge, rest),
-        Some(BufferWord::Hide) => bare(Asked::Hide, rest),
-        Some(BufferWord::Unhide) => bare(Asked::Unhide, rest),
-        Some(BufferWord::Clear) => bare(Asked::Clear, rest),
+        Some(BufferWord::Unmerge) => bare(CommandText::Unmerge, rest),
+        Some(BufferWord::Hide) => bare(CommandText::Hide, rest),
+        Some(BufferWord::Unhide) => bare(CommandText::Unhide, rest),
+        Some(BufferWord::Clear) => bare(CommandText::Clear, rest),
         Some(BufferWord::Set) => set(rest),
         None => wrong_buffer(),
     }

@@ -1,8 +1,8 @@
 ghost use Rattle.std.specs.Prelude.{◌≡◌, Some};
-ghost use Rattle.wc_core.specs.Typed.{printed, print_tagged, print_on, print_command, tags_of};
+ghost use Rattle.wc_core.specs.Typed.{print_words, print_tagged, print_on, print_command, tags_of};
 ghost use Rattle.wc_core.specs.TypedSeen.{meaning, word_in};
 
-use crate::typed::{Asked, wrong_arguments};
+use crate::typed::{CommandText, wrong_arguments};
 use wc_relaycmd::{cut_word, split_once};
 
 const BUFFER: &[u8] = b"-buffer";
@@ -10,20 +10,20 @@ const BUFFER: &[u8] = b"-buffer";
 const TAGS: &[u8] = b"-tags";
 
 /// A text whose first tab parts the prefix from the message.
-fn printed<'a>(buffer: Option<&'a [u8]>, tags: &'a [u8], text: &'a [u8]) -> Asked<'a>
-    ensures { meaning result ≡ printed (word_in buffer.entry) (tags_of tags.now) text.now }
+fn printed<'a>(buffer: Option<&'a [u8]>, tags: &'a [u8], text: &'a [u8]) -> CommandText<'a>
+    ensures { meaning result ≡ print_words (word_in buffer.entry) (tags_of tags.now) text.now }
 {
     if text.is_empty() {
         return wrong_arguments(b"print");
     }
     match split_once(text, b'\t') {
-        (prefix, Some(message)) => Asked::Print {
+        (prefix, Some(message)) => CommandText::Print {
             buffer,
             tags,
             prefix,
             message,
         },
-        (_, None) => Asked::Print {
+        (_, None) => CommandText::Print {
             buffer,
             tags,
             prefix: b"",
@@ -32,8 +32,8 @@ fn printed<'a>(buffer: Option<&'a [u8]>, tags: &'a [u8], text: &'a [u8]) -> Aske
     }
 }
 
-/// Behind the buffer there may be tags.
-fn print_tagged<'a>(buffer: &'a [u8], text: &'a [u8]) -> Asked<'a>
+/// After the buffer there may be tags.
+fn print_tagged<'a>(buffer: &'a [u8], text: &'a [u8]) -> CommandText<'a>
     ensures { meaning result ≡ print_tagged (Some buffer.now) text.now }
 {
     let (word, rest) = cut_word(text);
@@ -44,8 +44,8 @@ fn print_tagged<'a>(buffer: &'a [u8], text: &'a [u8]) -> Asked<'a>
     printed(Some(buffer), tags, text)
 }
 
-/// Behind the tags there may be a buffer.
-fn print_on<'a>(tags: &'a [u8], text: &'a [u8]) -> Asked<'a>
+/// After the tags there may be a buffer.
+fn print_on<'a>(tags: &'a [u8], text: &'a [u8]) -> CommandText<'a>
     ensures { meaning result ≡ print_on (tags_of tags.now) text.now }
 {
     let (word, rest) = cut_word(text);
@@ -56,8 +56,8 @@ fn print_on<'a>(tags: &'a [u8], text: &'a [u8]) -> Asked<'a>
     printed(Some(buffer), tags, text)
 }
 
-/// What is to be printed: a text, which words for its buffer and for its tags may stand before, in either order.
-pub(crate) fn print_command(text: &[u8]) -> Asked<'_>
+/// What is to be printed: a text, which words for its buffer and for its tags may are before, in either order.
+pub(crate) fn print_command(text: &[u8]) -> CommandText<'_>
     ensures { meaning result ≡ print_command text.now }
 {
     let (word, rest) = cut_word(text);

@@ -12,8 +12,8 @@ use Rattle.std.proofs.lemmas.Slice.Eq.{bytes_eq-Decides, ends_is}
 use Rattle.wc_text.specs.Integer.{is_numeral, negative_of, positive_of, integer_of}
 use Rattle.wc_hdata.specs.declared.count.Count.{Count}
 use Rattle.wc_hdata.specs.declared.count.Count.TheVariants as Counts
-use Rattle.wc_hdata.specs.Paths.{Numbers, IsCount}
-use Rattle.wc_hdata.specs.Answers.{counted, count_inside, inside, count_of}
+use Rattle.wc_hdata.specs.Paths.{SpellsCount, IsCount}
+use Rattle.wc_hdata.specs.Answers.{count_of_number, count_inside, inside, count_of}
 use Rattle.wc_hdata.proofs.CutLemmas.{lacks, lacks-append, not_this, passing_lacks, from_mark}
 
 -- ---- numbers
@@ -25,7 +25,7 @@ first_digit b ds numeral =
 all_digits : (ds : List ℕ) → is_numeral ds ≡ true → list_all is_ascii_digit ds ≡ true
 all_digits ds numeral = (and_parts (nat_lt 0 (length ds)) (list_all is_ascii_digit ds) numeral).1
 
-forward_integer : (ds : List ℕ) (n : ℕ) → Numbers ds n → integer_of ds ≡ Some (pos n)
+forward_integer : (ds : List ℕ) (n : ℕ) → SpellsCount ds n → integer_of ds ≡ Some (pos n)
 unfolding integer_of
 forward_integer [] n numbers = absurd (false≢true numbers.numeral)
 forward_integer (b ∷ ds) n numbers =
@@ -36,7 +36,7 @@ forward_integer (b ∷ ds) n numbers =
     ∙ ap (λ (t : Bool). cond t (Some (pos v)) None) (and_from (is_numeral (b ∷ ds)) (nat_lt v (2 ^ 63)) numbers.numeral (lt-ltb v (2 ^ 63) small))
     ∙ ap (λ (k : ℕ). Some (pos k)) numbers.value
 
-backward_integer : (ds : List ℕ) (n : ℕ) → Numbers ds n → integer_of (45 ∷ ds) ≡ Some (neg_ℤ (pos n))
+backward_integer : (ds : List ℕ) (n : ℕ) → SpellsCount ds n → integer_of (45 ∷ ds) ≡ Some (neg_ℤ (pos n))
 unfolding integer_of
 backward_integer ds n numbers =
     let v = digits_value 10 ds in
@@ -44,11 +44,11 @@ backward_integer ds n numbers =
     ap (λ (t : Bool). cond t (Some (neg_ℤ (pos v))) None) (and_from (is_numeral ds) (nat_le v (2 ^ 63)) numbers.numeral (le-leb v (2 ^ 63) small))
     ∙ ap (λ (k : ℕ). Some (neg_ℤ (pos k))) numbers.value
 
-counted_forward : (n : ℕ) → 1 ≤ n → n < 2 ^ 31 → counted (pos n) ≡ Some (Counts.Forward n)
+counted_forward : (n : ℕ) → 1 ≤ n → n < 2 ^ 31 → count_of_number (pos n) ≡ Some (Counts.Forward n)
 counted_forward n least most =
     ap (λ (t : Bool). cond t (Some (Counts.Forward n)) None) (and_from (nat_le 1 n) (nat_lt n (2 ^ 31)) (le-leb 1 n least) (lt-ltb n (2 ^ 31) most))
 
-counted_backward : (n : ℕ) → 1 ≤ n → n < 2 ^ 31 → counted (neg_ℤ (pos n)) ≡ Some (Counts.Backward n)
+counted_backward : (n : ℕ) → 1 ≤ n → n < 2 ^ 31 → count_of_number (neg_ℤ (pos n)) ≡ Some (Counts.Backward n)
 counted_backward zero least most = absurd (omega arith)
 counted_backward (suc n) least most =
     let same : n + 1 ≡ suc n = omega arith in
@@ -60,7 +60,7 @@ record CountsBack (n : ℕ) (count : Count) : Type 0 where
   pub most : n < 2 ^ 31
   pub is : Counts.Backward n ≡ count
 
-back_counted : (n : ℕ) (count : Count) → counted (neg_ℤ (pos n)) ≡ Some count → CountsBack n count
+back_counted : (n : ℕ) (count : Count) → count_of_number (neg_ℤ (pos n)) ≡ Some count → CountsBack n count
 back_counted zero count is = absurd (none-some count is)
 back_counted (suc n) count is =
     let parts = cond_some (nat_lt (n + 1) (2 ^ 31)) (Counts.Backward (n + 1)) count is in
@@ -91,15 +91,15 @@ star_inside : count_inside (codes "*") ≡ Some Counts.All
 unfolding count_inside
 star_inside = refl
 
-forward_inside : (ds : List ℕ) (n : ℕ) → Numbers ds n → count_inside ds ≡ Some (Counts.Forward n)
+forward_inside : (ds : List ℕ) (n : ℕ) → SpellsCount ds n → count_inside ds ≡ Some (Counts.Forward n)
 unfolding count_inside
 forward_inside ds n numbers =
-    ap (λ (t : Bool). cond t (Some Counts.All) (option_and_then counted (integer_of ds))) (no_star ds numbers.numeral)
-    ∙ ap (option_and_then counted) (forward_integer ds n numbers) ∙ counted_forward n numbers.least numbers.most
+    ap (λ (t : Bool). cond t (Some Counts.All) (option_and_then count_of_number (integer_of ds))) (no_star ds numbers.numeral)
+    ∙ ap (option_and_then count_of_number) (forward_integer ds n numbers) ∙ counted_forward n numbers.least numbers.most
 
-backward_inside : (ds : List ℕ) (n : ℕ) → Numbers ds n → count_inside (45 ∷ ds) ≡ Some (Counts.Backward n)
+backward_inside : (ds : List ℕ) (n : ℕ) → SpellsCount ds n → count_inside (45 ∷ ds) ≡ Some (Counts.Backward n)
 unfolding count_inside
-backward_inside ds n numbers = ap (option_and_then counted) (backward_integer ds n numbers) ∙ counted_backward n numbers.least numbers.most
+backward_inside ds n numbers = ap (option_and_then count_of_number) (backward_integer ds n numbers) ∙ counted_backward n numbers.least numbers.most
 
 -- ---- what is written is counted
 pub record Written (text : List ℕ) (count : Count) : Type 0 where
@@ -122,22 +122,22 @@ written text (Counts.Backward n) w = record {
 }
 
 -- ---- what is counted is written
-back_written : (b : ℕ) (ds : List ℕ) (z : ℤ) (count : Count) → b ≡ 45 → negative_of ds ≡ Some z → counted z ≡ Some count → IsCount (40 ∷ ((b ∷ ds) ++ 41 ∷ [])) count
+back_written : (b : ℕ) (ds : List ℕ) (z : ℤ) (count : Count) → b ≡ 45 → negative_of ds ≡ Some z → count_of_number z ≡ Some count → IsCount (40 ∷ ((b ∷ ds) ++ 41 ∷ [])) count
 back_written b ds z count sign read made =
     let v = digits_value 10 ds in
     let parts = cond_some (is_numeral ds && nat_le v (2 ^ 63)) (neg_ℤ (pos v)) z read in
-    let back = back_counted v count (ap counted parts.1 ∙ made) in
+    let back = back_counted v count (ap count_of_number parts.1 ∙ made) in
     subst (λ (c : Count). IsCount (40 ∷ ((b ∷ ds) ++ 41 ∷ [])) c) back.is (
       ds,
       record { numeral = (and_parts (is_numeral ds) (nat_le v (2 ^ 63)) parts.0).0; value = refl; least = back.least; most = back.most },
       ap (λ (k : ℕ). 40 ∷ k ∷ (ds ++ 41 ∷ [])) sign,
     )
 
-forward_written : (ds : List ℕ) (z : ℤ) (count : Count) → positive_of ds ≡ Some z → counted z ≡ Some count → IsCount (40 ∷ (ds ++ 41 ∷ [])) count
+forward_written : (ds : List ℕ) (z : ℤ) (count : Count) → positive_of ds ≡ Some z → count_of_number z ≡ Some count → IsCount (40 ∷ (ds ++ 41 ∷ [])) count
 forward_written ds z count read made =
     let v = digits_value 10 ds in
     let parts = cond_some (is_numeral ds && nat_lt v (2 ^ 63)) (pos v) z read in
-    let sized = cond_some (nat_le 1 v && nat_lt v (2 ^ 31)) (Counts.Forward v) count (ap counted parts.1 ∙ made) in
+    let sized = cond_some (nat_le 1 v && nat_lt v (2 ^ 31)) (Counts.Forward v) count (ap count_of_number parts.1 ∙ made) in
     let within = and_parts (nat_le 1 v) (nat_lt v (2 ^ 31)) sized.0 in
     subst (λ (c : Count). IsCount (40 ∷ (ds ++ 41 ∷ [])) c) sized.1 (
       ds,
@@ -145,7 +145,7 @@ forward_written ds z count read made =
       refl,
     )
 
-integer_written : (ds : List ℕ) (z : ℤ) (count : Count) → integer_of ds ≡ Some z → counted z ≡ Some count → IsCount (40 ∷ (ds ++ 41 ∷ [])) count
+integer_written : (ds : List ℕ) (z : ℤ) (count : Count) → integer_of ds ≡ Some z → count_of_number z ≡ Some count → IsCount (40 ∷ (ds ++ 41 ∷ [])) count
 unfolding integer_of
 integer_written [] z count read made = absurd (none-some z read)
 integer_written (b ∷ ds) z count read made = by (eqb b 45) refl read where
@@ -156,11 +156,11 @@ integer_written (b ∷ ds) z count read made = by (eqb b 45) refl read where
 inside_written : (inner : List ℕ) (count : Count) → count_inside inner ≡ Some count → IsCount (40 ∷ (inner ++ 41 ∷ [])) count
 unfolding count_inside
 inside_written inner count is = by (bytes_eq inner (codes "*")) refl is where
-  by : (t : Bool) → bytes_eq inner (codes "*") ≡ t → cond t (Some Counts.All) (option_and_then counted (integer_of inner)) ≡ Some count → IsCount (40 ∷ (inner ++ 41 ∷ [])) count
+  by : (t : Bool) → bytes_eq inner (codes "*") ≡ t → cond t (Some Counts.All) (option_and_then count_of_number (integer_of inner)) ≡ Some count → IsCount (40 ∷ (inner ++ 41 ∷ [])) count
   by true e here =
       subst (λ (c : Count). IsCount (40 ∷ (inner ++ 41 ∷ [])) c) (same_Some Counts.All count here)
       (ap (λ (t : List ℕ). 40 ∷ (t ++ 41 ∷ [])) ((bytes_eq-Decides inner (codes "*")).0 e))
-  by false e here = option_and_then_some counted (integer_of inner) count here (λ z read made. integer_written inner z count read made)
+  by false e here = option_and_then_some count_of_number (integer_of inner) count here (λ z read made. integer_written inner z count read made)
 
 pub counted_written : (rest : Option (List ℕ)) (count : Count) → count_of rest ≡ Some count → IsCount (from_mark 40 rest) count
 counted_written None count is = subst (λ (c : Count). IsCount [] c) (same_Some Counts.One count is) refl

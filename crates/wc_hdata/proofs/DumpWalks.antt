@@ -8,7 +8,7 @@ use Rattle.std.proofs.lemmas.List.Concat.{flat_map-append}
 use Rattle.wc_text.specs.declared.names.Handle.{Handle}
 use Rattle.wc_lines.specs.declared.line.Line.{Line}
 use Rattle.wc_buffers.specs.declared.entry.BufferEntry.{BufferEntry}
-use Rattle.wc_buffers.specs.Calls.{Groups, handle_of, buffer_of, entry_of, number}
+use Rattle.wc_buffers.specs.Calls.{EntryGroups, handle_of, buffer_of, entry_of, number}
 use Rattle.wc_buffers.specs.Groups.{rows, in_group, place, times_in, times}
 use Rattle.wc_buffers.specs.Kept.{AreBuffers}
 use Rattle.wc_buffers.proofs.GroupLaws.{times_in-append, times-append, in_group_tells}
@@ -16,9 +16,9 @@ use Rattle.wc_model.specs.World.{World, lines_at}
 use Rattle.wc_objects.specs.declared.object.Object.TheVariants as o
 use Rattle.wc_objects.specs.declared.object.Hda.{roll-Hda}
 use Rattle.wc_objects.specs.declared.object.HdaItem.{HdaItem, roll-HdaItem}
-use Rattle.wc_told.specs.BufferObjects.{text, table, count, dump_keys, dumped_values, dumped_buffer, dumped_groups, buffer_dump}
-use Rattle.wc_told.specs.LineObjects.{truth, line_keys, line_values, dumped_item, dumped_lines, line_dump}
-use Rattle.wc_told.proofs.DumpLemmas.{rows_found, all_parts, few_groups}
+use Rattle.wc_events.specs.BufferObjects.{text, table, count, dump_keys, dumped_values, dumped_buffer, dumped_groups, buffer_dump}
+use Rattle.wc_events.specs.LineObjects.{truth, line_keys, line_values, dumped_item, dumped_lines, line_dump}
+use Rattle.wc_events.proofs.DumpLemmas.{rows_found, all_parts, few_groups}
 use Rattle.wc_hdata.specs.declared.key.Key.{Key}
 use Rattle.wc_hdata.specs.declared.key.Key.TheVariants as k
 use Rattle.wc_hdata.specs.declared.path.Step.{Step}
@@ -26,7 +26,7 @@ use Rattle.wc_hdata.specs.Answers.{path_of, head_of, place_of, step_of, count_in
 use Rattle.wc_hdata.specs.declared.count.Count.TheVariants.{One, All}
 use Rattle.wc_hdata.specs.declared.variable.Variable.TheVariants.{OwnLines, FirstLine, Data}
 use Rattle.wc_hdata.specs.Dumps.{buffers_text, buffers_path, buffers_keys, lines_text, lines_path, lines_keys}
-use Rattle.wc_hdata.specs.Hdata.{asked, walk_object}
+use Rattle.wc_hdata.specs.Hdata.{keys_asked, walk_object}
 use Rattle.wc_hdata.specs.Keys.{named_keys, keys_text}
 use Rattle.wc_hdata.specs.Lists.{held_by}
 use Rattle.wc_hdata.specs.Paths.{h_path_of}
@@ -35,7 +35,7 @@ use Rattle.wc_hdata.specs.Refusals.{reached}
 use Rattle.wc_hdata.specs.Starts.{starts}
 use Rattle.wc_hdata.specs.Steps.{all_buffers, reach}
 use Rattle.wc_hdata.specs.Values.{item_of, of_buffer, value_of, values_of}
-use Rattle.wc_hdata.specs.Walk.{Node, all_led, led, onward, onward_all, walked, row_number}
+use Rattle.wc_hdata.specs.Walk.{Node, nodes_at, node_at, onward, onward_all, nodes_reached, row_number}
 
 -- ---- the paths and the keys
 
@@ -53,11 +53,11 @@ buffer_keys = k.Number ∷ k.FullName ∷ k.ShortName ∷ k.Hidden ∷ k.Title �
 abbrev data_keys : List Key
 data_keys = k.Buffer ∷ k.Date ∷ k.DatePrinted ∷ k.Displayed ∷ k.NotifyLevel ∷ k.Highlight ∷ k.TagsArray ∷ k.Prefix ∷ k.Message ∷ []
 
-buffer_keys_asked : asked buffers_path buffers_keys ≡ buffer_keys
+buffer_keys_asked : keys_asked buffers_path buffers_keys ≡ buffer_keys
 unfolding named_keys
 buffer_keys_asked = refl
 
-data_keys_asked : asked lines_path lines_keys ≡ data_keys
+data_keys_asked : keys_asked lines_path lines_keys ≡ data_keys
 unfolding named_keys
 data_keys_asked = refl
 
@@ -75,10 +75,10 @@ abbrev handle : BufferEntry → Handle
 handle e = e.row.handle
 
 -- what is found under the handle of a buffer
-abbrev is_found : Groups → BufferEntry → Type 0
+abbrev is_found : EntryGroups → BufferEntry → Type 0
 is_found groups e = entry_of e.row.handle groups ≡ Some e
 
-pub all_handles : (groups : Groups) → all_buffers groups ≡ map handle (rows groups)
+pub all_handles : (groups : EntryGroups) → all_buffers groups ≡ map handle (rows groups)
 all_handles [] = refl
 all_handles (group ∷ groups) = ap (λ hs. map handle group ++ hs) (all_handles groups) ∙ sym (map-append handle group (rows groups))
 
@@ -87,8 +87,8 @@ all_handles (group ∷ groups) = ap (λ hs. map handle group ++ hs) (all_handles
 abbrev stands : ℕ → List BufferEntry → Type 0
 stands h group = (in_group handle_of h group ≡ true) × (1 ≤ times_in handle_of h group)
 
-stands_in : (before group : List BufferEntry) (e : BufferEntry) (others : List BufferEntry) → group ≡ before ++ e ∷ others → stands (handle_of e) group
-stands_in before group e others same = by (in_group_tells handle_of (handle_of e) group) where
+lies_in : (before group : List BufferEntry) (e : BufferEntry) (others : List BufferEntry) → group ≡ before ++ e ∷ others → stands (handle_of e) group
+lies_in before group e others same = by (in_group_tells handle_of (handle_of e) group) where
   by : stands (handle_of e) group ⊎ ((in_group handle_of (handle_of e) group ≡ false) × (times_in handle_of (handle_of e) group ≡ 0)) → stands (handle_of e) group
   by (inl t) = t
   by (inr f) =
@@ -97,7 +97,7 @@ stands_in before group e others same = by (in_group_tells handle_of (handle_of e
       let all : times_in handle_of (handle_of e) group ≡ times_in handle_of (handle_of e) before + times_in handle_of (handle_of e) (e ∷ others) = ap (times_in handle_of (handle_of e)) same ∙ times_in-append handle_of (handle_of e) before (e ∷ others) in
       absurd (omega (arith, none, here, all))
 
-first_place : (h : ℕ) (done : Groups) (group : List BufferEntry) (groups : Groups) → times handle_of h done ≡ 0 → in_group handle_of h group ≡ true
+first_place : (h : ℕ) (done : EntryGroups) (group : List BufferEntry) (groups : EntryGroups) → times handle_of h done ≡ 0 → in_group handle_of h group ≡ true
     → position_or_len (in_group handle_of h) (done ++ group ∷ groups) ≡ length done
 first_place h [] group groups none inside = rw inside refl
 first_place h (first ∷ done) group groups none inside = by (in_group_tells handle_of h first) (λ no. first_place h done group groups no inside) where
@@ -111,27 +111,27 @@ first_place h (first ∷ done) group groups none inside = by (in_group_tells han
       let one_more : 1 + length done ≡ suc (length done) = omega arith in
       rw no (ap (λ n. 1 + n) (others (omega (arith, zero))) ∙ one_more)
 
-placed : (h : ℕ) (done : Groups) (group : List BufferEntry) (groups : Groups) → times handle_of h done ≡ 0 → in_group handle_of h group ≡ true → place handle_of h (done ++ group ∷ groups) ≡ Some (length done)
+placed : (h : ℕ) (done : EntryGroups) (group : List BufferEntry) (groups : EntryGroups) → times handle_of h done ≡ 0 → in_group handle_of h group ≡ true → place handle_of h (done ++ group ∷ groups) ≡ Some (length done)
 placed h done group groups none inside =
     let within : nat_lt (length done) (length (done ++ group ∷ groups)) ≡ true = grind (arith, nat_tests, length-append done (group ∷ groups)) in
     ap (λ n. cond (nat_lt n (length (done ++ group ∷ groups))) (Some n) None) (first_place h done group groups none inside) ∙ rw within refl
 
--- each buffer of a group has the number behind those of the groups before it
-abbrev has_number : Groups → ℕ → BufferEntry → Type 0
+-- each buffer of a group has the number after those of the groups before it
+abbrev has_number : EntryGroups → ℕ → BufferEntry → Type 0
 has_number groups n e = number e.row.handle groups ≡ Some n
 
-one_number : (all done groups : Groups) (group before : List BufferEntry) (e : BufferEntry) (others : List BufferEntry) (n : ℕ) → ((h : ℕ) → times handle_of h all ≤ 1) → all ≡ done ++ group ∷ groups
+one_number : (all done groups : EntryGroups) (group before : List BufferEntry) (e : BufferEntry) (others : List BufferEntry) (n : ℕ) → ((h : ℕ) → times handle_of h all ≤ 1) → all ≡ done ++ group ∷ groups
     → n ≡ length done + 1 → group ≡ before ++ e ∷ others → has_number all n e
 one_number all done groups group before e others n once same is parted =
-    let inside = stands_in before group e others parted in
+    let inside = lies_in before group e others parted in
     let some = inside.1 in
     let all_times : times handle_of (handle_of e) all ≡ times handle_of (handle_of e) done + times handle_of (handle_of e) (group ∷ groups) =
     ap (times handle_of (handle_of e)) same ∙ times-append handle_of (handle_of e) done (group ∷ groups) in
     let at_most = once (handle_of e) in
     let none : times handle_of (handle_of e) done ≡ 0 = omega (arith, some, all_times, at_most) in
-    ap (λ (gs : Groups). number e.row.handle gs) same ∙ ap (option_map (λ m. m + 1)) (placed (handle_of e) done group groups none inside.0) ∙ ap Some (sym is)
+    ap (λ (gs : EntryGroups). number e.row.handle gs) same ∙ ap (option_map (λ m. m + 1)) (placed (handle_of e) done group groups none inside.0) ∙ ap Some (sym is)
 
-group_numbers : (all done groups : Groups) (group before es : List BufferEntry) (n : ℕ) → ((h : ℕ) → times handle_of h all ≤ 1) → all ≡ done ++ group ∷ groups
+group_numbers : (all done groups : EntryGroups) (group before es : List BufferEntry) (n : ℕ) → ((h : ℕ) → times handle_of h all ≤ 1) → all ≡ done ++ group ∷ groups
     → n ≡ length done + 1 → group ≡ before ++ es → AllByRecursion (has_number all n) es
 group_numbers all done groups group before [] n once same is parted = tt
 group_numbers all done groups group before (e ∷ es) n once same is parted = (
@@ -141,7 +141,7 @@ group_numbers all done groups group before (e ∷ es) n once same is parted = (
 
 -- ---- the items of the buffers
 
-entry_values : (n : ℕ) (groups : Groups) (e : BufferEntry) → has_number groups n e → nat_le n (2 ^ 31 - 1) ≡ true
+entry_values : (n : ℕ) (groups : EntryGroups) (e : BufferEntry) → has_number groups n e → nat_le n (2 ^ 31 - 1) ≡ true
     → filter_map (λ key. of_buffer groups e.row.handle key (Some e)) buffer_keys ≡ dumped_values n e
 unfolding dumped_values
 entry_values n groups e numbered small =
@@ -156,7 +156,7 @@ buffer_values n world e found numbered small =
     ∙ entry_values n world.groups e numbered small
 
 abbrev buffer_item : World → Handle → HdaItem
-buffer_item world buffer = item_of world buffer_keys (led world.groups [] (Buffer buffer))
+buffer_item world buffer = item_of world buffer_keys (node_at world.groups [] (Buffer buffer))
 
 group_items : (n : ℕ) (world : World) (es : List BufferEntry) → AllByRecursion (is_found world.groups) es → AllByRecursion (has_number world.groups n) es → nat_le n (2 ^ 31 - 1) ≡ true
     → map (buffer_item world) (map handle es) ≡ map (dumped_buffer n) es
@@ -164,7 +164,7 @@ group_items n world [] found numbered small = refl
 group_items n world (e ∷ es) found numbered small =
     λ i. roll-HdaItem (record { pointers = e.row.handle.0 ∷ []; values = buffer_values n world e found.0 numbered.0 small i }) ∷ group_items n world es found.1 numbered.1 small i
 
-from_group : (world : World) (once : (h : ℕ) → times handle_of h world.groups ≤ 1) (done groups : Groups) (n : ℕ) → length world.groups ≤ 256 → world.groups ≡ done ++ groups → n ≡ length done + 1
+from_group : (world : World) (once : (h : ℕ) → times handle_of h world.groups ≤ 1) (done groups : EntryGroups) (n : ℕ) → length world.groups ≤ 256 → world.groups ≡ done ++ groups → n ≡ length done + 1
     → AllByRecursion (is_found world.groups) (rows groups) → map (buffer_item world) (map handle (rows groups)) ≡ dumped_groups n groups
 from_group world once done [] n few same is found = refl
 from_group world once done (group ∷ groups) n few same is found =
@@ -177,14 +177,14 @@ from_group world once done (group ∷ groups) n few same is found =
     ∙ (λ i. group_items n world group parts.0 (group_numbers world.groups done groups group [] group n once same is refl) small i
     ++ from_group world once (done ++ group ∷ []) groups (n + 1) few regrouped more parts.1 i)
 
-few_of : (groups : Groups) → AreBuffers groups → length groups ≤ 256
+few_of : (groups : EntryGroups) → AreBuffers groups → length groups ≤ 256
 few_of groups are = let few = few_groups groups are in omega (arith, few, length-map groups (map handle))
 
-items_at : (world : World) (buffers : List Handle) → map (item_of world buffer_keys) (all_led world.groups [] (map Buffer buffers)) ≡ map (buffer_item world) buffers
+items_at : (world : World) (buffers : List Handle) → map (item_of world buffer_keys) (nodes_at world.groups [] (map Buffer buffers)) ≡ map (buffer_item world) buffers
 items_at world [] = refl
 items_at world (buffer ∷ buffers) = ap (λ items. buffer_item world buffer ∷ items) (items_at world buffers)
 
-all_items : (world : World) → AreBuffers world.groups → map (item_of world buffer_keys) (all_led world.groups [] (map Buffer (all_buffers world.groups))) ≡ dumped_groups 1 world.groups
+all_items : (world : World) → AreBuffers world.groups → map (item_of world buffer_keys) (nodes_at world.groups [] (map Buffer (all_buffers world.groups))) ≡ dumped_groups 1 world.groups
 all_items world are =
     items_at world (all_buffers world.groups) ∙ ap (map (buffer_item world)) (all_handles world.groups)
     ∙ from_group world are.once [] world.groups 1 (few_of world.groups are) refl refl (rows_found world.groups are)
@@ -193,7 +193,7 @@ all_items world are =
 pub buffers_walked : (world : World) → AreBuffers world.groups → walk_object world buffers_path buffers_keys ∷ [] ≡ buffer_dump world.groups
 unfolding walk_object reached starts
 buffers_walked world are =
-    (λ i. o.Hda (roll-Hda (record { path = Some (h_path_of buffers_path); keys = Some (keys_text (buffer_keys_asked i)); items = map (item_of world (buffer_keys_asked i)) (all_led world.groups [] (map Buffer (all_buffers world.groups))) })) ∷ [])
+    (λ i. o.Hda (roll-Hda (record { path = Some (h_path_of buffers_path); keys = Some (keys_text (buffer_keys_asked i)); items = map (item_of world (buffer_keys_asked i)) (nodes_at world.groups [] (map Buffer (all_buffers world.groups))) })) ∷ [])
     ∙ (λ i. o.Hda (roll-Hda (record { path = Some (h_path_of buffers_path); keys = Some (buffer_keys_written i); items = all_items world are i })) ∷ [])
 
 -- ---- the items of the lines
@@ -208,7 +208,7 @@ abbrev to_data : Step
 to_data = record { variable = Data; count = One }
 
 abbrev line_nodes : World → List Handle → List Node
-line_nodes world buffers = walked world lines_path.steps (all_led world.groups [] (map Buffer buffers))
+line_nodes world buffers = nodes_reached world lines_path.steps (nodes_at world.groups [] (map Buffer buffers))
 
 line_data : (world : World) (buffer : Handle) (line : Line) → values_of world data_keys (Data_at (held_by buffer line)) ≡ line_values buffer line
 unfolding value_of line_values
@@ -216,7 +216,7 @@ line_data world buffer line = refl
 
 -- the items of lines to which the list of their buffer led
 data_items : (world : World) (buffer own : Handle) (lines : List Line)
-    → map (item_of world data_keys) (onward_all world to_data (all_led world.groups (buffer.0 ∷ own.0 ∷ []) (map Line_at (map (held_by buffer) lines)))) ≡ map (dumped_item buffer own) lines
+    → map (item_of world data_keys) (onward_all world to_data (nodes_at world.groups (buffer.0 ∷ own.0 ∷ []) (map Line_at (map (held_by buffer) lines)))) ≡ map (dumped_item buffer own) lines
 unfolding reach dumped_item
 data_items world buffer own [] = refl
 data_items world buffer own (line ∷ lines) =
@@ -225,7 +225,7 @@ data_items world buffer own (line ∷ lines) =
 -- the items of the lines of one buffer, by the number of its list
 abbrev items_by : World → Handle → ℕ → List HdaItem
 items_by world buffer own =
-    map (item_of world data_keys) (onward_all world to_data (all_led world.groups (buffer.0 ∷ own ∷ []) (map Line_at (map (held_by buffer) (lines_at world buffer.0)))))
+    map (item_of world data_keys) (onward_all world to_data (nodes_at world.groups (buffer.0 ∷ own ∷ []) (map Line_at (map (held_by buffer) (lines_at world buffer.0)))))
 
 one_buffer : (world : World) (buffer : Handle) (buffers : List Handle)
     → map (item_of world data_keys) (line_nodes world (buffer ∷ buffers))
@@ -233,8 +233,8 @@ one_buffer : (world : World) (buffer : Handle) (buffers : List Handle)
 unfolding reach
 one_buffer world buffer buffers =
     let own = row_number (λ row. row.own_lines.0) (buffer_of buffer world.groups) in
-    let lines = all_led world.groups (buffer.0 ∷ own ∷ []) (map Line_at (map (held_by buffer) (lines_at world buffer.0))) in
-    let others = onward_all world to_lines (onward_all world to_list (all_led world.groups [] (map Buffer buffers))) in
+    let lines = nodes_at world.groups (buffer.0 ∷ own ∷ []) (map Line_at (map (held_by buffer) (lines_at world buffer.0))) in
+    let others = onward_all world to_lines (onward_all world to_list (nodes_at world.groups [] (map Buffer buffers))) in
     ap (map (item_of world data_keys)) (flat_map-append (onward world to_data) lines others)
     ∙ map-append (item_of world data_keys) (onward_all world to_data lines) (onward_all world to_data others)
 

@@ -18,7 +18,7 @@ last_of_got element (first ∷ second ∷ steps) step got =
 pub end_is : (element : Element) (steps list : List Step) (step : Step) → list ≡ steps → slice_get list (length list - 1) ≡ Some step → last_of element steps ≡ target step.variable
 end_is element steps list step same got = last_of_got element steps step (ap (λ (l : List Step). slice_get l (length l - 1)) (sym same) ∙ got)
 
--- one more text behind a mark
+-- one more text after a mark
 pub joined-push : (c : ℕ) (first : List ℕ) (texts : List (List ℕ)) (text : List ℕ) → join_with_byte c (first ∷ (texts ++ text ∷ [])) ≡ join_with_byte c (first ∷ texts) ++ (c ∷ text)
 joined-push c first [] text = refl
 joined-push c first (second ∷ texts) text =

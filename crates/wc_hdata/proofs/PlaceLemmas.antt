@@ -13,11 +13,11 @@ use Rattle.wc_hdata.specs.declared.variable.Variable.{Variable}
 use Rattle.wc_hdata.specs.declared.variable.Variable.TheVariants as Variables
 use Rattle.wc_hdata.specs.declared.path.Start.{Start}
 use Rattle.wc_hdata.specs.declared.path.Start.TheVariants as Starts
-use Rattle.wc_hdata.specs.Cuts.{before, behind}
+use Rattle.wc_hdata.specs.Cuts.{before, following}
 use Rattle.wc_hdata.specs.Names.{element_name, variable_name}
-use Rattle.wc_hdata.specs.Paths.{element_of, IsPointer, IsPlace, Begins}
+use Rattle.wc_hdata.specs.Paths.{element_of, IsPointer, IsStartPlace, SpellsStart}
 use Rattle.wc_hdata.specs.Answers.{all_elements, element_named, all_variables, variable_named, hex_of, pointer_of, place_of, start_of}
-use Rattle.wc_hdata.proofs.CutLemmas.{lacks, lacks-append, passing_lacks, from_mark, before-joined, behind-joined, cut_joins}
+use Rattle.wc_hdata.proofs.CutLemmas.{lacks, lacks-append, passing_lacks, from_mark, before-joined, following-joined, cut_joins}
 use Rattle.wc_hdata.proofs.PointerLemmas.{is_hex}
 
 -- ---- names
@@ -104,7 +104,7 @@ pub option_map_some : {A B P : Type 0} (f : A → B) (o : Option A) (y : B) → 
 option_map_some f None y is then = absurd (none-some y is)
 option_map_some f (Some x) y is then = then x refl (same_Some (f x) y is)
 
-place_made : (text : List ℕ) (start : Start) → IsPlace text start → place_of (element_of start) text ≡ Some start
+place_made : (text : List ℕ) (start : Start) → IsStartPlace text start → place_of (element_of start) text ≡ Some start
 unfolding place_of
 place_made text Starts.FirstBuffer w = ap (place_of Elements.Buffer) w
 place_made text Starts.LastBuffer w = ap (place_of Elements.Buffer) w
@@ -115,7 +115,7 @@ place_made text (Starts.Pointer Elements.Line pointer) w = ap (option_map (λ p.
 place_made text (Starts.Pointer Elements.LineData pointer) w = ap (option_map (λ p. Starts.Pointer Elements.LineData p)) (pointer_made text pointer w)
 
 record Placed (element : Element) (text : List ℕ) (start : Start) : Type 0 where
-  pub place : IsPlace text start
+  pub place : IsStartPlace text start
   pub element_is : element_of start ≡ element
 
 pointer_placed : (element : Element) (text : List ℕ) (start : Start) → option_map (λ p. Starts.Pointer element p) (pointer_of text) ≡ Some start → Placed element text start
@@ -145,30 +145,30 @@ place_is Elements.Line text start is = pointer_placed Elements.Line text start i
 place_is Elements.LineData text start is = pointer_placed Elements.LineData text start is
 
 -- ---- the start
-pub start_made : (text : List ℕ) (start : Start) → Begins text start → start_of text ≡ Some start
+pub start_made : (text : List ℕ) (start : Start) → SpellsStart text start → start_of text ≡ Some start
 start_made text start w =
     let name = element_name (element_of start) in
     let whole = name ++ 58 ∷ w.place in
     let plain = element_plain (element_of start) in
     ap start_of w.spelled
-    ∙ ap (λ (n : List ℕ). option_and_then (λ (e : Element). option_and_then (place_of e) (behind 58 whole)) (element_named n)) (before-joined 58 name (Some w.place) plain.no_colon)
-    ∙ ap (option_and_then (λ (e : Element). option_and_then (place_of e) (behind 58 whole))) (element_found (element_of start))
-    ∙ ap (option_and_then (place_of (element_of start))) (behind-joined 58 name (Some w.place) plain.no_colon)
+    ∙ ap (λ (n : List ℕ). option_and_then (λ (e : Element). option_and_then (place_of e) (following 58 whole)) (element_named n)) (before-joined 58 name (Some w.place) plain.no_colon)
+    ∙ ap (option_and_then (λ (e : Element). option_and_then (place_of e) (following 58 whole))) (element_found (element_of start))
+    ∙ ap (option_and_then (place_of (element_of start))) (following-joined 58 name (Some w.place) plain.no_colon)
     ∙ place_made w.place start w.placed
 
-begins_at : (text : List ℕ) (start : Start) (element : Element) (place : List ℕ) → element_named (before 58 text) ≡ Some element → behind 58 text ≡ Some place → Placed element place start → Begins text start
+begins_at : (text : List ℕ) (start : Start) (element : Element) (place : List ℕ) → element_named (before 58 text) ≡ Some element → following 58 text ≡ Some place → Placed element place start → SpellsStart text start
 begins_at text start element place named found placed = record {
   place = place;
   spelled =
-      cut_joins 58 text ∙ ap (λ (n : List ℕ). n ++ from_mark 58 (behind 58 text)) (element_is (before 58 text) element named)
+      cut_joins 58 text ∙ ap (λ (n : List ℕ). n ++ from_mark 58 (following 58 text)) (element_is (before 58 text) element named)
       ∙ ap (λ (o : Option (List ℕ)). element_name element ++ from_mark 58 o) found ∙ ap (λ (e : Element). element_name e ++ 58 ∷ place) (sym placed.element_is);
   placed = placed.place;
 }
 
-pub start_is : (text : List ℕ) (start : Start) → start_of text ≡ Some start → Begins text start
+pub start_is : (text : List ℕ) (start : Start) → start_of text ≡ Some start → SpellsStart text start
 start_is text start is =
-    option_and_then_some (λ (e : Element). option_and_then (place_of e) (behind 58 text)) (element_named (before 58 text)) start is
-    (λ element named here. option_and_then_some (place_of element) (behind 58 text) start here
+    option_and_then_some (λ (e : Element). option_and_then (place_of e) (following 58 text)) (element_named (before 58 text)) start is
+    (λ element named here. option_and_then_some (place_of element) (following 58 text) start here
     (λ place found made. begins_at text start element place named found (place_is element place start made)))
 
 -- a start has neither a parenthesis nor a slash
@@ -176,7 +176,7 @@ record Whole (text : List ℕ) : Type 0 where
   pub no_count : lacks 40 text ≡ true
   pub no_slash : lacks 47 text ≡ true
 
-place_whole : (text : List ℕ) (start : Start) → IsPlace text start → Whole text
+place_whole : (text : List ℕ) (start : Start) → IsStartPlace text start → Whole text
 place_whole text Starts.FirstBuffer w = record { no_count = ap (lacks 40) w; no_slash = ap (lacks 47) w }
 place_whole text Starts.LastBuffer w = record { no_count = ap (lacks 40) w; no_slash = ap (lacks 47) w }
 place_whole text (Starts.Pointer element pointer) w = record {
@@ -184,10 +184,10 @@ place_whole text (Starts.Pointer element pointer) w = record {
   no_slash = ap (lacks 47) w.spelled ∙ passing_lacks is_hex 47 refl w.digits w.hex;
 }
 
-pub start_no_count : (text : List ℕ) (start : Start) → Begins text start → lacks 40 text ≡ true
+pub start_no_count : (text : List ℕ) (start : Start) → SpellsStart text start → lacks 40 text ≡ true
 start_no_count text start w =
     ap (lacks 40) w.spelled ∙ lacks-append 40 (element_name (element_of start)) (58 ∷ w.place) (element_plain (element_of start)).no_count (place_whole w.place start w.placed).no_count
 
-pub start_no_slash : (text : List ℕ) (start : Start) → Begins text start → lacks 47 text ≡ true
+pub start_no_slash : (text : List ℕ) (start : Start) → SpellsStart text start → lacks 47 text ≡ true
 start_no_slash text start w =
     ap (lacks 47) w.spelled ∙ lacks-append 47 (element_name (element_of start)) (58 ∷ w.place) (element_plain (element_of start)).no_slash (place_whole w.place start w.placed).no_slash

@@ -10,7 +10,7 @@ use Rattle.wc_objects.specs.declared.object.Object.TheVariants as o
 use Rattle.wc_hdata.specs.declared.key.Key.{Key}
 use Rattle.wc_hdata.specs.declared.path.Path.{Path}
 use Rattle.wc_hdata.specs.declared.refused.WalkRefused.{WalkRefused}
-use Rattle.wc_hdata.specs.Hdata.{asked, all_bytes, bytes_of, length_refusal, most_bytes, refusal, too_long, walk_object}
+use Rattle.wc_hdata.specs.Hdata.{keys_asked, all_bytes, bytes_of, length_refusal, most_bytes, refusal, too_long, walk_object}
 use Rattle.wc_hdata.specs.Keys.{keys_text}
 use Rattle.wc_hdata.specs.Paths.{h_path_of}
 use Rattle.wc_hdata.specs.Refusals.{reached, walk_refusal}
@@ -22,26 +22,26 @@ pub first_refusal : (world : World) (path : Path) (keys : List ℕ) (e : WalkRef
 unfolding refusal
 first_refusal world path keys e due = ap (λ first. or_else first (length_refusal (length (all_bytes world path keys)))) due
 
-length_of : (world : World) (path : Path) (keys : List ℕ) (named : List Key) (nodes : List Node) → nodes ≡ reached world path → named ≡ asked path keys → length (flat_map (bytes_of world named) nodes) ≡ length (all_bytes world path keys)
+length_of : (world : World) (path : Path) (keys : List ℕ) (named : List Key) (nodes : List Node) → nodes ≡ reached world path → named ≡ keys_asked path keys → length (flat_map (bytes_of world named) nodes) ≡ length (all_bytes world path keys)
 length_of world path keys named nodes n k = λ i. length (flat_map (bytes_of world (k i)) (n i))
 
-behind : (world : World) (path : Path) (keys : List ℕ) → walk_refusal world path ≡ None → refusal world path keys ≡ length_refusal (length (all_bytes world path keys))
+following : (world : World) (path : Path) (keys : List ℕ) → walk_refusal world path ≡ None → refusal world path keys ≡ length_refusal (length (all_bytes world path keys))
 unfolding refusal
-behind world path keys none = ap (λ first. or_else first (length_refusal (length (all_bytes world path keys)))) none
+following world path keys none = ap (λ first. or_else first (length_refusal (length (all_bytes world path keys)))) none
 
-pub long_refusal : (world : World) (path : Path) (keys : List ℕ) (named : List Key) (nodes : List Node) → walk_refusal world path ≡ None → nodes ≡ reached world path → named ≡ asked path keys → most_bytes < length (flat_map (bytes_of world named) nodes) → refusal world path keys ≡ Some too_long
+pub long_refusal : (world : World) (path : Path) (keys : List ℕ) (named : List Key) (nodes : List Node) → walk_refusal world path ≡ None → nodes ≡ reached world path → named ≡ keys_asked path keys → most_bytes < length (flat_map (bytes_of world named) nodes) → refusal world path keys ≡ Some too_long
 long_refusal world path keys named nodes none n k long =
     let same = length_of world path keys named nodes n k in
     let t : nat_lt most_bytes (length (all_bytes world path keys)) ≡ true = grind (arith, nat_tests) in
-    behind world path keys none ∙ rw t refl
+    following world path keys none ∙ rw t refl
 
-pub no_refusal : (world : World) (path : Path) (keys : List ℕ) (named : List Key) (nodes : List Node) → walk_refusal world path ≡ None → nodes ≡ reached world path → named ≡ asked path keys → length (flat_map (bytes_of world named) nodes) ≤ most_bytes → refusal world path keys ≡ None
+pub no_refusal : (world : World) (path : Path) (keys : List ℕ) (named : List Key) (nodes : List Node) → walk_refusal world path ≡ None → nodes ≡ reached world path → named ≡ keys_asked path keys → length (flat_map (bytes_of world named) nodes) ≤ most_bytes → refusal world path keys ≡ None
 no_refusal world path keys named nodes none n k short =
     let same = length_of world path keys named nodes n k in
     let t : nat_lt most_bytes (length (all_bytes world path keys)) ≡ false = grind (arith, nat_tests) in
-    behind world path keys none ∙ rw t refl
+    following world path keys none ∙ rw t refl
 
-pub object_is : (world : World) (path : Path) (keys : List ℕ) (named : List Key) (nodes : List Node) (items : List HdaItem) (text keys_named : List ℕ) → nodes ≡ reached world path → named ≡ asked path keys → items ≡ items_of world named nodes → text ≡ h_path_of path → keys_named ≡ keys_text named → o.Hda (roll-Hda (record { path = Some text; keys = Some keys_named; items = items })) ≡ walk_object world path keys
+pub object_is : (world : World) (path : Path) (keys : List ℕ) (named : List Key) (nodes : List Node) (items : List HdaItem) (text keys_named : List ℕ) → nodes ≡ reached world path → named ≡ keys_asked path keys → items ≡ items_of world named nodes → text ≡ h_path_of path → keys_named ≡ keys_text named → o.Hda (roll-Hda (record { path = Some text; keys = Some keys_named; items = items })) ≡ walk_object world path keys
 unfolding walk_object
 object_is world path keys named nodes items text keys_named n k e t m =
     (λ i. o.Hda (roll-Hda (record { path = Some (t i); keys = Some (m i); items = e i })))

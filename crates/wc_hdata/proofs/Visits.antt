@@ -9,7 +9,7 @@ use Rattle.wc_hdata.specs.declared.path.Step.{Step}
 use Rattle.wc_hdata.specs.declared.path.Path.{Path}
 use Rattle.wc_hdata.specs.Reached.{Place}
 use Rattle.wc_hdata.specs.Refusals.{most_visits, refusal_from, too_many}
-use Rattle.wc_hdata.specs.Walk.{Node, all_led, led, onward_all, visits}
+use Rattle.wc_hdata.specs.Walk.{Node, nodes_at, node_at, onward_all, visits}
 
 pub at_least : (world : World) (steps : List Step) (nodes : List Node) → length nodes ≤ visits world steps nodes
 at_least world [] nodes = omega arith
@@ -24,8 +24,8 @@ too_many_on_the_way world steps first nodes i left all d inside e more =
 
 pub too_many_at_first : (world : World) (path : Path) (places : List Place) → most_visits < length places → refusal_from world path (Some places) ≡ Some too_many
 too_many_at_first world path places more =
-    let nodes = all_led world.groups [] places in
+    let nodes = nodes_at world.groups [] places in
     let some : length nodes ≤ visits world path.steps nodes = at_least world path.steps nodes in
-    let same : length nodes ≡ length places = length-map places (led world.groups []) in
+    let same : length nodes ≡ length places = length-map places (node_at world.groups []) in
     let t : nat_lt most_visits (visits world path.steps nodes) ≡ true = grind (arith, nat_tests) in
     rw t refl

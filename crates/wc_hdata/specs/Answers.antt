@@ -15,7 +15,7 @@ use Rattle.wc_hdata.specs.declared.path.Start.{Start}
 use Rattle.wc_hdata.specs.declared.path.Start.TheVariants as Starts
 use Rattle.wc_hdata.specs.declared.path.Step.{Step}
 use Rattle.wc_hdata.specs.declared.path.Path.{Path}
-use Rattle.wc_hdata.specs.Cuts.{before, behind, pieces_at}
+use Rattle.wc_hdata.specs.Cuts.{before, following, pieces_at}
 use Rattle.wc_hdata.specs.Names.{element_name, variable_name}
 use Rattle.wc_hdata.specs.Paths.{leads, element_of}
 
@@ -49,35 +49,35 @@ place_of Elements.Buffer text =
 place_of element text = option_map (λ pointer. Starts.Pointer element pointer) (pointer_of text)
 
 -- the count of a number other than 0
-abbrev pub counted : ℤ → Option Count
-counted (pos n) = if nat_le 1 n && nat_lt n (2 ^ 31) then Some (Counts.Forward n) else None
-counted (negsuc n) = if nat_lt (n + 1) (2 ^ 31) then Some (Counts.Backward (n + 1)) else None
+abbrev pub count_of_number : ℤ → Option Count
+count_of_number (pos n) = if nat_le 1 n && nat_lt n (2 ^ 31) then Some (Counts.Forward n) else None
+count_of_number (negsuc n) = if nat_lt (n + 1) (2 ^ 31) then Some (Counts.Backward (n + 1)) else None
 
--- the count that stands in parentheses
+-- the count that is in parentheses
 unfoldable pub count_inside : List ℕ → Option Count
-count_inside text = if bytes_eq text (codes "*") then Some Counts.All else option_and_then counted (integer_of text)
+count_inside text = if bytes_eq text (codes "*") then Some Counts.All else option_and_then count_of_number (integer_of text)
 
 -- the text before a `)` at the end
 abbrev pub inside : List ℕ → Option (List ℕ)
 inside text = if ends_with nat_eq text (codes ")") then Some (take (length text - 1) text) else None
 
--- the count, by what stands behind a `(`
+-- the count, by what comes after a `(`
 abbrev pub count_of : Option (List ℕ) → Option Count
 count_of None = Some Counts.One
 count_of (Some text) = option_and_then count_inside (inside text)
 
 abbrev pub start_of : List ℕ → Option Start
-start_of text = option_and_then (λ element. option_and_then (place_of element) (behind 58 text)) (element_named (before 58 text))
+start_of text = option_and_then (λ element. option_and_then (place_of element) (following 58 text)) (element_named (before 58 text))
 
--- what stands before the steps
+-- what is before the steps
 unfoldable pub head_of : List ℕ → Option (Start × Count)
 head_of text =
-    option_and_then (λ start. option_map (λ count. (start, count)) (count_of (behind 40 text))) (start_of (before 40 text))
+    option_and_then (λ start. option_map (λ count. (start, count)) (count_of (following 40 text))) (start_of (before 40 text))
 
 -- a step, without its slash
 unfoldable pub step_of : List ℕ → Option Step
 step_of text =
-    option_and_then (λ variable. option_map (λ count. record { variable = variable; count = count }) (count_of (behind 40 text))) (variable_named (before 40 text))
+    option_and_then (λ variable. option_map (λ count. record { variable = variable; count = count }) (count_of (following 40 text))) (variable_named (before 40 text))
 
 -- the steps from an element on
 abbrev pub steps_of : Element → List (List ℕ) → Option (List Step)
@@ -85,13 +85,13 @@ steps_of element [] = Some []
 steps_of element (piece ∷ pieces) =
     option_and_then (λ (step : Step). option_and_then (λ next. option_map (λ steps. step ∷ steps) (steps_of next pieces)) (leads element step.variable)) (step_of piece)
 
-abbrev pub steps_behind : Element → Option (List ℕ) → Option (List Step)
-steps_behind element text = steps_of element (pieces_at 47 text)
+abbrev pub steps_after : Element → Option (List ℕ) → Option (List Step)
+steps_after element text = steps_of element (pieces_at 47 text)
 
 -- a path with this front
-abbrev pub path_behind : Option (List ℕ) → Start × Count → Option Path
-path_behind text head = option_map (λ steps. record { start = head.0; count = head.1; steps = steps }) (steps_behind (element_of head.0) text)
+abbrev pub path_after : Option (List ℕ) → Start × Count → Option Path
+path_after text head = option_map (λ steps. record { start = head.0; count = head.1; steps = steps }) (steps_after (element_of head.0) text)
 
 -- the path of a text, where it has one
 unfoldable pub path_of : List ℕ → Option Path
-path_of text = option_and_then (path_behind (behind 47 text)) (head_of (before 47 text))
+path_of text = option_and_then (path_after (following 47 text)) (head_of (before 47 text))

@@ -7,10 +7,10 @@ abbrev pub before : ℕ → List ℕ → List ℕ
 before c [] = []
 before c (b ∷ text) = if b == c then [] else b ∷ before c text
 
--- the bytes behind the first c, where there is one
-abbrev pub behind : ℕ → List ℕ → Option (List ℕ)
-behind c [] = None
-behind c (b ∷ text) = if b == c then Some text else behind c text
+-- the bytes after the first c, where there is one
+abbrev pub following : ℕ → List ℕ → Option (List ℕ)
+following c [] = None
+following c (b ∷ text) = if b == c then Some text else following c text
 
 -- the pieces between each c, where there is a text
 abbrev pub pieces_at : ℕ → Option (List ℕ) → List (List ℕ)

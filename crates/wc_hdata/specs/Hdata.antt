@@ -31,11 +31,11 @@ abbrev pub length_refusal : ℕ → Option WalkRefused
 length_refusal bytes = if nat_lt most_bytes bytes then Some too_long else None
 
 -- the keys that are asked for
-abbrev pub asked : Path → List ℕ → List Key
-asked path keys = keys_of (element_at path) keys
+abbrev pub keys_asked : Path → List ℕ → List Key
+keys_asked path keys = keys_of (element_at path) keys
 
 abbrev pub all_bytes : World → Path → List ℕ → List ℕ
-all_bytes world path keys = flat_map (bytes_of world (asked path keys)) (reached world path)
+all_bytes world path keys = flat_map (bytes_of world (keys_asked path keys)) (reached world path)
 
 -- the first of the reasons: nothing lives there, too many pointers, too many bytes
 unfoldable pub refusal : World → Path → List ℕ → Option WalkRefused
@@ -46,6 +46,6 @@ unfoldable pub walk_object : World → Path → List ℕ → Object
 walk_object world path keys =
     o.Hda (roll-Hda (record {
       path = Some (h_path_of path);
-      keys = Some (keys_text (asked path keys));
-      items = items_of world (asked path keys) (reached world path);
+      keys = Some (keys_text (keys_asked path keys));
+      items = items_of world (keys_asked path keys) (reached world path);
     }))

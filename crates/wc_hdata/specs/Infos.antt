@@ -3,12 +3,12 @@ use Rattle.std.specs.Prelude.{ℕ, ℤ, List, [], ◌∷◌, ◌++◌, unwrap_or
 use Rattle.wc_text.specs.declared.names.Handle.{Handle}
 use Rattle.wc_buffers.specs.declared.entry.BufferEntry.{BufferEntry}
 use Rattle.wc_buffers.specs.declared.row.BufferRow.{BufferRow}
-use Rattle.wc_buffers.specs.Calls.{Groups, entry_of, number}
+use Rattle.wc_buffers.specs.Calls.{EntryGroups, entry_of, number}
 use Rattle.wc_objects.specs.declared.object.InlVar.{InlVar, roll-InlVar}
 use Rattle.wc_objects.specs.declared.object.Object.{Object}
 use Rattle.wc_objects.specs.declared.object.Object.TheVariants as o
-use Rattle.wc_told.specs.BufferObjects.{count, text}
-use Rattle.wc_told.specs.LineObjects.{truth}
+use Rattle.wc_events.specs.BufferObjects.{count, text}
+use Rattle.wc_events.specs.LineObjects.{truth}
 use Rattle.wc_hdata.specs.Steps.{all_buffers}
 
 -- the informations that there are
@@ -30,14 +30,14 @@ variables_of number buffer row =
     variable (codes "title") (text row.title) ∷
     variable (codes "hidden") (o.Int (truth row.hidden)) ∷ []
 
-abbrev pub listed : Groups → Handle → Option BufferEntry → List (List InlVar)
-listed groups buffer None = []
-listed groups buffer (Some e) = variables_of (count (unwrap_or (number buffer groups) 0)) buffer e.row ∷ []
+abbrev pub buffer_item : EntryGroups → Handle → Option BufferEntry → List (List InlVar)
+buffer_item groups buffer None = []
+buffer_item groups buffer (Some e) = variables_of (count (unwrap_or (number buffer groups) 0)) buffer e.row ∷ []
 
-abbrev pub listed_all : Groups → List Handle → List (List InlVar)
-listed_all groups [] = []
-listed_all groups (buffer ∷ buffers) = listed groups buffer (entry_of buffer groups) ++ listed_all groups buffers
+abbrev pub buffer_items : EntryGroups → List Handle → List (List InlVar)
+buffer_items groups [] = []
+buffer_items groups (buffer ∷ buffers) = buffer_item groups buffer (entry_of buffer groups) ++ buffer_items groups buffers
 
 -- the list of all buffers in their order; one of another name is empty
-abbrev pub infolist_object : Groups → List ℕ → Object
-infolist_object groups name = o.Inl name (if bytes_eq name (codes "buffer") then listed_all groups (all_buffers groups) else [])
+abbrev pub infolist_object : EntryGroups → List ℕ → Object
+infolist_object groups name = o.Inl name (if bytes_eq name (codes "buffer") then buffer_items groups (all_buffers groups) else [])

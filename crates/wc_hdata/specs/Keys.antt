@@ -92,7 +92,7 @@ abbrev pub keys_of : Element → List ℕ → List Key
 keys_of element [] = keys_at element
 keys_of element (b ∷ text) = named_keys element (b ∷ text)
 
--- keys with one more, unless it stands among them
+-- keys with one more, unless it is among them
 abbrev pub with_key : List Key → Option Key → List Key
 with_key keys None = keys
 with_key keys (Some key) = if has_key keys key then keys else keys ++ key ∷ []

@@ -3,7 +3,7 @@ use Rattle.std.specs.Prelude.{ℕ, ◌==◌, nat_le, Bool, List, [], ◌∷◌, 
 use Rattle.std.specs.List.{flat_map, list_any}
 use Rattle.wc_text.specs.declared.names.Handle.{Handle}
 use Rattle.wc_lines.specs.declared.line.Line.{Line}
-use Rattle.wc_buffers.specs.Calls.{Groups}
+use Rattle.wc_buffers.specs.Calls.{EntryGroups}
 use Rattle.wc_buffers.specs.Kept.{handles}
 use Rattle.wc_model.specs.World.{World, lines_at}
 use Rattle.wc_hdata.specs.Reached.{HeldLine}
@@ -38,7 +38,7 @@ abbrev pub group_with : ℕ → List (List Handle) → List Handle
 group_with buffer [] = []
 group_with buffer (group ∷ groups) = if is_in buffer group then group else group_with buffer groups
 
-abbrev pub group_of : Groups → ℕ → List Handle
+abbrev pub group_of : EntryGroups → ℕ → List Handle
 group_of groups buffer = group_with buffer (handles groups)
 
 -- the lines of a list, in its order
@@ -52,5 +52,5 @@ list_of_group buffer [] = Own buffer
 list_of_group buffer (first ∷ []) = Own buffer
 list_of_group buffer (first ∷ (second ∷ others)) = Mixed first
 
-abbrev pub shown_list : Groups → Handle → LineList
+abbrev pub shown_list : EntryGroups → Handle → LineList
 shown_list groups buffer = list_of_group buffer (group_of groups buffer.0)

@@ -51,19 +51,19 @@ pub record IsPointer (text : List ℕ) (pointer : ℕ) : Type 0 where
   pub value : digits_value 16 digits ≡ pointer
 
 -- how the place is written at which a path begins
-abbrev pub IsPlace : List ℕ → Start → Type 0
-IsPlace text Starts.FirstBuffer = text ≡ codes "gui_buffers"
-IsPlace text Starts.LastBuffer = text ≡ codes "last_gui_buffer"
-IsPlace text (Starts.Pointer element pointer) = IsPointer text pointer
+abbrev pub IsStartPlace : List ℕ → Start → Type 0
+IsStartPlace text Starts.FirstBuffer = text ≡ codes "gui_buffers"
+IsStartPlace text Starts.LastBuffer = text ≡ codes "last_gui_buffer"
+IsStartPlace text (Starts.Pointer element pointer) = IsPointer text pointer
 
 -- The start is the name of its element, a colon and the place.
-pub record Begins (text : List ℕ) (start : Start) : Type 0 where
+pub record SpellsStart (text : List ℕ) (start : Start) : Type 0 where
   pub place : List ℕ
   pub spelled : text ≡ element_name (element_of start) ++ 58 ∷ place
-  pub placed : IsPlace place start
+  pub placed : IsStartPlace place start
 
 -- decimal digits that write a number from 1 to 2147483647
-pub record Numbers (digits : List ℕ) (n : ℕ) : Type 0 where
+pub record SpellsCount (digits : List ℕ) (n : ℕ) : Type 0 where
   pub numeral : is_numeral digits ≡ true
   pub value : digits_value 10 digits ≡ n
   pub least : 1 ≤ n
@@ -73,29 +73,29 @@ pub record Numbers (digits : List ℕ) (n : ℕ) : Type 0 where
 abbrev pub IsCount : List ℕ → Count → Type 0
 IsCount text Counts.One = text ≡ []
 IsCount text Counts.All = text ≡ codes "(*)"
-IsCount text (Counts.Forward n) = (digits : List ℕ) × Numbers digits n × (text ≡ 40 ∷ (digits ++ 41 ∷ []))
-IsCount text (Counts.Backward n) = (digits : List ℕ) × Numbers digits n × (text ≡ 40 ∷ 45 ∷ (digits ++ 41 ∷ []))
+IsCount text (Counts.Forward n) = (digits : List ℕ) × SpellsCount digits n × (text ≡ 40 ∷ (digits ++ 41 ∷ []))
+IsCount text (Counts.Backward n) = (digits : List ℕ) × SpellsCount digits n × (text ≡ 40 ∷ 45 ∷ (digits ++ 41 ∷ []))
 
 -- A step is a slash, the name of a variable of the element before it, and a count.
-pub record Goes (text : List ℕ) (element : Element) (step : Step) (next : Element) : Type 0 where
+pub record SpellsStep (text : List ℕ) (element : Element) (step : Step) (next : Element) : Type 0 where
   pub count : List ℕ
   pub spelled : text ≡ 47 ∷ (variable_name step.variable ++ count)
   pub led : leads element step.variable ≡ Some next
   pub counted : IsCount count step.count
 
--- steps from an element on, one behind the other
+-- steps from an element on, one after the other
 abbrev pub AreSteps : List ℕ → Element → List Step → Type 0
 AreSteps text element [] = text ≡ []
 AreSteps text element (step ∷ steps) = (first others : List ℕ) × (next : Element) ×
-    Goes first element step next × AreSteps others next steps × (text ≡ first ++ others)
+    SpellsStep first element step next × AreSteps others next steps × (text ≡ first ++ others)
 
 -- A path is its start, a count and its steps.
-pub record Spells (text : List ℕ) (path : Path) : Type 0 where
+pub record SpellsPath (text : List ℕ) (path : Path) : Type 0 where
   pub start : List ℕ
   pub count : List ℕ
   pub steps : List ℕ
   pub spelled : text ≡ start ++ (count ++ steps)
-  pub begins : Begins start path.start
+  pub begins : SpellsStart start path.start
   pub counted : IsCount count path.count
   pub goes : AreSteps steps (element_of path.start) path.steps
 

@@ -8,7 +8,7 @@ use Rattle.wc_hdata.specs.declared.refused.WalkRefused.{WalkRefused}
 use Rattle.wc_hdata.specs.declared.refused.WalkRefused.TheVariants.{DeadPointer, TooManyVisits}
 use Rattle.wc_hdata.specs.Reached.{Place}
 use Rattle.wc_hdata.specs.Starts.{starts}
-use Rattle.wc_hdata.specs.Walk.{Node, all_led, walked, visits}
+use Rattle.wc_hdata.specs.Walk.{Node, nodes_at, nodes_reached, visits}
 
 abbrev pub most_visits : ℕ
 most_visits = 4194304
@@ -24,11 +24,11 @@ start_pointer (Pointer element pointer) = pointer
 -- from where a path begins
 abbrev pub reached_from : World → Path → Option (List Place) → List Node
 reached_from world path None = []
-reached_from world path (Some places) = walked world path.steps (all_led world.groups [] places)
+reached_from world path (Some places) = nodes_reached world path.steps (nodes_at world.groups [] places)
 
 abbrev pub refusal_from : World → Path → Option (List Place) → Option WalkRefused
 refusal_from world path None = Some (DeadPointer (start_pointer path.start))
-refusal_from world path (Some places) = if nat_lt most_visits (visits world path.steps (all_led world.groups [] places)) then Some too_many else None
+refusal_from world path (Some places) = if nat_lt most_visits (visits world path.steps (nodes_at world.groups [] places)) then Some too_many else None
 
 -- what a path reaches
 unfoldable pub reached : World → Path → List Node

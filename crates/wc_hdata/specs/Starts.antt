@@ -2,7 +2,7 @@
 use Rattle.std.specs.Prelude.{ℕ, suc, ◌-◌, ◌==◌, Bool, false, Option, Some, None, List, [], ◌∷◌, map, length, find, option_map, if◌then◌else◌}
 use Rattle.wc_text.specs.declared.names.Handle.{Handle}
 use Rattle.wc_lines.specs.declared.line.Line.{Line}
-use Rattle.wc_buffers.specs.Calls.{Groups, buffer_of, is_there}
+use Rattle.wc_buffers.specs.Calls.{EntryGroups, buffer_of, is_there}
 use Rattle.wc_buffers.specs.Kept.{handles}
 use Rattle.wc_buffers.specs.declared.row.BufferRow.{BufferRow}
 use Rattle.wc_model.specs.World.{World}
@@ -25,14 +25,14 @@ row_is test None = false
 row_is test (Some row) = test row
 
 -- the buffer whose own lines have this pointer
-abbrev pub has_own : Groups → ℕ → Handle → Bool
+abbrev pub has_own : EntryGroups → ℕ → Handle → Bool
 has_own groups pointer buffer = row_is (λ row. row.own_lines.0 == pointer) (buffer_of buffer groups)
 
-abbrev pub own_at : Groups → ℕ → Option Handle
+abbrev pub own_at : EntryGroups → ℕ → Option Handle
 own_at groups pointer = find (has_own groups pointer) (all_buffers groups)
 
 -- the first buffer of a group of two or more, whose mixed lines have this pointer
-abbrev pub mixed_of : Groups → ℕ → List Handle → Option Handle
+abbrev pub mixed_of : EntryGroups → ℕ → List Handle → Option Handle
 mixed_of groups pointer [] = None
 mixed_of groups pointer (first ∷ []) = None
 mixed_of groups pointer (first ∷ (second ∷ others)) = if row_is (λ row. row.mixed_lines.0 == pointer) (buffer_of first groups) then Some first else None
@@ -41,11 +41,11 @@ abbrev pub or_else : {A : Type 0} → Option A → Option A → Option A
 or_else None b = b
 or_else (Some a) b = Some a
 
-abbrev pub mixed_among : Groups → ℕ → List (List Handle) → Option Handle
+abbrev pub mixed_among : EntryGroups → ℕ → List (List Handle) → Option Handle
 mixed_among groups pointer [] = None
 mixed_among groups pointer (group ∷ others) = or_else (mixed_of groups pointer group) (mixed_among groups pointer others)
 
-abbrev pub list_at : Groups → ℕ → Option LineList
+abbrev pub list_at : EntryGroups → ℕ → Option LineList
 list_at groups pointer = or_else (option_map Own (own_at groups pointer)) (option_map Mixed (mixed_among groups pointer (handles groups)))
 
 -- ---- lines by their pointers
@@ -69,7 +69,7 @@ line_among world element pointer (buffer ∷ buffers) = or_else (named_in elemen
 abbrev pub line_at : World → Element → ℕ → Option HeldLine
 line_at world element pointer = line_among world element pointer (all_buffers world.groups)
 
--- how many lines stand before the one of a pointer
+-- how many lines are before the one of a pointer
 abbrev pub place_of_line : ℕ → List HeldLine → ℕ
 place_of_line pointer [] = 0
 place_of_line pointer (held ∷ lines) = if held.line.handle.0 == pointer then 0 else suc (place_of_line pointer lines)
@@ -80,10 +80,10 @@ lines_from world count held = map Line_at (along count (place_of_line held.line.
 
 -- ---- the beginning
 
-abbrev pub at_buffer : Groups → Count → ℕ → Option (List Place)
+abbrev pub at_buffer : EntryGroups → Count → ℕ → Option (List Place)
 at_buffer groups count pointer = if is_there (record { 0 = pointer }) groups then Some (buffers_from groups count (record { 0 = pointer })) else None
 
-abbrev pub at_list : Groups → ℕ → Option (List Place)
+abbrev pub at_list : EntryGroups → ℕ → Option (List Place)
 at_list groups pointer = option_map (λ list. Lines list ∷ []) (list_at groups pointer)
 
 abbrev pub at_line : World → Count → ℕ → Option (List Place)

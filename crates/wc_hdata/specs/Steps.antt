@@ -2,7 +2,7 @@
 use Rattle.std.specs.Prelude.{ℕ, ◌-◌, ◌==◌, List, [], ◌∷◌, map, length, unwrap_or, position}
 use Rattle.std.specs.List.{flat_map}
 use Rattle.wc_text.specs.declared.names.Handle.{Handle}
-use Rattle.wc_buffers.specs.Calls.{Groups}
+use Rattle.wc_buffers.specs.Calls.{EntryGroups}
 use Rattle.wc_buffers.specs.Kept.{handles}
 use Rattle.wc_model.specs.World.{World}
 use Rattle.wc_hdata.specs.declared.count.Count.{Count}
@@ -16,7 +16,7 @@ use Rattle.wc_hdata.specs.Lists.{lines_in, shown_list}
 use Rattle.wc_hdata.specs.Reached.{Place, HeldLine, Buffer, Lines, Line_at, Data_at}
 
 -- the buffers in their order
-abbrev pub all_buffers : Groups → List Handle
+abbrev pub all_buffers : EntryGroups → List Handle
 all_buffers groups = flat_map (λ group. group) (handles groups)
 
 -- the place of a buffer among them
@@ -24,7 +24,7 @@ abbrev pub place_in : Handle → List Handle → ℕ
 place_in buffer buffers = unwrap_or (position (λ (h : Handle). h.0 == buffer.0) buffers) 0
 
 -- the buffers to which a count goes from one
-abbrev pub buffers_from : Groups → Count → Handle → List Place
+abbrev pub buffers_from : EntryGroups → Count → Handle → List Place
 buffers_from groups count buffer = map Buffer (along count (place_in buffer (all_buffers groups)) (all_buffers groups))
 
 -- the lines to which a count goes from the first of a list, or from the last

@@ -4,15 +4,15 @@ use Rattle.std.specs.List.{filter_map}
 use Rattle.wc_text.specs.declared.names.Handle.{Handle}
 use Rattle.wc_lines.specs.declared.line.Line.{Line}
 use Rattle.wc_buffers.specs.declared.entry.BufferEntry.{BufferEntry}
-use Rattle.wc_buffers.specs.Calls.{Groups, entry_of, number}
+use Rattle.wc_buffers.specs.Calls.{EntryGroups, entry_of, number}
 use Rattle.wc_model.specs.Order.{prev_of, next_of}
 use Rattle.wc_model.specs.World.{World}
 use Rattle.wc_objects.specs.declared.kind.Kind.TheVariants as Kinds
 use Rattle.wc_objects.specs.declared.object.Object.{Object}
 use Rattle.wc_objects.specs.declared.object.Object.TheVariants as o
 use Rattle.wc_objects.specs.declared.object.HdaItem.{HdaItem, roll-HdaItem}
-use Rattle.wc_told.specs.BufferObjects.{count, table, text}
-use Rattle.wc_told.specs.LineObjects.{moment, texts, truth}
+use Rattle.wc_events.specs.BufferObjects.{count, table, text}
+use Rattle.wc_events.specs.LineObjects.{moment, texts, truth}
 use Rattle.wc_hdata.specs.declared.key.Key.{Key}
 use Rattle.wc_hdata.specs.declared.key.Key.TheVariants as k
 use Rattle.wc_hdata.specs.Lists.{lines_in}
@@ -20,7 +20,7 @@ use Rattle.wc_hdata.specs.Reached.{HeldLine, Place, Buffer, Lines, Line_at, Data
 use Rattle.wc_hdata.specs.Walk.{Node}
 
 -- of a buffer
-abbrev pub of_entry : Groups → Handle → Key → BufferEntry → Option Object
+abbrev pub of_entry : EntryGroups → Handle → Key → BufferEntry → Option Object
 of_entry groups buffer k.Number e = Some (o.Int (count (unwrap_or (number buffer groups) 0)))
 of_entry groups buffer k.FullName e = Some (text e.row.full_name)
 of_entry groups buffer k.ShortName e = Some (text e.row.short_name)
@@ -31,7 +31,7 @@ of_entry groups buffer k.PrevBuffer e = Some (o.Ptr (prev_of buffer.0 groups))
 of_entry groups buffer k.NextBuffer e = Some (o.Ptr (next_of buffer.0 groups))
 of_entry groups buffer _ e = None
 
-abbrev pub of_buffer : Groups → Handle → Key → Option BufferEntry → Option Object
+abbrev pub of_buffer : EntryGroups → Handle → Key → Option BufferEntry → Option Object
 of_buffer groups buffer key None = None
 of_buffer groups buffer key (Some e) = of_entry groups buffer key e
 

@@ -1,7 +1,7 @@
 -- A path is gone through step by step, from all that was reached.
 use Rattle.std.specs.Prelude.{ℕ, ◌+◌, List, [], ◌∷◌, ◌++◌, map, length, Option, Some, None}
 use Rattle.std.specs.List.{flat_map}
-use Rattle.wc_buffers.specs.Calls.{Groups, buffer_of}
+use Rattle.wc_buffers.specs.Calls.{EntryGroups, buffer_of}
 use Rattle.wc_buffers.specs.declared.row.BufferRow.{BufferRow}
 use Rattle.wc_model.specs.World.{World}
 use Rattle.wc_hdata.specs.declared.path.Step.{Step}
@@ -17,12 +17,12 @@ abbrev pub row_number : (BufferRow → ℕ) → Option BufferRow → ℕ
 row_number number None = 0
 row_number number (Some row) = number row
 
-abbrev pub list_pointer : Groups → LineList → ℕ
+abbrev pub list_pointer : EntryGroups → LineList → ℕ
 list_pointer groups (Own buffer) = row_number (λ row. row.own_lines.0) (buffer_of buffer groups)
 list_pointer groups (Mixed buffer) = row_number (λ row. row.mixed_lines.0) (buffer_of buffer groups)
 
 -- what names a place
-abbrev pub pointer_of : Groups → Place → ℕ
+abbrev pub pointer_of : EntryGroups → Place → ℕ
 pointer_of groups (Buffer buffer) = buffer.0
 pointer_of groups (Lines list) = list_pointer groups list
 pointer_of groups (Line_at held) = held.line.handle.0
@@ -41,23 +41,23 @@ node_of node = record { pointers = node.pointers; place = place_of node.place }
 abbrev pub nodes_of : List LentNode → List Node
 nodes_of nodes = map node_of nodes
 
-abbrev pub led : Groups → List ℕ → Place → Node
-led groups pointers place = record { pointers = pointers ++ pointer_of groups place ∷ []; place = place }
+abbrev pub node_at : EntryGroups → List ℕ → Place → Node
+node_at groups pointers place = record { pointers = pointers ++ pointer_of groups place ∷ []; place = place }
 
-abbrev pub all_led : Groups → List ℕ → List Place → List Node
-all_led groups pointers places = map (led groups pointers) places
+abbrev pub nodes_at : EntryGroups → List ℕ → List Place → List Node
+nodes_at groups pointers places = map (node_at groups pointers) places
 
 -- what a step gives from one, and from all
 abbrev pub onward : World → Step → Node → List Node
-onward world step node = all_led world.groups node.pointers (reach world step node.place)
+onward world step node = nodes_at world.groups node.pointers (reach world step node.place)
 
 abbrev pub onward_all : World → Step → List Node → List Node
 onward_all world step nodes = flat_map (onward world step) nodes
 
 -- what is reached at the end
-abbrev pub walked : World → List Step → List Node → List Node
-walked world [] nodes = nodes
-walked world (step ∷ steps) nodes = walked world steps (onward_all world step nodes)
+abbrev pub nodes_reached : World → List Step → List Node → List Node
+nodes_reached world [] nodes = nodes
+nodes_reached world (step ∷ steps) nodes = nodes_reached world steps (onward_all world step nodes)
 
 -- how many pointers are given on the way, by all elements together
 abbrev pub visits : World → List Step → List Node → ℕ

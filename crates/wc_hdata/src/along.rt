@@ -5,7 +5,7 @@ use crate::count::Count;
 use wc_text::NoMemory;
 
 #[tactic(auto, using(std::proofs::lemmas::List::take_all))]
-/// Puts the elements to which a count goes from a place of a list behind others.
+/// Puts the elements to which a count goes from a place of a list after others.
 pub(crate) fn along<T: Copy>(
     out: &mut Vec<T>,
     count: Count,
@@ -22,7 +22,7 @@ pub(crate) fn along<T: Copy>(
     }
 }
 
-/// Puts those from a place on behind others, so many at most.
+/// Puts those from a place on after others, so many at most.
 fn forward<T: Copy>(out: &mut Vec<T>, most: usize, at: usize, list: &[T]) -> Result<(), NoMemory>
     ensures { OnOk result (out.new.items ≡ out.old.items ++ take most (drop at list.now)) }
 {
@@ -32,14 +32,14 @@ fn forward<T: Copy>(out: &mut Vec<T>, most: usize, at: usize, list: &[T]) -> Res
     Ok(())
 }
 
-#[tactic(auto, using(crate::proofs::Backward::one_behind))]
-/// Puts those up to a place behind others, the last one first, so many at most.
+#[tactic(auto, using(crate::proofs::Backward::one_after))]
+/// Puts those up to a place after others, the last one first, so many at most.
 fn backward<T: Copy>(out: &mut Vec<T>, most: usize, at: usize, list: &[T]) -> Result<(), NoMemory>
     ensures { OnOk result (out.new.items ≡ out.old.items ++ take most (reverse (take (at + 1) list.now))) }
 {
     let front = &list[..at.saturating_add(1).min(list.len())];
-    for behind in 0..most.min(front.len()) {
-        match out.push(front[front.len() - 1 - behind]) {
+    for following in 0..most.min(front.len()) {
+        match out.push(front[front.len() - 1 - following]) {
             Ok(()) => {}
             Err(_) => return Err(NoMemory),
         }

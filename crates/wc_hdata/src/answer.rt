@@ -19,7 +19,7 @@ use crate::path::{Path, h_path};
 use crate::reach::all_buffers;
 use crate::reached::Place;
 use crate::refused::WalkRefused;
-use crate::size::behind_item_values;
+use crate::size::room_after_item_values;
 use std::alloc::Global;
 use wc_objects::{Hda, HdaItem, Object};
 use wc_text::{Handle, Items, NoMemory};
@@ -68,7 +68,7 @@ fn values_of(
     Ok(values)
 }
 
-/// Puts the item of a place behind others, where its values fit into what is left of the room.
+/// Puts the item of a place after others, where its values fit into what is left of the room.
 fn push_item(
     alloc: Global,
     items: &mut Items<HdaItem>,
@@ -85,7 +85,7 @@ fn push_item(
 {
     let Node { pointers, place } = node;
     let values = values_of(alloc, world, buffers, keys, place)?;
-    let Some(rest) = behind_item_values(*left, values.as_slice()) else {
+    let Some(rest) = room_after_item_values(*left, values.as_slice()) else {
         return Err(WalkRefused::TooLong {
             limit: BYTES as u32,
         });

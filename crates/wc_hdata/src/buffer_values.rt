@@ -4,8 +4,8 @@ ghost use Rattle.std.specs.Prelude.{◌≡◌, None, Some, IfOk, MatchOption, un
 ghost use Rattle.wc_buffers.specs.Calls.{entry_of, number};
 ghost use Rattle.wc_hdata.specs.Steps.{all_buffers};
 ghost use Rattle.wc_hdata.specs.Values.{of_buffer};
-ghost use Rattle.wc_model.specs.Order.{before_in, behind_in, first_of};
-ghost use Rattle.wc_told.specs.BufferObjects.{count};
+ghost use Rattle.wc_model.specs.Order.{before_in, after_in, first_of};
+ghost use Rattle.wc_events.specs.BufferObjects.{count};
 ghost use Rattle.wc_world.specs.Near.{numbers};
 
 use crate::key::Key;
@@ -29,9 +29,9 @@ fn before(all: &[Handle], buffer: Handle) -> u64
     0
 }
 
-/// The buffer behind another among all, or 0.
-fn behind(all: &[Handle], buffer: Handle) -> u64
-    ensures { result ≡ behind_in buffer.0 (numbers all.now) }
+/// The buffer after another among all, or 0.
+fn following(all: &[Handle], buffer: Handle) -> u64
+    ensures { result ≡ after_in buffer.0 (numbers all.now) }
 {
     let mut left = all;
     while let Some((first, others)) = left.split_first() {
@@ -52,7 +52,7 @@ fn first_of(handles: &[Handle]) -> u64
     }
 }
 
-/// What stands of a buffer: its row and its variables. None exactly where it is not there.
+/// What there is of a buffer: its row and its variables. None exactly where it is not there.
 pub(crate) fn standing(buffers: &Buffers, buffer: Handle) -> Option<(&BufferRow, &Vars)>
     ensures { MatchOption result (entry_of buffer buffers.now ≡ None) (λ parts. entry_of buffer buffers.now ≡ Some (record { row = parts.0.now; vars = parts.1.now })) }
 {
@@ -85,7 +85,7 @@ pub(crate) fn of_buffer(
         Key::Title => text(alloc, &row.title)?,
         Key::LocalVariables => table(alloc, vars)?,
         Key::PrevBuffer => Object::Ptr(before(all, buffer)),
-        Key::NextBuffer => Object::Ptr(behind(all, buffer)),
+        Key::NextBuffer => Object::Ptr(following(all, buffer)),
         _ => return Ok(None),
     };
     Ok(Some(value))

@@ -1,6 +1,6 @@
 ghost use Rattle.std.specs.Prelude.{◌≡◌};
 ghost use Rattle.std.specs.Option.{option_copied};
-ghost use Rattle.wc_hdata.specs.Answers.{count_of, count_inside, counted};
+ghost use Rattle.wc_hdata.specs.Answers.{count_of, count_inside, count_of_number};
 
 use wc_text::read_i64;
 
@@ -20,7 +20,7 @@ pub enum Count {
 /// The greatest number that a count writes, that of a C `int`.
 const MOST: u32 = 0x7FFF_FFFF;
 
-/// The count that stands in parentheses, given what follows the opening one. Where none opened the count is one.
+/// The count that is in parentheses, given what follows the opening one. Where none opened the count is one.
 ///
 /// Zeros in front of a number are read over, as the `strtol` of WeeChat does.
 pub fn read_count(written: Option<&[u8]>) -> Option<Count>
@@ -45,7 +45,7 @@ fn count_inside(inner: &[u8]) -> Option<Count>
 
 /// The count by a number. None where it is 0, or more than `MOST` in either direction.
 fn counted(number: i64) -> Option<Count>
-    ensures { result ≡ counted number }
+    ensures { result ≡ count_of_number number }
 {
     let size = u32::try_from(number.unsigned_abs()).ok()?;
     if size == 0 || size > MOST {

@@ -5,7 +5,7 @@ ghost use Rattle.wc_hdata.specs.Reached.{begun_places, places_of};
 ghost use Rattle.wc_hdata.specs.Refusals.{reached, reached_from, refusal_from, start_pointer, too_many, walk_refusal};
 ghost use Rattle.wc_hdata.specs.Starts.{starts};
 ghost use Rattle.wc_hdata.specs.Steps.{all_buffers};
-ghost use Rattle.wc_hdata.specs.Walk.{all_led, nodes_of, visits, walked};
+ghost use Rattle.wc_hdata.specs.Walk.{nodes_at, nodes_of, visits, nodes_reached};
 ghost use Rattle.wc_hdata.specs.declared.refused.WalkRefused.TheVariants as Refused;
 
 use crate::nodes::{Node, VISITS, first_nodes, onward_all};
@@ -28,7 +28,7 @@ fn follow<'a>(
     left: &mut usize,
 ) -> Result<Vec<Node<'a>>, WalkRefused>
     requires { buffers.now ≡ all_buffers world.now.groups }
-    ensures ok { IfOk result (λ end. nodes_of end.items ≡ walked world.now steps.now (nodes_of nodes.entry.items)) }
+    ensures ok { IfOk result (λ end. nodes_of end.items ≡ nodes_reached world.now steps.now (nodes_of nodes.entry.items)) }
     ensures left { OnOk result (left.new + visits world.now steps.now (nodes_of nodes.entry.items) ≡ left.old + length (nodes_of nodes.entry.items)) }
     ensures err { IfErr result (λ e. e ≢ Refused.NoMemory → (e ≡ too_many) × (left.old + length (nodes_of nodes.entry.items) < visits world.now steps.now (nodes_of nodes.entry.items))) }
 {

@@ -1,7 +1,7 @@
 ghost use Rattle.std.specs.Prelude.{◌≡◌, IfOk, IfSome, IfNone};
 ghost use Rattle.wc_hdata.specs.declared.path.Path.{Path};
-ghost use Rattle.wc_hdata.specs.Paths.{Spells};
-ghost use Rattle.wc_hdata.specs.Answers.{path_of, head_of, place_of, step_of, steps_behind};
+ghost use Rattle.wc_hdata.specs.Paths.{SpellsPath};
+ghost use Rattle.wc_hdata.specs.Answers.{path_of, head_of, place_of, step_of, steps_after};
 ghost use Rattle.std.specs.Option.{option_copied};
 
 use crate::count::{Count, read_count};
@@ -17,15 +17,15 @@ use wc_text::{Items, NoMemory};
 ///
 /// It takes time in proportion to the text, and no memory but that of the steps.
 pub fn read_path(alloc: Global, text: &[u8]) -> Result<Option<Path>, NoMemory>
-    ensures spelled { IfOk result (λ p. IfSome p (λ path. Spells text.now path)) }
-    ensures none { IfOk result (λ p. IfNone p ((path : Path) → Spells text.now path → ⊥)) }
+    ensures spelled { IfOk result (λ p. IfSome p (λ path. SpellsPath text.now path)) }
+    ensures none { IfOk result (λ p. IfNone p ((path : Path) → SpellsPath text.now path → ⊥)) }
     ensures computed { IfOk result (λ p. p ≡ path_of text.now) }
 {
-    let (head, behind) = split_once(text, b'/');
+    let (head, following) = split_once(text, b'/');
     let Some((start, count)) = read_head(head) else {
         return Ok(None);
     };
-    let Some(steps) = read_steps(alloc, start.element(), behind)? else {
+    let Some(steps) = read_steps(alloc, start.element(), following)? else {
         return Ok(None);
     };
     Ok(Some(Path {
@@ -35,7 +35,7 @@ pub fn read_path(alloc: Global, text: &[u8]) -> Result<Option<Path>, NoMemory>
     }))
 }
 
-/// What stands before the first slash: the name of an element, where to begin, and how many.
+/// What is before the first slash: the name of an element, where to begin, and how many.
 #[tactic(auto, unfolding(crate::specs::Answers::head_of))]
 fn read_head(head: &[u8]) -> Option<(Start, Count)>
     ensures { result ≡ head_of head.now }
@@ -62,20 +62,20 @@ fn read_place(element: Element, place: &[u8]) -> Option<Start>
     Some(Start::Pointer { element, pointer })
 }
 
-/// The steps from this element on, which slashes part, given what stands behind the first slash, where there is one.
+/// The steps from this element on, which slashes part, given what comes after the first slash, where there is one.
 /// None where a piece is no step of the element before it.
 fn read_steps(
     alloc: Global,
     element: Element,
     text: Option<&[u8]>,
 ) -> Result<Option<Items<Step>>, NoMemory>
-    ensures { IfOk result (λ steps. steps ≡ steps_behind element (option_copied text.entry)) }
+    ensures { IfOk result (λ steps. steps ≡ steps_after element (option_copied text.entry)) }
 {
     let mut steps = Items::new(alloc);
     let mut here = element;
     let mut rest = text;
     while let Some(pieces) = rest {
-        let (piece, behind) = split_once(pieces, b'/');
+        let (piece, following) = split_once(pieces, b'/');
         let Some(step) = read_step(piece) else {
             return Ok(None);
         };
@@ -84,12 +84,12 @@ fn read_steps(
         };
         steps.push(step)?;
         here = next;
-        rest = behind;
+        rest = following;
     }
     Ok(Some(steps))
 }
 
-/// The step that stands between two slashes: the name of a variable, and how many.
+/// The step that is between two slashes: the name of a variable, and how many.
 #[tactic(auto, unfolding(crate::specs::Answers::step_of))]
 fn read_step(piece: &[u8]) -> Option<Step>
     ensures { result ≡ step_of piece.now }

@@ -3,7 +3,7 @@
 ghost use Rattle.std.specs.Prelude.{◌≡◌, ◌++◌, ◌∷◌, [], IfOk, OnOk};
 ghost use Rattle.std.specs.Option.{option_copied};
 ghost use Rattle.wc_buffers.specs.Calls.{entry_of};
-ghost use Rattle.wc_hdata.specs.Infos.{info_of, infolist_object, listed, listed_all, variable, variables_of};
+ghost use Rattle.wc_hdata.specs.Infos.{info_of, infolist_object, buffer_item, buffer_items, variable, variables_of};
 ghost use Rattle.wc_hdata.specs.Steps.{all_buffers};
 
 use crate::buffer_values::{number, standing};
@@ -37,7 +37,7 @@ pub fn info(name: &[u8]) -> Option<&'static [u8]>
     None
 }
 
-/// Puts a variable behind others.
+/// Puts a variable after others.
 #[tactic(auto, unfolding(crate::specs::Infos::variable))]
 fn push_variable(
     alloc: Global,
@@ -77,14 +77,14 @@ fn variables_of(
     Ok(vars)
 }
 
-/// Puts what the list of buffers has of one behind others, where it is there.
+/// Puts what the list of buffers has of one after others, where it is there.
 fn push_listed(
     alloc: Global,
     items: &mut Items<Items<InlVar>>,
     buffers: &Buffers,
     buffer: Handle,
 ) -> Result<(), NoMemory>
-    ensures { OnOk result (items.new ≡ items.old ++ listed buffers.now buffer (entry_of buffer buffers.now)) }
+    ensures { OnOk result (items.new ≡ items.old ++ buffer_item buffers.now buffer (entry_of buffer buffers.now)) }
 {
     if let Some((row, _vars)) = standing(buffers, buffer) {
         items.push(variables_of(alloc, number(buffers, buffer), buffer, row)?)?;
@@ -93,7 +93,7 @@ fn push_listed(
 }
 
 fn listed_all(alloc: Global, buffers: &Buffers) -> Result<Items<Items<InlVar>>, NoMemory>
-    ensures { IfOk result (λ items. items ≡ listed_all buffers.now (all_buffers buffers.now)) }
+    ensures { IfOk result (λ items. items ≡ buffer_items buffers.now (all_buffers buffers.now)) }
 {
     let all = all_buffers(alloc, buffers)?;
     let mut items = Items::new(alloc);

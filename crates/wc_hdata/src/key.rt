@@ -10,7 +10,7 @@ use wc_objects::Kind;
 pub enum Key {
     /// `number`, the number of a buffer.
     Number,
-    /// `full_name`, the name of a buffer behind that of its plugin.
+    /// `full_name`, the name of a buffer after that of its plugin.
     FullName,
     /// `short_name`, the name of a buffer that the list of buffers shows.
     ShortName,
@@ -22,7 +22,7 @@ pub enum Key {
     LocalVariables,
     /// `prev_buffer`, the buffer before this one.
     PrevBuffer,
-    /// `next_buffer`, the buffer behind this one.
+    /// `next_buffer`, the buffer after this one.
     NextBuffer,
     /// `first_line`, the first of the lines.
     FirstLine,
@@ -46,7 +46,7 @@ pub enum Key {
     Highlight,
     /// `tags_array`, the tags of a line.
     TagsArray,
-    /// `prefix`, what stands before the message of a line.
+    /// `prefix`, what is before the message of a line.
     Prefix,
     /// `message`, the message of a line.
     Message,

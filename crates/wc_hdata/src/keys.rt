@@ -8,7 +8,7 @@ use std::alloc::Global;
 use wc_text::{Items, NoMemory, Text};
 
 /// The keys of an element that a request asks for: those that the text names between commas, in its order, or all where
-/// it is empty. A repeated key stands where it came first, and a name that is no key of the element is passed over.
+/// it is empty. A repeated key is where it came first, and a name that is no key of the element is passed over.
 pub fn read_keys(alloc: Global, element: Element, text: &[u8]) -> Result<Items<Key>, NoMemory>
     ensures { IfOk result (λ keys. keys ≡ keys_of element text.now) }
 {
@@ -18,9 +18,9 @@ pub fn read_keys(alloc: Global, element: Element, text: &[u8]) -> Result<Items<K
     let mut keys = Items::new(alloc);
     let mut rest = Some(text);
     while let Some(names) = rest {
-        let (name, behind) = split_once(names, b',');
+        let (name, following) = split_once(names, b',');
         push_key(&mut keys, Key::named(element, name))?;
-        rest = behind;
+        rest = following;
     }
     Ok(keys)
 }
@@ -35,7 +35,7 @@ fn copy_keys(alloc: Global, keys: &[Key]) -> Result<Items<Key>, NoMemory>
     Ok(copy)
 }
 
-/// Puts a key behind the others, unless it stands among them.
+/// Puts a key after the others, unless it is among them.
 fn push_key(keys: &mut Items<Key>, key: Option<Key>) -> Result<(), NoMemory>
     ensures { OnOk result (keys.new ≡ with_key keys.old key) }
 {

@@ -2,17 +2,17 @@
 ghost use Rattle.std.specs.Prelude.{◌≡◌, ℕ, List, [], ◌∷◌, Some};
 ghost use Rattle.wc_buffers.specs.Kept.{AreBuffers};
 ghost use Rattle.wc_model.specs.World.{World};
-ghost use Rattle.wc_told.specs.BufferObjects.{buffer_dump};
-ghost use Rattle.wc_told.specs.LineObjects.{line_dump};
+ghost use Rattle.wc_events.specs.BufferObjects.{buffer_dump};
+ghost use Rattle.wc_events.specs.LineObjects.{line_dump};
 ghost use Rattle.wc_hdata.specs.declared.path.Path.{Path};
 ghost use Rattle.wc_hdata.specs.Answers.{path_of};
 ghost use Rattle.wc_hdata.specs.Dumps.{buffers_keys, buffers_path, buffers_text, lines_keys, lines_path, lines_text};
 ghost use Rattle.wc_hdata.specs.Hdata.{walk_object};
-ghost use Rattle.wc_hdata.specs.Paths.{Spells};
+ghost use Rattle.wc_hdata.specs.Paths.{SpellsPath};
 
 /// A text spells one path at most.
 pub fn one_path()
-    ensures { (text : List ℕ) (a b : Path) → Spells text a → Spells text b → a ≡ b }
+    ensures { (text : List ℕ) (a b : Path) → SpellsPath text a → SpellsPath text b → a ≡ b }
 {}
 
 /// The paths to all buffers and to all of their lines, as they are written.

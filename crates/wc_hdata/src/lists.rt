@@ -47,7 +47,7 @@ fn mixed<'a>(
     Ok(lines)
 }
 
-/// Puts the lines of a buffer behind others.
+/// Puts the lines of a buffer after others.
 fn push_lines<'a>(
     lines: &mut Vec<HeldLine<'a>>,
     world: &'a World,
@@ -68,7 +68,7 @@ fn push_lines<'a>(
     Ok(())
 }
 
-/// Puts the lines of several buffers behind others.
+/// Puts the lines of several buffers after others.
 fn push_all<'a>(
     lines: &mut Vec<HeldLine<'a>>,
     world: &'a World,

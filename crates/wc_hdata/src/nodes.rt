@@ -3,7 +3,7 @@
 ghost use Rattle.std.specs.Prelude.{◌≡◌, ◌≢◌, ◌++◌, ◌∷◌, [], ◌+◌, ◌<◌, IfOk, OnOk, IfErr, length};
 ghost use Rattle.wc_hdata.specs.Reached.{place_of, places_of};
 ghost use Rattle.wc_hdata.specs.Steps.{all_buffers, reach};
-ghost use Rattle.wc_hdata.specs.Walk.{all_led, led, list_pointer, node_of, nodes_of, onward, onward_all, pointer_of, visits, walked};
+ghost use Rattle.wc_hdata.specs.Walk.{nodes_at, node_at, list_pointer, node_of, nodes_of, onward, onward_all, pointer_of, visits, nodes_reached};
 ghost use Rattle.wc_hdata.specs.Refusals.{too_many};
 ghost use Rattle.wc_hdata.specs.declared.refused.WalkRefused.TheVariants as Refused;
 
@@ -64,14 +64,14 @@ fn copy(alloc: Global, pointers: &Items<u64>) -> Result<Items<u64>, NoMemory>
     Ok(copy)
 }
 
-/// Puts a place behind others, with the pointers that led to it.
+/// Puts a place after others, with the pointers that led to it.
 fn push<'a>(
     out: &mut Vec<Node<'a>>,
     buffers: &Buffers,
     mut pointers: Items<u64>,
     place: Place<'a>,
 ) -> Result<(), NoMemory>
-    ensures { OnOk result (nodes_of out.new.items ≡ nodes_of out.old.items ++ led buffers.now pointers (place_of place.entry) ∷ []) }
+    ensures { OnOk result (nodes_of out.new.items ≡ nodes_of out.old.items ++ node_at buffers.now pointers (place_of place.entry) ∷ []) }
 {
     pointers.push(pointer_of(buffers, place))?;
     match out.push(Node { pointers, place }) {
@@ -80,7 +80,7 @@ fn push<'a>(
     }
 }
 
-/// Puts places behind others, with the pointers that led to them. The last one takes these over, so that a long path that
+/// Puts places after others, with the pointers that led to them. The last one takes these over, so that a long path that
 /// leads to few places copies no pointers.
 fn push_all<'a>(
     alloc: Global,
@@ -89,7 +89,7 @@ fn push_all<'a>(
     pointers: Items<u64>,
     places: &[Place<'a>],
 ) -> Result<(), NoMemory>
-    ensures { OnOk result (nodes_of out.new.items ≡ nodes_of out.old.items ++ all_led buffers.now pointers (places_of places.now)) }
+    ensures { OnOk result (nodes_of out.new.items ≡ nodes_of out.old.items ++ nodes_at buffers.now pointers (places_of places.now)) }
 {
     let Some((last, front)) = places.split_last() else {
         return Ok(());
@@ -105,7 +105,7 @@ fn push_front<'a>(
     pointers: &Items<u64>,
     places: &[Place<'a>],
 ) -> Result<(), NoMemory>
-    ensures { OnOk result (nodes_of out.new.items ≡ nodes_of out.old.items ++ all_led buffers.now pointers.now (places_of places.now)) }
+    ensures { OnOk result (nodes_of out.new.items ≡ nodes_of out.old.items ++ nodes_at buffers.now pointers.now (places_of places.now)) }
 {
     for place in places {
         push(out, buffers, copy(alloc, pointers)?, *place)?;
@@ -129,7 +129,7 @@ fn visit(left: &mut usize, places: usize) -> Result<(), WalkRefused>
     }
 }
 
-/// Puts what a step gives from one behind others. `buffers` are all buffers in their order, and `places` is a list that is
+/// Puts what a step gives from one after others. `buffers` are all buffers in their order, and `places` is a list that is
 /// used in between.
 fn push_onward<'a>(
     alloc: Global,
@@ -180,7 +180,7 @@ pub(crate) fn first_nodes<'a>(
     buffers: &Buffers,
     places: &[Place<'a>],
 ) -> Result<Vec<Node<'a>>, NoMemory>
-    ensures { IfOk result (λ nodes. nodes_of nodes.items ≡ all_led buffers.now [] (places_of places.now)) }
+    ensures { IfOk result (λ nodes. nodes_of nodes.items ≡ nodes_at buffers.now [] (places_of places.now)) }
 {
     let mut nodes = Vec::new(alloc);
     push_front(alloc, &mut nodes, buffers, &Items::new(alloc), places)?;

@@ -19,7 +19,7 @@ pub enum Start {
 }
 
 impl Start {
-    /// The element that stands at the start.
+    /// The element that is at the start.
     pub fn element(self) -> Element
         ensures { result ≡ element_of self }
     {

@@ -29,7 +29,7 @@ pub(crate) fn all_buffers(alloc: Global, buffers: &Buffers) -> Result<Vec<Handle
     Ok(all)
 }
 
-/// Puts the places to which a step leads from one behind others. `buffers` are all buffers in their order.
+/// Puts the places to which a step leads from one after others. `buffers` are all buffers in their order.
 #[tactic(auto, unfolding(crate::specs::Steps::reach))]
 pub(crate) fn reach<'a>(
     alloc: Global,
@@ -108,7 +108,7 @@ fn from_lines<'a>(
 }
 
 #[tactic(auto, using(crate::proofs::AlongMap::along_held))]
-/// Puts the lines to which a count goes from a place of a list behind others.
+/// Puts the lines to which a count goes from a place of a list after others.
 pub(crate) fn push_lines<'a>(
     alloc: Global,
     count: Count,
@@ -184,7 +184,7 @@ fn position(buffers: &[Handle], buffer: Handle) -> Option<usize>
     buffers.iter().position(|other| other.0 == buffer.0)
 }
 
-/// Puts the buffers to which a count goes from a place of a list behind others.
+/// Puts the buffers to which a count goes from a place of a list after others.
 pub(crate) fn push_buffers<'a>(
     alloc: Global,
     count: Count,

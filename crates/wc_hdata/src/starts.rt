@@ -142,7 +142,7 @@ fn place_of_line(lines: &[HeldLine<'_>], pointer: u64) -> usize
 
 // ---- the beginning
 
-/// Puts the lines to which a count goes from one behind others, along the buffer's own.
+/// Puts the lines to which a count goes from one after others, along the buffer's own.
 fn push_from_line<'a>(
     alloc: Global,
     world: &'a World,

@@ -1,8 +1,8 @@
 //! The values of what a path reaches, by their keys.
 
 ghost use Rattle.std.specs.Prelude.{◌≡◌, map, Some, IfOk};
-ghost use Rattle.wc_told.specs.BufferObjects.{count, pair_of, table, text};
-ghost use Rattle.wc_told.specs.LineObjects.{moment, texts, truth};
+ghost use Rattle.wc_events.specs.BufferObjects.{count, pair_of, table, text};
+ghost use Rattle.wc_events.specs.LineObjects.{moment, texts, truth};
 
 use std::alloc::Global;
 use wc_buffers::Vars;

@@ -79,7 +79,7 @@ fn print(world: &mut World, alloc: Global, buffer: u64, message: &str) -> Result
     change(world, alloc, buffer, what)
 }
 
-/// The core buffer with the lines 1 and 3 and, behind it in the same group, `core.a` with the line 2, which came between.
+/// The core buffer with the lines 1 and 3 and, after it in the same group, `core.a` with the line 2, which came between.
 fn merged(alloc: Global) -> Result<World, Fail> {
     let mut world = World::new(alloc, 3)?;
     let what = added(alloc, "core.a")?;
@@ -106,7 +106,7 @@ fn shown_value(alloc: Global, value: &Object) -> Result<String, Fail> {
     Ok(shown)
 }
 
-/// The pointers and the values of an item, behind what was shown before.
+/// The pointers and the values of an item, after what was shown before.
 fn shown_item(alloc: Global, before: &str, item: &HdaItem) -> Result<String, Fail> {
     let mut shown = format!(in alloc; "{before} ")?;
     for pointer in item.pointers.as_slice() {

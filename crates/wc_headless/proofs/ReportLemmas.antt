@@ -7,7 +7,7 @@ use Rattle.wc_outside.specs.declared.sockets.Token.{Token}
 use Rattle.wc_outside.specs.declared.sockets.Token.TheVariants.{Listener, Link}
 use Rattle.wc_outside.specs.Happenings.{is_link, is_listener, IsThere}
 use Rattle.wc_headless.specs.declared.row.Row.{Row}
-use Rattle.wc_headless.specs.Rows.{is_there, is_undrained, Reported}
+use Rattle.wc_headless.specs.Rows.{is_there, is_undrained, SourcesReported}
 
 or_assoc : (a b c : Bool) → (a || b) || c ≡ a || (b || c)
 or_assoc true b c = refl
@@ -21,8 +21,8 @@ IsThere_like p q e Listener h = h
 IsThere_like p q e (Link link) h = rw (sym (e link.0)) h
 
 -- what is reported after more was reported
-pub Reported-trans : (a b c : List Row) (l m n : Bool) (ts us : List Token) → Reported a b l m ts → Reported b c m n us → Reported a c l n (ts ++ us)
-Reported-trans a b c l m n ts us p q = record {
+pub SourcesReported-trans : (a b c : List Row) (l m n : Bool) (ts us : List Token) → SourcesReported a b l m ts → SourcesReported b c m n us → SourcesReported a c l n (ts ++ us)
+SourcesReported-trans a b c l m n ts us p q = record {
   sources = All_join (IsThere (is_there a)) ts us p.sources (λ k d h. IsThere_like (is_there a) (is_there b) p.there _ (q.sources k d h));
   undrained = λ link. q.undrained link ∙ ap (λ d. d || list_any (is_link link) us) (p.undrained link) ∙ or_assoc (is_undrained a link) (list_any (is_link link) ts) (list_any (is_link link) us) ∙ ap (λ d. is_undrained a link || d) (sym (list_any-append (is_link link) ts us));
   listening = q.listening ∙ ap (λ d. d || list_any is_listener us) p.listening ∙ or_assoc l (list_any is_listener ts) (list_any is_listener us) ∙ ap (λ d. l || d) (sym (list_any-append is_listener ts us));

@@ -7,13 +7,13 @@ use Rattle.std.specs.List.{remove}
 use Rattle.std.specs.Option.{option_map}
 use Rattle.std.proofs.lemmas.List.Edits.{get_or-remove_below, get_or-remove_above, length-remove}
 use Rattle.std.proofs.lemmas.List.{get_or-map, get_or_default}
-use Rattle.wc_outside.specs.Keyed.{at_key, put_at, IsPlace, PlaceOf}
-use Rattle.wc_outside.proofs.KeyedLemmas.{here, behind, at_key-key, at_key-put_same, at_key-put_other}
+use Rattle.wc_outside.specs.Keyed.{at_key, put_at, IsKeyPlace, PlaceOf}
+use Rattle.wc_outside.proofs.KeyedLemmas.{here, following, at_key-key, at_key-put_same, at_key-put_other}
 use Rattle.wc_headless.specs.declared.row.Row.{Row}
-use Rattle.wc_headless.specs.Rows.{number_of, no_row, freed, has, undrained_in, blocked_in, is_there, is_undrained, is_blocked, IsAscending}
+use Rattle.wc_headless.specs.Rows.{number_of, no_row, freed_link_row, has, undrained_in, blocked_in, is_there, is_undrained, is_blocked, IsAscending}
 
-ascending_behind : (n : ℕ) (ns : List ℕ) → IsAscending (n ∷ ns) → IsAscending ns
-ascending_behind n ns h = λ i j l m. h (suc i) (suc j) (omega arith) (omega arith)
+ascending_after : (n : ℕ) (ns : List ℕ) → IsAscending (n ∷ ns) → IsAscending ns
+ascending_after n ns h = λ i j l m. h (suc i) (suc j) (omega arith) (omega arith)
 
 -- a row's number, among the numbers
 number_at : (rows : List Row) (i : ℕ) (d : Row) → i < length rows → get_or (map number_of rows) i 0 ≡ number_of (get_or rows i d)
@@ -33,13 +33,13 @@ none_at [] k h = refl
 none_at (r ∷ rs) k h = grind (arith, nat_tests, none_at rs k (λ i d l. h (suc i) d (omega arith)), h 0 r (omega arith))
 
 -- in rows that ascend, a row with the number is the first one
-pub placed_at : (rows : List Row) (i k : ℕ) (d : Row) → IsAscending (map number_of rows) → i < length rows → number_of (get_or rows i d) ≡ k → IsPlace number_of k rows i
+pub placed_at : (rows : List Row) (i k : ℕ) (d : Row) → IsAscending (map number_of rows) → i < length rows → number_of (get_or rows i d) ≡ k → IsKeyPlace number_of k rows i
 placed_at [] i k d a h e = absurd (omega arith)
 placed_at (r ∷ rs) zero k d a h e = here number_of k r rs (grind (arith, nat_tests))
 placed_at (r ∷ rs) (suc i) k d a h e =
     let less : number_of r < number_of (get_or rs i d) = ordered (r ∷ rs) 0 (suc i) d d a (omega arith) h in
     let differs : eqb (number_of r) k ≡ false = grind (arith, nat_tests) in
-    behind number_of k r rs i differs (placed_at rs i k d (ascending_behind (number_of r) (map number_of rs) a) (omega arith) e)
+    following number_of k r rs i differs (placed_at rs i k d (ascending_after (number_of r) (map number_of rs) a) (omega arith) e)
 
 pub missing_between : (rows : List Row) (low high k : ℕ) → high ≤ low
     → ((i : ℕ) (d : Row) → i < low → number_of (get_or rows i d) < k)
@@ -66,7 +66,7 @@ kept_by p rows k j x y true e same found = same ∙ ap p (sym (subst (λ n. at_k
 kept_by p rows k j x y false e same found = refl
 
 -- a row was edited at its place, and kept its number
-pub edited : {X : Type 0} (p : Option Row → X) (f : Row → Row) (rows : List Row) (i k : ℕ) → ((x : Row) → number_of (f x) ≡ number_of x) → IsPlace number_of k rows i → (j : ℕ)
+pub edited : {X : Type 0} (p : Option Row → X) (f : Row → Row) (rows : List Row) (i k : ℕ) → ((x : Row) → number_of (f x) ≡ number_of x) → IsKeyPlace number_of k rows i → (j : ℕ)
     → p (at_key number_of j (set rows i (f (get_or rows i no_row)))) ≡ cond (eqb j k) (p (Some (f (get_or rows i no_row)))) (p (at_key number_of j rows))
 edited p f rows i k keeps place j =
     let x = get_or rows i no_row in
@@ -74,7 +74,7 @@ edited p f rows i k keeps place j =
     let key : number_of (f x) ≡ k = keeps x ∙ at_key-key number_of k rows x found in
     rw (place.put (f x)) (edited-by p rows k j x (f x) (eqb j k) refl key found)
 
-pub edited_same : {X : Type 0} (p : Option Row → X) (f : Row → Row) (rows : List Row) (i k : ℕ) → ((x : Row) → number_of (f x) ≡ number_of x) → ((x : Row) → p (Some (f x)) ≡ p (Some x)) → IsPlace number_of k rows i → (j : ℕ)
+pub edited_same : {X : Type 0} (p : Option Row → X) (f : Row → Row) (rows : List Row) (i k : ℕ) → ((x : Row) → number_of (f x) ≡ number_of x) → ((x : Row) → p (Some (f x)) ≡ p (Some x)) → IsKeyPlace number_of k rows i → (j : ℕ)
     → p (at_key number_of j (set rows i (f (get_or rows i no_row)))) ≡ p (at_key number_of j rows)
 edited_same p f rows i k keeps same place j = edited p f rows i k keeps place j ∙ kept_by p rows k j (get_or rows i no_row) (f (get_or rows i no_row)) (eqb j k) refl (same (get_or rows i no_row)) (place.found no_row)
 
@@ -115,8 +115,8 @@ removed_first : (r : Row) (rs : List Row) (k j : ℕ) (b : Bool) → eqb j k ≡
 removed_first r rs k j true e key none = subst (λ n. at_key number_of n rs ≡ None) (sym (eqb-true j k e)) none
 removed_first r rs k j false e key none = grind (arith, nat_tests)
 
-removed_behind : (r : Row) (ms rs : List Row) (k j : ℕ) → number_of r < k → at_key number_of j ms ≡ cond (eqb j k) None (at_key number_of j rs) → at_key number_of j (r ∷ ms) ≡ cond (eqb j k) None (at_key number_of j (r ∷ rs))
-removed_behind r ms rs k j l e = grind (arith, nat_tests)
+removed_after : (r : Row) (ms rs : List Row) (k j : ℕ) → number_of r < k → at_key number_of j ms ≡ cond (eqb j k) None (at_key number_of j rs) → at_key number_of j (r ∷ ms) ≡ cond (eqb j k) None (at_key number_of j (r ∷ rs))
+removed_after r ms rs k j l e = grind (arith, nat_tests)
 
 removed : (rows : List Row) (i k j : ℕ) (d : Row) → IsAscending (map number_of rows) → i < length rows → number_of (get_or rows i d) ≡ k → at_key number_of j (remove rows i) ≡ cond (eqb j k) None (at_key number_of j rows)
 removed [] i k j d a h e = absurd (omega arith)
@@ -125,8 +125,8 @@ removed (r ∷ rs) zero k j d a h e =
     removed_first r rs k j (eqb j k) refl e none
 removed (r ∷ rs) (suc i) k j d a h e =
     let less : number_of r < number_of (get_or rs i d) = ordered (r ∷ rs) 0 (suc i) d d a (omega arith) h in
-    let more = removed rs i k j d (ascending_behind (number_of r) (map number_of rs) a) (omega arith) e in
-    removed_behind r (remove rs i) rs k j (omega arith) more
+    let more = removed rs i k j d (ascending_after (number_of r) (map number_of rs) a) (omega arith) e in
+    removed_after r (remove rs i) rs k j (omega arith) more
 
 numbers_remove : (rows : List Row) (i : ℕ) → map number_of (remove rows i) ≡ remove (map number_of rows) i
 numbers_remove [] zero = refl
@@ -134,7 +134,7 @@ numbers_remove [] (suc i) = refl
 numbers_remove (r ∷ rs) zero = refl
 numbers_remove (r ∷ rs) (suc i) = ap (λ ns. number_of r ∷ ns) (numbers_remove rs i)
 
--- the number that stands at k once the one at i is removed
+-- the number that is at k once the one at i is removed
 without_at : (ns : List ℕ) (i k : ℕ) → i < length ns → ((k < i) × (get_or (remove ns i) k 0 ≡ get_or ns k 0)) ⊎ ((i ≤ k) × (get_or (remove ns i) k 0 ≡ get_or ns (k + 1) 0))
 without_at ns i k l = elim (cases_lt k i) [ inl h ↦ inl (h, get_or-remove_below ns i 0 k h l) | inr h ↦ inr (h, get_or-remove_above ns i 0 k h l) ]
 
@@ -167,7 +167,7 @@ gone p e false true o h = rw h refl
 gone p e false false o h = rw h refl
 
 -- a row was removed at its place
-pub removed_part : (p : Option Row → Bool) → p None ≡ false → (rows : List Row) (i k : ℕ) → IsAscending (map number_of rows) → IsPlace number_of k rows i → (j : ℕ)
+pub removed_part : (p : Option Row → Bool) → p None ≡ false → (rows : List Row) (i k : ℕ) → IsAscending (map number_of rows) → IsKeyPlace number_of k rows i → (j : ℕ)
     → p (at_key number_of j (remove rows i)) ≡ p (at_key number_of j rows) && not (eqb j k)
 removed_part p e rows i k a place j =
     let key : number_of (get_or rows i no_row) ≡ k = at_key-key number_of k rows (get_or rows i no_row) (place.found no_row) in
@@ -183,41 +183,41 @@ member_there [] i d l = absurd (omega arith)
 member_there (r ∷ rs) zero d l = grind (arith, nat_tests)
 member_there (r ∷ rs) (suc i) d l = there_more (eqb (number_of r) (number_of (get_or rs i d))) r (at_key number_of (number_of (get_or rs i d)) rs) (member_there rs i d (omega arith))
 
-pub numbers_freed : (rows : List Row) → map number_of (map freed rows) ≡ map number_of rows
+pub numbers_freed : (rows : List Row) → map number_of (map freed_link_row rows) ≡ map number_of rows
 numbers_freed [] = refl
 numbers_freed (r ∷ rs) = ap (λ ns. number_of r ∷ ns) (numbers_freed rs)
 
-pub ascending_freed : (rows : List Row) → IsAscending (map number_of rows) → IsAscending (map number_of (map freed rows))
+pub ascending_freed : (rows : List Row) → IsAscending (map number_of rows) → IsAscending (map number_of (map freed_link_row rows))
 ascending_freed rows h = rw (numbers_freed rows) h
 
-freed_step : (b : Bool) (r : Row) (o : Option Row) (q : Option Row) → q ≡ option_map freed o → cond b (Some (freed r)) q ≡ option_map freed (cond b (Some r) o)
+freed_step : (b : Bool) (r : Row) (o : Option Row) (q : Option Row) → q ≡ option_map freed_link_row o → cond b (Some (freed_link_row r)) q ≡ option_map freed_link_row (cond b (Some r) o)
 freed_step true r o q e = refl
 freed_step false r o q e = e
 
-at_key_freed : (rows : List Row) (link : ℕ) → at_key number_of link (map freed rows) ≡ option_map freed (at_key number_of link rows)
+at_key_freed : (rows : List Row) (link : ℕ) → at_key number_of link (map freed_link_row rows) ≡ option_map freed_link_row (at_key number_of link rows)
 at_key_freed [] link = refl
-at_key_freed (r ∷ rs) link = freed_step (eqb (number_of r) link) r (at_key number_of link rs) (at_key number_of link (map freed rs)) (at_key_freed rs link)
+at_key_freed (r ∷ rs) link = freed_step (eqb (number_of r) link) r (at_key number_of link rs) (at_key number_of link (map freed_link_row rs)) (at_key_freed rs link)
 
-there_option : (o : Option Row) → has (option_map freed o) ≡ has o
+there_option : (o : Option Row) → has (option_map freed_link_row o) ≡ has o
 there_option None = refl
 there_option (Some r) = refl
 
-undrained_option : (o : Option Row) → undrained_in (option_map freed o) ≡ undrained_in o
+undrained_option : (o : Option Row) → undrained_in (option_map freed_link_row o) ≡ undrained_in o
 undrained_option None = refl
 undrained_option (Some r) = refl
 
-blocked_option : (o : Option Row) → blocked_in (option_map freed o) ≡ false
+blocked_option : (o : Option Row) → blocked_in (option_map freed_link_row o) ≡ false
 blocked_option None = refl
 blocked_option (Some r) = refl
 
 -- once a wait returned
-pub there_freed : (rows : List Row) (link : ℕ) → is_there (map freed rows) link ≡ is_there rows link
+pub there_freed : (rows : List Row) (link : ℕ) → is_there (map freed_link_row rows) link ≡ is_there rows link
 there_freed rows link = ap has (at_key_freed rows link) ∙ there_option (at_key number_of link rows)
 
-pub undrained_freed : (rows : List Row) (link : ℕ) → is_undrained (map freed rows) link ≡ is_undrained rows link
+pub undrained_freed : (rows : List Row) (link : ℕ) → is_undrained (map freed_link_row rows) link ≡ is_undrained rows link
 undrained_freed rows link = ap undrained_in (at_key_freed rows link) ∙ undrained_option (at_key number_of link rows)
 
-pub blocked_freed : (rows : List Row) (link : ℕ) → is_blocked (map freed rows) link ≡ false
+pub blocked_freed : (rows : List Row) (link : ℕ) → is_blocked (map freed_link_row rows) link ≡ false
 blocked_freed rows link = ap blocked_in (at_key_freed rows link) ∙ blocked_option (at_key number_of link rows)
 
 pub ruleset freed_rows = (there_freed, undrained_freed, blocked_freed)

@@ -10,7 +10,7 @@ use Rattle.wc_headless.specs.declared.row.Row.{Row}
 abbrev pub number_of : Row → ℕ
 number_of row = row.link.0
 
--- what stands where no row is
+-- what is where no row is
 abbrev pub no_row : Row
 no_row = record { link = record { 0 = 0 }; undrained = false; blocked = false }
 
@@ -36,16 +36,16 @@ is_undrained rows link = undrained_in (at_key number_of link rows)
 abbrev pub is_blocked : List Row → ℕ → Bool
 is_blocked rows link = blocked_in (at_key number_of link rows)
 
--- each number is below those behind it
+-- each number is below those after it
 abbrev pub IsAscending : List ℕ → Type 0
 IsAscending ns = (i j : ℕ) → i < j → j < length ns → slice_index ns i < slice_index ns j
 
 -- what each row is once a wait returned
-abbrev pub freed : Row → Row
-freed row = record row { blocked = false }
+abbrev pub freed_link_row : Row → Row
+freed_link_row row = record row { blocked = false }
 
 -- a wait has reported these sources so far, and nothing else changed
-pub record Reported (old new : List Row) (listening_old listening_new : Bool) (tokens : List Token) : Type 0 where
+pub record SourcesReported (old new : List Row) (listening_old listening_new : Bool) (tokens : List Token) : Type 0 where
   pub sources : All (IsThere (is_there old)) tokens
   pub undrained : (link : ℕ) → is_undrained new link ≡ is_undrained old link || list_any (is_link link) tokens
   pub listening : listening_new ≡ listening_old || list_any is_listener tokens

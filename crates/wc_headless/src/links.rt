@@ -1,6 +1,6 @@
 ghost use Rattle.std.specs.Prelude.{◌≡◌, false, ◌+◌, ◌^◌, ◌<◌, ◌≤◌, ◌&&◌, ◌||◌, ◌==◌, not, map, length, ℕ, All, vec_len, vec_capacity, IfOk, IfSome, IsTrue, take, if◌then◌else◌};
-ghost use Rattle.wc_outside.specs.Keyed.{IsPlace, PlaceOf};
-ghost use Rattle.wc_headless.specs.Rows.{number_of, is_there, is_undrained, is_blocked, freed, IsAscending, Reported};
+ghost use Rattle.wc_outside.specs.Keyed.{IsKeyPlace, PlaceOf};
+ghost use Rattle.wc_headless.specs.Rows.{number_of, is_there, is_undrained, is_blocked, freed_link_row, IsAscending, SourcesReported};
 
 use crate::report::report;
 use crate::row::Row;
@@ -61,9 +61,9 @@ impl Links {
         link
     }
 
-    /// Removes a link, which stands at this place.
+    /// Removes a link, which is at this place.
     pub(crate) fn remove(&mut self, place: usize, link: LinkId)
-        requires { IsPlace number_of link.0 self.old.rows.items place }
+        requires { IsKeyPlace number_of link.0 self.old.rows.items place }
         ensures used { self.new.used ≡ self.old.used }
         ensures there { (other : ℕ) → is_there self.new.rows.items other ≡ is_there self.old.rows.items other && not (other == link.0) }
         ensures undrained { (other : ℕ) → is_undrained self.new.rows.items other ≡ is_undrained self.old.rows.items other && not (other == link.0) }
@@ -72,7 +72,7 @@ impl Links {
         self.rows.remove(place);
     }
 
-    /// Where a link stands.
+    /// Where a link is.
     #[tactic(auto, using(crate::proofs::RowLemmas::placed_there))]
     pub(crate) fn place_of(&self, link: LinkId) -> Option<usize>
         ensures place { PlaceOf number_of link.0 self.now.rows.items result }
@@ -82,9 +82,9 @@ impl Links {
         place_of(&self.rows, link)
     }
 
-    /// Takes a link, which stands at this place, out of those that are not drained.
+    /// Takes a link, which is at this place, out of those that are not drained.
     pub(crate) fn drain(&mut self, place: usize, link: LinkId)
-        requires { IsPlace number_of link.0 self.old.rows.items place }
+        requires { IsKeyPlace number_of link.0 self.old.rows.items place }
         ensures used { self.new.used ≡ self.old.used }
         ensures undrained { (other : ℕ) → is_undrained self.new.rows.items other ≡ is_undrained self.old.rows.items other && not (other == link.0) }
         ensures there { (other : ℕ) → is_there self.new.rows.items other ≡ is_there self.old.rows.items other }
@@ -93,9 +93,9 @@ impl Links {
         set_undrained(&mut self.rows, place, link, false);
     }
 
-    /// Notes whether the last write to a link, which stands at this place, found no room.
+    /// Notes whether the last write to a link, which is at this place, found no room.
     pub(crate) fn set_blocked(&mut self, place: usize, link: LinkId, blocked: bool)
-        requires { IsPlace number_of link.0 self.old.rows.items place }
+        requires { IsKeyPlace number_of link.0 self.old.rows.items place }
         ensures used { self.new.used ≡ self.old.used }
         ensures undrained { (other : ℕ) → is_undrained self.new.rows.items other ≡ is_undrained self.old.rows.items other }
         ensures there { (other : ℕ) → is_there self.new.rows.items other ≡ is_there self.old.rows.items other }
@@ -112,7 +112,7 @@ impl Links {
         ready: &mut Ready,
     )
         ensures used { self.new.used ≡ self.old.used }
-        ensures reported { Reported (map freed self.old.rows.items) self.new.rows.items listening.old listening.new (take ready.new.count ready.new.tokens) }
+        ensures reported { SourcesReported (map freed_link_row self.old.rows.items) self.new.rows.items listening.old listening.new (take ready.new.count ready.new.tokens) }
     {
         report(streams, &mut self.rows, listening, ready);
     }

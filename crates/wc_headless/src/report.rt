@@ -1,6 +1,6 @@
 ghost use Rattle.std.specs.Prelude.{◌≡◌, ◌+◌, ◌<◌, ◌++◌, ◌∷◌, [], map, take};
 ghost use Rattle.wc_outside.specs.Happenings.{IsThere};
-ghost use Rattle.wc_headless.specs.Rows.{number_of, is_there, freed, IsAscending, Reported};
+ghost use Rattle.wc_headless.specs.Rows.{number_of, is_there, freed_link_row, IsAscending, SourcesReported};
 
 use crate::row::Row;
 use crate::rows::{free_all, place_of, set_undrained};
@@ -10,7 +10,7 @@ use std::random::RandomSource;
 use std::rt::Clock;
 use wc_outside::{READY_LIMIT, Ready, Token};
 
-/// Puts a source behind those that are reported.
+/// Puts a source after those that are reported.
 fn add(ready: &mut Ready, source: Token)
     requires { ready.old.count < 64 }
     ensures count { ready.new.count ≡ ready.old.count + 1 }
@@ -29,7 +29,7 @@ fn mark<R: Net + Clock + RandomSource>(
 )
     requires ascending { IsAscending (map number_of rows.old) }
     requires there { IsThere (is_there rows.old) source }
-    ensures { Reported rows.old rows.new listening.old listening.new (source ∷ []) }
+    ensures { SourcesReported rows.old rows.new listening.old listening.new (source ∷ []) }
 {
     match source {
         Token::Listener => {
@@ -53,7 +53,7 @@ fn report_pending<R: Net + Clock + RandomSource>(
     ready: &mut Ready,
 )
     requires { IsAscending (map number_of rows.old) }
-    ensures { Reported rows.old rows.new listening.old listening.new (take ready.new.count ready.new.tokens) }
+    ensures { SourcesReported rows.old rows.new listening.old listening.new (take ready.new.count ready.new.tokens) }
 {
     ready.count = 0;
     while ready.count < READY_LIMIT {
@@ -74,7 +74,7 @@ pub(crate) fn report<R: Net + Clock + RandomSource>(
 )
     requires { IsAscending (map number_of rows.old) }
     ensures numbers { map number_of rows.new ≡ map number_of rows.old }
-    ensures reported { Reported (map freed rows.old) rows.new listening.old listening.new (take ready.new.count ready.new.tokens) }
+    ensures reported { SourcesReported (map freed_link_row rows.old) rows.new listening.old listening.new (take ready.new.count ready.new.tokens) }
 {
     free_all(rows);
     report_pending(streams, rows, listening, ready);

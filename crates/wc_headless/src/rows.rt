@@ -1,11 +1,11 @@
 ghost use Rattle.std.specs.Prelude.{◌≡◌, ◌+◌, ◌<◌, ◌≤◌, ◌&&◌, ◌||◌, ◌==◌, not, map, length, ℕ, if◌then◌else◌};
-ghost use Rattle.wc_outside.specs.Keyed.{IsPlace, PlaceOf};
-ghost use Rattle.wc_headless.specs.Rows.{number_of, is_there, is_undrained, is_blocked, IsAscending, freed};
+ghost use Rattle.wc_outside.specs.Keyed.{IsKeyPlace, PlaceOf};
+ghost use Rattle.wc_headless.specs.Rows.{number_of, is_there, is_undrained, is_blocked, IsAscending, freed_link_row};
 
 use crate::row::Row;
 use wc_text::LinkId;
 
-/// Where the row of a link stands.
+/// Where the row of a link is.
 pub(crate) fn place_of(rows: &[Row], link: LinkId) -> Option<usize>
     requires { IsAscending (map number_of rows.now) }
     ensures { PlaceOf number_of link.0 rows.now result }
@@ -27,9 +27,9 @@ pub(crate) fn place_of(rows: &[Row], link: LinkId) -> Option<usize>
     None
 }
 
-/// Notes whether a link, which stands at this place, is reported and not drained.
+/// Notes whether a link, which is at this place, is reported and not drained.
 pub(crate) fn set_undrained(rows: &mut [Row], place: usize, link: LinkId, undrained: bool)
-    requires { IsPlace number_of link.0 rows.old place }
+    requires { IsKeyPlace number_of link.0 rows.old place }
     ensures undrained { (other : ℕ) → is_undrained rows.new other ≡ (if other == link.0 then undrained else is_undrained rows.old other) }
     ensures there { (other : ℕ) → is_there rows.new other ≡ is_there rows.old other }
     ensures blocked { (other : ℕ) → is_blocked rows.new other ≡ is_blocked rows.old other }
@@ -38,9 +38,9 @@ pub(crate) fn set_undrained(rows: &mut [Row], place: usize, link: LinkId, undrai
     rows[place].undrained = undrained;
 }
 
-/// Notes whether the last write to a link, which stands at this place, found no room.
+/// Notes whether the last write to a link, which is at this place, found no room.
 pub(crate) fn set_blocked(rows: &mut [Row], place: usize, link: LinkId, blocked: bool)
-    requires { IsPlace number_of link.0 rows.old place }
+    requires { IsKeyPlace number_of link.0 rows.old place }
     ensures blocked { (other : ℕ) → is_blocked rows.new other ≡ (if other == link.0 then blocked else is_blocked rows.old other) }
     ensures there { (other : ℕ) → is_there rows.new other ≡ is_there rows.old other }
     ensures undrained { (other : ℕ) → is_undrained rows.new other ≡ is_undrained rows.old other }
@@ -51,7 +51,7 @@ pub(crate) fn set_blocked(rows: &mut [Row], place: usize, link: LinkId, blocked:
 
 /// Notes that no link is blocked any more.
 pub(crate) fn free_all(rows: &mut [Row])
-    ensures { rows.new ≡ map freed rows.old }
+    ensures { rows.new ≡ map freed_link_row rows.old }
 {
     for row in rows.iter_mut() {
         row.blocked = false;

@@ -34,7 +34,7 @@ struct Peer {
     reported: u64,
 }
 
-/// The listener and the streams, which stand at the places of their rows.
+/// The listener and the streams, which are at the places of their rows.
 ///
 /// Readiness is edge-triggered: the system reports a stream once, and it is pending from then on
 /// until a read finds nothing more.

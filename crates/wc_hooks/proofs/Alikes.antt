@@ -9,7 +9,7 @@ use Rattle.wc_hooks.specs.declared.kind.HookKind.{HookKind}
 use Rattle.wc_hooks.specs.declared.slot.Slot.{Slot}
 use Rattle.wc_hooks.specs.Kinds.{same_kind}
 use Rattle.wc_hooks.specs.Ranks.{falls_by}
-use Rattle.wc_hooks.specs.Slots.{slot_rank, slot_entry, slot_filing, is_slot, is_live, is_slot_for, was_of, in_snapshot, window, ahead, first_topic, going, goings, one_topic, are_apart, Stands, AllStand, with_enabled, with_slot_switch, gone_from, with_leave, seen_opening, with_opening}
+use Rattle.wc_hooks.specs.Slots.{slot_rank, slot_entry, slot_filing, is_slot, is_live, is_slot_for, was_of, in_snapshot, window, ahead, first_topic, going_at, goings, one_topic, are_apart, CursorFits, AllCursorsFit, with_enabled, with_slot_switch, gone_from, with_leave, seen_opening, with_opening}
 use Rattle.wc_hooks.proofs.Lists.{filter_map, map_both, map_same, all_map, any_map, take_map, drop_map}
 use Rattle.wc_hooks.proofs.Puts.{falls_map}
 use Rattle.wc_hooks.proofs.Bits.{noted_then, opened_elsewhere}
@@ -78,7 +78,7 @@ module _ (k : ℕ) (f : Slot → Slot) (a : Alike k f) where
   pub window_alike : (c : Cursor) (slots : List Slot) → window c (map f slots) ≡ map f (window c slots)
   window_alike c slots = ap (take c.count) (drop_map f c.start slots) ∙ take_map f c.count (drop c.start slots)
 
-  going_alike : (q : ℕ) (c : Cursor) (slots : List Slot) → q < 32 → q ≢ k → going q c (map f slots) ≡ going q c slots
+  going_alike : (q : ℕ) (c : Cursor) (slots : List Slot) → q < 32 → q ≢ k → going_at q c (map f slots) ≡ going_at q c slots
   going_alike q c slots lt ne =
       let w = window_alike c slots in
       let left : map slot_entry (ahead q c (map f slots)) ≡ map slot_entry (ahead q c slots) =
@@ -91,7 +91,7 @@ module _ (k : ℕ) (f : Slot → Slot) (a : Alike k f) where
   goings_alike p slots (None ∷ cs) le free = ap (λ l. None ∷ l) (goings_alike (p + 1) slots cs (omega (arith, le)) free)
   goings_alike p slots (Some c ∷ cs) le free = (λ i. Some (going_alike p c slots (omega (arith, le)) free.0 i) ∷ goings_alike (p + 1) slots cs (omega (arith, le)) free.1 i)
 
-  stands_alike : (hooked : ℕ) (slots : List Slot) (c : Cursor) → Stands hooked slots c → Stands hooked (map f slots) c
+  stands_alike : (hooked : ℕ) (slots : List Slot) (c : Cursor) → CursorFits hooked slots c → CursorFits hooked (map f slots) c
   stands_alike hooked slots c s =
       let n = length-map slots f in let inside = s.inside in record {
         inside = omega (arith, n, inside);
@@ -101,7 +101,7 @@ module _ (k : ℕ) (f : Slot → Slot) (a : Alike k f) where
         topic = ap one_topic (window_alike c slots) ∙ one_alike (window c slots) ∙ s.topic;
       }
 
-  pub all_stand_alike : (hooked : ℕ) (slots : List Slot) (cs : List (Option Cursor)) → AllStand hooked slots cs → AllStand hooked (map f slots) cs
+  pub all_stand_alike : (hooked : ℕ) (slots : List Slot) (cs : List (Option Cursor)) → AllCursorsFit hooked slots cs → AllCursorsFit hooked (map f slots) cs
   all_stand_alike hooked slots [] s = tt
   all_stand_alike hooked slots (None ∷ cs) s = all_stand_alike hooked slots cs s
   all_stand_alike hooked slots (Some c ∷ cs) s = (stands_alike hooked slots c s.0, all_stand_alike hooked slots cs s.1)

@@ -9,11 +9,11 @@ use Rattle.wc_hooks.specs.declared.cursor.Cursor.{Cursor}
 use Rattle.wc_hooks.specs.declared.kind.HookKind.{HookKind}
 use Rattle.wc_hooks.specs.declared.slot.Slot.{Slot}
 use Rattle.wc_hooks.specs.Kinds.{is_relay}
-use Rattle.wc_hooks.specs.Slots.{going, goings}
+use Rattle.wc_hooks.specs.Slots.{going_at, goings}
 use Rattle.wc_hooks.specs.Table.{Going, is_place_for, any_open}
 use Rattle.wc_hooks.proofs.Lists.{by_bool, open_inside}
 
--- the passes are seen where cursors stand
+-- the passes are seen where cursors are
 pub length-goings : (p : ℕ) (xs : List Slot) (cs : List (Option Cursor)) → length (goings p xs cs) ≡ length cs
 length-goings p xs [] = refl
 length-goings p xs (None ∷ cs) = ap suc (length-goings (p + 1) xs cs)
@@ -46,22 +46,22 @@ none-goings p xs ys (Some c ∷ cs) h = absurd (true≢false h)
 
 abbrev pub going_of : ℕ → List Slot → Option Cursor → Option Going
 going_of p xs None = None
-going_of p xs (Some c) = Some (going p c xs)
+going_of p xs (Some c) = Some (going_at p c xs)
 
 pub goings-set : (p i : ℕ) (xs : List Slot) (cs : List (Option Cursor)) (o : Option Cursor) → goings p xs (set cs i o) ≡ set (goings p xs cs) i (going_of (p + i) xs o)
 goings-set p i xs [] o = refl
 goings-set p zero xs (None ∷ cs) None = refl
-goings-set p zero xs (None ∷ cs) (Some c) = let n : p ≡ p + 0 = omega arith in ap (λ q. Some (going q c xs) ∷ goings (p + 1) xs cs) n
+goings-set p zero xs (None ∷ cs) (Some c) = let n : p ≡ p + 0 = omega arith in ap (λ q. Some (going_at q c xs) ∷ goings (p + 1) xs cs) n
 goings-set p zero xs (Some d ∷ cs) None = refl
-goings-set p zero xs (Some d ∷ cs) (Some c) = let n : p ≡ p + 0 = omega arith in ap (λ q. Some (going q c xs) ∷ goings (p + 1) xs cs) n
+goings-set p zero xs (Some d ∷ cs) (Some c) = let n : p ≡ p + 0 = omega arith in ap (λ q. Some (going_at q c xs) ∷ goings (p + 1) xs cs) n
 goings-set p (suc i) xs (None ∷ cs) o = let n : p + 1 + i ≡ p + suc i = omega arith in ap (λ l. None ∷ l) (goings-set (p + 1) i xs cs o ∙ ap (λ q. set (goings (p + 1) xs cs) i (going_of q xs o)) n)
-goings-set p (suc i) xs (Some d ∷ cs) o = let n : p + 1 + i ≡ p + suc i = omega arith in ap (λ l. Some (going p d xs) ∷ l) (goings-set (p + 1) i xs cs o ∙ ap (λ q. set (goings (p + 1) xs cs) i (going_of q xs o)) n)
+goings-set p (suc i) xs (Some d ∷ cs) o = let n : p + 1 + i ≡ p + suc i = omega arith in ap (λ l. Some (going_at p d xs) ∷ l) (goings-set (p + 1) i xs cs o ∙ ap (λ q. set (goings (p + 1) xs cs) i (going_of q xs o)) n)
 
 pub goings-get : (p i : ℕ) (xs : List Slot) (cs : List (Option Cursor)) → get_or (goings p xs cs) i None ≡ going_of (p + i) xs (get_or cs i None)
 goings-get p zero xs [] = refl
 goings-get p (suc i) xs [] = refl
 goings-get p zero xs (None ∷ cs) = refl
-goings-get p zero xs (Some c ∷ cs) = let n : p ≡ p + 0 = omega arith in ap (λ q. Some (going q c xs)) n
+goings-get p zero xs (Some c ∷ cs) = let n : p ≡ p + 0 = omega arith in ap (λ q. Some (going_at q c xs)) n
 goings-get p (suc i) xs (None ∷ cs) = goings-get (p + 1) i xs cs ∙ (let n : p + 1 + i ≡ p + suc i = omega arith in ap (λ q. going_of q xs (get_or cs i None)) n)
 goings-get p (suc i) xs (Some d ∷ cs) = goings-get (p + 1) i xs cs ∙ (let n : p + 1 + i ≡ p + suc i = omega arith in ap (λ q. going_of q xs (get_or cs i None)) n)
 

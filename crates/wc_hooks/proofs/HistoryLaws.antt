@@ -7,9 +7,9 @@ use Rattle.std.proofs.lemmas.Bool.Decides.{nat_tests}
 use Rattle.std.proofs.lemmas.List.{get_or-set_same, get_or-set_other, map-append}
 use Rattle.std.proofs.lemmas.List.Elements.{filter-append}
 use Rattle.wc_hooks.specs.declared.entry.Entry.{Entry}
-use Rattle.wc_hooks.specs.Passes.{behind, may_run, left_behind, with_given}
+use Rattle.wc_hooks.specs.Passes.{following, may_run, entries_left, with_given}
 use Rattle.wc_hooks.specs.Table.{Table, Going, IsOpen, left_at, left_of, looked_at, over_at, next_of, with_pass, with_marks}
-use Rattle.wc_hooks.specs.History.{Act, hooks, unhooks, switches, opens, gives, ends, closes, after, after_all, leaves, front, turn, turns, gift, IsWalk}
+use Rattle.wc_hooks.specs.History.{TableCall, hooks, unhooks, switches, opens, gives, ends, closes, after, after_all, leaves, front, turn, turns, gift, IsWalk}
 use Rattle.wc_hooks.proofs.Lists.{by_bool, keeps_first, drops_first, open_inside}
 
 find_on : (p : Entry → Bool) (e : Entry) (es : List Entry) → p e ≡ false → find p (e ∷ es) ≡ find p es
@@ -18,11 +18,11 @@ find_on p e es f = rw f refl
 find_here : (p : Entry → Bool) (e : Entry) (es : List Entry) → p e ≡ true → find p (e ∷ es) ≡ Some e
 find_here p e es t = rw t refl
 
-behind_on : (p : Entry → Bool) (e : Entry) (es : List Entry) → p e ≡ false → behind p (e ∷ es) ≡ behind p es
-behind_on p e es f = rw f refl
+after_on : (p : Entry → Bool) (e : Entry) (es : List Entry) → p e ≡ false → following p (e ∷ es) ≡ following p es
+after_on p e es f = rw f refl
 
-behind_here : (p : Entry → Bool) (e : Entry) (es : List Entry) → p e ≡ true → behind p (e ∷ es) ≡ es
-behind_here p e es t = rw t refl
+after_here : (p : Entry → Bool) (e : Entry) (es : List Entry) → p e ≡ true → following p (e ∷ es) ≡ es
+after_here p e es t = rw t refl
 
 front_here : (p : Entry → Bool) (e : Entry) (es : List Entry) → p e ≡ true → front p (e ∷ es) ≡ e ∷ []
 front_here p e es t = rw t refl
@@ -37,11 +37,11 @@ names : (p : Entry → Bool) (es : List Entry) → map (λ seen. seen.0) (flagge
 names p [] = refl
 names p (e ∷ es) = ap (λ l. e ∷ l) (names p es)
 
-front-behind : (p : Entry → Bool) (es : List Entry) → front p es ++ behind p es ≡ es
-front-behind p [] = refl
-front-behind p (e ∷ es) = by_bool (p e)
-    (λ t. (λ i. front_here p e es t i ++ behind_here p e es t i))
-    (λ t. (λ i. front_on p e es t i ++ behind_on p e es t i) ∙ ap (λ l. e ∷ l) (front-behind p es))
+front-following : (p : Entry → Bool) (es : List Entry) → front p es ++ following p es ≡ es
+front-following p [] = refl
+front-following p (e ∷ es) = by_bool (p e)
+    (λ t. (λ i. front_here p e es t i ++ after_here p e es t i))
+    (λ t. (λ i. front_on p e es t i ++ after_on p e es t i) ∙ ap (λ l. e ∷ l) (front-following p es))
 
 abbrev passing : (p : Entry → Bool) (es : List Entry) → List Entry
 passing p es = map (λ seen. seen.0) (filter (λ seen. seen.1) (flagged p es))
@@ -79,15 +79,15 @@ gift_here t other place steps same = rw same refl
 gift_elsewhere : (t : Table) (other place steps : ℕ) → (other == place) ≡ false → gift place (gives other steps) t ≡ []
 gift_elsewhere t other place steps differ = rw differ refl
 
-left_after : (t : Table) (other place steps : ℕ) → other ≡ place → place < length t.passes → left_at (after (gives other steps) t) place ≡ left_behind t.rows t.marks (left_at t place)
+left_after : (t : Table) (other place steps : ℕ) → other ≡ place → place < length t.passes → left_at (after (gives other steps) t) place ≡ entries_left t.rows t.marks (left_at t place)
 left_after t other place steps same inside =
     ap (λ o. left_at (after (gives o steps) t) place) same
-    ∙ left_put (with_marks (with_given (next_of t place) t.marks) t) place (record { left = left_behind t.rows t.marks (left_at t place); looked = looked_at t place + steps; over = over_at t place }) inside
+    ∙ left_put (with_marks (with_given (next_of t place) t.marks) t) place (record { left = entries_left t.rows t.marks (left_at t place); looked = looked_at t place + steps; over = over_at t place }) inside
 
 other_place : (other place : ℕ) → not (other == place) ≡ true → (other == place) ≡ false
 other_place other place quiet = by_bool (other == place) (λ same. absurd (false≢true (sym (ap not same) ∙ quiet))) (λ differ. differ)
 
-turn_order : (act : Act) (t : Table) (place : ℕ) → place < length t.passes → leaves place act ≡ true → map (λ seen. seen.0) (turn place act t) ++ left_at (after act t) place ≡ left_at t place
+turn_order : (act : TableCall) (t : Table) (place : ℕ) → place < length t.passes → leaves place act ≡ true → map (λ seen. seen.0) (turn place act t) ++ left_at (after act t) place ≡ left_at t place
 turn_order (hooks row) t place inside quiet = refl
 turn_order (unhooks id) t place inside quiet = refl
 turn_order (switches id on) t place inside quiet = refl
@@ -97,14 +97,14 @@ turn_order (gives other steps) t place inside quiet =
     by_bool (other == place)
     (λ here. let same : other ≡ place = grind (arith, nat_tests) in
     (λ i. map (λ seen. seen.0) (turn_here t other place steps here i) ++ left_after t other place steps same inside i)
-    ∙ ap (λ l. l ++ left_behind t.rows t.marks (left_at t place)) (names p (front p (left_at t place)))
-    ∙ front-behind p (left_at t place))
+    ∙ ap (λ l. l ++ entries_left t.rows t.marks (left_at t place)) (names p (front p (left_at t place)))
+    ∙ front-following p (left_at t place))
     (λ differ. ap (λ l. map (λ seen. seen.0) l ++ left_at (after (gives other steps) t) place) (turn_elsewhere t other place steps differ)
     ∙ left_elsewhere (with_marks (with_given (next_of t other) t.marks) t) other place _ differ)
 turn_order (ends id) t place inside quiet = refl
 turn_order (closes other) t place inside quiet = left_elsewhere t other place None (other_place other place quiet)
 
-turn_given : (act : Act) (t : Table) (place : ℕ) → map (λ seen. seen.0) (filter (λ seen. seen.1) (turn place act t)) ≡ gift place act t
+turn_given : (act : TableCall) (t : Table) (place : ℕ) → map (λ seen. seen.0) (filter (λ seen. seen.1) (turn place act t)) ≡ gift place act t
 turn_given (hooks row) t place = refl
 turn_given (unhooks id) t place = refl
 turn_given (switches id on) t place = refl
@@ -116,7 +116,7 @@ turn_given (gives other steps) t place =
 turn_given (ends id) t place = refl
 turn_given (closes other) t place = refl
 
-pub places_after : (act : Act) (t : Table) → length (after act t).passes ≡ length t.passes
+pub places_after : (act : TableCall) (t : Table) → length (after act t).passes ≡ length t.passes
 places_after (hooks row) t = refl
 places_after (unhooks id) t = refl
 places_after (switches id on) t = refl
@@ -125,7 +125,7 @@ places_after (gives other steps) t = length-set t.passes other _
 places_after (ends id) t = refl
 places_after (closes other) t = length-set t.passes other _
 
-walk : (acts : List Act) (t : Table) (place : ℕ) → place < length t.passes → list_all (leaves place) acts ≡ true → IsWalk place acts t
+walk : (acts : List TableCall) (t : Table) (place : ℕ) → place < length t.passes → list_all (leaves place) acts ≡ true → IsWalk place acts t
 walk [] t place inside quiet = record { order = refl; given = refl }
 walk (act ∷ acts) t place inside quiet =
     let parts = and_parts (leaves place act) (list_all (leaves place) acts) quiet in
@@ -141,5 +141,5 @@ walk (act ∷ acts) t place inside quiet =
           ∙ (λ i. turn_given act t place i ++ rest.given i);
     }
 
-pub walks : (t : Table) (place : ℕ) (acts : List Act) → IsOpen t place → list_all (leaves place) acts ≡ true → IsWalk place acts t
+pub walks : (t : Table) (place : ℕ) (acts : List TableCall) → IsOpen t place → list_all (leaves place) acts ≡ true → IsWalk place acts t
 walks t place acts held quiet = walk acts t place (open_inside t.passes place held) quiet

@@ -182,7 +182,7 @@ pub map_none : {A : Type 0} (p : A → Bool) (f : A → A) → ((x : A) → p x 
 map_none p f same [] h = refl
 map_none p f same (x ∷ xs) h = let parts = and_parts (not (p x)) (list_all (λ x. not (p x)) xs) h in (λ i. same x (not_true (p x) parts.0) i ∷ map_none p f same xs parts.1 i)
 
--- a place where something stands is one of the places
+-- a place where something is is one of the places
 pub open_inside : {A : Type 0} (xs : List (Option A)) (place : ℕ) → is_some (get_or xs place None) ≡ true → place < length xs
 open_inside [] zero h = absurd (false≢true h)
 open_inside [] (suc place) h = absurd (false≢true h)

@@ -9,7 +9,7 @@ use Rattle.wc_hooks.specs.declared.kind.HookKind.{HookKind}
 use Rattle.wc_hooks.specs.declared.slot.Slot.{Slot}
 use Rattle.wc_hooks.specs.Kinds.{is_relay}
 use Rattle.wc_hooks.specs.Ranks.{put_by, falls_by}
-use Rattle.wc_hooks.specs.Rows.{HookRow, rank_of, is_id, put_in, without, with_switch, switched, lives, relays, others}
+use Rattle.wc_hooks.specs.Rows.{HookRow, rank_of, is_id, put_in, without, with_switch, rows_switched, lives, relays, others}
 use Rattle.wc_hooks.specs.Filings.{filing_of, filing_rank, with_filing, without_filing}
 use Rattle.wc_hooks.specs.Slots.{slot_rank, slot_filing, row_of, is_slot, is_live, is_slot_for, live_rows, live_relays, live_others, with_enabled, with_slot_switch, gone_from, with_leave, left_slots, seen_opening, with_opening}
 use Rattle.wc_hooks.proofs.Lists.{by_bool, keeps_first, drops_first, filter_map, map_both, map_same, filter_comm, filter_all, filter_filter, all_kept}
@@ -37,15 +37,15 @@ live_still id on x = by_bool (is_slot id x && is_live x)
     (λ s. ap (λ b. is_live (if b then with_enabled on x else x)) s)
     (λ s. ap (λ b. is_live (if b then with_enabled on x else x)) s)
 
-pub live_switched : (id : HookId) (on : Bool) (xs : List Slot) → live_rows (map (with_slot_switch id on) xs) ≡ switched id on (live_rows xs)
+pub live_switched : (id : HookId) (on : Bool) (xs : List Slot) → live_rows (map (with_slot_switch id on) xs) ≡ rows_switched id on (live_rows xs)
 live_switched id on [] = refl
 live_switched id on (x ∷ xs) = by_bool (is_live x)
     (λ t. live_first (with_slot_switch id on x) (map (with_slot_switch id on) xs) (live_still id on x ∙ t)
     ∙ (λ i. row_switched id on x t i ∷ live_switched id on xs i)
-    ∙ ap (switched id on) (sym (live_first x xs t)))
+    ∙ ap (rows_switched id on) (sym (live_first x xs t)))
     (λ t. gone_first (with_slot_switch id on x) (map (with_slot_switch id on) xs) (live_still id on x ∙ t)
     ∙ live_switched id on xs
-    ∙ ap (switched id on) (sym (gone_first x xs t)))
+    ∙ ap (rows_switched id on) (sym (gone_first x xs t)))
 
 cut_first : (id : HookId) (row : HookRow) (rows : List HookRow) → is_id id row ≡ true → without id (row ∷ rows) ≡ without id rows
 cut_first id row rows t = drops_first (λ r. not (is_id id r)) row rows (ap not t)

@@ -10,11 +10,11 @@ use Rattle.wc_hooks.specs.declared.entry.Owner.{Owner}
 use Rattle.wc_hooks.specs.declared.entry.Owner.TheVariants.{Session, Trigger}
 use Rattle.wc_hooks.specs.Kinds.{same_owner}
 use Rattle.wc_hooks.specs.Ranks.{precedes}
-use Rattle.wc_hooks.specs.Rows.{HookRow, rank_of, is_id, put_in, without, with_switch, switched, lives}
-use Rattle.wc_hooks.specs.Passes.{runs, with_given, unmarked}
+use Rattle.wc_hooks.specs.Rows.{HookRow, rank_of, is_id, put_in, without, with_switch, rows_switched, lives}
+use Rattle.wc_hooks.specs.Passes.{runs, with_given, without_mark}
 use Rattle.wc_hooks.specs.Inside.{is_marked_in, owners_differ, IsMarked}
 use Rattle.wc_hooks.proofs.Lists.{by_bool, not_true, keeps_first, drops_first, any_first, any_rest, any_more, any_weaker, any_map, all_filter, all_weaker}
-use Rattle.wc_hooks.proofs.Puts.{put_before, put_behind}
+use Rattle.wc_hooks.proofs.Puts.{put_before, put_after}
 
 owner_true : (a b : Owner) → same_owner a b ≡ true → a ≡ b
 owner_true (Session a) (Session b) e = let k : a.0 ≡ b.0 = eqb-true a.0 b.0 e in λ i. Session (record { 0 = k i })
@@ -82,7 +82,7 @@ any_put : (p : HookRow → Bool) (a : HookRow) (rows : List HookRow) → list_an
 any_put p a [] h = absurd (false≢true h)
 any_put p a (row ∷ rows) h = by_bool (precedes (rank_of a) (rank_of row))
     (λ t. ap (list_any p) (put_before rank_of a row rows t) ∙ any_more p a (row ∷ rows) h)
-    (λ t. ap (list_any p) (put_behind rank_of a row rows t) ∙ by_bool (p row)
+    (λ t. ap (list_any p) (put_after rank_of a row rows t) ∙ by_bool (p row)
     (λ u. any_first p row (put_in a rows) u)
     (λ u. any_more p row (put_in a rows) (any_put p a rows (sym (any_rest p row rows u) ∙ h))))
 
@@ -92,9 +92,9 @@ marked_put a rows marks m = record { live = all_weaker (is_marked_in rows) (is_m
 switched_marks : (id : HookId) (on : Bool) (mark : Entry) (row : HookRow) → (is_id mark.id (with_switch id on row) && same_owner (with_switch id on row).owner mark.owner) ≡ (is_id mark.id row && same_owner row.owner mark.owner)
 switched_marks id on mark row = by_bool (is_id id row) (λ t. rw t refl) (λ t. rw t refl)
 
-pub marked_switched : (id : HookId) (on : Bool) (rows : List HookRow) (marks : List Entry) → IsMarked rows marks → IsMarked (switched id on rows) marks
+pub marked_switched : (id : HookId) (on : Bool) (rows : List HookRow) (marks : List Entry) → IsMarked rows marks → IsMarked (rows_switched id on rows) marks
 marked_switched id on rows marks m = record {
-  live = all_weaker (is_marked_in rows) (is_marked_in (switched id on rows)) (λ mark h. any_map (λ row. is_id mark.id row && same_owner row.owner mark.owner) (λ row. is_id mark.id row && same_owner row.owner mark.owner) (with_switch id on) (switched_marks id on mark) rows ∙ h) marks m.live;
+  live = all_weaker (is_marked_in rows) (is_marked_in (rows_switched id on rows)) (λ mark h. any_map (λ row. is_id mark.id row && same_owner row.owner mark.owner) (λ row. is_id mark.id row && same_owner row.owner mark.owner) (with_switch id on) (switched_marks id on mark) rows ∙ h) marks m.live;
   apart = m.apart;
 }
 
@@ -114,7 +114,7 @@ differ_filter q (mark ∷ marks) h =
     (λ u. ap owners_differ (keeps_first q mark marks u) ∙ and_from _ _ (ap not (any_filter (λ m. same_owner m.owner mark.owner) q marks (not_true _ parts.0))) (differ_filter q marks parts.1))
     (λ u. ap owners_differ (drops_first q mark marks u) ∙ differ_filter q marks parts.1)
 
-pub marked_ended : (id : HookId) (rows : List HookRow) (marks : List Entry) → IsMarked rows marks → IsMarked rows (unmarked id marks)
+pub marked_ended : (id : HookId) (rows : List HookRow) (marks : List Entry) → IsMarked rows marks → IsMarked rows (without_mark id marks)
 marked_ended id rows marks m = record { live = all_filter (is_marked_in rows) (λ mark. not (mark.id.0 == id.0)) marks m.live; apart = differ_filter (λ mark. not (mark.id.0 == id.0)) marks m.apart }
 
 -- the entry of another number lives on
@@ -129,7 +129,7 @@ lives_on id mark (row ∷ rows) differ h =
     (λ u. ap (list_any p) (drops_first (λ r. not (is_id id r)) row rows (ap not u)) ∙ ih)
     (λ u. ap (list_any p) (keeps_first (λ r. not (is_id id r)) row rows (ap not u)) ∙ any_more p row (without id rows) ih))
 
-all_live_on : (id : HookId) (rows : List HookRow) (marks : List Entry) → list_all (is_marked_in rows) marks ≡ true → list_all (is_marked_in (without id rows)) (unmarked id marks) ≡ true
+all_live_on : (id : HookId) (rows : List HookRow) (marks : List Entry) → list_all (is_marked_in rows) marks ≡ true → list_all (is_marked_in (without id rows)) (without_mark id marks) ≡ true
 all_live_on id rows [] h = refl
 all_live_on id rows (mark ∷ marks) h =
     let parts = and_parts (is_marked_in rows mark) (list_all (is_marked_in rows) marks) h in
@@ -137,7 +137,7 @@ all_live_on id rows (mark ∷ marks) h =
     (λ t. ap (list_all (is_marked_in (without id rows))) (drops_first (λ m. not (m.id.0 == id.0)) mark marks (ap not t)) ∙ all_live_on id rows marks parts.1)
     (λ t. ap (list_all (is_marked_in (without id rows))) (keeps_first (λ m. not (m.id.0 == id.0)) mark marks (ap not t)) ∙ and_from _ _ (lives_on id mark rows t parts.0) (all_live_on id rows marks parts.1))
 
-pub marked_left : (id : HookId) (rows : List HookRow) (marks : List Entry) → IsMarked rows marks → IsMarked (without id rows) (unmarked id marks)
+pub marked_left : (id : HookId) (rows : List HookRow) (marks : List Entry) → IsMarked rows marks → IsMarked (without id rows) (without_mark id marks)
 marked_left id rows marks m = record { live = all_live_on id rows marks m.live; apart = differ_filter (λ mark. not (mark.id.0 == id.0)) marks m.apart }
 
 -- one more
@@ -173,7 +173,7 @@ pub marks_live : (rows : List HookRow) (marks : List Entry) → IsMarked rows ma
 marks_live rows marks m = all_weaker (is_marked_in rows) (λ mark. lives mark.id rows) (λ mark h. any_weaker (λ row. is_id mark.id row && same_owner row.owner mark.owner) (is_id mark.id) (λ row t. (and_parts (is_id mark.id row) (same_owner row.owner mark.owner) t).0) rows h) marks m.live
 
 -- where the entry does not live, no mark names it
-pub unmarks_none : (id : HookId) (rows : List HookRow) (marks : List Entry) → lives id rows ≡ false → list_all (λ mark. lives mark.id rows) marks ≡ true → unmarked id marks ≡ marks
+pub unmarks_none : (id : HookId) (rows : List HookRow) (marks : List Entry) → lives id rows ≡ false → list_all (λ mark. lives mark.id rows) marks ≡ true → without_mark id marks ≡ marks
 unmarks_none id rows [] none h = refl
 unmarks_none id rows (mark ∷ marks) none h =
     let parts = and_parts (lives mark.id rows) (list_all (λ m. lives m.id rows) marks) h in

@@ -1,4 +1,4 @@
--- A pass that opens: where its slots stand, and what it takes of them.
+-- A pass that opens: where its slots are, and what it takes of them.
 use Rattle.std.proofs.Common.{◌≡◌, ℕ, zero, suc, ◌+◌, ◌-◌, ◌<◌, ◌≤◌, Bool, true, false, not, Some, None, List, [], ◌∷◌, ◌++◌, length, map, take, drop, get_or, arith, refl, sym, ap, ◌∙◌, length-drop}
 use Rattle.std.specs.Prelude.{filter, ◌&&◌, ◌||◌, ◌==◌, nat_le, if◌then◌else◌}
 use Rattle.std.specs.List.{list_all}
@@ -12,7 +12,7 @@ use Rattle.wc_hooks.specs.declared.entry.Entry.{Entry}
 use Rattle.wc_hooks.specs.declared.kind.HookKind.{HookKind}
 use Rattle.wc_hooks.specs.declared.slot.Slot.{Slot}
 use Rattle.wc_hooks.specs.Ranks.{topic_order, precedes, falls_by}
-use Rattle.wc_hooks.specs.Rows.{entry_of, is_for, filed}
+use Rattle.wc_hooks.specs.Rows.{entry_of, is_for, rows_filed}
 use Rattle.wc_hooks.specs.Filings.{filed_under}
 use Rattle.wc_hooks.specs.Passes.{hooks_on}
 use Rattle.wc_hooks.specs.Table.{topic_in}
@@ -22,7 +22,7 @@ use Rattle.wc_hooks.proofs.Orders.{is_topic, topic_rank, topics_total, lower_fir
 use Rattle.wc_hooks.proofs.Puts.{falls_drop}
 use Rattle.wc_hooks.proofs.Bits.{opened_here}
 
--- a test that no slot passes behind one that fails it
+-- a test that no slot passes after one that fails it
 partitioned : (p : Slot → Bool) → ((x y : Slot) → precedes (slot_rank y) (slot_rank x) ≡ false → p y ≡ true → p x ≡ true) → (xs : List Slot) → falls_by slot_rank xs ≡ true → IsPartitionedBy p xs
 partitioned p down [] h i j d le lt t = absurd (omega arith)
 partitioned p down (x ∷ xs) h zero zero d le lt t = t
@@ -52,7 +52,7 @@ all_less : (p q : Slot → Bool) → ((s : Slot) → p s ≡ true → q s ≡ tr
 all_less p q more [] h = refl
 all_less p q more (x ∷ xs) h = let parts = and_parts (p x) (list_all p xs) h in and_from _ _ (more x parts.0) (all_less p q more xs parts.1)
 
--- of those that do not stand before the kind and key, its slots come first
+-- of those that do not are before the kind and key, its slots come first
 here_partition : (kind : HookKind) (key : List ℕ) (xs : List Slot) → falls_by slot_rank xs ≡ true → list_all (λ s. not (is_first kind key s)) xs ≡ true → IsPartitionedBy (is_slot_for kind key) xs
 here_partition kind key [] h low i j d le lt t = absurd (omega arith)
 here_partition kind key (x ∷ xs) h low zero zero d le lt t = t
@@ -97,9 +97,9 @@ cut_in_two zero xs = refl
 cut_in_two (suc n) [] = refl
 cut_in_two (suc n) (x ∷ xs) = ap (λ l. x ∷ l) (cut_in_two n xs)
 
-none_behind : (xs : List Slot) → xs ++ [] ≡ xs
-none_behind [] = refl
-none_behind (x ∷ xs) = ap (λ l. x ∷ l) (none_behind xs)
+none_after : (xs : List Slot) → xs ++ [] ≡ xs
+none_after [] = refl
+none_after (x ∷ xs) = ap (λ l. x ∷ l) (none_after xs)
 
 pub range_is : (kind : HookKind) (key : List ℕ) (xs : List Slot) (start count : ℕ) → IsRange kind key xs start count → filter (is_slot_for kind key) xs ≡ take count (drop start xs)
 range_is kind key xs start count r =
@@ -108,7 +108,7 @@ range_is kind key xs start count r =
     ap (filter p) (sym (cut_in_two count (drop start xs)))
     ∙ filter-append p (take count (drop start xs)) (drop count (drop start xs))
     ∙ (λ i. filter_all p (take count (drop start xs)) r.here i ++ (ap (filter p) (drop_more start count xs) ∙ filter_none p (drop (start + count) xs) r.rest) i)
-    ∙ none_behind (take count (drop start xs)) in
+    ∙ none_after (take count (drop start xs)) in
     ap (filter p) (sym (cut_in_two start xs))
     ∙ filter-append p (take start xs) (drop start xs)
     ∙ (λ i. filter_none p (take start xs) r.front i ++ rest i)
@@ -148,14 +148,14 @@ rows_disabled : (kind : HookKind) (key : List ℕ) (x : Slot) (xs : List Slot) �
 rows_disabled kind key x xs t e = by_bool (is_live x)
     (λ l. ap (λ ys. hooks_on kind key (map row_of ys)) (keeps_first is_live x xs l)
     ∙ ap (λ rows. map entry_of (filter (λ row. row.enabled) rows)) (keeps_first (is_for kind key) (row_of x) (live_rows xs) t)
-    ∙ ap (map entry_of) (drops_first (λ row. row.enabled) (row_of x) (filed kind key (live_rows xs)) e))
+    ∙ ap (map entry_of) (drops_first (λ row. row.enabled) (row_of x) (rows_filed kind key (live_rows xs)) e))
     (λ l. ap (λ ys. hooks_on kind key (map row_of ys)) (drops_first is_live x xs l))
 
 rows_enabled : (kind : HookKind) (key : List ℕ) (x : Slot) (xs : List Slot) → is_slot_for kind key x ≡ true → is_live x ≡ true → x.enabled ≡ true → rows_on kind key (x ∷ xs) ≡ slot_entry x ∷ rows_on kind key xs
 rows_enabled kind key x xs t l e =
     ap (λ ys. hooks_on kind key (map row_of ys)) (keeps_first is_live x xs l)
     ∙ ap (λ rows. map entry_of (filter (λ row. row.enabled) rows)) (keeps_first (is_for kind key) (row_of x) (live_rows xs) t)
-    ∙ ap (map entry_of) (keeps_first (λ row. row.enabled) (row_of x) (filed kind key (live_rows xs)) e)
+    ∙ ap (map entry_of) (keeps_first (λ row. row.enabled) (row_of x) (rows_filed kind key (live_rows xs)) e)
 
 pub takes_enabled : (k hooked : ℕ) (kind : HookKind) (key : List ℕ) (xs : List Slot) → k < 32 → list_all (is_known hooked) xs ≡ true → map slot_entry (filter (in_snapshot k hooked) (map (with_opening k kind key) (filter (is_slot_for kind key) xs))) ≡ hooks_on kind key (live_rows xs)
 takes_enabled k hooked kind key [] le known = refl

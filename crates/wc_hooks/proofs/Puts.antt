@@ -14,20 +14,20 @@ use Rattle.wc_hooks.proofs.Orders.{ranks_total, not_after, higher_last, not_both
 pub put_before : {A : Type 0} (rank : A → Rank) (a x : A) (xs : List A) → precedes (rank a) (rank x) ≡ true → put_by rank a (x ∷ xs) ≡ a ∷ (x ∷ xs)
 put_before rank a x xs t = rw t refl
 
-pub put_behind : {A : Type 0} (rank : A → Rank) (a x : A) (xs : List A) → precedes (rank a) (rank x) ≡ false → put_by rank a (x ∷ xs) ≡ x ∷ put_by rank a xs
-put_behind rank a x xs t = rw t refl
+pub put_after : {A : Type 0} (rank : A → Rank) (a x : A) (xs : List A) → precedes (rank a) (rank x) ≡ false → put_by rank a (x ∷ xs) ≡ x ∷ put_by rank a xs
+put_after rank a x xs t = rw t refl
 
 pub length-put : {A : Type 0} (rank : A → Rank) (a : A) (xs : List A) → length (put_by rank a xs) ≡ suc (length xs)
 length-put rank a [] = refl
 length-put rank a (x ∷ xs) = by_bool (precedes (rank a) (rank x))
     (λ t. ap length (put_before rank a x xs t))
-    (λ t. ap length (put_behind rank a x xs t) ∙ ap suc (length-put rank a xs))
+    (λ t. ap length (put_after rank a x xs t) ∙ ap suc (length-put rank a xs))
 
 pub all_put : {A : Type 0} (rank : A → Rank) (q : A → Bool) (a : A) (xs : List A) → q a ≡ true → list_all q xs ≡ true → list_all q (put_by rank a xs) ≡ true
 all_put rank q a [] t h = and_from _ _ t refl
 all_put rank q a (x ∷ xs) t h = let parts = and_parts (q x) (list_all q xs) h in by_bool (precedes (rank a) (rank x))
     (λ lt. ap (list_all q) (put_before rank a x xs lt) ∙ and_from _ _ t h)
-    (λ ge. ap (list_all q) (put_behind rank a x xs ge) ∙ and_from _ _ parts.0 (all_put rank q a xs t parts.1))
+    (λ ge. ap (list_all q) (put_after rank a x xs ge) ∙ and_from _ _ parts.0 (all_put rank q a xs t parts.1))
 
 -- what precedes one precedes all that do not precede that one
 before_all : {A : Type 0} (rank : A → Rank) (a x y : A) → precedes (rank a) (rank x) ≡ true → not (precedes (rank y) (rank x)) ≡ true → precedes (rank a) (rank y) ≡ true
@@ -47,16 +47,16 @@ filter_kept rank p a (x ∷ xs) k h =
     (λ c. ap (λ l. a ∷ l) (keeps_first p x xs c) ∙ sym (put_before rank a x (filter p xs) lt) ∙ ap (put_by rank a) (sym (keeps_first p x xs c)))
     (λ c. ap (λ l. a ∷ l) (drops_first p x xs c) ∙ sym (put_first rank a x (filter p xs) lt low) ∙ ap (put_by rank a) (sym (drops_first p x xs c))))
     (λ ge. by_bool (p x)
-    (λ c. ap (filter p) (put_behind rank a x xs ge) ∙ keeps_first p x (put_by rank a xs) c ∙ ap (λ l. x ∷ l) (filter_kept rank p a xs k parts.1) ∙ sym (put_behind rank a x (filter p xs) ge) ∙ ap (put_by rank a) (sym (keeps_first p x xs c)))
-    (λ c. ap (filter p) (put_behind rank a x xs ge) ∙ drops_first p x (put_by rank a xs) c ∙ filter_kept rank p a xs k parts.1 ∙ ap (put_by rank a) (sym (drops_first p x xs c))))
+    (λ c. ap (filter p) (put_after rank a x xs ge) ∙ keeps_first p x (put_by rank a xs) c ∙ ap (λ l. x ∷ l) (filter_kept rank p a xs k parts.1) ∙ sym (put_after rank a x (filter p xs) ge) ∙ ap (put_by rank a) (sym (keeps_first p x xs c)))
+    (λ c. ap (filter p) (put_after rank a x xs ge) ∙ drops_first p x (put_by rank a xs) c ∙ filter_kept rank p a xs k parts.1 ∙ ap (put_by rank a) (sym (drops_first p x xs c))))
 
 pub filter_dropped : {A : Type 0} (rank : A → Rank) (p : A → Bool) (a : A) (xs : List A) → p a ≡ false → filter p (put_by rank a xs) ≡ filter p xs
 filter_dropped rank p a [] k = rw k refl
 filter_dropped rank p a (x ∷ xs) k = by_bool (precedes (rank a) (rank x))
     (λ lt. ap (filter p) (put_before rank a x xs lt) ∙ drops_first p a (x ∷ xs) k)
     (λ ge. by_bool (p x)
-    (λ c. ap (filter p) (put_behind rank a x xs ge) ∙ keeps_first p x (put_by rank a xs) c ∙ ap (λ l. x ∷ l) (filter_dropped rank p a xs k) ∙ sym (keeps_first p x xs c))
-    (λ c. ap (filter p) (put_behind rank a x xs ge) ∙ drops_first p x (put_by rank a xs) c ∙ filter_dropped rank p a xs k ∙ sym (drops_first p x xs c)))
+    (λ c. ap (filter p) (put_after rank a x xs ge) ∙ keeps_first p x (put_by rank a xs) c ∙ ap (λ l. x ∷ l) (filter_dropped rank p a xs k) ∙ sym (keeps_first p x xs c))
+    (λ c. ap (filter p) (put_after rank a x xs ge) ∙ drops_first p x (put_by rank a xs) c ∙ filter_dropped rank p a xs k ∙ sym (drops_first p x xs c)))
 
 -- among those that pass a test, one goes where it goes among all
 pub filter-put : {A : Type 0} (rank : A → Rank) (p : A → Bool) (a : A) (xs : List A) → falls_by rank xs ≡ true → filter p (put_by rank a xs) ≡ (if p a then put_by rank a (filter p xs) else filter p xs)
@@ -76,7 +76,7 @@ falls_put rank a (x ∷ xs) h =
     (λ lt. ap (falls_by rank) (put_before rank a x xs lt)
     ∙ and_from _ _ (and_from _ _ (ap not (not_both ranks_total (rank a) (rank x) lt))
     (all_weaker (λ y. not (precedes (rank y) (rank x))) (λ y. not (precedes (rank y) (rank a))) (λ y k. ap not (not_both ranks_total (rank a) (rank y) (before_all rank a x y lt k))) xs parts.0)) h)
-    (λ ge. ap (falls_by rank) (put_behind rank a x xs ge)
+    (λ ge. ap (falls_by rank) (put_after rank a x xs ge)
     ∙ and_from _ _ (all_put rank (λ y. not (precedes (rank y) (rank x))) a xs (ap not ge) parts.0) (falls_put rank a xs parts.1))
 
 pub falls_filter : {A : Type 0} (rank : A → Rank) (p : A → Bool) (xs : List A) → falls_by rank xs ≡ true → falls_by rank (filter p xs) ≡ true
@@ -107,14 +107,14 @@ put_map rank rank_b f same a (x ∷ xs) =
     let e : precedes (rank_b (f a)) (rank_b (f x)) ≡ precedes (rank a) (rank x) = (λ i. precedes (same a i) (same x i)) in
     by_bool (precedes (rank a) (rank x))
     (λ t. ap (map f) (put_before rank a x xs t) ∙ sym (put_before rank_b (f a) (f x) (map f xs) (e ∙ t)))
-    (λ t. ap (map f) (put_behind rank a x xs t) ∙ ap (λ l. f x ∷ l) (put_map rank rank_b f same a xs) ∙ sym (put_behind rank_b (f a) (f x) (map f xs) (e ∙ t)))
+    (λ t. ap (map f) (put_after rank a x xs t) ∙ ap (λ l. f x ∷ l) (put_map rank rank_b f same a xs) ∙ sym (put_after rank_b (f a) (f x) (map f xs) (e ∙ t)))
 
 -- the search for a slot's place went past those that it does not precede
 pub put_front : (a : Slot) (xs : List Slot) (i : ℕ) (x : Slot) → i < length xs → x ≡ get_or xs i x → precedes (slot_rank a) (slot_rank x) ≡ false → put_by slot_rank a xs ≡ take i xs ++ put_by slot_rank a (drop i xs) → put_by slot_rank a xs ≡ take (i + 1) xs ++ put_by slot_rank a (drop (i + 1) xs)
 put_front a xs i x lt is t e =
     let rest = drop (suc i) xs in
     let c : drop i xs ≡ x ∷ rest = drop-cons xs i x lt ∙ ap (λ y. y ∷ rest) (sym is) in
-    let s : put_by slot_rank a (drop i xs) ≡ x ∷ put_by slot_rank a rest = ap (put_by slot_rank a) c ∙ put_behind slot_rank a x rest t in
+    let s : put_by slot_rank a (drop i xs) ≡ x ∷ put_by slot_rank a rest = ap (put_by slot_rank a) c ∙ put_after slot_rank a x rest t in
     let n : suc i ≡ i + 1 = omega arith in
     let m : take (i + 1) xs ≡ take i xs ++ x ∷ [] = take_more xs i x lt ∙ ap (λ y. take i xs ++ y ∷ []) (sym is) in
     e ∙ ap (λ l. take i xs ++ l) s ∙ sym (append_assoc (take i xs) (x ∷ []) (put_by slot_rank a rest)) ∙ (λ j. sym m j ++ put_by slot_rank a (drop (n j) xs))

@@ -11,14 +11,14 @@ use Rattle.wc_hooks.specs.declared.kind.HookKind.{HookKind}
 use Rattle.wc_hooks.specs.declared.slot.Slot.{Slot}
 use Rattle.wc_hooks.specs.Kinds.{is_relay}
 use Rattle.wc_hooks.specs.Ranks.{precedes, put_by, falls_by}
-use Rattle.wc_hooks.specs.Rows.{HookRow, rank_of, put_in, without, switched, falls, relays, others}
+use Rattle.wc_hooks.specs.Rows.{HookRow, rank_of, put_in, without, rows_switched, falls, relays, others}
 use Rattle.wc_hooks.specs.Filings.{without_filing, filing_of}
-use Rattle.wc_hooks.specs.Passes.{unmarked, hooks_on}
+use Rattle.wc_hooks.specs.Passes.{without_mark, hooks_on}
 use Rattle.wc_hooks.specs.Table.{with_row, with_rows, without_row, with_pass, without_pass, opening, any_open}
-use Rattle.wc_hooks.specs.Slots.{slot_rank, slot_filing, slot_entry, row_of, is_slot, is_live, is_slot_for, live_rows, in_snapshot, with_enabled, with_slot_switch, gone_from, with_leave, left_slots, seen_opening, with_opening, window, first_topic, going, goings, moved_place, are_apart, is_known, IsOrdered, IsRange, Stands, AllStand}
+use Rattle.wc_hooks.specs.Slots.{slot_rank, slot_filing, slot_entry, row_of, is_slot, is_live, is_slot_for, live_rows, in_snapshot, with_enabled, with_slot_switch, gone_from, with_leave, left_slots, seen_opening, with_opening, window, first_topic, going_at, goings, moved_place, are_apart, is_known, IsOrdered, IsRange, CursorFits, AllCursorsFit}
 use Rattle.wc_hooks.specs.Inside.{seen_as, IsCounted, IsPurged}
 use Rattle.wc_hooks.proofs.Lists.{by_bool, not_true, keeps_first, drops_first, any_first, any_rest, any_map, all_filter, all_map, all_weaker, length_filter}
-use Rattle.wc_hooks.proofs.Puts.{put_before, put_behind, all_put, falls_put, falls_filter, falls_map, count_kept, count_dropped}
+use Rattle.wc_hooks.proofs.Puts.{put_before, put_after, all_put, falls_put, falls_filter, falls_map, count_kept, count_dropped}
 use Rattle.wc_hooks.proofs.Windows.{goings_moved}
 use Rattle.wc_hooks.proofs.Alikes.{Alike, alike_switch, alike_leave, alike_opening, goings_alike, all_stand_alike, filings_alike, falls_alike, apart_alike, window_alike, all_free, free_at}
 use Rattle.wc_hooks.proofs.LiveRows.{live_put, filing_put, live_switched, live_still, live_left, live_opened, live_purged, filings_live, filings_all_live, filings_left}
@@ -30,7 +30,7 @@ any_put : (id : HookId) (a : Slot) (xs : List Slot) → is_slot id a ≡ false �
 any_put id a [] f = any_rest (is_slot id) a [] f
 any_put id a (x ∷ xs) f = by_bool (precedes (slot_rank a) (slot_rank x))
     (λ t. ap (list_any (is_slot id)) (put_before slot_rank a x xs t) ∙ any_rest (is_slot id) a (x ∷ xs) f)
-    (λ t. ap (list_any (is_slot id)) (put_behind slot_rank a x xs t) ∙ ap (λ b. is_slot id x || b) (any_put id a xs f))
+    (λ t. ap (list_any (is_slot id)) (put_after slot_rank a x xs t) ∙ ap (λ b. is_slot id x || b) (any_put id a xs f))
 
 none_new : (hooked : ℕ) (a : Slot) (xs : List Slot) → hooked < a.id.0 → list_all (is_known hooked) xs ≡ true → list_any (is_slot a.id) xs ≡ false
 none_new hooked a [] lt h = refl
@@ -51,7 +51,7 @@ apart_put hooked a (x ∷ xs) lt h p =
     let s = and_parts (not (list_any (is_slot x.id) xs)) (are_apart xs) p in
     by_bool (precedes (slot_rank a) (slot_rank x))
     (λ t. ap are_apart (put_before slot_rank a x xs t) ∙ and_from _ _ (ap not (none_new hooked a (x ∷ xs) lt h)) p)
-    (λ t. ap are_apart (put_behind slot_rank a x xs t) ∙ and_from _ _ (ap not (any_put x.id a xs n) ∙ s.0) (apart_put hooked a xs lt q.1 s.1))
+    (λ t. ap are_apart (put_after slot_rank a x xs t) ∙ and_from _ _ (ap not (any_put x.id a xs n) ∙ s.0) (apart_put hooked a xs lt q.1 s.1))
 
 later : (hooked : ℕ) (x : Slot) → is_known hooked x ≡ true → is_known (hooked + 1) x ≡ true
 later hooked x h =
@@ -129,40 +129,40 @@ pub ordered_left : (hooked : ℕ) (id : HookId) (stays : Bool) (xs : List Slot) 
 ordered_left hooked id true xs o = ordered_map hooked 32 (with_leave id) (alike_leave 32 id) xs (known_leave hooked id) o
 ordered_left hooked id false xs o = ordered_filter hooked (λ s. not (is_slot id s)) xs o
 
--- the cursors stand
-pub stand_none : (hooked : ℕ) (xs : List Slot) (cs : List (Option Cursor)) → list_any is_some cs ≡ false → AllStand hooked xs cs
+-- the cursors are
+pub stand_none : (hooked : ℕ) (xs : List Slot) (cs : List (Option Cursor)) → list_any is_some cs ≡ false → AllCursorsFit hooked xs cs
 stand_none hooked xs [] h = tt
 stand_none hooked xs (None ∷ cs) h = stand_none hooked xs cs h
 stand_none hooked xs (Some c ∷ cs) h = absurd (true≢false h)
 
-pub stand_left : (hooked : ℕ) (id : HookId) (stays : Bool) (xs : List Slot) (cs : List (Option Cursor)) → stays ≡ list_any is_some cs → AllStand hooked xs cs → AllStand hooked (left_slots id stays xs) cs
+pub stand_left : (hooked : ℕ) (id : HookId) (stays : Bool) (xs : List Slot) (cs : List (Option Cursor)) → stays ≡ list_any is_some cs → AllCursorsFit hooked xs cs → AllCursorsFit hooked (left_slots id stays xs) cs
 stand_left hooked id true xs cs e s = all_stand_alike 32 (with_leave id) (alike_leave 32 id) hooked xs cs s
 stand_left hooked id false xs cs e s = stand_none hooked (left_slots id false xs) cs (sym e)
 
-pub stand_switched : (hooked : ℕ) (id : HookId) (on : Bool) (xs : List Slot) (cs : List (Option Cursor)) → AllStand hooked xs cs → AllStand hooked (map (with_slot_switch id on) xs) cs
+pub stand_switched : (hooked : ℕ) (id : HookId) (on : Bool) (xs : List Slot) (cs : List (Option Cursor)) → AllCursorsFit hooked xs cs → AllCursorsFit hooked (map (with_slot_switch id on) xs) cs
 stand_switched hooked id on xs cs s = all_stand_alike 32 (with_slot_switch id on) (alike_switch 32 id on) hooked xs cs s
 
-pub stand_set : (hooked : ℕ) (xs : List Slot) (cs : List (Option Cursor)) (i : ℕ) (c : Cursor) → Stands hooked xs c → AllStand hooked xs cs → AllStand hooked xs (set cs i (Some c))
+pub stand_set : (hooked : ℕ) (xs : List Slot) (cs : List (Option Cursor)) (i : ℕ) (c : Cursor) → CursorFits hooked xs c → AllCursorsFit hooked xs cs → AllCursorsFit hooked xs (set cs i (Some c))
 stand_set hooked xs [] i c here s = tt
 stand_set hooked xs (None ∷ cs) zero c here s = (here, s)
 stand_set hooked xs (Some d ∷ cs) zero c here s = (here, s.1)
 stand_set hooked xs (None ∷ cs) (suc i) c here s = stand_set hooked xs cs i c here s
 stand_set hooked xs (Some d ∷ cs) (suc i) c here s = (s.0, stand_set hooked xs cs i c here s.1)
 
-pub stand_closed : (hooked : ℕ) (xs : List Slot) (cs : List (Option Cursor)) (i : ℕ) → AllStand hooked xs cs → AllStand hooked xs (set cs i None)
+pub stand_closed : (hooked : ℕ) (xs : List Slot) (cs : List (Option Cursor)) (i : ℕ) → AllCursorsFit hooked xs cs → AllCursorsFit hooked xs (set cs i None)
 stand_closed hooked xs [] i s = tt
 stand_closed hooked xs (None ∷ cs) zero s = s
 stand_closed hooked xs (Some d ∷ cs) zero s = s.1
 stand_closed hooked xs (None ∷ cs) (suc i) s = stand_closed hooked xs cs i s
 stand_closed hooked xs (Some d ∷ cs) (suc i) s = (s.0, stand_closed hooked xs cs i s.1)
 
-pub stands_at : (hooked : ℕ) (xs : List Slot) (cs : List (Option Cursor)) (i : ℕ) (c : Cursor) → get_or cs i None ≡ Some c → AllStand hooked xs cs → Stands hooked xs c
-stands_at hooked xs [] zero c e s = absurd cc
-stands_at hooked xs [] (suc i) c e s = absurd cc
-stands_at hooked xs (None ∷ cs) zero c e s = absurd cc
-stands_at hooked xs (Some d ∷ cs) zero c e s = let k : d ≡ c = cc in subst (Stands hooked xs) k s.0
-stands_at hooked xs (None ∷ cs) (suc i) c e s = stands_at hooked xs cs i c e s
-stands_at hooked xs (Some d ∷ cs) (suc i) c e s = stands_at hooked xs cs i c e s.1
+pub lies_at : (hooked : ℕ) (xs : List Slot) (cs : List (Option Cursor)) (i : ℕ) (c : Cursor) → get_or cs i None ≡ Some c → AllCursorsFit hooked xs cs → CursorFits hooked xs c
+lies_at hooked xs [] zero c e s = absurd cc
+lies_at hooked xs [] (suc i) c e s = absurd cc
+lies_at hooked xs (None ∷ cs) zero c e s = absurd cc
+lies_at hooked xs (Some d ∷ cs) zero c e s = let k : d ≡ c = cc in subst (CursorFits hooked xs) k s.0
+lies_at hooked xs (None ∷ cs) (suc i) c e s = lies_at hooked xs cs i c e s
+lies_at hooked xs (Some d ∷ cs) (suc i) c e s = lies_at hooked xs cs i c e s.1
 
 -- what is gone
 pub purged_put : (a : Slot) (xs : List Slot) (cs : List (Option Cursor)) (at : ℕ) (has_gone : Bool) → a.gone ≡ false → IsPurged xs cs has_gone → IsPurged (put_by slot_rank a xs) (map (moved_place at) cs) has_gone
@@ -228,11 +228,11 @@ counted_left id rows n m c =
       most_others = omega (arith, m_is, m_most, b);
     }
 
-pub counted_switched : (id : HookId) (on : Bool) (rows : List HookRow) (n m : ℕ) → relays (switched id on rows) ≡ relays rows → others (switched id on rows) ≡ others rows → IsCounted rows n m → IsCounted (switched id on rows) n m
+pub counted_switched : (id : HookId) (on : Bool) (rows : List HookRow) (n m : ℕ) → relays (rows_switched id on rows) ≡ relays rows → others (rows_switched id on rows) ≡ others rows → IsCounted rows n m → IsCounted (rows_switched id on rows) n m
 counted_switched id on rows n m a b c = record { relays = c.relays ∙ sym a; others = c.others ∙ sym b; most_relays = c.most_relays; most_others = c.most_others }
 
 -- what contracts see
-pub view_put : (a : Slot) (xs : List Slot) (at hooked : ℕ) (cs : List (Option Cursor)) (marks : List Entry) → insert xs at a ≡ put_by slot_rank a xs → a.id.0 ≡ hooked + 1 → a.gone ≡ false → IsOrdered hooked xs → AllStand hooked xs cs → seen_as (insert xs at a) (map (moved_place at) cs) marks (hooked + 1) ≡ with_row (row_of a) (seen_as xs cs marks hooked)
+pub view_put : (a : Slot) (xs : List Slot) (at hooked : ℕ) (cs : List (Option Cursor)) (marks : List Entry) → insert xs at a ≡ put_by slot_rank a xs → a.id.0 ≡ hooked + 1 → a.gone ≡ false → IsOrdered hooked xs → AllCursorsFit hooked xs cs → seen_as (insert xs at a) (map (moved_place at) cs) marks (hooked + 1) ≡ with_row (row_of a) (seen_as xs cs marks hooked)
 view_put a xs at hooked cs marks e number live o s =
     let lt : hooked < a.id.0 = omega (arith, number) in
     λ i. record {
@@ -243,7 +243,7 @@ view_put a xs at hooked cs marks e number live o s =
       passes = goings_moved 0 at hooked xs a cs lt s i;
     }
 
-pub view_switched : (id : HookId) (on : Bool) (xs : List Slot) (cs : List (Option Cursor)) (marks : List Entry) (hooked : ℕ) → length cs ≡ 17 → seen_as (map (with_slot_switch id on) xs) cs marks hooked ≡ with_rows (switched id on (live_rows xs)) (seen_as xs cs marks hooked)
+pub view_switched : (id : HookId) (on : Bool) (xs : List Slot) (cs : List (Option Cursor)) (marks : List Entry) (hooked : ℕ) → length cs ≡ 17 → seen_as (map (with_slot_switch id on) xs) cs marks hooked ≡ with_rows (rows_switched id on (live_rows xs)) (seen_as xs cs marks hooked)
 view_switched id on xs cs marks hooked places =
     let a = alike_switch 32 id on in
     λ i. record {
@@ -262,12 +262,12 @@ filings_leave : (id : HookId) (stays : Bool) (xs : List Slot) → map slot_filin
 filings_leave id true xs = filings_alike 32 (with_leave id) (alike_leave 32 id) xs
 filings_leave id false xs = filings_left id xs
 
-pub view_left : (id : HookId) (stays : Bool) (xs : List Slot) (cs : List (Option Cursor)) (marks : List Entry) (hooked : ℕ) → length cs ≡ 17 → stays ≡ list_any is_some cs → seen_as (left_slots id stays xs) cs (unmarked id marks) hooked ≡ without_row id (seen_as xs cs marks hooked)
+pub view_left : (id : HookId) (stays : Bool) (xs : List Slot) (cs : List (Option Cursor)) (marks : List Entry) (hooked : ℕ) → length cs ≡ 17 → stays ≡ list_any is_some cs → seen_as (left_slots id stays xs) cs (without_mark id marks) hooked ≡ without_row id (seen_as xs cs marks hooked)
 view_left id stays xs cs marks hooked places e =
     let open_is : stays ≡ any_open (goings 0 xs cs) = e ∙ sym (any-goings 0 xs cs) in
     λ i. record {
       rows = live_left id stays xs i;
-      marks = unmarked id marks;
+      marks = without_mark id marks;
       hooked = hooked;
       filed = (filings_leave id stays xs ∙ ap (λ b. if b then map slot_filing xs else without_filing id (map slot_filing xs)) open_is) i;
       passes = goings_left id stays xs cs places e i;
@@ -277,7 +277,7 @@ view_left id stays xs cs marks hooked places e =
 abbrev pub opened_cursor : ℕ → ℕ → ℕ → Cursor
 opened_cursor start count hooked = record { start = start; count = count; seen = 0; hooked = hooked; looked = 0 }
 
-pub stands_opened : (k hooked start count : ℕ) (kind : HookKind) (key : List ℕ) (xs : List Slot) → k < 32 → IsRange kind key xs start count → Stands hooked xs (opened_cursor start count hooked)
+pub stands_opened : (k hooked start count : ℕ) (kind : HookKind) (key : List ℕ) (xs : List Slot) → k < 32 → IsRange kind key xs start count → CursorFits hooked xs (opened_cursor start count hooked)
 stands_opened k hooked start count kind key xs le r = record {
   inside = r.inside;
   within = omega arith;
@@ -286,7 +286,7 @@ stands_opened k hooked start count kind key xs le r = record {
   topic = range_one kind key xs start count r;
 }
 
-going_opened : (k hooked start count : ℕ) (kind : HookKind) (key : List ℕ) (xs : List Slot) → k < 32 → list_all (is_known hooked) xs ≡ true → IsRange kind key xs start count → going k (opened_cursor start count hooked) (map (with_opening k kind key) xs) ≡ record { left = hooks_on kind key (live_rows xs); looked = 0; over = first_topic (filter (is_slot_for kind key) xs) }
+going_opened : (k hooked start count : ℕ) (kind : HookKind) (key : List ℕ) (xs : List Slot) → k < 32 → list_all (is_known hooked) xs ≡ true → IsRange kind key xs start count → going_at k (opened_cursor start count hooked) (map (with_opening k kind key) xs) ≡ record { left = hooks_on kind key (live_rows xs); looked = 0; over = first_topic (filter (is_slot_for kind key) xs) }
 going_opened k hooked start count kind key xs le known r =
     let f = with_opening k kind key in
     let a = alike_opening k kind key le in
@@ -316,7 +316,7 @@ view_opened k hooked start count kind key xs cs marks places lt free known r =
       hooked = hooked;
       filed = filings_alike k f a xs i;
       passes = (goings-set 0 k (map f xs) cs (Some (opened_cursor start count hooked))
-          ∙ ap (λ q. set (goings 0 (map f xs) cs) k (Some (going q (opened_cursor start count hooked) (map f xs)))) (sym same)
+          ∙ ap (λ q. set (goings 0 (map f xs) cs) k (Some (going_at q (opened_cursor start count hooked) (map f xs)))) (sym same)
           ∙ (λ j. set (goings_alike k f a 0 xs cs (omega (arith, places)) (free_at k 0 k cs same free) j) k (Some (going_opened k hooked start count kind key xs le known r j)))
           ∙ ap (λ o. set (goings 0 xs cs) k (Some (record { left = hooks_on kind key (live_rows xs); looked = 0; over = o }))) (topic_is_over kind key xs)) i;
     }

@@ -7,9 +7,9 @@ use Rattle.std.proofs.lemmas.Bool.Decides.{nat_tests}
 use Rattle.std.proofs.lemmas.List.{get_or-set_same, get_or-set_other}
 use Rattle.wc_hooks.specs.declared.kind.HookKind.{HookKind}
 use Rattle.wc_hooks.specs.Filings.{Filing, filed_under}
-use Rattle.wc_hooks.specs.Table.{Table, Going, IsOpen, IsTable, looked_of, over_of, looked_at, over_at, left_at, topic_in, is_within, opening}
-use Rattle.wc_hooks.specs.Passes.{left_behind}
-use Rattle.wc_hooks.specs.History.{Act, hooks, unhooks, switches, opens, gives, ends, closes, after, after_all, leaves, steps_of, all_steps}
+use Rattle.wc_hooks.specs.Table.{Table, Going, IsOpen, IsHookTable, looked_of, over_of, looked_at, over_at, left_at, topic_in, is_within, opening}
+use Rattle.wc_hooks.specs.Passes.{entries_left}
+use Rattle.wc_hooks.specs.History.{TableCall, hooks, unhooks, switches, opens, gives, ends, closes, after, after_all, leaves, steps_of, all_steps}
 use Rattle.wc_hooks.proofs.Lists.{by_bool, open_inside}
 use Rattle.wc_hooks.proofs.HistoryLaws.{places_after}
 
@@ -29,7 +29,7 @@ is_other other place quiet = by_bool (other == place) (λ same. absurd (false≢
 
 goes_here : (t : Table) (other place steps : ℕ) → other ≡ place → place < length t.passes → GoesOn steps (get_or t.passes place None) (get_or (after (gives other steps) t).passes place None)
 goes_here t other place steps same inside =
-    let pass : Going = record { left = left_behind t.rows t.marks (left_at t place); looked = looked_at t place + steps; over = over_at t place } in
+    let pass : Going = record { left = entries_left t.rows t.marks (left_at t place); looked = looked_at t place + steps; over = over_at t place } in
     let e : get_or (after (gives other steps) t).passes place None ≡ Some pass = ap (λ o. get_or (after (gives o steps) t).passes place None) same ∙ get_or-set_same t.passes place (Some pass) None inside in
     record { looked = ap looked_of e; over = ap over_of e }
 
@@ -39,7 +39,7 @@ steps_here other place steps same = rw same refl
 steps_elsewhere : (other place steps : ℕ) → (other == place) ≡ false → steps_of place (gives other steps) ≡ 0
 steps_elsewhere other place steps differ = rw differ refl
 
-goes_on : (act : Act) (t : Table) (place : ℕ) → place < length t.passes → leaves place act ≡ true → GoesOn (steps_of place act) (get_or t.passes place None) (get_or (after act t).passes place None)
+goes_on : (act : TableCall) (t : Table) (place : ℕ) → place < length t.passes → leaves place act ≡ true → GoesOn (steps_of place act) (get_or t.passes place None) (get_or (after act t).passes place None)
 goes_on (hooks row) t place inside quiet = stays (get_or t.passes place None) _ refl
 goes_on (unhooks id) t place inside quiet = stays (get_or t.passes place None) _ refl
 goes_on (switches id on) t place inside quiet = stays (get_or t.passes place None) _ refl
@@ -51,7 +51,7 @@ goes_on (gives other steps) t place inside quiet = by_bool (other == place)
 goes_on (ends id) t place inside quiet = stays (get_or t.passes place None) _ refl
 goes_on (closes other) t place inside quiet = stays (get_or t.passes place None) _ (other_place t.passes other place None (is_other other place quiet))
 
-all_go_on : (acts : List Act) (t : Table) (place : ℕ) → place < length t.passes → list_all (leaves place) acts ≡ true → GoesOn (all_steps place acts) (get_or t.passes place None) (get_or (after_all acts t).passes place None)
+all_go_on : (acts : List TableCall) (t : Table) (place : ℕ) → place < length t.passes → list_all (leaves place) acts ≡ true → GoesOn (all_steps place acts) (get_or t.passes place None) (get_or (after_all acts t).passes place None)
 all_go_on [] t place inside quiet = stays (get_or t.passes place None) (get_or t.passes place None) refl
 all_go_on (act ∷ acts) t place inside quiet =
     let parts = and_parts (leaves place act) (list_all (leaves place) acts) quiet in
@@ -72,7 +72,7 @@ within_topic kind key before now looked h = by_bool (length (filed_under kind ke
       some : (length (filed_under kind key before) == 0) ≡ false → topic_in kind key before ≡ Some (record { kind = kind; key = key })
       some t = rw t refl
 
-pub steps_within : (table : Table) (place : ℕ) (kind : HookKind) (key : List ℕ) (acts : List Act) → list_all (leaves place) acts ≡ true → IsTable (after_all acts (after (opens place kind key) table)) → IsOpen (after (opens place kind key) table) place → all_steps place acts ≤ length (filed_under kind key (after_all acts (after (opens place kind key) table)).filed)
+pub steps_within : (table : Table) (place : ℕ) (kind : HookKind) (key : List ℕ) (acts : List TableCall) → list_all (leaves place) acts ≡ true → IsHookTable (after_all acts (after (opens place kind key) table)) → IsOpen (after (opens place kind key) table) place → all_steps place acts ≤ length (filed_under kind key (after_all acts (after (opens place kind key) table)).filed)
 steps_within table place kind key acts quiet law held =
     let t = after (opens place kind key) table in
     let inside : place < length t.passes = open_inside t.passes place held in

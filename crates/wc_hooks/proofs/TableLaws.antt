@@ -14,15 +14,15 @@ use Rattle.wc_hooks.specs.declared.slot.Slot.{Slot}
 use Rattle.wc_hooks.specs.Kinds.{is_relay, same_owner}
 use Rattle.wc_hooks.specs.Rows.{HookRow, is_id}
 use Rattle.wc_hooks.specs.Filings.{filed_under}
-use Rattle.wc_hooks.specs.Passes.{runs, may_run, behind, with_given}
-use Rattle.wc_hooks.specs.Table.{Going, IsTable, left_of, looked_of, over_of, is_within, is_bounded, are_drawn, next_of, after_next}
-use Rattle.wc_hooks.specs.Slots.{slot_filing, slot_entry, row_of, is_slot, is_live, is_slot_for, live_rows, in_snapshot, may_go, window, ahead, first_topic, going, goings, one_topic, are_apart, is_known, found_entry, IsOrdered, Stands, AllStand, Walked}
+use Rattle.wc_hooks.specs.Passes.{runs, may_run, following, with_given}
+use Rattle.wc_hooks.specs.Table.{Going, IsHookTable, left_of, looked_of, over_of, is_within, is_bounded, are_drawn, next_of, after_next}
+use Rattle.wc_hooks.specs.Slots.{slot_filing, slot_entry, row_of, is_slot, is_live, is_slot_for, live_rows, in_snapshot, may_go, window, ahead, first_topic, going_at, goings, one_topic, are_apart, is_known, found_entry, IsOrdered, CursorFits, AllCursorsFit, Walked}
 use Rattle.wc_hooks.specs.Inside.{seen_as, is_marked_in, IsMarked, IsCounted, IsPurged}
 use Rattle.wc_hooks.proofs.Lists.{by_bool, not_true, keeps_first, drops_first, any_first, any_rest, any_more, all_filter, all_map, all_weaker, all_drop, all_take, filter_map, length_filter, count_drop, count_take, parts_of, filter_all}
 use Rattle.wc_hooks.proofs.Orders.{topic_self}
 use Rattle.wc_hooks.proofs.Windows.{length_window}
 use Rattle.wc_hooks.proofs.LiveRows.{filings_all_live, any_live}
-use Rattle.wc_hooks.proofs.Walks.{gives_due, leaves_behind}
+use Rattle.wc_hooks.proofs.Walks.{gives_due, leaves_after}
 use Rattle.wc_hooks.proofs.Opens.{filed_are}
 use Rattle.wc_hooks.proofs.Marked.{marks_live, most_marks, marked_given, marked_none}
 use Rattle.wc_hooks.proofs.Counts.{length-goings, any-goings, goings-set, goings-get, going_of}
@@ -85,13 +85,13 @@ within_by xs (x ∷ ws) looked h le part =
       le_true : (a b : ℕ) → a ≤ b → nat_le a b ≡ true
       le_true a b le = grind (arith, nat_tests)
 
-going_within : (hooked p : ℕ) (xs : List Slot) (c : Cursor) → Stands hooked xs c → is_within (map slot_filing xs) (first_topic (window c xs)) c.looked ≡ true
+going_within : (hooked p : ℕ) (xs : List Slot) (c : Cursor) → CursorFits hooked xs c → is_within (map slot_filing xs) (first_topic (window c xs)) c.looked ≡ true
 going_within hooked p xs c s =
     let a = s.within in let b = s.counted in
     let n = length_window xs c s.inside in
     within_by xs (window c xs) c.looked s.topic (omega (arith, a, b, n)) (λ q. let k = count_take q c.count (drop c.start xs) in let m = count_drop q c.start xs in omega (arith, k, m))
 
-pass_within : (hooked p i : ℕ) (xs : List Slot) (cs : List (Option Cursor)) → AllStand hooked xs cs → is_within (map slot_filing xs) (over_of (get_or (goings p xs cs) i None)) (looked_of (get_or (goings p xs cs) i None)) ≡ true
+pass_within : (hooked p i : ℕ) (xs : List Slot) (cs : List (Option Cursor)) → AllCursorsFit hooked xs cs → is_within (map slot_filing xs) (over_of (get_or (goings p xs cs) i None)) (looked_of (get_or (goings p xs cs) i None)) ≡ true
 pass_within hooked p zero xs [] s = refl
 pass_within hooked p (suc i) xs [] s = refl
 pass_within hooked p zero xs (None ∷ cs) s = refl
@@ -99,10 +99,10 @@ pass_within hooked p zero xs (Some c ∷ cs) s = going_within hooked p xs c s.0
 pass_within hooked p (suc i) xs (None ∷ cs) s = pass_within hooked (p + 1) i xs cs s
 pass_within hooked p (suc i) xs (Some c ∷ cs) s = pass_within hooked (p + 1) i xs cs s.1
 
-pub bounded : (hooked i : ℕ) (xs : List Slot) (cs : List (Option Cursor)) (marks : List Entry) → AllStand hooked xs cs → is_bounded (seen_as xs cs marks hooked) i ≡ true
+pub bounded : (hooked i : ℕ) (xs : List Slot) (cs : List (Option Cursor)) (marks : List Entry) → AllCursorsFit hooked xs cs → is_bounded (seen_as xs cs marks hooked) i ≡ true
 bounded hooked i xs cs marks s = pass_within hooked 0 i xs cs s
 
-pub is_table : (xs : List Slot) (cs : List (Option Cursor)) (marks : List Entry) (hooked n m : ℕ) (has_gone : Bool) → IsOrdered hooked xs → AllStand hooked xs cs → length cs ≡ 17 → IsMarked (live_rows xs) marks → IsCounted (live_rows xs) n m → IsPurged xs cs has_gone → IsTable (seen_as xs cs marks hooked)
+pub is_table : (xs : List Slot) (cs : List (Option Cursor)) (marks : List Entry) (hooked n m : ℕ) (has_gone : Bool) → IsOrdered hooked xs → AllCursorsFit hooked xs cs → length cs ≡ 17 → IsMarked (live_rows xs) marks → IsCounted (live_rows xs) n m → IsPurged xs cs has_gone → IsHookTable (seen_as xs cs marks hooked)
 is_table xs cs marks hooked n m has_gone o s places marked c p = record {
   falls = rows_falling xs o.falls;
   once = λ id. rows_once id xs o.apart;
@@ -205,18 +205,18 @@ room_for rows marks (Some e) n m c k t =
 abbrev here : ℕ → List Slot → List (Option Cursor) → Option Going
 here k xs cs = get_or (goings 0 xs cs) k None
 
-pass_here : (k : ℕ) (xs : List Slot) (cs : List (Option Cursor)) (c : Cursor) → get_or cs k None ≡ Some c → here k xs cs ≡ Some (going k c xs)
-pass_here k xs cs c e = goings-get 0 k xs cs ∙ ap (going_of (0 + k) xs) e ∙ (let n : 0 + k ≡ k = omega arith in ap (λ q. Some (going q c xs)) n)
+pass_here : (k : ℕ) (xs : List Slot) (cs : List (Option Cursor)) (c : Cursor) → get_or cs k None ≡ Some c → here k xs cs ≡ Some (going_at k c xs)
+pass_here k xs cs c e = goings-get 0 k xs cs ∙ ap (going_of (0 + k) xs) e ∙ (let n : 0 + k ≡ k = omega arith in ap (λ q. Some (going_at q c xs)) n)
 
 pub next_given : (hooked k : ℕ) (xs : List Slot) (cs : List (Option Cursor)) (marks : List Entry) (c d : Cursor) (result : Option Entry) → IsOrdered hooked xs → get_or cs k None ≡ Some c → Walked xs marks k c d result → result ≡ next_of (seen_as xs cs marks hooked) k
 next_given hooked k xs cs marks c d result o e w =
     w.given ∙ sym (gives_due hooked xs marks k c o.apart o.known) ∙ ap (λ p. find (may_run (live_rows xs) marks) (left_of p)) (sym (pass_here k xs cs c e))
 
-going_next : (hooked k n : ℕ) (xs : List Slot) (cs : List (Option Cursor)) (marks : List Entry) (c d : Cursor) (result : Option Entry) → IsOrdered hooked xs → get_or cs k None ≡ Some c → Walked xs marks k c d result → d.looked ≡ c.looked + n → going k d xs ≡ record { left = behind (may_run (live_rows xs) marks) (left_of (here k xs cs)); looked = looked_of (here k xs cs) + n; over = over_of (here k xs cs) }
+going_next : (hooked k n : ℕ) (xs : List Slot) (cs : List (Option Cursor)) (marks : List Entry) (c d : Cursor) (result : Option Entry) → IsOrdered hooked xs → get_or cs k None ≡ Some c → Walked xs marks k c d result → d.looked ≡ c.looked + n → going_at k d xs ≡ record { left = following (may_run (live_rows xs) marks) (left_of (here k xs cs)); looked = looked_of (here k xs cs) + n; over = over_of (here k xs cs) }
 going_next hooked k n xs cs marks c d result o e w steps =
     let p = sym (pass_here k xs cs c e) in
     λ i. record {
-      left = (ap (map slot_entry) w.left ∙ sym (leaves_behind hooked xs marks k c o.apart o.known) ∙ ap (λ q. behind (may_run (live_rows xs) marks) (left_of q)) p) i;
+      left = (ap (map slot_entry) w.left ∙ sym (leaves_after hooked xs marks k c o.apart o.known) ∙ ap (λ q. following (may_run (live_rows xs) marks) (left_of q)) p) i;
       looked = (steps ∙ ap (λ q. looked_of q + n) p) i;
       over = ((λ j. first_topic (take (w.count j) (drop (w.start j) xs))) ∙ ap over_of p) i;
     }
@@ -229,10 +229,10 @@ view_next hooked k n xs cs marks c d result o e w steps =
       marks = with_given (next_given hooked k xs cs marks c d result o e w i) marks;
       hooked = hooked;
       filed = map slot_filing xs;
-      passes = (goings-set 0 k xs cs (Some d) ∙ ap (λ q. set (goings 0 xs cs) k (Some (going q d xs))) same ∙ ap (λ g. set (goings 0 xs cs) k (Some g)) (going_next hooked k n xs cs marks c d result o e w steps)) i;
+      passes = (goings-set 0 k xs cs (Some d) ∙ ap (λ q. set (goings 0 xs cs) k (Some (going_at q d xs))) same ∙ ap (λ g. set (goings 0 xs cs) k (Some g)) (going_next hooked k n xs cs marks c d result o e w steps)) i;
     }
 
-pub stands_next : (hooked k : ℕ) (xs : List Slot) (marks : List Entry) (c d : Cursor) (result : Option Entry) → Stands hooked xs c → Walked xs marks k c d result → Stands hooked xs d
+pub stands_next : (hooked k : ℕ) (xs : List Slot) (marks : List Entry) (c d : Cursor) (result : Option Entry) → CursorFits hooked xs c → Walked xs marks k c d result → CursorFits hooked xs d
 stands_next hooked k xs marks c d result s w =
     let a = w.start in let b = w.count in let h = w.hooked in let inside = s.inside in let drawn = s.drawn in record {
       inside = omega (arith, a, b, inside);

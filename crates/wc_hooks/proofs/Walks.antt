@@ -11,7 +11,7 @@ use Rattle.wc_hooks.specs.declared.entry.Entry.{Entry}
 use Rattle.wc_hooks.specs.declared.entry.HookId.{HookId}
 use Rattle.wc_hooks.specs.declared.slot.Slot.{Slot}
 use Rattle.wc_hooks.specs.Rows.{is_id, is_on}
-use Rattle.wc_hooks.specs.Passes.{runs, may_run, behind}
+use Rattle.wc_hooks.specs.Passes.{runs, may_run, following}
 use Rattle.wc_hooks.specs.Slots.{slot_entry, is_slot, is_live, live_rows, in_snapshot, may_go, window, ahead, are_apart, is_known, found_entry, Walked}
 use Rattle.wc_hooks.proofs.Lists.{by_bool, not_true, keeps_first, drops_first, any_first, any_rest}
 use Rattle.wc_hooks.proofs.LiveRows.{any_live}
@@ -35,7 +35,7 @@ get_window (x ∷ xs) (suc start) count i s lt inside = get_window xs start coun
 -- on the way, none that was looked at may run
 pub record OnWay (slots : List Slot) (marks : List Entry) (place : ℕ) (old new : Cursor) : Type 0 where
   pub given : find (may_go marks) (ahead place new slots) ≡ find (may_go marks) (ahead place old slots)
-  pub left : behind (may_go marks) (ahead place new slots) ≡ behind (may_go marks) (ahead place old slots)
+  pub left : following (may_go marks) (ahead place new slots) ≡ following (may_go marks) (ahead place old slots)
   pub start : new.start ≡ old.start
   pub count : new.count ≡ old.count
   pub hooked : new.hooked ≡ old.hooked
@@ -68,16 +68,16 @@ find_skips p q s ss out = by_bool (p s)
     (λ t. ap (find q) (keeps_first p s ss t) ∙ (let f : q s ≡ false = sym (ap (λ b. b && q s) t) ∙ out in rw f refl))
     (λ t. ap (find q) (drops_first p s ss t))
 
-behind_skips : (p q : Slot → Bool) (s : Slot) (ss : List Slot) → (p s && q s) ≡ false → behind q (filter p (s ∷ ss)) ≡ behind q (filter p ss)
-behind_skips p q s ss out = by_bool (p s)
-    (λ t. ap (behind q) (keeps_first p s ss t) ∙ (let f : q s ≡ false = sym (ap (λ b. b && q s) t) ∙ out in rw f refl))
-    (λ t. ap (behind q) (drops_first p s ss t))
+after_skips : (p q : Slot → Bool) (s : Slot) (ss : List Slot) → (p s && q s) ≡ false → following q (filter p (s ∷ ss)) ≡ following q (filter p ss)
+after_skips p q s ss out = by_bool (p s)
+    (λ t. ap (following q) (keeps_first p s ss t) ∙ (let f : q s ≡ false = sym (ap (λ b. b && q s) t) ∙ out in rw f refl))
+    (λ t. ap (following q) (drops_first p s ss t))
 
 find_takes : (p q : Slot → Bool) (s : Slot) (ss : List Slot) → p s ≡ true → q s ≡ true → find q (filter p (s ∷ ss)) ≡ Some s
 find_takes p q s ss a b = ap (find q) (keeps_first p s ss a) ∙ rw b refl
 
-behind_takes : (p q : Slot → Bool) (s : Slot) (ss : List Slot) → p s ≡ true → q s ≡ true → behind q (filter p (s ∷ ss)) ≡ filter p ss
-behind_takes p q s ss a b = ap (behind q) (keeps_first p s ss a) ∙ rw b refl
+after_takes : (p q : Slot → Bool) (s : Slot) (ss : List Slot) → p s ≡ true → q s ≡ true → following q (filter p (s ∷ ss)) ≡ filter p ss
+after_takes p q s ss a b = ap (following q) (keeps_first p s ss a) ∙ rw b refl
 
 pub way_past : (slots : List Slot) (marks : List Entry) (place : ℕ) (old c d : Cursor) (s : Slot) → c.seen < c.count → old.start + old.count ≤ length slots → OnWay slots marks place old c → s ≡ get_or slots (c.start + c.seen) s → d ≡ record c { seen = c.seen + 1; looked = c.looked + 1 } → (in_snapshot place c.hooked s && may_go marks s) ≡ false → OnWay slots marks place old d
 way_past slots marks place old c d s lt inside w e n out =
@@ -85,7 +85,7 @@ way_past slots marks place old c d s lt inside w e n out =
     let next : OnWay slots marks place old (stepped c) =
     (let first = ahead_first slots place c s lt (omega arith) e in record {
       given = sym (ap (find (may_go marks)) first ∙ find_skips (in_snapshot place c.hooked) (may_go marks) s (drop (c.seen + 1) (window c slots)) out) ∙ w.given;
-      left = sym (ap (behind (may_go marks)) first ∙ behind_skips (in_snapshot place c.hooked) (may_go marks) s (drop (c.seen + 1) (window c slots)) out) ∙ w.left;
+      left = sym (ap (following (may_go marks)) first ∙ after_skips (in_snapshot place c.hooked) (may_go marks) s (drop (c.seen + 1) (window c slots)) out) ∙ w.left;
       start = w.start;
       count = w.count;
       hooked = w.hooked;
@@ -101,7 +101,7 @@ way_found slots marks place old c d s lt inside w e n f g =
     let next : Walked slots marks place old (stepped c) (Some (slot_entry s)) =
     (let first = ahead_first slots place c s lt (omega arith) e in record {
       given = ap found_entry (sym (sym w.given ∙ ap (find (may_go marks)) first ∙ find_takes (in_snapshot place c.hooked) (may_go marks) s (drop (c.seen + 1) (window c slots)) f g));
-      left = sym (sym w.left ∙ ap (behind (may_go marks)) first ∙ behind_takes (in_snapshot place c.hooked) (may_go marks) s (drop (c.seen + 1) (window c slots)) f g);
+      left = sym (sym w.left ∙ ap (following (may_go marks)) first ∙ after_takes (in_snapshot place c.hooked) (may_go marks) s (drop (c.seen + 1) (window c slots)) f g);
       start = w.start;
       count = w.count;
       hooked = w.hooked;
@@ -116,7 +116,7 @@ way_end slots marks place old c le inside w =
     let short : length (window c slots) ≤ c.seen = taken_short c.count (drop c.start slots) c.seen le in
     let z : ahead place c slots ≡ [] = ap (filter (in_snapshot place c.hooked)) (drop_all c.seen (window c slots) short) in record {
       given = ap found_entry (sym (ap (find (may_go marks)) z) ∙ w.given);
-      left = z ∙ sym (ap (behind (may_go marks)) z) ∙ w.left;
+      left = z ∙ sym (ap (following (may_go marks)) z) ∙ w.left;
       start = w.start;
       count = w.count;
       hooked = w.hooked;
@@ -209,11 +209,11 @@ find_both p q (s ∷ ss) e = by_bool (q s)
     (λ t. (let f : p (slot_entry s) ≡ true = e.0 ∙ t in rw (t, f) refl))
     (λ t. (let f : p (slot_entry s) ≡ false = e.0 ∙ t in rw (t, f) (find_both p q ss e.1)))
 
-behind_both : (p : Entry → Bool) (q : Slot → Bool) (ss : List Slot) → Each (λ s. p (slot_entry s) ≡ q s) ss → behind p (map slot_entry ss) ≡ map slot_entry (behind q ss)
-behind_both p q [] e = refl
-behind_both p q (s ∷ ss) e = by_bool (q s)
+after_both : (p : Entry → Bool) (q : Slot → Bool) (ss : List Slot) → Each (λ s. p (slot_entry s) ≡ q s) ss → following p (map slot_entry ss) ≡ map slot_entry (following q ss)
+after_both p q [] e = refl
+after_both p q (s ∷ ss) e = by_bool (q s)
     (λ t. (let f : p (slot_entry s) ≡ true = e.0 ∙ t in rw (t, f) refl))
-    (λ t. (let f : p (slot_entry s) ≡ false = e.0 ∙ t in rw (t, f) (behind_both p q ss e.1)))
+    (λ t. (let f : p (slot_entry s) ≡ false = e.0 ∙ t in rw (t, f) (after_both p q ss e.1)))
 
 same_tests : (hooked : ℕ) (xs : List Slot) (marks : List Entry) → are_apart xs ≡ true → list_all (is_known hooked) xs ≡ true → Each (λ s. may_run (live_rows xs) marks (slot_entry s) ≡ may_go marks s) xs
 same_tests hooked xs marks apart known = each_map xs (tells xs apart) where
@@ -229,5 +229,5 @@ ahead_tests hooked xs marks place c apart known =
 pub gives_due : (hooked : ℕ) (xs : List Slot) (marks : List Entry) (place : ℕ) (c : Cursor) → are_apart xs ≡ true → list_all (is_known hooked) xs ≡ true → find (may_run (live_rows xs) marks) (map slot_entry (ahead place c xs)) ≡ found_entry (find (may_go marks) (ahead place c xs))
 gives_due hooked xs marks place c apart known = find_both (may_run (live_rows xs) marks) (may_go marks) (ahead place c xs) (ahead_tests hooked xs marks place c apart known)
 
-pub leaves_behind : (hooked : ℕ) (xs : List Slot) (marks : List Entry) (place : ℕ) (c : Cursor) → are_apart xs ≡ true → list_all (is_known hooked) xs ≡ true → behind (may_run (live_rows xs) marks) (map slot_entry (ahead place c xs)) ≡ map slot_entry (behind (may_go marks) (ahead place c xs))
-leaves_behind hooked xs marks place c apart known = behind_both (may_run (live_rows xs) marks) (may_go marks) (ahead place c xs) (ahead_tests hooked xs marks place c apart known)
+pub leaves_after : (hooked : ℕ) (xs : List Slot) (marks : List Entry) (place : ℕ) (c : Cursor) → are_apart xs ≡ true → list_all (is_known hooked) xs ≡ true → following (may_run (live_rows xs) marks) (map slot_entry (ahead place c xs)) ≡ map slot_entry (following (may_go marks) (ahead place c xs))
+leaves_after hooked xs marks place c apart known = after_both (may_run (live_rows xs) marks) (may_go marks) (ahead place c xs) (ahead_tests hooked xs marks place c apart known)

@@ -13,7 +13,7 @@ use Rattle.wc_hooks.specs.declared.kind.HookKind.{HookKind}
 use Rattle.wc_hooks.specs.declared.slot.Slot.{Slot}
 use Rattle.wc_hooks.specs.Ranks.{precedes, falls_by}
 use Rattle.wc_hooks.specs.Table.{Going}
-use Rattle.wc_hooks.specs.Slots.{slot_rank, slot_entry, is_slot_for, was_of, in_snapshot, window, first_topic, going, goings, moved, moved_place, one_topic, Stands, AllStand, is_low}
+use Rattle.wc_hooks.specs.Slots.{slot_rank, slot_entry, is_slot_for, was_of, in_snapshot, window, first_topic, going_at, goings, moved_cursor, moved_place, one_topic, CursorFits, AllCursorsFit, is_low}
 use Rattle.wc_hooks.proofs.Lists.{by_bool, not_true, keeps_first, drops_first}
 use Rattle.wc_hooks.proofs.Orders.{amid_is_one, topic_self}
 use Rattle.wc_hooks.proofs.Puts.{falls_take, falls_drop}
@@ -25,7 +25,7 @@ filter_insert p (x ∷ xs) (suc i) new f = by_bool (p x)
     (λ t. keeps_first p x (insert xs i new) t ∙ ap (λ l. x ∷ l) (filter_insert p xs i new f) ∙ sym (keeps_first p x xs t))
     (λ t. drops_first p x (insert xs i new) t ∙ filter_insert p xs i new f ∙ sym (drops_first p x xs t))
 
--- put in at a place or behind it: it is no part of the snapshot
+-- put in at a place or after it: it is no part of the snapshot
 insert_after : (p : Slot → Bool) (xs : List Slot) (i at : ℕ) (new : Slot) → p new ≡ false → at ≤ i → filter p (drop at (insert xs i new)) ≡ filter p (drop at xs)
 insert_after p xs i zero new f le = filter_insert p xs i new f
 insert_after p xs zero (suc at) new f le = absurd (omega arith)
@@ -83,13 +83,13 @@ one_stays (x ∷ xs) zero a lo hi h f = absurd (omega arith)
 one_stays (x ∷ xs) (suc k) a lo hi h f = amid x.kind x.key x a xs k (omega arith) (topic_self x.kind x.key) h f
 
 -- the three ways in which a cursor meets a slot that is put in
-moved_on : (i : ℕ) (c : Cursor) → nat_le i c.start ≡ true → moved i c ≡ record c { start = c.start + 1 }
+moved_on : (i : ℕ) (c : Cursor) → nat_le i c.start ≡ true → moved_cursor i c ≡ record c { start = c.start + 1 }
 moved_on i c t = rw t refl
 
-moved_amid : (i : ℕ) (c : Cursor) → nat_le i c.start ≡ false → nat_lt i (c.start + c.count) ≡ true → moved i c ≡ record c { count = c.count + 1; seen = if nat_lt i (c.start + c.seen) then c.seen + 1 else c.seen }
+moved_amid : (i : ℕ) (c : Cursor) → nat_le i c.start ≡ false → nat_lt i (c.start + c.count) ≡ true → moved_cursor i c ≡ record c { count = c.count + 1; seen = if nat_lt i (c.start + c.seen) then c.seen + 1 else c.seen }
 moved_amid i c t u = rw (t, u) refl
 
-moved_not : (i : ℕ) (c : Cursor) → nat_le i c.start ≡ false → nat_lt i (c.start + c.count) ≡ false → moved i c ≡ c
+moved_not : (i : ℕ) (c : Cursor) → nat_le i c.start ≡ false → nat_lt i (c.start + c.count) ≡ false → moved_cursor i c ≡ c
 moved_not i c t u = rw (t, u) refl
 
 window_on : (i : ℕ) (xs : List Slot) (a : Slot) (c : Cursor) → i ≤ c.start → c.start + c.count ≤ length xs → window (record c { start = c.start + 1 }) (insert xs i a) ≡ window c xs
@@ -119,36 +119,36 @@ left_amid p hooked seen i start ws a out le lo = by_bool (nat_lt i (start + seen
     (λ t. let lt : i < start + seen = grind (arith, nat_tests) in rw t (ap (filter (in_snapshot p hooked)) (insert_before ws (i - start) seen a (omega arith) le)))
     (λ t. let ge : start + seen ≤ i = grind (arith, nat_tests) in rw t (insert_after (in_snapshot p hooked) ws (i - start) seen a out (omega arith)))
 
-going_moved : (p i hooked : ℕ) (xs : List Slot) (a : Slot) (c : Cursor) → hooked < a.id.0 → Stands hooked xs c → going p (moved i c) (insert xs i a) ≡ going p c xs
+going_moved : (p i hooked : ℕ) (xs : List Slot) (a : Slot) (c : Cursor) → hooked < a.id.0 → CursorFits hooked xs c → going_at p (moved_cursor i c) (insert xs i a) ≡ going_at p c xs
 going_moved p i hooked xs a c new s =
     let inside = s.inside in let within = s.within in let drawn = s.drawn in
     let late : nat_le a.id.0 c.hooked ≡ false = grind (arith, nat_tests) in
     let out : in_snapshot p c.hooked a ≡ false = ap (λ b. b && was_of p a) late in
     by_bool (nat_le i c.start)
     (λ t. let le : i ≤ c.start = grind (arith, nat_tests) in
-    ap (λ d. going p d (insert xs i a)) (moved_on i c t) ∙ ap (going_in p c.hooked c.seen c.looked) (window_on i xs a c le inside))
+    ap (λ d. going_at p d (insert xs i a)) (moved_on i c t) ∙ ap (going_in p c.hooked c.seen c.looked) (window_on i xs a c le inside))
     (λ t. by_bool (nat_lt i (c.start + c.count))
     (λ u. let lo : c.start < i = grind (arith, nat_tests) in let hi : i < c.start + c.count = grind (arith, nat_tests) in
     let seen = if nat_lt i (c.start + c.seen) then c.seen + 1 else c.seen in
     let n = length_window xs c inside in
-    ap (λ d. going p d (insert xs i a)) (moved_amid i c t u)
+    ap (λ d. going_at p d (insert xs i a)) (moved_amid i c t u)
     ∙ ap (going_in p c.hooked seen c.looked) (window_amid i xs a c seen lo hi inside)
     ∙ (λ j. record { left = map slot_entry (left_amid p c.hooked c.seen i c.start (window c xs) a out (omega (arith, n)) lo j); looked = c.looked; over = first_stays (window c xs) (i - c.start) a (omega arith) (omega (arith, n)) j }))
     (λ u. let ge : c.start + c.count ≤ i = grind (arith, nat_tests) in
-    ap (λ d. going p d (insert xs i a)) (moved_not i c t u) ∙ ap (going_in p c.hooked c.seen c.looked) (window_not i xs a c ge inside)))
+    ap (λ d. going_at p d (insert xs i a)) (moved_not i c t u) ∙ ap (going_in p c.hooked c.seen c.looked) (window_not i xs a c ge inside)))
 
-pub goings_moved : (p i hooked : ℕ) (xs : List Slot) (a : Slot) (cs : List (Option Cursor)) → hooked < a.id.0 → AllStand hooked xs cs → goings p (insert xs i a) (map (moved_place i) cs) ≡ goings p xs cs
+pub goings_moved : (p i hooked : ℕ) (xs : List Slot) (a : Slot) (cs : List (Option Cursor)) → hooked < a.id.0 → AllCursorsFit hooked xs cs → goings p (insert xs i a) (map (moved_place i) cs) ≡ goings p xs cs
 goings_moved p i hooked xs a [] new s = refl
 goings_moved p i hooked xs a (None ∷ cs) new s = ap (λ l. None ∷ l) (goings_moved (p + 1) i hooked xs a cs new s)
 goings_moved p i hooked xs a (Some c ∷ cs) new s = (λ j. Some (going_moved p i hooked xs a c new s.0 j) ∷ goings_moved (p + 1) i hooked xs a cs new s.1 j)
 
-stands_moved : (i hooked next : ℕ) (xs : List Slot) (a : Slot) (c : Cursor) → i ≤ length xs → hooked ≤ next → falls_by slot_rank (insert xs i a) ≡ true → Stands hooked xs c → Stands next (insert xs i a) (moved i c)
+stands_moved : (i hooked next : ℕ) (xs : List Slot) (a : Slot) (c : Cursor) → i ≤ length xs → hooked ≤ next → falls_by slot_rank (insert xs i a) ≡ true → CursorFits hooked xs c → CursorFits next (insert xs i a) (moved_cursor i c)
 stands_moved i hooked next xs a c il up f s =
     let inside = s.inside in let within = s.within in let counted = s.counted in let drawn = s.drawn in
     let more = length-insert xs i a il in
     by_bool (nat_le i c.start)
     (λ t. let le : i ≤ c.start = grind (arith, nat_tests) in
-    subst (Stands next (insert xs i a)) (sym (moved_on i c t)) (record {
+    subst (CursorFits next (insert xs i a)) (sym (moved_on i c t)) (record {
       inside = omega (arith, more);
       within = within;
       counted = counted;
@@ -161,29 +161,29 @@ stands_moved i hooked next xs a c il up f s =
     let w = λ (seen : ℕ). window_amid i xs a c seen lo hi inside in
     let fall : falls_by slot_rank (insert (window c xs) (i - c.start) a) ≡ true = ap (falls_by slot_rank) (sym (w 0)) ∙ falls_take slot_rank (c.count + 1) (drop c.start (insert xs i a)) (falls_drop slot_rank c.start (insert xs i a) f) in
     let one : one_topic (insert (window c xs) (i - c.start) a) ≡ true = one_stays (window c xs) (i - c.start) a (omega arith) (omega (arith, n)) s.topic fall in
-    subst (Stands next (insert xs i a)) (sym (moved_amid i c t u)) (amid_stands (c.start + c.seen) more w one))
+    subst (CursorFits next (insert xs i a)) (sym (moved_amid i c t u)) (amid_stands (c.start + c.seen) more w one))
     (λ u. let ge : c.start + c.count ≤ i = grind (arith, nat_tests) in
-    subst (Stands next (insert xs i a)) (sym (moved_not i c t u)) (record {
+    subst (CursorFits next (insert xs i a)) (sym (moved_not i c t u)) (record {
       inside = omega (arith, more);
       within = within;
       counted = counted;
       drawn = omega arith;
       topic = ap one_topic (window_not i xs a c ge inside) ∙ s.topic;
     }))) where
-      amid_stands : (edge : ℕ) → length (insert xs i a) ≡ length xs + 1 → ((seen : ℕ) → window (record c { count = c.count + 1; seen = seen }) (insert xs i a) ≡ insert (window c xs) (i - c.start) a) → one_topic (insert (window c xs) (i - c.start) a) ≡ true → Stands next (insert xs i a) (record c { count = c.count + 1; seen = if nat_lt i edge then c.seen + 1 else c.seen })
+      amid_stands : (edge : ℕ) → length (insert xs i a) ≡ length xs + 1 → ((seen : ℕ) → window (record c { count = c.count + 1; seen = seen }) (insert xs i a) ≡ insert (window c xs) (i - c.start) a) → one_topic (insert (window c xs) (i - c.start) a) ≡ true → CursorFits next (insert xs i a) (record c { count = c.count + 1; seen = if nat_lt i edge then c.seen + 1 else c.seen })
       amid_stands edge more w one =
           let inside = s.inside in let within = s.within in let counted = s.counted in let drawn = s.drawn in
           by_bool (nat_lt i edge)
           (λ t. rw t (record { inside = omega (arith, more); within = omega arith; counted = omega arith; drawn = omega arith; topic = ap one_topic (w (c.seen + 1)) ∙ one }))
           (λ t. rw t (record { inside = omega (arith, more); within = omega arith; counted = counted; drawn = omega arith; topic = ap one_topic (w c.seen) ∙ one }))
 
-pub all_stand_moved : (i hooked next : ℕ) (xs : List Slot) (a : Slot) (cs : List (Option Cursor)) → i ≤ length xs → hooked ≤ next → falls_by slot_rank (insert xs i a) ≡ true → AllStand hooked xs cs → AllStand next (insert xs i a) (map (moved_place i) cs)
+pub all_stand_moved : (i hooked next : ℕ) (xs : List Slot) (a : Slot) (cs : List (Option Cursor)) → i ≤ length xs → hooked ≤ next → falls_by slot_rank (insert xs i a) ≡ true → AllCursorsFit hooked xs cs → AllCursorsFit next (insert xs i a) (map (moved_place i) cs)
 all_stand_moved i hooked next xs a [] il up f s = tt
 all_stand_moved i hooked next xs a (None ∷ cs) il up f s = all_stand_moved i hooked next xs a cs il up f s
 all_stand_moved i hooked next xs a (Some c ∷ cs) il up f s = (stands_moved i hooked next xs a c il up f s.0, all_stand_moved i hooked next xs a cs il up f s.1)
 
 -- the ends of cursors can be moved
-pub all_low : (hooked : ℕ) (xs : List Slot) (cs : List (Option Cursor)) → length xs < 18446744073709551615 → AllStand hooked xs cs → list_all is_low cs ≡ true
+pub all_low : (hooked : ℕ) (xs : List Slot) (cs : List (Option Cursor)) → length xs < 18446744073709551615 → AllCursorsFit hooked xs cs → list_all is_low cs ≡ true
 all_low hooked xs [] lt s = refl
 all_low hooked xs (None ∷ cs) lt s = all_low hooked xs cs lt s
 all_low hooked xs (Some c ∷ cs) lt s =

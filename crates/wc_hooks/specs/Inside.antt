@@ -9,7 +9,7 @@ use Rattle.wc_hooks.specs.declared.table.HookTable.TheInside.{Inside}
 use Rattle.wc_hooks.specs.Kinds.{same_owner}
 use Rattle.wc_hooks.specs.Rows.{HookRow, is_id, relays, others}
 use Rattle.wc_hooks.specs.Passes.{runs}
-use Rattle.wc_hooks.specs.Slots.{live_rows, slot_filing, goings, is_live, IsOrdered, AllStand}
+use Rattle.wc_hooks.specs.Slots.{live_rows, slot_filing, goings, is_live, IsOrdered, AllCursorsFit}
 use Rattle.wc_hooks.specs.Table.{Table}
 
 abbrev pub seen_as : List Slot → List (Option Cursor) → List Entry → ℕ → Table
@@ -44,14 +44,14 @@ pub record IsPurged (slots : List Slot) (cursors : List (Option Cursor)) (has_go
   pub closed : list_any is_some cursors ≡ false → has_gone ≡ false
 
 -- what always holds beside the room for marks
-pub record IsKept (slots : List Slot) (cursors : List (Option Cursor)) (marks : List Entry) (hooked relay_count other_count : ℕ) (has_gone : Bool) : Type 0 where
+pub record IsTableKept (slots : List Slot) (cursors : List (Option Cursor)) (marks : List Entry) (hooked relay_count other_count : ℕ) (has_gone : Bool) : Type 0 where
   pub ordered : IsOrdered hooked slots
-  pub standing : AllStand hooked slots cursors
+  pub standing : AllCursorsFit hooked slots cursors
   pub places : length cursors ≡ 17
   pub marked : IsMarked (live_rows slots) marks
   pub counted : IsCounted (live_rows slots) relay_count other_count
   pub purged : IsPurged slots cursors has_gone
 
 pub record IsSound (a : Inside) : Type 0 where
-  pub kept : IsKept a.slots a.cursors.items a.marks.items a.hooked a.relays a.others a.has_gone
+  pub kept : IsTableKept a.slots a.cursors.items a.marks.items a.hooked a.relays a.others a.has_gone
   pub room : 1024 ≤ vec_capacity a.marks

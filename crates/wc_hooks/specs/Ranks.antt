@@ -22,7 +22,7 @@ rank_order a b = ordering_then (topic_order a.kind a.key b.kind b.key) (nat_cmp 
 abbrev pub precedes : Rank → Rank → Bool
 precedes a b = is_lt (rank_order a b)
 
--- behind all but those that it precedes
+-- after all but those that it precedes
 abbrev pub put_by : {A : Type 0} → (A → Rank) → A → List A → List A
 put_by rank new [] = new ∷ []
 put_by rank new (other ∷ others) = if precedes (rank new) (rank other) then new ∷ (other ∷ others) else other ∷ put_by rank new others

@@ -24,8 +24,8 @@ abbrev pub is_for : HookKind → List ℕ → HookRow → Bool
 is_for kind key row = same_kind row.kind kind && bytes_eq row.key key
 
 -- those of a kind and a key
-abbrev pub filed : HookKind → List ℕ → List HookRow → List HookRow
-filed kind key rows = filter (is_for kind key) rows
+abbrev pub rows_filed : HookKind → List ℕ → List HookRow → List HookRow
+rows_filed kind key rows = filter (is_for kind key) rows
 
 abbrev pub rank_of : HookRow → Rank
 rank_of row = record { kind = row.kind; key = row.key; priority = row.priority }
@@ -43,8 +43,8 @@ abbrev pub with_switch : HookId → Bool → HookRow → HookRow
 with_switch id on row = if is_id id row then record row { enabled = on } else row
 
 -- the one with this number enabled or disabled
-abbrev pub switched : HookId → Bool → List HookRow → List HookRow
-switched id on rows = map (with_switch id on) rows
+abbrev pub rows_switched : HookId → Bool → List HookRow → List HookRow
+rows_switched id on rows = map (with_switch id on) rows
 
 -- one with this number lives
 abbrev pub lives : HookId → List HookRow → Bool

@@ -10,7 +10,7 @@ use Rattle.wc_hooks.specs.Kinds.{same_kind, is_relay}
 use Rattle.wc_hooks.specs.Ranks.{Rank, falls_by}
 use Rattle.wc_hooks.specs.Rows.{HookRow}
 use Rattle.wc_hooks.specs.Filings.{Filing}
-use Rattle.wc_hooks.specs.Passes.{runs, behind}
+use Rattle.wc_hooks.specs.Passes.{runs, following}
 use Rattle.wc_hooks.specs.Past.{was_at, opened_at, noted}
 use Rattle.wc_hooks.specs.Table.{Topic, Going}
 
@@ -90,32 +90,32 @@ abbrev pub first_topic : List Slot → Option Topic
 first_topic [] = None
 first_topic (slot ∷ slots) = Some (record { kind = slot.kind; key = slot.key })
 
-abbrev pub going : ℕ → Cursor → List Slot → Going
-going place cursor slots = record { left = map slot_entry (ahead place cursor slots); looked = cursor.looked; over = first_topic (window cursor slots) }
+abbrev pub going_at : ℕ → Cursor → List Slot → Going
+going_at place cursor slots = record { left = map slot_entry (ahead place cursor slots); looked = cursor.looked; over = first_topic (window cursor slots) }
 
 -- the passes, place by place
 abbrev pub goings : ℕ → List Slot → List (Option Cursor) → List (Option Going)
 goings place slots [] = []
 goings place slots (None ∷ cursors) = None ∷ goings (place + 1) slots cursors
-goings place slots (Some cursor ∷ cursors) = Some (going place cursor slots) ∷ goings (place + 1) slots cursors
+goings place slots (Some cursor ∷ cursors) = Some (going_at place cursor slots) ∷ goings (place + 1) slots cursors
 
 -- a slot was put in at this place
-abbrev pub moved : ℕ → Cursor → Cursor
-moved at cursor =
+abbrev pub moved_cursor : ℕ → Cursor → Cursor
+moved_cursor at cursor =
     if nat_le at cursor.start then record cursor { start = cursor.start + 1 } else
     if nat_lt at (cursor.start + cursor.count) then record cursor { count = cursor.count + 1; seen = if nat_lt at (cursor.start + cursor.seen) then cursor.seen + 1 else cursor.seen }
     else cursor
 
 abbrev pub moved_place : ℕ → Option Cursor → Option Cursor
 moved_place at None = None
-moved_place at (Some cursor) = Some (moved at cursor)
+moved_place at (Some cursor) = Some (moved_cursor at cursor)
 
 -- all are of one kind and key
 abbrev pub one_topic : List Slot → Bool
 one_topic [] = true
 one_topic (slot ∷ slots) = list_all (is_slot_for slot.kind slot.key) slots
 
--- each number stands once
+-- each number is once
 abbrev pub are_apart : List Slot → Bool
 are_apart [] = true
 are_apart (slot ∷ slots) = not (list_any (is_slot slot.id) slots) && are_apart slots
@@ -129,25 +129,25 @@ pub record IsOrdered (hooked : ℕ) (slots : List Slot) : Type 0 where
   pub apart : are_apart slots ≡ true
   pub known : list_all (is_known hooked) slots ≡ true
 
--- the slots of a kind and a key stand behind one another
+-- the slots of a kind and a key come after one another
 pub record IsRange (kind : HookKind) (key : List ℕ) (slots : List Slot) (start count : ℕ) : Type 0 where
   pub inside : start + count ≤ length slots
   pub front : list_all (λ slot. not (is_slot_for kind key slot)) (take start slots) ≡ true
   pub here : list_all (is_slot_for kind key) (take count (drop start slots)) ≡ true
   pub rest : list_all (λ slot. not (is_slot_for kind key slot)) (drop (start + count) slots) ≡ true
 
--- a cursor stands in the slots of one kind and key
-pub record Stands (hooked : ℕ) (slots : List Slot) (cursor : Cursor) : Type 0 where
+-- a cursor is in the slots of one kind and key
+pub record CursorFits (hooked : ℕ) (slots : List Slot) (cursor : Cursor) : Type 0 where
   pub inside : cursor.start + cursor.count ≤ length slots
   pub within : cursor.seen ≤ cursor.count
   pub counted : cursor.looked ≤ cursor.seen
   pub drawn : cursor.hooked ≤ hooked
   pub topic : one_topic (window cursor slots) ≡ true
 
-abbrev pub AllStand : ℕ → List Slot → List (Option Cursor) → Type 0
-AllStand hooked slots [] = Unit {0}
-AllStand hooked slots (None ∷ cursors) = AllStand hooked slots cursors
-AllStand hooked slots (Some cursor ∷ cursors) = Stands hooked slots cursor × AllStand hooked slots cursors
+abbrev pub AllCursorsFit : ℕ → List Slot → List (Option Cursor) → Type 0
+AllCursorsFit hooked slots [] = Unit {0}
+AllCursorsFit hooked slots (None ∷ cursors) = AllCursorsFit hooked slots cursors
+AllCursorsFit hooked slots (Some cursor ∷ cursors) = CursorFits hooked slots cursor × AllCursorsFit hooked slots cursors
 
 -- a cursor whose ends can be moved by one
 abbrev pub is_low : Option Cursor → Bool
@@ -161,7 +161,7 @@ found_entry (Some slot) = Some (slot_entry slot)
 -- a pass goes on over the slots
 pub record Walked (slots : List Slot) (marks : List Entry) (place : ℕ) (old new : Cursor) (result : Option Entry) : Type 0 where
   pub given : result ≡ found_entry (find (may_go marks) (ahead place old slots))
-  pub left : ahead place new slots ≡ behind (may_go marks) (ahead place old slots)
+  pub left : ahead place new slots ≡ following (may_go marks) (ahead place old slots)
   pub start : new.start ≡ old.start
   pub count : new.count ≡ old.count
   pub hooked : new.hooked ≡ old.hooked

@@ -5,9 +5,9 @@ use Rattle.wc_hooks.specs.declared.entry.Entry.{Entry}
 use Rattle.wc_hooks.specs.declared.entry.HookId.{HookId}
 use Rattle.wc_hooks.specs.declared.kind.HookKind.{HookKind}
 use Rattle.wc_hooks.specs.Kinds.{is_relay}
-use Rattle.wc_hooks.specs.Rows.{HookRow, put_in, filed, without, is_for, falls, is_id, lives, relays, others}
+use Rattle.wc_hooks.specs.Rows.{HookRow, put_in, rows_filed, without, is_for, falls, is_id, lives, relays, others}
 use Rattle.wc_hooks.specs.Filings.{Filing, filing_of, with_filing, without_filing, filed_under}
-use Rattle.wc_hooks.specs.Passes.{hooks_on, due, left_behind, with_given, unmarked}
+use Rattle.wc_hooks.specs.Passes.{hooks_on, due, entries_left, with_given, without_mark}
 
 -- a kind and a key
 pub record Topic : Type 0 where
@@ -84,14 +84,14 @@ is_full_for kind table = not (is_relay kind) && (others table.rows == 960)
 abbrev pub with_row : HookRow → Table → Table
 with_row row table = record table { rows = put_in row table.rows; filed = with_filing (filing_of row) table.filed; hooked = table.hooked + 1 }
 
--- under each kind and key stand those that stood there, and this one at its place where it is filed there
+-- under each kind and key are those that were there, and this one at its place where it is filed there
 abbrev pub IsFiled : HookRow → Table → Table → Type 0
 IsFiled row old new =
-    (kind : HookKind) (key : List ℕ) → filed kind key new.rows ≡ (if is_for kind key row then put_in row (filed kind key old.rows) else filed kind key old.rows)
+    (kind : HookKind) (key : List ℕ) → rows_filed kind key new.rows ≡ (if is_for kind key row then put_in row (rows_filed kind key old.rows) else rows_filed kind key old.rows)
 
 -- without the entry and its mark; it stays filed while a pass is open
 abbrev pub without_row : HookId → Table → Table
-without_row id table = record table { rows = without id table.rows; marks = unmarked id table.marks; filed = if any_open table.passes then table.filed else without_filing id table.filed }
+without_row id table = record table { rows = without id table.rows; marks = without_mark id table.marks; filed = if any_open table.passes then table.filed else without_filing id table.filed }
 
 abbrev pub with_rows : List HookRow → Table → Table
 with_rows rows table = record table { rows = rows }
@@ -114,10 +114,10 @@ opening kind key table = record { left = hooks_on kind key table.rows; looked = 
 abbrev pub next_of : Table → ℕ → Option Entry
 next_of table place = due table.rows table.marks (left_at table place)
 
--- that is marked as running, what stands behind it is left, and so many entries more were looked at
+-- that is marked as running, what comes after it is left, and so many entries more were looked at
 abbrev pub after_next : Table → ℕ → ℕ → Table
 after_next table place steps =
-    with_pass place (Some (record { left = left_behind table.rows table.marks (left_at table place); looked = looked_at table place + steps; over = over_at table place }))
+    with_pass place (Some (record { left = entries_left table.rows table.marks (left_at table place); looked = looked_at table place + steps; over = over_at table place }))
     (with_marks (with_given (next_of table place) table.marks) table)
 
 -- no pass is open at this place; where none is open at all, only those that live are filed
@@ -137,7 +137,7 @@ abbrev pub is_among : HookId → List Entry → Bool
 is_among id entries = list_any (λ entry. entry.id.0 == id.0) entries
 
 -- no entry that lives has this number, nor one that is marked or left of an open pass
-pub record IsFresh (id : HookId) (table : Table) : Type 0 where
+pub record IsUnusedId (id : HookId) (table : Table) : Type 0 where
   pub lives : lives id table.rows ≡ false
   pub marks : is_among id table.marks ≡ false
   pub left : (place : ℕ) → is_among id (left_at table place) ≡ false
@@ -147,7 +147,7 @@ abbrev pub are_drawn : ℕ → List Entry → Bool
 are_drawn hooked entries = list_all (λ entry. nat_le entry.id.0 hooked) entries
 
 -- what always holds of the table
-pub record IsTable (table : Table) : Type 0 where
+pub record IsHookTable (table : Table) : Type 0 where
   pub falls : falls table.rows ≡ true
   pub once : (id : HookId) → length (filter (is_id id) table.rows) ≤ 1
   pub rows_drawn : list_all (λ row. nat_le row.id.0 table.hooked) table.rows ≡ true

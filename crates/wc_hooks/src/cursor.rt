@@ -2,7 +2,7 @@ ghost use Rattle.std.specs.Prelude.{◌≡◌, map, true};
 ghost use Rattle.std.specs.List.{list_all};
 ghost use Rattle.wc_hooks.specs.Slots.{moved_place, is_low};
 
-/// Where an open pass stands: the slots of its kind and key, how many of them lie behind it, how many entries had been
+/// Where an open pass is: the slots of its kind and key, how many of them lie after it, how many entries had been
 /// hooked as it opened, and how many it looked at.
 #[derive(Clone, Copy, Debug, Drop)]
 pub struct Cursor {
@@ -14,7 +14,7 @@ pub struct Cursor {
 }
 
 /// The cursor after a slot was put in at this place. One that is put in among the slots of the pass is no part of it, but
-/// stands among them.
+/// is among them.
 fn moved(place: Option<Cursor>, at: usize) -> Option<Cursor>
     requires { is_low place ≡ true }
     ensures { result ≡ moved_place at place }
@@ -31,7 +31,7 @@ fn moved(place: Option<Cursor>, at: usize) -> Option<Cursor>
     Some(cursor)
 }
 
-/// A slot was put in at this place: the cursors behind it go on by one.
+/// A slot was put in at this place: the cursors after it go on by one.
 pub fn move_all(cursors: &mut Vec<Option<Cursor>>, at: usize)
     requires { list_all is_low cursors.old.items ≡ true }
     ensures { cursors.new.items ≡ map (moved_place at) cursors.old.items }

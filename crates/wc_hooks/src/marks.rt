@@ -1,7 +1,7 @@
 //! The entries that are marked as running.
 ghost use Rattle.std.specs.Prelude.{◌≡◌, ◌<◌, is_some, IsTrue};
 ghost use Rattle.std.specs.Vec.{vec_capacity, vec_len};
-ghost use Rattle.wc_hooks.specs.Passes.{runs, with_given, unmarked};
+ghost use Rattle.wc_hooks.specs.Passes.{runs, with_given, without_mark};
 
 use crate::entry::{Entry, HookId, Owner};
 
@@ -25,7 +25,7 @@ pub fn mark_given(marks: &mut Vec<Entry>, given: Option<Entry>)
 
 /// Takes the mark of the entry with this number away.
 pub fn unmark(marks: &mut Vec<Entry>, id: HookId)
-    ensures marks { marks.new.items ≡ unmarked id marks.old.items }
+    ensures marks { marks.new.items ≡ without_mark id marks.old.items }
     ensures capacity { vec_capacity marks.new ≡ vec_capacity marks.old }
 {
     marks.retain(|mark| mark.id != id);

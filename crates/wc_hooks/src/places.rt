@@ -11,7 +11,7 @@ use wc_text::NoMemory;
 /// How many passes of other kinds than the one of relay sessions may be open inside one another.
 pub const OTHER_PLACES: usize = 16;
 
-/// The place of the pass that tells relay sessions, behind the others.
+/// The place of the pass that tells relay sessions, after the others.
 pub const RELAY_PLACE: usize = OTHER_PLACES;
 
 /// All places, with no pass open.

@@ -45,14 +45,14 @@ impl Slot {
         self.kind.is_same(kind) && self.key.as_slice() == key.as_slice()
     }
 
-    /// Whether it stands before all of this kind and key.
+    /// Whether it is before all of this kind and key.
     pub fn is_before(&self, kind: HookKind, key: &Text) -> bool
         ensures { result ≡ is_lt (topic_order self.now.kind self.now.key kind key.now) }
     {
         topic_cmp(self.kind, &self.key, kind, key).is_lt()
     }
 
-    /// Whether it stands before the other.
+    /// Whether it is before the other.
     #[tactic(auto, unfolding(crate::specs::Ranks::rank_order))]
     pub fn precedes(&self, other: &Slot) -> bool
         ensures { result ≡ precedes (slot_rank self.now) (slot_rank other.now) }

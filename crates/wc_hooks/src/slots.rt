@@ -38,7 +38,7 @@ impl Slots {
         }
     }
 
-    /// Puts a slot behind all but those that it precedes, and tells where.
+    /// Puts a slot after all but those that it precedes, and tells where.
     pub fn put(&mut self, slot: Slot) -> Result<usize, NoMemory>
         ensures within { IfOk result (λ at. at ≤ length self.old) }
         ensures there { IfOk result (λ at. self.new ≡ insert self.old at slot) }
@@ -160,7 +160,7 @@ impl Slots {
     }
 }
 
-/// Where a slot goes: behind all but those that it precedes.
+/// Where a slot goes: after all but those that it precedes.
 #[tactic(auto, using(crate::proofs::Puts::put_front, crate::proofs::Puts::put_here, crate::proofs::Puts::put_last))]
 fn place_of(slots: &[Slot], slot: &Slot) -> usize
     ensures within { result ≤ length slots.now }

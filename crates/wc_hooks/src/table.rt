@@ -2,9 +2,9 @@ ghost use Rattle.std.specs.Prelude.{◌≤◌, is_some, ◌≡◌, ◌≢◌, �
 ghost use Rattle.wc_hooks.specs.declared.kind.HookKind.{HookKind};
 ghost use Rattle.wc_hooks.specs.declared.refused.HookRefused.{HookRefused};
 ghost use Rattle.wc_hooks.specs.Kinds.{is_relay};
-ghost use Rattle.wc_hooks.specs.Rows.{new_row, without, switched, lives, relays, others, filed};
-ghost use Rattle.wc_hooks.specs.Passes.{unmarked};
-ghost use Rattle.wc_hooks.specs.Table.{new_table, with_row, without_row, with_rows, with_marks, with_pass, without_pass, opening, pass_at, looked_at, IsOpen, has_no_place, is_place_for, is_full_for, is_bounded, next_of, after_next, IsTable, IsFiled, IsFresh, other_passes};
+ghost use Rattle.wc_hooks.specs.Rows.{new_row, without, rows_switched, lives, relays, others, rows_filed};
+ghost use Rattle.wc_hooks.specs.Passes.{without_mark};
+ghost use Rattle.wc_hooks.specs.Table.{new_table, with_row, without_row, with_rows, with_marks, with_pass, without_pass, opening, pass_at, looked_at, IsOpen, has_no_place, is_place_for, is_full_for, is_bounded, next_of, after_next, IsHookTable, IsFiled, IsUnusedId, other_passes};
 
 use crate::cursor::{Cursor, move_all};
 use crate::entry::{Entry, HookId, Owner};
@@ -44,7 +44,7 @@ impl Model for Pass {
 
 /// The entries that are hooked, and the passes that go through them.
 ///
-/// A pass takes the enabled entries of its kind and key as they stand at its opening, by priority downward, ties by creation.
+/// A pass takes the enabled entries of its kind and key as they are at its opening, by priority downward, ties by creation.
 /// At each turn it gives the first of those left that lives, is enabled, and of whose owner no entry is marked as running.
 /// Entries may be hooked, unhooked and switched, and further passes opened, while passes are open.
 ///
@@ -91,7 +91,7 @@ impl HookTable {
         })
     }
 
-    /// Hooks an entry under a kind and a key, behind those of its priority or a higher one. It is enabled, is not running,
+    /// Hooks an entry under a kind and a key, after those of its priority or a higher one. It is enabled, is not running,
     /// and has a number that no entry had. `TooMany` exactly where the kind is not `Relay` and 960 entries of other kinds
     /// than `Relay` live. After a refusal nothing changed.
     pub fn hook(
@@ -107,7 +107,7 @@ impl HookTable {
         ensures number { IfOk result (λ id. id.0 ≡ self.old.hooked + 1) }
         ensures filed { IfOk result (λ id. self.new ≡ with_row (new_row id kind key.now priority owner) self.old) }
         ensures by_key { IfOk result (λ id. IsFiled (new_row id kind key.now priority owner) self.old self.new) }
-        ensures fresh { IfOk result (λ id. IsFresh id self.old) }
+        ensures fresh { IfOk result (λ id. IsUnusedId id self.old) }
         ensures too_many { IsTrue (is_full_for kind self.old) → result ≡ Err (HookRefused.TooMany 960) }
         ensures room { is_full_for kind self.old ≡ false → IsOkUnless result HookRefused.NoMemory }
         ensures err { OnErr result (self.new ≡ self.old) }
@@ -136,7 +136,7 @@ impl HookTable {
         ensures number { IfOk result (λ id. id.0 ≡ self.old.hooked + 1) }
         ensures filed { IfOk result (λ id. self.new ≡ with_row (new_row id kind key.now priority owner) self.old) }
         ensures by_key { IfOk result (λ id. IsFiled (new_row id kind key.now priority owner) self.old self.new) }
-        ensures fresh { IfOk result (λ id. IsFresh id self.old) }
+        ensures fresh { IfOk result (λ id. IsUnusedId id self.old) }
         ensures err { OnErr result (self.new ≡ self.old) }
     {
         let key = key.copy(alloc)?;
@@ -164,7 +164,7 @@ impl HookTable {
         ensures found { result ≡ lives id self.old.rows }
         ensures after { self.new ≡ without_row id self.old }
         ensures missing { result ≡ false → self.new ≡ self.old }
-        ensures by_key { (kind : HookKind) (key : List ℕ) → filed kind key self.new.rows ≡ without id (filed kind key self.old.rows) }
+        ensures by_key { (kind : HookKind) (key : List ℕ) → rows_filed kind key self.new.rows ≡ without id (rows_filed kind key self.old.rows) }
     {
         if !self.slots.lives(id) {
             return false;
@@ -181,9 +181,9 @@ impl HookTable {
     /// Enables or disables the entry. False exactly where no entry with this number lives; then nothing changes.
     pub fn set_enabled(&mut self, id: HookId, on: bool) -> bool
         ensures found { result ≡ lives id self.old.rows }
-        ensures after { self.new ≡ with_rows (switched id on self.old.rows) self.old }
+        ensures after { self.new ≡ with_rows (rows_switched id on self.old.rows) self.old }
         ensures missing { result ≡ false → self.new ≡ self.old }
-        ensures by_key { (kind : HookKind) (key : List ℕ) → filed kind key self.new.rows ≡ switched id on (filed kind key self.old.rows) }
+        ensures by_key { (kind : HookKind) (key : List ℕ) → rows_filed kind key self.new.rows ≡ rows_switched id on (rows_filed kind key self.old.rows) }
     {
         let found = self.slots.lives(id);
         self.slots.switch(id, on);
@@ -244,7 +244,7 @@ impl HookTable {
 
     /// Takes the entry's mark of running away. Where it is gone or is not marked, nothing changes.
     pub fn end_run(&mut self, id: HookId)
-        ensures { self.new ≡ with_marks (unmarked id self.old.marks) self.old }
+        ensures { self.new ≡ with_marks (without_mark id self.old.marks) self.old }
     {
         unmark(&mut self.marks, id);
     }
@@ -269,7 +269,7 @@ impl HookTable {
     /// Whether an entry with this number lives.
     pub fn lives(&self, id: HookId) -> bool
         ensures found { result ≡ lives id self.now.rows }
-        ensures law { IsTable self.now }
+        ensures law { IsHookTable self.now }
     {
         self.slots.lives(id)
     }

@@ -49,7 +49,7 @@ pub command_filled : (word : List ℕ) → is_command word ≡ true → is_fille
 command_filled [] is = is
 command_filled (b ∷ word) is = refl
 
--- a byte that is no sign stands nowhere in signs
+-- a byte that is no sign is nowhere in signs
 pub Lacks-signs : (c : ℕ) (word : List ℕ) → is_sign c ≡ false → list_all is_sign word ≡ true → Lacks c word
 Lacks-signs c [] none all = tt
 Lacks-signs c (b ∷ word) none all = let both = and_parts (is_sign b) (list_all is_sign word) all in (sign_is_no b c none both.0, Lacks-signs c word none both.1)

@@ -1,13 +1,13 @@
--- What stands before a command.
+-- What is before a command.
 use Rattle.std.proofs.Common.{◌≡◌, ◌≢◌, ℕ, ◌≤◌, List, [], ◌∷◌, length, drop, refl, ap, sym, ◌∙◌, arith, eqb, Bool, true, false, cond, Option, Some, None, subst}
 use Rattle.std.proofs.lemmas.Bool.Decides.{Decides-eqb}
 use Rattle.wc_ircmsg.specs.Cuts.{before, onward, past, begins_with, BeginsWithout}
-use Rattle.wc_ircmsg.specs.Words.{Parts, Marked, word_of, rest_of}
+use Rattle.wc_ircmsg.specs.Words.{WordAndRest, Marked, word_of, rest_of}
 use Rattle.wc_ircmsg.specs.Sources.{or_empty}
-use Rattle.wc_ircmsg.specs.Answers.{behind_marked, marked_word, untagged_of, source_of, call_of}
+use Rattle.wc_ircmsg.specs.Answers.{after_marked, marked_word, untagged_of, source_of, call_of}
 use Rattle.wc_ircmsg.specs.Grammar.{Front}
 use Rattle.wc_ircmsg.proofs.CutLemmas.{length-onward}
-use Rattle.wc_ircmsg.proofs.WordLemmas.{other_byte, same_byte, byte_differs, past-blanks, past-bare, BeginsWithout-past, margin, Parts-same, Parts-made}
+use Rattle.wc_ircmsg.proofs.WordLemmas.{other_byte, same_byte, byte_differs, past-blanks, past-bare, BeginsWithout-past, margin, WordAndRest-same, WordAndRest-made}
 
 -- a text that does not begin with the byte
 without : (mark : ℕ) (text : List ℕ) → BeginsWithout mark text → begins_with mark text ≡ false
@@ -15,17 +15,17 @@ without mark [] bare = refl
 without mark (b ∷ text) bare = other_byte b mark bare
 
 -- a marked word is the one that is computed
-pub Marked-same : (mark : ℕ) (text rest : List ℕ) (word : Option (List ℕ)) → Marked mark text word rest → (or_empty word ≡ marked_word mark text) × (rest ≡ behind_marked mark text)
+pub Marked-same : (mark : ℕ) (text rest : List ℕ) (word : Option (List ℕ)) → Marked mark text word rest → (or_empty word ≡ marked_word mark text) × (rest ≡ after_marked mark text)
 Marked-same mark text rest None marked =
     let no : begins_with mark text ≡ false = without mark text marked.0 in
     (sym (ap (λ t. cond t (drop 1 (word_of text)) []) no), marked.1 ∙ sym (ap (λ t. cond t (rest_of text) text) no))
 Marked-same mark text rest (Some word) parts =
     let yes : begins_with mark text ≡ true = ap (begins_with mark) parts.spelled ∙ same_byte mark in
-    let same = Parts-same text (mark ∷ word) rest parts in
+    let same = WordAndRest-same text (mark ∷ word) rest parts in
     (ap (drop 1) same.0 ∙ sym (ap (λ t. cond t (drop 1 (word_of text)) []) yes), same.1 ∙ sym (ap (λ t. cond t (rest_of text) text) yes))
 
 -- a text has a marked word, or none
-pub Marked-made : (mark : ℕ) (text : List ℕ) → mark ≢ 32 → (word : Option (List ℕ)) × Marked mark text word (behind_marked mark text) × (marked_word mark text ≡ or_empty word)
+pub Marked-made : (mark : ℕ) (text : List ℕ) → mark ≢ 32 → (word : Option (List ℕ)) × Marked mark text word (after_marked mark text) × (marked_word mark text ≡ or_empty word)
 Marked-made mark [] solid = (None, (tt, refl), refl)
 Marked-made mark (b ∷ text) solid = by (eqb b mark) refl where
   front : b ≡ mark → word_of (b ∷ text) ≡ mark ∷ before 32 text
@@ -34,7 +34,7 @@ Marked-made mark (b ∷ text) solid = by (eqb b mark) refl where
   by : (t : Bool) → eqb b mark ≡ t → (word : Option (List ℕ)) × Marked mark (b ∷ text) word (cond t (rest_of (b ∷ text)) (b ∷ text)) × (cond t (drop 1 (word_of (b ∷ text))) [] ≡ or_empty word)
   by true e =
       let is = front ((Decides-eqb b mark).0 e) in
-      (Some (before 32 text), subst (λ w. Parts (b ∷ text) w (rest_of (b ∷ text))) is (Parts-made (b ∷ text)), ap (drop 1) is)
+      (Some (before 32 text), subst (λ w. WordAndRest (b ∷ text) w (rest_of (b ∷ text))) is (WordAndRest-made (b ∷ text)), ap (drop 1) is)
   by false e = (None, (byte_differs b mark e, refl), refl)
 
 -- the front of a text is the one that is computed
@@ -42,9 +42,9 @@ pub Front-same : (text source call : List ℕ) → Front text source call → (s
 unfolding untagged_of source_of call_of
 Front-same text source call front =
     let body : front.body ≡ past 32 text = sym (ap (past 32) front.spelled ∙ past-blanks front.margin front.body ∙ past-bare 32 front.body front.bare) in
-    let untagged : front.untagged ≡ untagged_of text = (Marked-same 64 front.body front.untagged front.tags front.tagged).1 ∙ ap (behind_marked 64) body in
+    let untagged : front.untagged ≡ untagged_of text = (Marked-same 64 front.body front.untagged front.tags front.tagged).1 ∙ ap (after_marked 64) body in
     let prefixed = Marked-same 58 front.untagged call front.prefix front.prefixed in
-    (front.source_is ∙ prefixed.0 ∙ ap (marked_word 58) untagged, prefixed.1 ∙ ap (behind_marked 58) untagged)
+    (front.source_is ∙ prefixed.0 ∙ ap (marked_word 58) untagged, prefixed.1 ∙ ap (after_marked 58) untagged)
 
 -- each text has this front
 pub Front-made : (text : List ℕ) → Front text (source_of text) (call_of text)
@@ -74,12 +74,12 @@ length-past c (b ∷ text) = by (eqb b c) (length-past c text) where
   by true shorter = omega arith
   by false shorter = omega arith
 
-length-behind_marked : (mark : ℕ) (text : List ℕ) → length (behind_marked mark text) ≤ length text
-length-behind_marked mark text = by (begins_with mark text) where
+length-after_marked : (mark : ℕ) (text : List ℕ) → length (after_marked mark text) ≤ length text
+length-after_marked mark text = by (begins_with mark text) where
   by : (t : Bool) → length (cond t (rest_of text) text) ≤ length text
   by true = omega (arith, length-past 32 (onward 32 text), length-onward 32 text)
   by false = omega arith
 
 pub length-call_of : (text : List ℕ) → length (call_of text) ≤ length text
 unfolding untagged_of call_of
-length-call_of text = omega (arith, length-behind_marked 58 (untagged_of text), length-behind_marked 64 (past 32 text), length-past 32 text)
+length-call_of text = omega (arith, length-after_marked 58 (untagged_of text), length-after_marked 64 (past 32 text), length-past 32 text)

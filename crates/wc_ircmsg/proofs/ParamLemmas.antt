@@ -2,26 +2,26 @@
 use Rattle.std.proofs.Common.{◌≡◌, ℕ, zero, suc, ◌-◌, ◌<◌, ◌⊎◌, inl, inr, List, [], ◌∷◌, ◌++◌, length, append_assoc, append-nil, refl, ap, sym, ◌∙◌, arith, eqb, Bool, true, false, cond, subst}
 use Rattle.std.proofs.lemmas.Bool.Decides.{nat_tests, Decides-eqb}
 use Rattle.std.proofs.lemmas.Bool.{false≢true}
-use Rattle.wc_ircmsg.specs.Words.{Parts, word_of, rest_of}
-use Rattle.wc_ircmsg.specs.Params.{Unmarked, FirstParam, SpellsParams, first_of, behind_first, params_of}
-use Rattle.wc_ircmsg.proofs.WordLemmas.{other_byte, byte_differs, Parts-same, Parts-made}
+use Rattle.wc_ircmsg.specs.Words.{WordAndRest, word_of, rest_of}
+use Rattle.wc_ircmsg.specs.Params.{Unmarked, FirstParam, SpellsParams, first_of, after_first, params_of}
+use Rattle.wc_ircmsg.proofs.WordLemmas.{other_byte, byte_differs, WordAndRest-same, WordAndRest-made}
 
 -- a parameter that no `:` marks is the one that is computed
 Unmarked-same : (more : ℕ) (text param rest : List ℕ) → Unmarked more text param rest → (param ≡ cond (eqb more 0) text (word_of text)) × (rest ≡ cond (eqb more 0) [] (rest_of text))
 Unmarked-same zero text param rest unmarked = unmarked
 Unmarked-same (suc more) text param rest parts =
     let some : eqb (suc more) 0 ≡ false = grind (arith, nat_tests) in
-    let same = Parts-same text param rest parts in
+    let same = WordAndRest-same text param rest parts in
     (same.0 ∙ sym (ap (λ t. cond t text (word_of text)) some), same.1 ∙ sym (ap (λ t. cond t [] (rest_of text)) some))
 
 Unmarked-made : (more : ℕ) (text : List ℕ) → Unmarked more text (cond (eqb more 0) text (word_of text)) (cond (eqb more 0) [] (rest_of text))
 Unmarked-made zero text = (refl, refl)
 Unmarked-made (suc more) text =
     let some : eqb (suc more) 0 ≡ false = grind (arith, nat_tests) in
-    subst (λ t. Parts text (cond t text (word_of text)) (cond t [] (rest_of text))) (sym some) (Parts-made text)
+    subst (λ t. WordAndRest text (cond t text (word_of text)) (cond t [] (rest_of text))) (sym some) (WordAndRest-made text)
 
 -- the first parameter is the one that is computed
-pub FirstParam-same : (more : ℕ) (text param rest : List ℕ) → FirstParam more text param rest → (param ≡ first_of more text) × (rest ≡ behind_first more text)
+pub FirstParam-same : (more : ℕ) (text param rest : List ℕ) → FirstParam more text param rest → (param ≡ first_of more text) × (rest ≡ after_first more text)
 FirstParam-same more [] param rest first = absurd first
 FirstParam-same more (b ∷ text) param rest (inl trailing) =
     let marked : eqb b 58 ≡ true = (Decides-eqb b 58).1 trailing.0 in (
@@ -35,7 +35,7 @@ FirstParam-same more (b ∷ text) param rest (inr other) =
       same.1 ∙ sym (ap (λ t. cond t [] (cond (eqb more 0) [] (rest_of (b ∷ text)))) plain),
     )
 
-pub FirstParam-made : (more b : ℕ) (text : List ℕ) → FirstParam more (b ∷ text) (first_of more (b ∷ text)) (behind_first more (b ∷ text))
+pub FirstParam-made : (more b : ℕ) (text : List ℕ) → FirstParam more (b ∷ text) (first_of more (b ∷ text)) (after_first more (b ∷ text))
 FirstParam-made more b text = by (eqb b 58) refl where
   by : (t : Bool) → eqb b 58 ≡ t → FirstParam more (b ∷ text) (cond t text (cond (eqb more 0) (b ∷ text) (word_of (b ∷ text)))) (cond t [] (cond (eqb more 0) [] (rest_of (b ∷ text))))
   by true e = inl ((Decides-eqb b 58).0 e, refl, refl)
@@ -53,7 +53,7 @@ SpellsParams-same (suc more) (b ∷ text) (param ∷ params) (rest, first, other
     ap (λ p. p ∷ params) same.0 ∙ ap (λ ps. first_of more (b ∷ text) ∷ ps) (SpellsParams-same more rest params others ∙ ap (params_of more) same.1)
 
 -- where no more may come, nothing is left
-last_of_all : (text : List ℕ) → behind_first 0 text ≡ []
+last_of_all : (text : List ℕ) → after_first 0 text ≡ []
 last_of_all [] = refl
 last_of_all (b ∷ text) = by (eqb b 58) where
   by : (t : Bool) → cond t [] (cond (eqb 0 0) [] (rest_of (b ∷ text))) ≡ []
@@ -63,23 +63,23 @@ last_of_all (b ∷ text) = by (eqb b 58) where
 pub SpellsParams-made : (more : ℕ) (text : List ℕ) → SpellsParams (suc more) text (params_of (suc more) text)
 unfolding SpellsParams params_of
 SpellsParams-made more [] = refl
-SpellsParams-made zero (b ∷ text) = (behind_first 0 (b ∷ text), FirstParam-made 0 b text, last_of_all (b ∷ text))
+SpellsParams-made zero (b ∷ text) = (after_first 0 (b ∷ text), FirstParam-made 0 b text, last_of_all (b ∷ text))
 SpellsParams-made (suc more) (b ∷ text) =
-    (behind_first (suc more) (b ∷ text), FirstParam-made (suc more) b text, SpellsParams-made more (behind_first (suc more) (b ∷ text)))
+    (after_first (suc more) (b ∷ text), FirstParam-made (suc more) b text, SpellsParams-made more (after_first (suc more) (b ∷ text)))
 
 -- the parameters so far, and one more
-pub params_more : (front new all : List (List ℕ)) (text param rest behind : List ℕ) (places : ℕ) → 0 < places → eqb (length rest) 0 ≡ false → front ++ params_of places rest ≡ all
-    → text ≡ param → param ≡ first_of (places - 1) rest → behind ≡ behind_first (places - 1) rest → new ≡ front ++ text ∷ [] → new ++ params_of (places - 1) behind ≡ all
+pub params_more : (front new all : List (List ℕ)) (text param rest following : List ℕ) (places : ℕ) → 0 < places → eqb (length rest) 0 ≡ false → front ++ params_of places rest ≡ all
+    → text ≡ param → param ≡ first_of (places - 1) rest → following ≡ after_first (places - 1) rest → new ≡ front ++ text ∷ [] → new ++ params_of (places - 1) following ≡ all
 unfolding params_of
-params_more front new all text param [] behind places some filled so_far copied first left pushed = absurd (false≢true (sym filled))
-params_more front new all text param (b ∷ rest) behind zero some filled so_far copied first left pushed = absurd (omega arith)
-params_more front new all text param (b ∷ rest) behind (suc more) some filled so_far copied first left pushed =
+params_more front new all text param [] following places some filled so_far copied first left pushed = absurd (false≢true (sym filled))
+params_more front new all text param (b ∷ rest) following zero some filled so_far copied first left pushed = absurd (omega arith)
+params_more front new all text param (b ∷ rest) following (suc more) some filled so_far copied first left pushed =
     let less : suc more - 1 ≡ more = omega arith in
     let is : text ≡ first_of more (b ∷ rest) = copied ∙ first ∙ ap (λ n. first_of n (b ∷ rest)) less in
-    let rest_is : params_of (suc more - 1) behind ≡ params_of more (behind_first more (b ∷ rest)) = (λ i. params_of (less i) (left i)) ∙ ap (λ n. params_of more (behind_first n (b ∷ rest))) less in
+    let rest_is : params_of (suc more - 1) following ≡ params_of more (after_first more (b ∷ rest)) = (λ i. params_of (less i) (left i)) ∙ ap (λ n. params_of more (after_first n (b ∷ rest))) less in
     (λ i. pushed i ++ rest_is i)
-    ∙ append_assoc front (text ∷ []) (params_of more (behind_first more (b ∷ rest)))
-    ∙ ap (λ t. front ++ t ∷ params_of more (behind_first more (b ∷ rest))) is
+    ∙ append_assoc front (text ∷ []) (params_of more (after_first more (b ∷ rest)))
+    ∙ ap (λ t. front ++ t ∷ params_of more (after_first more (b ∷ rest))) is
     ∙ so_far
 
 -- all of them

@@ -7,23 +7,23 @@ use Rattle.wc_text.proofs.LossyLemmas.{lossy_of_is_utf8}
 use Rattle.wc_text.proofs.Utf8Lemmas.{utf8_parts}
 use Rattle.wc_ircmsg.specs.declared.message.Message.{Message}
 use Rattle.wc_ircmsg.specs.declared.message.LineRefused.{LineRefused}
-use Rattle.wc_ircmsg.specs.Words.{blanks, Parts, Marked}
-use Rattle.wc_ircmsg.specs.Sources.{marked, or_empty, Names}
+use Rattle.wc_ircmsg.specs.Words.{blanks, WordAndRest, Marked}
+use Rattle.wc_ircmsg.specs.Sources.{text_with_mark, or_empty, Names}
 use Rattle.wc_ircmsg.specs.Params.{FirstParam, SpellsParams}
-use Rattle.wc_ircmsg.specs.Grammar.{Front, Spells, Reads}
-use Rattle.wc_ircmsg.specs.Utf8.{AllUtf8, HasUtf8}
+use Rattle.wc_ircmsg.specs.Grammar.{Front, SpellsLine, ReadsLine}
+use Rattle.wc_ircmsg.specs.Utf8.{AreUtf8Texts, MessageIsUtf8}
 
-behind_blanks_text : (n : ℕ) (rest : List ℕ) → IsUtf8 (blanks n ++ rest) → IsUtf8 rest
-behind_blanks_text zero rest utf8 = utf8
-behind_blanks_text (suc n) rest utf8 = behind_blanks_text n rest (utf8_parts [] 32 (blanks n ++ rest) (omega arith) utf8).1
+after_blanks_text : (n : ℕ) (rest : List ℕ) → IsUtf8 (blanks n ++ rest) → IsUtf8 rest
+after_blanks_text zero rest utf8 = utf8
+after_blanks_text (suc n) rest utf8 = after_blanks_text n rest (utf8_parts [] 32 (blanks n ++ rest) (omega arith) utf8).1
 
 -- a word, and what follows it
-parts_text : (text word rest : List ℕ) → Parts text word rest → IsUtf8 text → IsUtf8 word × IsUtf8 rest
+parts_text : (text word rest : List ℕ) → WordAndRest text word rest → IsUtf8 text → IsUtf8 word × IsUtf8 rest
 parts_text text word rest parts utf8 = by parts.gap rest parts.parted (subst IsUtf8 parts.spelled utf8) where
   by : (gap : ℕ) (rest : List ℕ) → (rest ≢ [] → 0 < gap) → IsUtf8 (word ++ (blanks gap ++ rest)) → IsUtf8 word × IsUtf8 rest
   by zero [] parted here = (subst IsUtf8 (append-nil word) here, IsUtf8-nil)
   by zero (b ∷ rest) parted here = let none : 0 < 0 = parted (λ e. cc) in absurd (omega arith)
-  by (suc gap) rest parted here = let cut = utf8_parts word 32 (blanks gap ++ rest) (omega arith) here in (cut.0, behind_blanks_text gap rest cut.1)
+  by (suc gap) rest parted here = let cut = utf8_parts word 32 (blanks gap ++ rest) (omega arith) here in (cut.0, after_blanks_text gap rest cut.1)
 
 -- a marked word, and what follows it
 marked_text : (mark : ℕ) (text rest : List ℕ) (word : Option (List ℕ)) → mark < 128 → Marked mark text word rest → IsUtf8 text → IsUtf8 (or_empty word) × IsUtf8 rest
@@ -34,20 +34,20 @@ marked_text mark text rest (Some word) small parts utf8 =
 
 front_text : (text source call : List ℕ) → Front text source call → IsUtf8 text → IsUtf8 source × IsUtf8 call
 front_text text source call front utf8 =
-    let body = behind_blanks_text front.margin front.body (subst IsUtf8 front.spelled utf8) in
+    let body = after_blanks_text front.margin front.body (subst IsUtf8 front.spelled utf8) in
     let untagged = (marked_text 64 front.body front.untagged front.tags (omega arith) front.tagged body).1 in
     let prefixed = marked_text 58 front.untagged call front.prefix (omega arith) front.prefixed untagged in
     (subst IsUtf8 (sym front.source_is) prefixed.0, prefixed.1)
 
 -- a text, and what a mark parts from it
-behind_mark_text : (mark : ℕ) (front : List ℕ) (text : Option (List ℕ)) → mark < 128 → IsUtf8 (front ++ marked mark text) → IsUtf8 front × IsUtf8 (or_empty text)
-behind_mark_text mark front None small utf8 = (subst IsUtf8 (append-nil front) utf8, IsUtf8-nil)
-behind_mark_text mark front (Some text) small utf8 = utf8_parts front mark text small utf8
+after_mark_text : (mark : ℕ) (front : List ℕ) (text : Option (List ℕ)) → mark < 128 → IsUtf8 (front ++ text_with_mark mark text) → IsUtf8 front × IsUtf8 (or_empty text)
+after_mark_text mark front None small utf8 = (subst IsUtf8 (append-nil front) utf8, IsUtf8-nil)
+after_mark_text mark front (Some text) small utf8 = utf8_parts front mark text small utf8
 
 names_text : (source nick user host : List ℕ) → Names source nick user host → IsUtf8 source → IsUtf8 nick × IsUtf8 user × IsUtf8 host
 names_text source nick user host names utf8 =
-    let outer = behind_mark_text 64 (nick ++ marked 33 names.user_part) names.host_part (omega arith) (subst IsUtf8 names.spelled utf8) in
-    let inner = behind_mark_text 33 nick names.user_part (omega arith) outer.0 in
+    let outer = after_mark_text 64 (nick ++ text_with_mark 33 names.user_part) names.host_part (omega arith) (subst IsUtf8 names.spelled utf8) in
+    let inner = after_mark_text 33 nick names.user_part (omega arith) outer.0 in
     (inner.0, subst IsUtf8 (sym names.user_is) inner.1, subst IsUtf8 (sym names.host_is) outer.1)
 
 first_text : (more : ℕ) (text param rest : List ℕ) → FirstParam more text param rest → IsUtf8 text → IsUtf8 param × IsUtf8 rest
@@ -58,7 +58,7 @@ first_text more (b ∷ text) param rest (inl trailing) utf8 =
 first_text zero (b ∷ text) param rest (inr other) utf8 = (subst IsUtf8 (sym other.1.0) utf8, subst IsUtf8 (sym other.1.1) IsUtf8-nil)
 first_text (suc more) (b ∷ text) param rest (inr other) utf8 = parts_text (b ∷ text) param rest other.1 utf8
 
-params_text : (places : ℕ) (text : List ℕ) (params : List (List ℕ)) → SpellsParams places text params → IsUtf8 text → AllUtf8 params
+params_text : (places : ℕ) (text : List ℕ) (params : List (List ℕ)) → SpellsParams places text params → IsUtf8 text → AreUtf8Texts params
 unfolding SpellsParams
 params_text places text [] spells utf8 = tt
 params_text zero text (param ∷ params) spells utf8 = absurd spells
@@ -66,8 +66,8 @@ params_text (suc more) text (param ∷ params) (rest, first, others) utf8 =
     let cut = first_text more text param rest first utf8 in
     (cut.0, params_text more rest params others cut.1)
 
-Spells-text : (text : List ℕ) (message : Message) → Spells text message → IsUtf8 text → HasUtf8 message
-Spells-text text message spells utf8 =
+SpellsLine-text : (text : List ℕ) (message : Message) → SpellsLine text message → IsUtf8 text → MessageIsUtf8 message
+SpellsLine-text text message spells utf8 =
     let front = front_text text spells.source spells.call spells.front utf8 in
     let names = names_text spells.source message.nick message.user message.host spells.named front.0 in
     let called = parts_text spells.call message.command spells.rest spells.called front.1 in
@@ -80,9 +80,9 @@ Spells-text text message spells utf8 =
     }
 
 -- each text of a message that any bytes spell is UTF-8
-pub Reads-text : (line : List ℕ) (message : Message) → Reads line message → HasUtf8 message
-Reads-text line message reads = Spells-text (lossy_of line) message reads (lossy_of_is_utf8 line)
+pub ReadsLine-text : (line : List ℕ) (message : Message) → ReadsLine line message → MessageIsUtf8 message
+ReadsLine-text line message reads = SpellsLine-text (lossy_of line) message reads (lossy_of_is_utf8 line)
 
-pub texts_from : (result : Result Message LineRefused) (line : List ℕ) → IfOk result (Reads line) → IfOk result HasUtf8
-texts_from (Ok message) line reads = Reads-text line message reads
+pub texts_from : (result : Result Message LineRefused) (line : List ℕ) → IfOk result (ReadsLine line) → IfOk result MessageIsUtf8
+texts_from (Ok message) line reads = ReadsLine-text line message reads
 texts_from (Err refused) line reads = tt

@@ -2,9 +2,9 @@
 use Rattle.std.proofs.Common.{◌≡◌, ◌≢◌, ℕ, zero, suc, ◌<◌, List, [], ◌∷◌, ◌++◌, refl, ap, sym, ◌∙◌, arith, eqb, Bool, true, false, cond, Some, None, append-nil, subst}
 use Rattle.std.proofs.lemmas.Bool.{false≢true}
 use Rattle.std.proofs.lemmas.Bool.Decides.{nat_tests, Decides-eqb}
-use Rattle.wc_ircmsg.specs.Cuts.{before, onward, behind, past, Lacks, BeginsWithout}
-use Rattle.wc_ircmsg.specs.Words.{blanks, Parts, word_of, rest_of}
-use Rattle.wc_ircmsg.specs.Sources.{marked, or_empty}
+use Rattle.wc_ircmsg.specs.Cuts.{before, onward, following, past, Lacks, BeginsWithout}
+use Rattle.wc_ircmsg.specs.Words.{blanks, WordAndRest, word_of, rest_of}
+use Rattle.wc_ircmsg.specs.Sources.{text_with_mark, or_empty}
 use Rattle.wc_ircmsg.proofs.CutLemmas.{before-onward}
 
 -- tests of a byte
@@ -28,10 +28,10 @@ onward-at c [] rest lacks = ap (λ t. cond t (c ∷ rest) (onward c rest)) (same
 onward-at c (b ∷ front) rest lacks =
     ap (λ t. cond t (b ∷ (front ++ c ∷ rest)) (onward c (front ++ c ∷ rest))) (other_byte b c lacks.0) ∙ onward-at c front rest lacks.1
 
-pub behind-at : (c : ℕ) (front rest : List ℕ) → Lacks c front → behind c (front ++ c ∷ rest) ≡ Some rest
-behind-at c [] rest lacks = ap (λ t. cond t (Some rest) (behind c rest)) (same_byte c)
-behind-at c (b ∷ front) rest lacks =
-    ap (λ t. cond t (Some (front ++ c ∷ rest)) (behind c (front ++ c ∷ rest))) (other_byte b c lacks.0) ∙ behind-at c front rest lacks.1
+pub following-at : (c : ℕ) (front rest : List ℕ) → Lacks c front → following c (front ++ c ∷ rest) ≡ Some rest
+following-at c [] rest lacks = ap (λ t. cond t (Some rest) (following c rest)) (same_byte c)
+following-at c (b ∷ front) rest lacks =
+    ap (λ t. cond t (Some (front ++ c ∷ rest)) (following c (front ++ c ∷ rest))) (other_byte b c lacks.0) ∙ following-at c front rest lacks.1
 
 -- a text without c
 pub before-none : (c : ℕ) (text : List ℕ) → Lacks c text → before c text ≡ text
@@ -50,11 +50,11 @@ Lacks-before c (b ∷ text) = by (eqb b c) refl (Lacks-before c text) where
   by true e rest = tt
   by false e rest = (byte_differs b c e, rest)
 
--- what stands behind the first c
-pub cut_behind : (c : ℕ) (text rest : List ℕ) → behind c text ≡ Some rest → text ≡ before c text ++ c ∷ rest
-cut_behind c [] rest some = absurd (cc)
-cut_behind c (b ∷ text) rest some = by (eqb b c) refl some (cut_behind c text rest) where
-  by : (t : Bool) → eqb b c ≡ t → cond t (Some text) (behind c text) ≡ Some rest → (behind c text ≡ Some rest → text ≡ before c text ++ c ∷ rest) → b ∷ text ≡ cond t [] (b ∷ before c text) ++ c ∷ rest
+-- what comes after the first c
+pub cut_after : (c : ℕ) (text rest : List ℕ) → following c text ≡ Some rest → text ≡ before c text ++ c ∷ rest
+cut_after c [] rest some = absurd (cc)
+cut_after c (b ∷ text) rest some = by (eqb b c) refl some (cut_after c text rest) where
+  by : (t : Bool) → eqb b c ≡ t → cond t (Some text) (following c text) ≡ Some rest → (following c text ≡ Some rest → text ≡ before c text ++ c ∷ rest) → b ∷ text ≡ cond t [] (b ∷ before c text) ++ c ∷ rest
   by true e here more = let same = (Decides-eqb b c).0 e in cc
   by false e here more = ap (λ t. b ∷ t) (more here)
 
@@ -74,7 +74,7 @@ BeginsWithout-past c (b ∷ text) = by (eqb b c) refl (BeginsWithout-past c text
   by true e rest = rest
   by false e rest = byte_differs b c e
 
--- how many blanks stand at the front
+-- how many blanks are at the front
 pub margin : (text : List ℕ) → (n : ℕ) × (text ≡ blanks n ++ past 32 text)
 margin [] = (0, refl)
 margin (b ∷ text) = by (eqb b 32) refl (margin text) where
@@ -83,8 +83,8 @@ margin (b ∷ text) = by (eqb b 32) refl (margin text) where
   by false e more = (0, refl)
 
 -- the parts of a text are those that are computed
-pub Parts-same : (text word rest : List ℕ) → Parts text word rest → (word ≡ word_of text) × (rest ≡ rest_of text)
-Parts-same text word rest parts = by parts.gap rest parts.spelled parts.parted parts.bare where
+pub WordAndRest-same : (text word rest : List ℕ) → WordAndRest text word rest → (word ≡ word_of text) × (rest ≡ rest_of text)
+WordAndRest-same text word rest parts = by parts.gap rest parts.spelled parts.parted parts.bare where
   by : (gap : ℕ) (rest : List ℕ) → text ≡ word ++ (blanks gap ++ rest) → (rest ≢ [] → 0 < gap) → BeginsWithout 32 rest → (word ≡ word_of text) × (rest ≡ rest_of text)
   by zero [] spelled parted bare =
       let whole : text ≡ word = spelled ∙ append-nil word in
@@ -106,8 +106,8 @@ onward-past c (b ∷ text) same = by (eqb b c) refl same (onward-past c text) wh
   by false e here more = more here
 
 -- each text has these parts
-pub Parts-made : (text : List ℕ) → Parts text (word_of text) (rest_of text)
-Parts-made text = record {
+pub WordAndRest-made : (text : List ℕ) → WordAndRest text (word_of text) (rest_of text)
+WordAndRest-made text = record {
   solid = Lacks-before 32 text;
   gap = gap.0;
   spelled = sym (before-onward 32 text) ∙ ap (λ t. word_of text ++ t) gap.1;
@@ -121,16 +121,16 @@ Parts-made text = record {
   parted zero same some = absurd (some (onward-past 32 text same))
   parted (suc n) same some = omega arith
 
--- a text without c has nothing behind a c
-pub behind-none : (c : ℕ) (text : List ℕ) → Lacks c text → behind c text ≡ None
-behind-none c [] lacks = refl
-behind-none c (b ∷ text) lacks = ap (λ t. cond t (Some text) (behind c text)) (other_byte b c lacks.0) ∙ behind-none c text lacks.1
+-- a text without c has nothing after a c
+pub following-none : (c : ℕ) (text : List ℕ) → Lacks c text → following c text ≡ None
+following-none c [] lacks = refl
+following-none c (b ∷ text) lacks = ap (λ t. cond t (Some text) (following c text)) (other_byte b c lacks.0) ∙ following-none c text lacks.1
 
--- a text is what stands before the first mark, and what stands from the mark on
-pub cut_at_mark : (c : ℕ) (text : List ℕ) → text ≡ before c text ++ marked c (behind c text)
+-- a text is what is before the first mark, and what is from the mark on
+pub cut_at_mark : (c : ℕ) (text : List ℕ) → text ≡ before c text ++ text_with_mark c (following c text)
 cut_at_mark c [] = refl
 cut_at_mark c (b ∷ text) = by (eqb b c) refl (cut_at_mark c text) where
-  by : (t : Bool) → eqb b c ≡ t → text ≡ before c text ++ marked c (behind c text) → b ∷ text ≡ cond t [] (b ∷ before c text) ++ marked c (cond t (Some text) (behind c text))
+  by : (t : Bool) → eqb b c ≡ t → text ≡ before c text ++ text_with_mark c (following c text) → b ∷ text ≡ cond t [] (b ∷ before c text) ++ text_with_mark c (cond t (Some text) (following c text))
   by true e more = ap (λ h. h ∷ text) ((Decides-eqb b c).0 e)
   by false e more = ap (λ t. b ∷ t) more
 
@@ -142,16 +142,16 @@ Lacks-before-other c d (b ∷ text) lacks = by (eqb b c) (Lacks-before-other c d
   by true more = tt
   by false more = (lacks.0, more)
 
-pub Lacks-behind : (c d : ℕ) (text : List ℕ) → Lacks d text → Lacks d (or_empty (behind c text))
-Lacks-behind c d [] lacks = tt
-Lacks-behind c d (b ∷ text) lacks = by (eqb b c) (Lacks-behind c d text lacks.1) where
-  by : (t : Bool) → Lacks d (or_empty (behind c text)) → Lacks d (or_empty (cond t (Some text) (behind c text)))
+pub Lacks-following : (c d : ℕ) (text : List ℕ) → Lacks d text → Lacks d (or_empty (following c text))
+Lacks-following c d [] lacks = tt
+Lacks-following c d (b ∷ text) lacks = by (eqb b c) (Lacks-following c d text lacks.1) where
+  by : (t : Bool) → Lacks d (or_empty (following c text)) → Lacks d (or_empty (cond t (Some text) (following c text)))
   by true more = lacks.1
   by false more = more
 
-pub before-whole : (c : ℕ) (text : List ℕ) → behind c text ≡ None → before c text ≡ text
+pub before-whole : (c : ℕ) (text : List ℕ) → following c text ≡ None → before c text ≡ text
 before-whole c [] none = refl
 before-whole c (b ∷ text) none = by (eqb b c) none (before-whole c text) where
-  by : (t : Bool) → cond t (Some text) (behind c text) ≡ None → (behind c text ≡ None → before c text ≡ text) → cond t [] (b ∷ before c text) ≡ b ∷ text
+  by : (t : Bool) → cond t (Some text) (following c text) ≡ None → (following c text ≡ None → before c text ≡ text) → cond t [] (b ∷ before c text) ≡ b ∷ text
   by true here more = absurd (cc)
   by false here more = ap (λ t. b ∷ t) (more here)

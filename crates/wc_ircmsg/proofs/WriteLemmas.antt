@@ -9,19 +9,19 @@ use Rattle.wc_text.proofs.LossyLemmas.{lossy_of_utf8}
 use Rattle.wc_text.proofs.Utf8Lemmas.{utf8_cons}
 use Rattle.wc_ircmsg.specs.declared.message.Message.{Message}
 use Rattle.wc_ircmsg.specs.Cuts.{Lacks, BeginsWithout}
-use Rattle.wc_ircmsg.specs.Words.{Parts}
+use Rattle.wc_ircmsg.specs.Words.{WordAndRest}
 use Rattle.wc_ircmsg.specs.Params.{Unmarked, FirstParam, SpellsParams}
-use Rattle.wc_ircmsg.specs.Grammar.{Spells, Reads}
-use Rattle.wc_ircmsg.specs.Utf8.{AllUtf8}
+use Rattle.wc_ircmsg.specs.Grammar.{SpellsLine, ReadsLine}
+use Rattle.wc_ircmsg.specs.Utf8.{AreUtf8Texts}
 use Rattle.wc_ircmsg.specs.Written.{needs_colon, are_words, ends_lines, is_one_line, IsWritable, last_text, params_text, line_of, without_prefix}
 use Rattle.wc_ircmsg.proofs.WordLemmas.{byte_differs}
 use Rattle.wc_ircmsg.proofs.CommandLemmas.{command_signs, command_filled, Lacks-signs, BeginsWithout-signs, signs_in_line, signs_text}
 
 -- parameters as they are written, without the blank in front
-abbrev behind_blank : List (List ℕ) → List ℕ
-behind_blank [] = []
-behind_blank (param ∷ []) = last_text param
-behind_blank (param ∷ next ∷ params) = param ++ params_text (next ∷ params)
+abbrev after_blank : List (List ℕ) → List ℕ
+after_blank [] = []
+after_blank (param ∷ []) = last_text param
+after_blank (param ∷ next ∷ params) = param ++ params_text (next ∷ params)
 
 -- a parameter that needs no `:` is a word that does not begin with one
 record IsWord (param : List ℕ) : Type 0 where
@@ -55,10 +55,10 @@ not_true : (t : Bool) → not t ≡ true → t ≡ false
 not_true true is = absurd (false≢true is)
 not_true false is = refl
 
-behind_bare : (params : List (List ℕ)) → are_words params ≡ true → BeginsWithout 32 (behind_blank params)
-behind_bare [] words = tt
-behind_bare (param ∷ []) words = last_bare param
-behind_bare (param ∷ next ∷ params) words =
+after_bare : (params : List (List ℕ)) → are_words params ≡ true → BeginsWithout 32 (after_blank params)
+after_bare [] words = tt
+after_bare (param ∷ []) words = last_bare param
+after_bare (param ∷ next ∷ params) words =
     word_bare param (params_text (next ∷ params)) (word_from param (not_true (needs_colon param) (and_parts (not (needs_colon param)) (are_words (next ∷ params)) words).0))
 
 -- the first of several
@@ -93,13 +93,13 @@ last_first more param = by (needs_colon param) refl where
   by true e = inl (refl, refl, refl)
   by false e = last_word more param (word_from param e)
 
--- the first stands behind a blank
-blank_first : (param : List ℕ) (params : List (List ℕ)) → params_text (param ∷ params) ≡ 32 ∷ behind_blank (param ∷ params)
+-- the first comes after a blank
+blank_first : (param : List ℕ) (params : List (List ℕ)) → params_text (param ∷ params) ≡ 32 ∷ after_blank (param ∷ params)
 blank_first param [] = refl
 blank_first param (next ∷ params) = refl
 
 -- parameters that are written spell themselves
-written_params : (places : ℕ) (params : List (List ℕ)) → length params ≤ places → are_words params ≡ true → SpellsParams places (behind_blank params) params
+written_params : (places : ℕ) (params : List (List ℕ)) → length params ≤ places → are_words params ≡ true → SpellsParams places (after_blank params) params
 unfolding SpellsParams
 written_params places [] few words = refl
 written_params zero (param ∷ params) few words = absurd (omega arith)
@@ -107,33 +107,33 @@ written_params (suc more) (param ∷ []) few words = ([], last_first more param,
 written_params (suc zero) (param ∷ next ∷ params) few words = absurd (omega arith)
 written_params (suc (suc more)) (param ∷ next ∷ params) few words =
     let both = and_parts (not (needs_colon param)) (are_words (next ∷ params)) words in (
-      behind_blank (next ∷ params),
-      subst (λ t. FirstParam (suc more) (param ++ t) param (behind_blank (next ∷ params))) (sym (blank_first next params))
-          (first_word more param (behind_blank (next ∷ params)) (word_from param (not_true (needs_colon param) both.0)) (behind_bare (next ∷ params) both.1)),
+      after_blank (next ∷ params),
+      subst (λ t. FirstParam (suc more) (param ++ t) param (after_blank (next ∷ params))) (sym (blank_first next params))
+          (first_word more param (after_blank (next ∷ params)) (word_from param (not_true (needs_colon param) both.0)) (after_bare (next ∷ params) both.1)),
       written_params (suc more) (next ∷ params) (omega arith) both.1,
     )
 
 -- ---- a whole line
--- what stands behind the command
-called : (command : List ℕ) (params : List (List ℕ)) → Lacks 32 command → are_words params ≡ true → Parts (command ++ params_text params) command (behind_blank params)
+-- what comes after the command
+called : (command : List ℕ) (params : List (List ℕ)) → Lacks 32 command → are_words params ≡ true → WordAndRest (command ++ params_text params) command (after_blank params)
 called command [] solid words = record { solid = solid; gap = 0; spelled = refl; parted = λ some. absurd (some refl); bare = tt }
 called command (param ∷ params) solid words = record {
   solid = solid;
   gap = 1;
   spelled = ap (λ t. command ++ t) (blank_first param params);
   parted = λ some. omega arith;
-  bare = behind_bare (param ∷ params) words;
+  bare = after_bare (param ∷ params) words;
 }
 
-pub Spells-written : (message : Message) → IsWritable message → Spells (line_of message) (without_prefix message)
-Spells-written message writable =
+pub SpellsLine-written : (message : Message) → IsWritable message → SpellsLine (line_of message) (without_prefix message)
+SpellsLine-written message writable =
     let signs = command_signs message.command writable.command in
     let some = command_filled message.command writable.command in
     let line = line_of message in
     record {
       source = [];
       call = line;
-      rest = behind_blank message.params;
+      rest = after_blank message.params;
       front = record {
         margin = 0;
         body = line;
@@ -180,15 +180,15 @@ last_text_utf8 param utf8 = by (needs_colon param) where
   by true = utf8_cons 58 param (omega arith) utf8
   by false = utf8
 
-params_text_utf8 : (params : List (List ℕ)) → AllUtf8 params → IsUtf8 (params_text params)
+params_text_utf8 : (params : List (List ℕ)) → AreUtf8Texts params → IsUtf8 (params_text params)
 params_text_utf8 [] all = IsUtf8-nil
 params_text_utf8 (param ∷ []) all = utf8_cons 32 (last_text param) (omega arith) (last_text_utf8 param all.0)
 params_text_utf8 (param ∷ next ∷ params) all =
     utf8_cons 32 (param ++ params_text (next ∷ params)) (omega arith) (IsUtf8-append param (params_text (next ∷ params)) all.0 (params_text_utf8 (next ∷ params) all.1))
 
--- what is written of text is text, and is read as it stands
-pub Reads-written : (message : Message) → IsWritable message → AllUtf8 message.params → Reads (line_of message) (without_prefix message)
-Reads-written message writable all =
+-- what is written of text is text, and is read as it is
+pub ReadsLine-written : (message : Message) → IsWritable message → AreUtf8Texts message.params → ReadsLine (line_of message) (without_prefix message)
+ReadsLine-written message writable all =
     let command = signs_text message.command (command_signs message.command writable.command) in
     let utf8 = IsUtf8-append message.command (params_text message.params) command (params_text_utf8 message.params all) in
-    subst (λ t. Spells t (without_prefix message)) (sym (lossy_of_utf8 (line_of message) utf8)) (Spells-written message writable)
+    subst (λ t. SpellsLine t (without_prefix message)) (sym (lossy_of_utf8 (line_of message) utf8)) (SpellsLine-written message writable)

@@ -10,21 +10,21 @@ use Rattle.wc_ircmsg.specs.Sources.{nick_of, user_of, host_of}
 use Rattle.wc_ircmsg.specs.Params.{params_of}
 
 -- the text without a first word that the byte marks
-abbrev pub behind_marked : ℕ → List ℕ → List ℕ
-behind_marked mark text = if begins_with mark text then rest_of text else text
+abbrev pub after_marked : ℕ → List ℕ → List ℕ
+after_marked mark text = if begins_with mark text then rest_of text else text
 
 -- that word without its mark, or nothing
 abbrev pub marked_word : ℕ → List ℕ → List ℕ
 marked_word mark text = if begins_with mark text then drop 1 (word_of text) else []
 
 unfoldable pub untagged_of : List ℕ → List ℕ
-untagged_of text = behind_marked 64 (past 32 text)
+untagged_of text = after_marked 64 (past 32 text)
 
 unfoldable pub source_of : List ℕ → List ℕ
 source_of text = marked_word 58 (untagged_of text)
 
 unfoldable pub call_of : List ℕ → List ℕ
-call_of text = behind_marked 58 (untagged_of text)
+call_of text = after_marked 58 (untagged_of text)
 
 -- the message with these parts
 unfoldable pub message_from : List ℕ → List ℕ → List ℕ → Message

@@ -15,9 +15,9 @@ abbrev pub fold_by : List (ℕ × ℕ) → ℕ → ℕ
 fold_by [] b = to_ascii_lowercase b
 fold_by (sign ∷ signs) b = if b == sign.0 then sign.1 else fold_by signs b
 
-abbrev pub folded : CaseMap → List ℕ → List ℕ
-folded case_map name = map (fold_by (folded_signs case_map)) name
+abbrev pub folded_name : CaseMap → List ℕ → List ℕ
+folded_name case_map name = map (fold_by (folded_signs case_map)) name
 
 -- names are the same where they differ in case alone
 abbrev pub IsSameName : CaseMap → List ℕ → List ℕ → Type 0
-IsSameName case_map a b = folded case_map a ≡ folded case_map b
+IsSameName case_map a b = folded_name case_map a ≡ folded_name case_map b

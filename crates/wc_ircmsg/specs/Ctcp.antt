@@ -2,7 +2,7 @@
 use Rattle.std.specs.Prelude.{◌≡◌, ◌≢◌, ℕ, ◌⊎◌, List, [], ◌∷◌, ◌++◌}
 use Rattle.wc_ircmsg.specs.Cuts.{Lacks}
 
--- Between a first and a last byte 01 stand a word, and behind one blank its arguments, or nothing.
+-- Between a first and a last byte 01 are a word and after one blank its arguments, or nothing.
 pub record IsCtcp (text word arguments : List ℕ) : Type 0 where
   pub inner : List ℕ
   pub spelled : text ≡ 1 ∷ (inner ++ 1 ∷ [])

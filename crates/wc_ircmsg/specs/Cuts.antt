@@ -11,10 +11,10 @@ abbrev pub onward : ℕ → List ℕ → List ℕ
 onward c [] = []
 onward c (b ∷ text) = if b == c then b ∷ text else onward c text
 
--- the bytes behind the first c, where there is one
-abbrev pub behind : ℕ → List ℕ → Option (List ℕ)
-behind c [] = None
-behind c (b ∷ text) = if b == c then Some text else behind c text
+-- the bytes after the first c, where there is one
+abbrev pub following : ℕ → List ℕ → Option (List ℕ)
+following c [] = None
+following c (b ∷ text) = if b == c then Some text else following c text
 
 -- the text without each c at its front
 abbrev pub past : ℕ → List ℕ → List ℕ

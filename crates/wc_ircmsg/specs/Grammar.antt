@@ -5,12 +5,12 @@ use Rattle.wc_ircmsg.specs.declared.message.Message.{Message}
 use Rattle.wc_ircmsg.specs.declared.message.LineRefused.{LineRefused}
 use Rattle.wc_ircmsg.specs.declared.message.LineRefused.TheVariants as Refusals
 use Rattle.wc_ircmsg.specs.Cuts.{BeginsWithout}
-use Rattle.wc_ircmsg.specs.Words.{blanks, Parts, Marked}
+use Rattle.wc_ircmsg.specs.Words.{blanks, WordAndRest, Marked}
 use Rattle.wc_ircmsg.specs.Commands.{is_command}
 use Rattle.wc_ircmsg.specs.Sources.{or_empty, Names}
 use Rattle.wc_ircmsg.specs.Params.{SpellsParams}
 
--- What stands before the command: blanks, a first word of tags or none, which `@` marks, and a prefix or none, which
+-- What is before the command: blanks, a first word of tags or none, which `@` marks, and a prefix or none, which
 -- `:` marks and which names the source. The call is what follows.
 pub record Front (text source call : List ℕ) : Type 0 where
   pub margin : ℕ
@@ -24,14 +24,14 @@ pub record Front (text source call : List ℕ) : Type 0 where
   pub prefixed : Marked 58 untagged prefix call
   pub source_is : source ≡ or_empty prefix
 
--- The message that a text spells: behind its front a command, and at most 15 parameters.
-pub record Spells (text : List ℕ) (message : Message) : Type 0 where
+-- The message that a text spells: after its front a command, and at most 15 parameters.
+pub record SpellsLine (text : List ℕ) (message : Message) : Type 0 where
   pub source : List ℕ
   pub call : List ℕ
   pub rest : List ℕ
   pub front : Front text source call
   pub named : Names source message.nick message.user message.host
-  pub called : Parts call message.command rest
+  pub called : WordAndRest call message.command rest
   pub readable : IsTrue (is_command message.command)
   pub params : SpellsParams 15 rest message.params
 
@@ -47,16 +47,16 @@ pub record LacksCommand (text : List ℕ) (place : ℕ) : Type 0 where
   pub word : List ℕ
   pub rest : List ℕ
   pub front : Front text source call
-  pub called : Parts call word rest
+  pub called : WordAndRest call word rest
   pub unreadable : is_command word ≡ false
   pub place_is : place + length call ≡ length text
 
 -- why a text spells no message
-abbrev pub Refuses : List ℕ → LineRefused → Type 0
-Refuses text Refusals.Empty = IsBlank text
-Refuses text (Refusals.BadCommand place) = LacksCommand text place
-Refuses text Refusals.NoMemory = ⊥
+abbrev pub RefusesLine : List ℕ → LineRefused → Type 0
+RefusesLine text Refusals.Empty = IsBlank text
+RefusesLine text (Refusals.BadCommand place) = LacksCommand text place
+RefusesLine text Refusals.NoMemory = ⊥
 
 -- the message of a line of any bytes, which is made text first
-abbrev pub Reads : List ℕ → Message → Type 0
-Reads line message = Spells (lossy_of line) message
+abbrev pub ReadsLine : List ℕ → Message → Type 0
+ReadsLine line message = SpellsLine (lossy_of line) message

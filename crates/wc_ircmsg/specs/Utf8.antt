@@ -3,14 +3,14 @@ use Rattle.std.specs.Prelude.{ℕ, List, [], ◌∷◌}
 use Rattle.std.specs.Str.{IsUtf8}
 use Rattle.wc_ircmsg.specs.declared.message.Message.{Message}
 
-abbrev pub AllUtf8 : List (List ℕ) → Type 0
-AllUtf8 [] = Unit {0}
-AllUtf8 (text ∷ texts) = IsUtf8 text × AllUtf8 texts
+abbrev pub AreUtf8Texts : List (List ℕ) → Type 0
+AreUtf8Texts [] = Unit {0}
+AreUtf8Texts (text ∷ texts) = IsUtf8 text × AreUtf8Texts texts
 
 -- each text of a message is UTF-8
-pub record HasUtf8 (message : Message) : Type 0 where
+pub record MessageIsUtf8 (message : Message) : Type 0 where
   pub nick : IsUtf8 message.nick
   pub user : IsUtf8 message.user
   pub host : IsUtf8 message.host
   pub command : IsUtf8 message.command
-  pub params : AllUtf8 message.params
+  pub params : AreUtf8Texts message.params

@@ -30,11 +30,11 @@ pub record IsWritable (message : Message) : Type 0 where
   pub words : IsTrue (are_words message.params)
   pub one_line : IsTrue (list_all is_one_line message.params)
 
--- the last parameter, behind a `:` where it needs one
+-- the last parameter, after a `:` where it needs one
 abbrev pub last_text : List ℕ → List ℕ
 last_text param = if needs_colon param then 58 ∷ param else param
 
--- each parameter behind a blank
+-- each parameter after a blank
 abbrev pub params_text : List (List ℕ) → List ℕ
 params_text [] = []
 params_text (param ∷ []) = 32 ∷ last_text param

@@ -4,21 +4,21 @@ ghost use Rattle.wc_ircmsg.specs.Ctcp.{IsCtcp};
 use crate::cuts::split_once;
 use crate::source::or_empty;
 
-/// What stands between a first and a last byte 01.
+/// What is between a first and a last byte 01.
 fn quoted(text: &[u8]) -> Option<&[u8]>
     ensures { MatchOption result ((inner : List ℕ) → text.now ≢ 1 ∷ (inner ++ 1 ∷ [])) (λ inner. text.now ≡ 1 ∷ (inner.now ++ 1 ∷ [])) }
 {
-    let (first, behind) = text.split_first()?;
-    let (last, inner) = behind.split_last()?;
+    let (first, following) = text.split_first()?;
+    let (last, inner) = following.split_last()?;
     if *first != 0x01 || *last != 0x01 {
         return None;
     }
     Some(inner)
 }
 
-/// The word and the arguments of a CTCP message: what stands between a first and a last byte 01, parted at the first
+/// The word and the arguments of a CTCP message: what is between a first and a last byte 01, parted at the first
 /// blank. Without a blank the arguments are empty. None exactly where the text does not begin and end with such a
-/// byte of its own, or no word stands behind the first. It takes no memory.
+/// byte of its own, or no word comes after the first. It takes no memory.
 pub fn read_ctcp(text: &[u8]) -> Option<(&[u8], &[u8])>
     ensures found { IfSome result (λ parts. IsCtcp text.now parts.0.now parts.1.now) }
     ensures only { (word arguments : List ℕ) → IsCtcp text.now word arguments → IsSomeAnd result (λ parts. (parts.0.now ≡ word) × (parts.1.now ≡ arguments)) }

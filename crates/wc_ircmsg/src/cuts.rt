@@ -1,7 +1,7 @@
 ghost use Rattle.std.specs.Prelude.{◌≡◌, ◌≤◌, length, drop};
 ghost use Rattle.std.specs.Option.{option_copied};
-ghost use Rattle.wc_ircmsg.specs.Answers.{marked_word, behind_marked};
-ghost use Rattle.wc_ircmsg.specs.Cuts.{before, onward, behind, past};
+ghost use Rattle.wc_ircmsg.specs.Answers.{marked_word, after_marked};
+ghost use Rattle.wc_ircmsg.specs.Cuts.{before, onward, following, past};
 ghost use Rattle.wc_ircmsg.specs.Words.{word_of, rest_of};
 
 fn onward(text: &[u8], byte: u8) -> &[u8]
@@ -27,8 +27,8 @@ fn cut_at(text: &[u8], byte: u8) -> (&[u8], &[u8])
     (&text[..text.len() - back.len()], back)
 }
 
-fn behind(text: &[u8], byte: u8) -> Option<&[u8]>
-    ensures { option_copied result ≡ behind byte text.now }
+fn following(text: &[u8], byte: u8) -> Option<&[u8]>
+    ensures { option_copied result ≡ following byte text.now }
 {
     let mut rest = text;
     while let [first, others @ ..] = rest {
@@ -40,12 +40,12 @@ fn behind(text: &[u8], byte: u8) -> Option<&[u8]>
     None
 }
 
-/// The text before the first such byte, and what stands behind it, where there is one.
+/// The text before the first such byte, and what comes after it, where there is one.
 pub(crate) fn split_once(text: &[u8], byte: u8) -> (&[u8], Option<&[u8]>)
     ensures front { result.0.now ≡ before byte text.now }
-    ensures back { option_copied result.1 ≡ behind byte text.now }
+    ensures back { option_copied result.1 ≡ following byte text.now }
 {
-    (cut_at(text, byte).0, behind(text, byte))
+    (cut_at(text, byte).0, following(text, byte))
 }
 
 /// The text without the blanks at its front.
@@ -59,13 +59,13 @@ pub(crate) fn past_blanks(text: &[u8]) -> &[u8]
     rest
 }
 
-/// The word at the front of the text, and what follows it behind blanks.
+/// The word at the front of the text, and what follows it after blanks.
 pub(crate) fn cut_word(text: &[u8]) -> (&[u8], &[u8])
     ensures word { result.0.now ≡ word_of text.now }
     ensures rest { result.1.now ≡ rest_of text.now }
 {
-    let (word, behind) = cut_at(text, b' ');
-    (word, past_blanks(behind))
+    let (word, following) = cut_at(text, b' ');
+    (word, past_blanks(following))
 }
 
 fn without_first(text: &[u8]) -> &[u8]
@@ -77,11 +77,11 @@ fn without_first(text: &[u8]) -> &[u8]
     }
 }
 
-/// A first word that the byte marks, without the byte, and what follows it behind blanks. Where the text does not
+/// A first word that the byte marks, without the byte, and what follows it after blanks. Where the text does not
 /// begin with the byte these are nothing and the text.
 pub(crate) fn cut_marked(text: &[u8], mark: u8) -> (&[u8], &[u8])
     ensures word { result.0.now ≡ marked_word mark text.now }
-    ensures rest { result.1.now ≡ behind_marked mark text.now }
+    ensures rest { result.1.now ≡ after_marked mark text.now }
 {
     let [first, ..] = text else {
         return (&[], text);

@@ -1,5 +1,5 @@
 ghost use Rattle.std.specs.Prelude.{◌≡◌, IfOk};
-ghost use Rattle.wc_ircmsg.specs.Params.{first_of, behind_first, params_of};
+ghost use Rattle.wc_ircmsg.specs.Params.{first_of, after_first, params_of};
 
 use crate::cuts::cut_word;
 use std::alloc::Global;
@@ -8,11 +8,11 @@ use wc_text::{Items, NoMemory, Text};
 /// The most parameters that a line has.
 pub const MOST_PARAMS: usize = 15;
 
-/// The parameter at the front of a text, and what is left behind it, where so many more may come. Behind a `:` it is
+/// The parameter at the front of a text, and what is left after it, where so many more may come. After a `:` it is
 /// all that is left, and so it is where no more may come.
 fn cut_param(text: &[u8], more: usize) -> (&[u8], &[u8])
     ensures param { result.0.now ≡ first_of more text.now }
-    ensures rest { result.1.now ≡ behind_first more text.now }
+    ensures rest { result.1.now ≡ after_first more text.now }
 {
     if let [b':', trailing @ ..] = text {
         return (trailing, &[]);
@@ -32,9 +32,9 @@ pub(crate) fn read_params(alloc: Global, text: &[u8]) -> Result<Items<Text>, NoM
     let mut places = MOST_PARAMS;
     while places > 0 && !rest.is_empty() {
         places -= 1;
-        let (param, behind) = cut_param(rest, places);
+        let (param, following) = cut_param(rest, places);
         params.push(Text::from_slice(alloc, param)?)?;
-        rest = behind;
+        rest = following;
     }
     Ok(params)
 }

@@ -16,7 +16,7 @@ pub struct Prefixes {
     pub chars: Text,
 }
 
-/// Whether no value stands twice in the list.
+/// Whether no value is twice in the list.
 fn each_once<T: PartialEq>(list: &[T]) -> bool
     ensures { result ≡ each_once T.eq list.now }
 {
@@ -30,14 +30,14 @@ fn each_once<T: PartialEq>(list: &[T]) -> bool
     true
 }
 
-/// What stands between `(` and the first `)`, and behind that.
+/// What is between `(` and the first `)`, and after that.
 fn cut_token(value: &[u8]) -> Option<(&[u8], &[u8])>
     ensures { option_map (λ parts. (parts.0.now, parts.1.now)) result ≡ parts_of value.now }
 {
-    let [b'(', behind @ ..] = value else {
+    let [b'(', following @ ..] = value else {
         return None;
     };
-    let (modes, chars) = split_once(behind, b')');
+    let (modes, chars) = split_once(following, b')');
     Some((modes, chars?))
 }
 

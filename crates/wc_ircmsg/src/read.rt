@@ -1,8 +1,8 @@
 ghost use Rattle.std.specs.Prelude.{◌≡◌, ◌≢◌, ◌↔◌, ◌⊎◌, ℕ, List, Ok, Err, IfOk, IfErr, length};
 ghost use Rattle.wc_text.specs.Lossy.{lossy_of};
 ghost use Rattle.wc_ircmsg.specs.Answers.{source_of, call_of, message_from, refusal_of, reading_of};
-ghost use Rattle.wc_ircmsg.specs.Grammar.{Spells, Refuses, Reads};
-ghost use Rattle.wc_ircmsg.specs.Utf8.{HasUtf8};
+ghost use Rattle.wc_ircmsg.specs.Grammar.{SpellsLine, RefusesLine, ReadsLine};
+ghost use Rattle.wc_ircmsg.specs.Utf8.{MessageIsUtf8};
 ghost use Rattle.wc_ircmsg.specs.Written.{IsWritable, line_of, without_prefix};
 ghost use Rattle.wc_ircmsg.specs.declared.message.Message.{Message};
 ghost use Rattle.wc_ircmsg.specs.declared.message.LineRefused.{LineRefused};
@@ -45,7 +45,7 @@ fn message(alloc: Global, prefix: &[u8], command: &[u8], rest: &[u8]) -> Result<
     })
 }
 
-/// Why a text without a command is refused, of which this is what stands where the command has to.
+/// Why a text without a command is refused, of which this is what is where the command has to.
 #[tactic(auto, using(crate::proofs::ReadLemmas::refusals))]
 fn refusal(text: &[u8], call: &[u8]) -> LineRefused
     requires { call.now ≡ call_of text.now }
@@ -75,24 +75,24 @@ fn read_text(alloc: Global, text: &[u8]) -> Result<Message, LineRefused>
 /// The message that a line spells in the grammar of RFC 1459 and RFC 2812. The line comes without its CR LF, and its
 /// bytes are made UTF-8 by `lossy` first.
 ///
-/// Blanks may stand in front, and where one has to stand there may be more. A first word that begins with `@`, the
+/// Blanks may are in front, and where one has to are there may be more. A first word that begins with `@`, the
 /// tags, is passed over. Of a prefix the nick goes up to the first `!` or `@`, the user up to the first `@`.
-/// A parameter behind a `:` takes the rest of the line, and so does the fifteenth without one.
+/// A parameter after a `:` takes the rest of the line, and so does the fifteenth without one.
 ///
 /// Refused as `Empty` exactly where the line has no word, and as `BadCommand` exactly where no command of letters or
-/// of three digits stands behind tags and prefix.
+/// of three digits comes after tags and prefix.
 pub fn read_line(alloc: Global, line: &[u8]) -> Result<Message, LineRefused>
     // What is read is spelled so, what is spelled so is read, and a line is refused only for its reason.
-    ensures read { IfOk result (Reads line.now) }
-    ensures only { (message : Message) → Reads line.now message → (result ≡ Ok message) ⊎ (result ≡ Err LineRefused.NoMemory) }
-    ensures refused { IfErr result (λ refused. refused ≢ LineRefused.NoMemory → Refuses (lossy_of line.now) refused) }
+    ensures read { IfOk result (ReadsLine line.now) }
+    ensures only { (message : Message) → ReadsLine line.now message → (result ≡ Ok message) ⊎ (result ≡ Err LineRefused.NoMemory) }
+    ensures refused { IfErr result (λ refused. refused ≢ LineRefused.NoMemory → RefusesLine (lossy_of line.now) refused) }
 
     // Which answer it is, if memory is found.
     ensures computed { IfOk result (λ message. reading_of (lossy_of line.now) ≡ Ok message) }
     ensures refusal { IfErr result (λ refused. refused ≢ LineRefused.NoMemory → reading_of (lossy_of line.now) ≡ Err refused) }
 
     // Each text of the message is UTF-8.
-    ensures texts { IfOk result HasUtf8 }
+    ensures texts { IfOk result MessageIsUtf8 }
 {
     let text = lossy(alloc, line)?;
     read_text(alloc, text.as_slice())
@@ -101,8 +101,8 @@ pub fn read_line(alloc: Global, line: &[u8]) -> Result<Message, LineRefused>
 /// A text spells one message or is refused for one reason, which are those that are computed; and the line that is
 /// written of a message spells it without its prefix.
 pub fn one_message()
-    ensures one { (text : List ℕ) (a b : Message) → Spells text a → Spells text b → a ≡ b }
-    ensures spells { (text : List ℕ) (message : Message) → Spells text message ↔ (reading_of text ≡ Ok message) }
-    ensures refuses { (text : List ℕ) (refused : LineRefused) → Refuses text refused ↔ (reading_of text ≡ Err refused) }
-    ensures written { (message : Message) → IsWritable message → Spells (line_of message) (without_prefix message) }
+    ensures one { (text : List ℕ) (a b : Message) → SpellsLine text a → SpellsLine text b → a ≡ b }
+    ensures spells { (text : List ℕ) (message : Message) → SpellsLine text message ↔ (reading_of text ≡ Ok message) }
+    ensures refuses { (text : List ℕ) (refused : LineRefused) → RefusesLine text refused ↔ (reading_of text ≡ Err refused) }
+    ensures written { (message : Message) → IsWritable message → SpellsLine (line_of message) (without_prefix message) }
 {}

@@ -21,7 +21,7 @@ pub(crate) fn or_empty(text: Option<&[u8]>) -> &[u8]
     }
 }
 
-/// The parts of a prefix: a nick, behind `!` a user, and behind the first `@` a host.
+/// The parts of a prefix: a nick, after `!` a user, and after the first `@` a host.
 pub(crate) fn cut_source(prefix: &[u8]) -> Source<'_>
     ensures nick { result.nick.now ≡ nick_of prefix.now }
     ensures user { result.user.now ≡ user_of prefix.now }

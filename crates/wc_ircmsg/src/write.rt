@@ -1,7 +1,7 @@
 ghost use Rattle.std.specs.Prelude.{◌≡◌, ◌↔◌, ◌++◌, ◌∷◌, [], IsTrue, IfOk, OnOk};
 ghost use Rattle.std.specs.List.{list_all};
-ghost use Rattle.wc_ircmsg.specs.Grammar.{Spells, Reads};
-ghost use Rattle.wc_ircmsg.specs.Utf8.{AllUtf8};
+ghost use Rattle.wc_ircmsg.specs.Grammar.{SpellsLine, ReadsLine};
+ghost use Rattle.wc_ircmsg.specs.Utf8.{AreUtf8Texts};
 ghost use Rattle.wc_ircmsg.specs.Written.{needs_colon, are_words, ends_lines, is_one_line, params_text, line_of, without_prefix, IsWritable};
 
 use crate::command::is_command;
@@ -10,7 +10,7 @@ use crate::params::MOST_PARAMS;
 use std::alloc::Global;
 use wc_text::{NoMemory, Text};
 
-/// Whether a parameter is read back only behind a `:`: it is empty, has a blank or begins with `:`.
+/// Whether a parameter is read back only after a `:`: it is empty, has a blank or begins with `:`.
 fn needs_colon(param: &[u8]) -> bool
     ensures { result ≡ needs_colon param.now }
 {
@@ -71,7 +71,7 @@ fn put_last(text: &mut Text, param: &[u8]) -> Result<(), NoMemory>
     text.append(param)
 }
 
-/// Puts each parameter behind a blank, the last one behind a `:` where it needs one.
+/// Puts each parameter after a blank, the last one after a `:` where it needs one.
 fn put_params(text: &mut Text, params: &[Text]) -> Result<(), NoMemory>
     ensures { OnOk result (text.new ≡ text.old ++ params_text params.now) }
 {
@@ -87,18 +87,18 @@ fn put_params(text: &mut Text, params: &[Text]) -> Result<(), NoMemory>
     Ok(())
 }
 
-/// The line of a message, without its prefix and without CR LF: its command and its parameters, each behind a blank.
-/// A `:` stands before the last one exactly where that is empty, has a blank or begins with `:`.
+/// The line of a message, without its prefix and without CR LF: its command and its parameters, each after a blank.
+/// A `:` is before the last one exactly where that is empty, has a blank or begins with `:`.
 pub fn write_line(alloc: Global, message: &Message) -> Result<Text, NoMemory>
     requires { IsWritable message.now }
     ensures written { IfOk result (λ text. text ≡ line_of message.now) }
 
-    // No CR, LF or NUL stands in it.
+    // No CR, LF or NUL is in it.
     ensures one_line { IfOk result (λ text. IsTrue (is_one_line text)) }
 
     // It spells the message without its prefix, and is read so where the parameters are UTF-8.
-    ensures spells { IfOk result (λ text. Spells text (without_prefix message.now)) }
-    ensures reads_back { AllUtf8 message.now.params → IfOk result (λ text. Reads text (without_prefix message.now)) }
+    ensures spells { IfOk result (λ text. SpellsLine text (without_prefix message.now)) }
+    ensures reads_back { AreUtf8Texts message.now.params → IfOk result (λ text. ReadsLine text (without_prefix message.now)) }
 {
     let mut text = message.command.copy(alloc)?;
     put_params(&mut text, message.params.as_slice())?;

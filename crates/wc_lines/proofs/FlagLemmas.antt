@@ -3,8 +3,8 @@ use Rattle.std.proofs.Common.{◌≡◌, ℕ, zero, suc, ◌+◌, ◌<◌, Bool,
 use Rattle.std.specs.Prelude.{All}
 use Rattle.std.proofs.lemmas.List.Elements.{All-map}
 use Rattle.wc_lines.specs.declared.line.Line.{Line}
-use Rattle.wc_lines.specs.Flags.{set_flag, flagged}
-use Rattle.wc_lines.specs.LineText.{HasText}
+use Rattle.wc_lines.specs.Flags.{set_flag, with_own_flag}
+use Rattle.wc_lines.specs.LineText.{HasUtf8Texts}
 
 module _ {A : Type 0} (F : A → A) where
   abbrev pub so_far : ℕ → List A → List A
@@ -20,9 +20,9 @@ module _ {A : Type 0} (F : A → A) where
 
 -- ---- the flag is no text
 
-set_text : (flag : Option Bool) (line : Line) → HasText line → HasText (set_flag flag line)
+set_text : (flag : Option Bool) (line : Line) → HasUtf8Texts line → HasUtf8Texts (set_flag flag line)
 set_text None line text = text
 set_text (Some on) line text = record { tags = text.tags; prefix = text.prefix; message = text.message }
 
-pub all_flagged : (flags : ℕ → Option Bool) (lines : List Line) → All HasText lines → All HasText (map (flagged flags) lines)
-all_flagged flags lines all = All-map HasText (flagged flags) lines (λ k d inside. set_text (flags (get_or lines k d).content.0) (get_or lines k d) (all k d inside))
+pub all_flagged : (flags : ℕ → Option Bool) (lines : List Line) → All HasUtf8Texts lines → All HasUtf8Texts (map (with_own_flag flags) lines)
+all_flagged flags lines all = All-map HasUtf8Texts (with_own_flag flags) lines (λ k d inside. set_text (flags (get_or lines k d).content.0) (get_or lines k d) (all k d inside))

@@ -4,9 +4,9 @@ use Rattle.std.proofs.lemmas.List.{length-append, length-drop, drop-append-le, d
 use Rattle.wc_lines.specs.declared.line.Line.{Line}
 use Rattle.wc_lines.specs.Held.{no_lines}
 use Rattle.wc_lines.specs.Ring.{last_of}
-use Rattle.wc_lines.specs.History.{Act, pushes, clears, held_after, pushed_since}
+use Rattle.wc_lines.specs.History.{RingCall, pushes, clears, held_after, pushed_since}
 
--- a line behind the last n, and of these the last n
+-- a line after the last n, and of these the last n
 last_with_line : (n : ℕ) (lines : List Line) (line : Line) → last_of n (last_of n lines ++ line ∷ []) ≡ last_of n (lines ++ line ∷ [])
 last_with_line n lines line =
     let all = lines ++ line ∷ [] in
@@ -20,7 +20,7 @@ none_left : (n : ℕ) → [] ≡ drop {A = Line} n []
 none_left zero = refl
 none_left (suc n) = refl
 
-held_from : (limit : ℕ) (held before : List Line) (acts : List Act) → held ≡ last_of limit before
+held_from : (limit : ℕ) (held before : List Line) (acts : List RingCall) → held ≡ last_of limit before
     → held_after (record { limit = limit; lines = held }) acts ≡ record { limit = limit; lines = last_of limit (pushed_since before acts) }
 held_from limit held before [] e = ap (λ lines. record { limit = limit; lines = lines }) e
 held_from limit held before (pushes line ∷ acts) e =
@@ -28,5 +28,5 @@ held_from limit held before (pushes line ∷ acts) e =
 held_from limit held before (clears ∷ acts) e = held_from limit [] [] acts (none_left (0 - limit))
 
 -- after any pushes and clears the lines are the last ones, up to the limit, of those pushed since the last clear
-pub held_is_last : (limit : ℕ) (acts : List Act) → held_after (no_lines limit) acts ≡ record { limit = limit; lines = last_of limit (pushed_since [] acts) }
+pub held_is_last : (limit : ℕ) (acts : List RingCall) → held_after (no_lines limit) acts ≡ record { limit = limit; lines = last_of limit (pushed_since [] acts) }
 held_is_last limit acts = held_from limit [] [] acts (none_left (0 - limit))

@@ -9,7 +9,7 @@ last : (line : Line) (lines : List Line) (d : Line) → newest (line ∷ lines) 
 last line [] d = refl
 last line (next ∷ lines) d = last next lines d
 
--- what stands at the last place is the newest line
+-- what is at the last place is the newest line
 pub newest_at : (o : Option (Bor Line)) (lines : List Line) → is_some o ≡ ltb 0 (length lines)
     → IfSome o (λ x. x.now ≡ get_or lines (length lines - 1) x.now) → option_map (λ (x : Bor Line). x.now) o ≡ newest lines
 newest_at None [] some is = refl

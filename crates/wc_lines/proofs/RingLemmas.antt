@@ -7,16 +7,16 @@ use Rattle.std.proofs.lemmas.Bool.Decides.{nat_tests}
 use Rattle.std.proofs.lemmas.List.Elements.{All-set, All-append}
 use Rattle.wc_text.specs.declared.names.Handle.{Handle}
 use Rattle.wc_lines.specs.declared.line.Line.{Line}
-use Rattle.wc_lines.specs.LineText.{HasText}
+use Rattle.wc_lines.specs.LineText.{HasUtf8Texts}
 use Rattle.wc_lines.specs.Ring.{has_content, place_of, set_displayed}
 
 -- ---- the texts
-one_line : (line : Line) → HasText line → All HasText (line ∷ [])
+one_line : (line : Line) → HasUtf8Texts line → All HasUtf8Texts (line ∷ [])
 one_line line text zero d inside = text
 one_line line text (suc k) d inside = absurd (omega arith)
 
-pub all_with_line : (lines : List Line) (line : Line) → All HasText lines → HasText line → All HasText (lines ++ line ∷ [])
-all_with_line lines line all one = All-append HasText lines (line ∷ []) all (one_line line one)
+pub all_with_line : (lines : List Line) (line : Line) → All HasUtf8Texts lines → HasUtf8Texts line → All HasUtf8Texts (lines ++ line ∷ [])
+all_with_line lines line all one = All-append HasUtf8Texts lines (line ∷ []) all (one_line line one)
 
 -- ---- the place of a line
 abbrev place : Handle → List Line → ℕ
@@ -80,17 +80,17 @@ written content on lines n line e is =
 
 -- the flag is no text
 pub written_text : (content : Handle) (on : Bool) (lines : List Line) (n : ℕ) (line : Line) → Some n ≡ place_of content lines → line ≡ get_or lines n line
-    → All HasText lines → All HasText (set lines n (shown line on))
+    → All HasUtf8Texts lines → All HasUtf8Texts (set lines n (shown line on))
 written_text content on lines n line e is all =
     let h = one_at content on lines n e in
-    let text : HasText line = subst HasText (sym is) (all n line h.0) in
-    All-set HasText lines n (shown line on) record { tags = text.tags; prefix = text.prefix; message = text.message } all
+    let text : HasUtf8Texts line = subst HasUtf8Texts (sym is) (all n line h.0) in
+    All-set HasUtf8Texts lines n (shown line on) record { tags = text.tags; prefix = text.prefix; message = text.message } all
 
 -- ---- the oldest line
 pub popped_len : (oldest : Option Line) (old new : ℕ) → MatchOption oldest ((old ≡ 0) × (new ≡ 0)) (λ line. new + 1 ≡ old) → 0 < old → new + 1 ≡ old
 popped_len None old new cases some = absurd (omega arith)
 popped_len (Some line) old new cases some = cases
 
-pub oldest_text : (oldest : Option Line) (lines rest : List Line) → lines ≡ option_to_list oldest ++ rest → All HasText lines → IfSome oldest HasText
+pub oldest_text : (oldest : Option Line) (lines rest : List Line) → lines ≡ option_to_list oldest ++ rest → All HasUtf8Texts lines → IfSome oldest HasUtf8Texts
 oldest_text None lines rest e all = tt
-oldest_text (Some line) lines rest e all = subst (All HasText) e all 0 line (omega arith)
+oldest_text (Some line) lines rest e all = subst (All HasUtf8Texts) e all 0 line (omega arith)

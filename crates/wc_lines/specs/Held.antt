@@ -3,9 +3,9 @@ use Rattle.std.specs.Prelude.{ℕ, List, []}
 use Rattle.wc_lines.specs.declared.line.Line.{Line}
 
 -- how many lines are held at most, and the lines, from the oldest
-pub record Held : Type 0 where
+pub record RingView : Type 0 where
   pub limit : ℕ
   pub lines : List Line
 
-abbrev pub no_lines : ℕ → Held
+abbrev pub no_lines : ℕ → RingView
 no_lines limit = record { limit = limit; lines = [] }

@@ -2,10 +2,10 @@
 use Rattle.std.specs.Prelude.{◌≤◌, All}
 use Rattle.std.specs.VecDeque.{deque_len, deque_capacity}
 use Rattle.wc_lines.specs.declared.lines.Lines.TheInside.{Inside}
-use Rattle.wc_lines.specs.Held.{Held}
-use Rattle.wc_lines.specs.LineText.{HasText}
+use Rattle.wc_lines.specs.Held.{RingView}
+use Rattle.wc_lines.specs.LineText.{HasUtf8Texts}
 
-abbrev pub held_of : Inside → Held
+abbrev pub held_of : Inside → RingView
 held_of a = record { limit = a.limit; lines = a.queue.items }
 
 -- there is room for all lines, and each of them is text
@@ -14,4 +14,4 @@ pub record IsRing (a : Inside) : Type 0 where
   pub most : a.limit ≤ 4096
   pub within : deque_len a.queue ≤ a.limit
   pub room : a.limit ≤ deque_capacity a.queue
-  pub text : All HasText a.queue.items
+  pub text : All HasUtf8Texts a.queue.items

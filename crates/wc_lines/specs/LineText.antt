@@ -3,7 +3,7 @@ use Rattle.std.specs.Prelude.{All}
 use Rattle.std.specs.Str.{IsUtf8}
 use Rattle.wc_lines.specs.declared.line.Line.{Line}
 
-pub record HasText (line : Line) : Type 0 where
+pub record HasUtf8Texts (line : Line) : Type 0 where
   pub tags : All IsUtf8 line.tags
   pub prefix : IsUtf8 line.prefix
   pub message : IsUtf8 line.message

@@ -3,7 +3,7 @@ use Rattle.std.specs.Prelude.{ℕ, ◌-◌, Bool, ◌==◌, List, [], ◌∷◌,
 use Rattle.std.specs.List.{list_any, position, slice_get}
 use Rattle.wc_text.specs.declared.names.Handle.{Handle}
 use Rattle.wc_lines.specs.declared.line.Line.{Line}
-use Rattle.wc_lines.specs.Held.{Held}
+use Rattle.wc_lines.specs.Held.{RingView}
 
 -- the last n of a list, or all where it has fewer
 abbrev pub last_of : {A : Type 0} → ℕ → List A → List A
@@ -15,15 +15,15 @@ newest [] = None
 newest (line ∷ []) = Some line
 newest (line ∷ next ∷ lines) = newest (next ∷ lines)
 
--- the line behind the others, as far as the limit allows
-abbrev pub with_line : Held → Line → Held
+-- the line after the others, as far as the limit allows
+abbrev pub with_line : RingView → Line → RingView
 with_line held line = record held { lines = last_of held.limit (held.lines ++ line ∷ []) }
 
 -- the oldest line, where as many as the limit are held
-abbrev pub pushed_out : Held → Option Line
+abbrev pub pushed_out : RingView → Option Line
 pushed_out held = if length held.lines == held.limit then slice_get held.lines 0 else None
 
-abbrev pub without_lines : Held → Held
+abbrev pub without_lines : RingView → RingView
 without_lines held = record held { lines = [] }
 
 -- the place of the first line with this content handle
@@ -40,5 +40,5 @@ set_displayed content on [] = []
 set_displayed content on (line ∷ lines) =
     if line.content.0 == content.0 then record line { displayed = on } ∷ lines else line ∷ set_displayed content on lines
 
-abbrev pub with_displayed : Handle → Bool → Held → Held
+abbrev pub with_displayed : Handle → Bool → RingView → RingView
 with_displayed content on held = record held { lines = set_displayed content on held.lines }

@@ -1,10 +1,10 @@
 ghost use Rattle.std.specs.Prelude.{◌≡◌, ◌≤◌, ◌++◌, ◌∷◌, [], length, map, IfOk, IfSome, All, IsTrue, ◌↔◌, option_copied};
 ghost use Rattle.std.specs.Iterator.{YieldsFirstRef, item_count};
-ghost use Rattle.wc_lines.specs.Flags.{flag_at, flagged, with_flags};
+ghost use Rattle.wc_lines.specs.Flags.{flag_at, with_own_flag, with_flags};
 ghost use Rattle.wc_lines.specs.Held.{no_lines};
 ghost use Rattle.wc_lines.specs.Ring.{with_line, pushed_out, without_lines, with_displayed, has_content, place_of, newest};
 ghost use Rattle.wc_lines.specs.LinesLeft.{lines_left};
-ghost use Rattle.wc_lines.specs.LineText.{HasText};
+ghost use Rattle.wc_lines.specs.LineText.{HasUtf8Texts};
 
 use crate::line::Line;
 use std::alloc::Global;
@@ -25,9 +25,9 @@ pub struct Lines {
 }
 
 impl Model for Lines {
-    ghost use Rattle.wc_lines.specs.Held.{Held};
+    ghost use Rattle.wc_lines.specs.Held.{RingView};
 
-    ghost Value = { Held };
+    ghost Value = { RingView };
 
     ghost use Rattle.wc_lines.specs.Inside.{held_of, IsRing};
 
@@ -47,12 +47,12 @@ impl Lines {
         Ok(Lines { limit, queue })
     }
 
-    /// Puts a line behind the others. Where as many as the limit are held, the oldest is first taken out and given back.
+    /// Puts a line after the others. Where as many as the limit are held, the oldest is first taken out and given back.
     pub fn push(&mut self, line: Line) -> Option<Line>
-        requires { HasText line }
+        requires { HasUtf8Texts line }
         ensures held { self.new ≡ with_line self.old line }
         ensures oldest { result ≡ pushed_out self.old }
-        ensures text { IfSome result HasText }
+        ensures text { IfSome result HasUtf8Texts }
     {
         if self.queue.len() < self.limit as usize {
             self.queue.push_back_reserved(line);
@@ -90,7 +90,7 @@ impl Lines {
     /// The lines, from the oldest.
     pub fn iter(&self) -> LineIter<'_>
         ensures lines { lines_left result ≡ self.now.lines }
-        ensures text { All HasText self.now.lines }
+        ensures text { All HasUtf8Texts self.now.lines }
     {
         LineIter {
             lines: self.queue.iter(),
@@ -100,7 +100,7 @@ impl Lines {
     /// The newest line. None exactly where no lines are held.
     pub fn newest(&self) -> Option<&Line>
         ensures line { option_copied result ≡ newest self.now.lines }
-        ensures text { IfSome (option_copied result) HasText }
+        ensures text { IfSome (option_copied result) HasUtf8Texts }
     {
         self.queue.back()
     }
@@ -118,7 +118,7 @@ impl Lines {
         true
     }
 
-    /// Gives each line the flag that stands at its content handle. A line for which none stands is left as it is.
+    /// Gives each line the flag that is at its content handle. A line that has none is left as it is.
     pub fn set_flags(&mut self, flags: &Flags)
         ensures { self.new ≡ with_flags (flag_at flags.now) self.old }
     {
@@ -127,7 +127,7 @@ impl Lines {
 }
 
 fn set_flags(lines: &mut [Line], flags: &Flags)
-    ensures { lines.new ≡ map (flagged (flag_at flags.now)) lines.old }
+    ensures { lines.new ≡ map (with_own_flag (flag_at flags.now)) lines.old }
 {
     for line in lines.iter_mut() {
         set_flag(line, flags);
@@ -135,7 +135,7 @@ fn set_flags(lines: &mut [Line], flags: &Flags)
 }
 
 fn set_flag(line: &mut Line, flags: &Flags)
-    ensures { line.new ≡ flagged (flag_at flags.now) line.old }
+    ensures { line.new ≡ with_own_flag (flag_at flags.now) line.old }
 {
     if let Some(on) = flags.get(&line.content.0) {
         line.displayed = *on;

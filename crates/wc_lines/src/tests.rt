@@ -1,5 +1,5 @@
 ghost use Rattle.std.specs.Prelude.{IfOk, IfSome};
-ghost use Rattle.wc_lines.specs.LineText.{HasText};
+ghost use Rattle.wc_lines.specs.LineText.{HasUtf8Texts};
 
 use super::*;
 use std::alloc::Global;
@@ -8,7 +8,7 @@ use wc_text::{Handle, Items, NoMemory, Text};
 
 /// A line with this number as its date and its handles, this message and one tag.
 fn numbered_line(alloc: Global, number: u64, message: &str) -> Result<Line, NoMemory>
-    ensures { IfOk result HasText }
+    ensures { IfOk result HasUtf8Texts }
 {
     Ok(Line {
         handle: Handle(number),

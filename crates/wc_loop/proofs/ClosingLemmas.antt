@@ -22,16 +22,16 @@ use Rattle.wc_session.specs.declared.outcome.Outcome.TheVariants as outcome
 use Rattle.wc_session.specs.Handshakes.{choice_in}
 use Rattle.wc_session.specs.Logins.{pairs_let_in}
 use Rattle.wc_session.specs.Names.{buffer_named}
-use Rattle.wc_session.specs.Reply.{Answer, silent, replies, leaves as drops, typed_into, shaken, handshake_reply, handshake_answer, init_answer, is_open, served, reply_of}
+use Rattle.wc_session.specs.Reply.{Answer, silent, replies, leave_step as drops, typed_into, shaken, handshake_reply, handshake_answer, init_answer, is_open, served, reply_of}
 use Rattle.wc_core.specs.Events.{Event, Start, Tick, Arrives, Line as LineCame, Ends, Fails, ListenFails}
-use Rattle.wc_core.specs.Typed.{parted}
+use Rattle.wc_core.specs.Typed.{lines_of_text}
 use Rattle.wc_core.specs.State.{State, Act, Sends, Closes, Quits, Stepped}
-use Rattle.wc_core.specs.Step.{step, run, stays, then_does, pushes, is_nicklist, replies as answered, follows, leaves, sends, asked, answers, line_came, lost, client_link}
+use Rattle.wc_core.specs.Step.{step, run, no_step, then_does, push_step, is_nicklist, reply_step as answered, outcome_step, leave_step, sends, request_step, answer_step, line_step, loss_step, client_link}
 use Rattle.wc_core.specs.Served.{or_else, close_of}
 use Rattle.wc_core.proofs.DidLemmas.{close_of-append}
-use Rattle.wc_core.proofs.SeatLemmas.{close-sends}
+use Rattle.wc_core.proofs.ConnectionLemmas.{close-sends}
 use Rattle.wc_core.proofs.CloseLemmas.{runs-closes, pushes-closes}
-use Rattle.wc_loop.specs.Lines.{ended, without_cr, line_limit}
+use Rattle.wc_loop.specs.Lines.{ended_lines, without_cr, line_limit}
 use Rattle.wc_loop.specs.Events.{line_events, read_events}
 use Rattle.wc_loop.specs.Run.{closings}
 use Rattle.wc_loop.specs.Served.{closed_by}
@@ -71,21 +71,21 @@ close-one link why = record {
   one = rw (eqb-same link) refl;
 }
 
--- what a step of a link does: it closes that link or none, and where it does so the link has no client behind it
+-- what a step of a link does: it closes that link or none, and where it does so the link has no client after it
 pub record StepsOne (link : ℕ) (stepped : Stepped) : Type 0 where
   pub acts : OneLink link stepped.acts
   pub left : (close_of link stepped.acts ≡ None) ⊎ (at_key client_link link stepped.state.clients ≡ None)
 
-stays-one : (link : ℕ) (state : State) → StepsOne link (stays state)
+stays-one : (link : ℕ) (state : State) → StepsOne link (no_step state)
 stays-one link state = record { acts = none-one link [] (λ k. refl); left = inl refl }
 
-leaves-one : (link : ℕ) (state : State) (why : Cause) → StepsOne link (leaves state link why)
+leaves-one : (link : ℕ) (state : State) (why : Cause) → StepsOne link (leave_step state link why)
 leaves-one link state why = record { acts = close-one link why; left = inr (at_key-filter_same client_link link state.clients) }
 
-follows-one : (link : ℕ) (state : State) (o : Outcome) → StepsOne link (follows state link o)
+follows-one : (link : ℕ) (state : State) (o : Outcome) → StepsOne link (outcome_step state link o)
 follows-one link state outcome.Replied = stays-one link state
 follows-one link state outcome.Silent = stays-one link state
-follows-one link state (outcome.Input buffer text) = record { acts = none-one link _ (λ k. runs-closes k state buffer (parted text)); left = inl (runs-closes link state buffer (parted text)) }
+follows-one link state (outcome.Input buffer text) = record { acts = none-one link _ (λ k. runs-closes k state buffer (lines_of_text text)); left = inl (runs-closes link state buffer (lines_of_text text)) }
 follows-one link state (outcome.Leave why) = leaves-one link state why
 follows-one link state outcome.NoMemory = stays-one link state
 
@@ -106,22 +106,22 @@ front-one link front stepped none h =
     left-by (inl e) q = inl (q ∙ e)
     left-by (inr e) q = inr e
 
-answers-one : (link : ℕ) (state : State) (answer : Answer) → StepsOne link (answers state link answer)
+answers-one : (link : ℕ) (state : State) (answer : Answer) → StepsOne link (answer_step state link answer)
 answers-one link state answer =
     let next : State = record state { clients = put_at client_link link answer.client state.clients } in
-    front-one link (sends link answer.messages) (follows next link answer.outcome) (λ k. close-sends k link answer.messages) (follows-one link next answer.outcome)
+    front-one link (sends link answer.messages) (outcome_step next link answer.outcome) (λ k. close-sends k link answer.messages) (follows-one link next answer.outcome)
 
-asked-one : (state : State) (client : Client) (request : Option Request) → StepsOne (client_link client) (asked state client request)
+asked-one : (state : State) (client : Client) (request : Option Request) → StepsOne (client_link client) (request_step state client request)
 asked-one state client None = stays-one (client_link client) state
 asked-one state client (Some request) = by (client.logged_in && is_nicklist request.command) where
   link : ℕ
   link = client_link client
 
-  behind : State
-  behind = (pushes state).state
+  following : State
+  following = (push_step state).state
 
-  by : (b : Bool) → StepsOne link (cond b (then_does (pushes state) (λ next. answered next client request)) (answered state client request))
-  by true = front-one link (pushes state).acts (answered behind client request) (λ k. pushes-closes k state) (answers-one link behind (reply_of behind.world behind.password client request))
+  by : (b : Bool) → StepsOne link (cond b (then_does (push_step state) (λ next. answered next client request)) (answered state client request))
+  by true = front-one link (push_step state).acts (answered following client request) (λ k. pushes-closes k state) (answers-one link following (reply_of following.world following.password client request))
   by false = answers-one link state (reply_of state.world state.password client request)
 
 found-key : (link : ℕ) (clients : List Client) (client : Client) → at_key client_link link clients ≡ Some client → client_link client ≡ link
@@ -135,11 +135,11 @@ found-key link (c ∷ cs) client e = found-by (eqb (client_link c) link) refl (f
         sym (ap client_link same) ∙ here
     found-by false f ih = ih (rw f at e)
 
-line-one : (link : ℕ) (state : State) (line : List ℕ) (o : Option Client) → at_key client_link link state.clients ≡ o → StepsOne link (line_came state line o)
+line-one : (link : ℕ) (state : State) (line : List ℕ) (o : Option Client) → at_key client_link link state.clients ≡ o → StepsOne link (line_step state line o)
 line-one link state line None e = stays-one link state
-line-one link state line (Some client) e = subst (λ k. StepsOne k (asked state client (request_of client.escaped line))) (found-key link state.clients client e) (asked-one state client (request_of client.escaped line))
+line-one link state line (Some client) e = subst (λ k. StepsOne k (request_step state client (request_of client.escaped line))) (found-key link state.clients client e) (asked-one state client (request_of client.escaped line))
 
-lost-one : (link : ℕ) (state : State) (why : Cause) (o : Option Client) → StepsOne link (lost state link why o)
+lost-one : (link : ℕ) (state : State) (why : Cause) (o : Option Client) → StepsOne link (loss_step state link why o)
 lost-one link state why None = stays-one link state
 lost-one link state why (Some client) = leaves-one link state why
 
@@ -152,7 +152,7 @@ step-one link state (Tick moment) h = absurd h
 step-one link state (Arrives other nonce) h = absurd h
 step-one link state ListenFails h = absurd h
 
-step-missing : (link : ℕ) (state : State) (event : Event) → IsOf link event → at_key client_link link state.clients ≡ None → step state event ≡ stays state
+step-missing : (link : ℕ) (state : State) (event : Event) → IsOf link event → at_key client_link link state.clients ≡ None → step state event ≡ no_step state
 step-missing link state (LineCame other line) h none = let e : at_key client_link other state.clients ≡ None = subst (λ k. at_key client_link k state.clients ≡ None) (sym h) none in rw e refl
 step-missing link state (Ends other) h none = let e : at_key client_link other state.clients ≡ None = subst (λ k. at_key client_link k state.clients ≡ None) (sym h) none in rw e refl
 step-missing link state (Fails other) h none = let e : at_key client_link other state.clients ≡ None = subst (λ k. at_key client_link k state.clients ≡ None) (sym h) none in rw e refl
@@ -162,7 +162,7 @@ step-missing link state (Arrives other nonce) h none = absurd h
 step-missing link state ListenFails h none = absurd h
 
 -- without a client nothing is done
-run-missing : (link : ℕ) (state : State) (events : List Event) → All (IsOf link) events → at_key client_link link state.clients ≡ None → run state events ≡ stays state
+run-missing : (link : ℕ) (state : State) (events : List Event) → All (IsOf link) events → at_key client_link link state.clients ≡ None → run state events ≡ no_step state
 run-missing link state [] h none = refl
 run-missing link state (e ∷ es) h none =
     let first = step-missing link state e (All-head (IsOf link) e es h) none in
@@ -207,7 +207,7 @@ lines-of link [] = All-nil (IsOf link)
 lines-of link (line ∷ lines) = All-append (IsOf link) (line_events link line) (flat_map (line_events link) lines) (line-of link line) (lines-of link lines)
 
 pub read-of : (link : ℕ) (line bytes : List ℕ) → All (IsOf link) (read_events link line bytes)
-read-of link line bytes = lines-of link (ended line bytes)
+read-of link line bytes = lines-of link (ended_lines line bytes)
 
 pub ended-of : (link : ℕ) → All (IsOf link) (Ends link ∷ [])
 ended-of link = All-cons (IsOf link) (Ends link) [] refl (All-nil (IsOf link))
@@ -272,21 +272,21 @@ unfolding reply_of
 can-answer world password client request =
     can-if (client.logged_in || is_open request.command) (served world password client request.id request.command) (drops client LoginFailed) (can-served world password client request.id request.command) (inl refl)
 
-follows-cause : (link : ℕ) (state : State) (o : Outcome) → CanLeave o → LineCause (close_of link (follows state link o).acts)
+follows-cause : (link : ℕ) (state : State) (o : Outcome) → CanLeave o → LineCause (close_of link (outcome_step state link o).acts)
 follows-cause link state outcome.Replied h = tt
 follows-cause link state outcome.Silent h = tt
-follows-cause link state (outcome.Input buffer text) h = subst LineCause (sym (runs-closes link state buffer (parted text))) tt
+follows-cause link state (outcome.Input buffer text) h = subst LineCause (sym (runs-closes link state buffer (lines_of_text text))) tt
 follows-cause link state (outcome.Leave why) h = rw (eqb-same link) h
 follows-cause link state outcome.NoMemory h = tt
 
-answers-cause : (link : ℕ) (state : State) (answer : Answer) → CanLeave answer.outcome → LineCause (close_of link (answers state link answer).acts)
+answers-cause : (link : ℕ) (state : State) (answer : Answer) → CanLeave answer.outcome → LineCause (close_of link (answer_step state link answer).acts)
 answers-cause link state answer h =
     let next : State = record state { clients = put_at client_link link answer.client state.clients } in
-    let same : close_of link (sends link answer.messages ++ (follows next link answer.outcome).acts) ≡ close_of link (follows next link answer.outcome).acts =
-    close_of-append link (sends link answer.messages) (follows next link answer.outcome).acts ∙ ap (λ o. or_else o (close_of link (follows next link answer.outcome).acts)) (close-sends link link answer.messages) in
+    let same : close_of link (sends link answer.messages ++ (outcome_step next link answer.outcome).acts) ≡ close_of link (outcome_step next link answer.outcome).acts =
+    close_of-append link (sends link answer.messages) (outcome_step next link answer.outcome).acts ∙ ap (λ o. or_else o (close_of link (outcome_step next link answer.outcome).acts)) (close-sends link link answer.messages) in
     subst LineCause (sym same) (follows-cause link next answer.outcome h)
 
-asked-cause : (state : State) (client : Client) (request : Option Request) → LineCause (close_of (client_link client) (asked state client request).acts)
+asked-cause : (state : State) (client : Client) (request : Option Request) → LineCause (close_of (client_link client) (request_step state client request).acts)
 asked-cause state client None = tt
 asked-cause state client (Some request) = by (client.logged_in && is_nicklist request.command) where
   link : ℕ
@@ -295,16 +295,16 @@ asked-cause state client (Some request) = by (client.logged_in && is_nicklist re
   replied : (at : State) → LineCause (close_of link (answered at client request).acts)
   replied at = answers-cause link at (reply_of at.world at.password client request) (can-answer at.world at.password client request)
 
-  behind : Stepped
-  behind = answered (pushes state).state client request
+  following : Stepped
+  following = answered (push_step state).state client request
 
-  by : (b : Bool) → LineCause (close_of link (cond b (then_does (pushes state) (λ next. answered next client request)) (answered state client request)).acts)
-  by true = subst LineCause (sym (close_of-append link (pushes state).acts behind.acts ∙ ap (λ o. or_else o (close_of link behind.acts)) (pushes-closes link state))) (replied (pushes state).state)
+  by : (b : Bool) → LineCause (close_of link (cond b (then_does (push_step state) (λ next. answered next client request)) (answered state client request)).acts)
+  by true = subst LineCause (sym (close_of-append link (push_step state).acts following.acts ∙ ap (λ o. or_else o (close_of link following.acts)) (pushes-closes link state))) (replied (push_step state).state)
   by false = replied state
 
-line-by : (link : ℕ) (state : State) (line : List ℕ) (o : Option Client) → at_key client_link link state.clients ≡ o → LineCause (close_of link (line_came state line o).acts)
+line-by : (link : ℕ) (state : State) (line : List ℕ) (o : Option Client) → at_key client_link link state.clients ≡ o → LineCause (close_of link (line_step state line o).acts)
 line-by link state line None e = tt
-line-by link state line (Some client) e = subst (λ k. LineCause (close_of k (asked state client (request_of client.escaped line)).acts)) (found-key link state.clients client e) (asked-cause state client (request_of client.escaped line))
+line-by link state line (Some client) e = subst (λ k. LineCause (close_of k (request_step state client (request_of client.escaped line)).acts)) (found-key link state.clients client e) (asked-cause state client (request_of client.escaped line))
 
 -- for what a line closes its link
 pub line-cause : (link : ℕ) (state : State) (line : List ℕ) → LineCause (close_of link (step state (LineCame link line)).acts)

@@ -9,27 +9,27 @@ use Rattle.wc_outside.specs.Seen.{Seen}
 use Rattle.wc_outside.specs.declared.happening.Happening.{Happening}
 use Rattle.wc_outside.specs.declared.happening.Happening.TheVariants.{Accepted}
 use Rattle.wc_outside.specs.Keyed.{at_key}
-use Rattle.wc_core.specs.declared.seat.Seat.{Seat}
+use Rattle.wc_core.specs.declared.connection.Connection.{Connection}
 use Rattle.wc_core.specs.Events.{Arrives}
 use Rattle.wc_core.specs.Step.{run}
-use Rattle.wc_core.specs.Served.{seat_link, state_of, unsent_in, unsent_on, sent_to, has_end, new_seat, refusal, Distinct}
-use Rattle.wc_core.proofs.SeatLemmas.{links-push}
+use Rattle.wc_core.specs.Served.{connection_link, state_of, unsent_in, unsent_on, sent_to, has_end, new_connection, refusal, Distinct}
+use Rattle.wc_core.proofs.ConnectionLemmas.{links-push}
 use Rattle.wc_loop.specs.declared.link_state.LinkState.{LinkState}
 use Rattle.wc_loop.specs.declared.headless.Headless.{Headless}
-use Rattle.wc_loop.specs.Hands.{Hands}
+use Rattle.wc_loop.specs.Hands.{Delivers}
 use Rattle.wc_loop.specs.Links.{link_number, is_undrained, new_state}
 use Rattle.wc_loop.specs.Run.{closings}
-use Rattle.wc_loop.specs.Served.{closed_by, leaving_closes, IsCalm}
-use Rattle.wc_loop.specs.Steps.{Comes, Admits, Refuses, IsRefusal}
-use Rattle.wc_loop.specs.Turns.{StandsAmong, Moment, moment, point, CausedBy, IsCaused, Continues}
+use Rattle.wc_loop.specs.Served.{closed_by, leaving_closes, NobodyLeaving}
+use Rattle.wc_loop.specs.Steps.{LinkComes, TakesArrival, RefusesArrival, IsRefusal}
+use Rattle.wc_loop.specs.Turns.{AgreesOnLinks, Moment, moment, point, CausedBy, IsCaused, LoopStep}
 use Rattle.wc_loop.proofs.KeyedLemmas.{or-false, none_of, is_some-push, at_key-push_same, at_key-push_other}
-use Rattle.wc_loop.proofs.HandsLemmas.{Hands-stays, Hands-close}
-use Rattle.wc_loop.proofs.RunLemmas.{Reaches-all}
-use Rattle.wc_loop.proofs.PointLemmas.{Advances-comes, Advances-same, fresh_by, spoils-more}
-use Rattle.wc_loop.proofs.SeatLemmas.{absent-missing, distinct-push}
-use Rattle.wc_loop.proofs.StandsLemmas.{For-came, For-refused}
+use Rattle.wc_loop.proofs.HandsLemmas.{Delivers-stays, Delivers-close}
+use Rattle.wc_loop.proofs.RunLemmas.{ReachesEvents-all}
+use Rattle.wc_loop.proofs.PointLemmas.{MomentAdvances-comes, MomentAdvances-same, fresh_by, spoils-more}
+use Rattle.wc_loop.proofs.ConnectionLemmas.{absent-missing, distinct-push}
+use Rattle.wc_loop.proofs.AgreesLemmas.{For-came, For-refused}
 use Rattle.wc_loop.proofs.CloseLemmas.{and-not-true, and-not-false}
-use Rattle.wc_loop.proofs.TurnLemmas.{Call, Continues-step, Continues-still}
+use Rattle.wc_loop.proofs.TurnLemmas.{Call, LoopStep-step, LoopStep-still}
 
 came-flag : (k : ℕ) (states : List LinkState) (state : LinkState) (t : Bool) → eqb (link_number state) k ≡ t → state.undrained ≡ false → at_key link_number (link_number state) states ≡ None → is_undrained (at_key link_number k states) ≡ is_undrained (at_key link_number k (states ++ state ∷ []))
 came-flag k states state true e off none =
@@ -41,30 +41,30 @@ came-flag k states state false e off none =
     let other : link_number state ≢ k = λ q. grind (arith, nat_tests) in
     ap is_undrained (sym (at_key-push_other link_number k state states other))
 
-no-seat : (states : List LinkState) (seats : List Seat) (used : ℕ) (listening : Bool) (seen : Seen) → StandsAmong states seats used listening seen → (k : ℕ) → used < k → at_key seat_link k seats ≡ None
-no-seat states seats used listening seen s k below = none_of _ (s.clients k ∙ ap is_some (s.unknown k below))
+no-connection : (states : List LinkState) (connections : List Connection) (used : ℕ) (listening : Bool) (seen : Seen) → AgreesOnLinks states connections used listening seen → (k : ℕ) → used < k → at_key connection_link k connections ≡ None
+no-connection states connections used listening seen s k below = none_of _ (s.clients k ∙ ap is_some (s.unknown k below))
 
 -- an arrival has a client
-pub Continues-came : (x y : Headless) (a b : Seen) (link : LinkId) (nonce : List ℕ) → Comes x y link → Admits x y link nonce → x.core.quits ≡ false → IsCalm x.core.seats → Call a b (Accepted link nonce ∷ []) → link.0 ≡ a.used + 1 → b.used ≡ a.used + 1
+pub LoopStep-came : (x y : Headless) (a b : Seen) (link : LinkId) (nonce : List ℕ) → LinkComes x y link → TakesArrival x y link nonce → x.core.quits ≡ false → NobodyLeaving x.core.connections → Call a b (Accepted link nonce ∷ []) → link.0 ≡ a.used + 1 → b.used ≡ a.used + 1
     → (IsTrue b.tells → (k : ℕ) → b.sent k ≡ a.sent k) → (IsTrue b.tells → (k : ℕ) → b.choked k ≡ a.choked k) → ((k : ℕ) → b.there k ≡ (a.there k || eqb link.0 k)) → ((k : ℕ) → b.undrained k ≡ a.undrained k) → b.listening ≡ a.listening
-    → Continues true 0 0 x y a b
-Continues-came x y a b link nonce comes admits going calm call next used sent choked there undrained listening =
-    let seats : y.core.seats ≡ x.core.seats ++ new_seat link nonce ∷ [] = ap (λ c. c.seats) admits.core in
+    → LoopStep true 0 0 x y a b
+LoopStep-came x y a b link nonce comes admits going calm call next used sent choked there undrained listening =
+    let connections : y.core.connections ≡ x.core.connections ++ new_connection link nonce ∷ [] = ap (λ c. c.connections) admits.core in
     let stays : y.core.starved ≡ x.core.starved = ap (λ c. c.starved) admits.core in
-    Continues-step true 0 0 x y a b (Accepted link nonce ∷ []) [] call (λ below. (let e = comes.turns in omega arith)) refl refl
-    (λ t s. ap (λ xs. xs ++ leaving_closes y.core.seats) admits.closed ∙ ap (λ cs. x.links.closed.items ++ cs) (comes.calm calm ∙ sym calm) ∙ sym (append-nil _))
+    LoopStep-step true 0 0 x y a b (Accepted link nonce ∷ []) [] call (λ below. (let e = comes.turns in omega arith)) refl refl
+    (λ t s. ap (λ xs. xs ++ leaving_closes y.core.connections) admits.closed ∙ ap (λ cs. x.links.closed.items ++ cs) (comes.calm calm ∙ sym calm) ∙ sym (append-nil _))
     (λ s. All-nil _) (λ over. comes.quits ∙ over)
     (λ s.
     let above : x.used < link.0 = (let c = s.counted in omega arith) in
-    let none = no-seat x.links.opened.items x.core.seats x.used x.listening a s link.0 above in
+    let none = no-connection x.links.opened.items x.core.connections x.used x.listening a s link.0 above in
     let some : (k : ℕ) → is_some (at_key link_number k (x.links.opened.items ++ new_state link ∷ [])) ≡ (is_some (at_key link_number k x.links.opened.items) || eqb link.0 k) = λ k. is_some-push link_number k (new_state link) x.links.opened.items in
-    rw (admits.opened, comes.listening, seats) (record {
+    rw (admits.opened, comes.listening, connections) (record {
       counted = comes.used ∙ next ∙ sym used;
       there = λ k. there k ∙ ap (λ q. q || eqb link.0 k) (s.there k) ∙ sym (some k);
       undrained = λ k. undrained k ∙ s.undrained k ∙ came-flag k x.links.opened.items (new_state link) (eqb link.0 k) refl refl (s.unknown link.0 above);
       listens = listening ∙ s.listens;
-      clients = λ k. is_some-push seat_link k (new_seat link nonce) x.core.seats ∙ ap (λ q. q || eqb link.0 k) (s.clients k) ∙ sym (some k);
-      once = subst Distinct (sym (links-push x.core.seats (new_seat link nonce))) (distinct-push link.0 (map seat_link x.core.seats) s.once (absent-missing link.0 x.core.seats none));
+      clients = λ k. is_some-push connection_link k (new_connection link nonce) x.core.connections ∙ ap (λ q. q || eqb link.0 k) (s.clients k) ∙ sym (some k);
+      once = subst Distinct (sym (links-push x.core.connections (new_connection link nonce))) (distinct-push link.0 (map connection_link x.core.connections) s.once (absent-missing link.0 x.core.connections none));
       unknown = λ k below.
           let number' = comes.used in
           let higher : x.used < k = omega arith in
@@ -74,17 +74,17 @@ Continues-came x y a b link nonce comes admits going calm call next used sent ch
     (λ t s on. rw (comes.clock, admits.opened) (For-came x.clock x.links.opened.items x.used y.used x.ran y.ran a.taken link nonce (new_state link) (next ∙ ap (λ n. n + 1) (sym s.among.counted)) (comes.used ∙ next ∙ ap (λ n. n + 1) (sym s.among.counted)) refl refl comes.ran (s.told (call.told t) going)))
     (λ t s.
     let above : x.used < link.0 = (let c = s.among.counted in omega arith) in
-    let none = no-seat x.links.opened.items x.core.seats x.used x.listening a s.among link.0 above in
+    let none = no-connection x.links.opened.items x.core.connections x.used x.listening a s.among link.0 above in
     let next' : link.0 ≡ x.used + 1 = next ∙ ap (λ n. n + 1) (sym s.among.counted) in
     record {
       events = Arrives link.0 nonce ∷ [];
-      reaches = Reaches-all x.core.quits y.core.quits x.ran y.ran (Arrives link.0 nonce ∷ []) going (λ fits. comes.ran);
+      reaches = ReachesEvents-all x.core.quits y.core.quits x.ran y.ran (Arrives link.0 nonce ∷ []) going (λ fits. comes.ran);
       rises = omega arith;
       advances = λ same below.
-          let came = (admits.step (absent-missing link.0 x.core.seats none)).comes same below in
+          let came = (admits.step (absent-missing link.0 x.core.connections none)).comes same below in
           let acts : (run (state_of x.core) (Arrives link.0 nonce ∷ [])).acts ≡ [] = ap (λ xs. xs ++ []) came.acts in
-          Advances-comes (moment x a) (moment y b) [] (Arrives link.0 nonce ∷ []) (comes.used ∙ next') came.state (λ k. ap (sent_to k) acts) came.bytes
-          (λ k. ap (λ ss. nat_le k (x.used + 1) && is_none (at_key seat_link k ss)) seats ∙ fresh_by k link.0 x.used (eqb link.0 k) refl next' (at_key seat_link k x.core.seats) (at_key seat_link k (x.core.seats ++ new_seat link nonce ∷ [])) (is_some-push seat_link k (new_seat link nonce) x.core.seats))
+          MomentAdvances-comes (moment x a) (moment y b) [] (Arrives link.0 nonce ∷ []) (comes.used ∙ next') came.state (λ k. ap (sent_to k) acts) came.bytes
+          (λ k. ap (λ ss. nat_le k (x.used + 1) && is_none (at_key connection_link k ss)) connections ∙ fresh_by k link.0 x.used (eqb link.0 k) refl next' (at_key connection_link k x.core.connections) (at_key connection_link k (x.core.connections ++ new_connection link nonce ∷ [])) (is_some-push connection_link k (new_connection link nonce) x.core.connections))
           comes.quits (ap has_end acts) (sent t) (choked t) (Accepted link nonce ∷ []) (call.taken t) (ap closings acts);
     })
 
@@ -108,22 +108,22 @@ refusal-ends : (link : ℕ) (o : Option Cause) → has_end (refusal link o ++ []
 refusal-ends link None = refl
 refusal-ends link (Some why) = refl
 
-refused-hands : (k link : ℕ) (a b : Moment) (t : Bool) → eqb k link ≡ t → link ≡ a.used + 1 → b.used ≡ a.used + 1 → at_key seat_link link a.core.seats ≡ None → b.core.seats ≡ a.core.seats → b.sent k ≡ a.sent k → (b.choked k ≡ false → a.choked k ≡ false)
-    → (more : List Happening) → b.taken ≡ a.taken ++ more → Hands (point k a) (point k b) []
-refused-hands k link a b true e next used none seats sent choked more taken =
+refused-hands : (k link : ℕ) (a b : Moment) (t : Bool) → eqb k link ≡ t → link ≡ a.used + 1 → b.used ≡ a.used + 1 → at_key connection_link link a.core.connections ≡ None → b.core.connections ≡ a.core.connections → b.sent k ≡ a.sent k → (b.choked k ≡ false → a.choked k ≡ false)
+    → (more : List Happening) → b.taken ≡ a.taken ++ more → Delivers (point k a) (point k b) []
+refused-hands k link a b true e next used none connections sent choked more taken =
     let same : link ≡ k = grind (arith, nat_tests) in
-    let here : at_key seat_link k a.core.seats ≡ None = ap (λ i. at_key seat_link i a.core.seats) (sym same) ∙ none in
+    let here : at_key connection_link k a.core.connections ≡ None = ap (λ i. at_key connection_link i a.core.connections) (sym same) ∙ none in
     let above : nat_le k a.used ≡ false = grind (arith, nat_tests) in
     let now : nat_le k (a.used + 1) ≡ true = grind (arith, nat_tests) in
-    Hands-close (point k a) (point k b) (rw above refl) (rw (used, now, seats, here) refl) sent
+    Delivers-close (point k a) (point k b) (rw above refl) (rw (used, now, connections, here) refl) sent
     (rw taken (spoils-more k (a.choked k) (b.choked k) a.taken more choked))
     (λ q. ap unsent_in here)
-refused-hands k link a b false e next used none seats sent choked more taken =
+refused-hands k link a b false e next used none connections sent choked more taken =
     let other : link ≢ k = λ q. grind (arith, nat_tests) in
     let same : nat_le k (a.used + 1) ≡ nat_le k a.used = grind (arith, nat_tests) in
-    Hands-stays (point k a) (point k b) [] (rw (used, seats, same) refl)
+    Delivers-stays (point k a) (point k b) [] (rw (used, connections, same) refl)
     (rw taken (spoils-more k (a.choked k) (b.choked k) a.taken more choked))
-    (rw seats (ap (λ bytes. bytes ++ unsent_on k a.core.seats) sent ∙ sym (append-nil _)))
+    (rw connections (ap (λ bytes. bytes ++ unsent_on k a.core.connections) sent ∙ sym (append-nil _)))
     (λ q. sent) (λ q. refl)
 
 gone-link : (k link : ℕ) (t u : Bool) → eqb k link ≡ t → eqb link k ≡ u → (states : List LinkState) → at_key link_number link states ≡ None → ((is_some (at_key link_number k states) || u) && not t) ≡ is_some (at_key link_number k states)
@@ -136,21 +136,21 @@ gone-flag k link true e states none = let same : k ≡ link = grind (arith, nat_
 gone-flag k link false e states none = and-not-false _
 
 -- an arrival has no client, and its link is closed at once
-pub Continues-refused : (x y : Headless) (a b : Seen) (link : LinkId) (nonce : List ℕ) → Comes x y link → Refuses x y link nonce → x.core.quits ≡ false → IsCalm x.core.seats → Call a b (Accepted link nonce ∷ []) → link.0 ≡ a.used + 1 → b.used ≡ a.used + 1
+pub LoopStep-refused : (x y : Headless) (a b : Seen) (link : LinkId) (nonce : List ℕ) → LinkComes x y link → RefusesArrival x y link nonce → x.core.quits ≡ false → NobodyLeaving x.core.connections → Call a b (Accepted link nonce ∷ []) → link.0 ≡ a.used + 1 → b.used ≡ a.used + 1
     → (IsTrue b.tells → (k : ℕ) → b.sent k ≡ a.sent k) → (IsTrue b.tells → (k : ℕ) → b.choked k ≡ false → a.choked k ≡ false) → ((k : ℕ) → b.there k ≡ ((a.there k || eqb link.0 k) && not (eqb k link.0))) → ((k : ℕ) → b.undrained k ≡ (a.undrained k && not (eqb k link.0))) → b.listening ≡ a.listening
-    → Continues true 0 0 x y a b
-Continues-refused x y a b link nonce comes r going calm call next used sent choked there undrained listening =
-    Continues-step true 0 0 x y a b (Accepted link nonce ∷ []) (closed_by link r.cause) call (λ below. (let e = comes.turns in omega arith)) refl refl
+    → LoopStep true 0 0 x y a b
+LoopStep-refused x y a b link nonce comes r going calm call next used sent choked there undrained listening =
+    LoopStep-step true 0 0 x y a b (Accepted link nonce ∷ []) (closed_by link r.cause) call (λ below. (let e = comes.turns in omega arith)) refl refl
     (λ t s.
     let above : x.used < link.0 = (let c = s.among.counted in omega arith) in
     ap (λ cs. y.links.closed.items ++ cs) (comes.calm calm) ∙ append-nil _ ∙ r.closed (s.among.unknown link.0 above) ∙ ap (λ xs. xs ++ closed_by link r.cause) (sym (append-nil x.links.closed.items) ∙ ap (λ cs. x.links.closed.items ++ cs) (sym calm)))
     (λ s. refused-causes link nonce r.cause a b r.fits call.taken) (λ over. comes.quits ∙ over)
     (λ s.
     let above : x.used < link.0 = (let c = s.counted in omega arith) in
-    let none = no-seat x.links.opened.items x.core.seats x.used x.listening a s link.0 above in
+    let none = no-connection x.links.opened.items x.core.connections x.used x.listening a s link.0 above in
     let absent = s.unknown link.0 above in
-    let seats : y.core.seats ≡ x.core.seats = ap (λ c. c.seats) (r.core (absent-missing link.0 x.core.seats none)) in
-    rw (r.opened absent, comes.listening, seats) (record {
+    let connections : y.core.connections ≡ x.core.connections = ap (λ c. c.connections) (r.core (absent-missing link.0 x.core.connections none)) in
+    rw (r.opened absent, comes.listening, connections) (record {
       counted = comes.used ∙ next ∙ sym used;
       there = λ k. there k ∙ ap (λ q. (q || eqb link.0 k) && not (eqb k link.0)) (s.there k) ∙ gone-link k link.0 (eqb k link.0) (eqb link.0 k) refl refl x.links.opened.items absent;
       undrained = λ k. undrained k ∙ ap (λ q. q && not (eqb k link.0)) (s.undrained k) ∙ gone-flag k link.0 (eqb k link.0) refl x.links.opened.items absent;
@@ -164,13 +164,13 @@ Continues-refused x y a b link nonce comes r going calm call next used sent chok
     rw (comes.clock, r.opened (s.among.unknown link.0 above)) (For-refused x.clock x.links.opened.items x.used y.used x.ran y.ran a.taken link nonce (comes.used ∙ next ∙ ap (λ n. n + 1) (sym s.among.counted)) comes.ran (s.told (call.told t) going)))
     (λ t s.
     let above : x.used < link.0 = (let c = s.among.counted in omega arith) in
-    let none = no-seat x.links.opened.items x.core.seats x.used x.listening a s.among link.0 above in
-    let absent = absent-missing link.0 x.core.seats none in
+    let none = no-connection x.links.opened.items x.core.connections x.used x.listening a s.among link.0 above in
+    let absent = absent-missing link.0 x.core.connections none in
     let next' : link.0 ≡ x.used + 1 = next ∙ ap (λ n. n + 1) (sym s.among.counted) in
     let core = r.core absent in
     record {
       events = Arrives link.0 nonce ∷ [];
-      reaches = Reaches-all x.core.quits y.core.quits x.ran y.ran (Arrives link.0 nonce ∷ []) going (λ fits. comes.ran);
+      reaches = ReachesEvents-all x.core.quits y.core.quits x.ran y.ran (Arrives link.0 nonce ∷ []) going (λ fits. comes.ran);
       rises = r.rises;
       advances = λ same below.
           let stepped = r.step same below absent in
@@ -178,7 +178,7 @@ Continues-refused x y a b link nonce comes r going calm call next used sent chok
           record {
             state = ap state_of core ∙ sym (ap (λ p. p.state) stepped);
             hands = λ k. rw (acts, refusal-sent k link.0 r.cause)
-                (refused-hands k link.0 (moment x a) (moment y b) (eqb k link.0) refl next' (comes.used ∙ next') none (ap (λ c. c.seats) core) (sent t k) (choked t k) (Accepted link nonce ∷ []) (call.taken t));
+                (refused-hands k link.0 (moment x a) (moment y b) (eqb k link.0) refl next' (comes.used ∙ next') none (ap (λ c. c.connections) core) (sent t k) (choked t k) (Accepted link nonce ∷ []) (call.taken t));
             closes = rw acts (refusal-closes link r.cause);
             quits = comes.quits ∙ sym (or-false x.core.quits) ∙ ap (λ q. x.core.quits || q) (sym (refusal-ends link.0 r.cause)) ∙ ap (λ xs. x.core.quits || has_end xs) (sym acts);
           };
@@ -189,10 +189,10 @@ and-nothing true = refl
 and-nothing false = refl
 
 -- no arrival is ready
-pub Continues-idle : (x : Headless) (a b : Seen) → Call a b [] → (IsTrue b.tells → (k : ℕ) → b.sent k ≡ a.sent k) → (IsTrue b.tells → (k : ℕ) → b.choked k ≡ a.choked k)
-    → b.used ≡ a.used → ((k : ℕ) → b.there k ≡ a.there k) → ((k : ℕ) → b.undrained k ≡ a.undrained k) → b.listening ≡ (a.listening && not true) → Continues true 0 0 x (record x { listening = false }) a b
-Continues-idle x a b call sent choked used there undrained listening =
-    Continues-still x (record x { listening = false }) a b call refl refl refl refl (λ s. refl)
+pub LoopStep-idle : (x : Headless) (a b : Seen) → Call a b [] → (IsTrue b.tells → (k : ℕ) → b.sent k ≡ a.sent k) → (IsTrue b.tells → (k : ℕ) → b.choked k ≡ a.choked k)
+    → b.used ≡ a.used → ((k : ℕ) → b.there k ≡ a.there k) → ((k : ℕ) → b.undrained k ≡ a.undrained k) → b.listening ≡ (a.listening && not true) → LoopStep true 0 0 x (record x { listening = false }) a b
+LoopStep-idle x a b call sent choked used there undrained listening =
+    LoopStep-still x (record x { listening = false }) a b call refl refl refl refl (λ s. refl)
     (λ s. record { counted = s.counted ∙ sym used; there = λ k. there k ∙ s.there k; undrained = λ k. undrained k ∙ s.undrained k; listens = listening ∙ and-nothing _; clients = s.clients; once = s.once; unknown = s.unknown })
     (λ t s. s)
-    (λ t s. Advances-same (moment x a) (moment (record x { listening = false }) b) refl refl refl (sent t) (choked t) [] (call.taken t) [] refl)
+    (λ t s. MomentAdvances-same (moment x a) (moment (record x { listening = false }) b) refl refl refl (sent t) (choked t) [] (call.taken t) [] refl)

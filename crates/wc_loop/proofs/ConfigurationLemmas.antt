@@ -1,4 +1,4 @@
--- The lines of a configuration, one behind another.
+-- The lines of a configuration, one after another.
 use Rattle.std.proofs.Common.{◌≡◌, ℕ, ◌+◌, ◌≤◌, Bool, true, false, cond, nat_le, ◌&&◌, ◌||◌, List, [], ◌∷◌, Option, Some, None, Result, Ok, Err, IfOk, IfSome, IsErrOf, refl, sym, ap, ◌∙◌, arith}
 use Rattle.std.specs.Prelude.{bytes_eq, codes}
 use Rattle.std.specs.Option.{option_map_or}
@@ -11,15 +11,15 @@ use Rattle.wc_options.specs.Values.{value_fits}
 use Rattle.wc_options.specs.declared.kind.Kind.TheVariants.{Text}
 use Rattle.wc_options.specs.declared.refusal.ConfigRefused.TheVariants.{BadLine}
 use Rattle.wc_loop.specs.declared.configuration.Settings.{Settings}
-use Rattle.wc_loop.specs.Configuration.{behind_line, behind_lines, first_settings, is_version_line, settings_in, with_limit, with_line, with_parts, with_password}
+use Rattle.wc_loop.specs.Configuration.{after_line, after_lines, first_settings, is_version_line, settings_in, with_limit, with_line, with_parts, with_password}
 
-pub bad-line : (number : ℕ) (settings : Settings) (line bytes rest : List ℕ) (whole : Result Settings ℕ) → lines_of bytes ≡ line ∷ lines_of rest → None ≡ behind_line number settings line
-    → behind_lines number settings (lines_of bytes) ≡ whole → whole ≡ Err number
+pub bad-line : (number : ℕ) (settings : Settings) (line bytes rest : List ℕ) (whole : Result Settings ℕ) → lines_of bytes ≡ line ∷ lines_of rest → None ≡ after_line number settings line
+    → after_lines number settings (lines_of bytes) ≡ whole → whole ≡ Err number
 bad-line number settings line bytes rest whole e bad h =
-    sym h ∙ ap (behind_lines number settings) e ∙ ap (λ o. option_map_or (λ behind. behind_lines (number + 1) behind (lines_of rest)) o (Err number)) (sym bad)
+    sym h ∙ ap (after_lines number settings) e ∙ ap (λ o. option_map_or (λ following. after_lines (number + 1) following (lines_of rest)) o (Err number)) (sym bad)
 
-pub no-line : (number : ℕ) (settings : Settings) (bytes : List ℕ) (whole : Result Settings ℕ) → lines_of bytes ≡ [] → behind_lines number settings (lines_of bytes) ≡ whole → whole ≡ Ok settings
-no-line number settings bytes whole e h = sym h ∙ ap (behind_lines number settings) e
+pub no-line : (number : ℕ) (settings : Settings) (bytes : List ℕ) (whole : Result Settings ℕ) → lines_of bytes ≡ [] → after_lines number settings (lines_of bytes) ≡ whole → whole ≡ Ok settings
+no-line number settings bytes whole e h = sym h ∙ ap (after_lines number settings) e
 
 -- what is set, in memory of its own
 pub ok-kept : {E : Type 0} (r : Result Settings E) (given : Settings) (whole : Result Settings ℕ) → IfOk r (λ settings. settings ≡ given) → whole ≡ Ok given → IfOk r (λ settings. whole ≡ Ok settings)
@@ -64,21 +64,21 @@ parts-most settings (Some parts) h =
     (most-if (value_fits Text parts.1) (Some (record settings { password = parts.1 })) None h tt)
     (most-if (bytes_eq parts.0 (codes "weechat.history.max_buffer_lines_number")) (with_limit settings (number_in 1 4096 parts.1)) None (limit-most settings (number_in 1 4096 parts.1) (λ n e. number-most 1 4096 n parts.1 e)) tt)
 
-line-most : (number : ℕ) (settings : Settings) (line : List ℕ) → settings.limit ≤ 4096 → Most (behind_line number settings line)
+line-most : (number : ℕ) (settings : Settings) (line : List ℕ) → settings.limit ≤ 4096 → Most (after_line number settings line)
 unfolding Most
 line-most number settings line h =
     most-if (is_passed_over line || is_version_line number line) (Some settings) (with_line settings line) h
     (most-if (is_utf8 line) (with_parts settings (parted line)) None (parts-most settings (parted line) h) tt)
 
-lines-most : (number : ℕ) (settings : Settings) (lines : List (List ℕ)) → settings.limit ≤ 4096 → IfOk (behind_lines number settings lines) (λ settings. settings.limit ≤ 4096)
+lines-most : (number : ℕ) (settings : Settings) (lines : List (List ℕ)) → settings.limit ≤ 4096 → IfOk (after_lines number settings lines) (λ settings. settings.limit ≤ 4096)
 unfolding Most
 lines-most number settings [] h = h
-lines-most number settings (line ∷ lines) h = go (behind_line number settings line) (line-most number settings line h) (λ behind most. lines-most (number + 1) behind lines most)
+lines-most number settings (line ∷ lines) h = go (after_line number settings line) (line-most number settings line h) (λ following most. lines-most (number + 1) following lines most)
   where
-    go : (o : Option Settings) → Most o → ((behind : Settings) → behind.limit ≤ 4096 → IfOk (behind_lines (number + 1) behind lines) (λ settings. settings.limit ≤ 4096))
-        → IfOk (option_map_or (λ behind. behind_lines (number + 1) behind lines) o (Err number)) (λ settings. settings.limit ≤ 4096)
+    go : (o : Option Settings) → Most o → ((following : Settings) → following.limit ≤ 4096 → IfOk (after_lines (number + 1) following lines) (λ settings. settings.limit ≤ 4096))
+        → IfOk (option_map_or (λ following. after_lines (number + 1) following lines) o (Err number)) (λ settings. settings.limit ≤ 4096)
     go None most more = tt
-    go (Some behind) most more = more behind most
+    go (Some following) most more = more following most
 
 pub settings-most : (text : List ℕ) → IfOk (settings_in text) (λ settings. settings.limit ≤ 4096)
 unfolding settings_in

@@ -10,26 +10,26 @@ use Rattle.wc_outside.specs.Keyed.{at_key, without}
 use Rattle.wc_loop.specs.declared.link_state.LinkState.{LinkState}
 use Rattle.wc_loop.specs.declared.link_state.Closed.{Closed}
 use Rattle.wc_loop.specs.declared.headless.Headless.{Headless}
-use Rattle.wc_loop.specs.Contained.{is_known, HasStarved, Contained}
-use Rattle.wc_loop.specs.Links.{link_number, new_state, listed}
+use Rattle.wc_loop.specs.Contained.{is_known, HasStarved, KeepsLinks}
+use Rattle.wc_loop.specs.Links.{link_number, new_state, with_closed}
 use Rattle.wc_loop.specs.Served.{closed_by, closed_number}
-use Rattle.wc_loop.specs.Steps.{Comes, Admits, Refuses}
-use Rattle.wc_loop.specs.Turns.{Takes}
+use Rattle.wc_loop.specs.Steps.{LinkComes, TakesArrival, RefusesArrival}
+use Rattle.wc_loop.specs.Turns.{TakesHappening}
 use Rattle.wc_loop.proofs.KeyedLemmas.{or-true, is_some-push, at_key-filter_other}
 
-pub Contained-refl : (x : Headless) → Contained x x
-Contained-refl x = record { used = omega arith; rises = omega arith; known = λ k h. h; came = λ k above below. absurd (omega arith) }
+pub KeepsLinks-refl : (x : Headless) → KeepsLinks x x
+KeepsLinks-refl x = record { used = omega arith; rises = omega arith; known = λ k h. h; came = λ k above below. absurd (omega arith) }
 
-starved-behind : (a b c : ℕ) → a ≤ b → HasStarved b c → HasStarved a c
-starved-behind a b c low (inl h) = inl (omega arith)
-starved-behind a b c low (inr h) = inr h
+starved-following : (a b c : ℕ) → a ≤ b → HasStarved b c → HasStarved a c
+starved-following a b c low (inl h) = inl (omega arith)
+starved-following a b c low (inr h) = inr h
 
 starved-later : (a b c : ℕ) → b ≤ c → HasStarved a b → HasStarved a c
 starved-later a b c low (inl h) = inl (omega arith)
 starved-later a b c low (inr h) = inr (omega arith)
 
-pub Contained-trans : (x y z : Headless) → Contained x y → Contained y z → Contained x z
-Contained-trans x y z h g = record {
+pub KeepsLinks-trans : (x y z : Headless) → KeepsLinks x y → KeepsLinks y z → KeepsLinks x z
+KeepsLinks-trans x y z h g = record {
   used = (let p = h.used in let q = g.used in omega arith);
   rises = (let p = h.rises in let q = g.rises in omega arith);
   known = λ k known. g.known k (h.known k known);
@@ -40,17 +40,17 @@ Contained-trans x y z h g = record {
     later-by k (inl known) = inl (g.known k known)
     later-by k (inr starved) = inr (starved-later x.core.starved y.core.starved z.core.starved g.rises starved)
 
-    behind-by : (k : ℕ) → (is_known k z ≡ true) ⊎ HasStarved y.core.starved z.core.starved → (is_known k z ≡ true) ⊎ HasStarved x.core.starved z.core.starved
-    behind-by k (inl known) = inl known
-    behind-by k (inr starved) = inr (starved-behind x.core.starved y.core.starved z.core.starved h.rises starved)
+    following-by : (k : ℕ) → (is_known k z ≡ true) ⊎ HasStarved y.core.starved z.core.starved → (is_known k z ≡ true) ⊎ HasStarved x.core.starved z.core.starved
+    following-by k (inl known) = inl known
+    following-by k (inr starved) = inr (starved-following x.core.starved y.core.starved z.core.starved h.rises starved)
 
     came-by : (k : ℕ) → x.used < k → k ≤ z.used → (t : Bool) → nat_le k y.used ≡ t → (is_known k z ≡ true) ⊎ HasStarved x.core.starved z.core.starved
     came-by k above below true e = later-by k (h.came k above (grind (arith, nat_tests)))
-    came-by k above below false e = behind-by k (g.came k (grind (arith, nat_tests)) below)
+    came-by k above below false e = following-by k (g.came k (grind (arith, nat_tests)) below)
 
 -- the same links are there
-pub Contained-same : (x y : Headless) → y.used ≡ x.used → x.core.starved ≤ y.core.starved → ((k : ℕ) → is_some (at_key link_number k y.links.opened.items) ≡ is_some (at_key link_number k x.links.opened.items)) → y.links.closed.items ≡ x.links.closed.items → Contained x y
-Contained-same x y used rises links closed = record {
+pub KeepsLinks-same : (x y : Headless) → y.used ≡ x.used → x.core.starved ≤ y.core.starved → ((k : ℕ) → is_some (at_key link_number k y.links.opened.items) ≡ is_some (at_key link_number k x.links.opened.items)) → y.links.closed.items ≡ x.links.closed.items → KeepsLinks x y
+KeepsLinks-same x y used rises links closed = record {
   used = omega arith;
   rises = rises;
   known = λ k h. rw (links k, closed) h;
@@ -64,23 +64,23 @@ or-either false b c d f g h = g h
 or-here : (a b : Bool) → a ≡ true → (b || a) ≡ true
 or-here a b e = ap (λ t. b || t) e ∙ or-true b
 
-listed-more : (k : ℕ) (o : Option LinkState) (closed : List Closed) (one : Closed) → is_some (at_key closed_number k closed) ≡ true → is_some (at_key closed_number k (listed o closed one)) ≡ true
+listed-more : (k : ℕ) (o : Option LinkState) (closed : List Closed) (one : Closed) → is_some (at_key closed_number k closed) ≡ true → is_some (at_key closed_number k (with_closed o closed one)) ≡ true
 listed-more k None closed one e = e
 listed-more k (Some state) closed one e = is_some-push closed_number k one closed ∙ ap (λ t. t || eqb (closed_number one) k) e
 
-listed-one : (k : ℕ) (o : Option LinkState) (closed : List Closed) (one : Closed) → closed_number one ≡ k → is_some o ≡ true → is_some (at_key closed_number k (listed o closed one)) ≡ true
+listed-one : (k : ℕ) (o : Option LinkState) (closed : List Closed) (one : Closed) → closed_number one ≡ k → is_some o ≡ true → is_some (at_key closed_number k (with_closed o closed one)) ≡ true
 listed-one k None closed one e there = absurd (false≢true there)
 listed-one k (Some state) closed one e there = let test : eqb (closed_number one) k ≡ true = grind (arith, nat_tests) in is_some-push closed_number k one closed ∙ or-here (eqb (closed_number one) k) (is_some (at_key closed_number k closed)) test
 
 close-known : (k link : ℕ) (states : List LinkState) (closed : List Closed) (one : Closed) (t : Bool) → eqb k link ≡ t → closed_number one ≡ link → (is_some (at_key link_number k states) || is_some (at_key closed_number k closed)) ≡ true
-    → (is_some (at_key link_number k (without link_number link states)) || is_some (at_key closed_number k (listed (at_key link_number link states) closed one))) ≡ true
+    → (is_some (at_key link_number k (without link_number link states)) || is_some (at_key closed_number k (with_closed (at_key link_number link states) closed one))) ≡ true
 close-known k link states closed one true e number h =
     let same : link ≡ k = grind (arith, nat_tests) in
     let there = is_some (at_key link_number k (without link_number link states)) in
     or-by (is_some (at_key link_number k states)) refl h
   where
     or-by : (u : Bool) → is_some (at_key link_number k states) ≡ u → (u || is_some (at_key closed_number k closed)) ≡ true
-        → (is_some (at_key link_number k (without link_number link states)) || is_some (at_key closed_number k (listed (at_key link_number link states) closed one))) ≡ true
+        → (is_some (at_key link_number k (without link_number link states)) || is_some (at_key closed_number k (with_closed (at_key link_number link states) closed one))) ≡ true
     or-by true was q =
         let same : link ≡ k = grind (arith, nat_tests) in
         let here : is_some (at_key link_number link states) ≡ true = ap (λ i. is_some (at_key link_number i states)) same ∙ was in
@@ -93,9 +93,9 @@ close-known k link states closed one false e number h =
     (λ q. or-here _ _ (listed-more k (at_key link_number link states) closed one q)) h
 
 -- a link is closed, and listed
-pub Contained-close : (x y : Headless) (link : LinkId) (cause : Cause) → y.used ≡ x.used → y.core.starved ≡ x.core.starved → y.links.opened.items ≡ without link_number link.0 x.links.opened.items
-    → y.links.closed.items ≡ listed (at_key link_number link.0 x.links.opened.items) x.links.closed.items (record { link = link; cause = cause }) → Contained x y
-Contained-close x y link cause used starved opened closed = record {
+pub KeepsLinks-close : (x y : Headless) (link : LinkId) (cause : Cause) → y.used ≡ x.used → y.core.starved ≡ x.core.starved → y.links.opened.items ≡ without link_number link.0 x.links.opened.items
+    → y.links.closed.items ≡ with_closed (at_key link_number link.0 x.links.opened.items) x.links.closed.items (record { link = link; cause = cause }) → KeepsLinks x y
+KeepsLinks-close x y link cause used starved opened closed = record {
   used = omega arith;
   rises = omega arith;
   known = λ k h. rw (opened, closed) (close-known k link.0 x.links.opened.items x.links.closed.items (record { link = link; cause = cause }) (eqb k link.0) refl refl h);
@@ -103,8 +103,8 @@ Contained-close x y link cause used starved opened closed = record {
 }
 
 -- a client came
-pub Contained-came : (x y : Headless) (link : LinkId) (nonce : List ℕ) → Comes x y link → Admits x y link nonce → link.0 ≡ x.used + 1 → Contained x y
-Contained-came x y link nonce comes admits next =
+pub KeepsLinks-came : (x y : Headless) (link : LinkId) (nonce : List ℕ) → LinkComes x y link → TakesArrival x y link nonce → link.0 ≡ x.used + 1 → KeepsLinks x y
+KeepsLinks-came x y link nonce comes admits next =
     let used = comes.used in
     let starved = ap (λ c. c.starved) admits.core in
     let some : (k : ℕ) → is_some (at_key link_number k y.links.opened.items) ≡ (is_some (at_key link_number k x.links.opened.items) || eqb link.0 k) = λ k. ap (λ ss. is_some (at_key link_number k ss)) admits.opened ∙ is_some-push link_number k (new_state link) x.links.opened.items in
@@ -122,8 +122,8 @@ closed-more k link None closed e = ap (λ cs. is_some (at_key closed_number k cs
 closed-more k link (Some why) closed e = is_some-push closed_number k (record { link = link; cause = why }) closed ∙ ap (λ t. t || eqb link.0 k) e
 
 -- an arrival was refused
-pub Contained-refused : (x y : Headless) (link : LinkId) (nonce : List ℕ) → Comes x y link → Refuses x y link nonce → link.0 ≡ x.used + 1 → at_key link_number link.0 x.links.opened.items ≡ None → Contained x y
-Contained-refused x y link nonce comes r next none =
+pub KeepsLinks-refused : (x y : Headless) (link : LinkId) (nonce : List ℕ) → LinkComes x y link → RefusesArrival x y link nonce → link.0 ≡ x.used + 1 → at_key link_number link.0 x.links.opened.items ≡ None → KeepsLinks x y
+KeepsLinks-refused x y link nonce comes r next none =
     let used = comes.used in
     record {
       used = omega arith;
@@ -139,5 +139,5 @@ Contained-refused x y link nonce comes r next none =
         let here : eqb link.0 k ≡ true = grind (arith, nat_tests) in
         inl (or-here _ _ (ap (λ cs. is_some (at_key closed_number k cs)) (r.closed none ∙ ap (λ o. x.links.closed.items ++ closed_by link o) e) ∙ is_some-push closed_number k (record { link = link; cause = why }) x.links.closed.items ∙ or-here (eqb link.0 k) (is_some (at_key closed_number k x.links.closed.items)) here))
 
-pub Contained-takes : (x y : Headless) (h : Happening) → Takes x y h → x.core.starved ≤ y.core.starved → Contained x y
-Contained-takes x y h takes rises = Contained-same x y takes.used rises takes.links takes.closed
+pub KeepsLinks-takes : (x y : Headless) (h : Happening) → TakesHappening x y h → x.core.starved ≤ y.core.starved → KeepsLinks x y
+KeepsLinks-takes x y h takes rises = KeepsLinks-same x y takes.used rises takes.links takes.closed

@@ -13,7 +13,7 @@ use Rattle.wc_core.specs.Events.{Event}
 use Rattle.wc_core.specs.State.{State}
 use Rattle.wc_core.specs.Step.{run}
 use Rattle.wc_core.specs.Served.{sent_to}
-use Rattle.wc_loop.specs.Served.{Reaches}
+use Rattle.wc_loop.specs.Served.{ReachesEvents}
 use Rattle.wc_loop.proofs.LineLemmas.{rest-append, read_events-append}
 use Rattle.wc_loop.proofs.RunLemmas.{events_from-append}
 
@@ -23,7 +23,7 @@ pub same_events : (state : State) (taken others : List Happening) → whole take
 same_events state taken others e = (ap (λ events. (run state events).state) e, λ link. ap (λ events. sent_to link (run state events).acts) e)
 
 -- without `/quit` all of them are reached
-pub reached_all : (q : Bool) (n m : ℕ) (all events : List Event) → Reaches q false n m all events → events ≡ all
+pub reached_all : (q : Bool) (n m : ℕ) (all events : List Event) → ReachesEvents q false n m all events → events ≡ all
 reached_all q n m all events h = sym (append-nil events) ∙ ap (λ rest. events ++ rest) (sym (h.whole refl)) ∙ sym h.front
 
 clock_from-append : (last : Option ℕ) (hs gs : List Happening) → clock_from last (hs ++ gs) ≡ clock_from (clock_from last hs) gs
@@ -81,10 +81,10 @@ cut_anywhere before after link xs ys =
     let tail = tail_on link.0 before in
     let front = before ++ Read link xs ∷ [] in
     let here : eqb link.0 link.0 ≡ true = grind (arith, nat_tests) in
-    let behind : tail_on link.0 front ≡ rest tail xs = tail_on-push link.0 before (Read link xs) ∙ rw here refl in
+    let following : tail_on link.0 front ≡ rest tail xs = tail_on-push link.0 before (Read link xs) ∙ rw here refl in
     events_from-append [] before (Read link (xs ++ ys) ∷ after)
     ∙ ap (λ events. whole before ++ events)
-    (ap (λ events. events ++ events_from (before ++ Read link (xs ++ ys) ∷ []) after) (read_events-append link.0 tail xs ys ∙ ap (λ line. read_events link.0 tail xs ++ read_events link.0 line ys) (sym behind))
+    (ap (λ events. events ++ events_from (before ++ Read link (xs ++ ys) ∷ []) after) (read_events-append link.0 tail xs ys ∙ ap (λ line. read_events link.0 tail xs ++ read_events link.0 line ys) (sym following))
     ∙ append_assoc (read_events link.0 tail xs) (read_events link.0 (tail_on link.0 front) ys) _
     ∙ ap (λ events. read_events link.0 tail xs ++ (read_events link.0 (tail_on link.0 front) ys ++ events)) (alike-events_from _ _ after (cut-alike before link xs ys)))
     ∙ sym (events_from-append [] before (Read link xs ∷ Read link ys ∷ after))

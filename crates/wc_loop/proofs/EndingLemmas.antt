@@ -8,14 +8,14 @@ use Rattle.wc_outside.specs.declared.asked.Asked.TheVariants.{Listen}
 use Rattle.wc_loop.specs.declared.headless.Headless.{Headless}
 use Rattle.wc_loop.specs.declared.ending.Ending.{Ending}
 use Rattle.wc_loop.specs.declared.ending.Ending.TheVariants.{Version, BadWord, WaitFailed, NoConfiguration, BadLine, NoMemory, ListenFailed, TurnsTaken, Quit as EndsQuit}
-use Rattle.wc_loop.specs.declared.then.Then.{Then}
-use Rattle.wc_loop.specs.declared.then.Then.TheVariants.{GoOn, Quit, WaitFault, ListenFault, KeeperFault}
+use Rattle.wc_loop.specs.declared.turn_end.TurnEnd.{TurnEnd}
+use Rattle.wc_loop.specs.declared.turn_end.TurnEnd.TheVariants.{GoOn, Quit, WaitFault, ListenFault, KeeperFault}
 use Rattle.wc_loop.specs.declared.configuration.Settings.{Settings}
 use Rattle.wc_loop.specs.Configuration.{settings_in}
 use Rattle.wc_loop.specs.Sources.{AllServed, AllSent}
-use Rattle.wc_loop.specs.Turns.{wakes, listen_faults, faults_then}
+use Rattle.wc_loop.specs.Turns.{wake_count, listen_faults, faults_then}
 use Rattle.wc_loop.specs.Headline.{IsConfigured}
-use Rattle.wc_loop.specs.Endings.{kept_of, LastOf, WaitsAtMost, HasQuit, EndsAt, IsEarly, IsLast, Runs}
+use Rattle.wc_loop.specs.Endings.{kept_of, LastOf, WaitsAtMost, HasQuit, EndsAt, IsEarly, IsLastState, Runs}
 use Rattle.wc_loop.proofs.HeadlineLemmas.{IfSome-last}
 
 kept_of-some : (h : Headless) → 1 ≤ h.turns → kept_of h ≡ Some h
@@ -38,18 +38,18 @@ not_early status a b c (inl q) = a q
 not_early status a b c (inr (inl q)) = b q
 not_early status a b c (inr (inr q)) = c q
 
-LastOf-kept : (seen : Seen) (h : Headless) → (IsTrue seen.tells → wakes seen.taken ≡ h.turns) → LastOf seen (kept_of h)
+LastOf-kept : (seen : Seen) (h : Headless) → (IsTrue seen.tells → wake_count seen.taken ≡ h.turns) → LastOf seen (kept_of h)
 LastOf-kept seen h woke = go (eqb h.turns 0) refl
   where
     go : (b : Bool) → eqb h.turns 0 ≡ b → LastOf seen (cond b None (Some h))
     go true e = λ t. (let w = woke t in grind (arith, nat_tests))
     go false e = (grind (arith, nat_tests), woke)
 
--- what stands behind the last turn
-pub record Behind (turns : ℕ) (contents : Option (List ℕ)) (before after : Seen) (then : Then) (h : Headless) : Type 0 where
+-- what comes after the last turn
+pub record After (turns : ℕ) (contents : Option (List ℕ)) (before after : Seen) (then : TurnEnd) (h : Headless) : Type 0 where
   pub above : 1 ≤ turns
   pub known : IfSome contents IsReadable
-  pub woke : IsTrue after.tells → wakes after.taken ≡ h.turns
+  pub woke : IsTrue after.tells → wake_count after.taken ≡ h.turns
   pub listens : IsTrue after.tells → listen_faults after.taken ≡ faults_then then
   pub never : then ≢ KeeperFault
   pub quit : then ≡ Quit → h.core.quits ≡ true
@@ -61,11 +61,11 @@ pub record Behind (turns : ℕ) (contents : Option (List ℕ)) (before after : S
   pub wait_fault : then ≡ WaitFault → Rose before.faults.waits after.faults.waits
   pub listen_fault : then ≡ ListenFault → Rose before.faults.listens after.faults.listens
   pub asked : IsTrue after.tells → after.asked ≡ Listen 9000 ∷ []
-  pub served : then ≡ GoOn → AllServed h.core.seats before after
-  pub sent : then ≡ Quit → AllSent h.core.seats before after
-  pub left : 1 ≤ h.turns → IsLast contents before after h
+  pub served : then ≡ GoOn → AllServed h.core.connections before after
+  pub sent : then ≡ Quit → AllSent h.core.connections before after
+  pub left : 1 ≤ h.turns → IsLastState contents before after h
 
-at-most : (turns : ℕ) (after : Seen) (h : Headless) → h.turns ≤ turns → (IsTrue after.tells → wakes after.taken ≡ h.turns) → WaitsAtMost turns after (kept_of h)
+at-most : (turns : ℕ) (after : Seen) (h : Headless) → h.turns ≤ turns → (IsTrue after.tells → wake_count after.taken ≡ h.turns) → WaitsAtMost turns after (kept_of h)
 at-most turns after h most woke = record { counted = IfSome-last (kept_of h) h _ refl (λ above. most); told = λ t. (let w = woke t in omega arith) }
 
 kept-quit : (b : Bool) (h : Headless) → 1 ≤ h.turns → h.core.quits ≡ b → IsSomeAnd (kept_of h) (HasQuit b)
@@ -83,10 +83,10 @@ not-quit h going = go (eqb h.turns 0)
 not-going : (h : Headless) → 1 ≤ h.turns → h.core.quits ≡ true → IfSome (kept_of h) (HasQuit false) → ⊥
 not-going h above over q = false≢true (sym (rw (kept_of-some h above) at q) ∙ over)
 
--- the ends behind the last turn
-pub Runs-behind : (turns : ℕ) (contents : Option (List ℕ)) (k k' : ℕ) (before after : Seen) (then : Then) (ending : Ending) (h : Headless) → Behind turns contents before after then h → EndsAt then ending
+-- the ends after the last turn
+pub Runs-following : (turns : ℕ) (contents : Option (List ℕ)) (k k' : ℕ) (before after : Seen) (then : TurnEnd) (ending : Ending) (h : Headless) → After turns contents before after then h → EndsAt then ending
     → Runs turns contents k k' before after ending (kept_of h)
-Runs-behind turns contents k k' before after GoOn ending h b at = rw at (record {
+Runs-following turns contents k k' before after GoOn ending h b at = rw at (record {
   ends = record {
     later = λ q. omega arith;
     known = omega arith;
@@ -112,7 +112,7 @@ Runs-behind turns contents k k' before after GoOn ending h b at = rw at (record 
   faults = record { wait = λ q. absurd (omega arith); keeper = λ q. absurd (omega arith); listener = λ q. absurd (omega arith) };
   asked = b.asked;
 })
-Runs-behind turns contents k k' before after Quit ending h b at = rw at (record {
+Runs-following turns contents k k' before after Quit ending h b at = rw at (record {
   ends = record {
     later = λ q. omega arith;
     known = omega arith;
@@ -138,7 +138,7 @@ Runs-behind turns contents k k' before after Quit ending h b at = rw at (record 
   faults = record { wait = λ q. absurd (omega arith); keeper = λ q. absurd (omega arith); listener = λ q. absurd (omega arith) };
   asked = b.asked;
 })
-Runs-behind turns contents k k' before after WaitFault ending h b at = rw at (record {
+Runs-following turns contents k k' before after WaitFault ending h b at = rw at (record {
   ends = record {
     later = λ q. omega arith;
     known = omega arith;
@@ -164,7 +164,7 @@ Runs-behind turns contents k k' before after WaitFault ending h b at = rw at (re
   faults = record { wait = λ q. b.wait_fault refl; keeper = λ q. absurd (omega arith); listener = λ q. absurd (omega arith) };
   asked = b.asked;
 })
-Runs-behind turns contents k k' before after ListenFault ending h b at = rw at (record {
+Runs-following turns contents k k' before after ListenFault ending h b at = rw at (record {
   ends = record {
     later = λ q. omega arith;
     known = omega arith;
@@ -190,7 +190,7 @@ Runs-behind turns contents k k' before after ListenFault ending h b at = rw at (
   faults = record { wait = λ q. absurd (omega arith); keeper = λ q. absurd (omega arith); listener = λ q. b.listen_fault refl };
   asked = b.asked;
 })
-Runs-behind turns contents k k' before after KeeperFault ending h b at = absurd at
+Runs-following turns contents k k' before after KeeperFault ending h b at = absurd at
 
 bad-line : (contents : Option (List ℕ)) (n : ℕ) → IfSome contents (λ kept. settings_in kept ≡ Err n) → IfSome contents (λ kept. (settings : Settings) → settings_in kept ≢ Ok settings)
 bad-line None n bad = tt
@@ -203,7 +203,7 @@ always (Some kept) P p = p kept
 -- no wait returned
 pub record Unawaited (turns : ℕ) (seen : Seen) : Type 0 where
   pub above : 1 ≤ turns
-  pub woke : IsTrue seen.tells → wakes seen.taken ≡ 0
+  pub woke : IsTrue seen.tells → wake_count seen.taken ≡ 0
 
 -- the ends before the listener is asked for
 pub Runs-early : (turns : ℕ) (contents : Option (List ℕ)) (k k' : ℕ) (seen : Seen) (ending : Ending) → Unawaited turns seen → (IsTrue seen.tells → seen.asked ≡ []) → IsEarly contents k k' ending → Runs turns contents k k' seen seen ending None

@@ -2,7 +2,7 @@
 use Rattle.std.proofs.Common.{◌≡◌, ℕ, Bool, true, false, List, [], ◌++◌, refl, sym, ap, ◌∙◌, append_assoc}
 use Rattle.std.proofs.lemmas.Bool.{false≢true}
 use Rattle.std.proofs.lemmas.List.{append-nil}
-use Rattle.wc_loop.specs.Hands.{Point, IsFrontOf, Hands}
+use Rattle.wc_loop.specs.Hands.{Point, IsFrontOf, Delivers}
 
 clash : {A : Type 0} (b : Bool) → b ≡ true → b ≡ false → A
 clash b t f = absurd (false≢true (sym f ∙ t))
@@ -11,7 +11,7 @@ open_before : (a b : Point) (x : Bool) → a.gone ≡ x → (a.gone ≡ true →
 open_before a b true e h f = clash b.gone (h e) f
 open_before a b false e h f = e
 
-closes-by : (a b c : Point) (o p : List ℕ) (x : Bool) → b.gone ≡ x → Hands a b o → Hands b c p → a.gone ≡ false → c.gone ≡ true → IsFrontOf ((a.sent ++ a.unsent) ++ (o ++ p)) c
+closes-by : (a b c : Point) (o p : List ℕ) (x : Bool) → b.gone ≡ x → Delivers a b o → Delivers b c p → a.gone ≡ false → c.gone ≡ true → IsFrontOf ((a.sent ++ a.unsent) ++ (o ++ p)) c
 closes-by a b c o p false e h g f t =
     let front = g.closes e t in
     record {
@@ -27,8 +27,8 @@ closes-by a b c o p true e h g f t =
       whole = λ q. front.whole (g.spoils q);
     }
 
-pub Hands-trans : (a b c : Point) (o p : List ℕ) → Hands a b o → Hands b c p → Hands a c (o ++ p)
-Hands-trans a b c o p h g = record {
+pub Delivers-trans : (a b c : Point) (o p : List ℕ) → Delivers a b o → Delivers b c p → Delivers a c (o ++ p)
+Delivers-trans a b c o p h g = record {
   gone = λ e. g.gone (h.gone e);
   spoils = λ e. h.spoils (g.spoils e);
   stays = λ e. g.stays e ∙ ap (λ bytes. bytes ++ p) (h.stays (open_before b c b.gone refl g.gone e)) ∙ append_assoc (a.sent ++ a.unsent) o p;
@@ -38,8 +38,8 @@ Hands-trans a b c o p h g = record {
 }
 
 -- a link that is open stays open, and one that is gone stays as it is
-pub Hands-stays : (a b : Point) (owed : List ℕ) → b.gone ≡ a.gone → (b.spoiled ≡ false → a.spoiled ≡ false) → b.sent ++ b.unsent ≡ (a.sent ++ a.unsent) ++ owed → (a.gone ≡ true → b.sent ≡ a.sent) → (a.gone ≡ true → owed ≡ []) → Hands a b owed
-Hands-stays a b owed gone spoils bytes sent nothing = record {
+pub Delivers-stays : (a b : Point) (owed : List ℕ) → b.gone ≡ a.gone → (b.spoiled ≡ false → a.spoiled ≡ false) → b.sent ++ b.unsent ≡ (a.sent ++ a.unsent) ++ owed → (a.gone ≡ true → b.sent ≡ a.sent) → (a.gone ≡ true → owed ≡ []) → Delivers a b owed
+Delivers-stays a b owed gone spoils bytes sent nothing = record {
   gone = λ e. gone ∙ e;
   spoils = spoils;
   stays = λ e. bytes;
@@ -49,8 +49,8 @@ Hands-stays a b owed gone spoils bytes sent nothing = record {
 }
 
 -- a link whose client is leaving is closed
-pub Hands-close : (a b : Point) → a.gone ≡ false → b.gone ≡ true → b.sent ≡ a.sent → (b.spoiled ≡ false → a.spoiled ≡ false) → (b.spoiled ≡ false → a.unsent ≡ []) → Hands a b []
-Hands-close a b f t same spoils all = record {
+pub Delivers-close : (a b : Point) → a.gone ≡ false → b.gone ≡ true → b.sent ≡ a.sent → (b.spoiled ≡ false → a.spoiled ≡ false) → (b.spoiled ≡ false → a.unsent ≡ []) → Delivers a b []
+Delivers-close a b f t same spoils all = record {
   gone = λ e. t;
   spoils = spoils;
   stays = λ e. clash b.gone t e;

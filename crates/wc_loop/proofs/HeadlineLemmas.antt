@@ -8,23 +8,23 @@ use Rattle.wc_outside.specs.Seen.{Seen, IsNew}
 use Rattle.wc_outside.specs.Keyed.{at_key}
 use Rattle.wc_outside.specs.declared.happening.Happening.{Happening}
 use Rattle.wc_session.specs.declared.client.Client.{Client}
-use Rattle.wc_core.specs.declared.seat.Seat.{Seat}
+use Rattle.wc_core.specs.declared.connection.Connection.{Connection}
 use Rattle.wc_core.specs.Events.{Event}
 use Rattle.wc_core.specs.State.{State}
 use Rattle.wc_core.specs.Step.{client_link, run}
-use Rattle.wc_core.specs.Served.{seat_link, clients_of, state_of, unsent_on, sent_to, has_end}
+use Rattle.wc_core.specs.Served.{connection_link, clients_of, state_of, unsent_on, sent_to, has_end}
 use Rattle.wc_loop.specs.declared.headless.Headless.{Headless}
 use Rattle.wc_loop.specs.declared.link_state.Closed.{Closed}
 use Rattle.wc_loop.specs.Endings.{kept_of}
 use Rattle.wc_loop.specs.Events.{events_from}
 use Rattle.wc_loop.specs.Hands.{IsFrontOf}
-use Rattle.wc_loop.specs.Headline.{HandsOut, Headline, IsConfigured, IsFirst, IsFresh}
-use Rattle.wc_loop.specs.Served.{Reaches, IsCalm, closed_by, leaving_closes}
-use Rattle.wc_loop.specs.Turns.{Stands, Continues, moment, point}
+use Rattle.wc_loop.specs.Headline.{HandsOut, Headline, IsConfigured, IsFirst, NothingTaken}
+use Rattle.wc_loop.specs.Served.{ReachesEvents, NobodyLeaving, closed_by, leaving_closes}
+use Rattle.wc_loop.specs.Turns.{AgreesWithSockets, LoopStep, moment, point}
 
-pub Stands-first : (first : Headless) (seen : Seen) → IsFirst first → IsFresh seen → Stands first seen
-Stands-first first seen f new = record {
-  among = rw (f.seats, f.links, f.used, f.listening) (record {
+pub AgreesWithSockets-first : (first : Headless) (seen : Seen) → IsFirst first → NothingTaken seen → AgreesWithSockets first seen
+AgreesWithSockets-first first seen f new = record {
+  among = rw (f.connections, f.links, f.used, f.listening) (record {
     counted = sym new.used;
     there = new.there;
     undrained = new.undrained;
@@ -36,33 +36,33 @@ Stands-first first seen f new = record {
   told = λ t on. rw (f.clock, f.links, f.used, f.ran, new.taken t) (record { clock = refl; tails = λ k. tt; fresh = λ k below. refl; events = refl });
 }
 
--- ---- the clients of seats of which none is leaving
+-- ---- the clients of connections of which none is leaving
 
 calm-parts : (link : LinkId) (why : Option Cause) (others : List Closed) → closed_by link why ++ others ≡ [] → (why ≡ None) × (others ≡ [])
 calm-parts link None others e = (refl, e)
 calm-parts link (Some cause) others e = absurd (let q : record { link = link; cause = cause } ∷ others ≡ [] = e in cc)
 
-client-at : (seat : Seat) (t : Bool) (o : Option Client) (o' : Option Seat) → o ≡ option_map (λ s. s.session.client) o' → cond t (Some seat.session.client) o ≡ option_map (λ s. s.session.client) (cond t (Some seat) o')
-client-at seat true o o' e = refl
-client-at seat false o o' e = e
+client-at : (connection : Connection) (t : Bool) (o : Option Client) (o' : Option Connection) → o ≡ option_map (λ s. s.session.client) o' → cond t (Some connection.session.client) o ≡ option_map (λ s. s.session.client) (cond t (Some connection) o')
+client-at connection true o o' e = refl
+client-at connection false o o' e = e
 
-at_key-clients : (k : ℕ) (seats : List Seat) → IsCalm seats → at_key client_link k (clients_of seats) ≡ option_map (λ s. s.session.client) (at_key seat_link k seats)
+at_key-clients : (k : ℕ) (connections : List Connection) → NobodyLeaving connections → at_key client_link k (clients_of connections) ≡ option_map (λ s. s.session.client) (at_key connection_link k connections)
 at_key-clients k [] calm = refl
-at_key-clients k (seat ∷ seats) calm =
-    let parts = calm-parts seat.session.client.link seat.leaving (leaving_closes seats) calm in
-    ap (λ why. at_key client_link k (cond (is_none why) (seat.session.client ∷ clients_of seats) (clients_of seats))) parts.0 ∙ client-at seat (eqb (seat_link seat) k) (at_key client_link k (clients_of seats)) (at_key seat_link k seats) (at_key-clients k seats parts.1)
+at_key-clients k (connection ∷ connections) calm =
+    let parts = calm-parts connection.session.client.link connection.leaving (leaving_closes connections) calm in
+    ap (λ why. at_key client_link k (cond (is_none why) (connection.session.client ∷ clients_of connections) (clients_of connections))) parts.0 ∙ client-at connection (eqb (connection_link connection) k) (at_key client_link k (clients_of connections)) (at_key connection_link k connections) (at_key-clients k connections parts.1)
 
-some-same : (o : Option Seat) → is_some (option_map (λ s. s.session.client) o) ≡ is_some o
+some-same : (o : Option Connection) → is_some (option_map (λ s. s.session.client) o) ≡ is_some o
 some-same None = refl
 some-same (Some s) = refl
 
-there-seat : (o : Option Seat) (client : Client) → option_map (λ s. s.session.client) o ≡ Some client → is_none o ≡ false
-there-seat None client e = cc
-there-seat (Some s) client e = refl
+there-connection : (o : Option Connection) (client : Client) → option_map (λ s. s.session.client) o ≡ Some client → is_none o ≡ false
+there-connection None client e = cc
+there-connection (Some s) client e = refl
 
-none-seat : (o : Option Seat) → option_map (λ s. s.session.client) o ≡ None → is_none o ≡ true
-none-seat None e = refl
-none-seat (Some s) e = cc
+none-connection : (o : Option Connection) → option_map (λ s. s.session.client) o ≡ None → is_none o ≡ true
+none-connection None e = refl
+none-connection (Some s) e = cc
 
 zero-below : (k : ℕ) → 1 ≤ k → nat_le k 0 ≡ false
 zero-below k one = grind (arith, nat_tests)
@@ -74,41 +74,41 @@ and-no false = refl
 first-gone : (k used : ℕ) (b : Bool) → used ≡ 0 → 1 ≤ k → (nat_le k used && b) ≡ false
 first-gone k used b none one = rw (none, zero-below k one) refl
 
-reaches-from : (q q' : Bool) (n m : ℕ) (taken gained all : List Happening) (events : List Event) → q ≡ false → n ≡ 0 → taken ≡ [] → gained ≡ all → Reaches q q' n m (events_from taken gained) events → Reaches false q' 0 m (events_from [] all) events
+reaches-from : (q q' : Bool) (n m : ℕ) (taken gained all : List Happening) (events : List Event) → q ≡ false → n ≡ 0 → taken ≡ [] → gained ≡ all → ReachesEvents q q' n m (events_from taken gained) events → ReachesEvents false q' 0 m (events_from [] all) events
 reaches-from q q' n m taken gained all events quits none nothing same h = rw (quits, none, nothing, same) at h
 
 -- a loop that began with nothing
-pub HandsOut-run : {n f : ℕ} (first last : Headless) (a b : Seen) → Continues false n f first last a b → IsFirst first → IsFresh a → IsCalm last.core.seats → IsTrue b.tells → last.core.starved ≡ 0 → HandsOut (state_of first.core) b last
+pub HandsOut-run : {n f : ℕ} (first last : Headless) (a b : Seen) → LoopStep false n f first last a b → IsFirst first → NothingTaken a → NobodyLeaving last.core.connections → IsTrue b.tells → last.core.starved ≡ 0 → HandsOut (state_of first.core) b last
 HandsOut-run first last a b h f new calm t fed =
     let told = h.told t in
-    let stands = Stands-first first a f new in
-    let after = h.stands stands in
+    let agrees = AgreesWithSockets-first first a f new in
+    let after = h.agrees agrees in
     let gained : h.gained ≡ b.taken = sym (h.taken t ∙ ap (λ taken. taken ++ h.gained) (new.taken told)) in
-    let goes = h.goes t stands in
+    let goes = h.goes t agrees in
     let owed = λ (k : ℕ). sent_to k (run (state_of first.core) goes.events).acts in
     let advances = goes.advances (fed ∙ sym f.starved) (omega (arith, f.starved)) in
     let clients = ap (λ (s : State). s.clients) advances.state in
-    let none : (k : ℕ) → a.sent k ++ unsent_on k first.core.seats ≡ [] = λ k. ap (λ s. s ++ unsent_on k first.core.seats) (new.sent told k) ∙ ap (unsent_on k) f.seats in
+    let none : (k : ℕ) → a.sent k ++ unsent_on k first.core.connections ≡ [] = λ k. ap (λ s. s ++ unsent_on k first.core.connections) (new.sent told k) ∙ ap (unsent_on k) f.connections in
     record {
       events = goes.events;
       reaches = reaches-from _ _ _ _ _ _ _ _ f.quits f.ran (new.taken told) gained goes.reaches;
       state = advances.state;
       quits = advances.quits ∙ ap (λ q. q || has_end (run (state_of first.core) goes.events).acts) f.quits;
-      links = λ k. sym (after.among.clients k) ∙ sym (some-same _) ∙ ap is_some (sym (at_key-clients k last.core.seats calm)) ∙ ap (λ cs. is_some (at_key client_link k cs)) clients;
+      links = λ k. sym (after.among.clients k) ∙ sym (some-same _) ∙ ap is_some (sym (at_key-clients k last.core.connections calm)) ∙ ap (λ cs. is_some (at_key client_link k cs)) clients;
       opened = λ k client one there.
-          let here : option_map (λ s. s.session.client) (at_key seat_link k last.core.seats) ≡ Some client = sym (at_key-clients k last.core.seats calm) ∙ ap (at_key client_link k) clients ∙ there in
-          let open' : (point k (moment last b)).gone ≡ false = ap (λ q. nat_le k last.used && q) (there-seat _ client here) ∙ and-no _ in
+          let here : option_map (λ s. s.session.client) (at_key connection_link k last.core.connections) ≡ Some client = sym (at_key-clients k last.core.connections calm) ∙ ap (at_key client_link k) clients ∙ there in
+          let open' : (point k (moment last b)).gone ≡ false = ap (λ q. nat_le k last.used && q) (there-connection _ client here) ∙ and-no _ in
           (advances.hands k).stays open' ∙ ap (λ bytes. bytes ++ owed k) (none k);
       closed = λ k one used missing.
-          let here : option_map (λ s. s.session.client) (at_key seat_link k last.core.seats) ≡ None = sym (at_key-clients k last.core.seats calm) ∙ ap (at_key client_link k) clients ∙ missing in
+          let here : option_map (λ s. s.session.client) (at_key connection_link k last.core.connections) ≡ None = sym (at_key-clients k last.core.connections calm) ∙ ap (at_key client_link k) clients ∙ missing in
           let low : nat_le k last.used ≡ true = (let c = after.among.counted in grind (arith, nat_tests)) in
-          let gone : (point k (moment last b)).gone ≡ true = ap (λ q. nat_le k last.used && q) (none-seat _ here) ∙ ap (λ q. q && true) low in
+          let gone : (point k (moment last b)).gone ≡ true = ap (λ q. nat_le k last.used && q) (none-connection _ here) ∙ ap (λ q. q && true) low in
           subst (λ bytes. IsFrontOf bytes (point k (moment last b))) (ap (λ bytes. bytes ++ owed k) (none k)) ((advances.hands k).closes (first-gone k first.used _ f.used one) gone);
     }
 
 -- the listener was opened at new sockets
 pub Fresh-listening : (a b : Seen) → IsNew a → (IsTrue b.tells → IsTrue a.tells) → (IsTrue b.tells → b.taken ≡ a.taken ++ []) → (IsTrue b.tells → (k : ℕ) → b.sent k ≡ a.sent k)
-    → b.used ≡ a.used → ((k : ℕ) → b.there k ≡ a.there k) → ((k : ℕ) → b.undrained k ≡ a.undrained k) → b.listening ≡ a.listening → IsFresh b
+    → b.used ≡ a.used → ((k : ℕ) → b.there k ≡ a.there k) → ((k : ℕ) → b.undrained k ≡ a.undrained k) → b.listening ≡ a.listening → NothingTaken b
 Fresh-listening a b new told taken sent used there undrained listening = record {
   used = used ∙ new.used;
   there = λ k. there k ∙ new.there k;

@@ -21,11 +21,11 @@ pub mod PointLemmas
 pub mod ProgramLemmas
 pub mod ReadLemmas
 pub mod RunLemmas
-pub mod SeatLemmas
+pub mod ConnectionLemmas
 pub mod ServeLemmas
 pub mod ServedLemmas
 pub mod SourceLemmas
-pub mod StandsLemmas
+pub mod AgreesLemmas
 pub mod StepLemmas
 pub mod TakesLemmas
 pub mod TurnLemmas

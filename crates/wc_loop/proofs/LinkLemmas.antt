@@ -4,7 +4,7 @@ use Rattle.std.proofs.lemmas.Bool.{false≢true}
 use Rattle.wc_loop.specs.declared.link_state.LinkState.{LinkState}
 use Rattle.wc_loop.specs.declared.link_state.Closed.{Closed}
 use Rattle.wc_outside.specs.Keyed.{at_key, without, PlaceOf}
-use Rattle.wc_loop.specs.Links.{link_number, listed}
+use Rattle.wc_loop.specs.Links.{link_number, with_closed}
 use Rattle.wc_loop.proofs.KeyedLemmas.{length-without, some_of}
 
 pub some_tail : LinkState
@@ -19,11 +19,11 @@ pub place-there : (k : ℕ) (states : List LinkState) (place : Option ℕ) → P
 place-there k states None p e = absurd (false≢true e)
 place-there k states (Some i) p e = ap is_some (p.found some_tail)
 
-listed-by : (o : Option LinkState) (closed : List Closed) (one : Closed) → is_some o ≡ true → listed o closed one ≡ closed ++ one ∷ []
+listed-by : (o : Option LinkState) (closed : List Closed) (one : Closed) → is_some o ≡ true → with_closed o closed one ≡ closed ++ one ∷ []
 listed-by (Some state) closed one e = refl
 listed-by None closed one e = absurd (false≢true e)
 
-pub listed-there : (k : ℕ) (states : List LinkState) (place : Option ℕ) (closed : List Closed) (one : Closed) → PlaceOf link_number k states place → is_some place ≡ true → listed (at_key link_number k states) closed one ≡ closed ++ one ∷ []
+pub listed-there : (k : ℕ) (states : List LinkState) (place : Option ℕ) (closed : List Closed) (one : Closed) → PlaceOf link_number k states place → is_some place ≡ true → with_closed (at_key link_number k states) closed one ≡ closed ++ one ∷ []
 listed-there k states place closed one p e = listed-by _ closed one (place-there k states place p e)
 
 pub fewer-there : (k : ℕ) (states : List LinkState) (place : Option ℕ) → PlaceOf link_number k states place → is_some place ≡ true → length (without link_number k states) + 1 ≤ length states

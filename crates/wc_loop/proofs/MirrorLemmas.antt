@@ -13,18 +13,18 @@ use Rattle.wc_core.specs.Events.{Event, Tick, Line}
 use Rattle.wc_core.specs.State.{State, first_state}
 use Rattle.wc_core.specs.Step.{client_link, run}
 use Rattle.wc_core.specs.Served.{unsent_on, sent_to}
-use Rattle.wc_settled.specs.Held.{HeldPart}
-use Rattle.wc_settled.specs.Bytes.{ShowsPart}
-use Rattle.wc_settled.specs.Mirrors.{IsShortLine}
-use Rattle.wc_settled.specs.Settled.{SettledBy, is_following}
-use Rattle.wc_settled.proofs.BytesLemmas.{part_shows}
+use Rattle.wc_mirror_laws.specs.Held.{HeldPart}
+use Rattle.wc_mirror_laws.specs.Bytes.{ShowsPart}
+use Rattle.wc_mirror_laws.specs.Mirrors.{IsShortLine}
+use Rattle.wc_mirror_laws.specs.Settled.{SettledBy, is_following}
+use Rattle.wc_mirror_laws.proofs.BytesLemmas.{part_shows}
 use Rattle.wc_loop.specs.declared.configuration.Settings.{Settings}
 use Rattle.wc_loop.specs.declared.headless.Headless.{Headless}
 use Rattle.wc_loop.proofs.ConfigurationLemmas.{settings-most}
 use Rattle.wc_loop.specs.Configuration.{settings_in}
 use Rattle.wc_loop.specs.Events.{events_of, events_from, wake_events, line_events, is_tick, tail_on, clock}
-use Rattle.wc_loop.specs.Headline.{HandsOut, Mirrored}
-use Rattle.wc_loop.specs.Lines.{ended, without_cr, line_limit}
+use Rattle.wc_loop.specs.Headline.{HandsOut, ClientsHoldDumps}
+use Rattle.wc_loop.specs.Lines.{ended_lines, without_cr, line_limit}
 
 -- ---- lines are no longer than one may be
 
@@ -65,7 +65,7 @@ short-lines link (line ∷ lines) = short-append (line_events link line) (flat_m
 short-of : (before : List Happening) (h : Happening) → AllByRecursion IsShortLine (events_of before h)
 short-of before (Woke m) = short-wake (clock before) m
 short-of before (Accepted link nonce) = (tt, tt)
-short-of before (Read link bytes) = short-lines link.0 (ended (tail_on link.0 before) bytes)
+short-of before (Read link bytes) = short-lines link.0 (ended_lines (tail_on link.0 before) bytes)
 short-of before (Ended link) = (tt, tt)
 short-of before (Failed link) = (tt, tt)
 short-of before ListenFailed = (tt, tt)
@@ -81,7 +81,7 @@ open-client P None e f = absurd (false≢true e)
 open-client P (Some client) e f = f client refl
 
 shows-by : (password : List ℕ) (limit : ℕ) (seen : Seen) (last : Headless) → limit ≤ 4096 → (handed : HandsOut (first_state password limit) seen last) (which : HeldPart) (link : ℕ) (id : List ℕ) → 1 ≤ link → SettledBy which link id (first_state password limit) handed.events
-    → ShowsPart which limit id (seen.sent link ++ unsent_on link last.core.seats) last.core.world
+    → ShowsPart which limit id (seen.sent link ++ unsent_on link last.core.connections) last.core.world
 shows-by password limit seen last most handed which link id one settled =
     let first = first_state password limit in
     let short = short-front handed.events handed.reaches.rest (subst (AllByRecursion IsShortLine) handed.reaches.front (short-from [] seen.taken)) in
@@ -89,15 +89,15 @@ shows-by password limit seen last most handed which link id one settled =
     let bytes = open-client _ (at_key client_link link (run first handed.events).state.clients) settled.still (λ client there. handed.opened link client one there) in
     subst (λ sent. ShowsPart which limit id sent last.core.world) (sym bytes) (subst (λ world. ShowsPart which limit id (sent_to link (run first handed.events).acts) world) (sym (ap (λ (s : State). s.world) handed.state)) shows)
 
-pub Mirrored-known : (contents : Option (List ℕ)) (seen : Seen) (last : Headless) → Mirrored contents seen last
-Mirrored-known None seen last = tt
-Mirrored-known (Some kept) seen last = go (settings_in kept) (settings-most kept)
+pub ClientsHoldDumps-known : (contents : Option (List ℕ)) (seen : Seen) (last : Headless) → ClientsHoldDumps contents seen last
+ClientsHoldDumps-known None seen last = tt
+ClientsHoldDumps-known (Some kept) seen last = go (settings_in kept) (settings-most kept)
   where
     go : (r : Result Settings ℕ) → IfOk r (λ settings. settings.limit ≤ 4096) → IfOk r (λ settings. (handed : HandsOut (first_state settings.password settings.limit) seen last) (which : HeldPart) (link : ℕ) (id : List ℕ) → 1 ≤ link → SettledBy which link id (first_state settings.password settings.limit) handed.events
-        → ShowsPart which settings.limit id (seen.sent link ++ unsent_on link last.core.seats) last.core.world)
+        → ShowsPart which settings.limit id (seen.sent link ++ unsent_on link last.core.connections) last.core.world)
     go (Ok settings) h = λ handed which link id one settled. shows-by settings.password settings.limit seen last h handed which link id one settled
     go (Err n) h = tt
 
-pub Mirrored-last : (contents : Option (List ℕ)) (seen : Seen) (last : Option Headless) → IfSome last (Mirrored contents seen)
-Mirrored-last contents seen None = tt
-Mirrored-last contents seen (Some last) = Mirrored-known contents seen last
+pub ClientsHoldDumps-last : (contents : Option (List ℕ)) (seen : Seen) (last : Option Headless) → IfSome last (ClientsHoldDumps contents seen)
+ClientsHoldDumps-last contents seen None = tt
+ClientsHoldDumps-last contents seen (Some last) = ClientsHoldDumps-known contents seen last

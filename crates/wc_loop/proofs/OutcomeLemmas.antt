@@ -8,9 +8,9 @@ use Rattle.wc_loop.specs.declared.ending.Ending.{Ending}
 use Rattle.wc_loop.specs.declared.words.Wish.{Wish}
 use Rattle.wc_loop.specs.Headline.{Headline}
 use Rattle.wc_loop.specs.Sources.{AllServed, AllSent}
-use Rattle.wc_loop.specs.Served.{IsCalm}
-use Rattle.wc_loop.specs.Turns.{wakes, Stands, IsCaused}
-use Rattle.wc_loop.specs.Endings.{LastOf, StatusOf, StatusFor, IsNumber, IsLast, HasCause, WaitsAtMost, AsksNothing, RunsBy, RunsFor, asks_turns, asks_version, asked_by, printed, status_of, number_of, tells_version}
+use Rattle.wc_loop.specs.Served.{NobodyLeaving}
+use Rattle.wc_loop.specs.Turns.{wake_count, AgreesWithSockets, IsCaused}
+use Rattle.wc_loop.specs.Endings.{LastOf, StatusOf, StatusFor, IsNumber, IsLastState, HasCause, WaitsAtMost, AsksNothing, RunsBy, RunsFor, asks_turns, asks_version, asked_by, printed_text, status_of, number_of, tells_version}
 
 status_for : (b : Bool) (turns : ℕ) (contents : Option (List ℕ)) (k k' : ℕ) (before after : Seen) (ending : Ending) (last : Option Headless) → RunsFor b turns contents k k' before after ending last → StatusFor b turns contents after (status_of ending) last
 status_for true turns contents k k' before after ending last r = rw (r.ends, r.none) (refl, refl)
@@ -32,9 +32,9 @@ IsNumber-runs (Ok wish) contents k k' before after ending last r = number_for wi
 pub record Common (wish : Result Wish ℕ) (contents : Option (List ℕ)) (k k' : ℕ) (before after : Seen) (ending : Ending) (last : Option Headless) : Type 0 where
   pub version : tells_version ending ≡ asks_version wish
   pub counted : LastOf after last
-  pub left : IfSome last (IsLast contents before after)
-  pub served : status_of ending ≡ 8 → IfSome last (λ last. AllServed last.core.seats before after)
-  pub sent : status_of ending ≡ 0 → IfSome last (λ last. AllSent last.core.seats before after)
+  pub left : IfSome last (IsLastState contents before after)
+  pub served : status_of ending ≡ 8 → IfSome last (λ last. AllServed last.core.connections before after)
+  pub sent : status_of ending ≡ 0 → IfSome last (λ last. AllSent last.core.connections before after)
   pub faults : HasCause before.faults after.faults k k' (status_of ending)
   pub asked : IsTrue after.tells → after.asked ≡ asked_by wish (status_of ending)
 
@@ -42,7 +42,7 @@ few : (wish : Result Wish ℕ) (n : ℕ) (contents : Option (List ℕ)) (k k' : 
     → status_of wanted ≡ n → n ≢ 2 → n ≢ 3 → n ≢ 6 → Common wish contents k k' before after ending last
 few wish n contents k k' before after wanted ending last new r version none e two three six = rw (r.ends, r.none, r.seen) (record {
   version = version;
-  counted = λ t. ap wakes (new.taken t);
+  counted = λ t. ap wake_count (new.taken t);
   left = tt;
   served = λ q. tt;
   sent = λ q. tt;
@@ -59,7 +59,7 @@ Common-runs (Err n) contents k k' before after ending last new r = few (Err n) 1
 Common-runs (Ok wish) contents k k' before after ending last new r = common_for wish.version wish refl contents k k' before after ending last new r
 
 waits_for : (b : Bool) (turns : ℕ) (contents : Option (List ℕ)) (k k' : ℕ) (before after : Seen) (ending : Ending) (last : Option Headless) → IsNew before → RunsFor b turns contents k k' before after ending last → WaitsAtMost turns after last
-waits_for true turns contents k k' before after ending last new r = rw (r.none, r.seen) (record { counted = tt; told = λ t. (let e = ap wakes (new.taken t) in omega arith) })
+waits_for true turns contents k k' before after ending last new r = rw (r.none, r.seen) (record { counted = tt; told = λ t. (let e = ap wake_count (new.taken t) in omega arith) })
 waits_for false turns contents k k' before after ending last new r = r.most
 
 -- at most as many waits returned as words ask for
@@ -75,21 +75,21 @@ pub untouched : (wish : Result Wish ℕ) (contents : Option (List ℕ)) (k k' : 
 untouched (Err n) contents k k' before after ending last r e = r.seen
 untouched (Ok wish) contents k k' before after ending last r e = untouched_for wish.version wish.turns contents k k' before after ending last e r
 
-pub IfSome-headline : (last : Option Headless) (contents : Option (List ℕ)) (before after : Seen) → IfSome last (IsLast contents before after) → IfSome last (Headline contents after)
+pub IfSome-headline : (last : Option Headless) (contents : Option (List ℕ)) (before after : Seen) → IfSome last (IsLastState contents before after) → IfSome last (Headline contents after)
 IfSome-headline None contents before after left = tt
 IfSome-headline (Some last) contents before after left = left.headline
 
-pub IfSome-stands : (last : Option Headless) (contents : Option (List ℕ)) (before after : Seen) → IfSome last (IsLast contents before after) → IfSome last (λ last. Stands last after)
-IfSome-stands None contents before after left = tt
-IfSome-stands (Some last) contents before after left = left.stands
+pub IfSome-agrees : (last : Option Headless) (contents : Option (List ℕ)) (before after : Seen) → IfSome last (IsLastState contents before after) → IfSome last (λ last. AgreesWithSockets last after)
+IfSome-agrees None contents before after left = tt
+IfSome-agrees (Some last) contents before after left = left.agrees
 
-pub IfSome-calm : (last : Option Headless) (contents : Option (List ℕ)) (before after : Seen) → IfSome last (IsLast contents before after) → IfSome last (λ last. IsCalm last.core.seats)
+pub IfSome-calm : (last : Option Headless) (contents : Option (List ℕ)) (before after : Seen) → IfSome last (IsLastState contents before after) → IfSome last (λ last. NobodyLeaving last.core.connections)
 IfSome-calm None contents before after left = tt
 IfSome-calm (Some last) contents before after left = left.calm
 
-pub IfSome-causes : (last : Option Headless) (contents : Option (List ℕ)) (before after : Seen) → IfSome last (IsLast contents before after) → IfSome last (λ last. All (IsCaused before after) last.links.closed.items)
+pub IfSome-causes : (last : Option Headless) (contents : Option (List ℕ)) (before after : Seen) → IfSome last (IsLastState contents before after) → IfSome last (λ last. All (IsCaused before after) last.links.closed.items)
 IfSome-causes None contents before after left = tt
 IfSome-causes (Some last) contents before after left = left.causes
 
-pub printed-by : (version version' : Bool) (status number : ℕ) (before after : Option (List ℕ)) → version ≡ version' → after ≡ append_known before (printed version status number) → after ≡ append_known before (printed version' status number)
-printed-by version version' status number before after e h = subst (λ v. after ≡ append_known before (printed v status number)) e h
+pub printed-by : (version version' : Bool) (status number : ℕ) (before after : Option (List ℕ)) → version ≡ version' → after ≡ append_known before (printed_text version status number) → after ≡ append_known before (printed_text version' status number)
+printed-by version version' status number before after e h = subst (λ v. after ≡ append_known before (printed_text v status number)) e h

@@ -1,17 +1,17 @@
--- A run is a turn behind others.
+-- A run is a turn after others.
 use Rattle.std.proofs.Common.{◌≡◌, ◌≢◌, ◌⊎◌, inl, inr, ℕ, ◌+◌, ◌^◌, ◌<◌, ◌≤◌, false, refl, ap, arith}
 use Rattle.wc_outside.specs.Faults.{Rose}
 use Rattle.wc_outside.specs.Seen.{Seen}
-use Rattle.wc_loop.specs.declared.then.Then.{Then}
-use Rattle.wc_loop.specs.declared.then.Then.TheVariants.{GoOn, Quit, WaitFault, ListenFault, KeeperFault}
+use Rattle.wc_loop.specs.declared.turn_end.TurnEnd.{TurnEnd}
+use Rattle.wc_loop.specs.declared.turn_end.TurnEnd.TheVariants.{GoOn, Quit, WaitFault, ListenFault, KeeperFault}
 use Rattle.wc_loop.specs.declared.headless.Headless.{Headless}
-use Rattle.wc_loop.specs.Turns.{Continues, faults_then, waits_then}
-use Rattle.wc_loop.proofs.TurnLemmas.{Continues-sum}
+use Rattle.wc_loop.specs.Turns.{LoopStep, faults_then, waits_then}
+use Rattle.wc_loop.proofs.TurnLemmas.{LoopStep-sum}
 
 pub Rose-before : (p q n : ℕ) → p ≤ q → Rose q n → Rose p n
 Rose-before p q n below h = omega arith
 
-pub waits-few : (then : Then) → waits_then then ≤ 1
+pub waits-few : (then : TurnEnd) → waits_then then ≤ 1
 waits-few GoOn = omega arith
 waits-few Quit = omega arith
 waits-few WaitFault = omega arith
@@ -19,21 +19,21 @@ waits-few ListenFault = omega arith
 waits-few KeeperFault = omega arith
 
 -- one more turn, where so many waits returned before
-pub Continues-turn : (then : Then) (count : ℕ) (x y z : Headless) (a b c : Seen) → y.turns ≡ count → count + 1 < 2 ^ 64 → Continues false count 0 x y a b → Continues false (waits_then then) (faults_then then) y z b c
-    → Continues false z.turns (faults_then then) x z a c
-Continues-turn then count x y z a b c turns below h q =
+pub LoopStep-turn : (then : TurnEnd) (count : ℕ) (x y z : Headless) (a b c : Seen) → y.turns ≡ count → count + 1 < 2 ^ 64 → LoopStep false count 0 x y a b → LoopStep false (waits_then then) (faults_then then) y z b c
+    → LoopStep false z.turns (faults_then then) x z a c
+LoopStep-turn then count x y z a b c turns below h q =
     let few = waits-few then in
     let more : z.turns ≡ y.turns + waits_then then = q.turns (omega arith) in
-    Continues-sum (omega arith) (omega arith) x y z a b c h q
+    LoopStep-sum (omega arith) (omega arith) x y z a b c h q
 
 -- a turn that neither goes on nor ends with `/quit` or a failure of the listener ends with a failure of the wait
-pub unwoken-by : (then : Then) (P : Type 0) → then ≢ GoOn → then ≢ KeeperFault → then ≢ Quit → then ≢ ListenFault → (then ≡ WaitFault → P) → P
+pub unwoken-by : (then : TurnEnd) (P : Type 0) → then ≢ GoOn → then ≢ KeeperFault → then ≢ Quit → then ≢ ListenFault → (then ≡ WaitFault → P) → P
 unwoken-by GoOn P on keeper quit listen wait = absurd (on refl)
 unwoken-by Quit P on keeper quit listen wait = absurd (quit refl)
 unwoken-by WaitFault P on keeper quit listen wait = wait refl
 unwoken-by ListenFault P on keeper quit listen wait = absurd (listen refl)
 unwoken-by KeeperFault P on keeper quit listen wait = absurd (keeper refl)
 
-pub woke-once : (then : Then) → (then ≡ ListenFault) ⊎ (then ≡ Quit) → waits_then then ≡ 1
+pub woke-once : (then : TurnEnd) → (then ≡ ListenFault) ⊎ (then ≡ Quit) → waits_then then ≡ 1
 woke-once then (inl e) = ap waits_then e
 woke-once then (inr e) = ap waits_then e

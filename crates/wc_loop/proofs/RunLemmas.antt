@@ -9,7 +9,7 @@ use Rattle.wc_core.specs.State.{State, Act}
 use Rattle.wc_core.specs.Step.{step, run}
 use Rattle.wc_loop.specs.Events.{events_of, events_from}
 use Rattle.wc_loop.specs.Run.{act_closes, closings}
-use Rattle.wc_loop.specs.Served.{Reaches}
+use Rattle.wc_loop.specs.Served.{ReachesEvents}
 
 pub run-append-state : (state : State) (es fs : List Event) → (run state (es ++ fs)).state ≡ (run (run state es).state fs).state
 run-append-state state [] fs = refl
@@ -39,18 +39,18 @@ pub ran-more : (ran mid ran' : ℕ) (es fs : List Event) → mid ≡ min (ran + 
 ran-more ran mid ran' es fs e f = let l = length-append es fs in let g = f (omega arith) in omega arith
 
 -- all events are reached
-pub Reaches-all : (q r : Bool) (n m : ℕ) (es : List Event) → q ≡ false → (n < 2 ^ 64 → m ≡ min (n + length es) (2 ^ 64 - 1)) → Reaches q r n m es es
-Reaches-all q r n m es off counts = record { rest = []; front = sym (append-nil es); counts = counts; whole = λ e. refl; nothing = λ e. absurd (false≢true (sym off ∙ e)) }
+pub ReachesEvents-all : (q r : Bool) (n m : ℕ) (es : List Event) → q ≡ false → (n < 2 ^ 64 → m ≡ min (n + length es) (2 ^ 64 - 1)) → ReachesEvents q r n m es es
+ReachesEvents-all q r n m es off counts = record { rest = []; front = sym (append-nil es); counts = counts; whole = λ e. refl; nothing = λ e. absurd (false≢true (sym off ∙ e)) }
 
 -- none is there
-pub Reaches-none : (q r : Bool) (n : ℕ) → Reaches q r n n [] []
-Reaches-none q r n = record { rest = []; front = refl; counts = λ fits. omega arith; whole = λ e. refl; nothing = λ e. refl }
+pub ReachesEvents-none : (q r : Bool) (n : ℕ) → ReachesEvents q r n n [] []
+ReachesEvents-none q r n = record { rest = []; front = refl; counts = λ fits. omega arith; whole = λ e. refl; nothing = λ e. refl }
 
--- none is reached, behind `/quit`
-pub Reaches-over : (q r : Bool) (n : ℕ) (all : List Event) → r ≡ true → Reaches q r n n all []
-Reaches-over q r n all over = record { rest = all; front = refl; counts = λ fits. omega arith; whole = λ e. absurd (false≢true (sym e ∙ over)); nothing = λ e. refl }
+-- none is reached, after `/quit`
+pub ReachesEvents-over : (q r : Bool) (n : ℕ) (all : List Event) → r ≡ true → ReachesEvents q r n n all []
+ReachesEvents-over q r n all over = record { rest = all; front = refl; counts = λ fits. omega arith; whole = λ e. absurd (false≢true (sym e ∙ over)); nothing = λ e. refl }
 
-reaches-by : (q r s : Bool) (n m o : ℕ) (all more es fs : List Event) → (t : Bool) → r ≡ t → (q ≡ true → r ≡ true) → (r ≡ true → s ≡ true) → Reaches q r n m all es → Reaches r s m o more fs → Reaches q s n o (all ++ more) (es ++ fs)
+reaches-by : (q r s : Bool) (n m o : ℕ) (all more es fs : List Event) → (t : Bool) → r ≡ t → (q ≡ true → r ≡ true) → (r ≡ true → s ≡ true) → ReachesEvents q r n m all es → ReachesEvents r s m o more fs → ReachesEvents q s n o (all ++ more) (es ++ fs)
 reaches-by q r s n m o all more es fs false e qr rs h g = record {
   rest = g.rest;
   front = ap (λ xs. xs ++ more) (h.front ∙ ap (λ xs. es ++ xs) (h.whole e) ∙ append-nil es) ∙ ap (λ xs. es ++ xs) g.front ∙ sym (append_assoc es fs g.rest);
@@ -68,5 +68,5 @@ reaches-by q r s n m o all more es fs true e qr rs h g =
       nothing = λ over. ap (λ xs. xs ++ fs) (h.nothing over) ∙ none;
     }
 
-pub Reaches-trans : (q r s : Bool) (n m o : ℕ) (all more es fs : List Event) → (q ≡ true → r ≡ true) → (r ≡ true → s ≡ true) → Reaches q r n m all es → Reaches r s m o more fs → Reaches q s n o (all ++ more) (es ++ fs)
-Reaches-trans q r s n m o all more es fs qr rs h g = reaches-by q r s n m o all more es fs r refl qr rs h g
+pub ReachesEvents-trans : (q r s : Bool) (n m o : ℕ) (all more es fs : List Event) → (q ≡ true → r ≡ true) → (r ≡ true → s ≡ true) → ReachesEvents q r n m all es → ReachesEvents r s m o more fs → ReachesEvents q s n o (all ++ more) (es ++ fs)
+ReachesEvents-trans q r s n m o all more es fs qr rs h g = reaches-by q r s n m o all more es fs r refl qr rs h g

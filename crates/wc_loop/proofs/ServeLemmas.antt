@@ -12,21 +12,21 @@ use Rattle.wc_outside.specs.Seen.{Seen}
 use Rattle.wc_outside.specs.declared.failed.Failed.{Failed as Fault}
 use Rattle.wc_outside.specs.declared.sockets.Token.{Token}
 use Rattle.wc_outside.specs.declared.sockets.Token.TheVariants.{Listener, Link}
-use Rattle.wc_core.specs.declared.seat.Seat.{Seat}
-use Rattle.wc_core.specs.Served.{seat_link, unsent_in, unsent_on}
+use Rattle.wc_core.specs.declared.connection.Connection.{Connection}
+use Rattle.wc_core.specs.Served.{connection_link, unsent_in, unsent_on}
 use Rattle.wc_loop.specs.declared.headless.Headless.{Headless}
 use Rattle.wc_loop.specs.declared.link_state.LinkState.{LinkState}
-use Rattle.wc_loop.specs.Contained.{Contained}
+use Rattle.wc_loop.specs.Contained.{KeepsLinks}
 use Rattle.wc_loop.specs.Links.{link_number, is_undrained}
-use Rattle.wc_loop.specs.Served.{IsCalm}
-use Rattle.wc_loop.specs.Sources.{bytes_taken, arrivals, Falls, IsServed, IsHeard, IsWritten, IsSent, AllServed, AllSent, ServesNamed, TakesWithin, TakesNothing, flagged, has_unsent, is_left_over}
-use Rattle.wc_loop.specs.Turns.{Stands, Continues, faults_of}
+use Rattle.wc_loop.specs.Served.{NobodyLeaving}
+use Rattle.wc_loop.specs.Sources.{bytes_taken, arrivals, NothingBecameReady, IsServed, IsHeard, IsWritten, IsSent, AllServed, AllSent, ServesNamed, TakesWithin, TakesNothing, has_flag, has_unsent, is_left_over}
+use Rattle.wc_loop.specs.Turns.{AgreesWithSockets, LoopStep, faults_of}
 use Rattle.wc_loop.proofs.KeyedLemmas.{at_key-key}
-use Rattle.wc_loop.proofs.CauseLemmas.{gained-later, gained-behind}
-use Rattle.wc_loop.proofs.ContainedLemmas.{Contained-refl, Contained-trans}
-use Rattle.wc_loop.proofs.CloseLemmas.{Continues-refl}
-use Rattle.wc_loop.proofs.TurnLemmas.{Continues-trans, Continues-behind}
-use Rattle.wc_loop.proofs.SourceLemmas.{Later, later-of, Falls-refl, Falls-trans, IsServed-later, IsServed-behind, IsServed-drained, IsHeard-later, IsHeard-behind}
+use Rattle.wc_loop.proofs.CauseLemmas.{gained-later, gained-following}
+use Rattle.wc_loop.proofs.ContainedLemmas.{KeepsLinks-refl, KeepsLinks-trans}
+use Rattle.wc_loop.proofs.CloseLemmas.{LoopStep-refl}
+use Rattle.wc_loop.proofs.TurnLemmas.{LoopStep-trans, LoopStep-following}
+use Rattle.wc_loop.proofs.SourceLemmas.{Later, later-of, NothingBecameReady-refl, NothingBecameReady-trans, IsServed-later, IsServed-following, IsServed-drained, IsHeard-later, IsHeard-following}
 
 -- ---- what a call answers
 
@@ -87,7 +87,7 @@ Nothing-within a b c later h g = record {
 not-zero : (n : ℕ) → not (eqb n 0) ≡ false → n ≡ 0
 not-zero n e = grind (arith, nat_tests)
 
-none-unsent : (o : Option Seat) → flagged has_unsent o ≡ false → unsent_in o ≡ []
+none-unsent : (o : Option Connection) → has_flag has_unsent o ≡ false → unsent_in o ≡ []
 none-unsent None e = refl
 none-unsent (Some s) e = no-bytes s.session.unsent (not-zero (length s.session.unsent) e)
   where
@@ -96,11 +96,11 @@ none-unsent (Some s) e = no-bytes s.session.unsent (not-zero (length s.session.u
     no-bytes (b ∷ bytes) q = absurd (omega arith)
 
 -- one more link was gone through: what holds of links without unsent bytes, and of those gone through, holds of this one
-pub passed-next : (k last link : ℕ) (seats : List Seat) (P Q : Type 0) → (k ≤ last → P) → (unsent_on k seats ≡ [] → P) → (last < k → k < link → flagged has_unsent (at_key seat_link k seats) ≡ false) → (k ≢ link → P → Q) → (k ≡ link → Q) → k ≤ link → Q
-passed-next k last link seats P Q low empty between others done most = go (eqb k link) refl
+pub passed-next : (k last link : ℕ) (connections : List Connection) (P Q : Type 0) → (k ≤ last → P) → (unsent_on k connections ≡ [] → P) → (last < k → k < link → has_flag has_unsent (at_key connection_link k connections) ≡ false) → (k ≢ link → P → Q) → (k ≡ link → Q) → k ≤ link → Q
+passed-next k last link connections P Q low empty between others done most = go (eqb k link) refl
   where
     before : k ≢ link → (t : Bool) → nat_lt last k ≡ t → P
-    before n true e = empty (none-unsent (at_key seat_link k seats) (between (grind (arith, nat_tests)) (grind (arith, nat_tests))))
+    before n true e = empty (none-unsent (at_key connection_link k connections) (between (grind (arith, nat_tests)) (grind (arith, nat_tests))))
     before n false e = low (grind (arith, nat_tests))
 
     go : (t : Bool) → eqb k link ≡ t → Q
@@ -108,52 +108,52 @@ passed-next k last link seats P Q low empty between others done most = go (eqb k
     go false e = let n : k ≢ link = λ q. grind (arith, nat_tests) in others n (before n (nat_lt last k) refl)
 
 -- no other link has unsent bytes
-pub passed-rest : (k last : ℕ) (seats : List Seat) (P : Type 0) → (k ≤ last → P) → (unsent_on k seats ≡ [] → P) → (last < k → flagged has_unsent (at_key seat_link k seats) ≡ false) → P
-passed-rest k last seats P low empty above = go (nat_lt last k) refl
+pub passed-rest : (k last : ℕ) (connections : List Connection) (P : Type 0) → (k ≤ last → P) → (unsent_on k connections ≡ [] → P) → (last < k → has_flag has_unsent (at_key connection_link k connections) ≡ false) → P
+passed-rest k last connections P low empty above = go (nat_lt last k) refl
   where
     go : (t : Bool) → nat_lt last k ≡ t → P
-    go true e = empty (none-unsent (at_key seat_link k seats) (above (grind (arith, nat_tests))))
+    go true e = empty (none-unsent (at_key connection_link k connections) (above (grind (arith, nat_tests))))
     go false e = low (grind (arith, nat_tests))
 
-pub written-next : (k last link : ℕ) (seats after : List Seat) (a b : Seen) → (k ≤ last → IsWritten k seats a) → (last < k → k < link → flagged has_unsent (at_key seat_link k seats) ≡ false) → (k ≢ link → IsWritten k seats a → IsWritten k after b) → IsWritten link after b → k ≤ link → IsWritten k after b
-written-next k last link seats after a b low between others done most =
-    passed-next k last link seats (IsWritten k seats a) (IsWritten k after b) low (λ e. inl e) between others (λ same. subst (λ j. IsWritten j after b) (sym same) done) most
+pub written-next : (k last link : ℕ) (connections after : List Connection) (a b : Seen) → (k ≤ last → IsWritten k connections a) → (last < k → k < link → has_flag has_unsent (at_key connection_link k connections) ≡ false) → (k ≢ link → IsWritten k connections a → IsWritten k after b) → IsWritten link after b → k ≤ link → IsWritten k after b
+written-next k last link connections after a b low between others done most =
+    passed-next k last link connections (IsWritten k connections a) (IsWritten k after b) low (λ e. inl e) between others (λ same. subst (λ j. IsWritten j after b) (sym same) done) most
 
-pub written-rest : (k last : ℕ) (seats : List Seat) (a : Seen) → (k ≤ last → IsWritten k seats a) → (last < k → flagged has_unsent (at_key seat_link k seats) ≡ false) → IsWritten k seats a
-written-rest k last seats a low above = passed-rest k last seats (IsWritten k seats a) low (λ e. inl e) above
+pub written-rest : (k last : ℕ) (connections : List Connection) (a : Seen) → (k ≤ last → IsWritten k connections a) → (last < k → has_flag has_unsent (at_key connection_link k connections) ≡ false) → IsWritten k connections a
+written-rest k last connections a low above = passed-rest k last connections (IsWritten k connections a) low (λ e. inl e) above
 
--- ---- links are written behind the end
+-- ---- links are written after the end
 
 -- what was sent stays so where a link is not written again
-pub IsSent-later : (k : ℕ) (seats after : List Seat) (a b c : Seen) → Later b c → NeverFall b.faults c.faults → unsent_on k after ≡ unsent_on k seats → c.blocked k ≡ b.blocked k → IsSent k seats a b → IsSent k after a c
-IsSent-later k seats after a b c later counts unsent blocked (inl e) = inl (unsent ∙ e)
-IsSent-later k seats after a b c later counts unsent blocked (inr (inl e)) = inr (inl (blocked ∙ e))
-IsSent-later k seats after a b c later counts unsent blocked (inr (inr h)) =
+pub IsSent-later : (k : ℕ) (connections after : List Connection) (a b c : Seen) → Later b c → NeverFall b.faults c.faults → unsent_on k after ≡ unsent_on k connections → c.blocked k ≡ b.blocked k → IsSent k connections a b → IsSent k after a c
+IsSent-later k connections after a b c later counts unsent blocked (inl e) = inl (unsent ∙ e)
+IsSent-later k connections after a b c later counts unsent blocked (inr (inl e)) = inr (inl (blocked ∙ e))
+IsSent-later k connections after a b c later counts unsent blocked (inr (inr h)) =
     inr (inr ((let p = h.0 in let q = counts.links in omega arith), λ t. gained-later a b c _ later.more (later.taken t) (h.1 (later.told t))))
 
-pub IsSent-behind : (k : ℕ) (seats : List Seat) (a b c : Seen) → Later a b → Later b c → NeverFall a.faults b.faults → IsSent k seats b c → IsSent k seats a c
-IsSent-behind k seats a b c first later counts (inl e) = inl e
-IsSent-behind k seats a b c first later counts (inr (inl e)) = inr (inl e)
-IsSent-behind k seats a b c first later counts (inr (inr h)) =
-    inr (inr ((let p = h.0 in let q = counts.links in omega arith), λ t. gained-behind a b c _ first.more (first.taken (later.told t)) (h.1 t)))
+pub IsSent-following : (k : ℕ) (connections : List Connection) (a b c : Seen) → Later a b → Later b c → NeverFall a.faults b.faults → IsSent k connections b c → IsSent k connections a c
+IsSent-following k connections a b c first later counts (inl e) = inl e
+IsSent-following k connections a b c first later counts (inr (inl e)) = inr (inl e)
+IsSent-following k connections a b c first later counts (inr (inr h)) =
+    inr (inr ((let p = h.0 in let q = counts.links in omega arith), λ t. gained-following a b c _ first.more (first.taken (later.told t)) (h.1 t)))
 
-pub AllSent-behind : (seats : List Seat) (a b c : Seen) → Later a b → Later b c → NeverFall a.faults b.faults → AllSent seats b c → AllSent seats a c
-AllSent-behind seats a b c first later counts h = λ k one. IsSent-behind k seats a b c first later counts (h k one)
+pub AllSent-following : (connections : List Connection) (a b c : Seen) → Later a b → Later b c → NeverFall a.faults b.faults → AllSent connections b c → AllSent connections a c
+AllSent-following connections a b c first later counts h = λ k one. IsSent-following k connections a b c first later counts (h k one)
 
-pub sent-next : (k last link : ℕ) (seats after : List Seat) (a b c : Seen) → Later a b → Later b c → NeverFall a.faults b.faults → NeverFall b.faults c.faults → (k ≤ last → IsSent k seats a b) → (last < k → k < link → flagged has_unsent (at_key seat_link k seats) ≡ false)
-    → (k ≢ link → (unsent_on k after ≡ unsent_on k seats) × (c.blocked k ≡ b.blocked k)) → IsSent link after b c → k ≤ link → IsSent k after a c
-sent-next k last link seats after a b c first later fell counts low between others done most =
-    passed-next k last link seats (IsSent k seats a b) (IsSent k after a c) low (λ e. inl e) between
-    (λ n h. IsSent-later k seats after a b c later counts (others n).0 (others n).1 h)
-    (λ same. IsSent-behind k after a b c first later fell (subst (λ j. IsSent j after b c) (sym same) done)) most
+pub sent-next : (k last link : ℕ) (connections after : List Connection) (a b c : Seen) → Later a b → Later b c → NeverFall a.faults b.faults → NeverFall b.faults c.faults → (k ≤ last → IsSent k connections a b) → (last < k → k < link → has_flag has_unsent (at_key connection_link k connections) ≡ false)
+    → (k ≢ link → (unsent_on k after ≡ unsent_on k connections) × (c.blocked k ≡ b.blocked k)) → IsSent link after b c → k ≤ link → IsSent k after a c
+sent-next k last link connections after a b c first later fell counts low between others done most =
+    passed-next k last link connections (IsSent k connections a b) (IsSent k after a c) low (λ e. inl e) between
+    (λ n h. IsSent-later k connections after a b c later counts (others n).0 (others n).1 h)
+    (λ same. IsSent-following k after a b c first later fell (subst (λ j. IsSent j after b c) (sym same) done)) most
 
-pub sent-rest : (k last : ℕ) (seats : List Seat) (a b : Seen) → (k ≤ last → IsSent k seats a b) → (last < k → flagged has_unsent (at_key seat_link k seats) ≡ false) → IsSent k seats a b
-sent-rest k last seats a b low above = passed-rest k last seats (IsSent k seats a b) low (λ e. inl e) above
+pub sent-rest : (k last : ℕ) (connections : List Connection) (a b : Seen) → (k ≤ last → IsSent k connections a b) → (last < k → has_flag has_unsent (at_key connection_link k connections) ≡ false) → IsSent k connections a b
+sent-rest k last connections a b low above = passed-rest k last connections (IsSent k connections a b) low (λ e. inl e) above
 
 -- ---- links that an earlier turn left
 
 -- a link that is not left over is drained, unless a token names it
-drained-at : (tokens : List Token) (k : ℕ) (o : Option LinkState) → IfSome o (λ state. link_number state ≡ k) → flagged (is_left_over tokens) o ≡ false → list_any (is_link k) tokens ≡ false → is_undrained o ≡ false
+drained-at : (tokens : List Token) (k : ℕ) (o : Option LinkState) → IfSome o (λ state. link_number state ≡ k) → has_flag (is_left_over tokens) o ≡ false → list_any (is_link k) tokens ≡ false → is_undrained o ≡ false
 drained-at tokens k None key left out = refl
 drained-at tokens k (Some state) key left out = and-not state.undrained (list_any (is_link state.link.0) tokens) (rw key out) left
   where
@@ -166,7 +166,7 @@ key-of : (k : ℕ) (states : List LinkState) (o : Option LinkState) → at_key l
 key-of k states None e = tt
 key-of k states (Some state) e = at_key-key link_number k states state e
 
-pub not-left-over : (tokens : List Token) (k : ℕ) (states : List LinkState) → flagged (is_left_over tokens) (at_key link_number k states) ≡ false → list_any (is_link k) tokens ≡ false → is_undrained (at_key link_number k states) ≡ false
+pub not-left-over : (tokens : List Token) (k : ℕ) (states : List LinkState) → has_flag (is_left_over tokens) (at_key link_number k states) ≡ false → list_any (is_link k) tokens ≡ false → is_undrained (at_key link_number k states) ≡ false
 not-left-over tokens k states left out = drained-at tokens k (at_key link_number k states) (key-of k states _ refl) left out
 
 pub unnamed-by : (u r : Bool) → (u && not r) ≡ true → r ≡ false
@@ -180,7 +180,7 @@ one-of tokens next link result (inl e) before here = rw e before
 one-of tokens next link result (inr e) before here = rw e here
 
 -- one more link was served
-pub served-next : (k last link : ℕ) (a b c : Seen) → Later a b → Later b c → Falls b c → (k ≤ last → IsServed k a b) → (last < k → k < link → b.undrained k ≡ false) → IsServed link b c → k ≤ link → IsServed k a c
+pub served-next : (k last link : ℕ) (a b c : Seen) → Later a b → Later b c → NothingBecameReady b c → (k ≤ last → IsServed k a b) → (last < k → k < link → b.undrained k ≡ false) → IsServed link b c → k ≤ link → IsServed k a c
 served-next k last link a b c first later falls low between done most = go (eqb k link) refl
   where
     before : k ≢ link → (t : Bool) → nat_lt last k ≡ t → IsServed k a b
@@ -188,7 +188,7 @@ served-next k last link a b c first later falls low between done most = go (eqb 
     before n false e = low (grind (arith, nat_tests))
 
     go : (t : Bool) → eqb k link ≡ t → IsServed k a c
-    go true e = let same : link ≡ k = grind (arith, nat_tests) in IsServed-behind k a b c first later (subst (λ j. IsServed j b c) same done)
+    go true e = let same : link ≡ k = grind (arith, nat_tests) in IsServed-following k a b c first later (subst (λ j. IsServed j b c) same done)
     go false e = IsServed-later k a b c (before (λ q. grind (arith, nat_tests)) (nat_lt last k) refl) falls later
 
 pub served-rest : (k last : ℕ) (a b : Seen) → (k ≤ last → IsServed k a b) → (last < k → b.undrained k ≡ false) → IsServed k a b
@@ -238,7 +238,7 @@ ReadsTo-next named last link a b c above out later h g = record {
 pub is_link-same : (k link : ℕ) → IsTrue (eqb link k) → link ≡ k
 is_link-same k link h = grind (arith, nat_tests)
 
--- one more token stands behind others
+-- one more token comes after others
 pub record IsMore (front all : List Token) (token : Token) : Type 0 where
   pub any : (p : Token → Bool) → list_any p all ≡ (list_any p front || p token)
 
@@ -262,12 +262,12 @@ not-more p front all token more e = go (list_any p front) (p token) (sym (more.a
 still-more : (p : Token → Bool) (front all : List Token) (token : Token) → IsMore front all token → IsTrue (list_any p front) → IsTrue (list_any p all)
 still-more p front all token more h = more.any p ∙ ap (λ b. b || p token) h
 
-pub Named-none : (x : Headless) (a : Seen) → IsCalm x.core.seats → ServesNamed [] 0 x x a a
+pub Named-none : (x : Headless) (a : Seen) → NobodyLeaving x.core.connections → ServesNamed [] 0 x x a a
 Named-none x a calm = record {
-  continues = Continues-refl x a;
+  continues = LoopStep-refl x a;
   calm = calm;
-  falls = Falls-refl a;
-  contained = λ s. Contained-refl x;
+  falls = NothingBecameReady-refl a;
+  contained = λ s. KeepsLinks-refl x;
   served = λ s q k h. absurd (false≢true h);
   heard = λ f q h. absurd (false≢true h);
   failed = λ f. absurd (omega arith);
@@ -311,17 +311,17 @@ Named-link-again front all link faults x y a b more named h = record {
 
 -- a link is read
 pub Named-link : (front all : List Token) (link : LinkId) (faults : ℕ) (x y z : Headless) (a b c : Seen) → IsMore front all (Link link) → list_any (is_link link.0) front ≡ false → y.core.quits ≡ false → ServesNamed front faults x y a b
-    → Continues true 0 0 y z b c → IsCalm z.core.seats → Falls b c → Contained y z → (Stands y b → z.core.quits ≡ false → IsServed link.0 b c) → TakesOf link.0 b c → ServesNamed all faults x z a c
+    → LoopStep true 0 0 y z b c → NobodyLeaving z.core.connections → NothingBecameReady b c → KeepsLinks y z → (AgreesWithSockets y b → z.core.quits ≡ false → IsServed link.0 b c) → TakesOf link.0 b c → ServesNamed all faults x z a c
 Named-link front all link faults x y z a b c more out going h continues calm falls contained served takes =
     let later = later-of b c continues in
     record {
-      continues = Continues-trans x y z a b c h.continues continues;
+      continues = LoopStep-trans x y z a b c h.continues continues;
       calm = calm;
-      falls = Falls-trans a b c h.falls falls;
-      contained = λ s. Contained-trans x y z (h.contained s) contained;
+      falls = NothingBecameReady-trans a b c h.falls falls;
+      contained = λ s. KeepsLinks-trans x y z (h.contained s) contained;
       served = λ s q k i. in-more (is_link k) front all (Link link) _ more
           (λ p. IsServed-later k a b c (h.served s going k p) falls later)
-          (λ e p. subst (λ j. IsServed j a c) (is_link-same k link.0 p) (IsServed-behind link.0 a b c (later-of a b h.continues) later (served (h.continues.stands s) q))) i;
+          (λ e p. subst (λ j. IsServed j a c) (is_link-same k link.0 p) (IsServed-following link.0 a b c (later-of a b h.continues) later (served (h.continues.agrees s) q))) i;
       heard = λ f q i. in-more is_listener front all (Link link) _ more (λ p. IsHeard-later a b c (h.heard f going p) falls later) (λ e p. absurd (false≢true p)) i;
       failed = λ f. ((let p = (h.failed f).0 in let q = continues.counts.listens in omega arith), still-more is_listener front all (Link link) more (h.failed f).1);
       most = λ t k. most k t (eqb k link.0) refl;
@@ -346,19 +346,19 @@ Named-link front all link faults x y z a b c more out going h continues calm fal
 
 -- the listener is asked for arrivals
 pub Named-listener : {A : Type 0} (r : Result A Fault) (front all : List Token) (faults : ℕ) (x y z : Headless) (a b c : Seen) → IsMore front all Listener → list_any is_listener front ≡ false → y.core.quits ≡ false → ServesNamed front faults x y a b
-    → Continues true 0 (faults_of r) y z b c → IsCalm z.core.seats → Falls b c → (Stands y b → Contained y z) → OnOk r (IsHeard b c) → OnErr r (Rose b.faults.listens c.faults.listens) → (IsTrue c.tells → arrivals c.taken ≤ arrivals b.taken + 1024) → (IsTrue c.tells → (k : ℕ) → bytes_taken k c.taken ≡ bytes_taken k b.taken)
+    → LoopStep true 0 (faults_of r) y z b c → NobodyLeaving z.core.connections → NothingBecameReady b c → (AgreesWithSockets y b → KeepsLinks y z) → OnOk r (IsHeard b c) → OnErr r (Rose b.faults.listens c.faults.listens) → (IsTrue c.tells → arrivals c.taken ≤ arrivals b.taken + 1024) → (IsTrue c.tells → (k : ℕ) → bytes_taken k c.taken ≡ bytes_taken k b.taken)
     → ServesNamed all (faults_of r) x z a c
 Named-listener r front all faults x y z a b c more out going h continues calm falls contained heard failed clients bytes =
     let later = later-of b c continues in
     let first = later-of a b h.continues in
     let good : faults ≡ 0 = none faults h.failed in
     record {
-      continues = Continues-behind x y z a b c (subst (λ n. Continues true 0 n x y a b) good h.continues) continues;
+      continues = LoopStep-following x y z a b c (subst (λ n. LoopStep true 0 n x y a b) good h.continues) continues;
       calm = calm;
-      falls = Falls-trans a b c h.falls falls;
-      contained = λ s. Contained-trans x y z (h.contained s) (contained (h.continues.stands s));
+      falls = NothingBecameReady-trans a b c h.falls falls;
+      contained = λ s. KeepsLinks-trans x y z (h.contained s) (contained (h.continues.agrees s));
       served = λ s q k i. in-more (is_link k) front all Listener _ more (λ p. IsServed-later k a b c (h.served s going k p) falls later) (λ e p. absurd (false≢true p)) i;
-      heard = λ f q i. IsHeard-behind a b c first later (heard-of r _ f heard);
+      heard = λ f q i. IsHeard-following a b c first later (heard-of r _ f heard);
       failed = λ f. ((let p = failed-of r _ f failed in let q = h.continues.counts.listens in omega arith), more.any is_listener ∙ ap (λ b. b || true) out);
       most = λ t k. (let same = bytes t k in let few = h.most (later.told t) k in omega arith);
       others = λ t k e. bytes t k ∙ h.others (later.told t) k (not-more (is_link k) front all Listener more e).0;
@@ -401,10 +401,10 @@ any-take p (suc i) (token ∷ tokens) h = go (p token) refl h (any-take p i toke
 
 -- ---- all sources
 
-pub AllServed-behind : (seats : List Seat) (a b c : Seen) → Later a b → Later b c → AllServed seats b c → AllServed seats a c
-AllServed-behind seats a b c first later h = record {
-  links = λ k one. IsServed-behind k a b c first later (h.links k one);
-  listener = IsHeard-behind a b c first later h.listener;
+pub AllServed-following : (connections : List Connection) (a b c : Seen) → Later a b → Later b c → AllServed connections b c → AllServed connections a c
+AllServed-following connections a b c first later h = record {
+  links = λ k one. IsServed-following k a b c first later (h.links k one);
+  listener = IsHeard-following a b c first later h.listener;
   written = h.written;
 }
 
@@ -432,12 +432,12 @@ Within-all tokens faults x y a b c d h first later within clients bytes few name
 }
 
 -- the links that a wait named and those that it did not name are served
-pub served-all : (tokens : List Token) (k : ℕ) (a b c : Seen) → Later a b → Later b c → Falls b c → (IsTrue (list_any (is_link k) tokens) → IsServed k a b) → (list_any (is_link k) tokens ≡ false → IsServed k b c) → IsServed k a c
+pub served-all : (tokens : List Token) (k : ℕ) (a b c : Seen) → Later a b → Later b c → NothingBecameReady b c → (IsTrue (list_any (is_link k) tokens) → IsServed k a b) → (list_any (is_link k) tokens ≡ false → IsServed k b c) → IsServed k a c
 served-all tokens k a b c first later falls named others = reported-or (list_any (is_link k) tokens) (IsServed k a c)
     (λ here. IsServed-later k a b c (named here) falls later)
-    (λ out. IsServed-behind k a b c first later (others out))
+    (λ out. IsServed-following k a b c first later (others out))
 
-pub heard-all : (tokens : List Token) (a b c d : Seen) → Later a b → Later b c → Later c d → Falls b c → Falls c d → (IsTrue (list_any is_listener tokens) → IsHeard a b) → (list_any is_listener tokens ≡ false → IsHeard c d) → Later a c → IsHeard a d
+pub heard-all : (tokens : List Token) (a b c d : Seen) → Later a b → Later b c → Later c d → NothingBecameReady b c → NothingBecameReady c d → (IsTrue (list_any is_listener tokens) → IsHeard a b) → (list_any is_listener tokens ≡ false → IsHeard c d) → Later a c → IsHeard a d
 heard-all tokens a b c d first second third falls falls' named others both = reported-or (list_any is_listener tokens) (IsHeard a d)
     (λ here. IsHeard-later a c d (IsHeard-later a b c (named here) falls second) falls' third)
-    (λ out. IsHeard-behind a c d both third (others out))
+    (λ out. IsHeard-following a c d both third (others out))

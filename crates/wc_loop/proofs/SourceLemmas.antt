@@ -11,11 +11,11 @@ use Rattle.wc_outside.specs.Seen.{Seen}
 use Rattle.wc_outside.specs.declared.happening.Happening.{Happening}
 use Rattle.wc_outside.specs.declared.happening.Happening.TheVariants.{Read, Accepted}
 use Rattle.wc_loop.specs.declared.headless.Headless.{Headless}
-use Rattle.wc_core.specs.declared.seat.Seat.{Seat}
-use Rattle.wc_core.specs.Served.{seat_link, unsent_at, unsent_in, unsent_on, gone_at}
+use Rattle.wc_core.specs.declared.connection.Connection.{Connection}
+use Rattle.wc_core.specs.Served.{connection_link, unsent_at, unsent_in, unsent_on, gone_at}
 use Rattle.wc_loop.specs.Events.{bytes_on}
-use Rattle.wc_loop.specs.Sources.{bytes_taken, arrivals, Falls, IsServed, IsHeard, IsWritten, TakesNothing}
-use Rattle.wc_loop.specs.Turns.{Continues}
+use Rattle.wc_loop.specs.Sources.{bytes_taken, arrivals, NothingBecameReady, IsServed, IsHeard, IsWritten, TakesNothing}
+use Rattle.wc_loop.specs.Turns.{LoopStep}
 use Rattle.wc_loop.proofs.KeyedLemmas.{at_key-key, at_key-put_other}
 
 -- what was taken goes on
@@ -24,7 +24,7 @@ pub record Later (before after : Seen) : Type 0 where
   pub more : List Happening
   pub taken : IsTrue after.tells → after.taken ≡ before.taken ++ more
 
-pub later-of : {w : Bool} {n f : ℕ} {x y : Headless} (a b : Seen) → Continues w n f x y a b → Later a b
+pub later-of : {w : Bool} {n f : ℕ} {x y : Headless} (a b : Seen) → LoopStep w n f x y a b → Later a b
 later-of a b h = record { told = h.told; more = h.gained; taken = h.taken }
 
 pub bytes_taken-append : (link : ℕ) (xs ys : List Happening) → bytes_taken link (xs ++ ys) ≡ bytes_taken link xs + bytes_taken link ys
@@ -40,54 +40,54 @@ bytes-later k a b h t = let e = ap (bytes_taken k) (h.taken t) in let q = bytes_
 pub arrivals-later : (a b : Seen) → Later a b → IsTrue b.tells → arrivals a.taken ≤ arrivals b.taken
 arrivals-later a b h t = let e = ap arrivals (h.taken t) in let q = arrivals-append a.taken h.more in omega arith
 
-pub Falls-refl : (a : Seen) → Falls a a
-Falls-refl a = record { undrained = λ k e. e; listening = λ e. e }
+pub NothingBecameReady-refl : (a : Seen) → NothingBecameReady a a
+NothingBecameReady-refl a = record { undrained = λ k e. e; listening = λ e. e }
 
-pub Falls-trans : (a b c : Seen) → Falls a b → Falls b c → Falls a c
-Falls-trans a b c h g = record { undrained = λ k e. h.undrained k (g.undrained k e); listening = λ e. h.listening (g.listening e) }
+pub NothingBecameReady-trans : (a b c : Seen) → NothingBecameReady a b → NothingBecameReady b c → NothingBecameReady a c
+NothingBecameReady-trans a b c h g = record { undrained = λ k e. h.undrained k (g.undrained k e); listening = λ e. h.listening (g.listening e) }
 
 -- a call that makes nothing ready
-pub Falls-same : (a b : Seen) → ((k : ℕ) → b.undrained k ≡ a.undrained k) → b.listening ≡ a.listening → Falls a b
-Falls-same a b undrained listening = record { undrained = λ k e. sym (undrained k) ∙ e; listening = λ e. sym listening ∙ e }
+pub NothingBecameReady-same : (a b : Seen) → ((k : ℕ) → b.undrained k ≡ a.undrained k) → b.listening ≡ a.listening → NothingBecameReady a b
+NothingBecameReady-same a b undrained listening = record { undrained = λ k e. sym (undrained k) ∙ e; listening = λ e. sym listening ∙ e }
 
 and-first : (b c : Bool) → (b && c) ≡ true → b ≡ true
 and-first true c e = refl
 and-first false c e = e
 
-pub Falls-drained : (a b : Seen) (f : ℕ → Bool) → ((k : ℕ) → b.undrained k ≡ (a.undrained k && f k)) → b.listening ≡ a.listening → Falls a b
-Falls-drained a b f undrained listening = record { undrained = λ k e. and-first _ (f k) (sym (undrained k) ∙ e); listening = λ e. sym listening ∙ e }
+pub NothingBecameReady-drained : (a b : Seen) (f : ℕ → Bool) → ((k : ℕ) → b.undrained k ≡ (a.undrained k && f k)) → b.listening ≡ a.listening → NothingBecameReady a b
+NothingBecameReady-drained a b f undrained listening = record { undrained = λ k e. and-first _ (f k) (sym (undrained k) ∙ e); listening = λ e. sym listening ∙ e }
 
-pub Falls-listened : (a b : Seen) (f : Bool) → ((k : ℕ) → b.undrained k ≡ a.undrained k) → b.listening ≡ (a.listening && f) → Falls a b
-Falls-listened a b f undrained listening = record { undrained = λ k e. sym (undrained k) ∙ e; listening = λ e. and-first _ f (sym listening ∙ e) }
+pub NothingBecameReady-listened : (a b : Seen) (f : Bool) → ((k : ℕ) → b.undrained k ≡ a.undrained k) → b.listening ≡ (a.listening && f) → NothingBecameReady a b
+NothingBecameReady-listened a b f undrained listening = record { undrained = λ k e. sym (undrained k) ∙ e; listening = λ e. and-first _ f (sym listening ∙ e) }
 
--- a source that was served stays served, and what was served behind is served
-pub IsServed-later : (k : ℕ) (a b c : Seen) → IsServed k a b → Falls b c → Later b c → IsServed k a c
+-- a source that was served stays served, and what was served after is served
+pub IsServed-later : (k : ℕ) (a b c : Seen) → IsServed k a b → NothingBecameReady b c → Later b c → IsServed k a c
 IsServed-later k a b c h falls later = λ t e. (let p = h (later.told t) (falls.undrained k e) in let q = bytes-later k b c later t in omega arith)
 
-pub IsServed-behind : (k : ℕ) (a b c : Seen) → Later a b → Later b c → IsServed k b c → IsServed k a c
-IsServed-behind k a b c first later h = λ t e. (let p = bytes-later k a b first (later.told t) in let q = h t e in omega arith)
+pub IsServed-following : (k : ℕ) (a b c : Seen) → Later a b → Later b c → IsServed k b c → IsServed k a c
+IsServed-following k a b c first later h = λ t e. (let p = bytes-later k a b first (later.told t) in let q = h t e in omega arith)
 
 pub IsServed-drained : (k : ℕ) (a b : Seen) → b.undrained k ≡ false → IsServed k a b
 IsServed-drained k a b drained = λ t e. absurd (false≢true (sym drained ∙ e))
 
-pub IsHeard-later : (a b c : Seen) → IsHeard a b → Falls b c → Later b c → IsHeard a c
+pub IsHeard-later : (a b c : Seen) → IsHeard a b → NothingBecameReady b c → Later b c → IsHeard a c
 IsHeard-later a b c h falls later = λ t e. (let p = h (later.told t) (falls.listening e) in let q = arrivals-later b c later t in omega arith)
 
-pub IsHeard-behind : (a b c : Seen) → Later a b → Later b c → IsHeard b c → IsHeard a c
-IsHeard-behind a b c first later h = λ t e. (let p = arrivals-later a b first (later.told t) in let q = h t e in omega arith)
+pub IsHeard-following : (a b c : Seen) → Later a b → Later b c → IsHeard b c → IsHeard a c
+IsHeard-following a b c first later h = λ t e. (let p = arrivals-later a b first (later.told t) in let q = h t e in omega arith)
 
 pub IsHeard-drained : (a b : Seen) → b.listening ≡ false → IsHeard a b
 IsHeard-drained a b drained = λ t e. absurd (false≢true (sym drained ∙ e))
 
 -- a write to another link leaves unsent bytes as they are
-pub others-unsent : (link k count : ℕ) (seats : List Seat) (o : Option Seat) → at_key seat_link link seats ≡ o → k ≢ link → unsent_on k (gone_at link count seats o) ≡ unsent_on k seats
-others-unsent link k count seats None found n = refl
-others-unsent link k count seats (Some s) found n =
-    ap unsent_in (at_key-put_other seat_link link k (record s { session = record s.session { unsent = drop count s.session.unsent } }) seats (at_key-key seat_link link seats s found) n)
+pub others-unsent : (link k count : ℕ) (connections : List Connection) (o : Option Connection) → at_key connection_link link connections ≡ o → k ≢ link → unsent_on k (gone_at link count connections o) ≡ unsent_on k connections
+others-unsent link k count connections None found n = refl
+others-unsent link k count connections (Some s) found n =
+    ap unsent_in (at_key-put_other connection_link link k (record s { session = record s.session { unsent = drop count s.session.unsent } }) connections (at_key-key connection_link link connections s found) n)
 
-pub IsWritten-later : (k : ℕ) (seats after : List Seat) (a b : Seen) → unsent_on k after ≡ unsent_on k seats → b.blocked k ≡ a.blocked k → IsWritten k seats a → IsWritten k after b
-IsWritten-later k seats after a b e h (inl p) = inl (e ∙ p)
-IsWritten-later k seats after a b e h (inr q) = inr (h ∙ q)
+pub IsWritten-later : (k : ℕ) (connections after : List Connection) (a b : Seen) → unsent_on k after ≡ unsent_on k connections → b.blocked k ≡ a.blocked k → IsWritten k connections a → IsWritten k after b
+IsWritten-later k connections after a b e h (inl p) = inl (e ∙ p)
+IsWritten-later k connections after a b e h (inr q) = inr (h ∙ q)
 
 pub kept-other : (k link : ℕ) (b : Bool) → k ≢ link → (b && not (eqb k link)) ≡ b
 kept-other k link true n = grind (arith, nat_tests)
@@ -129,11 +129,11 @@ arrivals-came link nonce before after last more e q =
     omega arith
 
 -- what is given of the unsent bytes of a link
-pub none-given : (o : Option Seat) → None ≡ unsent_at o → unsent_in o ≡ []
+pub none-given : (o : Option Connection) → None ≡ unsent_at o → unsent_in o ≡ []
 none-given None e = refl
 none-given (Some s) e = absurd (let q : None ≡ Some s.session.unsent = e in cc)
 
-pub some-given : (o : Option Seat) (bytes : List ℕ) → Some bytes ≡ unsent_at o → unsent_in o ≡ bytes
+pub some-given : (o : Option Connection) (bytes : List ℕ) → Some bytes ≡ unsent_at o → unsent_in o ≡ bytes
 some-given None bytes e = absurd (let q : Some bytes ≡ None = e in cc)
 some-given (Some s) bytes e = let q : Some bytes ≡ Some s.session.unsent = e in cc
 

@@ -9,24 +9,24 @@ use Rattle.wc_text.specs.declared.names.Cause.{Cause}
 use Rattle.wc_outside.specs.Seen.{Seen}
 use Rattle.wc_outside.specs.declared.happening.Happening.{Happening}
 use Rattle.wc_outside.specs.declared.happening.Happening.TheVariants.{Failed}
-use Rattle.wc_core.specs.declared.seat.Seat.{Seat}
-use Rattle.wc_core.specs.Standing.{Standing}
-use Rattle.wc_core.specs.Step.{run, stays, client_link}
-use Rattle.wc_core.specs.Served.{seat_link, state_of, clients_of, links_of, leaving_in, leaving_on, Distinct}
-use Rattle.wc_core.proofs.SeatLemmas.{client-leaving}
+use Rattle.wc_core.specs.declared.connection.Connection.{Connection}
+use Rattle.wc_core.specs.CoreView.{CoreView}
+use Rattle.wc_core.specs.Step.{run, no_step, client_link}
+use Rattle.wc_core.specs.Served.{connection_link, state_of, clients_of, links_of, leaving_in, leaving_on, Distinct}
+use Rattle.wc_core.proofs.ConnectionLemmas.{client-leaving}
 use Rattle.wc_loop.specs.declared.link_state.LinkState.{LinkState}
 use Rattle.wc_loop.specs.declared.headless.Headless.{Headless}
 use Rattle.wc_outside.specs.Keyed.{at_key, put_at}
 use Rattle.wc_loop.specs.Events.{bytes_on, events_of, events_from}
 use Rattle.wc_loop.specs.Links.{link_number, is_undrained, marked_at}
 use Rattle.wc_loop.specs.Served.{leaving_closes}
-use Rattle.wc_loop.specs.Steps.{SameTails, missed}
-use Rattle.wc_loop.specs.Turns.{StandsAmong, Stands, moment, Goes, is_wake, is_listen_fault, Continues}
+use Rattle.wc_loop.specs.Steps.{SameTails, reached_after_miss}
+use Rattle.wc_loop.specs.Turns.{AgreesOnLinks, AgreesWithSockets, moment, CoreTakes, is_wake, is_listen_fault, LoopStep}
 use Rattle.wc_loop.proofs.KeyedLemmas.{at_key-key, at_key-put_same, at_key-put_other, is_some-put_at, none_of}
-use Rattle.wc_loop.proofs.RunLemmas.{Reaches-all, Reaches-over}
-use Rattle.wc_loop.proofs.PointLemmas.{Advances-same}
-use Rattle.wc_loop.proofs.StandsLemmas.{IsTimeless, For-quiet, For-states}
-use Rattle.wc_loop.proofs.TurnLemmas.{Call, Continues-step, Continues-still}
+use Rattle.wc_loop.proofs.RunLemmas.{ReachesEvents-all, ReachesEvents-over}
+use Rattle.wc_loop.proofs.PointLemmas.{MomentAdvances-same}
+use Rattle.wc_loop.proofs.AgreesLemmas.{IsTimeless, For-quiet, For-states}
+use Rattle.wc_loop.proofs.TurnLemmas.{Call, LoopStep-step, LoopStep-still}
 
 -- the sockets stay as they were but for what they gave and sent
 pub record SameSets (a b : Seen) : Type 0 where
@@ -35,8 +35,8 @@ pub record SameSets (a b : Seen) : Type 0 where
   pub undrained : (k : ℕ) → b.undrained k ≡ a.undrained k
   pub listening : b.listening ≡ a.listening
 
-pub among-same : (states : List LinkState) (seats : List Seat) (used : ℕ) (listening : Bool) (a b : Seen) → SameSets a b → StandsAmong states seats used listening a → StandsAmong states seats used listening b
-among-same states seats used listening a b same s = record {
+pub among-same : (states : List LinkState) (connections : List Connection) (used : ℕ) (listening : Bool) (a b : Seen) → SameSets a b → AgreesOnLinks states connections used listening a → AgreesOnLinks states connections used listening b
+among-same states connections used listening a b same s = record {
   counted = s.counted ∙ sym same.used;
   there = λ k. same.there k ∙ s.there k;
   undrained = λ k. same.undrained k ∙ s.undrained k;
@@ -46,48 +46,48 @@ among-same states seats used listening a b same s = record {
   unknown = s.unknown;
 }
 
-missed-by : (x : Headless) (n : ℕ) (a b : Seen) (h : Happening) (q : Bool) → x.core.quits ≡ q → n ≡ missed x.core.quits x.ran → b.taken ≡ a.taken ++ h ∷ [] → ((k : ℕ) → b.sent k ≡ a.sent k) → ((k : ℕ) → b.choked k ≡ a.choked k)
-    → length (events_of a.taken h) ≡ 1 → (x.core.quits ≡ false → run (state_of x.core) (events_of a.taken h) ≡ stays (state_of x.core)) → Goes (moment x a) (moment (record x { ran = n }) b) x.ran n [] (h ∷ [])
+missed-by : (x : Headless) (n : ℕ) (a b : Seen) (h : Happening) (q : Bool) → x.core.quits ≡ q → n ≡ reached_after_miss x.core.quits x.ran → b.taken ≡ a.taken ++ h ∷ [] → ((k : ℕ) → b.sent k ≡ a.sent k) → ((k : ℕ) → b.choked k ≡ a.choked k)
+    → length (events_of a.taken h) ≡ 1 → (x.core.quits ≡ false → run (state_of x.core) (events_of a.taken h) ≡ no_step (state_of x.core)) → CoreTakes (moment x a) (moment (record x { ran = n }) b) x.ran n [] (h ∷ [])
 missed-by x n a b h true e count taken sent choked one none =
     let same : n ≡ x.ran = rw e at count in
     record {
       events = [];
-      reaches = rw same (Reaches-over x.core.quits x.core.quits x.ran (events_from a.taken (h ∷ [])) e);
+      reaches = rw same (ReachesEvents-over x.core.quits x.core.quits x.ran (events_from a.taken (h ∷ [])) e);
       rises = omega arith;
-      advances = λ still below. Advances-same (moment x a) (moment (record x { ran = n }) b) refl refl refl sent choked (h ∷ []) taken [] refl;
+      advances = λ still below. MomentAdvances-same (moment x a) (moment (record x { ran = n }) b) refl refl refl sent choked (h ∷ []) taken [] refl;
     }
 missed-by x n a b h false e count taken sent choked one none =
     let more : n ≡ min (x.ran + 1) (2 ^ 64 - 1) = rw e at count in
     record {
       events = events_of a.taken h;
-      reaches = rw (append-nil (events_of a.taken h)) (Reaches-all x.core.quits x.core.quits x.ran n (events_of a.taken h) e (λ fits. omega arith));
+      reaches = rw (append-nil (events_of a.taken h)) (ReachesEvents-all x.core.quits x.core.quits x.ran n (events_of a.taken h) e (λ fits. omega arith));
       rises = omega arith;
-      advances = λ still below. Advances-same (moment x a) (moment (record x { ran = n }) b) refl refl refl sent choked (h ∷ []) taken (events_of a.taken h) (none e);
+      advances = λ still below. MomentAdvances-same (moment x a) (moment (record x { ran = n }) b) refl refl refl sent choked (h ∷ []) taken (events_of a.taken h) (none e);
     }
 
 -- an event that changes nothing
-pub Continues-missed : (x : Headless) (n : ℕ) (a b : Seen) (h : Happening) → is_wake h ≡ 0 → Call a b (h ∷ []) → (IsTrue b.tells → (k : ℕ) → b.sent k ≡ a.sent k) → (IsTrue b.tells → (k : ℕ) → b.choked k ≡ a.choked k) → SameSets a b
-    → ((k : ℕ) → bytes_on k h ≡ []) → IsTimeless h → ((taken : List Happening) → length (events_of taken h) ≡ 1) → n ≡ missed x.core.quits x.ran
-    → (Stands x a → x.core.quits ≡ false → (taken : List Happening) → run (state_of x.core) (events_of taken h) ≡ stays (state_of x.core))
-    → Continues true 0 (is_listen_fault h) x (record x { ran = n }) a b
-Continues-missed x n a b h wake call sent choked same quiet timeless one count none =
-    Continues-step true 0 (is_listen_fault h) x (record x { ran = n }) a b (h ∷ []) [] call (λ below. omega arith) (omega arith) (omega arith)
+pub LoopStep-missed : (x : Headless) (n : ℕ) (a b : Seen) (h : Happening) → is_wake h ≡ 0 → Call a b (h ∷ []) → (IsTrue b.tells → (k : ℕ) → b.sent k ≡ a.sent k) → (IsTrue b.tells → (k : ℕ) → b.choked k ≡ a.choked k) → SameSets a b
+    → ((k : ℕ) → bytes_on k h ≡ []) → IsTimeless h → ((taken : List Happening) → length (events_of taken h) ≡ 1) → n ≡ reached_after_miss x.core.quits x.ran
+    → (AgreesWithSockets x a → x.core.quits ≡ false → (taken : List Happening) → run (state_of x.core) (events_of taken h) ≡ no_step (state_of x.core))
+    → LoopStep true 0 (is_listen_fault h) x (record x { ran = n }) a b
+LoopStep-missed x n a b h wake call sent choked same quiet timeless one count none =
+    LoopStep-step true 0 (is_listen_fault h) x (record x { ran = n }) a b (h ∷ []) [] call (λ below. omega arith) (omega arith) (omega arith)
     (λ t s. sym (append-nil _)) (λ s. All-nil _) (λ over. over)
-    (among-same x.links.opened.items x.core.seats x.used x.listening a b same)
+    (among-same x.links.opened.items x.core.connections x.used x.listening a b same)
     (λ t s on. (let more : n ≡ min (x.ran + 1) (2 ^ 64 - 1) = rw on at count in let o = one a.taken in For-quiet x.clock x.links.opened.items x.used x.ran n a.taken h quiet timeless (omega arith) (s.told (call.told t) on)))
     (λ t s. missed-by x n a b h x.core.quits refl count (call.taken t) (sent t) (choked t) (one a.taken) (λ on. none s on a.taken))
 
-left-client : (k : ℕ) (seats : List Seat) (o : Option Seat) → at_key seat_link k seats ≡ o → Distinct (map seat_link seats) → IsSome (leaving_in o) → at_key client_link k (clients_of seats) ≡ None
-left-client k seats None e d h = absurd (false≢true h)
-left-client k seats (Some seat) e d h = client-leaving k seats seat d e (closed-seat seat.leaving h)
+left-client : (k : ℕ) (connections : List Connection) (o : Option Connection) → at_key connection_link k connections ≡ o → Distinct (map connection_link connections) → IsSome (leaving_in o) → at_key client_link k (clients_of connections) ≡ None
+left-client k connections None e d h = absurd (false≢true h)
+left-client k connections (Some connection) e d h = client-leaving k connections connection d e (closed-connection connection.leaving h)
   where
-    closed-seat : (why : Option Cause) → IsSome why → is_none why ≡ false
-    closed-seat None q = absurd (false≢true q)
-    closed-seat (Some cause) q = refl
+    closed-connection : (why : Option Cause) → IsSome why → is_none why ≡ false
+    closed-connection None q = absurd (false≢true q)
+    closed-connection (Some cause) q = refl
 
 -- the failure of a link whose client is leaving changes nothing
-pub failed-left : (core : Standing) (link : LinkId) (taken : List Happening) → Distinct (links_of core) → IsSome (leaving_on link.0 core.seats) → run (state_of core) (events_of taken (Failed link)) ≡ stays (state_of core)
-failed-left core link taken d h = rw (left-client link.0 core.seats (at_key seat_link link.0 core.seats) refl d h) refl
+pub failed-left : (core : CoreView) (link : LinkId) (taken : List Happening) → Distinct (links_of core) → IsSome (leaving_on link.0 core.connections) → run (state_of core) (events_of taken (Failed link)) ≡ no_step (state_of core)
+failed-left core link taken d h = rw (left-client link.0 core.connections (at_key connection_link link.0 core.connections) refl d h) refl
 
 -- only the links change
 pub record OnlyLinks (x y : Headless) : Type 0 where
@@ -100,13 +100,13 @@ pub record OnlyLinks (x y : Headless) : Type 0 where
   pub closed : y.links.closed.items ≡ x.links.closed.items
 
 -- the links are flagged anew
-pub Continues-flags : (x y : Headless) (a b : Seen) → OnlyLinks x y → Call a b [] → (IsTrue b.tells → (k : ℕ) → b.sent k ≡ a.sent k) → (IsTrue b.tells → (k : ℕ) → b.choked k ≡ a.choked k)
+pub LoopStep-flags : (x y : Headless) (a b : Seen) → OnlyLinks x y → Call a b [] → (IsTrue b.tells → (k : ℕ) → b.sent k ≡ a.sent k) → (IsTrue b.tells → (k : ℕ) → b.choked k ≡ a.choked k)
     → b.used ≡ a.used → ((k : ℕ) → b.there k ≡ a.there k) → b.listening ≡ a.listening → ((k : ℕ) → is_some (at_key link_number k y.links.opened.items) ≡ is_some (at_key link_number k x.links.opened.items))
     → ((k : ℕ) → a.undrained k ≡ is_undrained (at_key link_number k x.links.opened.items) → b.undrained k ≡ is_undrained (at_key link_number k y.links.opened.items))
-    → SameTails x.links.opened.items y.links.opened.items → Continues true 0 0 x y a b
-Continues-flags x y a b only call sent choked used there listening links flags tails =
-    Continues-still x y a b call only.turns (ap (λ c. c.starved) only.core) (ap (λ c. c.quits) only.core) only.ran
-    (λ s. ap (λ cs. cs ++ leaving_closes y.core.seats) only.closed ∙ ap (λ c. x.links.closed.items ++ leaving_closes c.seats) only.core)
+    → SameTails x.links.opened.items y.links.opened.items → LoopStep true 0 0 x y a b
+LoopStep-flags x y a b only call sent choked used there listening links flags tails =
+    LoopStep-still x y a b call only.turns (ap (λ c. c.starved) only.core) (ap (λ c. c.quits) only.core) only.ran
+    (λ s. ap (λ cs. cs ++ leaving_closes y.core.connections) only.closed ∙ ap (λ c. x.links.closed.items ++ leaving_closes c.connections) only.core)
     (λ s. rw (only.core, only.used, only.listening) (record {
       counted = s.counted ∙ sym used;
       there = λ k. there k ∙ s.there k ∙ sym (links k);
@@ -117,7 +117,7 @@ Continues-flags x y a b only call sent choked used there listening links flags t
       unknown = λ k below. none_of _ (links k ∙ ap is_some (s.unknown k below));
     }))
     (λ t s. rw (only.clock, only.used, only.ran) (For-states x.clock x.links.opened.items y.links.opened.items x.used x.ran a.taken tails s))
-    (λ t s. Advances-same (moment x a) (moment y b) (ap (λ c. c.seats) only.core) (ap (λ c. c.quits) only.core) only.used (sent t) (choked t) [] (call.taken t) [] (ap (λ c. stays (state_of c)) (sym only.core)))
+    (λ t s. MomentAdvances-same (moment x a) (moment y b) (ap (λ c. c.connections) only.core) (ap (λ c. c.quits) only.core) only.used (sent t) (choked t) [] (call.taken t) [] (ap (λ c. no_step (state_of c)) (sym only.core)))
 
 marked_some : (j k : ℕ) (u : Bool) (states : List LinkState) (o : Option LinkState) → at_key link_number j states ≡ o → is_some (at_key link_number k (marked_at j u states o)) ≡ is_some (at_key link_number k states)
 marked_some j k u states None e = refl

@@ -6,23 +6,23 @@ use Rattle.std.proofs.lemmas.List.Elements.{All-nil}
 use Rattle.wc_outside.specs.Seen.{Seen}
 use Rattle.wc_outside.specs.declared.failed.Failed.{Failed as Fault}
 use Rattle.wc_outside.specs.declared.happening.Happening.TheVariants.{Woke}
-use Rattle.wc_core.specs.Step.{stays}
+use Rattle.wc_core.specs.Step.{no_step}
 use Rattle.wc_core.specs.Served.{state_of}
 use Rattle.wc_loop.specs.declared.headless.Headless.{Headless}
-use Rattle.wc_loop.specs.declared.then.Then.{Then}
-use Rattle.wc_loop.specs.declared.then.Then.TheVariants.{GoOn, Quit}
+use Rattle.wc_loop.specs.declared.turn_end.TurnEnd.{TurnEnd}
+use Rattle.wc_loop.specs.declared.turn_end.TurnEnd.TheVariants.{GoOn, Quit}
 use Rattle.wc_outside.specs.Keyed.{at_key}
-use Rattle.wc_loop.specs.Contained.{is_known, Contained}
+use Rattle.wc_loop.specs.Contained.{is_known, KeepsLinks}
 use Rattle.wc_loop.specs.Links.{link_number}
 use Rattle.wc_loop.specs.Served.{closed_number}
 use Rattle.wc_loop.specs.Sources.{TakesNothing, TakesWithin}
-use Rattle.wc_loop.specs.Turns.{Stands, Continues, ClosesExactly, moment, waits_then, faults_then, faults_of}
-use Rattle.wc_loop.specs.Waits.{then_of, Wakes, LosesNone}
-use Rattle.wc_loop.proofs.PointLemmas.{Advances-same}
-use Rattle.wc_loop.proofs.RunLemmas.{Reaches-none}
+use Rattle.wc_loop.specs.Turns.{AgreesWithSockets, LoopStep, ClosesExactly, moment, waits_then, faults_then, faults_of}
+use Rattle.wc_loop.specs.Waits.{then_of, WakesCore, LosesNone}
+use Rattle.wc_loop.proofs.PointLemmas.{MomentAdvances-same}
+use Rattle.wc_loop.proofs.RunLemmas.{ReachesEvents-none}
 use Rattle.wc_loop.proofs.SourceLemmas.{TakesNothing-call}
 use Rattle.wc_loop.proofs.StepLemmas.{SameSets, among-same}
-use Rattle.wc_loop.proofs.TurnLemmas.{Call, Continues-step}
+use Rattle.wc_loop.proofs.TurnLemmas.{Call, LoopStep-step}
 
 -- ---- nothing is taken
 
@@ -41,21 +41,21 @@ Within-none a b h = record {
 -- ---- a wait failed
 
 -- the links that the turn before closed are forgotten
-unfoldable pub Continues-unwoken : (x y : Headless) (a b : Seen) → y.core ≡ x.core → y.clock ≡ x.clock → y.used ≡ x.used → y.listening ≡ x.listening → y.turns ≡ x.turns → y.ran ≡ x.ran → y.links.opened.items ≡ x.links.opened.items
-    → Call a b [] → (IsTrue b.tells → (k : ℕ) → b.sent k ≡ a.sent k) → (IsTrue b.tells → (k : ℕ) → b.choked k ≡ a.choked k) → SameSets a b → Continues false 0 0 x y a b
-Continues-unwoken x y a b core clock used listening turns ran opened call sent choked same =
-    Continues-step false 0 0 x y a b [] [] call (λ below. omega arith) refl refl
+unfoldable pub LoopStep-unwoken : (x y : Headless) (a b : Seen) → y.core ≡ x.core → y.clock ≡ x.clock → y.used ≡ x.used → y.listening ≡ x.listening → y.turns ≡ x.turns → y.ran ≡ x.ran → y.links.opened.items ≡ x.links.opened.items
+    → Call a b [] → (IsTrue b.tells → (k : ℕ) → b.sent k ≡ a.sent k) → (IsTrue b.tells → (k : ℕ) → b.choked k ≡ a.choked k) → SameSets a b → LoopStep false 0 0 x y a b
+LoopStep-unwoken x y a b core clock used listening turns ran opened call sent choked same =
+    LoopStep-step false 0 0 x y a b [] [] call (λ below. omega arith) refl refl
     (λ t s. absurd (false≢true t)) (λ s. All-nil _) (λ over. ap (λ c. c.quits) core ∙ over)
-    (λ s. rw (opened, ap (λ c. c.seats) core, used, listening) (among-same x.links.opened.items x.core.seats x.used x.listening a b same s))
+    (λ s. rw (opened, ap (λ c. c.connections) core, used, listening) (among-same x.links.opened.items x.core.connections x.used x.listening a b same s))
     (λ t s on. rw (append-nil a.taken, clock, opened, used, ran) (s.told (call.told t) (sym (ap (λ c. c.quits) core) ∙ on)))
     (λ t s. record {
       events = [];
-      reaches = rw ran (Reaches-none x.core.quits y.core.quits x.ran);
+      reaches = rw ran (ReachesEvents-none x.core.quits y.core.quits x.ran);
       rises = (let q = ap (λ c. c.starved) core in omega arith);
-      advances = λ fed below. Advances-same (moment x a) (moment y b) (ap (λ c. c.seats) core) (ap (λ c. c.quits) core) used (sent t) (choked t) [] (call.taken t) [] (ap (λ c. stays (state_of c)) (sym core));
+      advances = λ fed below. MomentAdvances-same (moment x a) (moment y b) (ap (λ c. c.connections) core) (ap (λ c. c.quits) core) used (sent t) (choked t) [] (call.taken t) [] (ap (λ c. no_step (state_of c)) (sym core));
     })
 
-closes-by : (x y : Headless) (a b : Seen) → Stands x a → Wakes 0 x y a b → (t : Bool) → b.tells ≡ t → ClosesExactly x y a b
+closes-by : (x y : Headless) (a b : Seen) → AgreesWithSockets x a → WakesCore 0 x y a b → (t : Bool) → b.tells ≡ t → ClosesExactly x y a b
 closes-by x y a b s w true told =
     let goes = w.continues.goes told s in
     record {
@@ -74,7 +74,7 @@ closes-by x y a b s w false told = record {
 }
 
 -- where the wait failed, nothing is closed
-pub closes-unwoken : (x y : Headless) (a b : Seen) → Stands x a → Wakes 0 x y a b → ClosesExactly x y a b
+pub closes-unwoken : (x y : Headless) (a b : Seen) → AgreesWithSockets x a → WakesCore 0 x y a b → ClosesExactly x y a b
 closes-unwoken x y a b s w = closes-by x y a b s w b.tells refl
 
 -- ---- how the turn ends
@@ -87,27 +87,27 @@ pub OnErr-get : {A : Type 0} (r : Result A Fault) (P : Type 0) → is_err r ≡ 
 OnErr-get (Ok v) P e h = absurd (false≢true e)
 OnErr-get (Err f) P e h = h
 
-pub Continues-then : {A : Type 0} (r : Result A Fault) (quits : Bool) (then : Then) (x z : Headless) (a c : Seen) → then ≡ then_of r quits → Continues false 1 (faults_of r) x z a c → Continues false (waits_then then) (faults_then then) x z a c
-Continues-then (Err f) quits then x z a c e h = rw e h
-Continues-then (Ok v) true then x z a c e h = rw e h
-Continues-then (Ok v) false then x z a c e h = rw e h
+pub LoopStep-then : {A : Type 0} (r : Result A Fault) (quits : Bool) (then : TurnEnd) (x z : Headless) (a c : Seen) → then ≡ then_of r quits → LoopStep false 1 (faults_of r) x z a c → LoopStep false (waits_then then) (faults_then then) x z a c
+LoopStep-then (Err f) quits then x z a c e h = rw e h
+LoopStep-then (Ok v) true then x z a c e h = rw e h
+LoopStep-then (Ok v) false then x z a c e h = rw e h
 
-pub goes-on : {A : Type 0} (r : Result A Fault) (quits : Bool) (then : Then) → then ≡ then_of r quits → then ≡ GoOn → (is_err r ≡ false) × (quits ≡ false)
+pub goes-on : {A : Type 0} (r : Result A Fault) (quits : Bool) (then : TurnEnd) → then ≡ then_of r quits → then ≡ GoOn → (is_err r ≡ false) × (quits ≡ false)
 goes-on (Err f) quits then e q = cc
 goes-on (Ok v) true then e q = cc
 goes-on (Ok v) false then e q = (refl, refl)
 
-pub quits-by : {A : Type 0} (r : Result A Fault) (quits : Bool) (then : Then) → then ≡ then_of r quits → then ≡ Quit → quits ≡ true
+pub quits-by : {A : Type 0} (r : Result A Fault) (quits : Bool) (then : TurnEnd) → then ≡ then_of r quits → then ≡ Quit → quits ≡ true
 quits-by (Err f) quits then e q = cc
 quits-by (Ok v) true then e q = refl
 quits-by (Ok v) false then e q = cc
 
 -- ---- no link is lost
 
-open-known : (k : ℕ) (x y z : Headless) → Contained y z → is_some (at_key link_number k y.links.opened.items) ≡ is_some (at_key link_number k x.links.opened.items) → is_some (at_key link_number k x.links.opened.items) ≡ true → is_known k z ≡ true
+open-known : (k : ℕ) (x y z : Headless) → KeepsLinks y z → is_some (at_key link_number k y.links.opened.items) ≡ is_some (at_key link_number k x.links.opened.items) → is_some (at_key link_number k x.links.opened.items) ≡ true → is_known k z ≡ true
 open-known k x y z h links there = h.known k (ap (λ b. b || is_some (at_key closed_number k y.links.closed.items)) (links ∙ there))
 
-pub loses-none : {n : ℕ} (x y z : Headless) (a b : Seen) → Wakes n x y a b → Contained y z → LosesNone x z
+pub loses-none : {n : ℕ} (x y z : Headless) (a b : Seen) → WakesCore n x y a b → KeepsLinks y z → LosesNone x z
 loses-none x y z a b w h = record {
   opened = λ k there. open-known k x y z h (w.links k) there;
   came = λ k above below. rw w.starved at (h.came k (let u = w.used in omega arith) below);

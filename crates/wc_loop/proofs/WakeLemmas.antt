@@ -15,23 +15,23 @@ use Rattle.wc_loop.specs.declared.link_state.LinkState.{LinkState}
 use Rattle.wc_loop.specs.declared.headless.Headless.{Headless}
 use Rattle.wc_outside.specs.Keyed.{at_key, put_at}
 use Rattle.wc_core.specs.Events.{Tick}
-use Rattle.wc_core.specs.Standing.{Standing}
+use Rattle.wc_core.specs.CoreView.{CoreView}
 use Rattle.wc_core.specs.State.{Stepped}
-use Rattle.wc_core.specs.Step.{step, run, stays, then_does}
-use Rattle.wc_core.specs.Served.{seat_link, state_of, Distinct}
+use Rattle.wc_core.specs.Step.{step, run, no_step, then_does}
+use Rattle.wc_core.specs.Served.{connection_link, state_of, Distinct}
 use Rattle.wc_loop.specs.Events.{is_tick, is_event, wake_events, events_of}
 use Rattle.wc_loop.specs.Links.{link_number, is_undrained, marked_at}
-use Rattle.wc_loop.specs.Steps.{Marks, Reports, Begins, woken}
-use Rattle.wc_loop.specs.Turns.{Continues, moment}
+use Rattle.wc_loop.specs.Steps.{MarksLink, ReportsSources, BeginsTurn, after_wait}
+use Rattle.wc_loop.specs.Turns.{LoopStep, moment}
 use Rattle.wc_loop.proofs.KeyedLemmas.{or-false, none_of, at_key-key, at_key-put_same, at_key-put_other}
-use Rattle.wc_loop.proofs.RunLemmas.{Reaches-all}
-use Rattle.wc_loop.proofs.PointLemmas.{Advances-same}
-use Rattle.wc_loop.proofs.StandsLemmas.{For-states, For-woke, SameTails-marked}
+use Rattle.wc_loop.proofs.RunLemmas.{ReachesEvents-all}
+use Rattle.wc_loop.proofs.PointLemmas.{MomentAdvances-same}
+use Rattle.wc_loop.proofs.AgreesLemmas.{For-states, For-woke, SameTails-marked}
 use Rattle.wc_loop.proofs.StepLemmas.{links-marked}
-use Rattle.wc_loop.proofs.TurnLemmas.{Call, Continues-step}
+use Rattle.wc_loop.proofs.TurnLemmas.{Call, LoopStep-step}
 
-pub Reports-none : (x : Headless) → Reports x x []
-Reports-none x = record {
+pub ReportsSources-none : (x : Headless) → ReportsSources x x []
+ReportsSources-none x = record {
   core = refl;
   clock = refl;
   used = refl;
@@ -79,8 +79,8 @@ or-true-right : (b : Bool) → true ≡ (b || true)
 or-true-right true = refl
 or-true-right false = refl
 
-pub Marks-listener : (x y : Headless) (token : Token) → token ≡ Listener → y ≡ record x { listening = true } → Marks x y token
-Marks-listener x y token e f = rw (e, f) (record {
+pub MarksLink-listener : (x y : Headless) (token : Token) → token ≡ Listener → y ≡ record x { listening = true } → MarksLink x y token
+MarksLink-listener x y token e f = rw (e, f) (record {
   core = refl;
   clock = refl;
   used = refl;
@@ -93,9 +93,9 @@ Marks-listener x y token e f = rw (e, f) (record {
   tails = λ k line h. h;
 })
 
-pub Marks-link : (x y : Headless) (token : Token) (j : ℕ) → ((k : ℕ) → is_link k token ≡ eqb j k) → is_listener token ≡ false → y.core ≡ x.core → y.clock ≡ x.clock → y.used ≡ x.used → y.turns ≡ x.turns → y.ran ≡ x.ran → y.listening ≡ x.listening
-    → y.links.closed.items ≡ x.links.closed.items → y.links.opened.items ≡ marked_at j true x.links.opened.items (at_key link_number j x.links.opened.items) → Marks x y token
-Marks-link x y token j link none core clock used turns ran listening closed opened = record {
+pub MarksLink-link : (x y : Headless) (token : Token) (j : ℕ) → ((k : ℕ) → is_link k token ≡ eqb j k) → is_listener token ≡ false → y.core ≡ x.core → y.clock ≡ x.clock → y.used ≡ x.used → y.turns ≡ x.turns → y.ran ≡ x.ran → y.listening ≡ x.listening
+    → y.links.closed.items ≡ x.links.closed.items → y.links.opened.items ≡ marked_at j true x.links.opened.items (at_key link_number j x.links.opened.items) → MarksLink x y token
+MarksLink-link x y token j link none core clock used turns ran listening closed opened = record {
   core = core;
   clock = clock;
   used = used;
@@ -108,8 +108,8 @@ Marks-link x y token j link none core clock used turns ran listening closed open
   tails = rw opened (SameTails-marked j true x.links.opened.items);
 }
 
-pub Reports-more : (x y z : Headless) (tokens : List Token) (i : ℕ) (d : Token) → i < length tokens → Reports x y (take i tokens) → Marks y z (slice_index_or tokens i d) → Reports x z (take (i + 1) tokens)
-Reports-more x y z tokens i d below r m = record {
+pub ReportsSources-more : (x y z : Headless) (tokens : List Token) (i : ℕ) (d : Token) → i < length tokens → ReportsSources x y (take i tokens) → MarksLink y z (slice_index_or tokens i d) → ReportsSources x z (take (i + 1) tokens)
+ReportsSources-more x y z tokens i d below r m = record {
   core = m.core ∙ r.core;
   clock = m.clock ∙ r.clock;
   used = m.used ∙ r.used;
@@ -141,21 +141,21 @@ pub and-if : (a b : Bool) → (a ≡ true → b ≡ true) → a ≡ (a && b)
 and-if true b h = sym (h refl)
 and-if false b h = refl
 
-woken-by : (core : Standing) (moment : ℕ) (t : Bool) → (cond t (record core { moment = moment }) core).seats ≡ core.seats
+woken-by : (core : CoreView) (moment : ℕ) (t : Bool) → (cond t (record core { moment = moment }) core).connections ≡ core.connections
 woken-by core moment true = refl
 woken-by core moment false = refl
 
-pub woken-seats : (last : Option ℕ) (moment : ℕ) (core : Standing) → (woken last moment core).seats ≡ core.seats
-woken-seats last moment core = woken-by core moment (is_event last moment)
+pub woken-connections : (last : Option ℕ) (moment : ℕ) (core : CoreView) → (after_wait last moment core).connections ≡ core.connections
+woken-connections last moment core = woken-by core moment (is_event last moment)
 
-pub woken-quits : (last : Option ℕ) (moment : ℕ) (core : Standing) → (woken last moment core).quits ≡ core.quits
+pub woken-quits : (last : Option ℕ) (moment : ℕ) (core : CoreView) → (after_wait last moment core).quits ≡ core.quits
 woken-quits last moment core = quits-by (is_event last moment)
   where
     quits-by : (t : Bool) → (cond t (record core { moment = moment }) core).quits ≡ core.quits
     quits-by true = refl
     quits-by false = refl
 
-pub woken-starved : (last : Option ℕ) (moment : ℕ) (core : Standing) → (woken last moment core).starved ≡ core.starved
+pub woken-starved : (last : Option ℕ) (moment : ℕ) (core : CoreView) → (after_wait last moment core).starved ≡ core.starved
 woken-starved last moment core = starved-by (is_event last moment)
   where
     starved-by : (t : Bool) → (cond t (record core { moment = moment }) core).starved ≡ core.starved
@@ -163,24 +163,24 @@ woken-starved last moment core = starved-by (is_event last moment)
     starved-by false = refl
 
 -- the steps of a wait that returned, where a tick does no more than to set the moment
-pub wake-runs : (last : Option ℕ) (moment : ℕ) (core : Standing) → ((m : ℕ) → step (state_of core) (Tick m) ≡ stays (state_of (record core { moment = m }))) → run (state_of core) (wake_events last moment) ≡ stays (state_of (woken last moment core))
+pub wake-runs : (last : Option ℕ) (moment : ℕ) (core : CoreView) → ((m : ℕ) → step (state_of core) (Tick m) ≡ no_step (state_of (record core { moment = m }))) → run (state_of core) (wake_events last moment) ≡ no_step (state_of (after_wait last moment core))
 wake-runs None moment core idle = refl
 wake-runs (Some last) moment core idle = tick-runs (is_tick last moment)
   where
-    tick-runs : (t : Bool) → run (state_of core) (cond t (Tick moment ∷ []) []) ≡ stays (state_of (cond t (record core { moment = moment }) core))
+    tick-runs : (t : Bool) → run (state_of core) (cond t (Tick moment ∷ []) []) ≡ no_step (state_of (cond t (record core { moment = moment }) core))
     tick-runs true = ap (λ (first : Stepped). then_does first (λ next. run next [])) (idle moment)
     tick-runs false = refl
 
 -- a wait returned
-unfoldable pub Continues-woke : (x y z : Headless) (a b : Seen) (moment' : ℕ) (tokens : List Token) → Call a b (Woke moment' ∷ []) → (IsTrue b.tells → (k : ℕ) → b.sent k ≡ a.sent k) → (IsTrue b.tells → (k : ℕ) → b.choked k ≡ a.choked k)
+unfoldable pub LoopStep-woke : (x y z : Headless) (a b : Seen) (moment' : ℕ) (tokens : List Token) → Call a b (Woke moment' ∷ []) → (IsTrue b.tells → (k : ℕ) → b.sent k ≡ a.sent k) → (IsTrue b.tells → (k : ℕ) → b.choked k ≡ a.choked k)
     → b.used ≡ a.used → ((k : ℕ) → b.there k ≡ a.there k) → ((k : ℕ) → b.undrained k ≡ (a.undrained k || list_any (is_link k) tokens)) → b.listening ≡ (a.listening || list_any is_listener tokens) → All (IsThere a.there) tokens
-    → x.core.quits ≡ false → Begins x y moment' → run (state_of x.core) (wake_events x.clock moment') ≡ stays (state_of y.core) → Reports y z tokens → Continues false 1 0 x z a b
-Continues-woke x y z a b m tokens call sent choked used there undrained listening tokens_there going begins runs reports =
-    let core : z.core ≡ woken x.clock m x.core = reports.core ∙ begins.core in
-    let seats : z.core.seats ≡ x.core.seats = ap (λ c. c.seats) core ∙ woken-seats x.clock m x.core in
+    → x.core.quits ≡ false → BeginsTurn x y moment' → run (state_of x.core) (wake_events x.clock moment') ≡ no_step (state_of y.core) → ReportsSources y z tokens → LoopStep false 1 0 x z a b
+LoopStep-woke x y z a b m tokens call sent choked used there undrained listening tokens_there going begins runs reports =
+    let core : z.core ≡ after_wait x.clock m x.core = reports.core ∙ begins.core in
+    let connections : z.core.connections ≡ x.core.connections = ap (λ c. c.connections) core ∙ woken-connections x.clock m x.core in
     let quits : z.core.quits ≡ x.core.quits = ap (λ c. c.quits) core ∙ woken-quits x.clock m x.core in
     let starved : z.core.starved ≡ x.core.starved = ap (λ c. c.starved) core ∙ woken-starved x.clock m x.core in
-    Continues-step false 1 0 x z a b (Woke m ∷ []) [] call (λ below. (let t = begins.turns in let r = reports.turns in omega arith)) refl refl
+    LoopStep-step false 1 0 x z a b (Woke m ∷ []) [] call (λ below. (let t = begins.turns in let r = reports.turns in omega arith)) refl refl
     (λ t. absurd (false≢true t)) (λ s. All-nil _) (λ over. quits ∙ over)
     (λ s. record {
       counted = reports.used ∙ begins.used ∙ s.counted ∙ sym used;
@@ -190,8 +190,8 @@ Continues-woke x y z a b m tokens call sent choked used there undrained listenin
           undrained k ∙ ap (λ q. q || list_any (is_link k) tokens) (s.undrained k ∙ ap (λ o. is_undrained (at_key link_number k o)) (sym begins.opened))
           ∙ ap (λ q. is_undrained (at_key link_number k y.links.opened.items) || q) (and-if _ _ (λ e. sym some ∙ there_any a.there k tokens tokens_there e)) ∙ sym (reports.undrained k);
       listens = listening ∙ ap (λ q. q || list_any is_listener tokens) (s.listens ∙ sym begins.listening) ∙ sym reports.listening;
-      clients = λ k. ap (λ ss. is_some (at_key seat_link k ss)) seats ∙ s.clients k ∙ ap (λ o. is_some (at_key link_number k o)) (sym begins.opened) ∙ sym (reports.links k);
-      once = subst (λ ss. Distinct (map seat_link ss)) (sym seats) s.once;
+      clients = λ k. ap (λ ss. is_some (at_key connection_link k ss)) connections ∙ s.clients k ∙ ap (λ o. is_some (at_key link_number k o)) (sym begins.opened) ∙ sym (reports.links k);
+      once = subst (λ ss. Distinct (map connection_link ss)) (sym connections) s.once;
       unknown = λ k below. none_of _ (reports.links k ∙ ap (λ o. is_some (at_key link_number k o)) begins.opened ∙ ap is_some (s.unknown k (rw (reports.used, begins.used) at below)));
     })
     (λ t s on.
@@ -203,9 +203,9 @@ Continues-woke x y z a b m tokens call sent choked used there undrained listenin
     let count : z.ran ≡ min (x.ran + length (events_of a.taken (Woke m))) (2 ^ 64 - 1) = reports.ran ∙ begins.ran ∙ ap (λ c. min (x.ran + length (wake_events c m)) (2 ^ 64 - 1)) told.clock in
     record {
       events = events_of a.taken (Woke m);
-      reaches = rw (append-nil (events_of a.taken (Woke m))) (Reaches-all x.core.quits z.core.quits x.ran z.ran (events_of a.taken (Woke m)) going (λ fits. count));
+      reaches = rw (append-nil (events_of a.taken (Woke m))) (ReachesEvents-all x.core.quits z.core.quits x.ran z.ran (events_of a.taken (Woke m)) going (λ fits. count));
       rises = omega arith;
       advances = λ same below.
-          Advances-same (moment x a) (moment z b) seats quits (reports.used ∙ begins.used) (sent t) (choked t) (Woke m ∷ []) (call.taken t) (events_of a.taken (Woke m))
-          (ap (λ c. run (state_of x.core) (wake_events c m)) (sym told.clock) ∙ runs ∙ ap (λ c. stays (state_of c)) (sym reports.core));
+          MomentAdvances-same (moment x a) (moment z b) connections quits (reports.used ∙ begins.used) (sent t) (choked t) (Woke m ∷ []) (call.taken t) (events_of a.taken (Woke m))
+          (ap (λ c. run (state_of x.core) (wake_events c m)) (sym told.clock) ∙ runs ∙ ap (λ c. no_step (state_of c)) (sym reports.core));
     })

@@ -1,4 +1,4 @@
--- How the words are read one behind another.
+-- How the words are read one after another.
 use Rattle.std.proofs.Common.{◌≡◌, ℕ, ◌+◌, true, false, Err, Option, Some, List, [], ◌∷◌, refl}
 use Rattle.wc_loop.specs.declared.words.Wish.{Wish}
 use Rattle.wc_loop.specs.Words.{is_version, is_folder, is_turns, turns_of, wish_from, folder_from}
@@ -20,14 +20,14 @@ pub turns_step : (place n : ℕ) (wish : Wish) (word value : List ℕ) (words ws
 turns_step place n wish word value words ws vs e f version folder turns number = rw (e, f, version, folder, turns, number) refl
 
 -- how the folder is named, word by word
-pub names_folder : (folder : Option (List ℕ)) (word value : List ℕ) (rest others behind : List (List ℕ)) → rest ≡ word ∷ others → others ≡ value ∷ behind → is_folder word ≡ true → folder_from folder rest ≡ folder_from (Some value) behind
-names_folder folder word value rest others behind e q t = rw (e, q, t) refl
+pub names_folder : (folder : Option (List ℕ)) (word value : List ℕ) (rest others following : List (List ℕ)) → rest ≡ word ∷ others → others ≡ value ∷ following → is_folder word ≡ true → folder_from folder rest ≡ folder_from (Some value) following
+names_folder folder word value rest others following e q t = rw (e, q, t) refl
 
-pub names_turns : (folder : Option (List ℕ)) (word value : List ℕ) (rest others behind : List (List ℕ)) → rest ≡ word ∷ others → others ≡ value ∷ behind → is_folder word ≡ false → is_turns word ≡ true → folder_from folder rest ≡ folder_from folder behind
-names_turns folder word value rest others behind e q f t = rw (e, q, f, t) refl
+pub names_turns : (folder : Option (List ℕ)) (word value : List ℕ) (rest others following : List (List ℕ)) → rest ≡ word ∷ others → others ≡ value ∷ following → is_folder word ≡ false → is_turns word ≡ true → folder_from folder rest ≡ folder_from folder following
+names_turns folder word value rest others following e q f t = rw (e, q, f, t) refl
 
-pub names_none : (folder : Option (List ℕ)) (word value : List ℕ) (rest others behind : List (List ℕ)) → rest ≡ word ∷ others → others ≡ value ∷ behind → is_folder word ≡ false → is_turns word ≡ false → folder_from folder rest ≡ folder_from folder others
-names_none folder word value rest others behind e q f t = rw (e, q, f, t) refl
+pub names_none : (folder : Option (List ℕ)) (word value : List ℕ) (rest others following : List (List ℕ)) → rest ≡ word ∷ others → others ≡ value ∷ following → is_folder word ≡ false → is_turns word ≡ false → folder_from folder rest ≡ folder_from folder others
+names_none folder word value rest others following e q f t = rw (e, q, f, t) refl
 
 pub names_last : (folder : Option (List ℕ)) (word : List ℕ) (rest others : List (List ℕ)) → rest ≡ word ∷ others → others ≡ [] → folder_from folder rest ≡ folder
 names_last folder word rest others e q = rw (e, q) refl

@@ -24,7 +24,7 @@ abbrev pub with_limit : Settings → Option ℕ → Option Settings
 with_limit settings None = None
 with_limit settings (Some limit) = Some (record settings { limit = limit })
 
--- what is set behind an option and its value, where the option is read and takes the value
+-- what is set after an option and its value, where the option is read and takes the value
 abbrev pub with_value : Settings → List ℕ → List ℕ → Option Settings
 with_value settings name value =
     if bytes_eq name (codes "relay.network.password") then with_password settings value else (
@@ -37,19 +37,19 @@ with_parts settings (Some parts) = with_value settings parts.0 parts.1
 abbrev pub with_line : Settings → List ℕ → Option Settings
 with_line settings line = if is_utf8 line then with_parts settings (parted line) else None
 
--- the version may stand in the first line
+-- the version may are in the first line
 abbrev pub is_version_line : ℕ → List ℕ → Bool
 is_version_line number line = number == 1 && bytes_eq line version_line
 
--- what is set behind a line with a number, where it is readable
-abbrev pub behind_line : ℕ → Settings → List ℕ → Option Settings
-behind_line number settings line = if is_passed_over line || is_version_line number line then Some settings else with_line settings line
+-- what is set after a line with a number, where it is readable
+abbrev pub after_line : ℕ → Settings → List ℕ → Option Settings
+after_line number settings line = if is_passed_over line || is_version_line number line then Some settings else with_line settings line
 
--- what is set behind lines, the first of which has this number, or the number of the first unreadable one
-abbrev pub behind_lines : ℕ → Settings → List (List ℕ) → Result Settings ℕ
-behind_lines number settings [] = Ok settings
-behind_lines number settings (line ∷ lines) = option_map_or (λ behind. behind_lines (number + 1) behind lines) (behind_line number settings line) (Err number)
+-- what is set after lines, the first of which has this number, or the number of the first unreadable one
+abbrev pub after_lines : ℕ → Settings → List (List ℕ) → Result Settings ℕ
+after_lines number settings [] = Ok settings
+after_lines number settings (line ∷ lines) = option_map_or (λ following. after_lines (number + 1) following lines) (after_line number settings line) (Err number)
 
 -- what a configuration sets, or the number of its first unreadable line
 unfoldable pub settings_in : List ℕ → Result Settings ℕ
-settings_in text = behind_lines 1 first_settings (lines_of text)
+settings_in text = after_lines 1 first_settings (lines_of text)

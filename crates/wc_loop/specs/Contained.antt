@@ -14,7 +14,7 @@ abbrev pub HasStarved : ℕ → ℕ → Type 0
 HasStarved starved starved' = (starved < starved') ⊎ (2 ^ 64 - 1 ≤ starved')
 
 -- Within a turn each link that is open or listed as closed goes on so, and each whose number comes to be used is so then, or was refused for want of memory.
-pub record Contained (x y : Headless) : Type 0 where
+pub record KeepsLinks (x y : Headless) : Type 0 where
   pub used : x.used ≤ y.used
   pub rises : x.core.starved ≤ y.core.starved
   pub known : (link : ℕ) → is_known link x ≡ true → is_known link y ≡ true

@@ -8,15 +8,15 @@ use Rattle.wc_outside.specs.declared.asked.Asked.TheVariants.{Listen}
 use Rattle.wc_loop.specs.declared.ending.Ending.{Ending}
 use Rattle.wc_loop.specs.declared.ending.Ending.TheVariants.{Version, BadWord, WaitFailed, NoConfiguration, BadLine, NoMemory, ListenFailed, TurnsTaken, Quit}
 use Rattle.wc_loop.specs.declared.headless.Headless.{Headless}
-use Rattle.wc_loop.specs.declared.then.Then.{Then}
-use Rattle.wc_loop.specs.declared.then.Then.TheVariants.{GoOn, Quit as ThenQuit, WaitFault, ListenFault, KeeperFault}
+use Rattle.wc_loop.specs.declared.turn_end.TurnEnd.{TurnEnd}
+use Rattle.wc_loop.specs.declared.turn_end.TurnEnd.TheVariants.{GoOn, Quit as ThenQuit, WaitFault, ListenFault, KeeperFault}
 use Rattle.wc_loop.specs.declared.words.Wish.{Wish}
 use Rattle.wc_loop.specs.declared.configuration.Settings.{Settings}
 use Rattle.wc_loop.specs.Configuration.{settings_in}
 use Rattle.wc_loop.specs.Headline.{Headline}
-use Rattle.wc_loop.specs.Served.{IsCalm}
+use Rattle.wc_loop.specs.Served.{NobodyLeaving}
 use Rattle.wc_loop.specs.Sources.{AllServed, AllSent}
-use Rattle.wc_loop.specs.Turns.{Stands, IsCaused, wakes, listen_faults}
+use Rattle.wc_loop.specs.Turns.{AgreesWithSockets, IsCaused, wake_count, listen_faults}
 
 -- the state at the end is there where a wait returned
 abbrev pub kept_of : Headless → Option Headless
@@ -24,13 +24,13 @@ kept_of headless = if headless.turns == 0 then None else Some headless
 
 -- the last state is there exactly where a wait returned, and tells how many did
 abbrev pub LastOf : Seen → Option Headless → Type 0
-LastOf seen None = IsTrue seen.tells → wakes seen.taken ≡ 0
-LastOf seen (Some last) = (1 ≤ last.turns) × (IsTrue seen.tells → wakes seen.taken ≡ last.turns)
+LastOf seen None = IsTrue seen.tells → wake_count seen.taken ≡ 0
+LastOf seen (Some last) = (1 ≤ last.turns) × (IsTrue seen.tells → wake_count seen.taken ≡ last.turns)
 
 -- at most so many waits returned
 pub record WaitsAtMost (turns : ℕ) (seen : Seen) (last : Option Headless) : Type 0 where
   pub counted : IfSome last (λ last. last.turns ≤ turns)
-  pub told : IsTrue seen.tells → wakes seen.taken ≤ turns
+  pub told : IsTrue seen.tells → wake_count seen.taken ≤ turns
 
 -- whether `/quit` was run
 abbrev pub HasQuit : Bool → Headless → Type 0
@@ -50,8 +50,8 @@ pub record Ends (turns : ℕ) (contents : Option (List ℕ)) (seen : Seen) (stat
   pub quit_due : IsSomeAnd last (HasQuit true) → status ≢ 6 → status ≡ 0
   -- all waits returned, `/quit` was not run, and the listener did not fail
   pub all : status ≡ 8 → IsSomeAnd last (λ last. (last.turns ≡ turns) × HasQuit false last)
-  pub told : status ≡ 8 → IsTrue seen.tells → (wakes seen.taken ≡ turns) × (listen_faults seen.taken ≡ 0)
-  pub due : IsTrue seen.tells → wakes seen.taken ≡ turns → IfSome last (HasQuit false) → listen_faults seen.taken ≡ 0 → status ≡ 8
+  pub told : status ≡ 8 → IsTrue seen.tells → (wake_count seen.taken ≡ turns) × (listen_faults seen.taken ≡ 0)
+  pub due : IsTrue seen.tells → wake_count seen.taken ≡ turns → IfSome last (HasQuit false) → listen_faults seen.taken ≡ 0 → status ≡ 8
   pub failed : status ≡ 2 → IsTrue seen.tells → listen_faults seen.taken ≡ 0
   pub listened : status ≡ 6 → IsTrue seen.tells → 1 ≤ listen_faults seen.taken
   -- what comes before the first wait
@@ -81,8 +81,8 @@ asks_turns (Err n) = false
 asks_turns (Ok wish) = not wish.version
 
 -- what is printed for a status, with the number of a word or a line; the version where it was asked for
-abbrev pub printed : Bool → ℕ → ℕ → List ℕ
-printed version status number =
+abbrev pub printed_text : Bool → ℕ → ℕ → List ℕ
+printed_text version status number =
     if version then line_of (codes "wc-headless 1") else (
     if status == 1 then line_of (codes "bad word " ++ decimal number) else (
     if status == 2 then line_of (codes "wait failed") else (
@@ -96,11 +96,11 @@ pub record IsNumber (wish : Result Wish ℕ) (contents : Option (List ℕ)) (sta
   pub word : status ≡ 1 → wish ≡ Err number
   pub line : status ≡ 4 → IfSome contents (λ configuration. settings_in configuration ≡ Err number)
 
--- what the sink holds is what it held, and what is printed behind it
+-- what the sink holds is what it held, and what is printed after it
 pub record Prints (wish : Result Wish ℕ) (contents : Option (List ℕ)) (status : ℕ) (before after : Option (List ℕ)) : Type 0 where
   pub number : ℕ
   pub is : IsNumber wish contents status number
-  pub holds : after ≡ append_known before (printed (asks_version wish) status number)
+  pub holds : after ≡ append_known before (printed_text (asks_version wish) status number)
 
 -- what the sockets are asked for where words ask for turns: the listener, unless the run ended before
 abbrev pub asked_in : ℕ → List Asked
@@ -151,8 +151,8 @@ tells_version ListenFailed = false
 tells_version TurnsTaken = false
 tells_version Quit = false
 
--- how a run ends behind a turn that ended so
-abbrev pub EndsAt : Then → Ending → Type 0
+-- how a run ends after a turn that ended so
+abbrev pub EndsAt : TurnEnd → Ending → Type 0
 EndsAt GoOn ending = ending ≡ TurnsTaken
 EndsAt ThenQuit ending = ending ≡ Quit
 EndsAt WaitFault ending = ending ≡ WaitFailed
@@ -171,11 +171,11 @@ IsEarly contents kept kept' ListenFailed = ⊥
 IsEarly contents kept kept' TurnsTaken = ⊥
 IsEarly contents kept kept' Quit = ⊥
 
--- the state behind the last turn
-pub record IsLast (contents : Option (List ℕ)) (before after : Seen) (last : Headless) : Type 0 where
+-- the state after the last turn
+pub record IsLastState (contents : Option (List ℕ)) (before after : Seen) (last : Headless) : Type 0 where
   pub headline : Headline contents after last
-  pub stands : Stands last after
-  pub calm : IsCalm last.core.seats
+  pub agrees : AgreesWithSockets last after
+  pub calm : NobodyLeaving last.core.connections
   pub causes : All (IsCaused before after) last.links.closed.items
 
 -- a run that was asked for this number of waits ends
@@ -185,11 +185,11 @@ pub record Runs (turns : ℕ) (contents : Option (List ℕ)) (kept kept' : ℕ) 
   pub version : tells_version ending ≡ false
   pub counted : LastOf after last
   pub most : WaitsAtMost turns after last
-  pub left : IfSome last (IsLast contents before after)
-  -- behind the last turn each source is served, and each link is written
-  pub served : status_of ending ≡ 8 → IfSome last (λ last. AllServed last.core.seats before after)
-  -- behind `/quit` each link is written once
-  pub sent : status_of ending ≡ 0 → IfSome last (λ last. AllSent last.core.seats before after)
+  pub left : IfSome last (IsLastState contents before after)
+  -- after the last turn each source is served, and each link is written
+  pub served : status_of ending ≡ 8 → IfSome last (λ last. AllServed last.core.connections before after)
+  -- after `/quit` each link is written once
+  pub sent : status_of ending ≡ 0 → IfSome last (λ last. AllSent last.core.connections before after)
   pub faults : HasCause before.faults after.faults kept kept' (status_of ending)
   pub asked : IsTrue after.tells → after.asked ≡ asked_in (status_of ending)
 

@@ -4,7 +4,7 @@ use Rattle.std.specs.List.{flat_map}
 use Rattle.wc_outside.specs.declared.happening.Happening.{Happening}
 use Rattle.wc_outside.specs.declared.happening.Happening.TheVariants.{Woke, Accepted, Read, Ended, Failed, ListenFailed}
 use Rattle.wc_core.specs.Events.{Event, Start, Tick, Arrives, Line, Ends, Fails, ListenFails}
-use Rattle.wc_loop.specs.Lines.{ended, rest, without_cr, line_limit}
+use Rattle.wc_loop.specs.Lines.{ended_lines, rest, without_cr, line_limit}
 
 -- the bytes of a happening that came on a link
 abbrev pub bytes_on : ℕ → Happening → List ℕ
@@ -15,11 +15,11 @@ bytes_on link (Ended other) = []
 bytes_on link (Failed other) = []
 bytes_on link ListenFailed = []
 
--- what stands behind the last LF of all bytes that came on a link
+-- what comes after the last LF of all bytes that came on a link
 abbrev pub tail_on : ℕ → List Happening → List ℕ
 tail_on link happenings = rest [] (flat_map (bytes_on link) happenings)
 
--- a wake is the start, or a tick where it comes 100 milliseconds behind the last one, or before it
+-- a wake is the start, or a tick where it comes 100 milliseconds after the last one, or before it
 abbrev pub is_tick : ℕ → ℕ → Bool
 is_tick last moment = nat_lt moment last || nat_le (last + 100) moment
 
@@ -50,11 +50,11 @@ wake_events (Some last) moment = if is_tick last moment then Tick moment ∷ [] 
 abbrev pub line_events : ℕ → List ℕ → List Event
 line_events link line = if nat_le (length line) line_limit then Line link (without_cr line) ∷ [] else []
 
--- the events that bytes spell on a link, on which `line` stands already
+-- the events that bytes spell on a link, on which `line` is already
 abbrev pub read_events : ℕ → List ℕ → List ℕ → List Event
-read_events link line bytes = flat_map (line_events link) (ended line bytes)
+read_events link line bytes = flat_map (line_events link) (ended_lines line bytes)
 
--- the events of a happening, behind those that came before
+-- the events of a happening, after those that came before
 abbrev pub events_of : List Happening → Happening → List Event
 events_of before (Woke moment) = wake_events (clock before) moment
 events_of before (Accepted link nonce) = Arrives link.0 nonce ∷ []
@@ -63,7 +63,7 @@ events_of before (Ended link) = Ends link.0 ∷ []
 events_of before (Failed link) = Fails link.0 ∷ []
 events_of before ListenFailed = ListenFails ∷ []
 
--- the events of happenings, behind those that came before
+-- the events of happenings, after those that came before
 abbrev pub events_from : List Happening → List Happening → List Event
 events_from before [] = []
 events_from before (happening ∷ happenings) = events_of before happening ++ events_from (before ++ happening ∷ []) happenings

@@ -19,7 +19,7 @@ pub record IsFrontOf (all : List ℕ) (point : Point) : Type 0 where
   pub whole : point.spoiled ≡ false → rest ≡ []
 
 -- from one moment to another the link is owed these bytes
-pub record Hands (a b : Point) (owed : List ℕ) : Type 0 where
+pub record Delivers (a b : Point) (owed : List ℕ) : Type 0 where
   pub gone : a.gone ≡ true → b.gone ≡ true
   pub spoils : b.spoiled ≡ false → a.spoiled ≡ false
   -- it is open at the end

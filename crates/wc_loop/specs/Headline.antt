@@ -12,22 +12,22 @@ use Rattle.wc_core.specs.State.{State, first_state}
 use Rattle.wc_core.specs.Step.{client_link, run}
 use Rattle.wc_core.specs.Served.{state_of, unsent_on, sent_to, has_end}
 use Rattle.wc_session.specs.declared.client.Client.{Client}
-use Rattle.wc_settled.specs.Held.{HeldPart}
-use Rattle.wc_settled.specs.Bytes.{ShowsPart}
-use Rattle.wc_settled.specs.Settled.{SettledBy}
+use Rattle.wc_mirror_laws.specs.Held.{HeldPart}
+use Rattle.wc_mirror_laws.specs.Bytes.{ShowsPart}
+use Rattle.wc_mirror_laws.specs.Settled.{SettledBy}
 use Rattle.wc_loop.specs.Events.{whole}
-use Rattle.wc_loop.specs.Served.{Reaches}
+use Rattle.wc_loop.specs.Served.{ReachesEvents}
 use Rattle.wc_loop.specs.Turns.{moment, point}
 
 -- The state is that of the run over the events that were reached, from this one on; what is sent and then unsent on each open link is what the run owes; and what was sent on a closed link is a front of that, all of it unless there was no room as it was closed, or it failed.
 pub record HandsOut (first : State) (seen : Seen) (last : Headless) : Type 0 where
   pub events : List Event
-  pub reaches : Reaches false last.core.quits 0 last.ran (whole seen.taken) events
+  pub reaches : ReachesEvents false last.core.quits 0 last.ran (whole seen.taken) events
   pub state : state_of last.core ≡ (run first events).state
   pub quits : last.core.quits ≡ has_end (run first events).acts
   pub links : (link : ℕ) → is_some (at_key link_number link last.links.opened.items) ≡ is_some (at_key client_link link (run first events).state.clients)
   pub opened : (link : ℕ) (client : Client) → 1 ≤ link → at_key client_link link (run first events).state.clients ≡ Some client
-      → seen.sent link ++ unsent_on link last.core.seats ≡ sent_to link (run first events).acts
+      → seen.sent link ++ unsent_on link last.core.connections ≡ sent_to link (run first events).acts
   pub closed : (link : ℕ) → 1 ≤ link → link ≤ seen.used → at_key client_link link (run first events).state.clients ≡ None
       → IsFrontOf (sent_to link (run first events).acts) (point link (moment last seen))
 
@@ -37,11 +37,11 @@ Headline contents seen last =
     IfSome contents (λ configuration. IfOk (settings_in configuration) (λ settings. IsTrue seen.tells → last.core.starved ≡ 0 → HandsOut (first_state settings.password settings.limit) seen last))
 
 -- Where that is so, each client that settled by the dump of a part, the lines of all buffers, the buffers in their groups or the nicklists, has exactly this part of the world, by the bytes that were sent to it and those that are unsent.
-abbrev pub Mirrored : Option (List ℕ) → Seen → Headless → Type 0
-Mirrored contents seen last =
+abbrev pub ClientsHoldDumps : Option (List ℕ) → Seen → Headless → Type 0
+ClientsHoldDumps contents seen last =
     IfSome contents (λ configuration. IfOk (settings_in configuration) (λ settings.
     (handed : HandsOut (first_state settings.password settings.limit) seen last) (which : HeldPart) (link : ℕ) (id : List ℕ) → 1 ≤ link → SettledBy which link id (first_state settings.password settings.limit) handed.events
-    → ShowsPart which settings.limit id (seen.sent link ++ unsent_on link last.core.seats) last.core.world))
+    → ShowsPart which settings.limit id (seen.sent link ++ unsent_on link last.core.connections) last.core.world))
 
 -- a state that a configuration sets
 pub record IsConfigured (headless : Headless) (configuration : List ℕ) : Type 0 where
@@ -51,7 +51,7 @@ pub record IsConfigured (headless : Headless) (configuration : List ℕ) : Type 
 
 -- a state before the first turn
 pub record IsFirst (headless : Headless) : Type 0 where
-  pub seats : headless.core.seats ≡ []
+  pub connections : headless.core.connections ≡ []
   pub quits : headless.core.quits ≡ false
   pub links : headless.links.opened.items ≡ []
   pub starved : headless.core.starved ≡ 0
@@ -63,7 +63,7 @@ pub record IsFirst (headless : Headless) : Type 0 where
   pub closed : headless.links.closed.items ≡ []
 
 -- sockets of which nothing was taken
-pub record IsFresh (seen : Seen) : Type 0 where
+pub record NothingTaken (seen : Seen) : Type 0 where
   pub used : seen.used ≡ 0
   pub there : (link : ℕ) → seen.there link ≡ false
   pub undrained : (link : ℕ) → seen.undrained link ≡ false

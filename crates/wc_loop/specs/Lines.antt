@@ -1,12 +1,12 @@
 -- Lines of bytes that LFs end.
 use Rattle.std.specs.Prelude.{ℕ, ◌≢◌, ◌<◌, ◌-◌, List, [], ◌∷◌, ◌++◌, length, take, if◌then◌else◌, ◌==◌, slice_index}
 
--- the lines that the LFs of the bytes end, where `line` stands before the bytes
-abbrev pub ended : List ℕ → List ℕ → List (List ℕ)
-ended line [] = []
-ended line (b ∷ bytes) = if b == 10 then line ∷ ended [] bytes else ended (line ++ b ∷ []) bytes
+-- the lines that the LFs of the bytes end, where `line` is before the bytes
+abbrev pub ended_lines : List ℕ → List ℕ → List (List ℕ)
+ended_lines line [] = []
+ended_lines line (b ∷ bytes) = if b == 10 then line ∷ ended_lines [] bytes else ended_lines (line ++ b ∷ []) bytes
 
--- what stands behind the last LF of the bytes, where `line` stands before them
+-- what comes after the last LF of the bytes, where `line` is before them
 abbrev pub rest : List ℕ → List ℕ → List ℕ
 rest line [] = line
 rest line (b ∷ bytes) = if b == 10 then rest [] bytes else rest (line ++ b ∷ []) bytes

@@ -14,9 +14,9 @@ is_undrained (Some state) = state.undrained
 is_undrained None = false
 
 -- the links that were closed, with one more where it was there
-abbrev pub listed : Option LinkState → List Closed → Closed → List Closed
-listed (Some state) closed one = closed ++ one ∷ []
-listed None closed one = closed
+abbrev pub with_closed : Option LinkState → List Closed → Closed → List Closed
+with_closed (Some state) closed one = closed ++ one ∷ []
+with_closed None closed one = closed
 
 -- the links after one of them was reported or drained
 abbrev pub marked_at : ℕ → Bool → List LinkState → Option LinkState → List LinkState

@@ -3,11 +3,11 @@ use Rattle.std.specs.Prelude.{ℕ, ◌+◌, ◌-◌, ◌^◌, ◌≡◌, ◌<◌
 use Rattle.wc_text.specs.declared.names.LinkId.{LinkId}
 use Rattle.wc_text.specs.declared.names.Cause.{Cause}
 use Rattle.wc_text.specs.declared.names.Cause.TheVariants.{Ended, Failed, LoginFailed, NoMemory, Surplus, Quit, Disconnected, NickTaken}
-use Rattle.wc_core.specs.declared.seat.Seat.{Seat}
+use Rattle.wc_core.specs.declared.connection.Connection.{Connection}
 use Rattle.wc_core.specs.Events.{Event}
-use Rattle.wc_core.specs.Standing.{Standing}
+use Rattle.wc_core.specs.CoreView.{CoreView}
 use Rattle.wc_core.specs.Step.{run}
-use Rattle.wc_core.specs.Served.{links_of, leaving_on, state_of, Distinct, Keeps, Did}
+use Rattle.wc_core.specs.Served.{links_of, leaving_on, state_of, Distinct, KeepsClients, Follows}
 use Rattle.wc_loop.specs.declared.link_state.Closed.{Closed}
 
 -- the close that a client asks for, if it is leaving
@@ -16,16 +16,16 @@ closed_by link None = []
 closed_by link (Some cause) = record { link = link; cause = cause } ∷ []
 
 -- the closes that clients ask for, in the order in which they came
-abbrev pub leaving_closes : List Seat → List Closed
+abbrev pub leaving_closes : List Connection → List Closed
 leaving_closes [] = []
-leaving_closes (seat ∷ seats) = closed_by seat.session.client.link seat.leaving ++ leaving_closes seats
+leaving_closes (connection ∷ connections) = closed_by connection.session.client.link connection.leaving ++ leaving_closes connections
 
 -- no client is leaving
-abbrev pub IsCalm : List Seat → Type 0
-IsCalm seats = leaving_closes seats ≡ []
+abbrev pub NobodyLeaving : List Connection → Type 0
+NobodyLeaving connections = leaving_closes connections ≡ []
 
 -- Of all these events the first ones are reached: all of them, unless `/quit` is run, and none where it was run before.
-pub record Reaches (quits quits' : Bool) (ran ran' : ℕ) (all events : List Event) : Type 0 where
+pub record ReachesEvents (quits quits' : Bool) (ran ran' : ℕ) (all events : List Event) : Type 0 where
   pub rest : List Event
   pub front : all ≡ events ++ rest
   pub counts : ran < 2 ^ 64 → ran' ≡ min (ran + length events) (2 ^ 64 - 1)
@@ -33,14 +33,14 @@ pub record Reaches (quits quits' : Bool) (ran ran' : ℕ) (all events : List Eve
   pub nothing : quits ≡ true → events ≡ []
 
 -- the core takes events, unless some growth was refused
-pub record MayRun (old new : Standing) (events : List Event) : Type 0 where
-  pub keeps : Keeps old new
-  pub does : new.starved ≡ old.starved → old.starved < 2 ^ 64 - 1 → Distinct (links_of old) → Did old new (run (state_of old) events)
+pub record MayRun (old new : CoreView) (events : List Event) : Type 0 where
+  pub keeps : KeepsClients old new
+  pub does : new.starved ≡ old.starved → old.starved < 2 ^ 64 - 1 → Distinct (links_of old) → Follows old new (run (state_of old) events)
 
 -- the core takes those of the events that are reached, unless some growth was refused
-pub record MayTake (old new : Standing) (ran ran' : ℕ) (all : List Event) : Type 0 where
+pub record MayTake (old new : CoreView) (ran ran' : ℕ) (all : List Event) : Type 0 where
   pub events : List Event
-  pub reaches : Reaches old.quits new.quits ran ran' all events
+  pub reaches : ReachesEvents old.quits new.quits ran ran' all events
   pub takes : MayRun old new events
 
 -- for what a client can leave at a line of a link: its own client for its answer, and each one for want of memory
@@ -61,10 +61,10 @@ LeavesFor link other None (Some cause) = IsOfLine link other cause
 LeavesFor link other None None = Unit {0}
 
 -- the same links have clients, and those that began to leave could do so at a line of this link
-pub record LeavesAtLine (link : ℕ) (old new : Standing) : Type 0 where
+pub record LeavesAtLine (link : ℕ) (old new : CoreView) : Type 0 where
   pub rises : old.starved ≤ new.starved
   pub links : links_of new ≡ links_of old
-  pub leaving : Distinct (links_of old) → (other : ℕ) → LeavesFor link other (leaving_on other old.seats) (leaving_on other new.seats)
+  pub leaving : Distinct (links_of old) → (other : ℕ) → LeavesFor link other (leaving_on other old.connections) (leaving_on other new.connections)
 
 -- a close goes by the number of its link
 abbrev pub closed_number : Closed → ℕ

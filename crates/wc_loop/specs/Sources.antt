@@ -5,14 +5,14 @@ use Rattle.wc_outside.specs.Happenings.{is_link, is_listener}
 use Rattle.wc_outside.specs.Seen.{Seen}
 use Rattle.wc_outside.specs.Faults.{Rose}
 use Rattle.wc_loop.specs.declared.headless.Headless.{Headless}
-use Rattle.wc_loop.specs.Contained.{Contained}
-use Rattle.wc_loop.specs.Served.{IsCalm}
-use Rattle.wc_loop.specs.Turns.{HasGained, Stands, Continues}
+use Rattle.wc_loop.specs.Contained.{KeepsLinks}
+use Rattle.wc_loop.specs.Served.{NobodyLeaving}
+use Rattle.wc_loop.specs.Turns.{HasGained, AgreesWithSockets, LoopStep}
 use Rattle.wc_outside.specs.declared.happening.Happening.{Happening}
 use Rattle.wc_outside.specs.declared.happening.Happening.TheVariants.{Woke, Accepted, Read, Ended, Failed, ListenFailed}
 use Rattle.wc_outside.specs.declared.sockets.Token.{Token}
 use Rattle.wc_loop.specs.declared.link_state.LinkState.{LinkState}
-use Rattle.wc_core.specs.declared.seat.Seat.{Seat}
+use Rattle.wc_core.specs.declared.connection.Connection.{Connection}
 use Rattle.wc_loop.specs.Events.{bytes_on}
 use Rattle.wc_core.specs.Served.{unsent_on}
 
@@ -34,7 +34,7 @@ arrivals [] = 0
 arrivals (happening ∷ happenings) = is_arrival happening + arrivals happenings
 
 -- no source became ready, since no wait returned
-pub record Falls (before after : Seen) : Type 0 where
+pub record NothingBecameReady (before after : Seen) : Type 0 where
   pub undrained : (link : ℕ) → after.undrained link ≡ true → before.undrained link ≡ true
   pub listening : after.listening ≡ true → before.listening ≡ true
 
@@ -47,30 +47,30 @@ abbrev pub IsHeard : Seen → Seen → Type 0
 IsHeard before after = IsTrue after.tells → after.listening ≡ true → arrivals before.taken + 1024 ≤ arrivals after.taken
 
 -- nothing is unsent on a link, or its last write found no room
-abbrev pub IsWritten : ℕ → List Seat → Seen → Type 0
-IsWritten link seats seen = (unsent_on link seats ≡ []) ⊎ (seen.blocked link ≡ true)
+abbrev pub IsWritten : ℕ → List Connection → Seen → Type 0
+IsWritten link connections seen = (unsent_on link connections ≡ []) ⊎ (seen.blocked link ≡ true)
 
 -- each source was served between two moments, and each link is written
-pub record AllServed (seats : List Seat) (before after : Seen) : Type 0 where
+pub record AllServed (connections : List Connection) (before after : Seen) : Type 0 where
   pub links : (link : ℕ) → 1 ≤ link → IsServed link before after
   pub listener : IsHeard before after
-  pub written : (link : ℕ) → 1 ≤ link → IsWritten link seats after
+  pub written : (link : ℕ) → 1 ≤ link → IsWritten link connections after
 
 -- nothing is unsent on a link, or its last write found no room, or it failed between
-abbrev pub IsSent : ℕ → List Seat → Seen → Seen → Type 0
-IsSent link seats before after = (unsent_on link seats ≡ []) ⊎ ((after.blocked link ≡ true) ⊎ (Rose before.faults.links after.faults.links × (IsTrue after.tells → HasGained before after (Failed (record { 0 = link })))))
+abbrev pub IsSent : ℕ → List Connection → Seen → Seen → Type 0
+IsSent link connections before after = (unsent_on link connections ≡ []) ⊎ ((after.blocked link ≡ true) ⊎ (Rose before.faults.links after.faults.links × (IsTrue after.tells → HasGained before after (Failed (record { 0 = link })))))
 
--- behind `/quit` each link with unsent bytes is written once
-abbrev pub AllSent : List Seat → Seen → Seen → Type 0
-AllSent seats before after = (link : ℕ) → 1 ≤ link → IsSent link seats before after
+-- after `/quit` each link with unsent bytes is written once
+abbrev pub AllSent : List Connection → Seen → Seen → Type 0
+AllSent connections before after = (link : ℕ) → 1 ≤ link → IsSent link connections before after
 
 -- the sources that these tokens name are served between two moments, each once, unless `/quit` was run; the listener failed so often
 pub record ServesNamed (tokens : List Token) (faults : ℕ) (old new : Headless) (before after : Seen) : Type 0 where
-  pub continues : Continues true 0 faults old new before after
-  pub calm : IsCalm new.core.seats
-  pub falls : Falls before after
-  pub contained : Stands old before → Contained old new
-  pub served : Stands old before → new.core.quits ≡ false → (link : ℕ) → IsTrue (list_any (is_link link) tokens) → IsServed link before after
+  pub continues : LoopStep true 0 faults old new before after
+  pub calm : NobodyLeaving new.core.connections
+  pub falls : NothingBecameReady before after
+  pub contained : AgreesWithSockets old before → KeepsLinks old new
+  pub served : AgreesWithSockets old before → new.core.quits ≡ false → (link : ℕ) → IsTrue (list_any (is_link link) tokens) → IsServed link before after
   pub heard : faults ≡ 0 → new.core.quits ≡ false → IsTrue (list_any is_listener tokens) → IsHeard before after
   pub failed : 1 ≤ faults → Rose before.faults.listens after.faults.listens × IsTrue (list_any is_listener tokens)
   pub most : IsTrue after.tells → (link : ℕ) → bytes_taken link after.taken ≤ bytes_taken link before.taken + 1048576
@@ -79,13 +79,13 @@ pub record ServesNamed (tokens : List Token) (faults : ℕ) (old new : Headless)
   pub unheard : IsTrue after.tells → list_any is_listener tokens ≡ false → arrivals after.taken ≡ arrivals before.taken
 
 -- whether what was looked up has a flag
-abbrev pub flagged : {X : Type 0} → (X → Bool) → Option X → Bool
-flagged flag (Some x) = flag x
-flagged flag None = false
+abbrev pub has_flag : {X : Type 0} → (X → Bool) → Option X → Bool
+has_flag flag (Some x) = flag x
+has_flag flag None = false
 
 -- whether a client has unsent bytes
-abbrev pub has_unsent : Seat → Bool
-has_unsent seat = not (length seat.session.unsent == 0)
+abbrev pub has_unsent : Connection → Bool
+has_unsent connection = not (length connection.session.unsent == 0)
 
 -- whether a link is not drained, and these tokens do not name it
 abbrev pub is_left_over : List Token → LinkState → Bool

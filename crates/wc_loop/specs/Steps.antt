@@ -5,11 +5,11 @@ use Rattle.wc_text.specs.declared.names.LinkId.{LinkId}
 use Rattle.wc_text.specs.declared.names.Cause.{Cause}
 use Rattle.wc_text.specs.declared.names.Cause.TheVariants.{NoMemory, Surplus}
 use Rattle.wc_core.specs.Events.{Arrives}
-use Rattle.wc_core.specs.Standing.{Standing}
+use Rattle.wc_core.specs.CoreView.{CoreView}
 use Rattle.wc_core.specs.Step.{step}
-use Rattle.wc_core.specs.Served.{state_of, links_of, new_seat, refusal, Absent, MayCome}
+use Rattle.wc_core.specs.Served.{state_of, links_of, new_connection, refusal, Absent, AdmitsUnlessStarved}
 use Rattle.wc_loop.specs.Contained.{HasStarved}
-use Rattle.wc_loop.specs.Served.{closed_by, IsCalm}
+use Rattle.wc_loop.specs.Served.{closed_by, NobodyLeaving}
 use Rattle.wc_outside.specs.Happenings.{is_link, is_listener}
 use Rattle.wc_outside.specs.declared.sockets.Token.{Token}
 use Rattle.wc_outside.specs.declared.happening.Happening.TheVariants.{Woke}
@@ -20,32 +20,32 @@ use Rattle.wc_loop.specs.Events.{clock_from, is_event, wake_events}
 use Rattle.wc_loop.specs.Links.{link_number, is_undrained, new_state}
 use Rattle.wc_loop.specs.Tails.{IsTail}
 
--- what stands behind the last LF of each link is as before
+-- what comes after the last LF of each link is as before
 abbrev pub SameTails : List LinkState → List LinkState → Type 0
 SameTails old new = (k : ℕ) (line : List ℕ) → IfSome (at_key link_number k old) (λ state. IsTail line state.tail) → IfSome (at_key link_number k new) (λ state. IsTail line state.tail)
 
 -- an arrival is taken
-pub record Comes (x y : Headless) (link : LinkId) : Type 0 where
+pub record LinkComes (x y : Headless) (link : LinkId) : Type 0 where
   pub clock : y.clock ≡ x.clock
   pub used : y.used ≡ link.0
   pub listening : y.listening ≡ x.listening
   pub turns : y.turns ≡ x.turns
   pub ran : y.ran ≡ min (x.ran + 1) (2 ^ 64 - 1)
   pub quits : y.core.quits ≡ x.core.quits
-  pub calm : IsCalm x.core.seats → IsCalm y.core.seats
+  pub calm : NobodyLeaving x.core.connections → NobodyLeaving y.core.connections
 
 -- it has a client, and its link has room for a line
-pub record Admits (x y : Headless) (link : LinkId) (nonce : List ℕ) : Type 0 where
+pub record TakesArrival (x y : Headless) (link : LinkId) (nonce : List ℕ) : Type 0 where
   pub opened : y.links.opened.items ≡ x.links.opened.items ++ new_state link ∷ []
   pub closed : y.links.closed.items ≡ x.links.closed.items
-  pub core : y.core ≡ record x.core { seats = x.core.seats ++ new_seat link nonce ∷ [] }
-  pub step : Absent link.0 (links_of x.core) → MayCome link.0 x.core y.core None (step (state_of x.core) (Arrives link.0 nonce))
+  pub core : y.core ≡ record x.core { connections = x.core.connections ++ new_connection link nonce ∷ [] }
+  pub step : Absent link.0 (links_of x.core) → AdmitsUnlessStarved link.0 x.core y.core None (step (state_of x.core) (Arrives link.0 nonce))
 
 abbrev pub IsRefusal : Cause → Type 0
 IsRefusal cause = (cause ≡ Surplus) ⊎ (cause ≡ NoMemory)
 
 -- it has no client, and its link is to be closed at once: it is listed with its cause, unless there was no memory for that
-pub record Refuses (x y : Headless) (link : LinkId) (nonce : List ℕ) : Type 0 where
+pub record RefusesArrival (x y : Headless) (link : LinkId) (nonce : List ℕ) : Type 0 where
   pub cause : Option Cause
   pub fits : IfSome cause IsRefusal
   pub opened : at_key link_number link.0 x.links.opened.items ≡ None → y.links.opened.items ≡ x.links.opened.items
@@ -57,15 +57,15 @@ pub record Refuses (x y : Headless) (link : LinkId) (nonce : List ℕ) : Type 0 
       → step (state_of x.core) (Arrives link.0 nonce) ≡ record { state = state_of x.core; acts = refusal link.0 cause }
 
 abbrev pub ServesArrival : Bool → Headless → Headless → LinkId → List ℕ → Type 0
-ServesArrival true x y link nonce = Refuses x y link nonce
-ServesArrival false x y link nonce = Admits x y link nonce
+ServesArrival true x y link nonce = RefusesArrival x y link nonce
+ServesArrival false x y link nonce = TakesArrival x y link nonce
 
--- how many events are reached behind one that changes nothing
-abbrev pub missed : Bool → ℕ → ℕ
-missed quits ran = if quits then ran else min (ran + 1) (2 ^ 64 - 1)
+-- how many events are reached after one that changes nothing
+abbrev pub reached_after_miss : Bool → ℕ → ℕ
+reached_after_miss quits ran = if quits then ran else min (ran + 1) (2 ^ 64 - 1)
 
 -- one more source is kept
-pub record Marks (x y : Headless) (token : Token) : Type 0 where
+pub record MarksLink (x y : Headless) (token : Token) : Type 0 where
   pub core : y.core ≡ x.core
   pub clock : y.clock ≡ x.clock
   pub used : y.used ≡ x.used
@@ -78,7 +78,7 @@ pub record Marks (x y : Headless) (token : Token) : Type 0 where
   pub tails : SameTails x.links.opened.items y.links.opened.items
 
 -- the sources that were reported are kept as ones that are not drained
-pub record Reports (x y : Headless) (tokens : List Token) : Type 0 where
+pub record ReportsSources (x y : Headless) (tokens : List Token) : Type 0 where
   pub core : y.core ≡ x.core
   pub clock : y.clock ≡ x.clock
   pub used : y.used ≡ x.used
@@ -90,13 +90,13 @@ pub record Reports (x y : Headless) (tokens : List Token) : Type 0 where
   pub undrained : (k : ℕ) → is_undrained (at_key link_number k y.links.opened.items) ≡ (is_undrained (at_key link_number k x.links.opened.items) || (list_any (is_link k) tokens && is_some (at_key link_number k x.links.opened.items)))
   pub tails : SameTails x.links.opened.items y.links.opened.items
 
--- the core behind the return of a wait
-abbrev pub woken : Option ℕ → ℕ → Standing → Standing
-woken last moment core = if is_event last moment then record core { moment = moment } else core
+-- the core after the return of a wait
+abbrev pub after_wait : Option ℕ → ℕ → CoreView → CoreView
+after_wait last moment core = if is_event last moment then record core { moment = moment } else core
 
 -- a turn begins: no link is closed in it yet, and the clock shows the moment
-pub record Begins (x y : Headless) (moment : ℕ) : Type 0 where
-  pub core : y.core ≡ woken x.clock moment x.core
+pub record BeginsTurn (x y : Headless) (moment : ℕ) : Type 0 where
+  pub core : y.core ≡ after_wait x.clock moment x.core
   pub used : y.used ≡ x.used
   pub listening : y.listening ≡ x.listening
   pub opened : y.links.opened.items ≡ x.links.opened.items

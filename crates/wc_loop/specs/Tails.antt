@@ -3,7 +3,7 @@ use Rattle.std.specs.Prelude.{ℕ, ◌≡◌, ◌<◌, ◌≤◌, true, false, L
 use Rattle.wc_loop.specs.declared.tail.Tail.{Tail}
 use Rattle.wc_loop.specs.Lines.{line_limit}
 
--- the tail is what stands behind the last LF, unless that is too long
+-- the tail is what comes after the last LF, unless that is too long
 pub record IsTail (line : List ℕ) (tail : Tail) : Type 0 where
   pub bounded : length tail.line ≤ line_limit
   pub short : tail.over ≡ false → tail.line ≡ line

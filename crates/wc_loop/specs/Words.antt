@@ -26,7 +26,7 @@ abbrev pub with_number : Option ℕ → ℕ → (ℕ → Result Wish ℕ) → Re
 with_number (Some n) place others = others n
 with_number None place others = Err place
 
--- what words ask behind the first `place` of them, which asked `wish`; or the number of the first one with a fault
+-- what words ask after the first `place` of them, which asked `wish`; or the number of the first one with a fault
 abbrev pub wish_from : ℕ → Wish → List (List ℕ) → Result Wish ℕ
 wish_from place wish [] = Ok wish
 wish_from place wish (word ∷ []) = if is_version word then Ok (record wish { version = true }) else Err (place + 1)
@@ -39,7 +39,7 @@ wish_from place wish (word ∷ value ∷ words) =
 abbrev pub wish_of : List (List ℕ) → Result Wish ℕ
 wish_of words = wish_from 0 (record { version = false; turns = 2 ^ 62 }) words
 
--- the folder that words name behind others that named one, the last of which counts
+-- the folder that words name after others that named one, the last of which counts
 abbrev pub folder_from : Option (List ℕ) → List (List ℕ) → Option (List ℕ)
 folder_from folder [] = folder
 folder_from folder (word ∷ []) = folder

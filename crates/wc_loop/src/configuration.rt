@@ -1,6 +1,6 @@
 ghost use Rattle.std.specs.Prelude.{◌≡◌, ◌≤◌, ℕ, Ok, Err, IfOk, IfSome, IsErrOf, OnErr, option_map};
 ghost use Rattle.std.specs.Str.{is_utf8};
-ghost use Rattle.wc_loop.specs.Configuration.{seen_settings, with_value, with_parts, with_line, behind_line, is_version_line, settings_in};
+ghost use Rattle.wc_loop.specs.Configuration.{seen_settings, with_value, with_parts, with_line, after_line, is_version_line, settings_in};
 
 use std::alloc::Global;
 use wc_options::{
@@ -33,7 +33,7 @@ pub struct Given<'a> {
     pub limit: u32,
 }
 
-/// What is set behind an option and its value. None for an option that is not read, and for a value
+/// What is set after an option and its value. None for an option that is not read, and for a value
 /// that is none of it.
 fn with_value<'a>(given: Given<'a>, name: &[u8], value: &'a [u8]) -> Option<Given<'a>>
     ensures value { option_map seen_settings result ≡ with_value (seen_settings given.entry) name.now value.now }
@@ -66,7 +66,7 @@ fn is_utf8(line: &[u8]) -> bool
     std::str::from_utf8(line).is_ok()
 }
 
-/// What is set behind a line with a name and a value.
+/// What is set after a line with a name and a value.
 fn with_line<'a>(given: Given<'a>, line: &'a [u8]) -> Option<Given<'a>>
     ensures value { option_map seen_settings result ≡ with_line (seen_settings given.entry) line.now }
     ensures range { 1 ≤ given.entry.limit → given.entry.limit ≤ 4096 → IfSome result (λ next. (1 ≤ next.limit) × (next.limit ≤ 4096)) }
@@ -80,16 +80,16 @@ fn with_line<'a>(given: Given<'a>, line: &'a [u8]) -> Option<Given<'a>>
     }
 }
 
-/// Whether a line tells the version, which may stand in the first line.
+/// Whether a line tells the version, which may are in the first line.
 fn is_version_line(number: u64, line: &[u8]) -> bool
     ensures { result ≡ is_version_line number line.now }
 {
     number == 1 && line == VERSION_LINE
 }
 
-/// What is set behind a line with a number.
-fn behind_line<'a>(number: u64, given: Given<'a>, line: &'a [u8]) -> Option<Given<'a>>
-    ensures value { option_map seen_settings result ≡ behind_line number (seen_settings given.entry) line.now }
+/// What is set after a line with a number.
+fn after_line<'a>(number: u64, given: Given<'a>, line: &'a [u8]) -> Option<Given<'a>>
+    ensures value { option_map seen_settings result ≡ after_line number (seen_settings given.entry) line.now }
     ensures range { 1 ≤ given.entry.limit → given.entry.limit ≤ 4096 → IfSome result (λ next. (1 ≤ next.limit) × (next.limit ≤ 4096)) }
 {
     if is_passed_over(line) || is_version_line(number, line) {
@@ -98,7 +98,7 @@ fn behind_line<'a>(number: u64, given: Given<'a>, line: &'a [u8]) -> Option<Give
     with_line(given, line)
 }
 
-/// What a configuration sets: its lines are empty, comments behind `#`, or an option, ` = ` and its
+/// What a configuration sets: its lines are empty, comments after `#`, or an option, ` = ` and its
 /// value, and the first may be `config_version = 1`. The options are `relay.network.password`, a
 /// text, and `weechat.history.max_buffer_lines_number`, a number from 1 to 4,096, without which it is
 /// 4,096. Of a repeated option the last line counts.
@@ -115,13 +115,13 @@ pub fn read_settings(alloc: Global, text: &[u8]) -> Result<Settings, ConfigRefus
     };
     let mut number = 1;
     let mut rest = text;
-    while let Some((line, behind)) = first_line(rest) {
-        let Some(next) = behind_line(number, given, line) else {
+    while let Some((line, following)) = first_line(rest) {
+        let Some(next) = after_line(number, given, line) else {
             return Err(ConfigRefused::BadLine { line: number });
         };
         given = next;
         number += 1;
-        rest = behind;
+        rest = following;
     }
     kept(alloc, given)
 }

@@ -1,5 +1,5 @@
 ghost use Rattle.std.specs.Prelude.{◌≡◌, codes};
-ghost use Rattle.wc_loop.specs.Endings.{status_of, number_of, tells_version, line_of, printed};
+ghost use Rattle.wc_loop.specs.Endings.{status_of, number_of, tells_version, line_of, printed_text};
 
 use crate::print::{line, numbered};
 use arrayvec::ArrayVec;
@@ -42,7 +42,7 @@ impl Ending {
 
     /// What is printed.
     pub fn text(self) -> ArrayVec<u8, 64>
-        ensures { result.items ≡ printed (tells_version self) (status_of self) (number_of self) }
+        ensures { result.items ≡ printed_text (tells_version self) (status_of self) (number_of self) }
     {
         match self {
             Ending::Version => line(b"wc-headless 1"),

@@ -40,7 +40,7 @@ fn serve_tail(core: &mut Core, link: LinkId, tail: &mut Tail, ran: &mut u64)
     tail.begin();
 }
 
-/// Serves the line that ends behind these bytes. A line that came whole is not copied.
+/// Serves the line that ends after these bytes. A line that came whole is not copied.
 fn end_line(core: &mut Core, link: LinkId, tail: &mut Tail, front: &[u8], ran: &mut u64)
     ensures begins { tail.new ≡ record { line = []; over = false } }
     ensures does { (line : List ℕ) → IsTail line tail.old → MayRun core.old core.new (line_events link.0 (line ++ front.now)) }
@@ -55,7 +55,7 @@ fn end_line(core: &mut Core, link: LinkId, tail: &mut Tail, front: &[u8], ran: &
     serve_tail(core, link, tail, ran);
 }
 
-/// What stands before the first LF, and what stands behind it.
+/// What is before the first LF, and what comes after it.
 pub fn next_line(bytes: &[u8]) -> Option<(&[u8], &[u8])>
     ensures some { IfSome result (λ found. bytes.now ≡ found.0.now ++ 10 ∷ found.1.now) }
     ensures line { IfSome result (λ found. HasNoLf found.0.now) }
@@ -64,8 +64,8 @@ pub fn next_line(bytes: &[u8]) -> Option<(&[u8], &[u8])>
     let Some(at) = memchr(b'\n', bytes) else {
         return None;
     };
-    let (line, behind) = bytes.split_at(at);
-    Some((line, behind.split_at(1).1))
+    let (line, following) = bytes.split_at(at);
+    Some((line, following.split_at(1).1))
 }
 
 /// Serves the lines that bytes end, up to one that runs `/quit`.
@@ -77,12 +77,12 @@ pub fn feed(core: &mut Core, link: LinkId, tail: &mut Tail, bytes: &[u8], ran: &
 {
     let _ran = *ran;
     let mut rest = bytes;
-    while let Some((line, behind)) = next_line(rest) {
+    while let Some((line, following)) = next_line(rest) {
         end_line(core, link, tail, line, ran);
         if core.quits() {
             return;
         }
-        rest = behind;
+        rest = following;
     }
     tail.extend(rest);
 }

@@ -1,12 +1,12 @@
 ghost use Rattle.std.specs.Prelude.{◌≡◌, ◌≢◌, ◌⊎◌, ◌+◌, ◌-◌, ◌^◌, ◌<◌, ◌≤◌, ◌++◌, ◌∷◌, [], None, false, IfOk, IfSome, min, take};
 ghost use Rattle.std.specs.Option.{option_copied};
 ghost use Rattle.wc_outside.specs.declared.happening.Happening.TheVariants.{Read, Ended, Failed};
-ghost use Rattle.wc_outside.specs.Keyed.{at_key, IsPlace};
+ghost use Rattle.wc_outside.specs.Keyed.{at_key, IsKeyPlace};
 ghost use Rattle.wc_core.specs.State.{first_state};
-ghost use Rattle.wc_core.specs.Served.{seat_link, state_of, links_of, left_at, unsent_at, is_open_at, Absent};
+ghost use Rattle.wc_core.specs.Served.{connection_link, state_of, links_of, left_at, unsent_at, is_open_at, Absent};
 ghost use Rattle.wc_loop.specs.Events.{is_tick};
 ghost use Rattle.wc_loop.specs.Links.{link_number};
-ghost use Rattle.wc_loop.specs.Served.{IsCalm, LeavesAtLine};
+ghost use Rattle.wc_loop.specs.Served.{NobodyLeaving, LeavesAtLine};
 
 use crate::feed::feed;
 use crate::link_state::{Closed, LinkState};
@@ -17,7 +17,7 @@ use wc_outside::{Ready, Token};
 use wc_text::{Arrival, Cause, LinkId, NoMemory, Text};
 use wc_world::World;
 
-/// The state of a run, as it stands behind its last turn.
+/// The state of a run, as it comes after its last turn.
 #[derive(Drop)]
 pub struct Headless {
     pub(crate) alloc: Global,
@@ -42,15 +42,15 @@ fn is_tick(last: u64, moment: u64) -> bool
 
 impl Headless {
     ghost use Rattle.wc_loop.specs.Contained.{HasStarved};
-    ghost use Rattle.wc_loop.specs.Turns.{Takes};
-    ghost use Rattle.wc_loop.specs.Steps.{Comes, ServesArrival, Marks, Reports, Begins, missed};
+    ghost use Rattle.wc_loop.specs.Turns.{TakesHappening};
+    ghost use Rattle.wc_loop.specs.Steps.{LinkComes, ServesArrival, MarksLink, ReportsSources, BeginsTurn, reached_after_miss};
 
     /// The state before the first turn, for clients that log in by this password, and with buffers of at most so many lines.
     pub fn new(alloc: Global, password: Text, limit: u32) -> Result<Headless, NoMemory>
         requires some { 1 ≤ limit }
         requires most { limit ≤ 4096 }
         ensures state { IfOk result (λ headless. state_of headless.core ≡ first_state password limit) }
-        ensures core { IfOk result (λ headless. (headless.core.seats ≡ []) × (headless.core.starved ≡ 0) × (headless.core.quits ≡ false)) }
+        ensures core { IfOk result (λ headless. (headless.core.connections ≡ []) × (headless.core.starved ≡ 0) × (headless.core.quits ≡ false)) }
         ensures links { IfOk result (λ headless. (headless.links.opened.items ≡ []) × (headless.links.closed.items ≡ [])) }
         ensures rest { IfOk result (λ headless. (headless.clock ≡ None) × (headless.used ≡ 0) × (headless.listening ≡ false) × (headless.turns ≡ 0) × (headless.ran ≡ 0)) }
     {
@@ -70,9 +70,9 @@ impl Headless {
 
     /// Serves bytes of a link. Clients may begin to leave.
     pub(crate) fn bytes_came(&mut self, place: usize, link: LinkId, bytes: &[u8])
-        requires place { IsPlace link_number link.0 self.old.links.opened.items place }
+        requires place { IsKeyPlace link_number link.0 self.old.links.opened.items place }
         requires going { self.old.core.quits ≡ false }
-        ensures takes { Takes self.old self.new (Read link bytes.now) }
+        ensures takes { TakesHappening self.old self.new (Read link bytes.now) }
         ensures causes { LeavesAtLine link.0 self.old.core self.new.core }
     {
         feed(
@@ -88,19 +88,19 @@ impl Headless {
     pub(crate) fn link_gone(&mut self, link: LinkId, cause: Cause)
         requires going { self.old.core.quits ≡ false }
         requires cause { cause ≢ Cause.NoMemory }
-        ensures ended { cause ≡ Cause.Ended → Takes self.old self.new (Ended link) }
-        ensures failed { cause ≡ Cause.Failed → Takes self.old self.new (Failed link) }
-        ensures core { self.new.core ≡ record self.old.core { seats = left_at link.0 cause self.old.core.seats (at_key seat_link link.0 self.old.core.seats) } }
-        ensures gone { is_open_at (at_key seat_link link.0 self.new.core.seats) ≡ false }
+        ensures ended { cause ≡ Cause.Ended → TakesHappening self.old self.new (Ended link) }
+        ensures failed { cause ≡ Cause.Failed → TakesHappening self.old self.new (Failed link) }
+        ensures core { self.new.core ≡ record self.old.core { connections = left_at link.0 cause self.old.core.connections (at_key connection_link link.0 self.old.core.connections) } }
+        ensures gone { is_open_at (at_key connection_link link.0 self.new.core.connections) ≡ false }
     {
         self.ran = self.ran.saturating_add(1);
         self.core.link_gone(link, cause);
     }
 
     /// Counts an event that changes nothing, as the failure of a link whose client is leaving, or that of the listener.
-    /// Behind `/quit` no event is reached.
+    /// After `/quit` no event is reached.
     pub(crate) fn link_missed(&mut self)
-        ensures { self.new ≡ record self.old { ran = missed self.old.core.quits self.old.ran } }
+        ensures { self.new ≡ record self.old { ran = reached_after_miss self.old.core.quits self.old.ran } }
     {
         if self.core.quits() {
             return;
@@ -111,7 +111,7 @@ impl Headless {
     /// Serves an arrival. Whether its link is to be closed at once: its client is one too many, and the link is listed as
     /// closed; or there is no memory for a client or for a line of the link, and then it may not be listed.
     pub(crate) fn link_came(&mut self, arrival: Arrival) -> bool
-        ensures comes { Comes self.old self.new arrival.link }
+        ensures comes { LinkComes self.old self.new arrival.link }
         ensures serves { ServesArrival result self.old self.new arrival.link arrival.nonce }
     {
         self.used = arrival.link.0;
@@ -131,11 +131,11 @@ impl Headless {
 
     /// Serves an arrival for whose link there is no memory.
     fn starve(&mut self, arrival: Arrival)
-        ensures core { self.new ≡ record self.old { core = record self.old.core { seats = self.new.core.seats; starved = self.new.core.starved } } }
+        ensures core { self.new ≡ record self.old { core = record self.old.core { connections = self.new.core.connections; starved = self.new.core.starved } } }
         ensures starved { HasStarved self.old.core.starved self.new.core.starved }
         ensures rises { self.old.core.starved ≤ self.new.core.starved }
-        ensures seats { Absent arrival.link.0 (links_of self.old.core) → self.new.core.seats ≡ self.old.core.seats }
-        ensures calm { IsCalm self.old.core.seats → IsCalm self.new.core.seats }
+        ensures connections { Absent arrival.link.0 (links_of self.old.core) → self.new.core.connections ≡ self.old.core.connections }
+        ensures calm { NobodyLeaving self.old.core.connections → NobodyLeaving self.new.core.connections }
     {
         let _refused = self.core.accepted(arrival);
         self.core.link_gone(arrival.link, Cause::NoMemory);
@@ -144,7 +144,7 @@ impl Headless {
 
     /// Keeps a source as one that was reported and is not drained.
     fn mark(&mut self, token: Token)
-        ensures { Marks self.old self.new token }
+        ensures { MarksLink self.old self.new token }
     {
         match token {
             Token::Listener => self.listening = true,
@@ -154,7 +154,7 @@ impl Headless {
 
     /// Keeps the sources that a wait reported.
     pub(crate) fn report(&mut self, ready: &Ready)
-        ensures { Reports self.old self.new (take ready.now.count ready.now.tokens) }
+        ensures { ReportsSources self.old self.new (take ready.now.count ready.now.tokens) }
     {
         for place in 0..ready.count {
             self.mark(ready.tokens[place]);
@@ -163,7 +163,7 @@ impl Headless {
 
     /// Begins a turn at the moment at which a wait returned.
     pub(crate) fn begin_turn(&mut self, moment: u64)
-        ensures begins { Begins self.old self.new moment }
+        ensures begins { BeginsTurn self.old self.new moment }
         ensures closed { self.new.links.closed.items ≡ [] }
     {
         let reached = self.ran.saturating_add(1);
@@ -195,7 +195,7 @@ impl Headless {
     /// The bytes that a client is owed and that are not sent yet. There are none exactly where the
     /// link has no client.
     pub fn unsent(&self, link: LinkId) -> Option<&[u8]>
-        ensures { option_copied result ≡ unsent_at (at_key seat_link link.0 self.now.core.seats) }
+        ensures { option_copied result ≡ unsent_at (at_key connection_link link.0 self.now.core.connections) }
     {
         self.core.unsent(link)
     }

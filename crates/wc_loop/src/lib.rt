@@ -16,13 +16,13 @@ mod serve;
 mod tail;
 #[cfg(test)]
 mod tests;
-mod then;
 mod turn;
+mod turn_end;
 mod turns;
 mod words;
 
 pub use headless::Headless;
 pub use link_state::{Closed, LinkState};
 pub use program::{Ended, run_program};
-pub use then::Then;
+pub use turn_end::TurnEnd;
 pub use words::config_dir;

@@ -25,7 +25,7 @@ fn position_of(opened: &[LinkState], link: LinkId) -> Option<usize>
 }
 
 impl Links {
-    ghost use Rattle.wc_loop.specs.Links.{link_number, new_state, listed, marked_at};
+    ghost use Rattle.wc_loop.specs.Links.{link_number, new_state, with_closed, marked_at};
 
     /// No link, with room for the first ones.
     pub fn new(alloc: Global) -> Result<Links, NoMemory>
@@ -65,7 +65,7 @@ impl Links {
     /// Takes a link out, and lists it as closed, where it is there. It takes no memory.
     pub fn close(&mut self, link: LinkId, cause: Cause)
         ensures opened { self.new.opened.items ≡ without link_number link.0 self.old.opened.items }
-        ensures closed { self.new.closed.items ≡ listed (at_key link_number link.0 self.old.opened.items) self.old.closed.items (record { link = link; cause = cause }) }
+        ensures closed { self.new.closed.items ≡ with_closed (at_key link_number link.0 self.old.opened.items) self.old.closed.items (record { link = link; cause = cause }) }
     {
         if self.place(link).is_none() {
             return;

@@ -2,18 +2,18 @@ ghost use Rattle.std.specs.Prelude.{◌≡◌, ◌≢◌, ◌≤◌, ◌⊎◌, 
 ghost use Rattle.std.specs.Io.KnownBytes.{append_known};
 ghost use Rattle.wc_outside.specs.Faults.{Rose};
 ghost use Rattle.wc_outside.specs.Seen.{IsNew};
-ghost use Rattle.wc_loop.specs.Endings.{LastOf, StatusOf, WaitsAtMost, Prints, IsEarly, HasCause, Runs, RunsBy, asks_turns, asked_by, EndsAt, kept_of, number_of, printed, status_of, tells_version};
-ghost use Rattle.wc_loop.specs.Headline.{Headline, Mirrored, IsFirst, IsConfigured};
-ghost use Rattle.wc_loop.specs.Served.{IsCalm};
+ghost use Rattle.wc_loop.specs.Endings.{LastOf, StatusOf, WaitsAtMost, Prints, IsEarly, HasCause, Runs, RunsBy, asks_turns, asked_by, EndsAt, kept_of, number_of, printed_text, status_of, tells_version};
+ghost use Rattle.wc_loop.specs.Headline.{Headline, ClientsHoldDumps, IsFirst, IsConfigured};
+ghost use Rattle.wc_loop.specs.Served.{NobodyLeaving};
 ghost use Rattle.wc_loop.specs.Sources.{AllServed, AllSent};
 ghost use Rattle.wc_loop.specs.Words.{wish_of};
-ghost use Rattle.wc_loop.specs.Turns.{Continues, Stands, IsCaused, faults_then};
+ghost use Rattle.wc_loop.specs.Turns.{LoopStep, AgreesWithSockets, IsCaused, faults_then};
 
 use crate::configuration::read_settings;
 use crate::ending::Ending;
 use crate::headless::Headless;
 use crate::print::print;
-use crate::then::Then;
+use crate::turn_end::TurnEnd;
 use crate::words::read_words;
 use std::alloc::Global;
 use wc_options::ConfigRefused;
@@ -30,7 +30,7 @@ pub struct Ended {
     /// for want of memory before the first wait; 6 where the listener failed; 7 where printing
     /// failed; and 8 where as many waits returned as were asked for.
     pub status: u8,
-    /// The state behind the last turn, where a wait returned.
+    /// The state after the last turn, where a wait returned.
     pub last: Option<Headless>,
 }
 
@@ -38,7 +38,7 @@ pub struct Ended {
 fn configured<K: Keeper>(alloc: Global, keeper: &mut K) -> Result<Headless, Ending>
     ensures first { IfOk result IsFirst }
     ensures known { IfOk result (λ headless. IfSome (K.contents keeper.old) (IsConfigured headless)) }
-    ensures calm { IfOk result (λ headless. IsCalm headless.core.seats) }
+    ensures calm { IfOk result (λ headless. NobodyLeaving headless.core.connections) }
     ensures early { IfErr result (IsEarly (K.contents keeper.old) (K.faults keeper.old) (K.faults keeper.new)) }
     ensures kept { K.contents keeper.new ≡ K.contents keeper.old }
 {
@@ -65,46 +65,46 @@ fn take_turns<S: Sockets, K: Keeper>(
     sockets: &mut S,
     keeper: &mut K,
     turns: u64,
-) -> Then
+) -> TurnEnd
     requires first { IsFirst headless.old }
-    requires stands { Stands headless.old (S.seen sockets.old) }
-    ensures continues { Continues false headless.new.turns (faults_then result) headless.old headless.new (S.seen sockets.old) (S.seen sockets.new) }
-    ensures stands { Stands headless.new (S.seen sockets.new) }
-    ensures calm { IsCalm headless.new.core.seats }
+    requires agrees { AgreesWithSockets headless.old (S.seen sockets.old) }
+    ensures continues { LoopStep false headless.new.turns (faults_then result) headless.old headless.new (S.seen sockets.old) (S.seen sockets.new) }
+    ensures agrees { AgreesWithSockets headless.new (S.seen sockets.new) }
+    ensures calm { NobodyLeaving headless.new.core.connections }
     ensures causes { All (IsCaused (S.seen sockets.old) (S.seen sockets.new)) headless.new.links.closed.items }
-    ensures served { result ≡ Then.GoOn → 1 ≤ turns → AllServed headless.new.core.seats (S.seen sockets.old) (S.seen sockets.new) }
-    ensures sent { result ≡ Then.Quit → AllSent headless.new.core.seats (S.seen sockets.old) (S.seen sockets.new) }
-    ensures never { result ≢ Then.KeeperFault }
-    ensures quit { result ≡ Then.Quit → headless.new.core.quits ≡ true }
-    ensures going { result ≢ Then.Quit → result ≢ Then.ListenFault → headless.new.core.quits ≡ false }
-    ensures all { result ≡ Then.GoOn → headless.new.turns ≡ turns }
-    ensures fewer { result ≡ Then.WaitFault → headless.new.turns ≢ turns }
-    ensures some { (result ≡ Then.ListenFault) ⊎ (result ≡ Then.Quit) → 1 ≤ headless.new.turns }
+    ensures served { result ≡ TurnEnd.GoOn → 1 ≤ turns → AllServed headless.new.core.connections (S.seen sockets.old) (S.seen sockets.new) }
+    ensures sent { result ≡ TurnEnd.Quit → AllSent headless.new.core.connections (S.seen sockets.old) (S.seen sockets.new) }
+    ensures never { result ≢ TurnEnd.KeeperFault }
+    ensures quit { result ≡ TurnEnd.Quit → headless.new.core.quits ≡ true }
+    ensures going { result ≢ TurnEnd.Quit → result ≢ TurnEnd.ListenFault → headless.new.core.quits ≡ false }
+    ensures all { result ≡ TurnEnd.GoOn → headless.new.turns ≡ turns }
+    ensures fewer { result ≡ TurnEnd.WaitFault → headless.new.turns ≢ turns }
+    ensures some { (result ≡ TurnEnd.ListenFault) ⊎ (result ≡ TurnEnd.Quit) → 1 ≤ headless.new.turns }
     ensures most { headless.new.turns ≤ turns }
-    ensures wait_fault { result ≡ Then.WaitFault → Rose (S.seen sockets.old).faults.waits (S.seen sockets.new).faults.waits }
-    ensures listen_fault { result ≡ Then.ListenFault → Rose (S.seen sockets.old).faults.listens (S.seen sockets.new).faults.listens }
+    ensures wait_fault { result ≡ TurnEnd.WaitFault → Rose (S.seen sockets.old).faults.waits (S.seen sockets.new).faults.waits }
+    ensures listen_fault { result ≡ TurnEnd.ListenFault → Rose (S.seen sockets.old).faults.listens (S.seen sockets.new).faults.listens }
     ensures kept { K.contents keeper.new ≡ K.contents keeper.old }
 {
     for _ in 0..turns {
         match headless.turn(sockets, keeper) {
-            Then::GoOn => {}
+            TurnEnd::GoOn => {}
             then => return then,
         }
     }
-    Then::GoOn
+    TurnEnd::GoOn
 }
 
-/// Why the run ends behind its last turn.
-fn ending_of(then: Then) -> Ending
-    requires { then ≢ Then.KeeperFault }
+/// Why the run ends after its last turn.
+fn ending_of(then: TurnEnd) -> Ending
+    requires { then ≢ TurnEnd.KeeperFault }
     ensures { EndsAt then result }
 {
     match then {
-        Then::GoOn => Ending::TurnsTaken,
-        Then::Quit => Ending::Quit,
-        Then::WaitFault => Ending::WaitFailed,
-        Then::ListenFault => Ending::ListenFailed,
-        Then::KeeperFault => unreachable!(),
+        TurnEnd::GoOn => Ending::TurnsTaken,
+        TurnEnd::Quit => Ending::Quit,
+        TurnEnd::WaitFault => Ending::WaitFailed,
+        TurnEnd::ListenFault => Ending::ListenFailed,
+        TurnEnd::KeeperFault => unreachable!(),
     }
 }
 
@@ -182,7 +182,7 @@ fn run_words<S: Sockets, K: Keeper>(
 fn end<O: Sink>(out: &mut O, outcome: Outcome) -> Ended
     ensures last { result.last ≡ outcome.last }
     ensures status { result.status ≢ 7 → result.status ≡ status_of outcome.ending }
-    ensures printed { result.status ≢ 7 → O.contents out.new ≡ append_known (O.contents out.old) (printed (tells_version outcome.ending) (status_of outcome.ending) (number_of outcome.ending)) }
+    ensures printed { result.status ≢ 7 → O.contents out.new ≡ append_known (O.contents out.old) (printed_text (tells_version outcome.ending) (status_of outcome.ending) (number_of outcome.ending)) }
     ensures count { result.status ≢ 7 → O.faults out.new ≡ O.faults out.old }
     ensures sink { result.status ≡ 7 → Rose (O.faults out.old) (O.faults out.new) }
 {
@@ -210,16 +210,16 @@ pub fn run_program<S: Sockets, K: Keeper, O: Sink>(
 ) -> Ended
     requires { IsNew (S.seen sockets.old) }
     ensures headline { IfSome result.last (Headline (K.contents keeper.old) (S.seen sockets.new)) }
-    ensures mirrored { IfSome result.last (Mirrored (K.contents keeper.old) (S.seen sockets.new)) }
+    ensures mirrored { IfSome result.last (ClientsHoldDumps (K.contents keeper.old) (S.seen sockets.new)) }
     ensures status { result.status ≢ 7 → StatusOf (wish_of (map string_bytes words.now.items)) (K.contents keeper.old) (S.seen sockets.new) result.status result.last }
     ensures printed { result.status ≢ 7 → Prints (wish_of (map string_bytes words.now.items)) (K.contents keeper.old) result.status (O.contents out.old) (O.contents out.new) }
     ensures last { LastOf (S.seen sockets.new) result.last }
     ensures waits { IfOk (wish_of (map string_bytes words.now.items)) (λ wish. WaitsAtMost wish.turns (S.seen sockets.new) result.last) }
-    ensures stands { IfSome result.last (λ last. Stands last (S.seen sockets.new)) }
-    ensures calm { IfSome result.last (λ last. IsCalm last.core.seats) }
+    ensures agrees { IfSome result.last (λ last. AgreesWithSockets last (S.seen sockets.new)) }
+    ensures calm { IfSome result.last (λ last. NobodyLeaving last.core.connections) }
     ensures causes { IfSome result.last (λ last. All (IsCaused (S.seen sockets.old) (S.seen sockets.new)) last.links.closed.items) }
-    ensures served { result.status ≡ 8 → IfSome result.last (λ last. AllServed last.core.seats (S.seen sockets.old) (S.seen sockets.new)) }
-    ensures sent { result.status ≡ 0 → IfSome result.last (λ last. AllSent last.core.seats (S.seen sockets.old) (S.seen sockets.new)) }
+    ensures served { result.status ≡ 8 → IfSome result.last (λ last. AllServed last.core.connections (S.seen sockets.old) (S.seen sockets.new)) }
+    ensures sent { result.status ≡ 0 → IfSome result.last (λ last. AllSent last.core.connections (S.seen sockets.old) (S.seen sockets.new)) }
     ensures faults { HasCause (S.seen sockets.old).faults (S.seen sockets.new).faults (K.faults keeper.old) (K.faults keeper.new) result.status }
     ensures sink { result.status ≡ 7 → Rose (O.faults out.old) (O.faults out.new) }
     ensures sink_count { result.status ≢ 7 → O.faults out.new ≡ O.faults out.old }

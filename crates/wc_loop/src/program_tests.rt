@@ -69,8 +69,8 @@ fn one_client(alloc: Global, bytes: &[u8], piece: usize) -> Result<Items<Scripte
     let mut script = Items::new(alloc);
     script.push(Scripted::Wake(1_700_000_000_000))?;
     script.push(Scripted::Arrive(NONCE))?;
-    for part in bytes.chunks(piece.max(1)) {
-        script.push(Scripted::Gives(LinkId(1), Text::from_slice(alloc, part)?))?;
+    for close_leaving in bytes.chunks(piece.max(1)) {
+        script.push(Scripted::Gives(LinkId(1), Text::from_slice(alloc, close_leaving)?))?;
         script.push(Scripted::Wake(1_700_000_000_050))?;
     }
     Ok(script)
@@ -579,7 +579,7 @@ fn what_one_client_types_is_told_to_another(rt: HostRuntime) -> Result<(), Fail>
 }
 
 #[test]
-fn quit_ends_the_run_behind_what_was_owed(rt: HostRuntime) -> Result<(), Fail> {
+fn quit_ends_the_run_after_what_was_owed(rt: HostRuntime) -> Result<(), Fail> {
     let alloc = rt.alloc();
     let lines = b"init password=x\nping\ninput core.weechat /quit\nping\n";
     let seen = play(alloc, serving(alloc, lines, 100)?)?;
@@ -608,7 +608,7 @@ fn as_many_lines_are_kept_as_the_configuration_says(rt: HostRuntime) -> Result<(
     Ok(())
 }
 
-/// A login by a salted hash, behind the handshake.
+/// A login by a salted hash, after the handshake.
 const SALTED: &[u8] =
     b"(h) handshake password_hash_algo=plain:sha256\ninit password_hash=sha256:6162636462636465636465666465666765666768666768696768696a68696a6b696a6b6c6a6b6c6d6b6c6d6e:248d6a61d20638b8e5c026930c3e6039a33ce45964ff2167f6ecedd419db06c1\nping\n";
 

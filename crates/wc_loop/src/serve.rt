@@ -3,17 +3,17 @@ ghost use Rattle.std.specs.List.{list_any};
 ghost use Rattle.wc_outside.specs.Faults.{Rose};
 ghost use Rattle.wc_outside.specs.Happenings.{is_link, is_listener};
 ghost use Rattle.wc_outside.specs.Keyed.{at_key};
-ghost use Rattle.wc_core.specs.Served.{seat_link};
-ghost use Rattle.wc_loop.specs.Contained.{Contained};
+ghost use Rattle.wc_core.specs.Served.{connection_link};
+ghost use Rattle.wc_loop.specs.Contained.{KeepsLinks};
 ghost use Rattle.wc_loop.specs.Links.{link_number};
-ghost use Rattle.wc_loop.specs.Served.{IsCalm};
-ghost use Rattle.wc_loop.specs.Sources.{Falls, IsServed, IsHeard, IsWritten, AllServed, AllSent, ServesNamed, TakesWithin, TakesNothing, bytes_taken, arrivals, flagged, has_unsent, is_left_over};
-ghost use Rattle.wc_loop.specs.Turns.{Continues, Stands, faults_of};
+ghost use Rattle.wc_loop.specs.Served.{NobodyLeaving};
+ghost use Rattle.wc_loop.specs.Sources.{NothingBecameReady, IsServed, IsHeard, IsWritten, AllServed, AllSent, ServesNamed, TakesWithin, TakesNothing, bytes_taken, arrivals, has_flag, has_unsent, is_left_over};
+ghost use Rattle.wc_loop.specs.Turns.{LoopStep, AgreesWithSockets, faults_of};
 
 use crate::headless::Headless;
 use crate::link_state::LinkState;
 use crate::turns::{accept_all, read_link, send_link, write_link};
-use wc_core::Seat;
+use wc_core::Connection;
 use wc_outside::{Failed, Ready, Sockets, Token};
 use wc_text::LinkId;
 
@@ -35,22 +35,22 @@ fn lesser(next: Option<LinkId>, link: LinkId, last: u64) -> Option<LinkId>
 }
 
 /// Whether a client has unsent bytes.
-fn has_unsent(seat: &Seat) -> bool
-    ensures { result ≡ has_unsent seat.now }
+fn has_unsent(connection: &Connection) -> bool
+    ensures { result ≡ has_unsent connection.now }
 {
-    !seat.session.unsent().is_empty()
+    !connection.session.unsent().is_empty()
 }
 
 /// The client with the least number above the last one that has unsent bytes.
-fn next_unsent(seats: &[Seat], last: u64) -> Option<LinkId>
+fn next_unsent(connections: &[Connection], last: u64) -> Option<LinkId>
     ensures above { IfSome result (λ link. last < link.0) }
-    ensures between { IfSome result (λ link. (other : ℕ) → last < other → other < link.0 → flagged has_unsent (at_key seat_link other seats.now) ≡ false) }
-    ensures none { result ≡ None → (other : ℕ) → last < other → flagged has_unsent (at_key seat_link other seats.now) ≡ false }
+    ensures between { IfSome result (λ link. (other : ℕ) → last < other → other < link.0 → has_flag has_unsent (at_key connection_link other connections.now) ≡ false) }
+    ensures none { result ≡ None → (other : ℕ) → last < other → has_flag has_unsent (at_key connection_link other connections.now) ≡ false }
 {
     let mut next = None;
-    for seat in seats {
-        if has_unsent(seat) {
-            next = lesser(next, seat.session.link(), last);
+    for connection in connections {
+        if has_unsent(connection) {
+            next = lesser(next, connection.session.link(), last);
         }
     }
     next
@@ -81,8 +81,8 @@ fn is_left_over(state: &LinkState, tokens: &[Token]) -> bool
 /// these tokens do not name.
 fn next_undrained(states: &[LinkState], tokens: &[Token], last: u64) -> Option<LinkId>
     ensures above { IfSome result (λ link. last < link.0) }
-    ensures between { IfSome result (λ link. (other : ℕ) → last < other → other < link.0 → flagged (is_left_over tokens.now) (at_key link_number other states.now) ≡ false) }
-    ensures none { result ≡ None → (other : ℕ) → last < other → flagged (is_left_over tokens.now) (at_key link_number other states.now) ≡ false }
+    ensures between { IfSome result (λ link. (other : ℕ) → last < other → other < link.0 → has_flag (is_left_over tokens.now) (at_key link_number other states.now) ≡ false) }
+    ensures none { result ≡ None → (other : ℕ) → last < other → has_flag (is_left_over tokens.now) (at_key link_number other states.now) ≡ false }
     ensures unnamed { IfSome result (λ link. list_any (is_link link.0) tokens.now ≡ false) }
 {
     let mut next = None;
@@ -96,36 +96,36 @@ fn next_undrained(states: &[LinkState], tokens: &[Token], last: u64) -> Option<L
 
 /// Writes the unsent bytes of each client, in the order of their numbers.
 fn write_all<S: Sockets>(headless: &mut Headless, sockets: &mut S)
-    requires calm { IsCalm headless.old.core.seats }
+    requires calm { NobodyLeaving headless.old.core.connections }
     requires going { headless.old.core.quits ≡ false }
-    ensures continues { Continues true 0 0 headless.old headless.new (S.seen sockets.old) (S.seen sockets.new) }
-    ensures calm { IsCalm headless.new.core.seats }
-    ensures contained { Contained headless.old headless.new }
+    ensures continues { LoopStep true 0 0 headless.old headless.new (S.seen sockets.old) (S.seen sockets.new) }
+    ensures calm { NobodyLeaving headless.new.core.connections }
+    ensures contained { KeepsLinks headless.old headless.new }
     ensures going { headless.new.core.quits ≡ false }
-    ensures falls { Falls (S.seen sockets.old) (S.seen sockets.new) }
-    ensures written { (link : ℕ) → 1 ≤ link → IsWritten link headless.new.core.seats (S.seen sockets.new) }
+    ensures falls { NothingBecameReady (S.seen sockets.old) (S.seen sockets.new) }
+    ensures written { (link : ℕ) → 1 ≤ link → IsWritten link headless.new.core.connections (S.seen sockets.new) }
     ensures nothing { TakesNothing (S.seen sockets.old) (S.seen sockets.new) }
 {
     let mut last = 0;
-    while let Some(link) = next_unsent(headless.core.seats(), last) {
+    while let Some(link) = next_unsent(headless.core.connections(), last) {
         write_link(headless, sockets, link);
         last = link.0;
     }
 }
 
-/// Sends the unsent bytes of each client behind `/quit`, in the order of their numbers.
+/// Sends the unsent bytes of each client after `/quit`, in the order of their numbers.
 fn send_all<S: Sockets>(headless: &mut Headless, sockets: &mut S)
-    requires calm { IsCalm headless.old.core.seats }
+    requires calm { NobodyLeaving headless.old.core.connections }
     requires quit { headless.old.core.quits ≡ true }
-    ensures continues { Continues true 0 0 headless.old headless.new (S.seen sockets.old) (S.seen sockets.new) }
-    ensures calm { IsCalm headless.new.core.seats }
-    ensures contained { Contained headless.old headless.new }
+    ensures continues { LoopStep true 0 0 headless.old headless.new (S.seen sockets.old) (S.seen sockets.new) }
+    ensures calm { NobodyLeaving headless.new.core.connections }
+    ensures contained { KeepsLinks headless.old headless.new }
     ensures quits { headless.new.core.quits ≡ headless.old.core.quits }
-    ensures sent { AllSent headless.new.core.seats (S.seen sockets.old) (S.seen sockets.new) }
+    ensures sent { AllSent headless.new.core.connections (S.seen sockets.old) (S.seen sockets.new) }
     ensures nothing { TakesNothing (S.seen sockets.old) (S.seen sockets.new) }
 {
     let mut last = 0;
-    while let Some(link) = next_unsent(headless.core.seats(), last) {
+    while let Some(link) = next_unsent(headless.core.connections(), last) {
         send_link(headless, sockets, link);
         last = link.0;
     }
@@ -134,13 +134,13 @@ fn send_all<S: Sockets>(headless: &mut Headless, sockets: &mut S)
 /// Reads the links that an earlier turn left undrained and that these tokens do not name, in the
 /// order of their numbers, unless `/quit` is run.
 fn read_rest<S: Sockets>(headless: &mut Headless, sockets: &mut S, tokens: &[Token])
-    requires calm { IsCalm headless.old.core.seats }
+    requires calm { NobodyLeaving headless.old.core.connections }
     requires going { headless.old.core.quits ≡ false }
-    ensures continues { Continues true 0 0 headless.old headless.new (S.seen sockets.old) (S.seen sockets.new) }
-    ensures calm { IsCalm headless.new.core.seats }
-    ensures contained { Contained headless.old headless.new }
-    ensures falls { Falls (S.seen sockets.old) (S.seen sockets.new) }
-    ensures served { Stands headless.old (S.seen sockets.old) → headless.new.core.quits ≡ false → (link : ℕ) → 1 ≤ link → list_any (is_link link) tokens.now ≡ false → IsServed link (S.seen sockets.old) (S.seen sockets.new) }
+    ensures continues { LoopStep true 0 0 headless.old headless.new (S.seen sockets.old) (S.seen sockets.new) }
+    ensures calm { NobodyLeaving headless.new.core.connections }
+    ensures contained { KeepsLinks headless.old headless.new }
+    ensures falls { NothingBecameReady (S.seen sockets.old) (S.seen sockets.new) }
+    ensures served { AgreesWithSockets headless.old (S.seen sockets.old) → headless.new.core.quits ≡ false → (link : ℕ) → 1 ≤ link → list_any (is_link link) tokens.now ≡ false → IsServed link (S.seen sockets.old) (S.seen sockets.new) }
     ensures most { IsTrue (S.seen sockets.new).tells → (link : ℕ) → bytes_taken link (S.seen sockets.new).taken ≤ bytes_taken link (S.seen sockets.old).taken + 1048576 }
     ensures named { IsTrue (S.seen sockets.new).tells → (link : ℕ) → IsTrue (list_any (is_link link) tokens.now) → bytes_taken link (S.seen sockets.new).taken ≡ bytes_taken link (S.seen sockets.old).taken }
     ensures clients { IsTrue (S.seen sockets.new).tells → arrivals (S.seen sockets.new).taken ≡ arrivals (S.seen sockets.old).taken }
@@ -162,7 +162,7 @@ pub(crate) fn serve_tokens<S: Sockets>(
     sockets: &mut S,
     tokens: &[Token],
 ) -> Result<(), Failed>
-    requires calm { IsCalm headless.old.core.seats }
+    requires calm { NobodyLeaving headless.old.core.connections }
     requires going { headless.old.core.quits ≡ false }
     ensures { ServesNamed tokens.now (faults_of result) headless.old headless.new (S.seen sockets.old) (S.seen sockets.new) }
 {
@@ -194,14 +194,14 @@ fn accept_rest<S: Sockets>(
     sockets: &mut S,
     tokens: &[Token],
 ) -> Result<(), Failed>
-    requires calm { IsCalm headless.old.core.seats }
+    requires calm { NobodyLeaving headless.old.core.connections }
     requires going { headless.old.core.quits ≡ false }
-    ensures continues { Continues true 0 (faults_of result) headless.old headless.new (S.seen sockets.old) (S.seen sockets.new) }
-    ensures calm { IsCalm headless.new.core.seats }
-    ensures contained { Stands headless.old (S.seen sockets.old) → Contained headless.old headless.new }
+    ensures continues { LoopStep true 0 (faults_of result) headless.old headless.new (S.seen sockets.old) (S.seen sockets.new) }
+    ensures calm { NobodyLeaving headless.new.core.connections }
+    ensures contained { AgreesWithSockets headless.old (S.seen sockets.old) → KeepsLinks headless.old headless.new }
     ensures going { headless.new.core.quits ≡ false }
-    ensures falls { Falls (S.seen sockets.old) (S.seen sockets.new) }
-    ensures heard { OnOk result (Stands headless.old (S.seen sockets.old) → list_any is_listener tokens.now ≡ false → IsHeard (S.seen sockets.old) (S.seen sockets.new)) }
+    ensures falls { NothingBecameReady (S.seen sockets.old) (S.seen sockets.new) }
+    ensures heard { OnOk result (AgreesWithSockets headless.old (S.seen sockets.old) → list_any is_listener tokens.now ≡ false → IsHeard (S.seen sockets.old) (S.seen sockets.new)) }
     ensures failed { OnErr result (Rose (S.seen sockets.old).faults.listens (S.seen sockets.new).faults.listens) }
     ensures clients { IsTrue (S.seen sockets.new).tells → arrivals (S.seen sockets.new).taken ≤ arrivals (S.seen sockets.old).taken + 1024 }
     ensures named { IsTrue (S.seen sockets.new).tells → IsTrue (list_any is_listener tokens.now) → arrivals (S.seen sockets.new).taken ≡ arrivals (S.seen sockets.old).taken }
@@ -220,13 +220,13 @@ fn serve_sources<S: Sockets>(
     sockets: &mut S,
     tokens: &[Token],
 ) -> Result<(), Failed>
-    requires calm { IsCalm headless.old.core.seats }
+    requires calm { NobodyLeaving headless.old.core.connections }
     requires going { headless.old.core.quits ≡ false }
-    ensures continues { Continues true 0 (faults_of result) headless.old headless.new (S.seen sockets.old) (S.seen sockets.new) }
-    ensures calm { IsCalm headless.new.core.seats }
-    ensures contained { Stands headless.old (S.seen sockets.old) → Contained headless.old headless.new }
-    ensures served { Stands headless.old (S.seen sockets.old) → headless.new.core.quits ≡ false → (link : ℕ) → 1 ≤ link → IsServed link (S.seen sockets.old) (S.seen sockets.new) }
-    ensures heard { OnOk result (Stands headless.old (S.seen sockets.old) → headless.new.core.quits ≡ false → IsHeard (S.seen sockets.old) (S.seen sockets.new)) }
+    ensures continues { LoopStep true 0 (faults_of result) headless.old headless.new (S.seen sockets.old) (S.seen sockets.new) }
+    ensures calm { NobodyLeaving headless.new.core.connections }
+    ensures contained { AgreesWithSockets headless.old (S.seen sockets.old) → KeepsLinks headless.old headless.new }
+    ensures served { AgreesWithSockets headless.old (S.seen sockets.old) → headless.new.core.quits ≡ false → (link : ℕ) → 1 ≤ link → IsServed link (S.seen sockets.old) (S.seen sockets.new) }
+    ensures heard { OnOk result (AgreesWithSockets headless.old (S.seen sockets.old) → headless.new.core.quits ≡ false → IsHeard (S.seen sockets.old) (S.seen sockets.new)) }
     ensures failed { OnErr result (Rose (S.seen sockets.old).faults.listens (S.seen sockets.new).faults.listens) }
     ensures within { TakesWithin (S.seen sockets.old) (S.seen sockets.new) }
 {
@@ -241,16 +241,16 @@ fn serve_sources<S: Sockets>(
     accept_rest(headless, sockets, tokens)
 }
 
-/// Writes what is unsent, or sends it behind `/quit`.
+/// Writes what is unsent, or sends it after `/quit`.
 fn write_unsent<S: Sockets>(headless: &mut Headless, sockets: &mut S)
-    requires calm { IsCalm headless.old.core.seats }
-    ensures continues { Continues true 0 0 headless.old headless.new (S.seen sockets.old) (S.seen sockets.new) }
-    ensures calm { IsCalm headless.new.core.seats }
-    ensures contained { Contained headless.old headless.new }
+    requires calm { NobodyLeaving headless.old.core.connections }
+    ensures continues { LoopStep true 0 0 headless.old headless.new (S.seen sockets.old) (S.seen sockets.new) }
+    ensures calm { NobodyLeaving headless.new.core.connections }
+    ensures contained { KeepsLinks headless.old headless.new }
     ensures quits { headless.new.core.quits ≡ headless.old.core.quits }
-    ensures falls { headless.new.core.quits ≡ false → Falls (S.seen sockets.old) (S.seen sockets.new) }
-    ensures written { headless.new.core.quits ≡ false → (link : ℕ) → 1 ≤ link → IsWritten link headless.new.core.seats (S.seen sockets.new) }
-    ensures sent { headless.new.core.quits ≡ true → AllSent headless.new.core.seats (S.seen sockets.old) (S.seen sockets.new) }
+    ensures falls { headless.new.core.quits ≡ false → NothingBecameReady (S.seen sockets.old) (S.seen sockets.new) }
+    ensures written { headless.new.core.quits ≡ false → (link : ℕ) → 1 ≤ link → IsWritten link headless.new.core.connections (S.seen sockets.new) }
+    ensures sent { headless.new.core.quits ≡ true → AllSent headless.new.core.connections (S.seen sockets.old) (S.seen sockets.new) }
     ensures nothing { TakesNothing (S.seen sockets.old) (S.seen sockets.new) }
 {
     if headless.core.quits() {
@@ -266,13 +266,13 @@ pub fn serve_ready<S: Sockets>(
     sockets: &mut S,
     ready: &Ready,
 ) -> Result<(), Failed>
-    requires calm { IsCalm headless.old.core.seats }
+    requires calm { NobodyLeaving headless.old.core.connections }
     requires going { headless.old.core.quits ≡ false }
-    ensures continues { Continues true 0 (faults_of result) headless.old headless.new (S.seen sockets.old) (S.seen sockets.new) }
-    ensures calm { IsCalm headless.new.core.seats }
-    ensures contained { Stands headless.old (S.seen sockets.old) → Contained headless.old headless.new }
-    ensures served { OnOk result (Stands headless.old (S.seen sockets.old) → headless.new.core.quits ≡ false → AllServed headless.new.core.seats (S.seen sockets.old) (S.seen sockets.new)) }
-    ensures sent { headless.new.core.quits ≡ true → AllSent headless.new.core.seats (S.seen sockets.old) (S.seen sockets.new) }
+    ensures continues { LoopStep true 0 (faults_of result) headless.old headless.new (S.seen sockets.old) (S.seen sockets.new) }
+    ensures calm { NobodyLeaving headless.new.core.connections }
+    ensures contained { AgreesWithSockets headless.old (S.seen sockets.old) → KeepsLinks headless.old headless.new }
+    ensures served { OnOk result (AgreesWithSockets headless.old (S.seen sockets.old) → headless.new.core.quits ≡ false → AllServed headless.new.core.connections (S.seen sockets.old) (S.seen sockets.new)) }
+    ensures sent { headless.new.core.quits ≡ true → AllSent headless.new.core.connections (S.seen sockets.old) (S.seen sockets.new) }
     ensures failed { OnErr result (Rose (S.seen sockets.old).faults.listens (S.seen sockets.new).faults.listens) }
     ensures within { TakesWithin (S.seen sockets.old) (S.seen sockets.new) }
 {

@@ -5,7 +5,7 @@ use crate::line_buffer::{LINE_LIMIT, LineBuffer};
 use std::alloc::Global;
 use wc_text::NoMemory;
 
-/// What came on a link behind its last line.
+/// What came on a link after its last line.
 #[derive(Drop)]
 pub struct Tail {
     pub line: LineBuffer,
@@ -44,7 +44,7 @@ impl Tail {
         self.over = false;
     }
 
-    /// Whether no byte came behind the last line.
+    /// Whether no byte came after the last line.
     pub fn is_empty(&self) -> bool
         ensures { IsTrue result ↔ (self.now ≡ record { line = []; over = false }) }
     {

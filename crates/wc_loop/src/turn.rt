@@ -5,7 +5,7 @@ ghost use Rattle.wc_outside.specs.Faults.{Rose};
 use crate::headless::Headless;
 use crate::link_state::LinkState;
 use crate::serve::serve_ready;
-use crate::then::Then;
+use crate::turn_end::TurnEnd;
 use wc_outside::{Failed, Keeper, Ready, Sockets};
 
 /// Whether one of the links is not drained.
@@ -17,10 +17,10 @@ fn any_undrained(states: &[LinkState]) -> bool
 
 impl Headless {
     ghost use Rattle.std.specs.Prelude.{true, false, OnOk, OnErr};
-    ghost use Rattle.wc_loop.specs.Served.{IsCalm};
+    ghost use Rattle.wc_loop.specs.Served.{NobodyLeaving};
     ghost use Rattle.wc_loop.specs.Sources.{AllServed, AllSent, TakesWithin};
-    ghost use Rattle.wc_loop.specs.Turns.{Stands, Continues, IsCaused, ClosesExactly, waits_then, faults_then};
-    ghost use Rattle.wc_loop.specs.Waits.{has_undrained, timeout_of, then_of, Wakes, LosesNone};
+    ghost use Rattle.wc_loop.specs.Turns.{AgreesWithSockets, LoopStep, IsCaused, ClosesExactly, waits_then, faults_then};
+    ghost use Rattle.wc_loop.specs.Waits.{has_undrained, timeout_of, then_of, WakesCore, LosesNone};
 
     /// Whether a source was reported ready and is not drained.
     fn has_undrained(&self) -> bool
@@ -46,42 +46,42 @@ impl Headless {
     ///
     /// The sockets are those that this state was made with, and `/quit` was not run. The keeper is
     /// not used yet.
-    pub fn turn<S: Sockets, K: Keeper>(&mut self, sockets: &mut S, keeper: &mut K) -> Then
-        requires stands { Stands self.old (S.seen sockets.old) }
-        requires calm { IsCalm self.old.core.seats }
+    pub fn turn<S: Sockets, K: Keeper>(&mut self, sockets: &mut S, keeper: &mut K) -> TurnEnd
+        requires agrees { AgreesWithSockets self.old (S.seen sockets.old) }
+        requires calm { NobodyLeaving self.old.core.connections }
         requires going { self.old.core.quits ≡ false }
-        ensures continues { Continues false (waits_then result) (faults_then result) self.old self.new (S.seen sockets.old) (S.seen sockets.new) }
-        ensures stands { Stands self.new (S.seen sockets.new) }
-        ensures calm { IsCalm self.new.core.seats }
+        ensures continues { LoopStep false (waits_then result) (faults_then result) self.old self.new (S.seen sockets.old) (S.seen sockets.new) }
+        ensures agrees { AgreesWithSockets self.new (S.seen sockets.new) }
+        ensures calm { NobodyLeaving self.new.core.connections }
         ensures causes { All (IsCaused (S.seen sockets.old) (S.seen sockets.new)) self.new.links.closed.items }
-        ensures served { result ≡ Then.GoOn → AllServed self.new.core.seats (S.seen sockets.old) (S.seen sockets.new) }
-        ensures sent { result ≡ Then.Quit → AllSent self.new.core.seats (S.seen sockets.old) (S.seen sockets.new) }
+        ensures served { result ≡ TurnEnd.GoOn → AllServed self.new.core.connections (S.seen sockets.old) (S.seen sockets.new) }
+        ensures sent { result ≡ TurnEnd.Quit → AllSent self.new.core.connections (S.seen sockets.old) (S.seen sockets.new) }
         ensures within { TakesWithin (S.seen sockets.old) (S.seen sockets.new) }
         ensures contained { LosesNone self.old self.new }
         ensures closes { ClosesExactly self.old self.new (S.seen sockets.old) (S.seen sockets.new) }
-        ensures never { result ≢ Then.KeeperFault }
-        ensures quit { result ≡ Then.Quit → self.new.core.quits ≡ true }
-        ensures goes_on { result ≡ Then.GoOn → self.new.core.quits ≡ false }
-        ensures wait_fault { result ≡ Then.WaitFault → Rose (S.seen sockets.old).faults.waits (S.seen sockets.new).faults.waits }
-        ensures unwoken { result ≡ Then.WaitFault → self.new.core.quits ≡ false }
-        ensures listen_fault { result ≡ Then.ListenFault → Rose (S.seen sockets.old).faults.listens (S.seen sockets.new).faults.listens }
+        ensures never { result ≢ TurnEnd.KeeperFault }
+        ensures quit { result ≡ TurnEnd.Quit → self.new.core.quits ≡ true }
+        ensures goes_on { result ≡ TurnEnd.GoOn → self.new.core.quits ≡ false }
+        ensures wait_fault { result ≡ TurnEnd.WaitFault → Rose (S.seen sockets.old).faults.waits (S.seen sockets.new).faults.waits }
+        ensures unwoken { result ≡ TurnEnd.WaitFault → self.new.core.quits ≡ false }
+        ensures listen_fault { result ≡ TurnEnd.ListenFault → Rose (S.seen sockets.old).faults.listens (S.seen sockets.new).faults.listens }
         ensures kept { keeper.new ≡ keeper.old }
     {
         let mut ready = Ready::new();
         if self.wake(sockets, &mut ready).is_err() {
-            return Then::WaitFault;
+            return TurnEnd::WaitFault;
         }
         let listened = serve_ready(self, sockets, &ready);
-        self.then(listened)
+        self.turn_end(listened)
     }
 
     /// Waits, and begins a turn where the wait returns.
     fn wake<S: Sockets>(&mut self, sockets: &mut S, ready: &mut Ready) -> Result<(), Failed>
-        requires stands { Stands self.old (S.seen sockets.old) }
-        requires calm { IsCalm self.old.core.seats }
+        requires agrees { AgreesWithSockets self.old (S.seen sockets.old) }
+        requires calm { NobodyLeaving self.old.core.connections }
         requires going { self.old.core.quits ≡ false }
-        ensures woken { OnOk result (Wakes 1 self.old self.new (S.seen sockets.old) (S.seen sockets.new)) }
-        ensures failed { OnErr result (Wakes 0 self.old self.new (S.seen sockets.old) (S.seen sockets.new)) }
+        ensures woken { OnOk result (WakesCore 1 self.old self.new (S.seen sockets.old) (S.seen sockets.new)) }
+        ensures failed { OnErr result (WakesCore 0 self.old self.new (S.seen sockets.old) (S.seen sockets.new)) }
         ensures fault { OnErr result (Rose (S.seen sockets.old).faults.waits (S.seen sockets.new).faults.waits) }
     {
         let _idle = self.core.world();
@@ -99,15 +99,15 @@ impl Headless {
     }
 
     /// How a turn ended whose wait returned.
-    fn then(&self, listened: Result<(), Failed>) -> Then
+    fn turn_end(&self, listened: Result<(), Failed>) -> TurnEnd
         ensures { result ≡ then_of listened self.now.core.quits }
     {
         if listened.is_err() {
-            return Then::ListenFault;
+            return TurnEnd::ListenFault;
         }
         if self.core.quits() {
-            return Then::Quit;
+            return TurnEnd::Quit;
         }
-        Then::GoOn
+        TurnEnd::GoOn
     }
 }

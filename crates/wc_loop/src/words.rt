@@ -47,7 +47,7 @@ fn is_turns(word: &str) -> bool
     word == "--turns"
 }
 
-/// The first word, and the words behind it.
+/// The first word, and the words after it.
 fn first(words: &[String]) -> Option<(&str, &[String])>
     ensures some { IfSome result (λ found. map string_bytes words.now ≡ found.0.now ∷ map string_bytes found.1.now) }
     ensures within { IfSome result (λ found. length found.1.now + 1 ≡ length words.now) }
@@ -80,12 +80,12 @@ pub fn read_words(words: &[String]) -> Result<Wish, u64>
             rest = others;
             continue;
         }
-        let Some((value, behind)) = first(others) else {
+        let Some((value, following)) = first(others) else {
             return Err(place + 1);
         };
         if is_folder(word) {
             place += 2;
-            rest = behind;
+            rest = following;
             continue;
         }
         if !is_turns(word) {
@@ -96,7 +96,7 @@ pub fn read_words(words: &[String]) -> Result<Wish, u64>
         };
         wish.turns = turns;
         place += 2;
-        rest = behind;
+        rest = following;
     }
     Ok(wish)
 }
@@ -109,14 +109,14 @@ pub fn config_dir(words: &Vec<String>) -> Option<&str>
     let mut folder = None;
     let mut rest = words.as_slice();
     while let Some((word, others)) = first(rest) {
-        let Some((value, behind)) = first(others) else {
+        let Some((value, following)) = first(others) else {
             return folder;
         };
         if is_folder(word) {
             folder = Some(value);
-            rest = behind;
+            rest = following;
         } else if is_turns(word) {
-            rest = behind;
+            rest = following;
         } else {
             rest = others;
         }

@@ -7,7 +7,7 @@ use Rattle.wc_lines.specs.declared.line.Line.{Line}
 use Rattle.wc_lines.specs.Ring.{last_of, has_content, set_displayed}
 use Rattle.wc_buffers.specs.declared.row.BufferRow.{BufferRow}
 use Rattle.wc_buffers.specs.declared.refused.BufferRefused.{BufferRefused}
-use Rattle.wc_buffers.specs.Calls.{Groups, no_buffer, add_refusal, close_refusal, move_refusal, merge_refusal, unmerge_refusal, rename_refusal, short_name_refusal, set_var_refusal, remove_var_refusal, added, closed, moved, merged, unmerged, changed, with_hidden, with_full_name, with_short_name, with_title, with_var, without_var}
+use Rattle.wc_buffers.specs.Calls.{EntryGroups, no_buffer, add_refusal, close_refusal, move_refusal, merge_refusal, unmerge_refusal, rename_refusal, short_name_refusal, set_var_refusal, remove_var_refusal, with_buffer, without_buffer, move_group_to, merge_groups, unmerge_group, with_entry, with_hidden, with_full_name, with_short_name, with_title, with_var, without_var}
 use Rattle.wc_buffers.specs.Vars.{cut_to}
 use Rattle.wc_buffers.specs.declared.row.BufferSpec.{BufferSpec}
 use Rattle.wc_nicklist.specs.declared.item.Item.{Item}
@@ -49,8 +49,8 @@ abbrev pub of_buffers : Option BufferRefused → Option ChangeRefused
 of_buffers refusal = option_map Buffer refusal
 
 -- handles from the next one on, so many of them, are not all left
-abbrev pub spent : ℕ → World → Option ChangeRefused
-spent count world = if nat_lt (last_handle + 1) (world.next + count) then Some Spent else None
+abbrev pub refusal_of_handles : ℕ → World → Option ChangeRefused
+refusal_of_handles count world = if nat_lt (last_handle + 1) (world.next + count) then Some Spent else None
 
 -- whether some buffer holds a line with this content
 abbrev pub is_held : Handle → World → Bool
@@ -71,7 +71,7 @@ abbrev pub adds_row : World → Handle → Bool → List ℕ → Item → Option
 adds_row world buffer is_group parent item =
     or_else (of_buffers (no_buffer buffer world.groups))
     (or_else (of_nicks (nicks.add_refusal is_group parent item.name (rows_at world buffer.0)))
-    (or_else (too_many_rows world) (spent 1 world)))
+    (or_else (too_many_rows world) (refusal_of_handles 1 world)))
 
 abbrev pub removes_row : World → Handle → Bool → List ℕ → Option ChangeRefused
 removes_row world buffer is_group name =
@@ -82,7 +82,7 @@ changes_row world buffer is_group item =
     or_else (of_buffers (no_buffer buffer world.groups)) (of_nicks (nicks.change_refusal is_group item.name (rows_at world buffer.0)))
 
 unfoldable pub refusal_of : World → Handle → What → Option ChangeRefused
-refusal_of world buffer (Add spec) = or_else (of_buffers (add_refusal (row_of world.next spec) spec.vars world.groups)) (spent 4 world)
+refusal_of world buffer (Add spec) = or_else (of_buffers (add_refusal (row_of world.next spec) spec.vars world.groups)) (refusal_of_handles 4 world)
 refusal_of world buffer Close = of_buffers (close_refusal buffer world.groups)
 refusal_of world buffer (MoveTo number) = of_buffers (move_refusal buffer number world.groups)
 refusal_of world buffer (MergeInto into) = of_buffers (merge_refusal buffer into world.groups)
@@ -94,7 +94,7 @@ refusal_of world buffer (ShortName name) = of_buffers (short_name_refusal buffer
 refusal_of world buffer (Title title) = of_buffers (no_buffer buffer world.groups)
 refusal_of world buffer (SetVar var) = of_buffers (set_var_refusal buffer var.name world.groups)
 refusal_of world buffer (RemoveVar name) = of_buffers (remove_var_refusal buffer name world.groups)
-refusal_of world buffer (Print line) = or_else (of_buffers (no_buffer buffer world.groups)) (spent 2 world)
+refusal_of world buffer (Print line) = or_else (of_buffers (no_buffer buffer world.groups)) (refusal_of_handles 2 world)
 refusal_of world buffer Clear = of_buffers (no_buffer buffer world.groups)
 refusal_of world buffer (Flips flips) = no_line flips world
 refusal_of world buffer (AddGroup parent item) = adds_row world buffer true parent item
@@ -111,13 +111,13 @@ refusal world change = refusal_of world change.buffer change.what
 -- ---- the world after a change that is not refused
 
 -- the lines of all buffers with the flags that flips set, one after another
-abbrev pub flipped : List Flip → List Line → List Line
-flipped flips lines = fold (λ lines (flip : Flip). set_displayed flip.content flip.displayed lines) lines flips
+abbrev pub with_flips : List Flip → List Line → List Line
+with_flips flips lines = fold (λ lines (flip : Flip). set_displayed flip.content flip.displayed lines) lines flips
 
 abbrev pub flip_all : List Flip → World → World
-flip_all flips world = record world { lines = from_entries (map (λ e. (e.0, flipped flips e.1)) (entries world.lines)) }
+flip_all flips world = record world { lines = from_entries (map (λ e. (e.0, with_flips flips e.1)) (entries world.lines)) }
 
-abbrev pub with_groups : World → Groups → World
+abbrev pub with_groups : World → EntryGroups → World
 with_groups world groups = record world { groups = groups }
 
 abbrev pub with_lines : World → Handle → List Line → World
@@ -157,18 +157,18 @@ with_changed_row world buffer key item =
 
 unfoldable pub after_of : World → Handle → What → World
 after_of world buffer (Add spec) =
-    record world { groups = added (row_of world.next spec) spec.vars world.groups; lines = insert world.lines world.next []; nicks = insert world.nicks world.next []; next = world.next + 4 }
-after_of world buffer Close = record world { groups = closed buffer world.groups; lines = remove world.lines buffer.0; nicks = remove world.nicks buffer.0 }
-after_of world buffer (MoveTo number) = with_groups world (moved buffer number world.groups)
-after_of world buffer (MergeInto into) = with_groups world (merged buffer into world.groups)
-after_of world buffer Unmerge = with_groups world (unmerged buffer world.groups)
-after_of world buffer Hide = with_groups world (changed buffer (with_hidden true) world.groups)
-after_of world buffer Unhide = with_groups world (changed buffer (with_hidden false) world.groups)
-after_of world buffer (Rename name flips) = flip_all flips (with_groups world (changed buffer (with_full_name name) world.groups))
-after_of world buffer (ShortName name) = with_groups world (changed buffer (with_short_name name) world.groups)
-after_of world buffer (Title title) = with_groups world (changed buffer (with_title (cut_to 1024 title)) world.groups)
-after_of world buffer (SetVar var) = with_groups world (changed buffer (with_var var.name var.value) world.groups)
-after_of world buffer (RemoveVar name) = with_groups world (changed buffer (without_var name) world.groups)
+    record world { groups = with_buffer (row_of world.next spec) spec.vars world.groups; lines = insert world.lines world.next []; nicks = insert world.nicks world.next []; next = world.next + 4 }
+after_of world buffer Close = record world { groups = without_buffer buffer world.groups; lines = remove world.lines buffer.0; nicks = remove world.nicks buffer.0 }
+after_of world buffer (MoveTo number) = with_groups world (move_group_to buffer number world.groups)
+after_of world buffer (MergeInto into) = with_groups world (merge_groups buffer into world.groups)
+after_of world buffer Unmerge = with_groups world (unmerge_group buffer world.groups)
+after_of world buffer Hide = with_groups world (with_entry buffer (with_hidden true) world.groups)
+after_of world buffer Unhide = with_groups world (with_entry buffer (with_hidden false) world.groups)
+after_of world buffer (Rename name flips) = flip_all flips (with_groups world (with_entry buffer (with_full_name name) world.groups))
+after_of world buffer (ShortName name) = with_groups world (with_entry buffer (with_short_name name) world.groups)
+after_of world buffer (Title title) = with_groups world (with_entry buffer (with_title (cut_to 1024 title)) world.groups)
+after_of world buffer (SetVar var) = with_groups world (with_entry buffer (with_var var.name var.value) world.groups)
+after_of world buffer (RemoveVar name) = with_groups world (with_entry buffer (without_var name) world.groups)
 after_of world buffer (Print line) =
     record (with_lines world buffer (last_of world.limit (lines_at world buffer.0 ++ line_of world.next line ∷ []))) { next = world.next + 2 }
 after_of world buffer Clear = with_lines world buffer []

@@ -4,7 +4,7 @@ use Rattle.std.specs.List.{flat_map, find as find_first}
 use Rattle.wc_text.specs.declared.names.Handle.{Handle}
 use Rattle.wc_lines.specs.declared.line.Line.{Line}
 use Rattle.wc_buffers.specs.declared.row.BufferRow.{BufferRow}
-use Rattle.wc_buffers.specs.Calls.{Groups, buffer_of, entry_of, number, lacks_var}
+use Rattle.wc_buffers.specs.Calls.{EntryGroups, buffer_of, entry_of, number, lacks_var}
 use Rattle.wc_model.specs.declared.change.Change.{Change}
 use Rattle.wc_model.specs.declared.change.What.{What}
 use Rattle.wc_model.specs.declared.change.What.TheVariants.{Add, Close, MoveTo, MergeInto, Unmerge, Hide, Unhide, Rename, ShortName, Title, SetVar, RemoveVar, Print, Clear, Flips, AddGroup, AddNick, RemoveGroup, RemoveNick, ChangeGroup, ChangeNick}
@@ -45,20 +45,20 @@ kind_of world buffer (RemoveNick name) = kind.NickTouched
 kind_of world buffer (ChangeGroup item) = kind.NickTouched
 kind_of world buffer (ChangeNick item) = kind.NickTouched
 
--- the buffer that is told of, and the groups in which it is told: those behind the change, and before it for a close
+-- the buffer that is told of, and the groups in which it is told: those after the change, and before it for a close
 abbrev pub about : World → Handle → What → Handle
 about world buffer (Add spec) = record { 0 = world.next }
 about world buffer (Flips flips) = record { 0 = 0 }
 about world buffer _ = buffer
 
-abbrev pub told_groups : World → World → What → Groups
-told_groups before behind Close = before.groups
-told_groups before behind _ = behind.groups
+abbrev pub told_groups : World → World → What → EntryGroups
+told_groups before following Close = before.groups
+told_groups before following _ = following.groups
 
 -- the own handle of the printed line
-abbrev pub printed : World → What → List Handle
-printed world (Print line) = record { 0 = world.next } ∷ []
-printed world _ = []
+abbrev pub printed_handle : World → What → List Handle
+printed_handle world (Print line) = record { 0 = world.next } ∷ []
+printed_handle world _ = []
 
 -- ---- the lines whose flag differs
 
@@ -70,15 +70,15 @@ abbrev pub same_flag : Line → Option Line → Bool
 same_flag line None = true
 same_flag line (Some other) = bool_eq line.displayed other.displayed
 
--- whether a line stands in both and its flag differs
+-- whether a line is in both and its flag differs
 abbrev pub is_flipped : List Line → Line → Bool
 is_flipped before line = not (same_flag line (find_first (λ other. other.content.0 == line.content.0) before))
 
 abbrev pub flips_in : List Line → List Line → List Handle
-flips_in before behind = map (λ (line : Line). line.content) (filter (is_flipped before) behind)
+flips_in before following = map (λ (line : Line). line.content) (filter (is_flipped before) following)
 
 abbrev pub flips_between : World → World → List Handle
-flips_between before behind = flat_map (λ buffer. flips_in (lines_at before buffer) (lines_at behind buffer)) (order behind.groups)
+flips_between before following = flat_map (λ buffer. flips_in (lines_at before buffer) (lines_at following buffer)) (order following.groups)
 
 -- ---- the notice
 
@@ -87,7 +87,7 @@ name_in None = []
 name_in (Some row) = row.full_name
 
 -- what is noticed of a buffer in these groups; of the null handle nothing is told
-abbrev pub notice_at : EventKind → Handle → Groups → List Handle → List Handle → Notice
+abbrev pub notice_at : EventKind → Handle → EntryGroups → List Handle → List Handle → Notice
 notice_at kind buffer groups lines flips = record {
   kind = kind;
   buffer = buffer;
@@ -100,19 +100,19 @@ notice_at kind buffer groups lines flips = record {
 }
 
 abbrev pub notice_of : World → World → Handle → What → Notice
-notice_of before behind buffer what =
-    notice_at (kind_of before buffer what) (about before buffer what) (told_groups before behind what) (printed before what) (flips_between before behind)
+notice_of before following buffer what =
+    notice_at (kind_of before buffer what) (about before buffer what) (told_groups before following what) (printed_handle before what) (flips_between before following)
 
 abbrev pub notice : World → Change → Notice
 notice world change = notice_of world (after world change) change.buffer change.what
 
 -- what a change comes to: it is refused, and the world is as it was, or it is made
-pub record Accepted (before : World) (change : Change) (behind : World) (told : Notice) : Type 0 where
+pub record Accepted (before : World) (change : Change) (following : World) (told : Notice) : Type 0 where
   pub accepted : refusal before change ≡ None
-  pub after : behind ≡ after before change
+  pub after : following ≡ after before change
   pub notice : told ≡ notice before change
 
 abbrev pub Outcome : World → Change → World → Result Notice ChangeRefused → Type 0
-Outcome before change behind (Ok told) = Accepted before change behind told
-Outcome before change behind (Err NoMemory) = behind ≡ before
-Outcome before change behind (Err reason) = (behind ≡ before) × (refusal before change ≡ Some reason)
+Outcome before change following (Ok told) = Accepted before change following told
+Outcome before change following (Err NoMemory) = following ≡ before
+Outcome before change following (Err reason) = (following ≡ before) × (refusal before change ≡ Some reason)

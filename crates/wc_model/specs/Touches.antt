@@ -22,7 +22,7 @@ touched_key (ChangeGroup item) = Some (key_at true item.name)
 touched_key (ChangeNick item) = Some (key_at false item.name)
 touched_key _ = None
 
--- the rows that stood at the first touches, once a key is touched as well
+-- the rows that was at the first touches, once a key is touched as well
 abbrev pub touched_at : World → Handle → Option Key → (Handle → Key → Option (Option Row)) → Handle → Key → Option (Option Row)
 touched_at world buffer None first b k = first b k
 touched_at world buffer (Some key) first b k = first_touch buffer key (find_row key (rows_at world buffer.0)) first b k
@@ -31,7 +31,7 @@ touched_at world buffer (Some key) first b k = first_touch buffer key (find_row 
 abbrev pub touched_by : World → Handle → What → (Handle → Key → Option (Option Row)) → Handle → Key → Option (Option Row)
 touched_by world buffer what first b k = touched_at world buffer (touched_key what) first b k
 
--- the rows that were last told of each buffer, behind a change: none of a buffer that came, and nothing of one that went
+-- the rows that were last told of each buffer, after a change: none of a buffer that came, and nothing of one that went
 abbrev pub told_after : World → Handle → What → FinMap nat_cmp (List Row) → FinMap nat_cmp (List Row)
 told_after world buffer (Add spec) told = insert told world.next []
 told_after world buffer Close told = remove told buffer.0

@@ -5,11 +5,11 @@ use Rattle.std.specs.Ordering.{nat_cmp}
 use Rattle.wc_text.specs.declared.names.Handle.{Handle}
 use Rattle.wc_lines.specs.declared.line.Line.{Line}
 use Rattle.wc_nicklist.specs.declared.item.Row.{Row}
-use Rattle.wc_buffers.specs.Calls.{Groups, added}
+use Rattle.wc_buffers.specs.Calls.{EntryGroups, with_buffer}
 use Rattle.wc_buffers.specs.declared.row.BufferRow.{BufferRow}
 
 pub record World : Type 0 where
-  pub groups : Groups
+  pub groups : EntryGroups
   -- the lines that each buffer holds, from the oldest, by the buffer's handle
   pub lines : FinMap nat_cmp (List Line)
   -- the rows of each buffer's nicklist in canonical order, by the buffer's handle
@@ -52,7 +52,7 @@ core_row = record {
 
 -- the core buffer alone, which has the handles 1 to 4
 abbrev pub first_world : ℕ → World
-first_world limit = record { groups = added core_row [] []; lines = insert empty 1 []; nicks = insert empty 1 []; limit = limit; next = 5 }
+first_world limit = record { groups = with_buffer core_row [] []; lines = insert empty 1 []; nicks = insert empty 1 []; limit = limit; next = 5 }
 
 -- handles are numbers up to this one
 abbrev pub last_handle : ℕ

@@ -17,9 +17,9 @@ pub enum What {
     Close,
     /// The buffer's group gets this number.
     MoveTo(u32),
-    /// The buffer goes behind those of another one's group.
+    /// The buffer goes after those of another one's group.
     MergeInto(Handle),
-    /// The buffer gets a group of its own, behind its old one.
+    /// The buffer gets a group of its own, after its old one.
     Unmerge,
     Hide,
     Unhide,

@@ -26,7 +26,7 @@ pub enum EventKind {
     NickTouched,
 }
 
-/// What is noticed of an accepted change. But for a close the values are those behind it; for a close they are those
+/// What is noticed of an accepted change. But for a close the values are those after it; for a close they are those
 /// before it.
 #[derive(Drop)]
 pub struct Notice {
@@ -36,7 +36,7 @@ pub struct Notice {
     /// One plus the place of the buffer's group.
     pub number: u32,
     pub full_name: Text,
-    /// The buffers before and behind, in the order of groups; null at the ends.
+    /// The buffers before and after, in the order of groups; null at the ends.
     pub prev: Handle,
     pub next: Handle,
     /// The printed line by its own handle, and else nothing.

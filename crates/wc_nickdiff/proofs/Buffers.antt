@@ -12,7 +12,7 @@ use Rattle.wc_nickdiff.specs.declared.first_touch.FirstTouch.{FirstTouch}
 use Rattle.wc_nicklist.specs.declared.item.Key.{Key}
 use Rattle.wc_nicklist.specs.declared.item.Row.{Row}
 use Rattle.wc_nicklist.specs.Touched.{first_touch}
-use Rattle.wc_nickdiff.specs.Held.{OfBuffer, touches_of, touched, before_at}
+use Rattle.wc_nickdiff.specs.Held.{OfBuffer, touches_of, with_touch, before_at}
 use Rattle.wc_nickdiff.proofs.Touches.{before_touched}
 
 -- those of a buffer that is left out
@@ -103,25 +103,25 @@ of_pushed h (x ∷ xs) y same none other b =
 same_handle : (h b : Handle) → (h.0 == b.0) ≡ true → h ≡ b
 same_handle h b t = λ i. record { 0 = eqb-true h.0 b.0 t i }
 
-pub note_first : (h : Handle) (k : Key) (row : Option Row) (xs : List OfBuffer) (fresh y : OfBuffer) → position (λ x. x.buffer.0 == h.0) xs ≡ None → fresh ≡ record { buffer = h; touches = [] } → y ≡ record { buffer = fresh.buffer; touches = touched k row fresh.touches }
-    → (b : Handle) → touches_of b (xs ++ y ∷ []) ≡ cond (h.0 == b.0) (touched k row (touches_of b xs)) (touches_of b xs)
+pub note_first : (h : Handle) (k : Key) (row : Option Row) (xs : List OfBuffer) (fresh y : OfBuffer) → position (λ x. x.buffer.0 == h.0) xs ≡ None → fresh ≡ record { buffer = h; touches = [] } → y ≡ record { buffer = fresh.buffer; touches = with_touch k row fresh.touches }
+    → (b : Handle) → touches_of b (xs ++ y ∷ []) ≡ cond (h.0 == b.0) (with_touch k row (touches_of b xs)) (touches_of b xs)
 note_first h k row xs fresh y absent none is b =
-    let whole : y ≡ record { buffer = h; touches = touched k row [] } = is ∙ ap (λ (z : OfBuffer). record { buffer = z.buffer; touches = touched k row z.touches }) none in
+    let whole : y ≡ record { buffer = h; touches = with_touch k row [] } = is ∙ ap (λ (z : OfBuffer). record { buffer = z.buffer; touches = with_touch k row z.touches }) none in
     let nothing : touches_of h xs ≡ [] = of_absent h xs absent in
     of_pushed h xs y (ap (λ z. z.buffer) whole) nothing (others h xs absent) b ∙ by_bool (h.0 == b.0) _
-    (λ t. rw t (ap (λ z. z.touches) whole ∙ ap (touched k row) (sym nothing ∙ ap (λ z. touches_of z xs) (same_handle h b t))))
+    (λ t. rw t (ap (λ z. z.touches) whole ∙ ap (with_touch k row) (sym nothing ∙ ap (λ z. touches_of z xs) (same_handle h b t))))
     (λ t. rw t refl)
 
-pub note_again : (h : Handle) (k : Key) (row : Option Row) (xs : List OfBuffer) (n : ℕ) (d y : OfBuffer) → position (λ x. x.buffer.0 == h.0) xs ≡ Some n → d ≡ get_or xs n d → y ≡ record { buffer = d.buffer; touches = touched k row d.touches }
-    → (b : Handle) → touches_of b (set xs n y) ≡ cond (h.0 == b.0) (touched k row (touches_of b xs)) (touches_of b xs)
+pub note_again : (h : Handle) (k : Key) (row : Option Row) (xs : List OfBuffer) (n : ℕ) (d y : OfBuffer) → position (λ x. x.buffer.0 == h.0) xs ≡ Some n → d ≡ get_or xs n d → y ≡ record { buffer = d.buffer; touches = with_touch k row d.touches }
+    → (b : Handle) → touches_of b (set xs n y) ≡ cond (h.0 == b.0) (with_touch k row (touches_of b xs)) (touches_of b xs)
 note_again h k row xs n d y there at is b =
     let s = position-Some (λ x. x.buffer.0 == h.0) xs n d there in
     of_written h xs n d y s.0 at (ap (λ z. z.buffer.0 == h.0) at ∙ s.1) (ap (λ z. z.buffer) is) s.2 b ∙ by_bool (h.0 == b.0) _
-    (λ t. rw t (ap (λ z. z.touches) is ∙ ap (touched k row) (of_found h xs n d there at ∙ ap (λ z. touches_of z xs) (same_handle h b t))))
+    (λ t. rw t (ap (λ z. z.touches) is ∙ ap (with_touch k row) (of_found h xs n d there at ∙ ap (λ z. touches_of z xs) (same_handle h b t))))
     (λ t. rw t refl)
 
--- what stood at the first touches then
-pub noted : (h : Handle) (k : Key) (row : Option Row) (old new : List OfBuffer) → ((b : Handle) → touches_of b new ≡ cond (h.0 == b.0) (touched k row (touches_of b old)) (touches_of b old))
+-- what was at the first touches then
+pub noted : (h : Handle) (k : Key) (row : Option Row) (old new : List OfBuffer) → ((b : Handle) → touches_of b new ≡ cond (h.0 == b.0) (with_touch k row (touches_of b old)) (touches_of b old))
     → (b : Handle) (q : Key) → before_at q (touches_of b new) ≡ first_touch h k row (λ z j. before_at j (touches_of z old)) b q
 noted h k row old new e b q = ap (before_at q) (e b) ∙ by_bool (h.0 == b.0) _
     (λ t. rw t (before_touched k row (touches_of b old) q))

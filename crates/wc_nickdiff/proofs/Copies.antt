@@ -7,12 +7,12 @@ use Rattle.wc_nicklist.specs.Calls.{add_row, add_under, row_under}
 use Rattle.wc_nicklist.proofs.OrderLaws.{by_bool, before_below, before_one_way}
 use Rattle.wc_nicklist.proofs.RowLaws.{find_key}
 use Rattle.wc_nicklist.proofs.Held.{by_row, path_below-same}
-use Rattle.wc_nickdiff.proofs.Split.{behind_append, split_of}
+use Rattle.wc_nickdiff.proofs.Split.{after_append, split_of}
 
--- a row behind all others comes in behind them
+-- a row after all others comes in after them
 at_end : (a : List Row) (r : Row) (b : List Row) → Ascending (a ++ r ∷ b) → insert_row r a ≡ a ++ r ∷ []
 at_end [] r b h = refl
-at_end (x ∷ xs) r b h = let t : before r x ≡ false = before_one_way x r (behind_append x r xs b h.0) in rw t (ap (λ l. x ∷ l) (at_end xs r b h.1))
+at_end (x ∷ xs) r b h = let t : before r x ≡ false = before_one_way x r (after_append x r xs b h.0) in rw t (ap (λ l. x ∷ l) (at_end xs r b h.1))
 
 pub below_found : (p : List ℕ) (rows : List Row) (q : List (List ℕ)) (g : Row) → path_below p rows ≡ Some q → is_root p ≡ false → find_row (group_key p) rows ≡ Some g → q ≡ below g
 unfolding path_below

@@ -16,7 +16,7 @@ use Rattle.wc_nicklist.proofs.Held.{by_row}
 use Rattle.wc_nickdiff.specs.declared.diff_item.DiffItem.{DiffItem}
 use Rattle.wc_nickdiff.specs.Apply.{applied_all}
 use Rattle.wc_nickdiff.specs.NickPush.{root_item, diff, push_of, nick_push, full_list}
-use Rattle.wc_nickdiff.specs.PushLaw.{rows_from, rows_of, pushed}
+use Rattle.wc_nickdiff.specs.PushLaw.{rows_from, rows_of, rows_after_push}
 use Rattle.wc_nickdiff.proofs.PushLaw.{HasParent, Kept, kept, diff_law}
 use Rattle.wc_nickdiff.proofs.Split.{IsSplit, split_of, find-append, one_row}
 
@@ -150,9 +150,9 @@ pub full_law : (root : Item) (rows : List Row) → Kept rows → rows_of (full_l
 full_law root rows ok = read_all rows ok [] rows [] refl (inl (refl, λ k x e g. absurd cc))
 
 -- Folding the push of two lists of rows over the first gives the second.
-pub push_law : (root : Handle) (told now : List Row) → IsRows told → IsRows now → pushed (nick_push root told now) told ≡ Ok now
+pub push_law : (root : Handle) (told now : List Row) → IsRows told → IsRows now → rows_after_push (nick_push root told now) told ≡ Ok now
 push_law root told now old new = go (diff (root_item root) told now) (diff_law (root_item root) told now refl (kept told old) (kept now new))
   where
-    go : (ds : List DiffItem) → applied_all ds told ≡ Ok now → pushed (push_of (root_item root) ds now) told ≡ Ok now
+    go : (ds : List DiffItem) → applied_all ds told ≡ Ok now → rows_after_push (push_of (root_item root) ds now) told ≡ Ok now
     go [] e = e
     go (d ∷ ds) e = by_bool (nat_lt (length (d ∷ ds)) (length now + 1)) _ (λ s. rw s e) (λ s. rw s (ap Ok (full_law (root_item root) now (kept now new))))

@@ -12,9 +12,9 @@ use Rattle.wc_nicklist.proofs.OrderLaws.{by_bool, key_eq-true, key_eq-same, path
 use Rattle.wc_nicklist.proofs.RowLaws.{find_key, key_eq-back}
 use Rattle.wc_nicklist.proofs.Held.{by_row}
 use Rattle.wc_nickdiff.specs.declared.first_touch.FirstTouch.{FirstTouch}
-use Rattle.wc_nickdiff.specs.Compared.{keep, leaving, coming, changing, listed, picked}
+use Rattle.wc_nickdiff.specs.Compared.{keep, leaving_row, coming_row, changed_pair, listed_row, picked_rows}
 use Rattle.wc_nickdiff.specs.Held.{before_at, is_untouched, EachOnce}
-use Rattle.wc_nickdiff.specs.NickPush.{stays, differs, changes, item_eq, is_group, is_nick, outs, ins, changed}
+use Rattle.wc_nickdiff.specs.NickPush.{stays, differs, change_list, item_eq, is_group, is_nick, outs, ins, changed_rows}
 use Rattle.wc_nickdiff.specs.Told.{told_or, told_at, IsTold}
 use Rattle.wc_nickdiff.proofs.PushLaw.{item_eq-same}
 use Rattle.wc_nickdiff.proofs.Sorted.{sorted_is}
@@ -25,7 +25,7 @@ abbrev touch_at : Key → List FirstTouch → Option FirstTouch
 touch_at k [] = None
 touch_at k (t ∷ ts) = if key_eq t.key k then Some t else touch_at k ts
 
--- a row that stood, or stands, under its key
+-- a row that was there, or is, under its key
 abbrev HasKey : Key → Option Row → Type 0
 HasKey k None = Unit {0}
 HasKey k (Some r) = key r ≡ k
@@ -54,7 +54,7 @@ abbrev at_touch : (Option Row → Option Row → Option Row) → List Row → Op
 at_touch pick now None = None
 at_touch pick now (Some t) = pick t.before (find_row t.key now)
 
-find-listed : (k q : Key) (o : Option Row) → HasKey k o → find_row q (listed o) ≡ cond (key_eq k q) o None
+find-listed : (k q : Key) (o : Option Row) → HasKey k o → find_row q (listed_row o) ≡ cond (key_eq k q) o None
 find-listed k q None h = elim (key_eq k q) as (λ b. None ≡ cond {A = Option Row} b None None) [ true ↦ refl | false ↦ refl ]
 find-listed k q (Some r) h = ap (λ z. cond {A = Option Row} (key_eq z q) (Some r) None) h
 
@@ -69,23 +69,23 @@ or_none : (a b : Option Row) → b ≡ None → or_row a b ≡ a
 or_none None b e = e
 or_none (Some r) b e = refl
 
-find-picked : (pick : Option Row → Option Row → Option Row) → Picks pick → (now : List Row) (q : Key) (ts : List FirstTouch) → EachOnce ts → HaveKeys ts → find_row q (picked pick now ts) ≡ at_touch pick now (touch_at q ts)
+find-picked : (pick : Option Row → Option Row → Option Row) → Picks pick → (now : List Row) (q : Key) (ts : List FirstTouch) → EachOnce ts → HaveKeys ts → find_row q (picked_rows pick now ts) ≡ at_touch pick now (touch_at q ts)
 find-picked pick ok now q [] once h = refl
 find-picked pick ok now q (t ∷ ts) once h =
     let own = find-listed t.key q (pick t.before (find_row t.key now)) (ok t.key t.before (find_row t.key now) h.0 (found_has_key t.key now)) in
     let rest = find-picked pick ok now q ts once.1 h.1 in
-    find-append q (listed (pick t.before (find_row t.key now))) (picked pick now ts) ∙ ap (λ o. or_row o (find_row q (picked pick now ts))) own ∙ by_bool (key_eq t.key q) _
-    (λ s. rw s (or_none (pick t.before (find_row t.key now)) (find_row q (picked pick now ts)) (rest ∙ ap (at_touch pick now) (touched_only q ts (ap (λ z. before_at z ts) (sym (key_eq-true t.key q s)) ∙ once.0)))))
+    find-append q (listed_row (pick t.before (find_row t.key now))) (picked_rows pick now ts) ∙ ap (λ o. or_row o (find_row q (picked_rows pick now ts))) own ∙ by_bool (key_eq t.key q) _
+    (λ s. rw s (or_none (pick t.before (find_row t.key now)) (find_row q (picked_rows pick now ts)) (rest ∙ ap (at_touch pick now) (touched_only q ts (ap (λ z. before_at z ts) (sym (key_eq-true t.key q s)) ∙ once.0)))))
     (λ s. rw s rest)
 
-keyed-listed : (k : Key) (o : Option Row) (rows : List Row) → HasKey k o → find_row k rows ≡ None → Keyed rows → Keyed (listed o ++ rows)
+keyed-listed : (k : Key) (o : Option Row) (rows : List Row) → HasKey k o → find_row k rows ≡ None → Keyed rows → Keyed (listed_row o ++ rows)
 keyed-listed k None rows own none kd = kd
 keyed-listed k (Some r) rows own none kd = (ap (λ z. find_row z rows) own ∙ none, kd)
 
-keyed-picked : (pick : Option Row → Option Row → Option Row) → Picks pick → (now : List Row) (ts : List FirstTouch) → EachOnce ts → HaveKeys ts → Keyed (picked pick now ts)
+keyed-picked : (pick : Option Row → Option Row → Option Row) → Picks pick → (now : List Row) (ts : List FirstTouch) → EachOnce ts → HaveKeys ts → Keyed (picked_rows pick now ts)
 keyed-picked pick ok now [] once h = tt
 keyed-picked pick ok now (t ∷ ts) once h =
-    keyed-listed t.key (pick t.before (find_row t.key now)) (picked pick now ts)
+    keyed-listed t.key (pick t.before (find_row t.key now)) (picked_rows pick now ts)
     (ok t.key t.before (find_row t.key now) h.0 (found_has_key t.key now))
     (find-picked pick ok now t.key ts once.1 h.1 ∙ ap (at_touch pick now) (touched_only t.key ts once.0))
     (keyed-picked pick ok now ts once.1 h.1)
@@ -97,7 +97,7 @@ keep_key p k (Some r) h = by_bool (p r) _ (λ t. rw t h) (λ t. rw t tt)
 keep_none : (p : Row → Bool) (o : Option Row) → o ≡ None → keep p o ≡ None
 keep_none p o e = rw e refl
 
--- a row that stands as it was told is not picked
+-- a row that is as it was told is not picked
 stays_itself : (r : Row) → stays (Some r) (Some r) ≡ true
 stays_itself r = path_eq-same r.path
 
@@ -117,7 +117,7 @@ before_there k (u ∷ us) t e = by_bool (key_eq u.key k) _
     (rw s (ap (λ z. Some z.before) j), ap (λ z. z.key) (sym j) ∙ key_eq-true u.key k s))
     (λ s. let r = before_there k us t (rw s at e) in (rw s r.0, r.1))
 
--- the row that stood
+-- the row that was there
 abbrev pub stood : Option Row → Option Row → Option Row
 stood told now = told
 
@@ -158,7 +158,7 @@ module _ (ts : List FirstTouch) (now told : List Row) (once : EachOnce ts) (new 
   untouched : (k : Key) → touch_at k ts ≡ None → find_row k now ≡ find_row k told
   untouched k e = ap (λ o. told_or o (find_row k now)) (sym (not_before k ts e)) ∙ h.found k
 
-  -- one that was touched has the row that stood then
+  -- one that was touched has the row that was there then
   told_there : (k : Key) (t : FirstTouch) → touch_at k ts ≡ Some t → (t.before ≡ find_row k told) × (t.key ≡ k)
   told_there k t e = let p = before_there k ts t e in (ap (λ o. told_or o (find_row k now)) (sym p.0) ∙ h.found k, p.1)
 
@@ -186,87 +186,87 @@ module _ (ts : List FirstTouch) (now told : List Row) (once : EachOnce ts) (new 
       (λ n. rw n refl)
       (λ r n. let i : find_row (key r) told ≡ Some r = own_row k told r (sym e ∙ n) in rw (n, i, stays_itself r) refl)
 
-  changed_none : (k : Key) → find_row k now ≡ find_row k told → keep (λ r. changes (find_row (key r) told) (Some r)) (find_row k now) ≡ None
+  changed_none : (k : Key) → find_row k now ≡ find_row k told → keep (λ r. change_list (find_row (key r) told) (Some r)) (find_row k now) ≡ None
   changed_none k e = by_row (find_row k now) _
       (λ n. rw n refl)
       (λ r n. let i : find_row (key r) told ≡ Some r = own_row k told r (sym e ∙ n) in rw (n, i, item_eq-same r.item, stays_itself r) refl)
 
   -- the key of a row that is kept is that of the look-up
-  outs_some : (k : Key) → leaving (find_row k told) (find_row k now) ≡ keep (λ r. not (stays (Some r) (find_row (key r) now))) (find_row k told)
+  outs_some : (k : Key) → leaving_row (find_row k told) (find_row k now) ≡ keep (λ r. not (stays (Some r) (find_row (key r) now))) (find_row k told)
   outs_some k = by_row (find_row k told) _
       (λ n. rw n refl)
       (λ r n. rw n (ap (λ q. keep (λ x. not (stays (Some x) (find_row q now))) (Some r)) (sym (find_key k told r n))))
 
-  ins_some : (k : Key) → coming (find_row k told) (find_row k now) ≡ keep (λ r. not (stays (find_row (key r) told) (Some r))) (find_row k now)
+  ins_some : (k : Key) → coming_row (find_row k told) (find_row k now) ≡ keep (λ r. not (stays (find_row (key r) told) (Some r))) (find_row k now)
   ins_some k = by_row (find_row k now) _
       (λ n. rw n refl)
       (λ r n. rw n (ap (λ q. keep (λ x. not (stays (find_row q told) (Some x))) (Some r)) (sym (find_key k now r n))))
 
-  changed_some : (k : Key) → changing (find_row k told) (find_row k now) ≡ keep (λ r. changes (find_row (key r) told) (Some r)) (find_row k now)
+  changed_some : (k : Key) → changed_pair (find_row k told) (find_row k now) ≡ keep (λ r. change_list (find_row (key r) told) (Some r)) (find_row k now)
   changed_some k = by_row (find_row k now) _
       (λ n. rw n refl)
-      (λ r n. rw n (ap (λ q. keep (λ x. changes (find_row q told) (Some x)) (Some r)) (sym (find_key k now r n))))
+      (λ r n. rw n (ap (λ q. keep (λ x. change_list (find_row q told) (Some x)) (Some r)) (sym (find_key k now r n))))
 
-  found_outs : (p : Row → Bool) (k : Key) → at_touch (λ t n. keep p (leaving t n)) now (touch_at k ts) ≡ find_row k (filter p (outs told now))
+  found_outs : (p : Row → Bool) (k : Key) → at_touch (λ t n. keep p (leaving_row t n)) now (touch_at k ts) ≡ find_row k (filter p (outs told now))
   found_outs p k =
-      by_touch k (λ t n. keep p (leaving t n)) (λ o. o ≡ keep p (keep (λ r. not (stays (Some r) (find_row (key r) now))) (find_row k told)))
+      by_touch k (λ t n. keep p (leaving_row t n)) (λ o. o ≡ keep p (keep (λ r. not (stays (Some r) (find_row (key r) now))) (find_row k told)))
       (λ e. sym (ap (keep p) (outs_none k e)))
       (ap (keep p) (outs_some k))
       ∙ sym (ap (keep p) (find-filter (λ r. not (stays (Some r) (find_row (key r) now))) k told h.held.keyed))
       ∙ sym (find-filter p k (outs told now) (keyed-filter _ told h.held.keyed))
 
-  found_ins : (p : Row → Bool) (k : Key) → at_touch (λ t n. keep p (coming t n)) now (touch_at k ts) ≡ find_row k (filter p (ins told now))
+  found_ins : (p : Row → Bool) (k : Key) → at_touch (λ t n. keep p (coming_row t n)) now (touch_at k ts) ≡ find_row k (filter p (ins told now))
   found_ins p k =
-      by_touch k (λ t n. keep p (coming t n)) (λ o. o ≡ keep p (keep (λ r. not (stays (find_row (key r) told) (Some r))) (find_row k now)))
+      by_touch k (λ t n. keep p (coming_row t n)) (λ o. o ≡ keep p (keep (λ r. not (stays (find_row (key r) told) (Some r))) (find_row k now)))
       (λ e. sym (ap (keep p) (ins_none k e)))
       (ap (keep p) (ins_some k))
       ∙ sym (ap (keep p) (find-filter (λ r. not (stays (find_row (key r) told) (Some r))) k now new.keyed))
       ∙ sym (find-filter p k (ins told now) (keyed-filter _ now new.keyed))
 
-  found_changed : (k : Key) → at_touch changing now (touch_at k ts) ≡ find_row k (changed told now)
+  found_changed : (k : Key) → at_touch changed_pair now (touch_at k ts) ≡ find_row k (changed_rows told now)
   found_changed k =
-      by_touch k changing (λ o. o ≡ keep (λ r. changes (find_row (key r) told) (Some r)) (find_row k now))
+      by_touch k changed_pair (λ o. o ≡ keep (λ r. change_list (find_row (key r) told) (Some r)) (find_row k now))
       (λ e. sym (changed_none k e))
       (changed_some k)
-      ∙ sym (find-filter (λ r. changes (find_row (key r) told) (Some r)) k now new.keyed)
+      ∙ sym (find-filter (λ r. change_list (find_row (key r) told) (Some r)) k now new.keyed)
 
-  leaving_picks : (p : Row → Bool) → Picks (λ t n. keep p (leaving t n))
-  leaving_picks p k t n a b = keep_key p k (leaving t n) (keep_key _ k t a)
+  leaving_picks : (p : Row → Bool) → Picks (λ t n. keep p (leaving_row t n))
+  leaving_picks p k t n a b = keep_key p k (leaving_row t n) (keep_key _ k t a)
 
-  coming_picks : (p : Row → Bool) → Picks (λ t n. keep p (coming t n))
-  coming_picks p k t n a b = keep_key p k (coming t n) (keep_key _ k n b)
+  coming_picks : (p : Row → Bool) → Picks (λ t n. keep p (coming_row t n))
+  coming_picks p k t n a b = keep_key p k (coming_row t n) (keep_key _ k n b)
 
-  changing_picks : Picks changing
+  changing_picks : Picks changed_pair
   changing_picks k t n a b = keep_key _ k n b
 
   -- once they are sorted
-  pub outs_law : (p : Row → Bool) (rows : List Row) → IsPermutation (picked (λ t n. keep p (leaving t n)) now ts) rows → IsSortedBy before rows → rows ≡ filter p (outs told now)
+  pub outs_law : (p : Row → Bool) (rows : List Row) → IsPermutation (picked_rows (λ t n. keep p (leaving_row t n)) now ts) rows → IsSortedBy before rows → rows ≡ filter p (outs told now)
   outs_law p rows m s =
-      let pick : Option Row → Option Row → Option Row = λ t n. keep p (leaving t n) in
-      sorted_is (picked pick now ts) rows (filter p (outs told now)) m s
+      let pick : Option Row → Option Row → Option Row = λ t n. keep p (leaving_row t n) in
+      sorted_is (picked_rows pick now ts) rows (filter p (outs told now)) m s
       (keyed-picked pick (leaving_picks p) now ts once keys)
       (ascending-filter p _ (ascending-filter _ told h.held.ascending))
       (keyed-filter p _ (keyed-filter _ told h.held.keyed))
       (λ k. find-picked pick (leaving_picks p) now k ts once keys ∙ found_outs p k)
 
-  pub ins_law : (p : Row → Bool) (rows : List Row) → IsPermutation (picked (λ t n. keep p (coming t n)) now ts) rows → IsSortedBy before rows → rows ≡ filter p (ins told now)
+  pub ins_law : (p : Row → Bool) (rows : List Row) → IsPermutation (picked_rows (λ t n. keep p (coming_row t n)) now ts) rows → IsSortedBy before rows → rows ≡ filter p (ins told now)
   ins_law p rows m s =
-      let pick : Option Row → Option Row → Option Row = λ t n. keep p (coming t n) in
-      sorted_is (picked pick now ts) rows (filter p (ins told now)) m s
+      let pick : Option Row → Option Row → Option Row = λ t n. keep p (coming_row t n) in
+      sorted_is (picked_rows pick now ts) rows (filter p (ins told now)) m s
       (keyed-picked pick (coming_picks p) now ts once keys)
       (ascending-filter p _ (ascending-filter _ now new.ascending))
       (keyed-filter p _ (keyed-filter _ now new.keyed))
       (λ k. find-picked pick (coming_picks p) now k ts once keys ∙ found_ins p k)
 
-  pub changed_law : (rows : List Row) → IsPermutation (picked changing now ts) rows → IsSortedBy before rows → rows ≡ changed told now
+  pub changed_law : (rows : List Row) → IsPermutation (picked_rows changed_pair now ts) rows → IsSortedBy before rows → rows ≡ changed_rows told now
   changed_law rows m s =
-      sorted_is (picked changing now ts) rows (changed told now) m s
-      (keyed-picked changing changing_picks now ts once keys)
+      sorted_is (picked_rows changed_pair now ts) rows (changed_rows told now) m s
+      (keyed-picked changed_pair changing_picks now ts once keys)
       (ascending-filter _ now new.ascending)
       (keyed-filter _ now new.keyed)
-      (λ k. find-picked changing changing_picks now k ts once keys ∙ found_changed k)
+      (λ k. find-picked changed_pair changing_picks now k ts once keys ∙ found_changed k)
 
-  -- the rows whose keys were not touched, and those that stood at the touches
+  -- the rows whose keys were not touched, and those that was at the touches
   kept_rows : (k : Key) (o : Option FirstTouch) → touch_at k ts ≡ o → keep (is_untouched ts) (find_row k now) ≡ elim o [ None ↦ find_row k now | Some t ↦ None ]
   kept_rows k None e = by_row (find_row k now) _
       (λ n. rw n refl)
@@ -278,9 +278,9 @@ module _ (ts : List FirstTouch) (now told : List Row) (once : EachOnce ts) (new 
   stood_picks : Picks stood
   stood_picks k t n a b = a
 
-  found_told : (k : Key) → find_row k (filter (is_untouched ts) now ++ picked stood now ts) ≡ find_row k told
+  found_told : (k : Key) → find_row k (filter (is_untouched ts) now ++ picked_rows stood now ts) ≡ find_row k told
   found_told k =
-      find-append k (filter (is_untouched ts) now) (picked stood now ts)
+      find-append k (filter (is_untouched ts) now) (picked_rows stood now ts)
       ∙ (λ i. or_row (find-filter (is_untouched ts) k now new.keyed i) (find-picked stood stood_picks now k ts once keys i))
       ∙ go (touch_at k ts) refl
     where
@@ -288,13 +288,13 @@ module _ (ts : List FirstTouch) (now told : List Row) (once : EachOnce ts) (new 
       go None e = ap (λ z. or_row z None) (kept_rows k None e) ∙ or_nothing (find_row k now) ∙ untouched k e
       go (Some t) e = ap (λ z. or_row z t.before) (kept_rows k (Some t) e) ∙ (told_there k t e).0
 
-  keyed_told : Keyed (filter (is_untouched ts) now ++ picked stood now ts)
-  keyed_told = keyed-append (filter (is_untouched ts) now) (picked stood now ts) (keyed-filter (is_untouched ts) now new.keyed) (keyed-picked stood stood_picks now ts once keys)
+  keyed_told : Keyed (filter (is_untouched ts) now ++ picked_rows stood now ts)
+  keyed_told = keyed-append (filter (is_untouched ts) now) (picked_rows stood now ts) (keyed-filter (is_untouched ts) now new.keyed) (keyed-picked stood stood_picks now ts once keys)
       (λ k r e. find-picked stood stood_picks now k ts once keys ∙ apart k r (touch_at k ts) refl (sym (find-filter (is_untouched ts) k now new.keyed) ∙ e))
     where
       apart : (k : Key) (r : Row) (o : Option FirstTouch) → touch_at k ts ≡ o → keep (is_untouched ts) (find_row k now) ≡ Some r → at_touch stood now o ≡ None
       apart k r None e f = refl
       apart k r (Some t) e f = no_row r (sym f ∙ kept_rows k (Some t) e)
 
-  pub told_law : (rows : List Row) → IsPermutation (filter (is_untouched ts) now ++ picked stood now ts) rows → IsSortedBy before rows → rows ≡ told
-  told_law rows m s = sorted_is (filter (is_untouched ts) now ++ picked stood now ts) rows told m s keyed_told h.held.ascending h.held.keyed found_told
+  pub told_law : (rows : List Row) → IsPermutation (filter (is_untouched ts) now ++ picked_rows stood now ts) rows → IsSortedBy before rows → rows ≡ told
+  told_law rows m s = sorted_is (filter (is_untouched ts) now ++ picked_rows stood now ts) rows told m s keyed_told h.held.ascending h.held.keyed found_told

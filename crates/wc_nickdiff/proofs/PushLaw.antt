@@ -13,7 +13,7 @@ use Rattle.wc_nicklist.proofs.RowLaws.{find_key, same_rows}
 use Rattle.wc_nicklist.proofs.Held.{by_row, parent_found}
 use Rattle.wc_nickdiff.specs.Apply.{applied_all}
 use Rattle.wc_nickdiff.specs.declared.diff_item.Mark.TheVariants.{Removed, Added, Changed}
-use Rattle.wc_nickdiff.specs.NickPush.{item_eq, stays, differs, changes, is_group, is_nick, outs, ins, changed, op, item_or, group_item, ops, diff}
+use Rattle.wc_nickdiff.specs.NickPush.{item_eq, stays, differs, change_list, is_group, is_nick, outs, ins, changed_rows, op, item_or, group_item, ops, diff}
 use Rattle.wc_nickdiff.proofs.Steps.{Runs, runs-append, with_parents_run, Found, Holds, path_under, Good, Stands, AllReady, phase, after_all, ready_at_each, found_removed, found_added, found_changed}
 use Rattle.wc_nickdiff.proofs.Split.{or_row, split_of, find-filter, keyed-filter, ascending-filter, keep_some, reverse_split, is_some-reverse, one_row, no_row}
 
@@ -132,7 +132,7 @@ named_group root src r g e nr p there =
     let at : find_row (group_key g.item.name) src ≡ Some g = ap (λ z. find_row z src) (sym (key-group g e)) ∙ there in
     ap (λ z. (group_item root (λ k. find_row k src) z).name) n ∙ rw (nr, at) (sym n)
 
--- what stands in other rows
+-- what is in other rows
 abbrev pub stays_in : List Row → Row → Bool
 stays_in now r = stays (Some r) (find_row (key r) now)
 
@@ -159,10 +159,10 @@ stood_row rows r e = go (find_row (key r) rows) e
     go None e = absurd (false≢true e)
     go (Some s) e = (s, refl, path_eq-true s.path r.path e)
 
--- a row that stands as it was told
-same_items : (u r : Row) (o : Option Row) → o ≡ Some u → stays o (Some r) ≡ true → changes o (Some r) ≡ false → item_eq u.item r.item ≡ true
+-- a row that is as it was told
+same_items : (u r : Row) (o : Option Row) → o ≡ Some u → stays o (Some r) ≡ true → change_list o (Some r) ≡ false → item_eq u.item r.item ≡ true
 same_items u r o e z d =
-    let w : (true && not (item_eq u.item r.item)) ≡ false = ap (λ b. b && not (item_eq u.item r.item)) (sym (ap (λ q. stays q (Some r)) (sym e) ∙ z)) ∙ ap (λ q. changes q (Some r)) (sym e) ∙ d in
+    let w : (true && not (item_eq u.item r.item)) ≡ false = ap (λ b. b && not (item_eq u.item r.item)) (sym (ap (λ q. stays q (Some r)) (sym e) ∙ z)) ∙ ap (λ q. change_list q (Some r)) (sym e) ∙ d in
     not-false _ w
 
 module _ (root : Item) (told now : List Row) (root_named : root.name ≡ root_name) (old : Kept told) (new : Kept now) where
@@ -196,7 +196,7 @@ module _ (root : Item) (told now : List Row) (root_named : root.name ≡ root_na
   ins_ascending : Ascending (ins told now)
   ins_ascending = ascending-filter _ now new.ascending
 
-  -- a row of the outs: it stood, it does not stand now
+  -- a row of the outs: it was, it does not are now
   out_parts : (q : Key) (r : Row) → find_row q (outs told now) ≡ Some r → (find_row q told ≡ Some r) × (stays_in now r ≡ false)
   out_parts q r e = let k = keep_some _ _ r (sym (find-filter (λ x. not (stays_in now x)) q told old.keyed) ∙ e) in (k.0, not-true _ k.1)
 
@@ -242,7 +242,7 @@ module _ (root : Item) (told now : List Row) (root_named : root.name ≡ root_na
   f4 = after_all f3 Added in_nicks
 
   abbrev f5 : Found
-  f5 = after_all f4 Changed (changed told now)
+  f5 = after_all f4 Changed (changed_rows told now)
 
   -- under a parent of these rows
   parent_ready : (src : List Row) (g : Found) (r : Row) → Kept src → HasParent src r → ((p : Row) → find_row (key p) src ≡ Some p → p.item.is_group ≡ true → r.path ≡ p.path ++ p.item.name ∷ [] → Stands g p) → ((group_item root (λ k. find_row k src) (parent_of r)).name ≡ parent_of r) × (path_under (parent_of r) g ≡ Some r.path)
@@ -284,7 +284,7 @@ module _ (root : Item) (told now : List Row) (root_named : root.name ≡ root_na
       let i : f1 q ≡ None = f1_at q ∙ rw e (elim (is_some (find_row q out_nicks)) as (λ b. cond {A = Option Row} b None None ≡ None) [ true ↦ refl | false ↦ refl ]) in
       f2_at q ∙ rw i (elim (is_some (find_row q out_groups)) as (λ b. cond {A = Option Row} b None None ≡ None) [ true ↦ refl | false ↦ refl ])
 
-  -- a group that is out has no row below it once those behind it are out
+  -- a group that is out has no row below it once those after it are out
   childless : (r : Row) → t (key r) ≡ Some r → stays_in now r ≡ false → r.item.is_group ≡ true → (b : List Row) → ((q : Key) (x : Row) → find_row q out_groups ≡ Some x → before r x ≡ true → find_row q b ≡ Some x)
       → (q : Key) (c : Row) → cond (is_some (find_row q b)) None (f1 q) ≡ Some c → c.path ≡ below r → ⊥
   childless r there gone gr b right q c z cp = by_row (find_row q b) _
@@ -360,7 +360,7 @@ module _ (root : Item) (told now : List Row) (root_named : root.name ≡ root_na
         good = old.good (key r) r o.0;
       })
 
-  -- a row of now that did not stand is not found before it is put in
+  -- a row of now that did not are is not found before it is put in
   f2_fresh : (r : Row) → n (key r) ≡ Some r → stood_in told r ≡ false → f2 (key r) ≡ None
   f2_fresh r e s = by_row (t (key r)) _ (λ i. f2_none (key r) i)
       (λ x i. by_bool (stays_in now x) _
@@ -371,7 +371,7 @@ module _ (root : Item) (told now : List Row) (root_named : root.name ≡ root_na
       absurd (true≢false (sym (stood_there told r x i (sym u.2 ∙ ap (λ (l : Row). l.path) j)) ∙ s)))
       (λ z. f2_out (key r) x i z))
 
-  -- one that stood is there with its path
+  -- one that was there is there with its path
   f2_stood : (r x : Row) → n (key r) ≡ Some r → t (key r) ≡ Some x → x.path ≡ r.path → f2 (key r) ≡ Some x
   f2_stood r x e i p =
       let k : key x ≡ key r = find_key (key r) told x i in
@@ -493,12 +493,12 @@ module _ (root : Item) (told now : List Row) (root_named : root.name ≡ root_na
       (λ z. record { row = r; there = f4_new r e z; path = refl; same = refl; level = refl })
 
   abbrev altered : Row → Bool
-  altered r = changes (find_row (key r) told) (Some r)
+  altered r = change_list (find_row (key r) told) (Some r)
 
   -- the last: changed rows
-  ready5 : AllReady root now f4 Changed (changed told now)
-  ready5 = ready_at_each root now f4 Changed (changed told now) (λ a r b e.
-      let s = split_of (changed told now) a r b e (ascending-filter altered now new.ascending) (keyed-filter altered now new.keyed) in
+  ready5 : AllReady root now f4 Changed (changed_rows told now)
+  ready5 = ready_at_each root now f4 Changed (changed_rows told now) (λ a r b e.
+      let s = split_of (changed_rows told now) a r b e (ascending-filter altered now new.ascending) (keyed-filter altered now new.keyed) in
       let g : Found = after_all f4 Changed a in
       let g_at : (q : Key) → g q ≡ or_row (find_row q a) (f4 q) = λ q. found_changed f4 a q s.left_keyed in
       let all : (p : Row) → n (key p) ≡ Some p → Stands g p = λ p pf. by_row (find_row (key p) a) _
@@ -512,7 +512,7 @@ module _ (root : Item) (told now : List Row) (root_named : root.name ≡ root_na
 
   -- in the end each key has the row of now
   f5_all : (q : Key) → f5 q ≡ n q
-  f5_all q = found_changed f4 (changed told now) q (keyed-filter altered now new.keyed) ∙ by_row (n q) _
+  f5_all q = found_changed f4 (changed_rows told now) q (keyed-filter altered now new.keyed) ∙ by_row (n q) _
       (λ e. rw (find-filter altered q now new.keyed, e) (f4_none q e))
       (λ r e.
       let k : key r ≡ q = find_key q now r e in
@@ -535,9 +535,9 @@ module _ (root : Item) (told now : List Row) (root_named : root.name ≡ root_na
       let p2 = phase root told f1 Removed (reverse out_groups) p1.0 refl p1.2 ready2 in
       let p3 = phase root now f2 Added in_groups p2.0 refl p2.2 ready3 in
       let p4 = phase root now f3 Added in_nicks p3.0 refl p3.2 ready4 in
-      let p5 = phase root now f4 Changed (changed told now) p4.0 refl p4.2 ready5 in
+      let p5 = phase root now f4 Changed (changed_rows told now) p4.0 refl p4.2 ready5 in
       let end : p5.0 ≡ now = same_rows p5.0 now p5.2.ascending p5.2.keyed new.ascending new.keyed (λ k. p5.2.found k ∙ f5_all k) in
-      let a5 : Runs (map (op Changed root n) (changed told now)) p4.0 now = subst (λ l. Runs (map (op Changed root n) (changed told now)) p4.0 l) end p5.1 in
+      let a5 : Runs (map (op Changed root n) (changed_rows told now)) p4.0 now = subst (λ l. Runs (map (op Changed root n) (changed_rows told now)) p4.0 l) end p5.1 in
       let a4 = runs-append _ _ p3.0 p4.0 now p4.1 a5 in
       let a3 = runs-append _ _ p2.0 p3.0 now p3.1 a4 in
       let a2 = runs-append _ _ p1.0 p2.0 now p2.1 a3 in

@@ -11,7 +11,7 @@ use Rattle.std.proofs.lemmas.List.Sorted.{Contains-permutation, IsPermutation-sy
 use Rattle.wc_nicklist.specs.declared.item.Key.{Key}
 use Rattle.wc_nicklist.specs.declared.item.Row.{Row}
 use Rattle.wc_nicklist.specs.Order.{key, address, address_cmp, before}
-use Rattle.wc_nicklist.specs.Rows.{key_eq, find_row, AllBehind, Ascending, Keyed}
+use Rattle.wc_nicklist.specs.Rows.{key_eq, find_row, AllAfter, Ascending, Keyed}
 use Rattle.wc_nicklist.proofs.OrderLaws.{by_bool, key_total, key_eq-true, key_eq-same, before_chain, before_other}
 use Rattle.wc_nicklist.proofs.RowLaws.{find_key, key_eq-at, same_rows}
 use Rattle.wc_nicklist.proofs.Held.{by_row}
@@ -22,7 +22,7 @@ pub before_ranks : IsStrictWeakOrder before
 unfolding before address_cmp
 before_ranks = ranks_by (lists_total key_total) address
 
--- how often a key stands
+-- how often a key is
 abbrev one : Key → Row → ℕ
 one k r = cond (key_eq (key r) k) 1 0
 
@@ -93,9 +93,9 @@ tail_sorted x xs h k d z l =
     let i = h (suc k) d (omega arith) (omega arith) in
     subst (λ m. before (get_or (x ∷ xs) m d) (get_or xs k d) ≡ false) e i
 
-behind_chain : (a b : Row) (rows : List Row) → before a b ≡ true → AllBehind b rows → AllBehind a rows
-behind_chain a b [] t h = tt
-behind_chain a b (y ∷ ys) t h = (before_chain a b y t h.0, behind_chain a b ys t h.1)
+after_chain : (a b : Row) (rows : List Row) → before a b ≡ true → AllAfter b rows → AllAfter a rows
+after_chain a b [] t h = tt
+after_chain a b (y ∷ ys) t h = (before_chain a b y t h.0, after_chain a b ys t h.1)
 
 in_order : (xs : List Row) → IsSortedBy before xs → Keyed xs → Ascending xs
 in_order [] h kd = tt
@@ -105,7 +105,7 @@ in_order (x ∷ y ∷ ys) h kd =
     let none : find_row (key x) (y ∷ ys) ≡ None = kd.0 in
     let other : key y ≡ key x → ⊥ = λ e. (let t = key_eq-at (key y) (key x) e in no_row y (rw t at none)) in
     let b : before x y ≡ true = before_other y x (h 0 x (omega arith) (omega arith)) other in
-    ((b, behind_chain x y ys b rest.0), rest)
+    ((b, after_chain x y ys b rest.0), rest)
 
 pub sorted_is : (xs ys zs : List Row) → IsPermutation xs ys → IsSortedBy before ys → Keyed xs → Ascending zs → Keyed zs → ((k : Key) → find_row k xs ≡ find_row k zs) → ys ≡ zs
 sorted_is xs ys zs p s kx az kz h =

@@ -6,10 +6,10 @@ use Rattle.std.proofs.lemmas.List.{reverse-append, reverse-reverse}
 use Rattle.wc_nicklist.specs.declared.item.Key.{Key}
 use Rattle.wc_nicklist.specs.declared.item.Row.{Row}
 use Rattle.wc_nicklist.specs.Order.{key, before}
-use Rattle.wc_nicklist.specs.Rows.{key_eq, find_row, AllBehind, Ascending, Keyed}
+use Rattle.wc_nicklist.specs.Rows.{key_eq, find_row, AllAfter, Ascending, Keyed}
 use Rattle.wc_nickdiff.specs.Compared.{keep}
 use Rattle.wc_nicklist.proofs.OrderLaws.{by_bool, key_eq-true, key_eq-same, before_one_way, before_itself}
-use Rattle.wc_nicklist.proofs.RowLaws.{behind_found}
+use Rattle.wc_nicklist.proofs.RowLaws.{after_found}
 use Rattle.wc_nicklist.proofs.Held.{by_row}
 
 -- the first of two rows
@@ -30,9 +30,9 @@ one_row x y e = cc
 pub no_row : {P : Type 0} (x : Row) → Some x ≡ None → P
 no_row x e = absurd cc
 
-pub behind_append : (x r : Row) (xs b : List Row) → AllBehind x (xs ++ r ∷ b) → before x r ≡ true
-behind_append x r [] b h = h.0
-behind_append x r (y ∷ ys) b h = behind_append x r ys b h.1
+pub after_append : (x r : Row) (xs b : List Row) → AllAfter x (xs ++ r ∷ b) → before x r ≡ true
+after_append x r [] b h = h.0
+after_append x r (y ∷ ys) b h = after_append x r ys b h.1
 
 ascending_right : (a ys : List Row) → Ascending (a ++ ys) → Ascending ys
 ascending_right [] ys h = h
@@ -45,7 +45,7 @@ keyed_right (x ∷ xs) ys h = keyed_right xs ys h.1
 left_before : (a : List Row) (r : Row) (b : List Row) → Ascending (a ++ r ∷ b) → (q : Key) (x : Row) → find_row q a ≡ Some x → before x r ≡ true
 left_before [] r b h q x e = absurd cc
 left_before (y ∷ ys) r b h q x e = by_bool (key_eq (key y) q) _
-    (λ t. let i : y ≡ x = one_row y x (rw t at e) in ap (λ z. before z r) (sym i) ∙ behind_append y r ys b h.0)
+    (λ t. let i : y ≡ x = one_row y x (rw t at e) in ap (λ z. before z r) (sym i) ∙ after_append y r ys b h.0)
     (λ t. left_before ys r b h.1 q x (rw t at e))
 
 not_left : (a : List Row) (r : Row) (b : List Row) → Keyed (a ++ r ∷ b) → find_row (key r) a ≡ None
@@ -99,11 +99,11 @@ split_at a r b asc kd =
       left_in = λ q x e. find-append q a (r ∷ b) ∙ rw e refl;
       right_in = right_in a r b kd;
       left_before = left_before a r b asc;
-      right_after = λ q x e. behind_found r q b x ab.0 e;
+      right_after = λ q x e. after_found r q b x ab.0 e;
       left = λ q x e t. by_row (find_row q a) _
           (λ n. by_bool (key_eq (key r) q) _
           (λ s. let i : r ≡ x = one_row r x (let j = rest q x n e in rw s at j) in absurd (true≢false (sym t ∙ ap (λ z. before z r) (sym i) ∙ before_itself r)))
-          (λ s. both_ways x r t (behind_found r q b x ab.0 (let j = rest q x n e in rw s at j))))
+          (λ s. both_ways x r t (after_found r q b x ab.0 (let j = rest q x n e in rw s at j))))
           (λ y n. let i : y ≡ x = one_row y x (let j = sym (find-append q a (r ∷ b)) ∙ e in rw n at j) in n ∙ ap Some i);
       right = λ q x e t. by_row (find_row q a) _
           (λ n. by_bool (key_eq (key r) q) _
@@ -130,13 +130,13 @@ keyed-filter p (x ∷ xs) kd = by_bool (p x) _
     (λ t. rw t (find-filter p (key x) xs kd.1 ∙ ap (keep p) kd.0, keyed-filter p xs kd.1))
     (λ t. rw t (keyed-filter p xs kd.1))
 
-behind-filter : (p : Row → Bool) (x : Row) (rows : List Row) → AllBehind x rows → AllBehind x (filter p rows)
-behind-filter p x [] h = tt
-behind-filter p x (y ∷ ys) h = by_bool (p y) _ (λ t. rw t (h.0, behind-filter p x ys h.1)) (λ t. rw t (behind-filter p x ys h.1))
+following-filter : (p : Row → Bool) (x : Row) (rows : List Row) → AllAfter x rows → AllAfter x (filter p rows)
+following-filter p x [] h = tt
+following-filter p x (y ∷ ys) h = by_bool (p y) _ (λ t. rw t (h.0, following-filter p x ys h.1)) (λ t. rw t (following-filter p x ys h.1))
 
 pub ascending-filter : (p : Row → Bool) (rows : List Row) → Ascending rows → Ascending (filter p rows)
 ascending-filter p [] h = tt
-ascending-filter p (x ∷ xs) h = by_bool (p x) _ (λ t. rw t (behind-filter p x xs h.0, ascending-filter p xs h.1)) (λ t. rw t (ascending-filter p xs h.1))
+ascending-filter p (x ∷ xs) h = by_bool (p x) _ (λ t. rw t (following-filter p x xs h.0, ascending-filter p xs h.1)) (λ t. rw t (ascending-filter p xs h.1))
 
 -- what a filtered list has
 pub keep_some : (p : Row → Bool) (o : Option Row) (x : Row) → keep p o ≡ Some x → (o ≡ Some x) × (p x ≡ true)

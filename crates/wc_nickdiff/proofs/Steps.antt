@@ -34,7 +34,7 @@ same_name_some : (p : Option (List ℕ)) (name : List ℕ) → same_name p name 
 same_name_some None name e = absurd (false≢true e)
 same_name_some (Some p) name e = ap Some ((bytes_decides p name).0 e)
 
--- an item that names a parent that stands
+-- an item that names a parent that is
 parent_taken : (i : Item) (p : Option (List ℕ)) (rows : List Row) → is_none (path_below i.name rows) ≡ false → is_refused (record { mark = Parent; item = i }) p rows ≡ false
 unfolding is_refused_under
 parent_taken i None rows e = e
@@ -44,7 +44,7 @@ parent_after : (i : Item) (p : List ℕ) (rows : List Row) → applied_under Par
 unfolding applied_under
 parent_after i p rows = refl
 
--- the parents that stand in a diff do no more than name them
+-- the parents that are in a diff do no more than name them
 with_parents_run-one : (o : Op) (os : List Op) (m : ℕ) (rows out : List Row) → Runs (o ∷ os) rows out → applied_from (m + 1) (Some o.under) (with_parents (Some o.under) os) (applied_under o.mark o.under o.item rows) ≡ Ok out
     → applied_from m (Some o.under) (record { mark = o.mark; item = o.item } ∷ with_parents (Some o.under) os) rows ≡ Ok out
 with_parents_run-one o os m rows out e rest = rw (e.3, e.0) rest

@@ -12,8 +12,8 @@ use Rattle.wc_nicklist.proofs.OrderLaws.{by_bool, key_eq-true, key_eq-same}
 use Rattle.wc_nicklist.proofs.RowLaws.{key_eq-back}
 use Rattle.wc_nickdiff.specs.declared.first_touch.FirstTouch.{FirstTouch}
 use Rattle.wc_nickdiff.specs.declared.index.Index.{Index}
-use Rattle.wc_nickdiff.specs.Held.{before_at, EachOnce, touched, keep_first, AreAmong}
-use Rattle.wc_nickdiff.specs.Index.{place_in, place_of, IsIndexOf}
+use Rattle.wc_nickdiff.specs.Held.{before_at, EachOnce, with_touch, keep_first, AreAmong}
+use Rattle.wc_nickdiff.specs.Index.{place_in, place_of, IndexesTouches}
 
 abbrev Before : Type 0
 Before = Option (Option Row)
@@ -64,12 +64,12 @@ none_place k (t ∷ ts) e = by_bool (key_eq t.key k) _
     (λ s. rw (s, none_place k ts (rw s at e)) refl)
 
 -- a key that was touched before, and one that was not
-pub touched_again : (k : Key) (row : Option Row) (ts : List FirstTouch) → is_some (place_of k ts) ≡ true → ts ≡ touched k row ts
+pub touched_again : (k : Key) (row : Option Row) (ts : List FirstTouch) → is_some (place_of k ts) ≡ true → ts ≡ with_touch k row ts
 touched_again k row ts e = by_option (before_at k ts) _
     (λ n. absurd (false≢true (ap is_some (sym (none_place k ts n)) ∙ e)))
     (λ b n. ap (λ o. keep_first o (record { key = k; before = row }) ts) (sym n))
 
-pub touched_first : (k : Key) (row : Option Row) (ts : List FirstTouch) → place_of k ts ≡ None → ts ++ record { key = k; before = row } ∷ [] ≡ touched k row ts
+pub touched_first : (k : Key) (row : Option Row) (ts : List FirstTouch) → place_of k ts ≡ None → ts ++ record { key = k; before = row } ∷ [] ≡ with_touch k row ts
 touched_first k row ts e = ap (λ o. keep_first o (record { key = k; before = row }) ts) (sym (place_none k ts e))
 
 -- one touch more
@@ -103,15 +103,15 @@ place_push q (u ∷ us) t e = by_bool (key_eq u.key t.key) _
     rw (v, w) refl)
     (λ v. rw (v, more) (by_bool (key_eq t.key q) _ (λ w. rw w refl) (λ w. rw w refl))))
 
-pub index_push : (ts : List FirstTouch) (old new : Index) (t : FirstTouch) → before_at t.key ts ≡ None → IsIndexOf ts old → ((q : Key) → place_in new q ≡ cond (key_eq t.key q) (Some (length ts)) (place_in old q)) → IsIndexOf (ts ++ t ∷ []) new
+pub index_push : (ts : List FirstTouch) (old new : Index) (t : FirstTouch) → before_at t.key ts ≡ None → IndexesTouches ts old → ((q : Key) → place_in new q ≡ cond (key_eq t.key q) (Some (length ts)) (place_in old q)) → IndexesTouches (ts ++ t ∷ []) new
 index_push ts old new t e h n q = n q ∙ ap (cond (key_eq t.key q) (Some (length ts))) (h q) ∙ sym (place_push q ts t e)
 
 pub insert_step : (k first : Key) (name : List ℕ) (n m : ℕ) (old mid new : Index) (q : Key) → place_in new q ≡ cond (key_eq (key_at k.is_group name) q) (Some n) (place_in mid q) → name ≡ k.name → n ≡ m → place_in mid q ≡ place_in old q → first ≡ k → place_in new q ≡ cond (key_eq first q) (Some m) (place_in old q)
 insert_step k first name n m old mid new q e named counted same is =
     e ∙ (λ i. cond (key_eq (key_at k.is_group (named i)) q) (Some (counted i)) (same i)) ∙ ap (λ z. cond (key_eq z q) (Some m) (place_in old q)) (sym is)
 
--- what stands at first touches after one more
-pub before_touched : (k : Key) (row : Option Row) (ts : List FirstTouch) (q : Key) → before_at q (touched k row ts) ≡ cond (key_eq k q) (earlier_or (before_at q ts) row) (before_at q ts)
+-- what is at first touches after one more
+pub before_touched : (k : Key) (row : Option Row) (ts : List FirstTouch) (q : Key) → before_at q (with_touch k row ts) ≡ cond (key_eq k q) (earlier_or (before_at q ts) row) (before_at q ts)
 before_touched k row ts q = by_option (before_at k ts) _
     (λ n. ap (λ o. before_at q (keep_first o (record { key = k; before = row }) ts)) n ∙ by_bool (key_eq k q) _
     (λ s.

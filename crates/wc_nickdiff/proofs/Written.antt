@@ -14,15 +14,15 @@ use Rattle.wc_nickdiff.specs.declared.diff_item.DiffItem.{DiffItem}
 use Rattle.wc_nickdiff.specs.declared.diff_item.Mark.{Mark}
 use Rattle.wc_nickdiff.specs.declared.diff_item.Mark.TheVariants.{Parent, Added, Removed, Changed}
 use Rattle.wc_nickdiff.specs.declared.push.Push.TheVariants.{Nothing, Diff, Full}
-use Rattle.wc_nickdiff.specs.Compared.{written}
-use Rattle.wc_nickdiff.specs.NickPush.{Op, op, same_name, with_parents, last_under, is_group, is_nick, outs, ins, changed, diff, push_of, full_list}
+use Rattle.wc_nickdiff.specs.Compared.{items_written}
+use Rattle.wc_nickdiff.specs.NickPush.{Op, op, same_name, with_parents, last_under, is_group, is_nick, outs, ins, changed_rows, diff, push_of, full_list}
 
 name_is : (p : Option (List ℕ)) (name : List ℕ) → same_name p name ≡ true → p ≡ Some name
 name_is None name e = absurd (false≢true e)
 name_is (Some p) name e = ap Some ((bytes_decides p name).0 e)
 
 module _ (m : Mark) (root : Item) (found : Key → Option Row) where
-  -- items behind others go on from the parent that was named last
+  -- items after others go on from the parent that was named last
   pub with_parents-append : (rs : List Row) (os : List Op) (p : Option (List ℕ)) → with_parents p (map (op m root found) rs ++ os) ≡ with_parents p (map (op m root found) rs) ++ with_parents (last_under p rs) os
   with_parents-append [] os p = refl
   with_parents-append (r ∷ rs) os p =
@@ -58,13 +58,13 @@ module _ (m : Mark) (root : Item) (found : Key → Option Row) where
       let grouped : (start ++ done) ++ more ≡ start ++ (done ++ more) = append_assoc start done more in
       here ∙ grouped ∙ ap (λ x. start ++ x) (sym (next_written rows n r p l e))
 
--- the five lists of a diff, as they are put one behind the other
+-- the five lists of a diff, as they are put one after the other
 pub five : (root : Item) (f n : Key → Option Row) (a b c d e : List Row)
     → with_parents None (map (op Removed root f) a) ++ with_parents (last_under None a) (map (op Removed root f) b)
     ++ with_parents (last_under (last_under None a) b) (map (op Added root n) c)
     ++ with_parents (last_under (last_under (last_under None a) b) c) (map (op Added root n) d)
     ++ with_parents (last_under (last_under (last_under (last_under None a) b) c) d) (map (op Changed root n) e)
-    ≡ written root f n a b c d e
+    ≡ items_written root f n a b c d e
 five root f n a b c d e =
     let p1 = last_under None a in
     let p2 = last_under p1 b in
@@ -100,7 +100,7 @@ pub written_in_turn : (root : Item) (f n : Key → Option Row) (a b c d e a' b' 
     → i3 ≡ i2 ++ with_parents p2 (map (op Added root n) c') → p3 ≡ last_under p2 c'
     → i4 ≡ i3 ++ with_parents p3 (map (op Added root n) d') → p4 ≡ last_under p3 d'
     → i5 ≡ i4 ++ with_parents p4 (map (op Changed root n) e')
-    → i5 ≡ written root f n a b c d e
+    → i5 ≡ items_written root f n a b c d e
 written_in_turn root f n a b c d e a' b' c' d' e' sa sb sc sd se i0 i1 i2 i3 i4 i5 p0 p1 p2 p3 p4 hi hp h1 u1 h2 u2 h3 u3 h4 u4 h5 =
     let q1 = next_parent a' a p0 None p1 sa hp u1 in
     let q2 = next_parent b' b p1 _ p2 sb q1 u2 in
@@ -115,9 +115,9 @@ written_in_turn root f n a b c d e a' b' c' d' e' sa sb sc sd se i0 i1 i2 i3 i4 
 
 -- they are those of the comparison
 pub written_is : (root : Item) (told now : List Row) (f : Key → Option Row) → ((k : Key) → f k ≡ find_row k told) → (a b c d e : List Row)
-    → a ≡ filter is_nick (outs told now) → b ≡ reverse (filter is_group (outs told now)) → c ≡ filter is_group (ins told now) → d ≡ filter is_nick (ins told now) → e ≡ changed told now
-    → written root f (λ k. find_row k now) a b c d e ≡ diff root told now
-written_is root told now f same a b c d e ea eb ec ed ee = λ i. written root (λ k. same k i) (λ k. find_row k now) (ea i) (eb i) (ec i) (ed i) (ee i)
+    → a ≡ filter is_nick (outs told now) → b ≡ reverse (filter is_group (outs told now)) → c ≡ filter is_group (ins told now) → d ≡ filter is_nick (ins told now) → e ≡ changed_rows told now
+    → items_written root f (λ k. find_row k now) a b c d e ≡ diff root told now
+written_is root told now f same a b c d e ea eb ec ed ee = λ i. items_written root (λ k. same k i) (λ k. find_row k now) (ea i) (eb i) (ec i) (ed i) (ee i)
 
 -- what is pushed, by the number of items
 pub push_nothing : (root : Item) (ds : List DiffItem) (now : List Row) → length ds ≡ 0 → Nothing ≡ push_of root ds now

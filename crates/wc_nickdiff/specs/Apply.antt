@@ -10,17 +10,17 @@ use Rattle.wc_nickdiff.specs.declared.diff_item.Mark.{Mark}
 use Rattle.wc_nickdiff.specs.declared.diff_item.Mark.TheVariants.{Parent, Added, Removed, Changed}
 
 -- whether the row is there, under the group of this name or under the root
-abbrev pub stands_under : List ℕ → Option Row → Bool
-stands_under parent None = false
-stands_under parent (Some r) = bytes_eq (parent_of r) parent
+abbrev pub lies_under : List ℕ → Option Row → Bool
+lies_under parent None = false
+lies_under parent (Some r) = bytes_eq (parent_of r) parent
 
 -- an item that comes in has a name that a row may have, which no row has; one that goes or is changed
--- stands under the parent that was named last, and a group that goes has nothing below it
+-- is under the parent that was named last, and a group that goes has nothing below it
 unfoldable pub is_refused_under : Mark → List ℕ → Item → List Row → Bool
 is_refused_under Parent parent i rows = is_none (path_below i.name rows)
 is_refused_under Added parent i rows = is_some (add_refusal i.is_group parent i.name rows)
-is_refused_under Removed parent i rows = not (stands_under parent (find_row (key_of i) rows)) || is_some (remove_refusal i.is_group i.name rows)
-is_refused_under Changed parent i rows = not (stands_under parent (find_row (key_of i) rows)) || is_some (change_refusal i.is_group i.name rows)
+is_refused_under Removed parent i rows = not (lies_under parent (find_row (key_of i) rows)) || is_some (remove_refusal i.is_group i.name rows)
+is_refused_under Changed parent i rows = not (lies_under parent (find_row (key_of i) rows)) || is_some (change_refusal i.is_group i.name rows)
 
 abbrev pub is_parent : Mark → Bool
 is_parent Parent = true
@@ -40,8 +40,8 @@ applied_under Removed parent i rows = remove_row (key_of i) rows
 applied_under Changed parent i rows = change_row (key_of i) i rows
 
 -- the rows after an item, and the parent that then was named last
-abbrev pub applied : DiffItem → Option (List ℕ) → List Row → List Row
-applied d parent rows = applied_under d.mark (unwrap_or parent []) d.item rows
+abbrev pub item_applied : DiffItem → Option (List ℕ) → List Row → List Row
+item_applied d parent rows = applied_under d.mark (unwrap_or parent []) d.item rows
 
 abbrev pub named_last : DiffItem → Option (List ℕ) → Option (List ℕ)
 named_last d parent = if is_parent d.mark then Some d.item.name else parent
@@ -49,7 +49,7 @@ named_last d parent = if is_parent d.mark then Some d.item.name else parent
 -- the rows after these items, or the place of the first that is refused
 abbrev pub applied_from : ℕ → Option (List ℕ) → List DiffItem → List Row → Result (List Row) ℕ
 applied_from place parent [] rows = Ok rows
-applied_from place parent (d ∷ ds) rows = if is_refused d parent rows then Err place else applied_from (place + 1) (named_last d parent) ds (applied d parent rows)
+applied_from place parent (d ∷ ds) rows = if is_refused d parent rows then Err place else applied_from (place + 1) (named_last d parent) ds (item_applied d parent rows)
 
 -- the same of a whole diff
 abbrev pub applied_all : List DiffItem → List Row → Result (List Row) ℕ

@@ -8,7 +8,7 @@ use Rattle.wc_nicklist.specs.Order.{key}
 use Rattle.wc_nicklist.specs.Rows.{key_eq}
 use Rattle.wc_nickdiff.specs.declared.first_touch.FirstTouch.{FirstTouch}
 
--- what stood at the first touch of a key: None where it was not touched
+-- what was at the first touch of a key: None where it was not touched
 abbrev pub before_at : Key → List FirstTouch → Option (Option Row)
 before_at k [] = None
 before_at k (t ∷ ts) = if key_eq t.key k then Some t.before else before_at k ts
@@ -27,8 +27,8 @@ abbrev pub keep_first : Option (Option Row) → FirstTouch → List FirstTouch �
 keep_first None t ts = ts ++ t ∷ []
 keep_first (Some row) t ts = ts
 
-abbrev pub touched : Key → Option Row → List FirstTouch → List FirstTouch
-touched k row ts = keep_first (before_at k ts) (record { key = k; before = row }) ts
+abbrev pub with_touch : Key → Option Row → List FirstTouch → List FirstTouch
+with_touch k row ts = keep_first (before_at k ts) (record { key = k; before = row }) ts
 
 -- the touches of a buffer
 pub record OfBuffer : Type 0 where

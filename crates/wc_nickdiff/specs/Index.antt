@@ -17,9 +17,9 @@ place_of k [] = None
 place_of k (t ∷ ts) = if key_eq t.key k then Some 0 else option_map suc (place_of k ts)
 
 -- the index has the place of each key that was touched, and no other
-abbrev pub IsIndexOf : List FirstTouch → Index → Type 0
-IsIndexOf ts index = (k : Key) → place_in index k ≡ place_of k ts
+abbrev pub IndexesTouches : List FirstTouch → Index → Type 0
+IndexesTouches ts index = (k : Key) → place_in index k ≡ place_of k ts
 
 -- one more group or nick comes in without taking memory
-abbrev pub HasRoom : Index → Type 0
-HasRoom i = (0 < spare i.groups) × (0 < spare i.nicks)
+abbrev pub HasTouchRoom : Index → Type 0
+HasTouchRoom i = (0 < spare i.groups) × (0 < spare i.nicks)

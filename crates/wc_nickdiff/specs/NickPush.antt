@@ -17,7 +17,7 @@ item_eq a b =
     (a.handle.0 == b.handle.0) && bool_eq a.is_group b.is_group && bool_eq a.visible b.visible && (a.level == b.level)
     && bytes_eq a.name b.name && bytes_eq a.color b.color && bytes_eq a.prefix b.prefix && bytes_eq a.prefix_color b.prefix_color
 
--- whether the row of a key, as it was told, stands now under the same groups, and has got other fields
+-- whether the row of a key, as it was told, is now under the same groups, and has got other fields
 abbrev pub stays : Option Row → Option Row → Bool
 stays None now = false
 stays (Some r) None = false
@@ -28,8 +28,8 @@ differs None now = false
 differs (Some r) None = false
 differs (Some r) (Some s) = not (item_eq r.item s.item)
 
-abbrev pub changes : Option Row → Option Row → Bool
-changes told now = stays told now && differs told now
+abbrev pub change_list : Option Row → Option Row → Bool
+change_list told now = stays told now && differs told now
 
 abbrev pub is_group : Row → Bool
 is_group r = r.item.is_group
@@ -44,8 +44,8 @@ outs told now = filter (λ r. not (stays (Some r) (find_row (key r) now))) told
 abbrev pub ins : List Row → List Row → List Row
 ins told now = filter (λ r. not (stays (find_row (key r) told) (Some r))) now
 
-abbrev pub changed : List Row → List Row → List Row
-changed told now = filter (λ r. changes (find_row (key r) told) (Some r)) now
+abbrev pub changed_rows : List Row → List Row → List Row
+changed_rows told now = filter (λ r. change_list (find_row (key r) told) (Some r)) now
 
 -- The root's item, which is in no row.
 abbrev pub root_item : Handle → Item
@@ -55,7 +55,7 @@ abbrev pub item_or : Item → Option Row → Item
 item_or d None = d
 item_or d (Some r) = r.item
 
--- the item of the group of a name, by what stands under each key
+-- the item of the group of a name, by what is under each key
 abbrev pub group_item : Item → (Key → Option Row) → List ℕ → Item
 group_item root found name = if is_root name then root else item_or root (found (group_key name))
 
@@ -76,13 +76,13 @@ ops root told now =
     ++ (map (op Removed root (λ k. find_row k told)) (reverse (filter is_group (outs told now)))
     ++ (map (op Added root (λ k. find_row k now)) (filter is_group (ins told now))
     ++ (map (op Added root (λ k. find_row k now)) (filter is_nick (ins told now))
-    ++ map (op Changed root (λ k. find_row k now)) (changed told now))))
+    ++ map (op Changed root (λ k. find_row k now)) (changed_rows told now))))
 
 abbrev pub same_name : Option (List ℕ) → List ℕ → Bool
 same_name None name = false
 same_name (Some p) name = bytes_eq p name
 
--- before an item whose parent's name differs from that of the item before stands the parent
+-- before an item whose parent's name differs from that of the item before is the parent
 abbrev pub with_parents : Option (List ℕ) → List Op → List DiffItem
 with_parents p [] = []
 with_parents p (o ∷ os) =

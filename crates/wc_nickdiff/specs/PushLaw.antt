@@ -19,7 +19,7 @@ abbrev pub rows_of : List Item → List Row
 rows_of [] = []
 rows_of (root ∷ xs) = rows_from [] xs
 
-abbrev pub pushed : Push → List Row → Result (List Row) ℕ
-pushed Nothing rows = Ok rows
-pushed (Diff ds) rows = applied_all ds rows
-pushed (Full items) rows = Ok (rows_of items)
+abbrev pub rows_after_push : Push → List Row → Result (List Row) ℕ
+rows_after_push Nothing rows = Ok rows
+rows_after_push (Diff ds) rows = applied_all ds rows
+rows_after_push (Full items) rows = Ok (rows_of items)

@@ -1,10 +1,10 @@
--- The rows that were told, by what stood at the first touch of each key and what stands now.
+-- The rows that were told, by what was at the first touch of each key and what is now.
 use Rattle.std.specs.Prelude.{◌≡◌, Option, Some, None, List}
 use Rattle.wc_nicklist.specs.declared.item.Key.{Key}
 use Rattle.wc_nicklist.specs.declared.item.Row.{Row}
 use Rattle.wc_nicklist.specs.Rows.{find_row, IsRows}
 
--- what stood at the first touch, or what stands now where there was none
+-- what was at the first touch, or what is now where there was none
 abbrev pub told_or : Option (Option Row) → Option Row → Option Row
 told_or None now = now
 told_or (Some row) now = row

@@ -1,6 +1,6 @@
 ghost use Rattle.std.specs.Prelude.{◌≡◌, ◌==◌, ◌≤◌, [], OnOk, OnErr, length, option_copied};
 ghost use Rattle.wc_nicklist.specs.Order.{key_at};
-ghost use Rattle.wc_nickdiff.specs.Held.{before_at, touched, EachOnce};
+ghost use Rattle.wc_nickdiff.specs.Held.{before_at, with_touch, EachOnce};
 
 use crate::first_touch::FirstTouch;
 use crate::grow::push;
@@ -20,13 +20,13 @@ pub(crate) struct BufferTouches {
 
 impl Model for BufferTouches {
     ghost use Rattle.wc_nickdiff.specs.Held.{OfBuffer, EachOnce};
-    ghost use Rattle.wc_nickdiff.specs.Index.{IsIndexOf};
+    ghost use Rattle.wc_nickdiff.specs.Index.{IndexesTouches};
 
     ghost Value = { OfBuffer };
 
     ghost view = { λ a. record { buffer = a.buffer; touches = a.touches.items } };
 
-    ghost invariant = { λ a. record { once : EachOnce a.touches.items; indexed : IsIndexOf a.touches.items a.index } };
+    ghost invariant = { λ a. record { once : EachOnce a.touches.items; indexed : IndexesTouches a.touches.items a.index } };
 }
 
 impl BufferTouches {
@@ -57,7 +57,7 @@ impl BufferTouches {
         self.touches.as_slice()
     }
 
-    /// What stood at the first touch of a key, where it was touched.
+    /// What was at the first touch of a key, where it was touched.
     pub(crate) fn before(&self, is_group: bool, name: &[u8]) -> Option<&Option<Row>>
         ensures { option_copied result ≡ before_at (key_at is_group name.now) self.now.touches }
     {
@@ -67,7 +67,7 @@ impl BufferTouches {
         }
     }
 
-    /// Notes the row that stands under a key, where it is the key's first touch. Where memory is
+    /// Notes the row that is under a key, where it is the key's first touch. Where memory is
     /// refused nothing is noted.
     pub(crate) fn touch(
         &mut self,
@@ -75,7 +75,7 @@ impl BufferTouches {
         key: &Key,
         before: Option<Row>,
     ) -> Result<(), NoMemory>
-        ensures ok { OnOk result (self.new ≡ record { buffer = self.old.buffer; touches = touched key.now before self.old.touches }) }
+        ensures ok { OnOk result (self.new ≡ record { buffer = self.old.buffer; touches = with_touch key.now before self.old.touches }) }
         ensures err { OnErr result (self.new ≡ self.old) }
     {
         let name = key.name.as_slice();

@@ -1,7 +1,7 @@
 ghost use Rattle.std.specs.Prelude.{◌≡◌, ◌≢◌, OnOk, OnErr, IfOk, IfErr, ℕ, Ok, Err, IsTrue, not, is_some, option_copied};
 ghost use Rattle.wc_nicklist.specs.Order.{key_of};
 ghost use Rattle.wc_nicklist.specs.Rows.{find_row, path_below, TextsAreUtf8};
-ghost use Rattle.wc_nickdiff.specs.Apply.{stands_under, is_refused_under, is_refused, applied_under, applied, applied_from, applied_all, AreUtf8};
+ghost use Rattle.wc_nickdiff.specs.Apply.{lies_under, is_refused_under, is_refused, applied_under, item_applied, applied_from, applied_all, AreUtf8};
 
 use crate::by_kind::{add, change, remove};
 use crate::copy::copy_of;
@@ -13,9 +13,9 @@ use wc_nicklist::{Item, Key, NickRefused, Nicklist};
 use wc_text::{Items, NoMemory, Text};
 
 /// What a diff makes of a nicklist, which stays as it is. `BadItem` with the place of the first item
-/// that can't be applied, which is one that removes or changes what does not stand under the group that
-/// was named last, adds what stands, has a name that no row may have, removes a group that has something
-/// below it, names a group that does not stand, or stands before any that names one.
+/// that can't be applied, which is one that removes or changes what does not are under the group that
+/// was named last, adds what is, has a name that no row may have, removes a group that has something
+/// below it, names a group that does not are, or is before any that names one.
 pub fn applied(
     alloc: Global,
     list: &Nicklist,
@@ -75,7 +75,7 @@ fn apply_item(
     requires { TextsAreUtf8 item.now.item }
     ensures root { IfOk result (λ done. IsTrue done → list.new.root ≡ list.old.root) }
     ensures fits { IfOk result (λ done. done ≡ not (is_refused item.now (option_copied parent.entry) list.old.rows)) }
-    ensures after { IfOk result (λ done. IsTrue done → list.new.rows ≡ applied item.now (option_copied parent.entry) list.old.rows) }
+    ensures after { IfOk result (λ done. IsTrue done → list.new.rows ≡ item_applied item.now (option_copied parent.entry) list.old.rows) }
 {
     let Some(parent) = parent else {
         if !item.mark.names_parent() {
@@ -105,7 +105,7 @@ fn apply_under(
     }
 }
 
-/// Whether a group of this name, or the root, stands.
+/// Whether a group of this name, or the root, is.
 #[tactic(auto, unfolding(wc_nicklist::specs::Rows::path_below))]
 fn has_group(alloc: Global, list: &Nicklist, name: &Text) -> Result<bool, NoMemory>
     ensures { IfOk result (λ has. has ≡ is_some (path_below name.now list.now.rows)) }
@@ -151,7 +151,7 @@ fn remove_under(
     ensures fits { IfOk result (λ done. done ≡ not (is_refused_under Mark.Removed parent.now item.now list.old.rows)) }
     ensures after { IfOk result (λ done. IsTrue done → list.new.rows ≡ applied_under Mark.Removed parent.now item.now list.old.rows) }
 {
-    if !stands_under(alloc, list, parent, item)? {
+    if !lies_under(alloc, list, parent, item)? {
         return Ok(false);
     }
     match remove(list, item.is_group, &item.name) {
@@ -172,7 +172,7 @@ fn change_under(
     ensures fits { IfOk result (λ done. done ≡ not (is_refused_under Mark.Changed parent.now item.now list.old.rows)) }
     ensures after { IfOk result (λ done. IsTrue done → list.new.rows ≡ applied_under Mark.Changed parent.now item.now list.old.rows) }
 {
-    if !stands_under(alloc, list, parent, item)? {
+    if !lies_under(alloc, list, parent, item)? {
         return Ok(false);
     }
     match change(list, item.copy(alloc)?) {
@@ -181,14 +181,9 @@ fn change_under(
     }
 }
 
-/// Whether the group or the nick of an item's name stands right below that group or the root.
-fn stands_under(
-    alloc: Global,
-    list: &Nicklist,
-    parent: &Text,
-    item: &Item,
-) -> Result<bool, NoMemory>
-    ensures { IfOk result (λ stands. stands ≡ stands_under parent.now (find_row (key_of item.now) list.now.rows)) }
+/// Whether the group or the nick of an item's name is right below that group or the root.
+fn lies_under(alloc: Global, list: &Nicklist, parent: &Text, item: &Item) -> Result<bool, NoMemory>
+    ensures { IfOk result (λ stands. stands ≡ lies_under parent.now (find_row (key_of item.now) list.now.rows)) }
 {
     let key = key_of(alloc, item)?;
     match list.row_of(alloc, &key)? {

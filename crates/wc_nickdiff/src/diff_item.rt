@@ -5,7 +5,7 @@ use wc_nicklist::Item;
 /// What an item of a diff does.
 #[derive(Clone, Copy, Debug, PartialEq, Eq)]
 pub enum Mark {
-    /// It names the group that the items behind it stand in.
+    /// It names the group that the items after it are in.
     Parent,
     /// It comes in.
     Added,
@@ -19,7 +19,7 @@ impl Mark {
     ghost use Rattle.wc_nickdiff.specs.Apply.{is_parent};
     ghost use Rattle.wc_nickdiff.specs.Compared.{is_out};
 
-    /// Whether an item with it names a group for those behind it.
+    /// Whether an item with it names a group for those after it.
     pub(crate) fn names_parent(self) -> bool
         ensures { result ≡ is_parent self }
     {

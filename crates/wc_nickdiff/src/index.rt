@@ -21,7 +21,7 @@ impl Index {
     ghost use Rattle.wc_nicklist.specs.Order.{key_at};
     ghost use Rattle.wc_nicklist.specs.Rows.{key_eq};
     ghost use Rattle.wc_nicklist.specs.declared.item.Key.{Key};
-    ghost use Rattle.wc_nickdiff.specs.Index.{place_in, HasRoom};
+    ghost use Rattle.wc_nickdiff.specs.Index.{place_in, HasTouchRoom};
 
     /// No places. It takes no memory.
     pub(crate) fn new(alloc: Global) -> Index
@@ -47,7 +47,7 @@ impl Index {
     /// Takes the memory for one group and one nick more.
     pub(crate) fn reserve(&mut self) -> Result<(), NoMemory>
         ensures same { (k : Key) → place_in self.new k ≡ place_in self.old k }
-        ensures ok { OnOk result (HasRoom self.new) }
+        ensures ok { OnOk result (HasTouchRoom self.new) }
     {
         reserve(&mut self.groups)?;
         reserve(&mut self.nicks)
@@ -55,7 +55,7 @@ impl Index {
 
     /// Notes the place of a key. It takes no memory.
     pub(crate) fn insert(&mut self, is_group: bool, name: Vec<u8>, place: usize)
-        requires { HasRoom self.old }
+        requires { HasTouchRoom self.old }
         ensures { (k : Key) → place_in self.new k ≡ (if key_eq (key_at is_group name.items) k then Some place else place_in self.old k) }
     {
         if is_group {

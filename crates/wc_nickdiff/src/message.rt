@@ -1,7 +1,7 @@
 ghost use Rattle.std.specs.Prelude.{◌≡◌, List, IfOk, reverse};
 ghost use Rattle.wc_nicklist.specs.Rows.{find_row, IsRows};
 ghost use Rattle.wc_nicklist.specs.declared.item.Row.{Row as RowValue};
-ghost use Rattle.wc_nickdiff.specs.Compared.{written};
+ghost use Rattle.wc_nickdiff.specs.Compared.{items_written};
 ghost use Rattle.wc_nickdiff.specs.Held.{before_at};
 ghost use Rattle.wc_nickdiff.specs.NickPush.{diff, full_list, nick_push, root_item};
 ghost use Rattle.wc_nickdiff.specs.Told.{told_at, IsTold};
@@ -56,7 +56,7 @@ fn write(
     touches: &BufferTouches,
     now: &Nicklist,
 ) -> Result<Items<DiffItem>, NoMemory>
-    ensures { IfOk result (λ items. items ≡ written (root_item now.now.root) (told_at (λ k. before_at k touches.now.touches) now.now.rows) (λ k. find_row k now.now.rows) differences.now.out_nicks.items differences.now.out_groups.items differences.now.in_groups.items differences.now.in_nicks.items differences.now.changed.items) }
+    ensures { IfOk result (λ items. items ≡ items_written (root_item now.now.root) (told_at (λ k. before_at k touches.now.touches) now.now.rows) (λ k. find_row k now.now.rows) differences.now.out_nicks.items differences.now.out_groups.items differences.now.in_groups.items differences.now.in_nicks.items differences.now.changed.items) }
 {
     let d = differences;
     let mut writer = Writer::new(alloc);

@@ -2,7 +2,7 @@ ghost use Rattle.std.specs.Prelude.{◌≡◌, ◌==◌, ◌≤◌, ℕ, List, [
 ghost use Rattle.wc_nicklist.specs.declared.item.Key.{Key as KeyValue};
 ghost use Rattle.wc_nicklist.specs.declared.item.Row.{Row as RowValue};
 ghost use Rattle.wc_text.specs.declared.names.Handle.{Handle as HandleValue};
-ghost use Rattle.wc_nickdiff.specs.Held.{before_at, touched, touches_of, AreAmong};
+ghost use Rattle.wc_nickdiff.specs.Held.{before_at, with_touch, touches_of, AreAmong};
 ghost use Rattle.wc_nickdiff.specs.NickPush.{nick_push};
 ghost use Rattle.wc_nickdiff.specs.Told.{IsTold};
 
@@ -16,7 +16,7 @@ use std::marker::Model;
 use wc_nicklist::{Key, Nicklist, Row, Touch};
 use wc_text::{Handle, Items, NoMemory};
 
-/// What stood at the first touch of each key since a buffer's last push.
+/// What was at the first touch of each key since a buffer's last push.
 #[derive(Drop)]
 pub struct Pending {
     alloc: Global,
@@ -62,9 +62,9 @@ impl Pending {
         }
     }
 
-    /// Notes the row that stands under a key, where it is the key's first touch.
+    /// Notes the row that is under a key, where it is the key's first touch.
     fn note(&mut self, buffer: Handle, key: &Key, before: Option<Row>) -> Result<(), NoMemory>
-        ensures ok { OnOk result ((b : HandleValue) → touches_of b self.new ≡ (if buffer.0 == b.0 then touched key.now before (touches_of b self.old) else touches_of b self.old)) }
+        ensures ok { OnOk result ((b : HandleValue) → touches_of b self.new ≡ (if buffer.0 == b.0 then with_touch key.now before (touches_of b self.old) else touches_of b self.old)) }
         ensures err { OnErr result (self.new ≡ self.old) }
     {
         let alloc = self.alloc;

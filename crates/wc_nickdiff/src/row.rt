@@ -20,7 +20,7 @@ pub(crate) fn key_of(alloc: Global, item: &Item) -> Result<Key, NoMemory>
     })
 }
 
-/// The name of the group that a row stands in, or of the root.
+/// The name of the group that a row is in, or of the root.
 pub(crate) fn parent_of(row: &Row) -> &[u8]
     ensures { result.now ≡ parent_of row.now }
 {

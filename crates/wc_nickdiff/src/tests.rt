@@ -126,7 +126,7 @@ pub(crate) fn name_of(item: &Item) -> &str {
     std::str::from_utf8(item.name.as_slice()).unwrap_or("?")
 }
 
-/// The items of a push as words: each of a diff behind its sign, and those of a full list behind a dot.
+/// The items of a push as words: each of a diff after its sign, and those of a full list after a dot.
 fn spelled(alloc: Global, push: &Push) -> Result<String, AllocError> {
     let mut words = String::new(alloc);
     match push {

@@ -37,7 +37,7 @@ impl Writer {
         self.items
     }
 
-    /// Puts an item for each row behind the items, with its parent where that differs from the one
+    /// Puts an item for each row after the items, with its parent where that differs from the one
     /// before. The parent of a row that is out is as it was told, and that of another as it is now.
     pub(crate) fn put_all(
         &mut self,
@@ -95,7 +95,7 @@ impl Writer {
 }
 
 /// The item of the group of a name or of the root, as it was told for what is out, and otherwise as it
-/// is now. Where no such group stands, it is the root's.
+/// is now. Where no such group is, it is the root's.
 fn group_item(
     alloc: Global,
     mark: Mark,

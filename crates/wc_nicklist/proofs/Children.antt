@@ -1,4 +1,4 @@
--- The children of a group stand behind it, and the first of them right behind it.
+-- The children of a group come after it, and the first of them right after it.
 use Rattle.std.proofs.Common.{◌≡◌, ℕ, true, false, Option, Some, List, [], ◌∷◌, ◌++◌, ◌⊎◌, map, refl, sym, ap, ◌∙◌, subst, inl, inr, suc, drop, append_assoc}
 use Rattle.std.proofs.lemmas.List.{map-append}
 use Rattle.std.specs.Prelude.{IfSome, slice_get}
@@ -9,30 +9,30 @@ use Rattle.wc_nicklist.specs.declared.item.Key.{Key}
 use Rattle.wc_nicklist.specs.declared.item.Row.{Row}
 use Rattle.wc_nicklist.specs.declared.store.Store.{Store}
 use Rattle.wc_nicklist.specs.Order.{key, key_at, group_key, key_cmp, address, before}
-use Rattle.wc_nicklist.specs.Rows.{key_eq, path_eq, find_row, parent_of, below, has_child, AllBehind, Ascending, Keyed, IsRows}
+use Rattle.wc_nicklist.specs.Rows.{key_eq, path_eq, find_row, parent_of, below, has_child, AllAfter, Ascending, Keyed, IsRows}
 use Rattle.wc_nicklist.specs.Stored.{entry_row, begins_below}
-use Rattle.wc_nicklist.specs.Tree.{Leaf, entries_in, rows_in, StandsIn}
+use Rattle.wc_nicklist.specs.Tree.{Leaf, entries_in, rows_in, IsInTree}
 use Rattle.wc_nicklist.proofs.OrderLaws.{by_bool, path_eq-true, path_eq-same, before_below, before_further, before_itself, before_less, before_one_way, between, group_address}
-use Rattle.wc_nicklist.proofs.RowLaws.{behind_found, find_key}
+use Rattle.wc_nicklist.proofs.RowLaws.{after_found, find_key}
 use Rattle.wc_nicklist.proofs.Held.{parent_found}
-use Rattle.wc_nicklist.proofs.Leaves.{ascending_right, behind_in, front, back}
+use Rattle.wc_nicklist.proofs.Leaves.{ascending_right, after_in, front, back}
 use Rattle.wc_nicklist.proofs.Places.{find_place}
 use Rattle.wc_nicklist.proofs.TreeLaws.{whole_entry}
 
--- nothing stands between two neighbours
+-- nothing is between two neighbours
 none_between : (a b : List Row) (g y p : Row) (k : Key) → Ascending (a ++ g ∷ y ∷ b) → find_row k (a ++ g ∷ y ∷ b) ≡ Some p → before g p ≡ true → before p y ≡ true → ⊥
 none_between [] b g y p k h f l r = by_bool (key_eq (key g) k) _
     (λ t. let i : Some g ≡ Some p = rw t at f in let j : g ≡ p = cc in true≢false (sym l ∙ ap (before g) (sym j) ∙ before_itself g))
     (λ t. by_bool (key_eq (key y) k) _
     (λ u. let i : Some y ≡ Some p = rw (t, u) at f in let j : y ≡ p = cc in true≢false (sym r ∙ ap (λ z. before z y) (sym j) ∙ before_itself y))
-    (λ u. true≢false (sym (behind_found y k b p h.1.0 (rw (t, u) at f)) ∙ before_one_way p y r)))
+    (λ u. true≢false (sym (after_found y k b p h.1.0 (rw (t, u) at f)) ∙ before_one_way p y r)))
 none_between (z ∷ zs) b g y p k h f l r = by_bool (key_eq (key z) k) _
-    (λ t. let i : Some z ≡ Some p = rw t at f in let j : z ≡ p = cc in true≢false (sym (ap (λ w. before w g) (sym j) ∙ behind_mid z zs h.0) ∙ before_one_way g p l))
+    (λ t. let i : Some z ≡ Some p = rw t at f in let j : z ≡ p = cc in true≢false (sym (ap (λ w. before w g) (sym j) ∙ after_mid z zs h.0) ∙ before_one_way g p l))
     (λ t. none_between zs b g y p k h.1 (rw t at f) l r)
   where
-    behind_mid : (x : Row) (xs : List Row) → AllBehind x (xs ++ g ∷ y ∷ b) → before x g ≡ true
-    behind_mid x [] h = h.0
-    behind_mid x (w ∷ ws) h = behind_mid x ws h.1
+    after_mid : (x : Row) (xs : List Row) → AllAfter x (xs ++ g ∷ y ∷ b) → before x g ≡ true
+    after_mid x [] h = h.0
+    after_mid x (w ∷ ws) h = after_mid x ws h.1
 
 -- a path of names that goes on as another one is that one, or goes further
 not_nil : {A : Type 0} (xs ys : List A) (x : A) → [] ≡ xs ++ x ∷ ys → ⊥
@@ -52,7 +52,7 @@ goes_on (y ∷ ys) (g ∷ gs) k d rest e =
       | inr r ↦ inr (r.0, r.1, (λ j. first j ∷ r.2 j))
     ]
 
--- where a later row stands right below the group, so does the next one
+-- where a later row is right below the group, so does the next one
 module _ (a b : List Row) (g y x : Row) (ok : IsRows (a ++ g ∷ y ∷ b)) (e : g.item.is_group ≡ true) (p : x.path ≡ below g) (h : before y x ≡ true) where
   next_before : before g y ≡ true
   next_before = (ascending_right a (g ∷ y ∷ b) ok.ascending).0.0
@@ -90,10 +90,10 @@ none_in_front [] b g h e =
     let own : path_eq g.path (below g) ≡ false = false_from_ne_true _ (λ t. true≢false (sym (before_below g g e (path_eq-true _ _ t)) ∙ before_itself g)) in
     rw own refl
 none_in_front (z ∷ zs) b g h e =
-    let other : path_eq z.path (below g) ≡ false = false_from_ne_true _ (λ t. true≢false (sym (behind_in z g zs b h.0) ∙ before_one_way g z (before_below g z e (path_eq-true _ _ t)))) in
+    let other : path_eq z.path (below g) ≡ false = false_from_ne_true _ (λ t. true≢false (sym (after_in z g zs b h.0) ∙ before_one_way g z (before_below g z e (path_eq-true _ _ t)))) in
     rw other (none_in_front zs b g h.1 e)
 
-some_child : (path : List (List ℕ)) (y : Row) (rows : List Row) → AllBehind y rows → has_child path rows ≡ true → (x : Row) × (x.path ≡ path) × (before y x ≡ true)
+some_child : (path : List (List ℕ)) (y : Row) (rows : List Row) → AllAfter y rows → has_child path rows ≡ true → (x : Row) × (x.path ≡ path) × (before y x ≡ true)
 some_child path y [] h e = absurd (true≢false (sym e))
 some_child path y (x ∷ xs) h e = by_bool (path_eq x.path path) _
     (λ t. (x, path_eq-true _ _ t, h.0))
@@ -113,16 +113,16 @@ next_tells a (y ∷ b) g ok e = none_in_front a (y ∷ b) g ok.ascending e ∙ b
 pub is_its_group : (s : Store) (leaves : List Leaf) (g : Row) → find_row (key_at true g.item.name) (rows_in s leaves) ≡ Some g → g.item.is_group ≡ true
 is_its_group s leaves g found = ap (λ k. k.is_group) (find_key (key_at true g.item.name) (rows_in s leaves) g found)
 
--- the rows behind a place of a leaf
-pub children_behind : (s : Store) (leaves : List Leaf) (c n : ℕ) (g : Row) (behind : List Row) (t : StandsIn s leaves c n (key_at true g.item.name)) → IsRows (rows_in s leaves) → find_row (key_at true g.item.name) (rows_in s leaves) ≡ Some g → IfSome (slice_get leaves c) (λ l. behind ≡ map (entry_row s) (drop (suc n) l.items ++ entries_in (drop (suc c) leaves))) → has_child (below g) (rows_in s leaves) ≡ begins_below (below g) behind
-children_behind s leaves c n g behind t ok found is =
+-- the rows after a place of a leaf
+pub children_after : (s : Store) (leaves : List Leaf) (c n : ℕ) (g : Row) (following : List Row) (t : IsInTree s leaves c n (key_at true g.item.name)) → IsRows (rows_in s leaves) → find_row (key_at true g.item.name) (rows_in s leaves) ≡ Some g → IfSome (slice_get leaves c) (λ l. following ≡ map (entry_row s) (drop (suc n) l.items ++ entries_in (drop (suc c) leaves))) → has_child (below g) (rows_in s leaves) ≡ begins_below (below g) following
+children_after s leaves c n g following t ok found is =
     let f = entry_row s in
     let k = key_at true g.item.name in
     let one : Some (f t.entry) ≡ Some g = sym t.found ∙ found in
     let same : f t.entry ≡ g = cc in
     let group = is_its_group s leaves g found in
-    let P : Option Leaf → Type 0 = λ o. IfSome o (λ l. behind ≡ map f (drop (suc n) l.items ++ entries_in (drop (suc c) leaves))) in
-    let b : behind ≡ map f (back leaves c t.leaf (suc n)) = subst P t.outer.got is in
+    let P : Option Leaf → Type 0 = λ o. IfSome o (λ l. following ≡ map f (drop (suc n) l.items ++ entries_in (drop (suc c) leaves))) in
+    let b : following ≡ map f (back leaves c t.leaf (suc n)) = subst P t.outer.got is in
     let w : rows_in s leaves ≡ map f (front leaves c t.leaf n) ++ g ∷ map f (back leaves c t.leaf (suc n)) =
     ap (map f) (whole_entry s leaves c n k t)
     ∙ map-append f (front leaves c t.leaf n) (t.entry ∷ back leaves c t.leaf (suc n))

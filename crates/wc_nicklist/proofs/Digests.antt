@@ -10,15 +10,15 @@ use Rattle.std.proofs.lemmas.Bool.{cases_order}
 use Rattle.std.proofs.lemmas.Bool.Decides.{nat_tests}
 use Rattle.std.proofs.lemmas.Cmp.{tied_itself}
 use Rattle.std.specs.Char.{to_ascii_lowercase}
-use Rattle.wc_text.specs.Order.{folded, fold_order}
+use Rattle.wc_text.specs.Order.{lower_case, fold_order}
 use Rattle.wc_nicklist.specs.declared.digest.Digest.{Digest}
 use Rattle.wc_nicklist.specs.declared.item.Key.{Key}
 use Rattle.wc_nicklist.specs.declared.item.Row.{Row}
-use Rattle.wc_nicklist.specs.Digest.{front, cased, place_of, IsBytes, IsDigest}
+use Rattle.wc_nicklist.specs.Digest.{front, bytes_compared, place_of, IsBytes, IsPathDigest}
 use Rattle.wc_nicklist.specs.Order.{key_at, key_cmp, kind, group_key, address_of, address_cmp, is_before}
 use Rattle.wc_nicklist.proofs.OrderLaws.{bytes_true, by_bool, fold_total, key_total, kind_exact}
 
--- one byte more stands behind those before
+-- one byte more comes after those before
 pub front_more : (n : ℕ) (xs : List ℕ) → front (suc n) xs ≡ front n xs * 256 + get_or xs n 0
 front_more zero [] = refl
 front_more zero (x ∷ xs) = omega arith
@@ -46,12 +46,12 @@ lower_small x h = by_bool (nat_lt x 65) _
     (λ u. rw (t, u) (let l : x < 91 = grind (arith, nat_tests) in omega (arith, l)))
     (λ u. rw (t, u) h))
 
-pub folded_bytes : (n : ℕ) (xs : List ℕ) → IsBytes xs → AreBytes n (folded xs)
+pub folded_bytes : (n : ℕ) (xs : List ℕ) → IsBytes xs → AreBytes n (lower_case xs)
 folded_bytes zero xs h = tt
 folded_bytes (suc n) [] h = tt
 folded_bytes (suc n) (x ∷ xs) h = (lower_small x (h 0), folded_bytes n xs (λ i. h (suc i)))
 
-pub cased_bytes : (n : ℕ) (keeps_case : Bool) (xs : List ℕ) → IsBytes xs → AreBytes n (cased keeps_case xs)
+pub cased_bytes : (n : ℕ) (keeps_case : Bool) (xs : List ℕ) → IsBytes xs → AreBytes n (bytes_compared keeps_case xs)
 cased_bytes n true xs h = are_bytes n xs h
 cased_bytes n false xs h = folded_bytes n xs h
 
@@ -62,7 +62,7 @@ front_next n xs =
     let same : suc n ≡ n + 1 = omega arith in
     subst P same (front_more n xs)
 
--- a greater digit in base p stands for more, whatever stands behind the digits
+-- a greater digit in base p stands for more, whatever comes after the digits
 above : (p x y u v : ℕ) → y < x → v < p → x * p + u ≤ y * p + v → ⊥
 above p x y u v h l e = let m : suc y * p ≤ x * p = mul-le-mul_right p h in absurd (omega arith)
 
@@ -166,7 +166,7 @@ one_name (m ∷ k ∷ ks) n h l e = absurd (omega arith)
 abbrev PathBytes : List (List ℕ) → Type 0
 PathBytes p = (n : List ℕ) → p ≡ n ∷ [] → IsBytes n
 
--- rows of one place, but for the last, stand below the same groups
+-- rows of one place, but for the last, are below the same groups
 pub place_same : (p q : List (List ℕ)) (g h : Bool) → PathBytes p → PathBytes q → place_of p g ≡ place_of q h → (place_of p g ≡ 255 → ⊥) → (p ≡ q) × (g ≡ h)
 unfolding place_of Same
 place_same [] [] g h a b e n = (refl, kind_exact g h e)
@@ -185,7 +185,7 @@ place_same (m ∷ []) (k ∷ []) g h a b e n = by_bool (nat_le (length m) 15) _
 place_same (m ∷ []) (k ∷ l ∷ ls) g h a b e n = absurd (n e)
 place_same (m ∷ l ∷ ls) q g h a b e n = absurd (n refl)
 
--- the order of what stands below the same groups
+-- the order of what is below the same groups
 then_equal : (o : Ordering) → ordering_then o Equal ≡ o
 then_equal Less = refl
 then_equal Equal = refl
@@ -202,33 +202,33 @@ beside r path g name p k =
     ∙ ap is_lt (ends_decide (map group_key path) (key_at g r.item.name) (key_at g name))
     ∙ ap (λ o. is_lt (ordering_then o (fold_order r.item.name name))) (tied_itself nat_cmp_total (kind g))
 
-fold_less : (a b : List ℕ) → AreBytes 16 (folded a) → AreBytes 16 (folded b) → front 16 (folded a) < front 16 (folded b) → fold_order a b ≡ Less
+fold_less : (a b : List ℕ) → AreBytes 16 (lower_case a) → AreBytes 16 (lower_case b) → front 16 (lower_case a) < front 16 (lower_case b) → fold_order a b ≡ Less
 unfolding fold_order
-fold_less a b h l e = ap (λ o. ordering_then o (slice_cmp nat_cmp a b)) (front_less 16 (folded a) (folded b) h l e)
+fold_less a b h l e = ap (λ o. ordering_then o (slice_cmp nat_cmp a b)) (front_less 16 (lower_case a) (lower_case b) h l e)
 
 -- names whose first bytes differ are in the order of those
-pub fold_told : (a b : List ℕ) → IsBytes a → IsBytes b → (front 16 (folded a) ≡ front 16 (folded b) → ⊥) → nat_lt (front 16 (folded a)) (front 16 (folded b)) ≡ is_lt (fold_order a b)
-fold_told a b h l n = elim (cases_order (front 16 (folded a)) (front 16 (folded b))) [
+pub fold_told : (a b : List ℕ) → IsBytes a → IsBytes b → (front 16 (lower_case a) ≡ front 16 (lower_case b) → ⊥) → nat_lt (front 16 (lower_case a)) (front 16 (lower_case b)) ≡ is_lt (fold_order a b)
+fold_told a b h l n = elim (cases_order (front 16 (lower_case a)) (front 16 (lower_case b))) [
   | inl same ↦ absurd (n same)
   | inr other ↦ elim other [
-    | inl less ↦ (let t : nat_lt (front 16 (folded a)) (front 16 (folded b)) ≡ true = grind (arith, nat_tests) in t ∙ ap is_lt (sym (fold_less a b (folded_bytes 16 a h) (folded_bytes 16 b l) less)))
+    | inl less ↦ (let t : nat_lt (front 16 (lower_case a)) (front 16 (lower_case b)) ≡ true = grind (arith, nat_tests) in t ∙ ap is_lt (sym (fold_less a b (folded_bytes 16 a h) (folded_bytes 16 b l) less)))
     | inr more ↦
-        (let t : nat_lt (front 16 (folded a)) (front 16 (folded b)) ≡ false = grind (arith, nat_tests) in
+        (let t : nat_lt (front 16 (lower_case a)) (front 16 (lower_case b)) ≡ false = grind (arith, nat_tests) in
         t ∙ ap is_lt (sym (fold_total.antisymm a b ∙ ap ordering_reverse (fold_less b a (folded_bytes 16 b l) (folded_bytes 16 a h) more))))
   ]
 ]
 
--- a name stands where it stands itself
+-- a name is where it is itself
 pub fold_itself : (a b : List ℕ) → bytes_eq a b ≡ true → Equal ≡ fold_order a b
 fold_itself a b t = sym (tied_itself fold_total a) ∙ ap (fold_order a) (bytes_true a b t)
 
 -- what digests of one place tell
-pub told_place : (r : Row) (path : List (List ℕ)) (g : Bool) (name : List ℕ) (d e : Digest) → IsDigest d r.path r.item.is_group r.item.name → IsDigest e path g name → d.place ≡ e.place → (d.place ≡ 255 → ⊥) → is_before r (address_of path (key_at g name)) ≡ is_lt (fold_order r.item.name name)
+pub told_place : (r : Row) (path : List (List ℕ)) (g : Bool) (name : List ℕ) (d e : Digest) → IsPathDigest d r.path r.item.is_group r.item.name → IsPathDigest e path g name → d.place ≡ e.place → (d.place ≡ 255 → ⊥) → is_before r (address_of path (key_at g name)) ≡ is_lt (fold_order r.item.name name)
 told_place r path g name d e own other same some =
     let p = place_same r.path path r.item.is_group g own.path_bytes other.path_bytes (sym own.place ∙ same ∙ other.place) (λ i. some (own.place ∙ i)) in
     beside r path g name p.0 p.1
 
-pub told_name : (r : Row) (path : List (List ℕ)) (g : Bool) (name : List ℕ) (d e : Digest) → IsDigest d r.path r.item.is_group r.item.name → IsDigest e path g name → d.place ≡ e.place → (d.place ≡ 255 → ⊥) → (d.name ≡ e.name → ⊥) → nat_lt d.name e.name ≡ is_before r (address_of path (key_at g name))
+pub told_name : (r : Row) (path : List (List ℕ)) (g : Bool) (name : List ℕ) (d e : Digest) → IsPathDigest d r.path r.item.is_group r.item.name → IsPathDigest e path g name → d.place ≡ e.place → (d.place ≡ 255 → ⊥) → (d.name ≡ e.name → ⊥) → nat_lt d.name e.name ≡ is_before r (address_of path (key_at g name))
 told_name r path g name d e own other same some differs =
     (λ i. nat_lt (own.name i) (other.name i))
     ∙ fold_told r.item.name name own.name_bytes other.name_bytes (λ i. differs (own.name ∙ i ∙ sym other.name))

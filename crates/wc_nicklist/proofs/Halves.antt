@@ -1,4 +1,4 @@
--- The second half of a list moves behind the first, one element at a time.
+-- The second half of a list moves after the first, one element at a time.
 use Rattle.std.proofs.Common.{◌≡◌, ℕ, suc, ◌≤◌, ◌<◌, List, [], ◌∷◌, ◌++◌, length, take, drop, get_or, sym, ap, ◌∙◌, arith, drop-cons, append_assoc, append-nil, take-append-drop, length-take}
 use Rattle.std.specs.Prelude.{remove}
 use Rattle.std.proofs.lemmas.List.{take_at, drop_at, take_all, drop_all}

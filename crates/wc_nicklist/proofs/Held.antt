@@ -5,7 +5,7 @@ use Rattle.wc_nicklist.specs.declared.item.Item.{Item}
 use Rattle.wc_nicklist.specs.declared.item.Key.{Key}
 use Rattle.wc_nicklist.specs.declared.item.Row.{Row}
 use Rattle.wc_nicklist.specs.Order.{key, key_at, group_key}
-use Rattle.wc_nicklist.specs.Rows.{key_eq, path_eq, find_row, insert_row, remove_row, replace_row, changed_row, root_name, is_root, last_or, parent_of, below, below_row, path_below, has_child, TextsAreUtf8, IsHeld, IsRows}
+use Rattle.wc_nicklist.specs.Rows.{key_eq, path_eq, find_row, insert_row, remove_row, replace_row, changed_row, root_name, is_root, last_or, parent_of, below, below_row, path_below, has_child, TextsAreUtf8, IsListedRow, IsRows}
 use Rattle.wc_nicklist.specs.Calls.{row_under}
 use Rattle.wc_nicklist.proofs.OrderLaws.{by_bool, bytes_true, key_eq-true, path_eq-same}
 use Rattle.wc_nicklist.proofs.RowLaws.{find_key, find-insert, find-remove, find-replace, keyed-insert, keyed-remove, keyed-replace, ascending-insert, ascending-remove, ascending-replace}
@@ -60,7 +60,7 @@ held-insert rows g parent path i ok e a named no_root utf8 =
           (λ t.
           let j : Some r ≡ Some x = rw t at d in
           let same : r ≡ x = cc in
-          subst (IsHeld new) same (record {
+          subst (IsListedRow new) same (record {
             parent = path_below-insert (parent_of r) r rows path a (ap (λ p. path_below p rows) (path_below-parent parent rows path e) ∙ e);
             level = refl;
             named = named;
@@ -78,7 +78,7 @@ held-insert rows g parent path i ok e a named no_root utf8 =
           });
     }
 
--- a row that stands below a path
+-- a row that is below a path
 no_child : (path : List (List ℕ)) (rows : List Row) (k : Key) (x : Row) → has_child path rows ≡ false → find_row k rows ≡ Some x → x.path ≡ path → ⊥
 no_child path [] k x h e i = cc
 no_child path (y ∷ ys) k x h e i = by_bool (key_eq (key y) k) _
@@ -118,7 +118,7 @@ held-remove rows k r ok e childless = record {
       (λ t. kept q x (rw t at d));
 }
   where
-    kept : (q : Key) (x : Row) → find_row q rows ≡ Some x → IsHeld (remove_row k rows) x
+    kept : (q : Key) (x : Row) → find_row q rows ≡ Some x → IsListedRow (remove_row k rows) x
     kept q x there =
         let h = ok.held q x there in
         record {
@@ -147,7 +147,7 @@ held-change rows k r i ok e utf8 = record {
       let j : Some s ≡ Some x = rw t at d in
       let same : s ≡ x = cc in
       let h = ok.held k r e in
-      subst (IsHeld new) same (record {
+      subst (IsListedRow new) same (record {
         parent = below_kept (parent_of r) r.path h.parent;
         level = h.level;
         named = h.named;

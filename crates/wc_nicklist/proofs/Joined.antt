@@ -6,7 +6,7 @@ use Rattle.wc_nicklist.specs.Stored.{IsSplitAt}
 use Rattle.wc_nicklist.specs.Tree.{Leaf, entries_in, IsLeaf, AreLeaves, AreFewAt}
 use Rattle.wc_nicklist.proofs.Leaves.{entries_in-append, entries_at, leaves_left, leaves_right, leaves-append}
 use Rattle.wc_nicklist.proofs.Places.{drop_of_get, split_at}
-use Rattle.wc_nicklist.proofs.TreeLaws.{before_made, behind_made, front_length}
+use Rattle.wc_nicklist.proofs.TreeLaws.{before_made, after_made, front_length}
 
 module _ (leaves : List Leaf) (c : ℕ) (f : AreFewAt leaves c) where
   abbrev pub rest : List Leaf
@@ -26,7 +26,7 @@ module _ (leaves : List Leaf) (c : ℕ) (f : AreFewAt leaves c) where
       let len = front_length leaves c s.within in
       let one : leaves ≡ pre ++ f.next ∷ rest = s.whole ∙ ap (λ z. take c leaves ++ f.leaf ∷ z) next_first ∙ sym (append_assoc (take c leaves) (f.leaf ∷ []) (f.next ∷ rest)) in
       let more : length pre ≡ c + 1 = simp length-append (omega arith) in
-      (λ i. before_made leaves pre (f.next ∷ rest) (c + 1) one more i ++ behind_made leaves pre rest f.next (c + 1) one more i)
+      (λ i. before_made leaves pre (f.next ∷ rest) (c + 1) one more i ++ after_made leaves pre rest f.next (c + 1) one more i)
       ∙ append_assoc (take c leaves) (f.leaf ∷ []) rest
 
   pub without_split : IsSplitAt (remove leaves (c + 1)) c f.leaf rest

@@ -14,7 +14,7 @@ use Rattle.wc_nicklist.specs.declared.store.RowId.{RowId}
 use Rattle.wc_nicklist.specs.declared.store.Store.{Store}
 use Rattle.wc_nicklist.specs.Calls.{is_bad_name, when, or_else, name_refusal, row_under, has_children}
 use Rattle.wc_nicklist.specs.Index.{id_in}
-use Rattle.wc_nicklist.specs.Kept.{row_under_id, IsIndexOf, RoomStands, IfRoom, parent_in, IsKept}
+use Rattle.wc_nicklist.specs.Kept.{row_under_id, IndexesRows, RoomIsFree, IfRoom, parent_in, IsNicklistKept}
 use Rattle.wc_nicklist.specs.Order.{key, key_at, group_key}
 use Rattle.wc_nicklist.specs.Rows.{key_eq, find_row, insert_row, remove_row, changed_row, replace_row, change_found, change_row, is_root, below_row, path_below, TextsAreUtf8, IsRows}
 use Rattle.wc_nicklist.specs.Stored.{row_at, Stored}
@@ -28,25 +28,25 @@ is_there None h = absurd (true≢false (sym h))
 is_there (Some r) h = (r, refl)
 
 -- the row under the number that the index has
-pub id_row : (stored : Stored) (index : Index) (k : Key) (j : RowId) → IsIndexOf stored index → id_in index k ≡ Some j → (r : Row) × (row_at stored.store j.0 ≡ Some r) × (find_row k stored.rows ≡ Some r)
+pub id_row : (stored : Stored) (index : Index) (k : Key) (j : RowId) → IndexesRows stored index → id_in index k ≡ Some j → (r : Row) × (row_at stored.store j.0 ≡ Some r) × (find_row k stored.rows ≡ Some r)
 id_row stored index k j h e =
     let row : row_at stored.store j.0 ≡ find_row k stored.rows = ap (row_under_id stored) (sym e) ∙ h.rows k in
     let some : true ≡ is_some (find_row k stored.rows) = ap is_some (sym e) ∙ h.some k in
     let r = is_there (find_row k stored.rows) (sym some) in
     (r.0, row ∙ r.1, r.1)
 
-pub no_id : (stored : Stored) (index : Index) (k : Key) → IsIndexOf stored index → id_in index k ≡ None → find_row k stored.rows ≡ None
+pub no_id : (stored : Stored) (index : Index) (k : Key) → IndexesRows stored index → id_in index k ≡ None → find_row k stored.rows ≡ None
 no_id stored index k h e = sym (h.rows k) ∙ ap (row_under_id stored) e
 
 -- the row under the number of a key is the one that is found
-pub id_known : (stored : Stored) (index : Index) (k : Key) (j : RowId) → IsIndexOf stored index → id_in index k ≡ Some j → IsSomeAnd (row_at stored.store j.0) (λ r. find_row (key r) stored.rows ≡ Some r)
+pub id_known : (stored : Stored) (index : Index) (k : Key) (j : RowId) → IndexesRows stored index → id_in index k ≡ Some j → IsSomeAnd (row_at stored.store j.0) (λ r. find_row (key r) stored.rows ≡ Some r)
 id_known stored index k j h e =
     let x = id_row stored index k j h e in
     let P : Option Row → Type 0 = λ o. IsSomeAnd o (λ r. find_row (key r) stored.rows ≡ Some r) in
     subst P (sym x.1) (ap (λ z. find_row z stored.rows) (find_key k stored.rows x.0 x.2) ∙ x.2)
 
 -- the row stays under its number where only another number's changes
-kept_under : (stored after : Stored) (index : Index) (k : Key) (n : ℕ) → IsIndexOf stored index → ((m : ℕ) → (n ≡ m → ⊥) → row_at after.store m ≡ row_at stored.store m) → ((r : Row) → row_at stored.store n ≡ Some r → find_row k stored.rows ≡ Some r → ⊥) → row_under_id after (id_in index k) ≡ find_row k stored.rows
+kept_under : (stored after : Stored) (index : Index) (k : Key) (n : ℕ) → IndexesRows stored index → ((m : ℕ) → (n ≡ m → ⊥) → row_at after.store m ≡ row_at stored.store m) → ((r : Row) → row_at stored.store n ≡ Some r → find_row k stored.rows ≡ Some r → ⊥) → row_under_id after (id_in index k) ≡ find_row k stored.rows
 kept_under stored after index k n h same apart = go (id_in index k) refl
   where
     go : (o : Option RowId) → id_in index k ≡ o → row_under_id after o ≡ find_row k stored.rows
@@ -70,13 +70,13 @@ row_of_either after false v w x y h l = l refl
 
 -- an item is added where room was made
 pub put_kept : (stored after : Stored) (index next : Index) (r : Room) (g : Bool) (i : Item) (n : List ℕ) (x : Row) (id : RowId)
-    → IsRows stored.rows → IsIndexOf stored index → RoomStands stored index r
+    → IsRows stored.rows → IndexesRows stored index → RoomIsFree stored index r
     → find_row (key_at g i.name) stored.rows ≡ None → name_refusal g i.name ≡ None → TextsAreUtf8 i
     → n ≡ i.name → x ≡ row_under g r.path i → after.rows ≡ insert_row x stored.rows
     → row_at stored.store id.0 ≡ None
     → ((m : ℕ) → row_at after.store m ≡ cond (nat_eq id.0 m) (Some x) (row_at stored.store m))
     → ((k : Key) → id_in next k ≡ cond (key_eq (key_at g n) k) (Some id) (id_in index k))
-    → IsKept after next None
+    → IsNicklistKept after next None
 put_kept stored after index next r g i n x id ok indexed room absent named utf8 en ex rows_are fresh at ids_are =
     let name = is_name g i.name named in
     let row = row_under g r.path i in
@@ -108,14 +108,14 @@ apart_from k q rows r found t x same there =
 
 -- a row without children is taken out
 pub take_kept : (stored after : Stored) (index next : Index) (g : Bool) (name : List ℕ) (r : Row) (id : RowId)
-    → IsRows stored.rows → IsIndexOf stored index
+    → IsRows stored.rows → IndexesRows stored index
     → find_row (key_at g name) stored.rows ≡ Some r
     → row_at stored.store id.0 ≡ Some r
     → (g ≡ true → has_children (find_row (key_at g name) stored.rows) stored.rows ≡ false)
     → after.rows ≡ remove_row (key_at g name) stored.rows
     → ((m : ℕ) → row_at after.store m ≡ cond (nat_eq id.0 m) None (row_at stored.store m))
     → ((k : Key) → id_in next k ≡ cond (key_eq (key_at g name) k) None (id_in index k))
-    → IsKept after next None
+    → IsNicklistKept after next None
 take_kept stored after index next g name r id ok indexed found there childless rows_are at ids =
     let q = key_at g name in
     let gone : (k : Key) → find_row k after.rows ≡ cond (key_eq q k) None (find_row k stored.rows) = λ k. ap (find_row k) rows_are ∙ find-remove q k stored.rows in
@@ -138,11 +138,11 @@ take_kept stored after index next g name r id ok indexed found there childless r
 
 -- the item of a row is written
 pub write_kept : (stored after : Stored) (index : Index) (k : Key) (r : Row) (i : Item) (id : RowId)
-    → IsRows stored.rows → IsIndexOf stored index
+    → IsRows stored.rows → IndexesRows stored index
     → find_row k stored.rows ≡ Some r → id_in index k ≡ Some id → TextsAreUtf8 i
     → after.rows ≡ change_row k i stored.rows
     → ((m : ℕ) → row_at after.store m ≡ cond (nat_eq id.0 m) (Some (changed_row r i)) (row_at stored.store m))
-    → IsKept after index None
+    → IsNicklistKept after index None
 write_kept stored after index k r i id ok indexed found own utf8 rows_are at =
     let s = changed_row r i in
     let rows : after.rows ≡ replace_row s stored.rows = rows_are ∙ ap (λ o. change_found o i stored.rows) found in

@@ -8,13 +8,13 @@ use Rattle.wc_nicklist.specs.declared.item.Key.{Key}
 use Rattle.wc_nicklist.specs.declared.item.Row.{Row}
 use Rattle.wc_nicklist.specs.declared.store.Store.{Store}
 use Rattle.wc_nicklist.specs.Order.{is_before, before}
-use Rattle.wc_nicklist.specs.Rows.{Ascending, AllBehind}
-use Rattle.wc_nicklist.specs.Stored.{entry_row, AllStand, AllBefore, FirstNotBefore, IsPlace, IsSplitAt}
+use Rattle.wc_nicklist.specs.Rows.{Ascending, AllAfter}
+use Rattle.wc_nicklist.specs.Stored.{entry_row, AllEntriesLead, AllBefore, FirstNotBefore, IsRowPlace, IsSplitAt}
 use Rattle.wc_nicklist.specs.Tree.{Leaf, leaf_entries, leaf_rows, entries_in, rows_in, IsLeaf, AreLeaves, IsLeafPlace}
 use Rattle.wc_nicklist.proofs.OrderLaws.{before_chain_at}
 use Rattle.wc_nicklist.proofs.Places.{split_at}
 
--- all of a leaf's rows stand before the address only if it is the last leaf
+-- all of a leaf's rows are before the address only if it is the last leaf
 abbrev pub EndsAt : Store → List Leaf → List Key → ℕ → Type 0
 EndsAt s leaves a c = (l : Leaf) → l ≡ get_or leaves c l → AllBefore (leaf_rows s l) a → drop (suc c) leaves ≡ []
 
@@ -25,11 +25,11 @@ pub rows_in-append : (s : Store) (xs ys : List Leaf) → rows_in s (xs ++ ys) �
 rows_in-append s xs ys = ap (map (entry_row s)) (entries_in-append xs ys) ∙ map-append (entry_row s) (entries_in xs) (entries_in ys)
 
 -- what holds of all entries holds of those of a part
-pub stand_left : (s : Store) (xs ys : List Entry) → AllStand s (xs ++ ys) → AllStand s xs
+pub stand_left : (s : Store) (xs ys : List Entry) → AllEntriesLead s (xs ++ ys) → AllEntriesLead s xs
 stand_left s [] ys h = tt
 stand_left s (x ∷ xs) ys h = (h.0, stand_left s xs ys h.1)
 
-pub stand_right : (s : Store) (xs ys : List Entry) → AllStand s (xs ++ ys) → AllStand s ys
+pub stand_right : (s : Store) (xs ys : List Entry) → AllEntriesLead s (xs ++ ys) → AllEntriesLead s ys
 stand_right s [] ys h = h
 stand_right s (x ∷ xs) ys h = stand_right s xs ys h.1
 
@@ -45,22 +45,22 @@ pub all_before_right : (xs ys : List Row) (a : List Key) → AllBefore (xs ++ ys
 all_before_right [] ys a h = h
 all_before_right (x ∷ xs) ys a h = all_before_right xs ys a h.1
 
-pub behind_in : (x r : Row) (xs b : List Row) → AllBehind x (xs ++ r ∷ b) → before x r ≡ true
-behind_in x r [] b h = h.0
-behind_in x r (y ∷ ys) b h = behind_in x r ys b h.1
+pub after_in : (x r : Row) (xs b : List Row) → AllAfter x (xs ++ r ∷ b) → before x r ≡ true
+after_in x r [] b h = h.0
+after_in x r (y ∷ ys) b h = after_in x r ys b h.1
 
--- rows in order stand before an address if the last one does
+-- rows in order are before an address if the last one does
 pub all_with_last : (xs : List Row) (r : Row) (a : List Key) → Ascending (xs ++ r ∷ []) → is_before r a ≡ true → AllBefore (xs ++ r ∷ []) a
 all_with_last [] r a h b = (b, tt)
-all_with_last (x ∷ xs) r a h b = (before_chain_at x r a (behind_in x r xs [] h.0) b, all_with_last xs r a h.1 b)
+all_with_last (x ∷ xs) r a h b = (before_chain_at x r a (after_in x r xs [] h.0) b, all_with_last xs r a h.1 b)
 
 pub ascending_left : (xs ys : List Row) → Ascending (xs ++ ys) → Ascending xs
 ascending_left [] ys h = tt
-ascending_left (x ∷ xs) ys h = (behind_left xs h.0, ascending_left xs ys h.1)
+ascending_left (x ∷ xs) ys h = (after_left xs h.0, ascending_left xs ys h.1)
   where
-    behind_left : (zs : List Row) → AllBehind x (zs ++ ys) → AllBehind x zs
-    behind_left [] b = tt
-    behind_left (z ∷ zs) b = (b.0, behind_left zs b.1)
+    after_left : (zs : List Row) → AllAfter x (zs ++ ys) → AllAfter x zs
+    after_left [] b = tt
+    after_left (z ∷ zs) b = (b.0, after_left zs b.1)
 
 pub ascending_right : (xs ys : List Row) → Ascending (xs ++ ys) → Ascending ys
 ascending_right [] ys h = h
@@ -79,8 +79,8 @@ rows_at s leaves c l p =
     ∙ map-append (entry_row s) (entries_in (take c leaves)) (l.items ++ entries_in (drop (suc c) leaves))
     ∙ ap (λ z. rows_in s (take c leaves) ++ z) (map-append (entry_row s) l.items (entries_in (drop (suc c) leaves)))
 
-pub stand_leaf : (s : Store) (leaves : List Leaf) (c : ℕ) (l : Leaf) → AllStand s (entries_in leaves) → IsSplitAt leaves c l (drop (suc c) leaves) → AllStand s l.items
-stand_leaf s leaves c l h p = stand_left s l.items _ (stand_right s (entries_in (take c leaves)) _ (subst (AllStand s) (entries_at leaves c l p) h))
+pub stand_leaf : (s : Store) (leaves : List Leaf) (c : ℕ) (l : Leaf) → AllEntriesLead s (entries_in leaves) → IsSplitAt leaves c l (drop (suc c) leaves) → AllEntriesLead s l.items
+stand_leaf s leaves c l h p = stand_left s l.items _ (stand_right s (entries_in (take c leaves)) _ (subst (AllEntriesLead s) (entries_at leaves c l p) h))
 
 pub ascending_leaf : (s : Store) (leaves : List Leaf) (c : ℕ) (l : Leaf) → Ascending (rows_in s leaves) → IsSplitAt leaves c l (drop (suc c) leaves) → Ascending (leaf_rows s l)
 ascending_leaf s leaves c l h p = ascending_left (leaf_rows s l) _ (ascending_right (rows_in s (take c leaves)) _ (subst Ascending (rows_at s leaves c l p) h))
@@ -125,7 +125,7 @@ place_of s leaves a c l h e left right = record {
   right = right l e;
 }
 
--- The entries before and behind an address, in a leaf and around it.
+-- The entries before and after an address, in a leaf and around it.
 abbrev pub front : List Leaf → ℕ → Leaf → ℕ → List Entry
 front leaves c l n = entries_in (take c leaves) ++ take n l.items
 
@@ -144,12 +144,12 @@ first_of_two s (x ∷ xs) ls a f h = f
 pub take_when_none : (xs : List Row) (n : ℕ) (a : List Key) → drop n xs ≡ [] → AllBefore (take n xs) a → AllBefore xs a
 take_when_none xs n a e h = subst (λ z. AllBefore z a) (ap (λ z. take n xs ++ z) (sym e) ∙ take-append-drop n xs) (subst (λ z. AllBefore z a) (sym (append-nil (take n xs))) h)
 
-pub cut_at : (s : Store) (leaves : List Leaf) (a : List Key) (c n : ℕ) (p : IsLeafPlace s leaves a c) → IsPlace (leaf_rows s p.leaf) a n → IsCut s leaves a c p.leaf n
+pub cut_at : (s : Store) (leaves : List Leaf) (a : List Key) (c n : ℕ) (p : IsLeafPlace s leaves a c) → IsRowPlace (leaf_rows s p.leaf) a n → IsCut s leaves a c p.leaf n
 cut_at s leaves a c n p q =
     let l = p.leaf in
     let f = entry_row s in
     let before : map f (front leaves c l n) ≡ rows_in s (take c leaves) ++ take n (leaf_rows s l) = map-append f (entries_in (take c leaves)) (take n l.items) ∙ ap (λ z. rows_in s (take c leaves) ++ z) (sym (take-map f n l.items)) in
-    let behind : map f (back leaves c l n) ≡ drop n (leaf_rows s l) ++ rows_in s (drop (suc c) leaves) = map-append f (drop n l.items) (entries_in (drop (suc c) leaves)) ∙ ap (λ z. z ++ rows_in s (drop (suc c) leaves)) (sym (drop-map f n l.items)) in
+    let following : map f (back leaves c l n) ≡ drop n (leaf_rows s l) ++ rows_in s (drop (suc c) leaves) = map-append f (drop n l.items) (entries_in (drop (suc c) leaves)) ∙ ap (λ z. z ++ rows_in s (drop (suc c) leaves)) (sym (drop-map f n l.items)) in
     record {
       whole =
           entries_at leaves c l p.split
@@ -157,13 +157,13 @@ cut_at s leaves a c n p q =
           ∙ ap (λ z. entries_in (take c leaves) ++ z) (append_assoc (take n l.items) (drop n l.items) (entries_in (drop (suc c) leaves)))
           ∙ sym (append_assoc (entries_in (take c leaves)) (take n l.items) (drop n l.items ++ entries_in (drop (suc c) leaves)));
       before_all = subst (λ z. AllBefore z a) (sym before) (all_before-append (rows_in s (take c leaves)) (take n (leaf_rows s l)) a p.left q.left);
-      first_not = subst (λ z. FirstNotBefore z a) (sym behind) (first_of_two s (drop n (leaf_rows s l)) (drop (suc c) leaves) a q.right (λ e. p.right (take_when_none (leaf_rows s l) n a e q.left)));
+      first_not = subst (λ z. FirstNotBefore z a) (sym following) (first_of_two s (drop n (leaf_rows s l)) (drop (suc c) leaves) a q.right (λ e. p.right (take_when_none (leaf_rows s l) n a e q.left)));
     }
 
--- rows in front of one that stands before an address
+-- rows in front of one that is before an address
 front_before : (xs : List Row) (x : Row) (rest : List Row) (a : List Key) → Ascending (xs ++ x ∷ rest) → is_before x a ≡ true → AllBefore xs a
 front_before [] x rest a h b = tt
-front_before (y ∷ ys) x rest a h b = (before_chain_at y x a (behind_in y x ys rest h.0) b, front_before ys x rest a h.1 b)
+front_before (y ∷ ys) x rest a h b = (before_chain_at y x a (after_in y x ys rest h.0) b, front_before ys x rest a h.1 b)
 
 front_of_rows : (xs ys rest : List Row) (a : List Key) → 0 < length ys → Ascending (xs ++ (ys ++ rest)) → AllBefore ys a → AllBefore xs a
 front_of_rows xs [] rest a n h b = absurd (omega arith)
@@ -188,13 +188,13 @@ some_leaf (l ∷ ls) (suc c) h = some_leaf ls c (omega arith)
 pub last_before : (xs : List Row) (r : Row) (a : List Key) → AllBefore (xs ++ r ∷ []) a → is_before r a ≡ true
 last_before xs r a h = (all_before_right xs (r ∷ []) a h).0
 
--- what stands behind a place of a leaf
+-- what comes after a place of a leaf
 pub rest_is : {A : Type 0} (xs : List A) (n : ℕ) → take (length xs - n) (drop n xs) ≡ drop n xs
 rest_is xs n = take_all (length xs - n) (drop n xs) (omega (arith, length-drop n xs))
 
-pub stand_behind : (s : Store) (leaves : List Leaf) (c n : ℕ) (l : Leaf) → AllStand s (entries_in leaves) → IsSplitAt leaves c l (drop (suc c) leaves) → AllStand s (drop n l.items ++ entries_in (drop (suc c) leaves))
-stand_behind s leaves c n l h p =
+pub stand_after : (s : Store) (leaves : List Leaf) (c n : ℕ) (l : Leaf) → AllEntriesLead s (entries_in leaves) → IsSplitAt leaves c l (drop (suc c) leaves) → AllEntriesLead s (drop n l.items ++ entries_in (drop (suc c) leaves))
+stand_after s leaves c n l h p =
     let rest = entries_in (drop (suc c) leaves) in
-    let all : AllStand s (l.items ++ rest) = stand_right s (entries_in (take c leaves)) (l.items ++ rest) (subst (AllStand s) (entries_at leaves c l p) h) in
+    let all : AllEntriesLead s (l.items ++ rest) = stand_right s (entries_in (take c leaves)) (l.items ++ rest) (subst (AllEntriesLead s) (entries_at leaves c l p) h) in
     let parts : l.items ++ rest ≡ take n l.items ++ (drop n l.items ++ rest) = ap (λ z. z ++ rest) (sym (take-append-drop n l.items)) ∙ append_assoc (take n l.items) (drop n l.items) rest in
-    stand_right s (take n l.items) (drop n l.items ++ rest) (subst (AllStand s) parts all)
+    stand_right s (take n l.items) (drop n l.items ++ rest) (subst (AllEntriesLead s) parts all)

@@ -1,4 +1,4 @@
--- Short names stand under their numbers, and the others under their bytes.
+-- Short names are under their numbers, and the others under their bytes.
 use Rattle.std.proofs.Common.{◌≡◌, ℕ, zero, suc, ◌+◌, ◌*◌, ◌<◌, ◌≤◌, Bool, true, false, cond, Option, None, List, [], ◌∷◌, length, refl, sym, ap, ◌∙◌, arith}
 use Rattle.std.specs.Prelude.{bytes_eq, nat_eq, nat_le, nat_lt, ◌&&◌}
 use Rattle.std.specs.HashMap.{IsEmpty}

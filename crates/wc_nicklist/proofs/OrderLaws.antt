@@ -10,7 +10,7 @@ use Rattle.std.proofs.lemmas.Cmp.{then_total, on_total, lists_total, nat_list_cm
 use Rattle.std.proofs.lemmas.Bool.{true≢false, false≢true, and_parts, false_from_ne_true, and_from}
 use Rattle.wc_nicklist.specs.declared.item.Key.{Key}
 use Rattle.wc_nicklist.specs.declared.item.Row.{Row}
-use Rattle.wc_text.specs.Order.{folded, fold_order}
+use Rattle.wc_text.specs.Order.{lower_case, fold_order}
 use Rattle.wc_nicklist.specs.Order.{key, group_key, kind, key_cmp, address, address_cmp, is_before, before}
 use Rattle.wc_nicklist.specs.Rows.{below, bool_eq, key_eq, path_eq}
 use Rattle.std.proofs.lemmas.List.{map-append}
@@ -64,7 +64,7 @@ by_bool false P at_true at_false = at_false refl
 -- the orders
 pub fold_total : IsTotalOrder fold_order
 unfolding fold_order
-fold_total = then_total (on_total folded nat_list_cmp_total) nat_list_cmp_total
+fold_total = then_total (on_total lower_case nat_list_cmp_total) nat_list_cmp_total
 
 pub key_total : IsTotalOrder key_cmp
 key_total = then_total (on_total (λ k. kind k.is_group) nat_cmp_total) (on_total (λ k. k.name) fold_total)
@@ -84,7 +84,7 @@ key_exact : IsAntisymmetric key_cmp
 unfolding fold_order
 key_exact a b e =
     let p = then_parts (nat_cmp (kind a.is_group) (kind b.is_group)) (fold_order a.name b.name) e in
-    let q = then_parts (slice_cmp nat_cmp (folded a.name) (folded b.name)) (slice_cmp nat_cmp a.name b.name) p.1 in
+    let q = then_parts (slice_cmp nat_cmp (lower_case a.name) (lower_case b.name)) (slice_cmp nat_cmp a.name b.name) p.1 in
     let g : a.is_group ≡ b.is_group = kind_exact _ _ (nat_cmp-IsAntisymmetric _ _ p.0) in
     let n : a.name ≡ b.name = slice_cmp-IsAntisymmetric nat_cmp-IsAntisymmetric a.name b.name q.1 in
     λ i. record { is_group = g i; name = n i }
@@ -102,7 +102,7 @@ pub before_chain : (a b c : Row) → before a b ≡ true → before b c ≡ true
 unfolding before address_cmp
 before_chain a b c x y = ap is_lt (address_total.trans (address a) (address b) (address c) (is_less _ x) (is_less _ y))
 
--- `before` is to stand before the other's address
+-- `before` is to are before the other's address
 pub before_is : (a b : Row) → before a b ≡ is_before a (address b)
 unfolding before
 before_is a b = refl
@@ -157,7 +157,7 @@ group_address g e =
     let k : key g ≡ group_key g.item.name = λ i. record { is_group = e i; name = g.item.name } in
     ap (λ x. map group_key g.path ++ x ∷ []) k ∙ sym (map-append group_key g.path (g.item.name ∷ []))
 
--- a group stands before what is below it
+-- a group is before what is below it
 pub before_below : (g r : Row) → g.item.is_group ≡ true → r.path ≡ g.path ++ g.item.name ∷ [] → before g r ≡ true
 unfolding before address_cmp
 before_below g r e p =

@@ -9,10 +9,10 @@ use Rattle.wc_nicklist.specs.declared.item.Item.{Item}
 use Rattle.wc_nicklist.specs.declared.item.Key.{Key}
 use Rattle.wc_nicklist.specs.declared.item.Row.{Row}
 use Rattle.wc_nicklist.specs.declared.store.Store.{Store}
-use Rattle.wc_nicklist.specs.Digest.{IsDigest}
+use Rattle.wc_nicklist.specs.Digest.{IsPathDigest}
 use Rattle.wc_nicklist.specs.Order.{key, address}
 use Rattle.wc_nicklist.specs.Rows.{key_eq, find_row, insert_row, remove_row, replace_row, changed_row, change_found, change_row, Keyed, IsRows}
-use Rattle.wc_nicklist.specs.Stored.{row_at, row_or, entry_row, Stands, AllStand, IdIn}
+use Rattle.wc_nicklist.specs.Stored.{row_at, row_or, entry_row, EntryLeads, AllEntriesLead, IdIn}
 use Rattle.wc_nicklist.specs.Tree.{Leaf, entries_in, AreLeaves, IsTree, IsInserted, IsRemoved}
 use Rattle.wc_nicklist.proofs.OrderLaws.{by_bool, key_eq-true}
 use Rattle.wc_nicklist.proofs.Places.{insert_place, remove_place}
@@ -87,9 +87,9 @@ one_of_key s (x ∷ xs) a b h (inr p) (inr q) e = one_of_key s xs a b h.1 p q e
 row_of_id : (s : Store) (e : Entry) (n : ℕ) (r : Row) → e.id.0 ≡ n → row_at s n ≡ Some r → entry_row s e ≡ r
 row_of_id s e n r i h = ap row_or (ap (row_at s) i ∙ h)
 
-all_stand-at : (s : Store) (e : Entry) (es : List Entry) → AllStand s es → Among e es → Stands s e
+all_stand-at : (s : Store) (e : Entry) (es : List Entry) → AllEntriesLead s es → Among e es → EntryLeads s e
 all_stand-at s e [] h a = absurd a
-all_stand-at s e (x ∷ xs) h (inl i) = subst (Stands s) (sym i) h.0
+all_stand-at s e (x ∷ xs) h (inl i) = subst (EntryLeads s) (sym i) h.0
 all_stand-at s e (x ∷ xs) h (inr a) = all_stand-at s e xs h.1 a
 
 -- Another store that has the same under the numbers of these entries.
@@ -101,7 +101,7 @@ module _ (s t : Store) where
   same_rows [] h = refl
   same_rows (x ∷ xs) h = λ i. ap row_or (h x (inl refl)) i ∷ same_rows xs (λ e a. h e (inr a)) i
 
-  pub same_stand : (es : List Entry) → Agree es → AllStand s es → AllStand t es
+  pub same_stand : (es : List Entry) → Agree es → AllEntriesLead s es → AllEntriesLead t es
   same_stand [] h a = tt
   same_stand (x ∷ xs) h a = (record { row = a.0.row; found = h x (inl refl) ∙ a.0.found; digest = a.0.digest }, same_stand xs (λ e m. h e (inr m)) a.1)
 
@@ -110,7 +110,7 @@ module _ (s t : Store) (n : ℕ) (r : Row) (fresh : row_at s n ≡ None) (after 
   pub new_row : row_at t n ≡ Some r
   new_row = let e = eq-eqb n n refl in after n ∙ rw e refl
 
-  pub agree_put : (es : List Entry) → AllStand s es → (e : Entry) → Among e es → row_at t e.id.0 ≡ row_at s e.id.0
+  pub agree_put : (es : List Entry) → AllEntriesLead s es → (e : Entry) → Among e es → row_at t e.id.0 ≡ row_at s e.id.0
   agree_put es h e a = after e.id.0 ∙ by_bool (nat_eq n e.id.0) _
       (λ y.
       let stands = all_stand-at s e es h a in
@@ -132,12 +132,12 @@ rows_inserted s old new e r i came absent =
     ∙ sym (insert_place (map f came.front) (map f came.back) r came.left came.right (ap (find_row (key r)) (sym parts) ∙ absent))
     ∙ ap (insert_row r) (sym parts)
 
-pub stand_inserted : (s : Store) (old new : List Entry) (e : Entry) (a : List Key) → IsInserted s old new e a → AllStand s old → Stands s e → AllStand s new
+pub stand_inserted : (s : Store) (old new : List Entry) (e : Entry) (a : List Key) → IsInserted s old new e a → AllEntriesLead s old → EntryLeads s e → AllEntriesLead s new
 stand_inserted s old new e a came h stands =
-    let parts = subst (AllStand s) came.was h in
-    subst (AllStand s) (sym came.is) (put came.front came.back parts)
+    let parts = subst (AllEntriesLead s) came.was h in
+    subst (AllEntriesLead s) (sym came.is) (put came.front came.back parts)
   where
-    put : (xs ys : List Entry) → AllStand s (xs ++ ys) → AllStand s (xs ++ e ∷ ys)
+    put : (xs ys : List Entry) → AllEntriesLead s (xs ++ ys) → AllEntriesLead s (xs ++ e ∷ ys)
     put [] ys p = (stands, p)
     put (x ∷ xs) ys p = (p.0, put xs ys p.1)
 
@@ -177,12 +177,12 @@ module _ (s : Store) (old new : List Entry) (e : Entry) (n : ℕ) (r : Row) (row
       let j : Some r ≡ None = sym here ∙ none in
       cc
 
-  pub stand_removed : AllStand s old → AllStand s new
+  pub stand_removed : AllEntriesLead s old → AllEntriesLead s new
   stand_removed h =
-      let parts = subst (AllStand s) gone.was h in
-      subst (AllStand s) (sym gone.is) (without gone.front gone.back parts)
+      let parts = subst (AllEntriesLead s) gone.was h in
+      subst (AllEntriesLead s) (sym gone.is) (without gone.front gone.back parts)
     where
-      without : (xs ys : List Entry) → AllStand s (xs ++ e ∷ ys) → AllStand s (xs ++ ys)
+      without : (xs ys : List Entry) → AllEntriesLead s (xs ++ e ∷ ys) → AllEntriesLead s (xs ++ ys)
       without [] ys p = p.1
       without (x ∷ xs) ys p = (p.0, without xs ys p.1)
 
@@ -220,7 +220,7 @@ module _ (s t : Store) (n : ℕ) (r : Row) (i : Item) (there : row_at s n ≡ So
       let row : row_at t e.id.0 ≡ row_at s e.id.0 = after e.id.0 ∙ by_bool (nat_eq n e.id.0) _ (λ y. absurd (h (sym (eqb-true n e.id.0 y)))) (λ y. rw y refl) in
       ap row_or row
 
-  pub stand_changed : (es : List Entry) → AllStand s es → AllStand t es
+  pub stand_changed : (es : List Entry) → AllEntriesLead s es → AllEntriesLead t es
   stand_changed [] h = tt
   stand_changed (x ∷ xs) h = (
     by_bool (nat_eq n x.id.0) _
@@ -230,7 +230,7 @@ module _ (s t : Store) (n : ℕ) (r : Row) (i : Item) (there : row_at s n ≡ So
         record {
           row = changed_row r i;
           found = after x.id.0 ∙ rw y refl;
-          digest = subst (λ (z : Row). IsDigest x.digest z.path z.item.is_group z.item.name) one h.0.digest;
+          digest = subst (λ (z : Row). IsPathDigest x.digest z.path z.item.is_group z.item.name) one h.0.digest;
         })
         (λ y. record { row = h.0.row; found = after x.id.0 ∙ rw y h.0.found; digest = h.0.digest }),
     stand_changed xs h.1,
@@ -261,11 +261,11 @@ module _ (s t : Store) (n : ℕ) (r : Row) (i : Item) (there : row_at s n ≡ So
 pub tree_reserved : (s t : Store) (leaves now : List Leaf) (spare next : Leaf) (count : ℕ) → ((n : ℕ) → row_at t n ≡ row_at s n) → now ≡ leaves → next.items ≡ spare.items → IsTree s leaves spare count → IsTree t now next count
 tree_reserved s t leaves now spare next count same e f tree = record {
   are_leaves = subst AreLeaves (sym e) tree.are_leaves;
-  stand = subst (λ z. AllStand t (entries_in z)) (sym e) (same_stand s t (entries_in leaves) (λ x a. same x.id.0) tree.stand);
+  stand = subst (λ z. AllEntriesLead t (entries_in z)) (sym e) (same_stand s t (entries_in leaves) (λ x a. same x.id.0) tree.stand);
   spare_empty = f ∙ tree.spare_empty;
   counted = tree.counted ∙ ap (λ z. length (entries_in z)) (sym e);
   owned = λ n r h. subst (λ z. IdIn n (entries_in z)) (sym e) (tree.owned n r (sym (same n) ∙ h));
 }
 
-pub moved_digest : {d : Digest} {p q : List (List ℕ)} {g h : Bool} {m n : List ℕ} → p ≡ q → g ≡ h → m ≡ n → IsDigest d p g m → IsDigest d q h n
-moved_digest {d} {p} {q} {g} {h} {m} {n} e i j is = subst (λ z. IsDigest d q h z) j (subst (λ z. IsDigest d q z m) i (subst (λ z. IsDigest d z g m) e is))
+pub moved_digest : {d : Digest} {p q : List (List ℕ)} {g h : Bool} {m n : List ℕ} → p ≡ q → g ≡ h → m ≡ n → IsPathDigest d p g m → IsPathDigest d q h n
+moved_digest {d} {p} {q} {g} {h} {m} {n} e i j is = subst (λ z. IsPathDigest d q h z) j (subst (λ z. IsPathDigest d q z m) i (subst (λ z. IsPathDigest d z g m) e is))

@@ -1,4 +1,4 @@
--- Where a row stands among rows in order, and what the edits do there.
+-- Where a row is among rows in order, and what the edits do there.
 use Rattle.std.proofs.Common.{◌≡◌, ℕ, zero, suc, ◌+◌, ◌<◌, true, false, Option, Some, None, List, [], ◌∷◌, ◌++◌, length, take, drop, get_or, refl, sym, ap, ◌∙◌, subst, arith, add-one}
 use Rattle.std.specs.Prelude.{slice_get, IsSomeAnd}
 use Rattle.std.specs.Prelude.{nat_lt}
@@ -7,16 +7,16 @@ use borrow.Author.Tests.{ltb-true}
 use Rattle.wc_nicklist.specs.declared.item.Key.{Key}
 use Rattle.wc_nicklist.specs.declared.item.Row.{Row}
 use Rattle.wc_nicklist.specs.Order.{key, address, is_before, before}
-use Rattle.wc_nicklist.specs.Rows.{key_eq, find_row, insert_row, remove_row, AllBehind, Ascending, Keyed}
+use Rattle.wc_nicklist.specs.Rows.{key_eq, find_row, insert_row, remove_row, AllAfter, Ascending, Keyed}
 use Rattle.wc_nicklist.specs.Stored.{AllBefore, FirstNotBefore, IsSplitAt}
 use Rattle.wc_nicklist.proofs.OrderLaws.{by_bool, before_chain_at, before_is, before_itself, before_one_way, before_other, key_eq-true, key_eq-same}
-use Rattle.wc_nicklist.proofs.RowLaws.{behind_found, key_eq-at}
+use Rattle.wc_nicklist.proofs.RowLaws.{after_found, key_eq-at}
 
 -- one step of a search
-behind_at : (x y : Row) (ys : List Row) (m : ℕ) → AllBehind x ys → m < length ys → y ≡ get_or ys m y → before x y ≡ true
-behind_at x y [] m h l e = absurd (omega arith)
-behind_at x y (z ∷ zs) zero h l e = ap (before x) e ∙ h.0
-behind_at x y (z ∷ zs) (suc m) h l e = behind_at x y zs m h.1 (omega arith) e
+after_at : (x y : Row) (ys : List Row) (m : ℕ) → AllAfter x ys → m < length ys → y ≡ get_or ys m y → before x y ≡ true
+after_at x y [] m h l e = absurd (omega arith)
+after_at x y (z ∷ zs) zero h l e = ap (before x) e ∙ h.0
+after_at x y (z ∷ zs) (suc m) h l e = after_at x y zs m h.1 (omega arith) e
 
 pub left_grows : (rows : List Row) (a : List Key) (m : ℕ) (x : Row) → Ascending rows → m < length rows → x ≡ get_or rows m x → is_before x a ≡ true → AllBefore (take (m + 1) rows) a
 left_grows rows a m x h l e b = subst (λ n. AllBefore (take n rows) a) (sym (add-one m)) (go rows m h l e)
@@ -24,7 +24,7 @@ left_grows rows a m x h l e b = subst (λ n. AllBefore (take n rows) a) (sym (ad
     go : (rs : List Row) (n : ℕ) → Ascending rs → n < length rs → x ≡ get_or rs n x → AllBefore (take (suc n) rs) a
     go [] n h l e = absurd (omega arith)
     go (y ∷ ys) zero h l e = (ap (λ z. is_before z a) (sym e) ∙ b, tt)
-    go (y ∷ ys) (suc n) h l e = (before_chain_at y x a (behind_at y x ys n h.0 (omega arith) e) b, go ys n h.1 (omega arith) e)
+    go (y ∷ ys) (suc n) h l e = (before_chain_at y x a (after_at y x ys n h.0 (omega arith) e) b, go ys n h.1 (omega arith) e)
 
 -- what is found in two lists, one after the other
 pub or_row : Option Row → Option Row → Option Row
@@ -46,14 +46,14 @@ ascending_right : (a ys : List Row) → Ascending (a ++ ys) → Ascending ys
 ascending_right [] ys h = h
 ascending_right (x ∷ xs) ys h = ascending_right xs ys h.1
 
--- the row of an address stands at its place
+-- the row of an address is at its place
 first_is : (b : List Row) (at : List Key) (k : Key) (r : Row) → Ascending b → FirstNotBefore b at → find_row k b ≡ Some r → is_before r at ≡ false → address r ≡ at → (rest : List Row) × (b ≡ r ∷ rest)
 first_is [] at k r h f e n i = absurd cc
 first_is (y ∷ ys) at k r h f e n i = by_bool (key_eq (key y) k) _
     (λ t. let j : Some y ≡ Some r = rw t at e in let same : y ≡ r = cc in (ys, (λ z. same z ∷ ys)))
-    (λ t. absurd (true≢false (sym (sym (before_is y r) ∙ behind_found y k ys r h.0 (rw t at e)) ∙ ap (is_before y) i ∙ f)))
+    (λ t. absurd (true≢false (sym (sym (before_is y r) ∙ after_found y k ys r h.0 (rw t at e)) ∙ ap (is_before y) i ∙ f)))
 
--- a row that is found does not stand before itself, so it is the first of those that stand behind the place
+-- a row that is found does not are before itself, so it is the first of those that come after the place
 pub found_place : (a b : List Row) (at : List Key) (k : Key) (r : Row) → Ascending (a ++ b) → AllBefore a at → FirstNotBefore b at → find_row k (a ++ b) ≡ Some r → address r ≡ at → (rest : List Row) × (b ≡ r ∷ rest)
 unfolding or_row
 found_place a b at k r h l f e i =
@@ -84,7 +84,7 @@ absent_removed k (x ∷ xs) e = by_bool (key_eq (key x) k) _
     (λ t. absurd (let i : Some x ≡ None = rw t at e in cc))
     (λ t. rw t (ap (λ rows. x ∷ rows) (absent_removed k xs (rw t at e))))
 
--- a key that stands behind is not the one in front
+-- a key that comes after is not the one in front
 other_key : (x r : Row) (xs b : List Row) → Keyed (x ∷ (xs ++ r ∷ b)) → key_eq (key x) (key r) ≡ false
 other_key x r xs b h = by_bool (key_eq (key x) (key r)) _
     (λ t. absurd (none xs (let n = h.0 in ap (λ k. find_row k (xs ++ r ∷ b)) (sym (key_eq-true _ _ t)) ∙ n)))
@@ -114,7 +114,7 @@ split_at (y ∷ ys) zero x rest e =
       within = omega arith;
       value = λ d. first;
       got = ap Some first;
-      behind = others;
+      following = others;
       whole = e;
       written = λ z. ap (λ l. z ∷ l) others;
     }
@@ -124,7 +124,7 @@ split_at (y ∷ ys) (suc n) x rest e =
       within = omega (arith, s.within);
       value = s.value;
       got = s.got;
-      behind = s.behind;
+      following = s.following;
       whole = ap (λ l. y ∷ l) s.whole;
       written = λ z. ap (λ l. y ∷ l) (s.written z);
     }

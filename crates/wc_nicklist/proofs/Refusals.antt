@@ -126,9 +126,9 @@ module _ (g : Bool) (name : List ℕ) (rows : List Row) where
   pub may_add : (parent : List ℕ) → add_refusal g parent name rows ≡ None → MayAdd parent
   unfolding add_refusal
   may_add parent e =
-      let behind = or_second (name_refusal g name) _ e in
-      let orphan = or_first (when (is_none (path_below parent rows)) (NoParent parent)) _ behind in
-      let taken = or_second (when (is_none (path_below parent rows)) (NoParent parent)) _ behind in
+      let following = or_second (name_refusal g name) _ e in
+      let orphan = or_first (when (is_none (path_below parent rows)) (NoParent parent)) _ following in
+      let taken = or_second (when (is_none (path_below parent rows)) (NoParent parent)) _ following in
       record {
         named = or_first (name_refusal g name) _ e;
         parent = stands (path_below parent rows) (when_not _ _ orphan);
@@ -154,10 +154,10 @@ module _ (g : Bool) (name : List ℕ) (rows : List Row) where
   pub may_remove : remove_refusal g name rows ≡ None → MayRemove
   unfolding remove_refusal
   may_remove e =
-      let behind = or_second (name_refusal g name) _ e in
+      let following = or_second (name_refusal g name) _ e in
       record {
-        stands = there (find_row (key_at g name) rows) (when_not _ _ (or_first (when (is_none (find_row (key_at g name) rows)) (NoSuch name)) _ behind));
-        childless = empty g (has_children (find_row (key_at g name) rows) rows) (when_not _ _ (or_second (when (is_none (find_row (key_at g name) rows)) (NoSuch name)) _ behind));
+        stands = there (find_row (key_at g name) rows) (when_not _ _ (or_first (when (is_none (find_row (key_at g name) rows)) (NoSuch name)) _ following));
+        childless = empty g (has_children (find_row (key_at g name) rows) rows) (when_not _ _ (or_second (when (is_none (find_row (key_at g name) rows)) (NoSuch name)) _ following));
       }
     where
       empty : (a b : Bool) → (a && b) ≡ false → a ≡ true → b ≡ false

@@ -4,7 +4,7 @@ use Rattle.std.proofs.lemmas.Bool.{true≢false}
 use Rattle.wc_nicklist.specs.declared.item.Key.{Key}
 use Rattle.wc_nicklist.specs.declared.item.Row.{Row}
 use Rattle.wc_nicklist.specs.Order.{key, key_at, before}
-use Rattle.wc_nicklist.specs.Rows.{key_eq, find_row, remove_row, insert_row, replace_row, AllBehind, Ascending, Keyed}
+use Rattle.wc_nicklist.specs.Rows.{key_eq, find_row, remove_row, insert_row, replace_row, AllAfter, Ascending, Keyed}
 use Rattle.wc_nicklist.proofs.OrderLaws.{key_eq-true, key_eq-same, key_eq-other, before_chain, before_one_way, before_other, before_like, before_like_left, by_bool}
 
 pub key_eq-back : (a b : Key) → key_eq a b ≡ false → key_eq b a ≡ false
@@ -97,51 +97,51 @@ keyed-replace r (x ∷ xs) h = by_bool (key_eq (key x) (key r)) _
         (λ u. rw (u, s) (kept ys i t)))
 
 -- in order
-pub behind_found : (x : Row) (k : Key) (rows : List Row) (r : Row) → AllBehind x rows → find_row k rows ≡ Some r → before x r ≡ true
-behind_found x k [] r h e = absurd cc
-behind_found x k (y ∷ ys) r h e = by_bool (key_eq (key y) k) _
+pub after_found : (x : Row) (k : Key) (rows : List Row) (r : Row) → AllAfter x rows → find_row k rows ≡ Some r → before x r ≡ true
+after_found x k [] r h e = absurd cc
+after_found x k (y ∷ ys) r h e = by_bool (key_eq (key y) k) _
     (λ t. let i : Some y ≡ Some r = rw t at e in let j : y ≡ r = cc in ap (before x) (sym j) ∙ h.0)
-    (λ t. behind_found x k ys r h.1 (rw t at e))
+    (λ t. after_found x k ys r h.1 (rw t at e))
 
-behind_chain : (a b : Row) (rows : List Row) → before a b ≡ true → AllBehind b rows → AllBehind a rows
-behind_chain a b [] t h = tt
-behind_chain a b (y ∷ ys) t h = (before_chain a b y t h.0, behind_chain a b ys t h.1)
+after_chain : (a b : Row) (rows : List Row) → before a b ≡ true → AllAfter b rows → AllAfter a rows
+after_chain a b [] t h = tt
+after_chain a b (y ∷ ys) t h = (before_chain a b y t h.0, after_chain a b ys t h.1)
 
-behind-remove : (x : Row) (k : Key) (rows : List Row) → AllBehind x rows → AllBehind x (remove_row k rows)
-behind-remove x k [] h = tt
-behind-remove x k (y ∷ ys) h = by_bool (key_eq (key y) k) _ (λ t. rw t (behind-remove x k ys h.1)) (λ t. rw t (h.0, behind-remove x k ys h.1))
+following-remove : (x : Row) (k : Key) (rows : List Row) → AllAfter x rows → AllAfter x (remove_row k rows)
+following-remove x k [] h = tt
+following-remove x k (y ∷ ys) h = by_bool (key_eq (key y) k) _ (λ t. rw t (following-remove x k ys h.1)) (λ t. rw t (h.0, following-remove x k ys h.1))
 
-behind-insert : (x r : Row) (rows : List Row) → before x r ≡ true → AllBehind x rows → AllBehind x (insert_row r rows)
-behind-insert x r [] t h = (t, tt)
-behind-insert x r (y ∷ ys) t h = by_bool (before r y) _ (λ s. rw s (t, h)) (λ s. rw s (h.0, behind-insert x r ys t h.1))
+following-insert : (x r : Row) (rows : List Row) → before x r ≡ true → AllAfter x rows → AllAfter x (insert_row r rows)
+following-insert x r [] t h = (t, tt)
+following-insert x r (y ∷ ys) t h = by_bool (before r y) _ (λ s. rw s (t, h)) (λ s. rw s (h.0, following-insert x r ys t h.1))
 
 pub ascending-remove : (k : Key) (rows : List Row) → Ascending rows → Ascending (remove_row k rows)
 ascending-remove k [] h = tt
-ascending-remove k (x ∷ xs) h = by_bool (key_eq (key x) k) _ (λ t. rw t (ascending-remove k xs h.1)) (λ t. rw t (behind-remove x k xs h.0, ascending-remove k xs h.1))
+ascending-remove k (x ∷ xs) h = by_bool (key_eq (key x) k) _ (λ t. rw t (ascending-remove k xs h.1)) (λ t. rw t (following-remove x k xs h.0, ascending-remove k xs h.1))
 
 pub ascending-insert : (r : Row) (rows : List Row) → find_row (key r) rows ≡ None → Ascending rows → Ascending (insert_row r rows)
 ascending-insert r [] e h = (tt, tt)
 ascending-insert r (x ∷ xs) e h = by_bool (before r x) _
-    (λ t. rw t ((t, behind_chain r x xs t h.0), h))
+    (λ t. rw t ((t, after_chain r x xs t h.0), h))
     (λ t. by_bool (key_eq (key x) (key r)) _
     (λ s. absurd (let i : Some x ≡ None = rw s at e in cc))
     (λ s. let i : find_row (key r) xs ≡ None = rw s at e in
     let b : before x r ≡ true = before_other r x t (λ j. true≢false (sym (key_eq-at (key x) (key r) (sym j)) ∙ s)) in
-    rw t (behind-insert x r xs b h.0, ascending-insert r xs i h.1)))
+    rw t (following-insert x r xs b h.0, ascending-insert r xs i h.1)))
 
 -- the row that a replaced one stands for has its path
-behind-replace : (x r s : Row) (rows : List Row) → find_row (key r) rows ≡ Some s → s.path ≡ r.path → Keyed rows → AllBehind x rows → AllBehind x (replace_row r rows)
-behind-replace x r s [] e p kd h = absurd cc
-behind-replace x r s (y ∷ ys) e p kd h = by_bool (key_eq (key y) (key r)) _
+following-replace : (x r s : Row) (rows : List Row) → find_row (key r) rows ≡ Some s → s.path ≡ r.path → Keyed rows → AllAfter x rows → AllAfter x (replace_row r rows)
+following-replace x r s [] e p kd h = absurd cc
+following-replace x r s (y ∷ ys) e p kd h = by_bool (key_eq (key y) (key r)) _
     (λ t. let k = key_eq-true _ _ t in
     let i : Some y ≡ Some s = rw t at e in let j : y ≡ s = cc in
     let n : find_row (key r) ys ≡ None = ap (λ z. find_row z ys) (sym k) ∙ kd.0 in
     rw (t, absent_kept r ys n) (sym (before_like x y r (ap (λ z. z.path) j ∙ p) k) ∙ h.0, h.1))
-    (λ t. rw t (h.0, behind-replace x r s ys (rw t at e) p kd.1 h.1))
+    (λ t. rw t (h.0, following-replace x r s ys (rw t at e) p kd.1 h.1))
 
-behind_like : (a b : Row) (rows : List Row) → a.path ≡ b.path → key a ≡ key b → AllBehind a rows → AllBehind b rows
-behind_like a b [] p k h = tt
-behind_like a b (y ∷ ys) p k h = (sym (before_like_left a b y p k) ∙ h.0, behind_like a b ys p k h.1)
+after_like : (a b : Row) (rows : List Row) → a.path ≡ b.path → key a ≡ key b → AllAfter a rows → AllAfter b rows
+after_like a b [] p k h = tt
+after_like a b (y ∷ ys) p k h = (sym (before_like_left a b y p k) ∙ h.0, after_like a b ys p k h.1)
 
 pub ascending-replace : (r s : Row) (rows : List Row) → find_row (key r) rows ≡ Some s → s.path ≡ r.path → Keyed rows → Ascending rows → Ascending (replace_row r rows)
 ascending-replace r s [] e p kd h = absurd cc
@@ -149,8 +149,8 @@ ascending-replace r s (x ∷ xs) e p kd h = by_bool (key_eq (key x) (key r)) _
     (λ t. let k = key_eq-true _ _ t in
     let i : Some x ≡ Some s = rw t at e in let j : x ≡ s = cc in
     let n : find_row (key r) xs ≡ None = ap (λ z. find_row z xs) (sym k) ∙ kd.0 in
-    rw (t, absent_kept r xs n) (behind_like x r xs (ap (λ z. z.path) j ∙ p) k h.0, h.1))
-    (λ t. rw t (behind-replace x r s xs (rw t at e) p kd.1 h.0, ascending-replace r s xs (rw t at e) p kd.1 h.1))
+    rw (t, absent_kept r xs n) (after_like x r xs (ap (λ z. z.path) j ∙ p) k h.0, h.1))
+    (λ t. rw t (following-replace x r s xs (rw t at e) p kd.1 h.0, ascending-replace r s xs (rw t at e) p kd.1 h.1))
 
 -- two lists in order that have the same rows are one
 pub same_rows : (a b : List Row) → Ascending a → Keyed a → Ascending b → Keyed b → ((k : Key) → find_row k a ≡ find_row k b) → a ≡ b
@@ -163,7 +163,7 @@ same_rows (x ∷ xs) (y ∷ ys) sa ka sb kb h =
     (λ t.
     let e = h (key x) in let i : Some x ≡ find_row (key x) ys = rw (key_eq-same (key x), t) at e in
     let f = h (key y) in let j : find_row (key y) xs ≡ Some y = rw (key_eq-back _ _ t, key_eq-same (key y)) at f in
-    absurd (true≢false (sym (behind_found x (key y) xs y sa.0 j) ∙ before_one_way y x (behind_found y (key x) ys x sb.0 (sym i))))) in
+    absurd (true≢false (sym (after_found x (key y) xs y sa.0 j) ∙ before_one_way y x (after_found y (key x) ys x sb.0 (sym i))))) in
     let rest : (k : Key) → find_row k xs ≡ find_row k ys = λ k. by_bool (key_eq (key x) k) _
     (λ t. let e = key_eq-true _ _ t in
     ap (λ z. find_row z xs) (sym e) ∙ ka.0 ∙ sym (ap (λ z. find_row z ys) (sym e ∙ ap key first) ∙ kb.0))

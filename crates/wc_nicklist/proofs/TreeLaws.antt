@@ -10,13 +10,13 @@ use Rattle.wc_nicklist.specs.declared.item.Row.{Row}
 use Rattle.wc_nicklist.specs.declared.store.Store.{Store}
 use Rattle.wc_nicklist.specs.Order.{address_of}
 use Rattle.wc_nicklist.specs.Rows.{find_row, IsRows}
-use Rattle.wc_nicklist.specs.Stored.{entry_row, AllBefore, FirstNotBefore, IsPlace, IsSplitAt}
-use Rattle.wc_nicklist.specs.Tree.{Leaf, leaf_rows, entries_in, rows_in, IsLeaf, AreLeaves, IsLeafPlace, IsRoomyPlace, AreNearlyLeaves, StandsIn, IsInserted, IsRemoved}
+use Rattle.wc_nicklist.specs.Stored.{entry_row, AllBefore, FirstNotBefore, IsRowPlace, IsSplitAt}
+use Rattle.wc_nicklist.specs.Tree.{Leaf, leaf_rows, entries_in, rows_in, IsLeaf, AreLeaves, IsLeafPlace, IsRoomyPlace, AreNearlyLeaves, IsInTree, IsInserted, IsRemoved}
 use Rattle.wc_nicklist.proofs.Leaves.{entries_in-append, rows_in-append, entries_at, cut_at, front, back, leaves_left, leaves_right, leaves-append, all_before-append, take_when_none}
 use Rattle.wc_nicklist.proofs.Places.{found_place, split_at}
 use Rattle.wc_nicklist.proofs.RowLaws.{find_key}
 
--- What stands first behind a cut tells whether there is such a row.
+-- What is first after a cut tells whether there is such a row.
 cut_found : (a b : List Row) (path : List (List ℕ)) (k : Key) (r : Row) → IsRows (a ++ b) → AllBefore a (address_of path k) → FirstNotBefore b (address_of path k) → find_row k (a ++ b) ≡ Some r → r.path ≡ path → (rest : List Row) × (b ≡ r ∷ rest)
 cut_found a b path k r ok l f e i = found_place a b (address_of path k) k r ok.ascending l f e (λ j. address_of (i j) (find_key k (a ++ b) r e j))
 
@@ -24,10 +24,10 @@ pub some_leaves : (s : Store) (P : Row → Type 0) (k : Key) (leaves : List Leaf
 some_leaves s P k [] h = absurd h
 some_leaves s P k (l ∷ ls) h = omega arith
 
--- The same in a leaf, where there is such a row: its entry stands at the place of its address.
+-- The same in a leaf, where there is such a row: its entry is at the place of its address.
 module _ (s : Store) (leaves : List Leaf) (path : List (List ℕ)) (k : Key) (c : ℕ) (p : IsLeafPlace s leaves (address_of path k) c) (ok : IsRows (rows_in s leaves)) where
-  -- what stands at the place in the leaf
-  at_place : (n : ℕ) (q : IsPlace (leaf_rows s p.leaf) (address_of path k) n) (r : Row) → find_row k (rows_in s leaves) ≡ Some r → r.path ≡ path → (b : List Entry) → drop n p.leaf.items ≡ b → (e : Entry) × (xs : List Entry) × (b ≡ e ∷ xs) × (entry_row s e ≡ r)
+  -- what is at the place in the leaf
+  at_place : (n : ℕ) (q : IsRowPlace (leaf_rows s p.leaf) (address_of path k) n) (r : Row) → find_row k (rows_in s leaves) ≡ Some r → r.path ≡ path → (b : List Entry) → drop n p.leaf.items ≡ b → (e : Entry) × (xs : List Entry) × (b ≡ e ∷ xs) × (entry_row s e ≡ r)
   at_place n q r e i b d =
       let f = entry_row s in
       let cut = cut_at s leaves (address_of path k) c n p q in
@@ -42,8 +42,8 @@ module _ (s : Store) (leaves : List Leaf) (path : List (List ℕ)) (k : Key) (c 
           absurd cc
       go (x ∷ xs) d g = let first : entry_row s x ≡ r = cc in (x, xs, refl, first)
 
-  pub stands_in : (n : ℕ) (q : IsPlace (leaf_rows s p.leaf) (address_of path k) n) (r : Row) → find_row k (rows_in s leaves) ≡ Some r → r.path ≡ path → StandsIn s leaves c n k
-  stands_in n q r e i =
+  pub lies_in : (n : ℕ) (q : IsRowPlace (leaf_rows s p.leaf) (address_of path k) n) (r : Row) → find_row k (rows_in s leaves) ≡ Some r → r.path ≡ path → IsInTree s leaves c n k
+  lies_in n q r e i =
       let g = at_place n q r e i (drop n p.leaf.items) refl in
       let t = split_at p.leaf.items n g.0 g.1 g.2 in
       record {
@@ -51,7 +51,7 @@ module _ (s : Store) (leaves : List Leaf) (path : List (List ℕ)) (k : Key) (c 
         outer = p.split;
         entry = g.0;
         found = e ∙ ap Some (sym g.3);
-        inner = subst (IsSplitAt p.leaf.items n g.0) (sym t.behind) t;
+        inner = subst (IsSplitAt p.leaf.items n g.0) (sym t.following) t;
       }
 
 -- Leaves with one leaf replaced.
@@ -67,10 +67,10 @@ leaves_set leaves c l m h s i =
 pub made_at : {A : Type 0} (xs pre rest : List A) (x : A) (n : ℕ) → xs ≡ pre ++ x ∷ rest → length pre ≡ n → IsSplitAt xs n x (drop (suc n) xs)
 made_at xs pre rest x n e h =
     let s = split_at xs n x rest (ap (drop n) e ∙ drop_at pre (x ∷ rest) n h) in
-    subst (IsSplitAt xs n x) (sym s.behind) s
+    subst (IsSplitAt xs n x) (sym s.following) s
 
-pub behind_made : {A : Type 0} (xs pre rest : List A) (x : A) (n : ℕ) → xs ≡ pre ++ x ∷ rest → length pre ≡ n → drop (suc n) xs ≡ rest
-behind_made xs pre rest x n e h = (split_at xs n x rest (ap (drop n) e ∙ drop_at pre (x ∷ rest) n h)).behind
+pub after_made : {A : Type 0} (xs pre rest : List A) (x : A) (n : ℕ) → xs ≡ pre ++ x ∷ rest → length pre ≡ n → drop (suc n) xs ≡ rest
+after_made xs pre rest x n e h = (split_at xs n x rest (ap (drop n) e ∙ drop_at pre (x ∷ rest) n h)).following
 
 pub before_made : {A : Type 0} (xs pre rest : List A) (n : ℕ) → xs ≡ pre ++ rest → length pre ≡ n → take n xs ≡ pre
 before_made xs pre rest n e h = ap (take n) e ∙ take_at pre rest n h
@@ -81,14 +81,14 @@ front_length xs n h = omega (arith, length-take n xs)
 regroup : (p f y q : List Entry) → p ++ ((f ++ y) ++ q) ≡ (p ++ f) ++ (y ++ q)
 regroup p f y q = simp append_assoc
 
--- the entries before and behind one of a leaf
-pub whole_entry : (s : Store) (leaves : List Leaf) (c n : ℕ) (k : Key) (t : StandsIn s leaves c n k) → entries_in leaves ≡ front leaves c t.leaf n ++ t.entry ∷ back leaves c t.leaf (suc n)
+-- the entries before and after one of a leaf
+pub whole_entry : (s : Store) (leaves : List Leaf) (c n : ℕ) (k : Key) (t : IsInTree s leaves c n k) → entries_in leaves ≡ front leaves c t.leaf n ++ t.entry ∷ back leaves c t.leaf (suc n)
 whole_entry s leaves c n k t =
     entries_at leaves c t.leaf t.outer
     ∙ ap (λ z. entries_in (take c leaves) ++ (z ++ entries_in (drop (suc c) leaves))) t.inner.whole
     ∙ regroup (entries_in (take c leaves)) (take n t.leaf.items) (t.entry ∷ drop (suc n) t.leaf.items) (entries_in (drop (suc c) leaves))
 
-pub tree_removed : (s : Store) (leaves : List Leaf) (c n : ℕ) (k : Key) (m : Leaf) (t : StandsIn s leaves c n k) → m.items ≡ remove t.leaf.items n → IsRemoved (entries_in leaves) (entries_in (slice_set leaves c m)) t.entry
+pub tree_removed : (s : Store) (leaves : List Leaf) (c n : ℕ) (k : Key) (m : Leaf) (t : IsInTree s leaves c n k) → m.items ≡ remove t.leaf.items n → IsRemoved (entries_in leaves) (entries_in (slice_set leaves c m)) t.entry
 tree_removed s leaves c n k m t e = record {
   front = front leaves c t.leaf n;
   back = back leaves c t.leaf (suc n);
@@ -110,10 +110,10 @@ tree_nearly leaves c l m h s fits roomy =
       fits = fits;
       roomy = roomy;
       before = subst AreLeaves (sym (before_made (slice_set leaves c m) (take c leaves) (m ∷ drop (suc c) leaves) c made len)) (leaves_left (take c leaves) _ parts);
-      behind = subst AreLeaves (sym (behind_made (slice_set leaves c m) (take c leaves) (drop (suc c) leaves) m c made len)) (leaves_right (take c leaves) (l ∷ drop (suc c) leaves) parts).1;
+      following = subst AreLeaves (sym (after_made (slice_set leaves c m) (take c leaves) (drop (suc c) leaves) m c made len)) (leaves_right (take c leaves) (l ∷ drop (suc c) leaves) parts).1;
     }
 
-pub tree_inserted : (s : Store) (leaves : List Leaf) (c : ℕ) (a : List Key) (e : Entry) (m : Leaf) (p : IsLeafPlace s leaves a c) (n : ℕ) → IsPlace (leaf_rows s p.leaf) a n → m.items ≡ insert p.leaf.items n e → IsInserted s (entries_in leaves) (entries_in (slice_set leaves c m)) e a
+pub tree_inserted : (s : Store) (leaves : List Leaf) (c : ℕ) (a : List Key) (e : Entry) (m : Leaf) (p : IsLeafPlace s leaves a c) (n : ℕ) → IsRowPlace (leaf_rows s p.leaf) a n → m.items ≡ insert p.leaf.items n e → IsInserted s (entries_in leaves) (entries_in (slice_set leaves c m)) e a
 tree_inserted s leaves c a e m p n q i =
     let cut = cut_at s leaves a c n p q in
     let l = p.leaf in
@@ -174,7 +174,7 @@ upper_place s leaves a c p lower upper new room halves all made =
         leaf = upper;
         split = made_at new pre (drop (suc c) leaves) upper (c + 1) one more;
         left = subst P (sym (before_made new pre (upper ∷ drop (suc c) leaves) (c + 1) one more)) (subst R (sym rows) (all_before-append (rows_in s (take c leaves)) (leaf_rows s lower) a p.left all));
-        right = λ b. behind_made new pre (drop (suc c) leaves) upper (c + 1) one more ∙ p.right (subst R (sym both) (all_before-append (leaf_rows s lower) (leaf_rows s upper) a all b));
+        right = λ b. after_made new pre (drop (suc c) leaves) upper (c + 1) one more ∙ p.right (subst R (sym both) (all_before-append (leaf_rows s lower) (leaf_rows s upper) a all b));
       };
       room = room;
     }
@@ -182,8 +182,8 @@ upper_place s leaves a c p lower upper new room halves all made =
 pub moved_leaf_place : {s : Store} {leaves now : List Leaf} {a b : List Key} {c : ℕ} → leaves ≡ now → a ≡ b → IsLeafPlace s leaves a c → IsLeafPlace s now b c
 moved_leaf_place {s} {leaves} {now} {a} {b} {c} e i p = subst (λ z. IsLeafPlace s now z c) i (subst (λ z. IsLeafPlace s z a c) e p)
 
-pub moved_stands_in : {s : Store} {leaves now : List Leaf} {j k : Key} {c n : ℕ} → leaves ≡ now → j ≡ k → StandsIn s leaves c n j → StandsIn s now c n k
-moved_stands_in {s} {leaves} {now} {j} {k} {c} {n} e i t = subst (λ z. StandsIn s now c n z) i (subst (λ z. StandsIn s z c n j) e t)
+pub moved_stands_in : {s : Store} {leaves now : List Leaf} {j k : Key} {c n : ℕ} → leaves ≡ now → j ≡ k → IsInTree s leaves c n j → IsInTree s now c n k
+moved_stands_in {s} {leaves} {now} {j} {k} {c} {n} e i t = subst (λ z. IsInTree s now c n z) i (subst (λ z. IsInTree s z c n j) e t)
 
 pub some_rows : (n : ℕ) → false ≡ (n == 0) → 0 < n
 some_rows zero e = absurd (true≢false (sym e))

@@ -30,7 +30,7 @@ add_refusal is_group parent name rows =
     (or_else (when (is_none (path_below parent rows)) (NoParent parent))
     (when (is_some (find_row (key_at is_group name) rows)) (NameTaken name)))
 
--- whether something stands right below the group of this row
+-- whether something is right below the group of this row
 abbrev pub has_children : Option Row → List Row → Bool
 has_children None rows = false
 has_children (Some g) rows = has_child (below g) rows
@@ -74,6 +74,6 @@ abbrev pub item_of : Option Row → Option Item
 item_of None = None
 item_of (Some r) = Some r.item
 
--- after an accepted call the rows are these, and no room stands
+-- after an accepted call the rows are these, and there is no room
 abbrev pub with_rows : List Row → Nicks → Nicks
 with_rows rows old = record { root = old.root; rows = rows; room = None }

@@ -20,7 +20,7 @@ is_short name = nat_le (length name) 15 && are_bytes name
 unfoldable pub number : List ℕ → ℕ
 number name = front 15 name * 256 + length name
 
--- what stands under a number, and under the bytes of a name
+-- what is under a number, and under the bytes of a name
 abbrev pub at_short : {X S : Type 0} → HashMap ℕ X S → ℕ → Option X
 at_short m n = get_by (λ k. nat_eq n k) m
 
@@ -31,12 +31,12 @@ unfoldable pub at_name : IdsByName → List ℕ → Option RowId
 at_name p name = if is_short name then at_short p.short (number name) else at_long p.long name
 
 -- one more name comes in without taking memory
-abbrev pub HasRoom : IdsByName → Type 0
-HasRoom p = (0 < spare p.short) × (0 < spare p.long)
+abbrev pub HasNameRoom : IdsByName → Type 0
+HasNameRoom p = (0 < spare p.short) × (0 < spare p.long)
 
 abbrev pub id_in : Index → Key → Option RowId
 id_in i k = if k.is_group then at_name i.groups k.name else at_name i.nicks k.name
 
 -- one more group or nick comes in without taking memory
 abbrev pub IndexHasRoom : Index → Type 0
-IndexHasRoom i = HasRoom i.groups × HasRoom i.nicks
+IndexHasRoom i = HasNameRoom i.groups × HasNameRoom i.nicks

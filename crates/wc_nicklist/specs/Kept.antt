@@ -15,7 +15,7 @@ row_under_id stored None = None
 row_under_id stored (Some id) = row_at stored.store id.0
 
 -- the index has the number of each row, and no other
-pub record IsIndexOf (stored : Stored) (index : Index) : Type 0 where
+pub record IndexesRows (stored : Stored) (index : Index) : Type 0 where
   pub rows : (k : Key) → row_under_id stored (id_in index k) ≡ find_row k stored.rows
   pub some : (k : Key) → is_some (id_in index k) ≡ is_some (find_row k stored.rows)
 
@@ -25,7 +25,7 @@ pub record IsRoom (r : Room) : Type 0 where
   pub fits : 64 ≤ vec_capacity r.name
 
 -- one more row under the parent comes in without taking memory
-pub record RoomStands (stored : Stored) (index : Index) (r : Room) : Type 0 where
+pub record RoomIsFree (stored : Stored) (index : Index) (r : Room) : Type 0 where
   pub parent : path_below r.parent stored.rows ≡ Some r.path
   pub parts : IsRoom r
   pub row : IsTrue stored.has_room
@@ -33,13 +33,13 @@ pub record RoomStands (stored : Stored) (index : Index) (r : Room) : Type 0 wher
 
 abbrev pub IfRoom : Stored → Index → Option Room → Type 0
 IfRoom stored index None = Unit {0}
-IfRoom stored index (Some r) = RoomStands stored index r
+IfRoom stored index (Some r) = RoomIsFree stored index r
 
 abbrev pub parent_in : Option Room → Option (List ℕ)
 parent_in None = None
 parent_in (Some r) = Some r.parent
 
-pub record IsKept (stored : Stored) (index : Index) (room : Option Room) : Type 0 where
+pub record IsNicklistKept (stored : Stored) (index : Index) (room : Option Room) : Type 0 where
   pub held : IsRows stored.rows
-  pub indexed : IsIndexOf stored index
+  pub indexed : IndexesRows stored index
   pub prepared : IfRoom stored index room

@@ -8,7 +8,7 @@ use Rattle.wc_nicklist.specs.declared.item.Item.{Item}
 use Rattle.wc_nicklist.specs.declared.item.Key.{Key}
 use Rattle.wc_nicklist.specs.declared.item.Row.{Row}
 
--- nicks stand before groups
+-- nicks are before groups
 abbrev pub kind : Bool → ℕ
 kind false = 0
 kind true = 1
@@ -39,7 +39,7 @@ address r = address_of r.path (key r)
 unfoldable pub address_cmp : List Key → List Key → Ordering
 address_cmp a b = slice_cmp key_cmp a b
 
--- whether a row stands before what has this address
+-- whether a row is before what has this address
 abbrev pub is_before : Row → List Key → Bool
 is_before r a = is_lt (address_cmp (address r) a)
 

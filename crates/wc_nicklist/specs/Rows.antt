@@ -76,7 +76,7 @@ last_or d (x ∷ xs) = last_or x xs
 abbrev pub parent_of : Row → List ℕ
 parent_of r = last_or root_name r.path
 
--- the path of what stands right below a group
+-- the path of what is right below a group
 abbrev pub below : Row → List (List ℕ)
 below g = g.path ++ g.item.name ∷ []
 
@@ -84,11 +84,11 @@ abbrev pub below_row : Option Row → Option (List (List ℕ))
 below_row None = None
 below_row (Some g) = Some (below g)
 
--- the path of what stands right below the group of a name
+-- the path of what is right below the group of a name
 unfoldable pub path_below : List ℕ → List Row → Option (List (List ℕ))
 path_below name rows = if is_root name then Some [] else below_row (find_row (group_key name) rows)
 
--- whether a row stands right below this path
+-- whether a row is right below this path
 abbrev pub has_child : List (List ℕ) → List Row → Bool
 has_child path rows = list_any (λ r. path_eq r.path path) rows
 
@@ -97,13 +97,13 @@ abbrev pub level_at : Bool → List (List ℕ) → ℕ
 level_at is_group path = if is_group then length path + 1 else 0
 
 -- Rows that a nicklist can hold.
-abbrev pub AllBehind : Row → List Row → Type 0
-AllBehind x [] = Unit {0}
-AllBehind x (y ∷ ys) = (before x y ≡ true) × AllBehind x ys
+abbrev pub AllAfter : Row → List Row → Type 0
+AllAfter x [] = Unit {0}
+AllAfter x (y ∷ ys) = (before x y ≡ true) × AllAfter x ys
 
 abbrev pub Ascending : List Row → Type 0
 Ascending [] = Unit {0}
-Ascending (x ∷ xs) = AllBehind x xs × Ascending xs
+Ascending (x ∷ xs) = AllAfter x xs × Ascending xs
 
 -- each key once
 abbrev pub Keyed : List Row → Type 0
@@ -116,7 +116,7 @@ pub record TextsAreUtf8 (i : Item) : Type 0 where
   pub prefix : IsUtf8 i.prefix
   pub prefix_color : IsUtf8 i.prefix_color
 
-pub record IsHeld (rows : List Row) (r : Row) : Type 0 where
+pub record IsListedRow (rows : List Row) (r : Row) : Type 0 where
   -- the row is the root's, or a group of these rows is its parent
   pub parent : path_below (parent_of r) rows ≡ Some r.path
   pub level : r.item.level ≡ level_at r.item.is_group r.path
@@ -127,9 +127,9 @@ pub record IsHeld (rows : List Row) (r : Row) : Type 0 where
 pub record IsRows (rows : List Row) : Type 0 where
   pub ascending : Ascending rows
   pub keyed : Keyed rows
-  pub held : (k : Key) (r : Row) → find_row k rows ≡ Some r → IsHeld rows r
+  pub held : (k : Key) (r : Row) → find_row k rows ≡ Some r → IsListedRow rows r
 
--- What contracts see of a nicklist: the handle of the root, the rows, and the parent for which room stands.
+-- What contracts see of a nicklist: the handle of the root, the rows, and the parent for which there is room.
 pub record Nicks : Type 0 where
   pub root : Handle
   pub rows : List Row

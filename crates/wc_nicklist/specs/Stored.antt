@@ -7,7 +7,7 @@ use Rattle.wc_nicklist.specs.declared.entry.Entry.{Entry}
 use Rattle.wc_nicklist.specs.declared.item.Key.{Key}
 use Rattle.wc_nicklist.specs.declared.item.Row.{Row}
 use Rattle.wc_nicklist.specs.declared.store.Store.{Store}
-use Rattle.wc_nicklist.specs.Digest.{IsDigest}
+use Rattle.wc_nicklist.specs.Digest.{IsPathDigest}
 use Rattle.wc_nicklist.specs.Order.{is_before}
 use Rattle.wc_nicklist.specs.Rows.{path_eq}
 
@@ -38,14 +38,14 @@ abbrev pub entry_row : Store → Entry → Row
 entry_row s e = row_or (row_at s e.id.0)
 
 -- the row under the entry's number is there, and has the entry's digest
-pub record Stands (s : Store) (e : Entry) : Type 0 where
+pub record EntryLeads (s : Store) (e : Entry) : Type 0 where
   pub row : Row
   pub found : row_at s e.id.0 ≡ Some row
-  pub digest : IsDigest e.digest row.path row.item.is_group row.item.name
+  pub digest : IsPathDigest e.digest row.path row.item.is_group row.item.name
 
-abbrev pub AllStand : Store → List Entry → Type 0
-AllStand s [] = Unit {0}
-AllStand s (e ∷ es) = Stands s e × AllStand s es
+abbrev pub AllEntriesLead : Store → List Entry → Type 0
+AllEntriesLead s [] = Unit {0}
+AllEntriesLead s (e ∷ es) = EntryLeads s e × AllEntriesLead s es
 
 -- one of these entries has this number
 abbrev pub IdIn : ℕ → List Entry → Type 0
@@ -62,18 +62,18 @@ abbrev pub AllBefore : List Row → List Key → Type 0
 AllBefore [] a = Unit {0}
 AllBefore (x ∷ xs) a = (is_before x a ≡ true) × AllBefore xs a
 
--- the first of these rows, if there is one, does not stand before the address
+-- the first of these rows, if there is one, does not are before the address
 abbrev pub FirstNotBefore : List Row → List Key → Type 0
 FirstNotBefore [] a = Unit {0}
 FirstNotBefore (x ∷ xs) a = is_before x a ≡ false
 
--- n rows stand before the address, and no other does
-pub record IsPlace (rows : List Row) (a : List Key) (n : ℕ) : Type 0 where
+-- n rows are before the address, and no other does
+pub record IsRowPlace (rows : List Row) (a : List Key) (n : ℕ) : Type 0 where
   pub within : n ≤ length rows
   pub left : AllBefore (take n rows) a
   pub right : FirstNotBefore (drop n rows) a
 
--- whether the first of these rows stands right below this path
+-- whether the first of these rows is right below this path
 abbrev pub begins_below : List (List ℕ) → List Row → Bool
 begins_below path [] = false
 begins_below path (x ∷ xs) = path_eq x.path path
@@ -83,6 +83,6 @@ pub record IsSplitAt {A : Type 0} (xs : List A) (n : ℕ) (x : A) (rest : List A
   pub within : n < length xs
   pub value : (d : A) → slice_index_or xs n d ≡ x
   pub got : slice_get xs n ≡ Some x
-  pub behind : drop (suc n) xs ≡ rest
+  pub following : drop (suc n) xs ≡ rest
   pub whole : xs ≡ take n xs ++ x ∷ rest
   pub written : (y : A) → slice_set xs n y ≡ take n xs ++ y ∷ rest

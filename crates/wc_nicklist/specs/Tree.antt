@@ -9,7 +9,7 @@ use Rattle.wc_nicklist.specs.declared.item.Key.{Key}
 use Rattle.wc_nicklist.specs.declared.item.Row.{Row}
 use Rattle.wc_nicklist.specs.declared.store.Store.{Store}
 use Rattle.wc_nicklist.specs.Rows.{find_row}
-use Rattle.wc_nicklist.specs.Stored.{row_at, entry_row, AllStand, IdIn, AllBefore, FirstNotBefore, IsSplitAt}
+use Rattle.wc_nicklist.specs.Stored.{row_at, entry_row, AllEntriesLead, IdIn, AllBefore, FirstNotBefore, IsSplitAt}
 
 abbrev pub Leaf : Type 0
 Leaf = Vec Entry Global
@@ -28,8 +28,8 @@ abbrev pub rows_in : Store → List Leaf → List Row
 rows_in s leaves = map (entry_row s) (entries_in leaves)
 
 -- the digest is that of the last of these entries, if there is one
-abbrev pub IsLast : Digest → List Entry → Type 0
-IsLast d entries = (xs : List Entry) (e : Entry) → entries ≡ xs ++ e ∷ [] → d ≡ e.digest
+abbrev pub IsLastDigest : Digest → List Entry → Type 0
+IsLastDigest d entries = (xs : List Entry) (e : Entry) → entries ≡ xs ++ e ∷ [] → d ≡ e.digest
 
 -- a leaf has some entries, at most 64, and the memory for 64
 pub record IsLeaf (l : Leaf) : Type 0 where
@@ -44,12 +44,12 @@ AreLeaves (l ∷ ls) = IsLeaf l × AreLeaves ls
 -- each entry has a row in the store, and each row there an entry
 pub record IsTree (s : Store) (leaves : List Leaf) (spare : Leaf) (count : ℕ) : Type 0 where
   pub are_leaves : AreLeaves leaves
-  pub stand : AllStand s (entries_in leaves)
+  pub stand : AllEntriesLead s (entries_in leaves)
   pub spare_empty : spare.items ≡ []
   pub counted : count ≡ length (entries_in leaves)
   pub owned : (n : ℕ) (r : Row) → row_at s n ≡ Some r → IdIn n (entries_in leaves)
 
--- an address belongs into this leaf: the rows of the leaves before stand before it, and where those of
+-- an address belongs into this leaf: the rows of the leaves before are before it, and where those of
 -- this leaf do too, it is the last
 pub record IsLeafPlace (s : Store) (leaves : List Leaf) (a : List Key) (c : ℕ) : Type 0 where
   pub leaf : Leaf
@@ -57,8 +57,8 @@ pub record IsLeafPlace (s : Store) (leaves : List Leaf) (a : List Key) (c : ℕ)
   pub left : AllBefore (rows_in s (take c leaves)) a
   pub right : AllBefore (leaf_rows s leaf) a → drop (suc c) leaves ≡ []
 
--- the row of this key stands at this place of this leaf
-pub record StandsIn (s : Store) (leaves : List Leaf) (c n : ℕ) (k : Key) : Type 0 where
+-- the row of this key is at this place of this leaf
+pub record IsInTree (s : Store) (leaves : List Leaf) (c n : ℕ) (k : Key) : Type 0 where
   pub leaf : Leaf
   pub outer : IsSplitAt leaves c leaf (drop (suc c) leaves)
   pub entry : Entry
@@ -107,4 +107,4 @@ pub record AreNearlyLeaves (leaves : List Leaf) (c : ℕ) : Type 0 where
   pub fits : vec_len leaf ≤ 64
   pub roomy : 64 ≤ vec_capacity leaf
   pub before : AreLeaves (take c leaves)
-  pub behind : AreLeaves (drop (suc c) leaves)
+  pub following : AreLeaves (drop (suc c) leaves)

@@ -1,6 +1,6 @@
 ghost use Rattle.std.specs.Prelude.{◌≡◌, ◌≤◌, ◌<◌, ℕ, List, true, false, None, Some, OnOk, IfSome, IfNone, bytes_eq, nat_eq, if◌then◌else◌};
 ghost use Rattle.std.specs.HashMap.{spare};
-ghost use Rattle.wc_nicklist.specs.Index.{at_name, at_long, at_short, is_short, number, HasRoom};
+ghost use Rattle.wc_nicklist.specs.Index.{at_name, at_long, at_short, is_short, number, HasNameRoom};
 
 use crate::digest::front;
 use crate::store::RowId;
@@ -16,7 +16,7 @@ type ShortIds = HashMap<u128, RowId>;
 type LongIds = HashMap<Vec<u8>, RowId>;
 
 /// The numbers of groups, or of nicks, by name. A short name is kept as a number, so that a look-up
-/// compares it where it stands in the table, and reads no memory of its own.
+/// compares it where it is in the table, and reads no memory of its own.
 #[derive(Drop)]
 pub(crate) struct IdsByName {
     short: ShortIds,
@@ -47,8 +47,8 @@ impl IdsByName {
     /// Takes the memory for one name more.
     pub(crate) fn reserve(&mut self) -> Result<(), NoMemory>
         ensures same { (name : List ℕ) → at_name self.new name ≡ at_name self.old name }
-        ensures kept { HasRoom self.old → HasRoom self.new }
-        ensures ok { OnOk result (HasRoom self.new) }
+        ensures kept { HasNameRoom self.old → HasNameRoom self.new }
+        ensures ok { OnOk result (HasNameRoom self.new) }
     {
         reserve_short(&mut self.short)?;
         reserve_long(&mut self.long)
@@ -56,7 +56,7 @@ impl IdsByName {
 
     /// Notes the number of a name. It takes no memory.
     pub(crate) fn insert(&mut self, name: Vec<u8>, id: RowId)
-        requires { HasRoom self.old }
+        requires { HasNameRoom self.old }
         ensures { (q : List ℕ) → at_name self.new q ≡ (if bytes_eq name.items q then Some id else at_name self.old q) }
     {
         match number(name.as_slice()) {

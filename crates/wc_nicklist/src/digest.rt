@@ -1,5 +1,5 @@
 ghost use Rattle.std.specs.Prelude.{◌≡◌, ◌≤◌, ◌<◌, ◌^◌, ◌∷◌, [], List, ℕ, get_or, IsTrue};
-ghost use Rattle.wc_nicklist.specs.Digest.{front, cased, place_of, IsBytes, IsDigest, Tells};
+ghost use Rattle.wc_nicklist.specs.Digest.{front, bytes_compared, place_of, IsBytes, IsPathDigest, Tells};
 ghost use Rattle.wc_nicklist.specs.Order.{kind};
 
 use wc_text::Text;
@@ -40,7 +40,7 @@ impl Digest {
 
     /// The digest of an address.
     pub(crate) fn of(path: &[Text], is_group: bool, name: &[u8]) -> Digest
-        ensures { IsDigest result path.now is_group name.now }
+        ensures { IsPathDigest result path.now is_group name.now }
     {
         Digest {
             place: place(path, is_group),
@@ -68,7 +68,7 @@ fn kind(is_group: bool) -> u128
     if is_group { 1 } else { 0 }
 }
 
-/// The place of what stands right below a group of the root.
+/// The place of what is right below a group of the root.
 fn place_below(name: &[u8], is_group: bool) -> u128
     ensures place { result ≡ place_of (name.now ∷ []) is_group }
     ensures bytes { IsBytes name.now }
@@ -83,7 +83,7 @@ fn place_below(name: &[u8], is_group: bool) -> u128
 /// The first bytes of a text as one number, the first of them highest.
 pub(crate) fn front(bytes: &[u8], count: usize, keeps_case: bool) -> u128
     requires { count ≤ 16 }
-    ensures front { result ≡ front count (cased keeps_case bytes.now) }
+    ensures front { result ≡ front count (bytes_compared keeps_case bytes.now) }
     ensures bytes { IsBytes bytes.now }
     ensures bound { result < 256 ^ count }
 {
@@ -94,9 +94,9 @@ pub(crate) fn front(bytes: &[u8], count: usize, keeps_case: bool) -> u128
     front
 }
 
-/// A byte of a text, and 0 behind its end.
+/// A byte of a text, and 0 after its end.
 fn byte_at(bytes: &[u8], at: usize, keeps_case: bool) -> u8
-    ensures { result ≡ get_or (cased keeps_case bytes.now) at 0 }
+    ensures { result ≡ get_or (bytes_compared keeps_case bytes.now) at 0 }
 {
     match bytes.get(at) {
         Some(byte) if keeps_case => *byte,

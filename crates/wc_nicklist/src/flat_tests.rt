@@ -71,7 +71,7 @@ fn flat_add(
     Ok("done")
 }
 
-/// Whether a row stands below that group.
+/// Whether a row is below that group.
 fn is_filled(rows: &[Vec<u8>], group: u8) -> bool {
     let end = [1, group];
     let Some(address) = rows

@@ -17,7 +17,7 @@ pub struct Item {
     pub prefix_color: Text,
 }
 
-/// An item and the names of the groups that it stands in, from below the root to its parent.
+/// An item and the names of the groups that it is in, from below the root to its parent.
 #[derive(Drop)]
 pub struct Row {
     pub path: Items<Text>,

@@ -1,7 +1,7 @@
 ghost use Rattle.std.specs.Prelude.{◌≡◌, ◌++◌, map};
 ghost use Rattle.std.specs.Iterator.{YieldsFirstBy, item_count};
 ghost use Rattle.wc_nicklist.specs.Rows.{below, parent_of, path_eq};
-ghost use Rattle.wc_nicklist.specs.Stored.{entry_row, AllStand};
+ghost use Rattle.wc_nicklist.specs.Stored.{entry_row, AllEntriesLead};
 ghost use Rattle.wc_nicklist.specs.Tree.{entries_in, rows_in};
 
 use crate::entry::Entry;
@@ -25,7 +25,7 @@ impl<'a> Model for RowView<'a> {
 }
 
 impl<'a> RowView<'a> {
-    /// Whether it stands right below a group.
+    /// Whether it is right below a group.
     pub(crate) fn is_child_of(&self, group: &Stored) -> bool
         ensures { result ≡ path_eq self.now.path (below group.now) }
     {
@@ -61,20 +61,20 @@ pub struct RowIter<'a> {
 impl<'a> Model for RowIter<'a> {
     ghost use Rattle.std.specs.Prelude.{List, ◌++◌, map};
     ghost use Rattle.wc_nicklist.specs.declared.item.Row.{Row};
-    ghost use Rattle.wc_nicklist.specs.Stored.{entry_row, AllStand};
+    ghost use Rattle.wc_nicklist.specs.Stored.{entry_row, AllEntriesLead};
     ghost use Rattle.wc_nicklist.specs.Tree.{entries_in};
 
     ghost Value = { List Row };
 
     ghost view = { λ a. map (entry_row a.store.now) (a.leaf.now ++ entries_in a.leaves.now) };
 
-    ghost invariant = { λ a. AllStand a.store.now (a.leaf.now ++ entries_in a.leaves.now) };
+    ghost invariant = { λ a. AllEntriesLead a.store.now (a.leaf.now ++ entries_in a.leaves.now) };
 }
 
 impl<'a> RowIter<'a> {
     /// The rows of these leaves.
     pub(crate) fn new(store: &'a Store, leaves: &'a [Leaf]) -> RowIter<'a>
-        requires { AllStand store.now (entries_in leaves.now) }
+        requires { AllEntriesLead store.now (entries_in leaves.now) }
         ensures { result ≡ rows_in store.now leaves.now }
     {
         RowIter {
@@ -84,9 +84,9 @@ impl<'a> RowIter<'a> {
         }
     }
 
-    /// The rows that are left of a leaf, and those of the leaves behind it.
+    /// The rows that are left of a leaf, and those of the leaves after it.
     pub(crate) fn from_leaf(store: &'a Store, leaf: &'a [Entry], leaves: &'a [Leaf]) -> RowIter<'a>
-        requires { AllStand store.now (leaf.now ++ entries_in leaves.now) }
+        requires { AllEntriesLead store.now (leaf.now ++ entries_in leaves.now) }
         ensures { result ≡ map (entry_row store.now) (leaf.now ++ entries_in leaves.now) }
     {
         RowIter {

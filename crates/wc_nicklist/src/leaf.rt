@@ -1,12 +1,12 @@
 ghost use Rattle.std.specs.Prelude.{◌≡◌, ◌≤◌, ◌<◌, ◌==◌, ◌++◌, ◌+◌, ◌∷◌, [], ℕ, OnOk, IsTrue, length, insert, map, remove, slice_index_or, take, vec_len, vec_capacity};
 ghost use Rattle.wc_nicklist.specs.Order.{key_at, address_of};
 ghost use Rattle.wc_nicklist.specs.Rows.{below, path_eq, Ascending};
-ghost use Rattle.wc_nicklist.specs.Stored.{entry_row, AllBefore, AllStand, IsPlace};
-ghost use Rattle.wc_nicklist.specs.Tree.{leaf_rows, IsLast};
+ghost use Rattle.wc_nicklist.specs.Stored.{entry_row, AllBefore, AllEntriesLead, IsRowPlace};
+ghost use Rattle.wc_nicklist.specs.Tree.{leaf_rows, IsLastDigest};
 
 use crate::digest::Digest;
 use crate::entry::Entry;
-use crate::order::{Address, stands_before};
+use crate::order::{Address, comes_before};
 use crate::store::{Store, Stored};
 use std::alloc::Global;
 use std::marker::Model;
@@ -30,13 +30,13 @@ pub(crate) struct Leaf {
 }
 
 impl Model for Leaf {
-    ghost use Rattle.wc_nicklist.specs.Tree.{Leaf as Entries, IsLast};
+    ghost use Rattle.wc_nicklist.specs.Tree.{Leaf as Entries, IsLastDigest};
 
     ghost Value = { Entries };
 
     ghost view = { λ l. l.entries };
 
-    ghost invariant = { λ l. IsLast l.last l.entries.items };
+    ghost invariant = { λ l. IsLastDigest l.last l.entries.items };
 }
 
 impl Leaf {
@@ -80,10 +80,10 @@ impl Leaf {
         Ok(())
     }
 
-    /// Whether its rows, so the last one, stand before an address.
+    /// Whether its rows, so the last one, are before an address.
     pub(crate) fn ends_before(&self, store: &Store, address: &Address<'_>) -> bool
         requires filled { 0 < vec_len self.now }
-        requires stand { AllStand store.now self.now.items }
+        requires stand { AllEntriesLead store.now self.now.items }
         requires order { Ascending (leaf_rows store.now self.now) }
         ensures all { IsTrue result → AllBefore (leaf_rows store.now self.now) (address_of address.now.path.now (key_at address.now.is_group address.now.name.now)) }
         ensures not_all { AllBefore (leaf_rows store.now self.now) (address_of address.now.path.now (key_at address.now.is_group address.now.name.now)) → IsTrue result }
@@ -92,12 +92,12 @@ impl Leaf {
             return self.last.name < address.digest.name;
         }
         match self.entries.split_last() {
-            Some((entry, _)) => stands_before(store, entry, address),
+            Some((entry, _)) => comes_before(store, entry, address),
             None => false,
         }
     }
 
-    /// Puts a row behind the others, where there is room.
+    /// Puts a row after the others, where there is room.
     pub(crate) fn push(&mut self, entry: Entry)
         requires { vec_len self.old < vec_capacity self.old }
         ensures items { self.new.items ≡ self.old.items ++ entry ∷ [] }
@@ -108,21 +108,21 @@ impl Leaf {
         self.last = last_digest(self.entries.as_slice());
     }
 
-    /// The place of an address: the number of rows that stand before it.
+    /// The place of an address: the number of rows that are before it.
     pub(crate) fn place(&self, store: &Store, address: &Address<'_>) -> usize
-        requires stand { AllStand store.now self.now.items }
+        requires stand { AllEntriesLead store.now self.now.items }
         requires order { Ascending (leaf_rows store.now self.now) }
-        ensures { IsPlace (leaf_rows store.now self.now) (address_of address.now.path.now (key_at address.now.is_group address.now.name.now)) result }
+        ensures { IsRowPlace (leaf_rows store.now self.now) (address_of address.now.path.now (key_at address.now.is_group address.now.name.now)) result }
     {
         place(store, self.entries.as_slice(), address)
     }
 
     /// Puts a row at the place of its address, where there is room.
     pub(crate) fn put(&mut self, store: &Store, address: &Address<'_>, entry: Entry)
-        requires stand { AllStand store.now self.old.items }
+        requires stand { AllEntriesLead store.now self.old.items }
         requires order { Ascending (leaf_rows store.now self.old) }
         requires room { vec_len self.old < vec_capacity self.old }
-        ensures place { (n : ℕ) × IsPlace (leaf_rows store.now self.old) (address_of address.now.path.now (key_at address.now.is_group address.now.name.now)) n × (self.new.items ≡ insert self.old.items n entry) }
+        ensures place { (n : ℕ) × IsRowPlace (leaf_rows store.now self.old) (address_of address.now.path.now (key_at address.now.is_group address.now.name.now)) n × (self.new.items ≡ insert self.old.items n entry) }
         ensures len { vec_len self.new ≡ vec_len self.old + 1 }
         ensures capacity { vec_capacity self.old ≤ vec_capacity self.new }
     {
@@ -162,7 +162,7 @@ impl Leaf {
         upper.last = last_digest(upper.entries.as_slice());
     }
 
-    /// Puts the rows of another leaf behind these, where there is room.
+    /// Puts the rows of another leaf after these, where there is room.
     pub(crate) fn append(&mut self, next: Leaf)
         requires { vec_len self.old + vec_len next ≤ vec_capacity self.old }
         ensures items { self.new.items ≡ self.old.items ++ next.items }
@@ -182,7 +182,7 @@ impl Leaf {
 
 /// The digest of the last of these rows.
 fn last_digest(entries: &[Entry]) -> Digest
-    ensures { IsLast result entries.now }
+    ensures { IsLastDigest result entries.now }
 {
     match entries.split_last() {
         Some((entry, _)) => entry.digest,
@@ -190,31 +190,31 @@ fn last_digest(entries: &[Entry]) -> Digest
     }
 }
 
-/// The place of an address: the number of rows that stand before it.
+/// The place of an address: the number of rows that are before it.
 ///
 /// Which row is read next hangs on no row before, but for the end of each loop. So a processor goes
 /// ahead and reads several rows from memory at once, where a search by halves waits for each.
 fn place(store: &Store, entries: &[Entry], address: &Address<'_>) -> usize
-    requires stand { AllStand store.now entries.now }
+    requires stand { AllEntriesLead store.now entries.now }
     requires order { Ascending (map (entry_row store.now) entries.now) }
-    ensures { IsPlace (map (entry_row store.now) entries.now) (address_of address.now.path.now (key_at address.now.is_group address.now.name.now)) result }
+    ensures { IsRowPlace (map (entry_row store.now) entries.now) (address_of address.now.path.now (key_at address.now.is_group address.now.name.now)) result }
 {
     let mut at = place_by_strides(store, entries, address);
-    while at < entries.len() && stands_before(store, &entries[at], address) {
+    while at < entries.len() && comes_before(store, &entries[at], address) {
         at += 1;
     }
     at
 }
 
-/// A place up to which the rows stand before an address, less than a stride from the last such.
+/// A place up to which the rows are before an address, less than a stride from the last such.
 fn place_by_strides(store: &Store, entries: &[Entry], address: &Address<'_>) -> usize
-    requires stand { AllStand store.now entries.now }
+    requires stand { AllEntriesLead store.now entries.now }
     requires order { Ascending (map (entry_row store.now) entries.now) }
     ensures within { result ≤ length entries.now }
     ensures left { AllBefore (take result (map (entry_row store.now) entries.now)) (address_of address.now.path.now (key_at address.now.is_group address.now.name.now)) }
 {
     let mut at = 0;
-    while entries.len() - at >= STRIDE && stands_before(store, &entries[at + STRIDE - 1], address) {
+    while entries.len() - at >= STRIDE && comes_before(store, &entries[at + STRIDE - 1], address) {
         at += STRIDE;
     }
     at
@@ -251,14 +251,14 @@ fn same_path(a: &[Text], b: &[Text]) -> bool
     true
 }
 
-/// Whether a row stands right below a group.
+/// Whether a row is right below a group.
 pub(crate) fn is_child(row: &Stored, group: &Stored) -> bool
     ensures { result ≡ path_eq row.now.path (below group.now) }
 {
     is_below(row.path(), group.path(), group.item().name.as_slice())
 }
 
-/// Whether a path is that of what stands right below a group.
+/// Whether a path is that of what is right below a group.
 pub(crate) fn is_below(path: &[Text], above: &[Text], name: &[u8]) -> bool
     ensures { result ≡ path_eq path.now (above.now ++ name.now ∷ []) }
 {

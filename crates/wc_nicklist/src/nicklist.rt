@@ -23,7 +23,7 @@ const ROOT_NAME: &[u8; 4] = b"root";
 /// The groups of a buffer with their nicks.
 ///
 /// Contracts see the handle of the root group, the rows in canonical order, and the parent for
-/// which room stands. The order lists a group, its nicks, then its child groups, each by
+/// which room is. The order lists a group, its nicks, then its child groups, each by
 /// `fold_cmp` of names, the root's own nicks first. The root is named `root` and is no row.
 #[derive(Drop)]
 pub struct Nicklist {
@@ -37,13 +37,13 @@ pub struct Nicklist {
 
 impl Model for Nicklist {
     ghost use Rattle.wc_nicklist.specs.Rows.{Nicks};
-    ghost use Rattle.wc_nicklist.specs.Kept.{parent_in, IsKept};
+    ghost use Rattle.wc_nicklist.specs.Kept.{parent_in, IsNicklistKept};
 
     ghost Value = { Nicks };
 
     ghost view = { λ a. record { root = a.root; rows = a.rows.rows; room = parent_in a.room } };
 
-    ghost invariant = { λ a. IsKept a.rows a.index a.room };
+    ghost invariant = { λ a. IsNicklistKept a.rows a.index a.room };
 }
 
 impl Nicklist {
@@ -274,7 +274,7 @@ impl Nicklist {
         })
     }
 
-    /// The path of what stands right below a parent, which rows of it share.
+    /// The path of what is right below a parent, which rows of it share.
     fn below(&mut self, alloc: Global, parent: &[u8]) -> Result<Path, NoMemory>
         requires { IsSome (path_below parent.now self.old.rows) }
         ensures path { IfOk result (λ path. path_below parent.now self.old.rows ≡ Some path) }
@@ -289,7 +289,7 @@ impl Nicklist {
         Ok(path)
     }
 
-    /// The path of the row that came last, where it is that of what stands right below a parent.
+    /// The path of the row that came last, where it is that of what is right below a parent.
     fn latest_below(&self, parent: &[u8]) -> Option<&Path>
         requires { IsSome (path_below parent.now self.now.rows) }
         ensures { IfSome result (λ path. path_below parent.now self.now.rows ≡ Some path.now) }
@@ -302,7 +302,7 @@ impl Nicklist {
         }
     }
 
-    /// Whether a path is that of what stands right below a parent.
+    /// Whether a path is that of what is right below a parent.
     fn leads_below(&self, path: &[Text], parent: &[u8]) -> bool
         requires { IsSome (path_below parent.now self.now.rows) }
         ensures { IsTrue result → path_below parent.now self.now.rows ≡ Some path.now }
@@ -406,7 +406,7 @@ impl Nicklist {
         None
     }
 
-    /// Whether it is a group, and a row stands right below it.
+    /// Whether it is a group, and a row is right below it.
     fn is_filled(&self, is_group: bool, row: &Stored) -> bool
         requires { find_row (key_at is_group row.now.item.name) self.now.rows ≡ Some row.now }
         ensures { result ≡ (is_group && has_child (below row.now) self.now.rows) }

@@ -1,8 +1,8 @@
 ghost use Rattle.std.specs.Prelude.{◌≡◌, ◌≤◌, ◌<◌, length, drop, min};
 ghost use Rattle.wc_text.specs.Order.{fold_order};
 ghost use Rattle.wc_nicklist.specs.Order.{key_at, key_cmp, address, address_cmp, address_of, is_before};
-ghost use Rattle.wc_nicklist.specs.Digest.{IsDigest};
-ghost use Rattle.wc_nicklist.specs.Stored.{entry_row, Stands};
+ghost use Rattle.wc_nicklist.specs.Digest.{IsPathDigest};
+ghost use Rattle.wc_nicklist.specs.Stored.{entry_row, EntryLeads};
 
 use crate::digest::{Digest, NO_PLACE};
 use crate::entry::Entry;
@@ -11,14 +11,14 @@ use crate::store::{Store, Stored};
 use std::cmp::Ordering;
 use wc_text::{Text, fold_cmp};
 
-/// Where a row stands: the names of the groups above it, its kind and its name, beside their digest.
+/// Where a row is: the names of the groups above it, its kind and its name, beside their digest.
 #[derive(Drop)]
 pub(crate) struct Address<'a> {
     pub(crate) path: &'a [Text],
     pub(crate) is_group: bool,
     pub(crate) name: &'a [u8],
     pub(crate) digest: Digest,
-    ghost exact: { IsDigest digest path.now is_group name.now },
+    ghost exact: { IsPathDigest digest path.now is_group name.now },
 }
 
 impl Address<'_> {
@@ -77,11 +77,11 @@ pub fn row_cmp(a: &Row, b: &Row) -> Ordering
     compare(&Names::of(a), &Names::of(b))
 }
 
-/// Whether a row stands before an address in canonical order. Mostly the digests tell, without a look
+/// Whether a row is before an address in canonical order. Mostly the digests tell, without a look
 /// at the row.
 #[inline(always)]
-pub(crate) fn stands_before(store: &Store, entry: &Entry, address: &Address<'_>) -> bool
-    requires { Stands store.now entry.now }
+pub(crate) fn comes_before(store: &Store, entry: &Entry, address: &Address<'_>) -> bool
+    requires { EntryLeads store.now entry.now }
     ensures { result ≡ is_before (entry_row store.now entry.now) (address_of address.now.path.now (key_at address.now.is_group address.now.name.now)) }
 {
     let digest = entry.digest;
@@ -89,7 +89,7 @@ pub(crate) fn stands_before(store: &Store, entry: &Entry, address: &Address<'_>)
         || digest.place == NO_PLACE
         || digest.name == address.digest.name
     {
-        return stands_before_by_names(store, entry, address);
+        return comes_before_by_names(store, entry, address);
     }
     digest.name < address.digest.name
 }
@@ -97,8 +97,8 @@ pub(crate) fn stands_before(store: &Store, entry: &Entry, address: &Address<'_>)
 /// The same by the names, where the digests do not tell. It is kept apart, so that a search has a
 /// short loop.
 #[inline(never)]
-fn stands_before_by_names(store: &Store, entry: &Entry, address: &Address<'_>) -> bool
-    requires { Stands store.now entry.now }
+fn comes_before_by_names(store: &Store, entry: &Entry, address: &Address<'_>) -> bool
+    requires { EntryLeads store.now entry.now }
     ensures { result ≡ is_before (entry_row store.now entry.now) (address_of address.now.path.now (key_at address.now.is_group address.now.name.now)) }
 {
     let row = store.get(entry.id);

@@ -1,8 +1,8 @@
 ghost use Rattle.std.specs.Prelude.{◌≡◌, ◌≤◌, ◌<◌, ◌+◌, ◌++◌, ℕ, [], None, Some, OnOk, IsTrue, IsSome, IfSome, IsSomeAnd, length, map, vec_len, vec_capacity, true, suc, drop, slice_get, nat_eq, if◌then◌else◌};
 ghost use Rattle.wc_nicklist.specs.Order.{key, key_at, address_of};
 ghost use Rattle.wc_nicklist.specs.Rows.{find_row, insert_row, remove_row, change_row, changed_row, has_child, below, Ascending, IsRows};
-ghost use Rattle.wc_nicklist.specs.Stored.{begins_below, entry_row, row_at, AllStand, Stands};
-ghost use Rattle.wc_nicklist.specs.Tree.{entries_in, rows_in, AreLeaves, IsLeafPlace, IsRoomyPlace, IsFullAt, AreNearlyLeaves, AreFewAt, StandsIn, IsInserted, IsRemoved};
+ghost use Rattle.wc_nicklist.specs.Stored.{begins_below, entry_row, row_at, AllEntriesLead, EntryLeads};
+ghost use Rattle.wc_nicklist.specs.Tree.{entries_in, rows_in, AreLeaves, IsLeafPlace, IsRoomyPlace, IsFullAt, AreNearlyLeaves, AreFewAt, IsInTree, IsInserted, IsRemoved};
 ghost use Rattle.wc_nicklist.specs.declared.item.Row.{Row as RowValue};
 
 use crate::entry::Entry;
@@ -144,7 +144,7 @@ impl RowTree {
         self.store.change(id, item);
     }
 
-    /// Whether a row stands right below a group of these rows.
+    /// Whether a row is right below a group of these rows.
     pub(crate) fn has_child_of(&self, group: &Stored) -> bool
         requires held { IsRows self.now.rows }
         requires stands { find_row (key_at true group.now.item.name) self.now.rows ≡ Some group.now }
@@ -154,23 +154,23 @@ impl RowTree {
     }
 }
 
-/// Whether a row stands right below a group. Its children stand right behind it, so that the next
+/// Whether a row is right below a group. Its children are right after it, so that the next
 /// row tells.
 fn has_child(store: &Store, leaves: &[Leaf], group: &Stored) -> bool
     requires held { IsRows (rows_in store.now leaves.now) }
     requires leaves { AreLeaves leaves.now }
-    requires stand { AllStand store.now (entries_in leaves.now) }
+    requires stand { AllEntriesLead store.now (entries_in leaves.now) }
     requires stands { find_row (key_at true group.now.item.name) (rows_in store.now leaves.now) ≡ Some group.now }
     ensures { result ≡ has_child (below group.now) (rows_in store.now leaves.now) }
 {
     let (at, n) = find(store, leaves, &group.address());
-    begins_with_child(rows_behind(store, leaves, at, n), group)
+    begins_with_child(rows_after(store, leaves, at, n), group)
 }
 
-/// The rows behind one of a leaf.
-fn rows_behind<'a>(store: &'a Store, leaves: &'a [Leaf], at: usize, n: usize) -> RowIter<'a>
+/// The rows after one of a leaf.
+fn rows_after<'a>(store: &'a Store, leaves: &'a [Leaf], at: usize, n: usize) -> RowIter<'a>
     requires leaves { AreLeaves leaves.now }
-    requires stand { AllStand store.now (entries_in leaves.now) }
+    requires stand { AllEntriesLead store.now (entries_in leaves.now) }
     requires outer { at < length leaves.now }
     requires inner { IfSome (slice_get leaves.now at) (λ l. n < vec_len l) }
     ensures { IfSome (slice_get leaves.now at) (λ l. result ≡ map (entry_row store.now) (drop (suc n) l.items ++ entries_in (drop (suc at) leaves.now))) }
@@ -191,7 +191,7 @@ fn begins_with_child(mut rows: RowIter<'_>, group: &Stored) -> bool
 fn leaf_of(store: &Store, leaves: &[Leaf], address: &Address<'_>) -> usize
     requires some { 0 < length leaves.now }
     requires leaves { AreLeaves leaves.now }
-    requires stand { AllStand store.now (entries_in leaves.now) }
+    requires stand { AllEntriesLead store.now (entries_in leaves.now) }
     requires order { Ascending (rows_in store.now leaves.now) }
     ensures { IsLeafPlace store.now leaves.now (address_of address.now.path.now (key_at address.now.is_group address.now.name.now)) result }
 {
@@ -212,9 +212,9 @@ fn leaf_of(store: &Store, leaves: &[Leaf], address: &Address<'_>) -> usize
 fn find(store: &Store, leaves: &[Leaf], address: &Address<'_>) -> (usize, usize)
     requires held { IsRows (rows_in store.now leaves.now) }
     requires leaves { AreLeaves leaves.now }
-    requires stand { AllStand store.now (entries_in leaves.now) }
+    requires stand { AllEntriesLead store.now (entries_in leaves.now) }
     requires known { IsSomeAnd (find_row (key_at address.now.is_group address.now.name.now) (rows_in store.now leaves.now)) (λ r. r.path ≡ address.now.path.now) }
-    ensures { StandsIn store.now leaves.now result.0 result.1 (key_at address.now.is_group address.now.name.now) }
+    ensures { IsInTree store.now leaves.now result.0 result.1 (key_at address.now.is_group address.now.name.now) }
 {
     let at = leaf_of(store, leaves, address);
     let n = leaves[at].place(store, address);
@@ -225,7 +225,7 @@ fn find(store: &Store, leaves: &[Leaf], address: &Address<'_>) -> (usize, usize)
 fn remove(leaves: &mut Vec<Leaf>, store: &Store, address: &Address<'_>) -> Entry
     requires held { IsRows (rows_in store.now leaves.old.items) }
     requires leaves { AreLeaves leaves.old.items }
-    requires stand { AllStand store.now (entries_in leaves.old.items) }
+    requires stand { AllEntriesLead store.now (entries_in leaves.old.items) }
     requires known { IsSomeAnd (find_row (key_at address.now.is_group address.now.name.now) (rows_in store.now leaves.old.items)) (λ r. r.path ≡ address.now.path.now) }
     ensures found { find_row (key_at address.now.is_group address.now.name.now) (rows_in store.now leaves.old.items) ≡ Some (entry_row store.now result) }
     ensures entries { IsRemoved (entries_in leaves.old.items) (entries_in leaves.new.items) result }
@@ -303,9 +303,9 @@ fn insert(
     requires spare_empty { spare.old.items ≡ [] }
     requires roomy { 64 ≤ vec_capacity spare.old }
     requires leaves { AreLeaves leaves.old.items }
-    requires stand { AllStand store.now (entries_in leaves.old.items) }
+    requires stand { AllEntriesLead store.now (entries_in leaves.old.items) }
     requires order { Ascending (rows_in store.now leaves.old.items) }
-    requires stands { Stands store.now entry }
+    requires stands { EntryLeads store.now entry }
     ensures entries { IsInserted store.now (entries_in leaves.old.items) (entries_in leaves.new.items) entry (address_of address.now.path.now (key_at address.now.is_group address.now.name.now)) }
     ensures leaves { AreLeaves leaves.new.items }
     ensures spare_empty { spare.new.items ≡ [] }
@@ -333,7 +333,7 @@ fn roomy_leaf(
     requires spare_empty { spare.old.items ≡ [] }
     requires roomy { 64 ≤ vec_capacity spare.old }
     requires leaves { AreLeaves leaves.old.items }
-    requires stand { AllStand store.now (entries_in leaves.old.items) }
+    requires stand { AllEntriesLead store.now (entries_in leaves.old.items) }
     requires order { Ascending (rows_in store.now leaves.old.items) }
     ensures place { IsRoomyPlace store.now leaves.new.items (address_of address.now.path.now (key_at address.now.is_group address.now.name.now)) result }
     ensures entries { entries_in leaves.new.items ≡ entries_in leaves.old.items }
@@ -362,7 +362,7 @@ fn split(
     requires empty { upper.items ≡ [] }
     requires roomy { 64 ≤ vec_capacity upper }
     requires leaves { AreLeaves leaves.old.items }
-    requires stand { AllStand store.now (entries_in leaves.old.items) }
+    requires stand { AllEntriesLead store.now (entries_in leaves.old.items) }
     requires order { Ascending (rows_in store.now leaves.old.items) }
     ensures place { IsRoomyPlace store.now leaves.new.items (address_of address.now.path.now (key_at address.now.is_group address.now.name.now)) result }
     ensures entries { entries_in leaves.new.items ≡ entries_in leaves.old.items }

@@ -47,7 +47,7 @@ impl Stored {
         &self.item
     }
 
-    /// Where the row stands.
+    /// Where the row is.
     pub(crate) fn address(&self) -> Address<'_>
         ensures path { result.path.now ≡ self.now.path }
         ensures kind { result.is_group ≡ self.now.item.is_group }

@@ -9,8 +9,8 @@ use wc_text::{Handle, NoMemory};
 
 /// What is told of each change of a nicklist, before the change.
 pub trait Touch {
-    /// The row that stood under a key of a buffer at its first touch: None where it was not
-    /// touched, and Some of None where no row stood.
+    /// The row that was under a key of a buffer at its first touch: None where it was not
+    /// touched, and Some of None where no row was.
     ghost first: { Self → HandleValue → KeyValue → Option (Option RowValue) };
 
     /// The row of that key is about to change. Where memory is refused nothing is noted.

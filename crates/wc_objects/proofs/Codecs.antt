@@ -3,7 +3,7 @@ use Rattle.std.proofs.Common.{◌≡◌, ℕ, zero, suc, ◌+◌, ◌<◌, ◌^�
 use Rattle.std.specs.List.{flat_map, AllByRecursion}
 use Rattle.std.proofs.lemmas.List.{length-append, get_or-drop}
 use Rattle.std.proofs.lemmas.List.Concat.{flat_map-cons}
-use Rattle.wc_objects.specs.Reading.{Read, ◌>>=◌, made, times}
+use Rattle.wc_objects.specs.Reading.{Read, ◌>>=◌, made_of, times}
 
 abbrev pub IsBytes : List ℕ → Type 0
 IsBytes bytes = (i : ℕ) → get_or bytes i 0 < 256
@@ -55,10 +55,10 @@ chain {A} {B} ra sa FA rb sb FB first ca cb = record {
 
 -- the same values, seen otherwise
 pub mapped : {A B : Type 0} (ra : List ℕ → Read A) (sa : A → List ℕ) (FA : A → Type 0) (f : A → B) (sb : B → List ℕ)
-    → Codec ra sa FA → ((a : A) → FA a → sb (f a) ≡ sa a) → Codec (λ bytes. ra bytes >>= made f) sb (λ b. (a : A) × (b ≡ f a) × FA a)
+    → Codec ra sa FA → ((a : A) → FA a → sb (f a) ≡ sa a) → Codec (λ bytes. ra bytes >>= made_of f) sb (λ b. (a : A) × (b ≡ f a) × FA a)
 mapped {A} {B} ra sa FA f sb ca same = record {
   takes = λ bytes y rest fits e.
-      let p = bind_ok (ra bytes) (made f) (y, rest) e in
+      let p = bind_ok (ra bytes) (made_of f) (y, rest) e in
       let t = ca.takes bytes p.0.0 p.0.1 fits p.1 in
       let is : f p.0.0 ≡ y = value_is (f p.0.0) y p.0.1 rest p.2 in
       let left : p.0.1 ≡ rest = rest_is (f p.0.0) y p.0.1 rest p.2 in
@@ -66,7 +66,7 @@ mapped {A} {B} ra sa FA f sb ca same = record {
   again = λ y rest fits short.
       let spelling : sb y ≡ sa fits.0 = ap sb fits.1 ∙ same fits.0 fits.2 in
       let one = ca.again fits.0 rest fits.2 (omega (arith, ap length spelling, short)) in
-      ap (λ (x : List ℕ). ra (x ++ rest) >>= made f) spelling ∙ ap (λ (r : Read A). r >>= made f) one ∙ ap (λ (b : B). done b rest) (sym fits.1);
+      ap (λ (x : List ℕ). ra (x ++ rest) >>= made_of f) spelling ∙ ap (λ (r : Read A). r >>= made_of f) one ∙ ap (λ (b : B). done b rest) (sym fits.1);
 }
 
 pub refit : {A : Type 0} (read : List ℕ → Read A) (spell : A → List ℕ) (F G : A → Type 0) → ((x : A) → F x → G x) → ((x : A) → G x → F x) → Codec read spell F → Codec read spell G

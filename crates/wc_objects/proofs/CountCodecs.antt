@@ -1,10 +1,10 @@
--- Values behind their count.
+-- Values after their count.
 use Rattle.std.proofs.Common.{◌≡◌, ℕ, ◌<◌, ◌≤◌, Bool, true, List, [], ◌∷◌, length, refl, ap, arith}
 use Rattle.std.specs.List.{flat_map, list_all, AllByRecursion}
 use Rattle.std.proofs.lemmas.Bool.{and_parts, and_from}
 use Rattle.std.proofs.lemmas.List.{length-append}
 use Rattle.std.proofs.lemmas.List.Concat.{flat_map-cons}
-use Rattle.wc_objects.specs.Spelling.{be32, counted}
+use Rattle.wc_objects.specs.Spelling.{be32, with_count}
 use Rattle.wc_objects.specs.Reading.{Read, ◌>>=◌, count_at, times, counted_at}
 use Rattle.wc_objects.proofs.Codecs.{Codec, chain, all_times, refit_short}
 use Rattle.wc_objects.proofs.FieldCodecs.{IsCount, count_codec}
@@ -15,10 +15,10 @@ count_le spell F some (x ∷ xs) fits =
     omega (arith, ap length (flat_map-cons spell x xs), length-append (spell x) (flat_map spell xs), some x fits.0, count_le spell F some xs fits.1)
 
 -- each value takes a byte at least, so that the count is small
-pub counted_codec : {A : Type 0} (read : List ℕ → Read A) (spell : A → List ℕ) (F : A → Type 0) → ((x : A) → F x → 0 < length (spell x)) → Codec read spell F → Codec (counted_at read) (counted spell) (AllByRecursion F)
+pub counted_codec : {A : Type 0} (read : List ℕ → Read A) (spell : A → List ℕ) (F : A → Type 0) → ((x : A) → F x → 0 < length (spell x)) → Codec read spell F → Codec (counted_at read) (with_count spell) (AllByRecursion F)
 unfolding counted_at
 counted_codec {A} read spell F some c =
-    refit_short (λ bytes. count_at bytes >>= λ n. times n.0 read n.1) (counted spell) (λ xs. IsCount (length xs) × AllByRecursion F xs) (AllByRecursion F)
+    refit_short (λ bytes. count_at bytes >>= λ n. times n.0 read n.1) (with_count spell) (λ xs. IsCount (length xs) × AllByRecursion F xs) (AllByRecursion F)
     (λ xs f. f.1)
     (λ xs f short. (omega (arith, count_le spell F some xs f, length-append (be32 (length xs)) (flat_map spell xs), short), f))
     (chain count_at be32 IsCount (λ whole n rest. times n read rest) (flat_map spell) (AllByRecursion F) length count_codec (λ whole n h. all_times n read spell F c))

@@ -5,7 +5,7 @@ use Rattle.std.proofs.lemmas.Bool.{cases_lt, ltb-false, ltb-true, le-ltb, lt-ltb
 use Rattle.std.proofs.lemmas.List.{take_at, drop_at, take-append-drop, length-append, length-take, get_or-drop, get_or-take, get_or_past}
 use Rattle.std.proofs.lemmas.Nat.{be_bytes_4, from_be_bytes-to_be_bytes_4}
 use Rattle.wc_objects.specs.Spelling.{be32, text_bytes}
-use Rattle.wc_objects.specs.Reading.{Read, ◌>>=◌, broken, made, bytes_at, number_at, count_at, tested_at, name_by, some_text_at, text_by}
+use Rattle.wc_objects.specs.Reading.{Read, ◌>>=◌, broken_at, made_of, bytes_at, number_at, count_at, tested_at, name_by, some_text_at, text_by}
 use Rattle.wc_objects.proofs.Codecs.{IsBytes, Codec, done, bind_ok, value_is, rest_is, chain, mapped, refit, refit_short, respell}
 
 -- a test that did not fail
@@ -39,7 +39,7 @@ bytes_codec n = record { takes = takes_bytes; again = λ text rest fits short. b
   where
     takes_bytes : (bytes text rest : List ℕ) → IsBytes bytes → bytes_at n bytes ≡ done text rest → (bytes ≡ text ++ rest) × IsBytes rest × AreBytes n text
     takes_bytes bytes text rest fits e =
-        elim (guard_ok (ltb (length bytes) n) (broken bytes) (Ok (take n bytes, drop n bytes)) (done text rest) e) [
+        elim (guard_ok (ltb (length bytes) n) (broken_at bytes) (Ok (take n bytes, drop n bytes)) (done text rest) e) [
           | inl short ↦ absurd (let k = short.1 in cc)
           | inr long ↦
               let t : take n bytes ≡ text = value_is (take n bytes) text (drop n bytes) rest long.1 in
@@ -53,13 +53,13 @@ bytes_codec n = record { takes = takes_bytes; again = λ text rest fits short. b
 
 -- a value of which a test holds
 pub guarded : {A : Type 0} (read : List ℕ → Read A) (spell : A → List ℕ) (F : A → Type 0) (test : A → Bool) → Codec read spell F
-    → Codec (λ bytes. read bytes >>= λ x. cond (test x.0) (Ok x) (broken bytes)) spell (λ x. F x × (test x ≡ true))
+    → Codec (λ bytes. read bytes >>= λ x. cond (test x.0) (Ok x) (broken_at bytes)) spell (λ x. F x × (test x ≡ true))
 guarded {A} read spell F test c = record { takes = takes_some; again = some_again }
   where
-    takes_some : (bytes : List ℕ) (y : A) (rest : List ℕ) → IsBytes bytes → (read bytes >>= λ x. cond (test x.0) (Ok x) (broken bytes)) ≡ done y rest → (bytes ≡ spell y ++ rest) × IsBytes rest × (F y × (test y ≡ true))
+    takes_some : (bytes : List ℕ) (y : A) (rest : List ℕ) → IsBytes bytes → (read bytes >>= λ x. cond (test x.0) (Ok x) (broken_at bytes)) ≡ done y rest → (bytes ≡ spell y ++ rest) × IsBytes rest × (F y × (test y ≡ true))
     takes_some bytes y rest fits e =
-        let p = bind_ok (read bytes) (λ x. cond (test x.0) (Ok x) (broken bytes)) (y, rest) e in
-        elim (guard_ok (test p.0.0) (Ok p.0) (broken bytes) (done y rest) p.2) [
+        let p = bind_ok (read bytes) (λ x. cond (test x.0) (Ok x) (broken_at bytes)) (y, rest) e in
+        elim (guard_ok (test p.0.0) (Ok p.0) (broken_at bytes) (done y rest) p.2) [
           | inl yes' ↦
               let v : p.0.0 ≡ y = value_is p.0.0 y p.0.1 rest yes'.1 in
               let r : p.0.1 ≡ rest = rest_is p.0.0 y p.0.1 rest yes'.1 in
@@ -68,7 +68,7 @@ guarded {A} read spell F test c = record { takes = takes_some; again = some_agai
           | inr no' ↦ absurd (let k = no'.1 in cc)
         ]
 
-    some_again : (y : A) (rest : List ℕ) → F y × (test y ≡ true) → length (spell y) < 2 ^ 31 → ((read (spell y ++ rest) >>= λ x. cond (test x.0) (Ok x) (broken (spell y ++ rest))) ≡ done y rest)
+    some_again : (y : A) (rest : List ℕ) → F y × (test y ≡ true) → length (spell y) < 2 ^ 31 → ((read (spell y ++ rest) >>= λ x. cond (test x.0) (Ok x) (broken_at (spell y ++ rest))) ≡ done y rest)
     some_again y rest fits short = rw (c.again y rest fits.0 short, fits.1) refl
 
 be32-bytes : (n : ℕ) → IsBytes (be32 n)
@@ -100,7 +100,7 @@ IsNumber n = n < 2 ^ 32
 pub number_codec : Codec number_at be32 IsNumber
 unfolding number_at
 number_codec =
-    refit (λ bytes. bytes_at 4 bytes >>= made (from_be_bytes w32)) be32 (λ n. (front : List ℕ) × (n ≡ from_be_bytes w32 front) × AreBytes 4 front) IsNumber
+    refit (λ bytes. bytes_at 4 bytes >>= made_of (from_be_bytes w32)) be32 (λ n. (front : List ℕ) × (n ≡ from_be_bytes w32 front) × AreBytes 4 front) IsNumber
     (λ n f. subst IsNumber (sym f.1) (number_below f.0 f.2.1))
     (λ n h. (be32 n, sym (number_back n h), (length-be32 n, be32-bytes n)))
     (mapped (bytes_at 4) same_bytes (AreBytes 4) (from_be_bytes w32) be32 (bytes_codec 4) front_back)
@@ -111,7 +111,7 @@ IsCount n = n < 2 ^ 31
 pub count_codec : Codec count_at be32 IsCount
 unfolding count_at
 count_codec =
-    refit (λ bytes. number_at bytes >>= λ n. cond (ltb n.0 (2 ^ 31)) (Ok n) (broken bytes)) be32 (λ n. IsNumber n × (ltb n (2 ^ 31) ≡ true)) IsCount
+    refit (λ bytes. number_at bytes >>= λ n. cond (ltb n.0 (2 ^ 31)) (Ok n) (broken_at bytes)) be32 (λ n. IsNumber n × (ltb n (2 ^ 31) ≡ true)) IsCount
     (λ n f. ltb-true n (2 ^ 31) f.1)
     (λ n h. (omega arith, lt-ltb n (2 ^ 31) h))
     (guarded number_at be32 IsNumber (λ n. ltb n (2 ^ 31)) number_codec)
@@ -131,7 +131,7 @@ tested_codec test n = guarded (bytes_at n) same_bytes (λ text. length text ≡ 
 abbrev pub Passes : (List ℕ → Bool) → List ℕ → Type 0
 Passes test text = test text ≡ true
 
--- a text behind its length
+-- a text after its length
 abbrev pub spelt_name : List ℕ → List ℕ
 spelt_name text = be32 (length text) ++ text
 
@@ -171,19 +171,19 @@ some_codec test n = mapped (tested_at test n) same_bytes (λ text. (length text 
 abbrev Told : (List ℕ → Bool) → ℕ → Option (List ℕ) → Type 0
 Told test n b = (text_first b ≡ n) × IsShort test b
 
-abbrev pub behind_length : (List ℕ → Bool) → List ℕ → ℕ → List ℕ → Read (Option (List ℕ))
-behind_length test whole n rest = cond (eqb n 4294967295) (Ok (None, rest)) (cond (ltb n (2 ^ 31)) (some_text_at test n rest) (broken whole))
+abbrev pub after_length : (List ℕ → Bool) → List ℕ → ℕ → List ℕ → Read (Option (List ℕ))
+after_length test whole n rest = cond (eqb n 4294967295) (Ok (None, rest)) (cond (ltb n (2 ^ 31)) (some_text_at test n rest) (broken_at whole))
 
-told_takes : (test : List ℕ → Bool) (whole : List ℕ) (n : ℕ) (bytes : List ℕ) (y : Option (List ℕ)) (rest : List ℕ) → IsBytes bytes → behind_length test whole n bytes ≡ done y rest
+told_takes : (test : List ℕ → Bool) (whole : List ℕ) (n : ℕ) (bytes : List ℕ) (y : Option (List ℕ)) (rest : List ℕ) → IsBytes bytes → after_length test whole n bytes ≡ done y rest
     → (bytes ≡ text_body y ++ rest) × IsBytes rest × Told test n y
 told_takes test whole n bytes y rest fits e =
-    elim (guard_ok (eqb n 4294967295) (done None bytes) (cond (ltb n (2 ^ 31)) (some_text_at test n bytes) (broken whole)) (done y rest) e) [
+    elim (guard_ok (eqb n 4294967295) (done None bytes) (cond (ltb n (2 ^ 31)) (some_text_at test n bytes) (broken_at whole)) (done y rest) e) [
       | inl null ↦
           let v : None ≡ y = value_is None y bytes rest null.1 in
           let r : bytes ≡ rest = rest_is None y bytes rest null.1 in
           subst (λ (b : Option (List ℕ)). (bytes ≡ text_body b ++ rest) × IsBytes rest × Told test n b) v (r, subst IsBytes r fits, (sym (eqb-true n 4294967295 null.0), tt))
       | inr other ↦
-          elim (guard_ok (ltb n (2 ^ 31)) (some_text_at test n bytes) (broken whole) (done y rest) other.1) [
+          elim (guard_ok (ltb n (2 ^ 31)) (some_text_at test n bytes) (broken_at whole) (done y rest) other.1) [
             | inl some ↦
                 let t = (some_codec test n).takes bytes y rest fits some.1 in
                 let small = ltb-true n (2 ^ 31) some.0 in
@@ -194,7 +194,7 @@ told_takes test whole n bytes y rest fits e =
           ]
     ]
 
-pub told_again : (test : List ℕ → Bool) (whole : List ℕ) (n : ℕ) (y : Option (List ℕ)) (rest : List ℕ) → Told test n y → length (text_body y) < 2 ^ 31 → behind_length test whole n (text_body y ++ rest) ≡ done y rest
+pub told_again : (test : List ℕ → Bool) (whole : List ℕ) (n : ℕ) (y : Option (List ℕ)) (rest : List ℕ) → Told test n y → length (text_body y) < 2 ^ 31 → after_length test whole n (text_body y ++ rest) ≡ done y rest
 told_again test whole n None rest fits short = rw (eq-eqb n 4294967295 (sym fits.0)) refl
 told_again test whole n (Some text) rest fits short =
     let small : ltb n (2 ^ 31) ≡ true = lt-ltb n (2 ^ 31) (omega (arith, fits.0, short)) in
@@ -214,17 +214,17 @@ text_fits : (test : List ℕ → Bool) (b : Option (List ℕ)) → IsShort test 
 text_fits test None fits = tt
 text_fits test (Some text) fits = fits.1
 
--- the length, and what stands behind it
-pub told_codec : (test : List ℕ → Bool) → Codec (λ bytes. number_at bytes >>= λ n. behind_length test bytes n.0 n.1) (λ b. be32 (text_first b) ++ text_body b) (λ b. IsNumber (text_first b) × IsShort test b)
+-- the length, and what comes after it
+pub told_codec : (test : List ℕ → Bool) → Codec (λ bytes. number_at bytes >>= λ n. after_length test bytes n.0 n.1) (λ b. be32 (text_first b) ++ text_body b) (λ b. IsNumber (text_first b) × IsShort test b)
 told_codec test =
-    chain number_at be32 IsNumber (λ whole n rest. behind_length test whole n rest) text_body (IsShort test) text_first number_codec
+    chain number_at be32 IsNumber (λ whole n rest. after_length test whole n rest) text_body (IsShort test) text_first number_codec
     (λ whole n h. record { takes = told_takes test whole n; again = told_again test whole n })
 
 pub text_codec : (test : List ℕ → Bool) → Codec (text_by test) text_bytes (IsText test)
 unfolding text_by
 text_codec test =
-    respell (λ bytes. number_at bytes >>= λ n. behind_length test bytes n.0 n.1) (λ b. be32 (text_first b) ++ text_body b) text_bytes (IsText test) (λ b f. text_spelt b)
-    (refit_short (λ bytes. number_at bytes >>= λ n. behind_length test bytes n.0 n.1) (λ b. be32 (text_first b) ++ text_body b) (λ b. IsNumber (text_first b) × IsShort test b) (IsText test)
+    respell (λ bytes. number_at bytes >>= λ n. after_length test bytes n.0 n.1) (λ b. be32 (text_first b) ++ text_body b) text_bytes (IsText test) (λ b f. text_spelt b)
+    (refit_short (λ bytes. number_at bytes >>= λ n. after_length test bytes n.0 n.1) (λ b. be32 (text_first b) ++ text_body b) (λ b. IsNumber (text_first b) × IsShort test b) (IsText test)
     (λ b f. text_fits test b f.1)
     (λ b f short. text_short test b f short)
     (told_codec test))

@@ -8,7 +8,7 @@ use Rattle.wc_objects.specs.Spelling.{be32, pointer_bytes, text_bytes}
 use Rattle.wc_objects.specs.Spells.{IsFront, IsStr}
 use Rattle.wc_objects.specs.Reading.{Read, ◌>>=◌, keeps, text_by, GivesFront, pointer_at, text_at}
 use Rattle.wc_objects.proofs.Codecs.{IsBytes, done}
-use Rattle.wc_objects.proofs.FieldCodecs.{IsShort, IsNumber, number_codec, text_first, text_body, behind_length, text_spelt, told_again, told_codec}
+use Rattle.wc_objects.proofs.FieldCodecs.{IsShort, IsNumber, number_codec, text_first, text_body, after_length, text_spelt, told_again, told_codec}
 use Rattle.wc_objects.proofs.NumberCodecs.{pointer_codec}
 use Rattle.wc_objects.proofs.Pointers.{hex_short}
 use Rattle.wc_objects.proofs.Rooms.{length-be32}
@@ -77,7 +77,7 @@ text_again text rest fits =
     let whole = be32 (text_first text) ++ (text_body text ++ rest) in
     let one = number_codec.again (text_first text) (text_body text ++ rest) small.0 (omega (arith, length-be32 (text_first text))) in
     let regrouped : text_bytes text ++ rest ≡ whole = ap (λ (front : List ℕ). front ++ rest) (sym (text_spelt text)) ∙ append_assoc (be32 (text_first text)) (text_body text) rest in
-    ap text_at regrouped ∙ ap (λ (r : Read ℕ). r >>= λ n. behind_length (keeps Plain) whole n.0 n.1) one ∙ told_again (keeps Plain) whole (text_first text) text rest (refl, is_short text fits) small.1
+    ap text_at regrouped ∙ ap (λ (r : Read ℕ). r >>= λ n. after_length (keeps Plain) whole n.0 n.1) one ∙ told_again (keeps Plain) whole (text_first text) text rest (refl, is_short text fits) small.1
 
 abbrev Found : Type 0
 Found = Option (List ℕ) × ℕ

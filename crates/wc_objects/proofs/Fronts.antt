@@ -9,7 +9,7 @@ use Rattle.wc_objects.specs.declared.object.WireMessage.{WireMessage}
 use Rattle.wc_objects.specs.declared.read.MessageRefused.{MessageRefused}
 use Rattle.wc_objects.specs.Spelling.{be32, text_bytes, object_bytes, body_bytes}
 use Rattle.wc_objects.specs.Spells.{Spells, FrontSpells, misses_of, misses_bytes}
-use Rattle.wc_objects.specs.Reading.{message_of, sized, of_size, first_message, GivesFirst}
+use Rattle.wc_objects.specs.Reading.{message_of, with_size, of_size, first_message, GivesFirst}
 use Rattle.wc_objects.proofs.Codecs.{IsBytes}
 use Rattle.wc_objects.proofs.FieldCodecs.{IsBytes-take, spelt_name}
 use Rattle.wc_objects.proofs.Rooms.{length-be32, length-message_bytes}
@@ -30,18 +30,18 @@ record Enough (size : ℕ) (bytes : List ℕ) : Type 0 where
   most : size < 2 ^ 31
   there : size ≤ length bytes
 
-found_sized : (size : ℕ) (bytes : List ℕ) (message : WireMessage) (n : ℕ) → of_size size bytes ≡ gives (Some (message, n)) → Enough size bytes × (sized size (message_of (take size bytes)) ≡ gives (Some (message, n)))
+found_sized : (size : ℕ) (bytes : List ℕ) (message : WireMessage) (n : ℕ) → of_size size bytes ≡ gives (Some (message, n)) → Enough size bytes × (with_size size (message_of (take size bytes)) ≡ gives (Some (message, n)))
 found_sized size bytes message n e = by_tests (ltb size 9) (ltb 2147483647 size) (ltb (length bytes) size) refl refl refl e
   where
-    by_tests : (a b c : Bool) → ltb size 9 ≡ a → ltb 2147483647 size ≡ b → ltb (length bytes) size ≡ c → cond (a || b) (Err 0) (cond c (gives None) (sized size (message_of (take size bytes)))) ≡ gives (Some (message, n))
-        → Enough size bytes × (sized size (message_of (take size bytes)) ≡ gives (Some (message, n)))
+    by_tests : (a b c : Bool) → ltb size 9 ≡ a → ltb 2147483647 size ≡ b → ltb (length bytes) size ≡ c → cond (a || b) (Err 0) (cond c (gives None) (with_size size (message_of (take size bytes)))) ≡ gives (Some (message, n))
+        → Enough size bytes × (with_size size (message_of (take size bytes)) ≡ gives (Some (message, n)))
     by_tests true b c p q r e = absurd (let k = e in cc)
     by_tests false true c p q r e = absurd (let k = e in cc)
     by_tests false false true p q r e = absurd (let k = e in cc)
     by_tests false false false p q r e = (record { least = ltb-false size 9 p; most = omega (arith, ltb-false 2147483647 size q); there = ltb-false (length bytes) size r }, e)
 
 -- a message that was read in the bytes of its length
-sized_is : (size n : ℕ) (read : Result WireMessage ℕ) (message : WireMessage) → sized size read ≡ gives (Some (message, n)) → (read ≡ good message) × (size ≡ n)
+sized_is : (size n : ℕ) (read : Result WireMessage ℕ) (message : WireMessage) → with_size size read ≡ gives (Some (message, n)) → (read ≡ good message) × (size ≡ n)
 sized_is size n (Ok m) message e = let same : (m, size) ≡ (message, n) = cc in (ap (λ (p : WireMessage × ℕ). good p.0) same, ap (λ (p : WireMessage × ℕ). p.1) same)
 sized_is size n (Err left) message e = absurd (let k = e in cc)
 
@@ -79,7 +79,7 @@ body_long message = omega (arith, length-append (spelt_name message.id) (flat_ma
 spelling_long : (bytes : List ℕ) (message : WireMessage) → Spells message bytes → 9 ≤ length bytes
 spelling_long bytes message p = omega (arith, ap length p.spelling, length-message_bytes message.id message.objects, body_long message)
 
-of_size_is : (size : ℕ) (bytes : List ℕ) → Enough size bytes → of_size size bytes ≡ sized size (message_of (take size bytes))
+of_size_is : (size : ℕ) (bytes : List ℕ) → Enough size bytes → of_size size bytes ≡ with_size size (message_of (take size bytes))
 of_size_is size bytes enough =
     let a : ltb size 9 ≡ false = le-ltb size 9 enough.least in
     let b : ltb 2147483647 size ≡ false = le-ltb 2147483647 size (omega (arith, enough.most)) in
@@ -97,7 +97,7 @@ first_spelt bytes message size f =
     let four : ltb (length bytes) 4 ≡ false = le-ltb (length bytes) 4 (omega (arith, nine, f.reaches)) in
     let read : message_of front ≡ good message = message_again front message f.spells f.within in
     ap (λ (b : Bool). cond b (gives None) (of_size (stated bytes) bytes)) four ∙ ap (λ (k : ℕ). of_size k bytes) says
-    ∙ of_size_is size bytes (record { least = nine; most = small; there = f.reaches }) ∙ ap (sized size) read
+    ∙ of_size_is size bytes (record { least = nine; most = small; there = f.reaches }) ∙ ap (with_size size) read
 
 pub only : (bytes : List ℕ) (result : Result Front MessageRefused) → GivesFirst result (first_message bytes) → (message : WireMessage) (size : ℕ) → FrontSpells message size bytes → GivesFirst result (Ok (Some (message, size)))
 only bytes result exact message size f = subst (λ (read : Result Front ℕ). GivesFirst result read) (first_spelt bytes message size f) exact
@@ -107,11 +107,11 @@ only bytes result exact message size f = subst (λ (read : Result Front ℕ). Gi
 missing_size : (size : ℕ) (bytes : List ℕ) → of_size size bytes ≡ gives None → misses_of size (length bytes) ≡ true
 missing_size size bytes e = by_tests (ltb size 9) (ltb 2147483647 size) (ltb (length bytes) size) refl refl refl e
   where
-    never : (read : Result WireMessage ℕ) → sized size read ≡ gives None → ⊥
+    never : (read : Result WireMessage ℕ) → with_size size read ≡ gives None → ⊥
     never (Ok m) e = let k = e in cc
     never (Err left) e = let k = e in cc
 
-    by_tests : (a b c : Bool) → ltb size 9 ≡ a → ltb 2147483647 size ≡ b → ltb (length bytes) size ≡ c → cond (a || b) (Err 0) (cond c (gives None) (sized size (message_of (take size bytes)))) ≡ gives None → misses_of size (length bytes) ≡ true
+    by_tests : (a b c : Bool) → ltb size 9 ≡ a → ltb 2147483647 size ≡ b → ltb (length bytes) size ≡ c → cond (a || b) (Err 0) (cond c (gives None) (with_size size (message_of (take size bytes)))) ≡ gives None → misses_of size (length bytes) ≡ true
     by_tests true b c p q r e = absurd (let k = e in cc)
     by_tests false true c p q r e = absurd (let k = e in cc)
     by_tests false false true p q r e = rw (le-leb 9 size (ltb-false size 9 p), le-leb size 2147483647 (ltb-false 2147483647 size q), r) refl

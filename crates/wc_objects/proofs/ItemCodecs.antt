@@ -13,7 +13,7 @@ use Rattle.wc_objects.specs.declared.object.Object.TheViews.{out-roll-HdaItem, r
 use Rattle.wc_objects.specs.Forms.{value_is, values_are, item_of}
 use Rattle.wc_objects.specs.Within.{PointerWithin, ValueWithin, ItemWithin}
 use Rattle.wc_objects.specs.Spelling.{pointer_bytes, value_bytes, item_bytes}
-use Rattle.wc_objects.specs.Reading.{◌>>=◌, made, times, pointer_at, value_at, values_at, item_at}
+use Rattle.wc_objects.specs.Reading.{◌>>=◌, made_of, times, pointer_at, value_at, values_at, item_at}
 use Rattle.wc_objects.specs.Reading.{item_of as made_item}
 use Rattle.wc_objects.proofs.Codecs.{IsBytes, Codec, done, value_is as value_same, rest_is, mapped, refit, respell, chain_tied, AreAll, all_times}
 use Rattle.wc_objects.proofs.NumberCodecs.{pointer_codec}
@@ -31,11 +31,11 @@ first_of values = get_or values 0 (o.Int (pos 0))
 abbrev spelt_others : List Object → List ℕ
 spelt_others values = flat_map value_bytes (drop 1 values)
 
-abbrev BehindFirst : List Kind → Object → List Object → Type 0
-BehindFirst kinds v values = (others : List Object) × (values ≡ v ∷ others) × AreValues kinds others
+abbrev AfterFirst : List Kind → Object → List Object → Type 0
+AfterFirst kinds v values = (others : List Object) × (values ≡ v ∷ others) × AreValues kinds others
 
 abbrev FirstThen : Kind → List Kind → List Object → Type 0
-FirstThen kind kinds values = IsValue kind (first_of values) × BehindFirst kinds (first_of values) values
+FirstThen kind kinds values = IsValue kind (first_of values) × AfterFirst kinds (first_of values) values
 
 first_spelt : (kind : Kind) (kinds : List Kind) (values : List Object) → FirstThen kind kinds values → value_bytes (first_of values) ++ spelt_others values ≡ flat_map value_bytes values
 first_spelt kind kinds [] f = absurd (let k = f.1.1 in cc)
@@ -73,7 +73,7 @@ unfolding values_at
 some_codec kind kinds c =
     refit (values_at (kind ∷ kinds)) (flat_map value_bytes) (FirstThen kind kinds) (AreValues (kind ∷ kinds)) (to_values kind kinds) (from_values kind kinds)
     (respell (values_at (kind ∷ kinds)) (λ values. value_bytes (first_of values) ++ spelt_others values) (flat_map value_bytes) (FirstThen kind kinds) (first_spelt kind kinds)
-    (chain_tied (value_at kind) value_bytes (IsValue kind) (λ whole v rest. values_at kinds rest >>= made (λ others. v ∷ others)) spelt_others (BehindFirst kinds) first_of
+    (chain_tied (value_at kind) value_bytes (IsValue kind) (λ whole v rest. values_at kinds rest >>= made_of (λ others. v ∷ others)) spelt_others (AfterFirst kinds) first_of
     (λ v values g. ap first_of g.1) (value_codec kind)
     (λ whole v h. mapped (values_at kinds) (flat_map value_bytes) (AreValues kinds) (λ others. v ∷ others) spelt_others c (λ others f. refl))))
 
@@ -118,7 +118,7 @@ pub item_codec : (depth : ℕ) (kinds : List Kind) → Codec (item_at depth kind
 unfolding item_at item_bytes
 item_codec depth kinds =
     refit (item_at depth kinds) item_bytes (MadeItem depth kinds) (IsItem depth (Some kinds)) (to_item depth kinds) (from_item depth kinds)
-    (chain_tied (times depth pointer_at) (flat_map pointer_bytes) (AreAll depth PointerWithin) (λ whole pointers rest. values_at kinds rest >>= made (made_item pointers)) spelt_item_values (ItemOf kinds) pointers_of
+    (chain_tied (times depth pointer_at) (flat_map pointer_bytes) (AreAll depth PointerWithin) (λ whole pointers rest. values_at kinds rest >>= made_of (made_item pointers)) spelt_item_values (ItemOf kinds) pointers_of
     (λ pointers item g. ap pointers_of g.1 ∙ ap (λ x. x.pointers) (out_item pointers g.0)) (all_times depth pointer_at pointer_bytes PointerWithin pointer_codec)
     (λ whole pointers h. mapped (values_at kinds) (flat_map value_bytes) (AreValues kinds) (made_item pointers) spelt_item_values (values_codec kinds)
     (λ values f. ap (λ x. flat_map value_bytes x.values) (out_item pointers values))))

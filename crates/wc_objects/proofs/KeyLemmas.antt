@@ -35,19 +35,19 @@ all_passed keys left values i none ended tested so_far =
     no_more (is_some left) none tested
     ∙ sym (so_far ∙ ap (λ (vs : List Object). values_of (kinds_of_keys (keys_left left)) vs) (drop_all i values ended) ∙ ends_keys left)
 
--- the types of some keys, and of those behind them
-abbrev pub behind_kinds : List Kind → Option (List Kind) → Option (List Kind)
-behind_kinds front None = None
-behind_kinds front (Some kinds) = Some (front ++ kinds)
+-- the types of some keys, and of those after them
+abbrev pub after_kinds : List Kind → Option (List Kind) → Option (List Kind)
+after_kinds front None = None
+after_kinds front (Some kinds) = Some (front ++ kinds)
 
-pub kinds_more : (front : List Kind) (kind : Kind) (others : Option (List Kind)) → behind_kinds front (with_kind (Some kind) others) ≡ behind_kinds (front ++ kind ∷ []) others
+pub kinds_more : (front : List Kind) (kind : Kind) (others : Option (List Kind)) → after_kinds front (with_kind (Some kind) others) ≡ after_kinds (front ++ kind ∷ []) others
 kinds_more front kind None = refl
 kinds_more front kind (Some kinds) = ap Some (sym (append_assoc front (kind ∷ []) kinds))
 
-pub kinds_start : (keys : List ℕ) (left : Option (Bor (List ℕ))) → keys_left left ≡ keys_of keys → behind_kinds [] (kinds_of_keys (keys_left left)) ≡ kinds_of keys
+pub kinds_start : (keys : List ℕ) (left : Option (Bor (List ℕ))) → keys_left left ≡ keys_of keys → after_kinds [] (kinds_of_keys (keys_left left)) ≡ kinds_of keys
 unfolding kinds_of
 kinds_start keys left e = none_before (kinds_of_keys (keys_left left)) ∙ ap kinds_of_keys e
   where
-    none_before : (kinds : Option (List Kind)) → behind_kinds [] kinds ≡ kinds
+    none_before : (kinds : Option (List Kind)) → after_kinds [] kinds ≡ kinds
     none_before None = refl
     none_before (Some kinds) = refl

@@ -15,8 +15,8 @@ use Rattle.wc_objects.specs.declared.rule.Rule.TheVariants.{Plain}
 use Rattle.wc_objects.specs.Kinds.{Layer, letters, is_simple, kind_at, kind_of}
 use Rattle.wc_objects.specs.Forms.{simple_is, variable_is}
 use Rattle.wc_objects.specs.Within.{VariableWithin}
-use Rattle.wc_objects.specs.Spelling.{be32, text_bytes, counted, simple_bytes, variable_bytes, whole_layer, whole_bytes}
-use Rattle.wc_objects.specs.Reading.{◌>>=◌, made, keeps, name_at, text_at, kind_by, simple_at, counted_at, variable_of, variable_at, inf_at, inl_at}
+use Rattle.wc_objects.specs.Spelling.{be32, text_bytes, with_count, simple_bytes, variable_bytes, whole_layer, whole_bytes}
+use Rattle.wc_objects.specs.Reading.{◌>>=◌, made_of, keeps, name_at, text_at, kind_by, simple_at, counted_at, variable_of, variable_at, inf_at, inl_at}
 use Rattle.wc_objects.proofs.Codecs.{Codec, mapped, refit, respell, chain_tied}
 use Rattle.wc_objects.proofs.FieldCodecs.{Passes, spelt_name, name_codec, IsText, text_codec}
 use Rattle.wc_objects.proofs.NumberCodecs.{kind_codec}
@@ -51,7 +51,7 @@ unfolding inf_at text_bytes
 inf_codec =
     respell inf_at (λ x. spelt_inf (out-Object x)) whole_bytes IsInf
     (λ x f. let e = inf_layer (inf_name (out-Object x)) x f.1 in ap spelt_inf e ∙ sym (ap whole_layer e))
-    (chain_tied name_at spelt_name (Passes (keeps Plain)) (λ whole name rest. text_at rest >>= made (o.Inf (Some name))) (λ x. text_bytes (inf_value (out-Object x))) InfOf (λ x. inf_name (out-Object x))
+    (chain_tied name_at spelt_name (Passes (keeps Plain)) (λ whole name rest. text_at rest >>= made_of (o.Inf (Some name))) (λ x. text_bytes (inf_value (out-Object x))) InfOf (λ x. inf_name (out-Object x))
     (λ name x f. ap inf_name (inf_layer name x f)) (name_codec (keeps Plain))
     (λ whole name h. mapped text_at text_bytes (IsText (keeps Plain)) (o.Inf (Some name)) (λ x. text_bytes (inf_value (out-Object x))) (text_codec (keeps Plain))
     (λ value f. ap (λ (l : Layer). text_bytes (inf_value l)) (layer_of (Object-F.Inf (Some name) value)))))
@@ -101,11 +101,11 @@ spelt_value v = simple_bytes (out-InlVar v).value
 abbrev VariableOf : List ℕ → Kind → InlVar → Type 0
 VariableOf name kind v = (value : Object) × (v ≡ variable_of name value) × IsSimple kind value
 
-abbrev BehindName : List ℕ → InlVar → Type 0
-BehindName name v = (is_simple (value_kind v) ≡ true) × VariableOf name (value_kind v) v
+abbrev AfterName : List ℕ → InlVar → Type 0
+AfterName name v = (is_simple (value_kind v) ≡ true) × VariableOf name (value_kind v) v
 
 abbrev MadeVariable : InlVar → Type 0
-MadeVariable v = Passes (keeps Plain) (name_of v) × BehindName (name_of v) v
+MadeVariable v = Passes (keeps Plain) (name_of v) × AfterName (name_of v) v
 
 abbrev pub IsVariable : InlVar → Type 0
 IsVariable v = (variable_is v ≡ true) × VariableWithin v
@@ -116,9 +116,9 @@ out_variable name value = out-roll-InlVar (record { name = name; value = value }
 value_is_of : (name : List ℕ) (kind : Kind) (v : InlVar) → (f : VariableOf name kind v) → (out-InlVar v).value ≡ f.0
 value_is_of name kind v f = ap (λ (x : InlVar). (out-InlVar x).value) f.1 ∙ ap (λ x. x.value) (out_variable name f.0)
 
-behind_name : (name : List ℕ) → Codec (λ bytes. kind_by is_simple bytes >>= λ kind. simple_at kind.0 kind.1 >>= made (variable_of name)) (λ v. letters (value_kind v) ++ spelt_value v) (BehindName name)
-behind_name name =
-    chain_tied (kind_by is_simple) letters (λ kind. is_simple kind ≡ true) (λ whole kind rest. simple_at kind rest >>= made (variable_of name)) spelt_value (VariableOf name) value_kind
+after_name : (name : List ℕ) → Codec (λ bytes. kind_by is_simple bytes >>= λ kind. simple_at kind.0 kind.1 >>= made_of (variable_of name)) (λ v. letters (value_kind v) ++ spelt_value v) (AfterName name)
+after_name name =
+    chain_tied (kind_by is_simple) letters (λ kind. is_simple kind ≡ true) (λ whole kind rest. simple_at kind rest >>= made_of (variable_of name)) spelt_value (VariableOf name) value_kind
     (λ kind v f. ap kind_of (value_is_of name kind v f) ∙ made_kind kind f.0 (from_simple kind f.0 f.2)) (kind_codec is_simple)
     (λ whole kind h. mapped (simple_at kind) simple_bytes (IsSimple kind) (variable_of name) spelt_value (simple_codec kind) (λ value f. ap (λ x. simple_bytes x.value) (out_variable name value)))
 
@@ -139,8 +139,8 @@ pub variable_codec : Codec variable_at variable_bytes IsVariable
 unfolding variable_at variable_bytes text_bytes
 variable_codec =
     refit variable_at variable_bytes MadeVariable IsVariable to_variable from_variable
-    (chain_tied name_at spelt_name (Passes (keeps Plain)) (λ whole name rest. kind_by is_simple rest >>= λ kind. simple_at kind.0 kind.1 >>= made (variable_of name)) (λ v. letters (value_kind v) ++ spelt_value v) BehindName name_of
-    (λ name v f. ap name_of f.1.1 ∙ ap (λ x. x.name) (out_variable name f.1.0)) (name_codec (keeps Plain)) (λ whole name h. behind_name name))
+    (chain_tied name_at spelt_name (Passes (keeps Plain)) (λ whole name rest. kind_by is_simple rest >>= λ kind. simple_at kind.0 kind.1 >>= made_of (variable_of name)) (λ v. letters (value_kind v) ++ spelt_value v) AfterName name_of
+    (λ name v f. ap name_of f.1.1 ∙ ap (λ x. x.name) (out_variable name f.1.0)) (name_codec (keeps Plain)) (λ whole name h. after_name name))
 
 -- ---- lists of them
 
@@ -148,7 +148,7 @@ length-be32 : (n : ℕ) → length (be32 n) ≡ 4
 unfolding be32
 length-be32 n = refl
 
-counted_some : {A : Type 0} (spell : A → List ℕ) (xs : List A) → 0 < length (counted spell xs)
+counted_some : {A : Type 0} (spell : A → List ℕ) (xs : List A) → 0 < length (with_count spell xs)
 counted_some spell xs = omega (arith, length-append (be32 (length xs)) (flat_map spell xs), length-be32 (length xs))
 
 variable_some : (v : InlVar) → 0 < length (variable_bytes v)
@@ -176,7 +176,7 @@ list_layer : (name : List ℕ) (x : Object) → (f : ListOf name x) → out-Obje
 list_layer name x f = ap out-Object f.1 ∙ layer_of (Object-F.Inl name f.0)
 
 abbrev spelt_items : Layer → List ℕ
-spelt_items layer = counted (counted variable_bytes) (list_items layer)
+spelt_items layer = with_count (with_count variable_bytes) (list_items layer)
 
 abbrev spelt_list : Layer → List ℕ
 spelt_list layer = spelt_name (list_name layer) ++ spelt_items layer
@@ -186,9 +186,9 @@ unfolding inl_at text_bytes
 list_codec =
     respell inl_at (λ x. spelt_list (out-Object x)) whole_bytes IsList
     (λ x f. let e = list_layer (list_name (out-Object x)) x f.1 in ap spelt_list e ∙ sym (ap whole_layer e))
-    (chain_tied name_at spelt_name (Passes (keeps Plain)) (λ whole name rest. counted_at (counted_at variable_at) rest >>= made (o.Inl name)) (λ x. spelt_items (out-Object x)) ListOf (λ x. list_name (out-Object x))
+    (chain_tied name_at spelt_name (Passes (keeps Plain)) (λ whole name rest. counted_at (counted_at variable_at) rest >>= made_of (o.Inl name)) (λ x. spelt_items (out-Object x)) ListOf (λ x. list_name (out-Object x))
     (λ name x f. ap list_name (list_layer name x f)) (name_codec (keeps Plain))
-    (λ whole name h. mapped (counted_at (counted_at variable_at)) (counted (counted variable_bytes)) (AllByRecursion AreVariables) (o.Inl name) (λ x. spelt_items (out-Object x))
-    (counted_codec (counted_at variable_at) (counted variable_bytes) AreVariables (λ item f. counted_some variable_bytes item)
+    (λ whole name h. mapped (counted_at (counted_at variable_at)) (with_count (with_count variable_bytes)) (AllByRecursion AreVariables) (o.Inl name) (λ x. spelt_items (out-Object x))
+    (counted_codec (counted_at variable_at) (with_count variable_bytes) AreVariables (λ item f. counted_some variable_bytes item)
     (counted_codec variable_at variable_bytes IsVariable (λ v f. variable_some v) variable_codec))
     (λ items f. ap spelt_items (layer_of (Object-F.Inl name items)))))

@@ -105,14 +105,14 @@ plain_codec =
 abbrev with_id : List ℕ → List Object → Result WireMessage ℕ
 with_id id objects = Ok (record { id = id; objects = objects })
 
-abbrev behind_id : List ℕ × List ℕ → Result WireMessage ℕ
-behind_id id = objects_of id.1 >>= with_id id.0
+abbrev after_id : List ℕ × List ℕ → Result WireMessage ℕ
+after_id id = objects_of id.1 >>= with_id id.0
 
-abbrev behind_plain : ℕ × List ℕ → Result WireMessage ℕ
-behind_plain plain = name_at plain.1 >>= behind_id
+abbrev after_plain : ℕ × List ℕ → Result WireMessage ℕ
+after_plain plain = name_at plain.1 >>= after_id
 
-abbrev behind_size : ℕ × List ℕ → Result WireMessage ℕ
-behind_size size = plain_at size.1 >>= behind_plain
+abbrev after_size : ℕ × List ℕ → Result WireMessage ℕ
+after_size size = plain_at size.1 >>= after_plain
 
 pub record Taken (message : WireMessage) (bytes : List ℕ) : Type 0 where
   pub size : ℕ
@@ -124,9 +124,9 @@ pub record Taken (message : WireMessage) (bytes : List ℕ) : Type 0 where
 message_taken : (bytes : List ℕ) (message : WireMessage) → IsBytes bytes → message_of bytes ≡ good message → Taken message bytes
 unfolding message_of text_bytes
 message_taken bytes message fits e =
-    let p = bind_ok (number_at bytes) behind_size message e in
-    let q = bind_ok (plain_at p.0.1) behind_plain message p.2 in
-    let r = bind_ok (name_at q.0.1) behind_id message q.2 in
+    let p = bind_ok (number_at bytes) after_size message e in
+    let q = bind_ok (plain_at p.0.1) after_plain message p.2 in
+    let r = bind_ok (name_at q.0.1) after_id message q.2 in
     let s = bind_ok (objects_of r.0.1) (with_id r.0.0) message r.2 in
     let t = number_codec.takes bytes p.0.0 p.0.1 fits p.1 in
     let u = plain_codec.takes p.0.1 q.0.0 q.0.1 t.1 q.1 in
@@ -165,7 +165,7 @@ message_read size message small id fits short =
     let two = plain_codec.again 0 (spelt_name message.id ++ objects) refl (omega arith) in
     let three = (name_codec (keeps Plain)).again message.id objects id (omega (arith, long, short)) in
     let four = objects_again message.objects fits (omega (arith, long, short)) in
-    ap (λ (r : Read ℕ). r >>= behind_size) one ∙ ap (λ (r : Read ℕ). r >>= behind_plain) two ∙ ap (λ (r : Read (List ℕ)). r >>= behind_id) three ∙ ap (λ (r : Result (List Object) ℕ). r >>= with_id message.id) four
+    ap (λ (r : Read ℕ). r >>= after_size) one ∙ ap (λ (r : Read ℕ). r >>= after_plain) two ∙ ap (λ (r : Read (List ℕ)). r >>= after_id) three ∙ ap (λ (r : Result (List Object) ℕ). r >>= with_id message.id) four
 
 pub message_again : (bytes : List ℕ) (message : WireMessage) → Spells message bytes → IsWithin message → message_of bytes ≡ good message
 unfolding well_formed

@@ -15,7 +15,7 @@ use Rattle.wc_objects.specs.Kinds.{letters}
 use Rattle.wc_objects.specs.Hex.{hex, hex_number}
 use Rattle.wc_objects.specs.Forms.{kind_among, kinds, named_kind, only_if}
 use Rattle.wc_objects.specs.Spelling.{be32, short_bytes, pointer_bytes}
-use Rattle.wc_objects.specs.Reading.{◌>>=◌, made, bytes_at, number_at, byte_at, int_at, short_at, decimal_at, decimal_number, pointer_at, kind_by}
+use Rattle.wc_objects.specs.Reading.{◌>>=◌, made_of, bytes_at, number_at, byte_at, int_at, short_at, decimal_at, decimal_number, pointer_at, kind_by}
 use Rattle.wc_objects.proofs.Codecs.{IsBytes, Codec, mapped, refit}
 use Rattle.wc_objects.proofs.FieldCodecs.{same_bytes, AreBytes, IsNumber, bytes_codec, long_codec, number_codec}
 use Rattle.wc_objects.proofs.ShortCodecs.{one_byte, parsed, IsShortText, short_codec}
@@ -33,7 +33,7 @@ of_byte a = cast_signed w8 (get_or a 0 0)
 pub byte_codec : Codec byte_at spelt_byte (λ n. FitsSigned w8 n)
 unfolding byte_at
 byte_codec =
-    refit (λ bytes. bytes_at 1 bytes >>= made of_byte) spelt_byte (λ n. (a : List ℕ) × (n ≡ of_byte a) × AreBytes 1 a) (λ n. FitsSigned w8 n)
+    refit (λ bytes. bytes_at 1 bytes >>= made_of of_byte) spelt_byte (λ n. (a : List ℕ) × (n ≡ of_byte a) × AreBytes 1 a) (λ n. FitsSigned w8 n)
     (λ n f. subst (λ z. FitsSigned w8 z) (sym f.1) (sfits_to_z (record { fits = f.2.1 0 })))
     (λ n f. (spelt_byte n, sym (to_z-of_z w8 n f), (refl, one_fits (cast_unsigned w8 n) (Fits-of_z f).fits)))
     (mapped (bytes_at 1) same_bytes (AreBytes 1) of_byte spelt_byte (bytes_codec 1) (λ a f. ap (λ (k : ℕ). k ∷ []) (of_z-to_z w8 (get_or a 0 0) (f.1 0)) ∙ sym (one_byte a f.0)))
@@ -48,7 +48,7 @@ spelt_int n = be32 (cast_unsigned w32 n)
 pub int_codec : Codec int_at spelt_int (λ n. FitsSigned w32 n)
 unfolding int_at
 int_codec =
-    refit (λ bytes. number_at bytes >>= made (cast_signed w32)) spelt_int (λ n. (a : ℕ) × (n ≡ cast_signed w32 a) × IsNumber a) (λ n. FitsSigned w32 n)
+    refit (λ bytes. number_at bytes >>= made_of (cast_signed w32)) spelt_int (λ n. (a : ℕ) × (n ≡ cast_signed w32 a) × IsNumber a) (λ n. FitsSigned w32 n)
     (λ n f. subst (λ z. FitsSigned w32 z) (sym f.1) (sfits_to_z (record { fits = f.2 })))
     (λ n f. (cast_unsigned w32 n, sym (to_z-of_z w32 n f), (Fits-of_z f).fits))
     (mapped number_at be32 IsNumber (cast_signed w32) spelt_int number_codec (λ a f. ap be32 (of_z-to_z w32 a f)))

@@ -10,14 +10,14 @@ use Rattle.wc_objects.specs.declared.object.Object.TheViews.{roll-out-Hda}
 use Rattle.wc_objects.specs.declared.rule.Rule.TheVariants.{Path, Keys}
 use Rattle.wc_objects.specs.Forms.{is_path, names_of, kinds_of, item_of, hda_parts_are, hda_is}
 use Rattle.wc_objects.specs.Within.{ItemWithin, HdaWithin}
-use Rattle.wc_objects.specs.Spelling.{text_bytes, counted, item_bytes, hda_bytes}
-use Rattle.wc_objects.specs.Reading.{◌>>=◌, made, keeps, name_by, text_by, items_by, depth_of, hda_of, hda_behind, hda_at}
+use Rattle.wc_objects.specs.Spelling.{text_bytes, with_count, item_bytes, hda_bytes}
+use Rattle.wc_objects.specs.Reading.{◌>>=◌, made_of, keeps, name_by, text_by, items_by, depth_of, hda_of, hda_after, hda_at}
 use Rattle.wc_objects.proofs.Pieces.{begins}
 use Rattle.wc_objects.proofs.Codecs.{Codec, mapped, refit, respell, chain_tied}
 use Rattle.wc_objects.proofs.FieldCodecs.{Passes, spelt_name, name_codec, IsText, text_codec}
 use Rattle.wc_objects.proofs.CountCodecs.{each_both, both_tests, both_facts}
 use Rattle.wc_objects.proofs.ItemCodecs.{IsItem}
-use Rattle.wc_objects.proofs.HdaCodecs.{null_hda, path_of, keys_of, spelt_items, spelt_behind, out_hda, null_hda_codec, ItemsOf, items_codec}
+use Rattle.wc_objects.proofs.HdaCodecs.{null_hda, path_of, keys_of, spelt_items, spelt_after, out_hda, null_hda_codec, ItemsOf, items_codec}
 
 -- a path has a name
 path_positive : (path : List ℕ) (d : ℕ) → depth_of path ≡ Some d → 0 < d
@@ -43,16 +43,16 @@ OnPath path h = Passes (keeps Keys) (keys_text h) × KeyedOf path (keys_text h) 
 keys_are : (path keys : List ℕ) (h : HdaValue) → KeyedOf path keys h → keys_of h ≡ Some keys
 keys_are path keys h f = ap keys_of f.1 ∙ ap (λ x. x.keys) (out_hda (Some path) (Some keys) f.0)
 
-path_codec : (path : List ℕ) → Codec (hda_behind (Some path)) spelt_behind (OnPath path)
+path_codec : (path : List ℕ) → Codec (hda_after (Some path)) spelt_after (OnPath path)
 unfolding text_bytes
 path_codec path =
-    respell (hda_behind (Some path)) (λ h. spelt_name (keys_text h) ++ spelt_items h) spelt_behind (OnPath path)
+    respell (hda_after (Some path)) (λ h. spelt_name (keys_text h) ++ spelt_items h) spelt_after (OnPath path)
     (λ h f. ap (λ (t : Option (List ℕ)). text_bytes t ++ spelt_items h) (sym (keys_are path (keys_text h) h f.1)))
-    (chain_tied (name_by (keeps Keys)) spelt_name (Passes (keeps Keys)) (λ whole keys rest. items_by (depth_of path) (kinds_of keys) rest >>= made (hda_of (Some path) (Some keys))) spelt_items (KeyedOf path) keys_text
+    (chain_tied (name_by (keeps Keys)) spelt_name (Passes (keeps Keys)) (λ whole keys rest. items_by (depth_of path) (kinds_of keys) rest >>= made_of (hda_of (Some path) (Some keys))) spelt_items (KeyedOf path) keys_text
     (λ keys h f. ap text_of (keys_are path keys h f)) (name_codec (keeps Keys))
-    (λ whole keys k. mapped (items_by (depth_of path) (kinds_of keys)) (counted item_bytes) (ItemsOf (depth_of path) (kinds_of keys)) (hda_of (Some path) (Some keys)) spelt_items
+    (λ whole keys k. mapped (items_by (depth_of path) (kinds_of keys)) (with_count item_bytes) (ItemsOf (depth_of path) (kinds_of keys)) (hda_of (Some path) (Some keys)) spelt_items
     (items_codec (depth_of path) (kinds_of keys) (path_positive path))
-    (λ items f. ap (λ x. counted item_bytes x.items) (out_hda (Some path) (Some keys) items))))
+    (λ items f. ap (λ x. with_count item_bytes x.items) (out_hda (Some path) (Some keys) items))))
 
 -- ---- with or without a path
 
@@ -60,9 +60,9 @@ abbrev HdaOf : Option (List ℕ) → HdaValue → Type 0
 HdaOf None h = h ≡ null_hda
 HdaOf (Some path) h = OnPath path h
 
-behind_codec : (path : Option (List ℕ)) → Codec (hda_behind path) spelt_behind (HdaOf path)
-behind_codec None = null_hda_codec
-behind_codec (Some path) = path_codec path
+after_codec : (path : Option (List ℕ)) → Codec (hda_after path) spelt_after (HdaOf path)
+after_codec None = null_hda_codec
+after_codec (Some path) = path_codec path
 
 tells_path : (path : Option (List ℕ)) (h : HdaValue) → HdaOf path h → path_of h ≡ path
 tells_path None h f = ap path_of f ∙ ap (λ x. x.path) (out_hda None None [])
@@ -128,4 +128,4 @@ pub hda_codec : Codec hda_at hda_bytes IsHda
 unfolding hda_at hda_bytes
 hda_codec =
     refit hda_at hda_bytes (λ h. MadeHda h (path_of h)) IsHda to_hda from_hda
-    (chain_tied (text_by (keeps Path)) text_bytes (IsText (keeps Path)) (λ whole path rest. hda_behind path rest) spelt_behind HdaOf path_of tells_path (text_codec (keeps Path)) (λ whole path h. behind_codec path))
+    (chain_tied (text_by (keeps Path)) text_bytes (IsText (keeps Path)) (λ whole path rest. hda_after path rest) spelt_after HdaOf path_of tells_path (text_codec (keeps Path)) (λ whole path h. after_codec path))

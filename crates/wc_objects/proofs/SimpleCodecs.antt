@@ -15,7 +15,7 @@ use Rattle.wc_objects.specs.Kinds.{Layer, same}
 use Rattle.wc_objects.specs.Forms.{is_text, simple_layer_is, simple_is}
 use Rattle.wc_objects.specs.Within.{SimpleLayerWithin, SimpleWithin}
 use Rattle.wc_objects.specs.Spelling.{simple_layer, simple_bytes, be32, text_bytes, pointer_bytes}
-use Rattle.wc_objects.specs.Reading.{Read, broken, keeps, simple_at, byte_at, int_at, decimal_at, pointer_at, text_at}
+use Rattle.wc_objects.specs.Reading.{Read, broken_at, keeps, simple_at, byte_at, int_at, decimal_at, pointer_at, text_at}
 use Rattle.wc_objects.proofs.Codecs.{Codec, done, mapped, refit}
 use Rattle.wc_objects.proofs.FieldCodecs.{IsText, text_codec}
 use Rattle.wc_objects.proofs.NumberCodecs.{spelt_byte, byte_codec, spelt_int, int_codec, spelt_decimal, decimal_codec, pointer_codec}
@@ -90,9 +90,9 @@ spelt_layer : (layer : Layer) → simple_bytes (object_of layer) ≡ simple_laye
 unfolding simple_bytes
 spelt_layer layer = ap simple_layer (layer_of layer)
 
-refused : (kind : Kind) → (read : List ℕ → Read Object) → ((bytes : List ℕ) → read bytes ≡ broken bytes) → Codec read simple_bytes (λ x. ⊥)
+refused : (kind : Kind) → (read : List ℕ → Read Object) → ((bytes : List ℕ) → read bytes ≡ broken_at bytes) → Codec read simple_bytes (λ x. ⊥)
 refused kind read never = record {
-  takes = λ bytes x rest fits e. absurd (let k : broken bytes ≡ done x rest = sym (never bytes) ∙ e in cc);
+  takes = λ bytes x rest fits e. absurd (let k : broken_at bytes ≡ done x rest = sym (never bytes) ∙ e in cc);
   again = λ x rest fits short. absurd fits;
 }
 

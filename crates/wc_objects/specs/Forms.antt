@@ -21,7 +21,7 @@ abbrev pub is_name : Option (List ℕ) → Bool
 is_name None = false
 is_name (Some text) = is_utf8 text
 
--- the pieces of a text that stand between marks, at least one
+-- the pieces of a text that are between marks, at least one
 abbrev pub onto_first : ℕ → List (List ℕ) → List (List ℕ)
 onto_first b [] = (b ∷ []) ∷ []
 onto_first b (piece ∷ pieces) = (b ∷ piece) ∷ pieces

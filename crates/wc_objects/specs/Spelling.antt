@@ -18,21 +18,21 @@ use Rattle.wc_objects.specs.Kinds.{Layer, letters, kind_of}
 unfoldable pub be32 : ℕ → List ℕ
 be32 n = to_be_bytes w32 n
 
--- a text behind its length, where a null text has the length -1
+-- a text after its length, where a null text has the length -1
 unfoldable pub text_bytes : Option (List ℕ) → List ℕ
 text_bytes (Some text) = be32 (length text) ++ text
 text_bytes None = 255 ∷ 255 ∷ 255 ∷ 255 ∷ []
 
--- a number's text behind the one byte of its length
+-- a number's text after the one byte of its length
 abbrev pub short_bytes : List ℕ → List ℕ
 short_bytes text = length text ∷ text
 
 abbrev pub pointer_bytes : ℕ → List ℕ
 pointer_bytes p = short_bytes (hex p)
 
--- a list behind its count
-abbrev pub counted : {A : Type 0} → (A → List ℕ) → List A → List ℕ
-counted spell xs = be32 (length xs) ++ flat_map spell xs
+-- a list after its count
+abbrev pub with_count : {A : Type 0} → (A → List ℕ) → List A → List ℕ
+with_count spell xs = be32 (length xs) ++ flat_map spell xs
 
 -- a value that holds no other, without the letters of its type
 abbrev pub simple_layer : Layer → List ℕ
@@ -53,11 +53,11 @@ pair_bytes p = simple_bytes p.0 ++ simple_bytes p.1
 
 -- a table: the types of its keys and values, its count, and each key and its value
 abbrev pub table_bytes : Kind → Kind → List (Object × Object) → List ℕ
-table_bytes key value pairs = letters key ++ (letters value ++ counted pair_bytes pairs)
+table_bytes key value pairs = letters key ++ (letters value ++ with_count pair_bytes pairs)
 
 -- an array: the type of its values, its count and its values
 abbrev pub array_bytes : Kind → List Object → List ℕ
-array_bytes kind values = letters kind ++ counted simple_bytes values
+array_bytes kind values = letters kind ++ with_count simple_bytes values
 
 -- a value of an hda: a table, an array or one that holds no other
 abbrev pub value_layer : Layer → List ℕ
@@ -73,7 +73,7 @@ unfoldable pub item_bytes : HdaItem → List ℕ
 item_bytes item = flat_map pointer_bytes (out-HdaItem item).pointers ++ flat_map value_bytes (out-HdaItem item).values
 
 unfoldable pub hda_bytes : Hda → List ℕ
-hda_bytes h = text_bytes (out-Hda h).path ++ (text_bytes (out-Hda h).keys ++ counted item_bytes (out-Hda h).items)
+hda_bytes h = text_bytes (out-Hda h).path ++ (text_bytes (out-Hda h).keys ++ with_count item_bytes (out-Hda h).items)
 
 -- a variable of an inl: its name, the letters of its type and its value
 unfoldable pub variable_bytes : InlVar → List ℕ
@@ -82,7 +82,7 @@ variable_bytes v = text_bytes (Some (out-InlVar v).name) ++ (letters (kind_of (o
 abbrev pub whole_layer : Layer → List ℕ
 whole_layer (Object-F.Hda h) = hda_bytes h
 whole_layer (Object-F.Inf name value) = text_bytes name ++ text_bytes value
-whole_layer (Object-F.Inl name items) = text_bytes (Some name) ++ counted (counted variable_bytes) items
+whole_layer (Object-F.Inl name items) = text_bytes (Some name) ++ with_count (with_count variable_bytes) items
 whole_layer layer = value_layer layer
 
 -- an object: the letters of its type and its value
@@ -92,7 +92,7 @@ whole_bytes o = whole_layer (out-Object o)
 unfoldable pub object_bytes : Object → List ℕ
 object_bytes o = letters (kind_of o) ++ whole_bytes o
 
--- what stands behind the length: the byte of no compression, the id and the objects
+-- what comes after the length: the byte of no compression, the id and the objects
 abbrev pub body_bytes : List ℕ → List Object → List ℕ
 body_bytes id objects = 0 ∷ (text_bytes (Some id) ++ flat_map object_bytes objects)
 
@@ -100,18 +100,18 @@ body_bytes id objects = 0 ∷ (text_bytes (Some id) ++ flat_map object_bytes obj
 unfoldable pub message_bytes : List ℕ → List Object → List ℕ
 message_bytes id objects = be32 (4 + length (body_bytes id objects)) ++ body_bytes id objects
 
--- what stands behind the length of a message of one str
+-- what comes after the length of a message of one str
 abbrev pub text_body_bytes : List ℕ → List ℕ → List ℕ
 text_body_bytes id text = 0 ∷ (text_bytes (Some id) ++ (letters Str ++ text_bytes (Some text)))
 
--- what is left of a room behind the bytes, or None where they are longer
+-- what is left of a room after the bytes, or None where they are longer
 abbrev pub FitsIn : Option ℕ → ℕ → List ℕ → Type 0
 FitsIn rest room bytes = MatchOption rest (room < length bytes) (λ n. n + length bytes ≡ room)
 
 -- there is room for the bytes, which may be a part of a message
-abbrev pub HasRoom : Filled → List ℕ → Type 0
-HasRoom out bytes = (length bytes ≤ out.spare) × (length bytes < 2 ^ 31)
+abbrev pub HasRoomFor : Filled → List ℕ → Type 0
+HasRoomFor out bytes = (length bytes ≤ out.spare) × (length bytes < 2 ^ 31)
 
--- the bytes stand behind what stood there, and took so much of the room
+-- the bytes come after what was there, and took so much of the room
 abbrev pub Puts : Filled → Filled → List ℕ → Type 0
 Puts old new bytes = (new.items ≡ old.items ++ bytes) × (new.spare + length bytes ≡ old.spare)

@@ -6,7 +6,7 @@ ghost use Rattle.wc_objects.specs.Left.{keys_left};
 
 use crate::kind::Kind;
 
-/// The first piece of a text that is parted by a mark, and what stands behind the mark.
+/// The first piece of a text that is parted by a mark, and what comes after the mark.
 fn first_piece(mark: u8, text: &[u8]) -> (&[u8], Option<&[u8]>)
     ensures pieces { MatchOption result.1 (spec.pieces_of mark text.now ≡ result.0.now ∷ [])
         (λ rest. spec.pieces_of mark text.now ≡ result.0.now ∷ spec.pieces_of mark rest.now) }
@@ -75,12 +75,12 @@ pub fn path_depth(path: &[u8]) -> Option<usize>
     let mut depth = 0usize;
     let mut rest = Some(path);
     while let Some(names) = rest {
-        let (name, behind) = first_piece(b'/', names);
+        let (name, following) = first_piece(b'/', names);
         if name.is_empty() {
             return None;
         }
         depth += 1;
-        rest = behind;
+        rest = following;
     }
     Some(depth)
 }
@@ -92,7 +92,7 @@ pub fn all_keys(keys: &[u8]) -> Option<&[u8]>
     if keys.is_empty() { None } else { Some(keys) }
 }
 
-/// The type of the first of one or more keys, and the keys behind it.
+/// The type of the first of one or more keys, and the keys after it.
 pub fn first_key(keys: &[u8]) -> Option<(Kind, Option<&[u8]>)>
     ensures kinds { MatchOption result (spec.kinds_of_keys (spec.pieces_of 44 keys.now) ≡ None)
         (λ x. spec.kinds_of_keys (spec.pieces_of 44 keys.now) ≡ spec.with_kind (Some x.0) (spec.kinds_of_keys (keys_left x.1))) }

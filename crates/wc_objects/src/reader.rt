@@ -2,7 +2,7 @@
 
 ghost use Rattle.std.specs.Prelude.{◌≡◌, Some, None, length};
 ghost use Rattle.std.specs.Int.{w32, cast_signed};
-ghost use Rattle.wc_objects.specs.Reading.{Gives, TakesNoMemory, byte_at, int_at, some_text_at, same_value, keeps, bytes_at, number_at, count_at, tested_at, name_by, text_by, null_at, short_at, decimal_number, decimal_at, pointer_at, kind_by, any_kind, no_text, plain_at};
+ghost use Rattle.wc_objects.specs.Reading.{GivesValue, TakesNoMemory, byte_at, int_at, some_text_at, same_value, keeps, bytes_at, number_at, count_at, tested_at, name_by, text_by, null_at, short_at, decimal_number, decimal_at, pointer_at, kind_by, any_kind, no_text, plain_at};
 ghost use Rattle.wc_objects.specs.Kinds.{is_simple};
 
 use crate::decimal::decimal_number;
@@ -26,7 +26,7 @@ pub struct Reader<'a> {
 impl<'a> Reader<'a> {
     /// The next bytes, as many as are asked for.
     fn take(&mut self, count: usize) -> Result<&'a [u8], ReadError>
-        ensures gives { Gives (λ x. x.now) result self.new.bytes.now (bytes_at count self.old.bytes.now) }
+        ensures gives { GivesValue (λ x. x.now) result self.new.bytes.now (bytes_at count self.old.bytes.now) }
         ensures no_memory { TakesNoMemory result }
     {
         if self.bytes.len() < count {
@@ -40,7 +40,7 @@ impl<'a> Reader<'a> {
     /// A number of four bytes.
     #[tactic(auto, unfolding(crate::specs::Reading::number_at))]
     pub fn number(&mut self) -> Result<u32, ReadError>
-        ensures { Gives same_value result self.new.bytes.now (number_at self.old.bytes.now) }
+        ensures { GivesValue same_value result self.new.bytes.now (number_at self.old.bytes.now) }
     {
         if self.bytes.len() < 4 {
             return Err(ReadError::Broken(self.bytes.len()));
@@ -54,7 +54,7 @@ impl<'a> Reader<'a> {
     /// A signed byte.
     #[tactic(auto, unfolding(crate::specs::Reading::byte_at))]
     pub fn byte(&mut self) -> Result<i8, ReadError>
-        ensures { Gives same_value result self.new.bytes.now (byte_at self.old.bytes.now) }
+        ensures { GivesValue same_value result self.new.bytes.now (byte_at self.old.bytes.now) }
     {
         let front = self.take(1)?;
         Ok(front[0].cast_signed())
@@ -63,7 +63,7 @@ impl<'a> Reader<'a> {
     /// A signed number of four bytes.
     #[tactic(auto, unfolding(crate::specs::Reading::int_at))]
     pub fn int(&mut self) -> Result<i32, ReadError>
-        ensures { Gives same_value result self.new.bytes.now (int_at self.old.bytes.now) }
+        ensures { GivesValue same_value result self.new.bytes.now (int_at self.old.bytes.now) }
     {
         let number = self.number()?;
         Ok(number.cast_signed())
@@ -72,7 +72,7 @@ impl<'a> Reader<'a> {
     /// A count or a length, which is not negative.
     #[tactic(auto, unfolding(crate::specs::Reading::count_at))]
     pub fn count(&mut self) -> Result<u32, ReadError>
-        ensures { Gives same_value result self.new.bytes.now (count_at self.old.bytes.now) }
+        ensures { GivesValue same_value result self.new.bytes.now (count_at self.old.bytes.now) }
     {
         let before = self.bytes.len();
         let count = self.number()?;
@@ -85,7 +85,7 @@ impl<'a> Reader<'a> {
     /// A text of that length which keeps a rule.
     #[tactic(auto, unfolding(crate::specs::Reading::tested_at))]
     fn tested(&mut self, alloc: Global, rule: Rule, length: u32) -> Result<Text, ReadError>
-        ensures { Gives same_value result self.new.bytes.now (tested_at (keeps rule) length self.old.bytes.now) }
+        ensures { GivesValue same_value result self.new.bytes.now (tested_at (keeps rule) length self.old.bytes.now) }
     {
         let before = self.bytes.len();
         let text = self.take(length as usize)?;
@@ -98,7 +98,7 @@ impl<'a> Reader<'a> {
     /// A text that is not null and keeps a rule.
     #[tactic(auto, unfolding(crate::specs::Reading::name_by))]
     pub fn name(&mut self, alloc: Global, rule: Rule) -> Result<Text, ReadError>
-        ensures { Gives same_value result self.new.bytes.now (name_by (keeps rule) self.old.bytes.now) }
+        ensures { GivesValue same_value result self.new.bytes.now (name_by (keeps rule) self.old.bytes.now) }
     {
         let length = self.count()?;
         self.tested(alloc, rule, length)
@@ -111,7 +111,7 @@ impl<'a> Reader<'a> {
         rule: Rule,
         length: u32,
     ) -> Result<Option<Text>, ReadError>
-        ensures { Gives same_value result self.new.bytes.now (some_text_at (keeps rule) length self.old.bytes.now) }
+        ensures { GivesValue same_value result self.new.bytes.now (some_text_at (keeps rule) length self.old.bytes.now) }
     {
         let text = self.tested(alloc, rule, length)?;
         Ok(Some(text))
@@ -120,7 +120,7 @@ impl<'a> Reader<'a> {
     /// A text that keeps a rule, or null.
     #[tactic(auto, unfolding(crate::specs::Reading::text_by))]
     pub fn text(&mut self, alloc: Global, rule: Rule) -> Result<Option<Text>, ReadError>
-        ensures { Gives same_value result self.new.bytes.now (text_by (keeps rule) self.old.bytes.now) }
+        ensures { GivesValue same_value result self.new.bytes.now (text_by (keeps rule) self.old.bytes.now) }
     {
         let before = self.bytes.len();
         let length = self.number()?;
@@ -136,7 +136,7 @@ impl<'a> Reader<'a> {
     /// The null text.
     #[tactic(auto, unfolding(crate::specs::Reading::null_at))]
     pub fn null(&mut self) -> Result<(), ReadError>
-        ensures { Gives no_text result self.new.bytes.now (null_at self.old.bytes.now) }
+        ensures { GivesValue no_text result self.new.bytes.now (null_at self.old.bytes.now) }
     {
         let before = self.bytes.len();
         if self.number()? != NULL {
@@ -148,7 +148,7 @@ impl<'a> Reader<'a> {
     /// A text of one byte of length, which is not 0 and not above a limit.
     #[tactic(auto, unfolding(crate::specs::Reading::short_at))]
     fn short(&mut self, most: u8) -> Result<&'a [u8], ReadError>
-        ensures gives { Gives (λ x. x.now) result self.new.bytes.now (short_at most self.old.bytes.now) }
+        ensures gives { GivesValue (λ x. x.now) result self.new.bytes.now (short_at most self.old.bytes.now) }
         ensures no_memory { TakesNoMemory result }
     {
         let before = self.bytes.len();
@@ -163,7 +163,7 @@ impl<'a> Reader<'a> {
     /// A number of 64 bits in decimal.
     #[tactic(auto, unfolding(crate::specs::Reading::decimal_at))]
     pub fn decimal(&mut self) -> Result<i64, ReadError>
-        ensures { Gives same_value result self.new.bytes.now (decimal_at self.old.bytes.now) }
+        ensures { GivesValue same_value result self.new.bytes.now (decimal_at self.old.bytes.now) }
     {
         let before = self.bytes.len();
         let text = self.short(20)?;
@@ -176,7 +176,7 @@ impl<'a> Reader<'a> {
     /// A pointer in hex.
     #[tactic(auto, unfolding(crate::specs::Reading::pointer_at))]
     pub fn pointer(&mut self) -> Result<u64, ReadError>
-        ensures gives { Gives same_value result self.new.bytes.now (pointer_at self.old.bytes.now) }
+        ensures gives { GivesValue same_value result self.new.bytes.now (pointer_at self.old.bytes.now) }
         ensures no_memory { TakesNoMemory result }
     {
         let before = self.bytes.len();
@@ -190,7 +190,7 @@ impl<'a> Reader<'a> {
     /// The letters of a type.
     #[tactic(auto, unfolding(crate::specs::Reading::kind_by))]
     pub fn kind(&mut self) -> Result<Kind, ReadError>
-        ensures { Gives same_value result self.new.bytes.now (kind_by any_kind self.old.bytes.now) }
+        ensures { GivesValue same_value result self.new.bytes.now (kind_by any_kind self.old.bytes.now) }
     {
         let before = self.bytes.len();
         let letters = self.take(3)?;
@@ -203,7 +203,7 @@ impl<'a> Reader<'a> {
     /// The letters of a type whose values hold no others.
     #[tactic(auto, unfolding(crate::specs::Reading::kind_by))]
     pub fn simple_kind(&mut self) -> Result<Kind, ReadError>
-        ensures { Gives same_value result self.new.bytes.now (kind_by is_simple self.old.bytes.now) }
+        ensures { GivesValue same_value result self.new.bytes.now (kind_by is_simple self.old.bytes.now) }
     {
         let before = self.bytes.len();
         let letters = self.take(3)?;
@@ -216,7 +216,7 @@ impl<'a> Reader<'a> {
     /// The byte that says that the message is not compressed.
     #[tactic(auto, unfolding(crate::specs::Reading::plain_at))]
     pub fn no_compression(&mut self) -> Result<(), ReadError>
-        ensures { Gives (λ _. 0) result self.new.bytes.now (plain_at self.old.bytes.now) }
+        ensures { GivesValue (λ _. 0) result self.new.bytes.now (plain_at self.old.bytes.now) }
     {
         let before = self.bytes.len();
         let front = self.take(1)?;

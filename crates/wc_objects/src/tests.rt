@@ -115,9 +115,9 @@ fn messages_are_written(rt: HostRuntime) -> Result<(), Fail> {
     let id = Text::from_slice(rt.alloc(), b"t")?;
     let reply = written(rt.alloc(), &id, &objects).ok_or("the reply is written")?;
     assert_eq!(rt; reply.as_slice(), test_reply());
-    let behind = appended(rt.alloc(), b"t", &objects).ok_or("the reply is appended")?;
-    assert_eq!(rt; behind.len(), 183);
-    assert_eq!(rt; &behind.as_slice()[1..], test_reply());
+    let following = appended(rt.alloc(), b"t", &objects).ok_or("the reply is appended")?;
+    assert_eq!(rt; following.len(), 183);
+    assert_eq!(rt; &following.as_slice()[1..], test_reply());
     let text = appended_text(rt.alloc(), b"_pong", b"1480802456789").ok_or("a text is appended")?;
     assert_eq!(rt; text.as_slice(), pong());
     Ok(())

@@ -1,7 +1,7 @@
 //! The objects of a message, read from left to right.
 
 ghost use Rattle.std.specs.Prelude.{◌≡◌, Some, None, length, IfOk, option_map};
-ghost use Rattle.wc_objects.specs.Reading.{Gives, same_value, times, counted_at, simple_at, pair_at, table_at, array_at, value_at, values_at, pointer_at, item_at, items_by, depth_of, hda_behind, hda_at, inf_at, variable_at, inl_at, whole_at, object_at};
+ghost use Rattle.wc_objects.specs.Reading.{GivesValue, same_value, times, counted_at, simple_at, pair_at, table_at, array_at, value_at, values_at, pointer_at, item_at, items_by, depth_of, hda_after, hda_at, inf_at, variable_at, inl_at, whole_at, object_at};
 ghost use Rattle.wc_objects.specs.Forms.{kinds_of};
 
 use crate::fault::ReadError;
@@ -17,7 +17,7 @@ impl Reader<'_> {
     /// A value of a type that holds no others.
     #[tactic(auto, unfolding(crate::specs::Reading::simple_at))]
     fn simple(&mut self, alloc: Global, kind: Kind) -> Result<Object, ReadError>
-        ensures { Gives same_value result self.new.bytes.now (simple_at kind self.old.bytes.now) }
+        ensures { GivesValue same_value result self.new.bytes.now (simple_at kind self.old.bytes.now) }
     {
         match kind {
             Kind::Chr => Ok(Object::Chr(self.byte()?)),
@@ -35,7 +35,7 @@ impl Reader<'_> {
 
     #[tactic(auto, unfolding(crate::specs::Reading::pair_at))]
     fn pair(&mut self, alloc: Global, key: Kind, value: Kind) -> Result<(Object, Object), ReadError>
-        ensures { Gives same_value result self.new.bytes.now (pair_at key value self.old.bytes.now) }
+        ensures { GivesValue same_value result self.new.bytes.now (pair_at key value self.old.bytes.now) }
     {
         let first = self.simple(alloc, key)?;
         let second = self.simple(alloc, value)?;
@@ -49,7 +49,7 @@ impl Reader<'_> {
         value: Kind,
         count: u32,
     ) -> Result<Items<(Object, Object)>, ReadError>
-        ensures { Gives same_value result self.new.bytes.now (times count (pair_at key value) self.old.bytes.now) }
+        ensures { GivesValue same_value result self.new.bytes.now (times count (pair_at key value) self.old.bytes.now) }
     {
         let mut items = Items::new(alloc);
         for _ in 0..count {
@@ -65,7 +65,7 @@ impl Reader<'_> {
         kind: Kind,
         count: u32,
     ) -> Result<Items<Object>, ReadError>
-        ensures { Gives same_value result self.new.bytes.now (times count (simple_at kind) self.old.bytes.now) }
+        ensures { GivesValue same_value result self.new.bytes.now (times count (simple_at kind) self.old.bytes.now) }
     {
         let mut items = Items::new(alloc);
         for _ in 0..count {
@@ -75,10 +75,10 @@ impl Reader<'_> {
         Ok(items)
     }
 
-    /// A table, behind the letters of its type.
+    /// A table, after the letters of its type.
     #[tactic(auto, unfolding(crate::specs::Reading::table_at, crate::specs::Reading::counted_at))]
     fn table(&mut self, alloc: Global) -> Result<Object, ReadError>
-        ensures { Gives same_value result self.new.bytes.now (table_at self.old.bytes.now) }
+        ensures { GivesValue same_value result self.new.bytes.now (table_at self.old.bytes.now) }
     {
         let key = self.simple_kind()?;
         let value = self.simple_kind()?;
@@ -87,10 +87,10 @@ impl Reader<'_> {
         Ok(Object::Htb { key, value, pairs })
     }
 
-    /// An array, behind the letters of its type.
+    /// An array, after the letters of its type.
     #[tactic(auto, unfolding(crate::specs::Reading::array_at, crate::specs::Reading::counted_at))]
     fn array(&mut self, alloc: Global) -> Result<Object, ReadError>
-        ensures { Gives same_value result self.new.bytes.now (array_at self.old.bytes.now) }
+        ensures { GivesValue same_value result self.new.bytes.now (array_at self.old.bytes.now) }
     {
         let kind = self.simple_kind()?;
         let count = self.count()?;
@@ -101,7 +101,7 @@ impl Reader<'_> {
     /// A value of an `hda`.
     #[tactic(auto, unfolding(crate::specs::Reading::value_at))]
     fn value(&mut self, alloc: Global, kind: Kind) -> Result<Object, ReadError>
-        ensures { Gives same_value result self.new.bytes.now (value_at kind self.old.bytes.now) }
+        ensures { GivesValue same_value result self.new.bytes.now (value_at kind self.old.bytes.now) }
     {
         match kind {
             Kind::Htb => self.table(alloc),
@@ -120,7 +120,7 @@ impl Reader<'_> {
     }
 
     fn pointers(&mut self, alloc: Global, count: usize) -> Result<Items<u64>, ReadError>
-        ensures { Gives same_value result self.new.bytes.now (times count pointer_at self.old.bytes.now) }
+        ensures { GivesValue same_value result self.new.bytes.now (times count pointer_at self.old.bytes.now) }
     {
         let mut items = Items::new(alloc);
         for _ in 0..count {
@@ -132,7 +132,7 @@ impl Reader<'_> {
 
     /// A value of each type.
     fn item_values(&mut self, alloc: Global, kinds: &[Kind]) -> Result<Items<Object>, ReadError>
-        ensures { Gives same_value result self.new.bytes.now (values_at kinds.now self.old.bytes.now) }
+        ensures { GivesValue same_value result self.new.bytes.now (values_at kinds.now self.old.bytes.now) }
     {
         let mut items = Items::new(alloc);
         for kind in kinds {
@@ -145,7 +145,7 @@ impl Reader<'_> {
     /// An item of an `hda`.
     #[tactic(auto, unfolding(crate::specs::Reading::item_at))]
     fn item(&mut self, alloc: Global, depth: usize, kinds: &[Kind]) -> Result<HdaItem, ReadError>
-        ensures { Gives same_value result self.new.bytes.now (item_at depth kinds.now self.old.bytes.now) }
+        ensures { GivesValue same_value result self.new.bytes.now (item_at depth kinds.now self.old.bytes.now) }
     {
         let pointers = self.pointers(alloc, depth)?;
         let values = self.item_values(alloc, kinds)?;
@@ -159,7 +159,7 @@ impl Reader<'_> {
         kinds: &[Kind],
         count: u32,
     ) -> Result<Items<HdaItem>, ReadError>
-        ensures { Gives same_value result self.new.bytes.now (times count (item_at depth kinds.now) self.old.bytes.now) }
+        ensures { GivesValue same_value result self.new.bytes.now (times count (item_at depth kinds.now) self.old.bytes.now) }
     {
         let mut items = Items::new(alloc);
         for _ in 0..count {
@@ -177,7 +177,7 @@ impl Reader<'_> {
         path: &[u8],
         keys: &[u8],
     ) -> Result<Items<HdaItem>, ReadError>
-        ensures { Gives same_value result self.new.bytes.now (items_by (depth_of path.now) (kinds_of keys.now) self.old.bytes.now) }
+        ensures { GivesValue same_value result self.new.bytes.now (items_by (depth_of path.now) (kinds_of keys.now) self.old.bytes.now) }
     {
         let Some(depth) = path_depth(path) else {
             return Err(ReadError::Broken(self.bytes.len()));
@@ -189,9 +189,9 @@ impl Reader<'_> {
         self.items(alloc, depth, kinds.as_slice(), count)
     }
 
-    /// The null hdata behind its path.
+    /// The null hdata after its path.
     fn null_hda(&mut self, alloc: Global) -> Result<Hda, ReadError>
-        ensures { Gives same_value result self.new.bytes.now (hda_behind None self.old.bytes.now) }
+        ensures { GivesValue same_value result self.new.bytes.now (hda_after None self.old.bytes.now) }
     {
         self.null()?;
         let before = self.bytes.len();
@@ -206,9 +206,9 @@ impl Reader<'_> {
         })
     }
 
-    /// An hdata behind its path.
+    /// An hdata after its path.
     fn hda_on(&mut self, alloc: Global, path: Text) -> Result<Hda, ReadError>
-        ensures { Gives same_value result self.new.bytes.now (hda_behind (Some path) self.old.bytes.now) }
+        ensures { GivesValue same_value result self.new.bytes.now (hda_after (Some path) self.old.bytes.now) }
     {
         let keys = self.name(alloc, Rule::Keys)?;
         let items = self.listed(alloc, path.as_slice(), keys.as_slice())?;
@@ -221,7 +221,7 @@ impl Reader<'_> {
 
     #[tactic(auto, unfolding(crate::specs::Reading::hda_at))]
     fn hda(&mut self, alloc: Global) -> Result<Hda, ReadError>
-        ensures { Gives same_value result self.new.bytes.now (hda_at self.old.bytes.now) }
+        ensures { GivesValue same_value result self.new.bytes.now (hda_at self.old.bytes.now) }
     {
         match self.text(alloc, Rule::Path)? {
             Some(path) => self.hda_on(alloc, path),
@@ -231,7 +231,7 @@ impl Reader<'_> {
 
     #[tactic(auto, unfolding(crate::specs::Reading::inf_at))]
     fn inf(&mut self, alloc: Global) -> Result<Object, ReadError>
-        ensures { Gives same_value result self.new.bytes.now (inf_at self.old.bytes.now) }
+        ensures { GivesValue same_value result self.new.bytes.now (inf_at self.old.bytes.now) }
     {
         let name = self.name(alloc, Rule::Plain)?;
         let value = self.text(alloc, Rule::Plain)?;
@@ -244,7 +244,7 @@ impl Reader<'_> {
     /// A variable of an `inl`.
     #[tactic(auto, unfolding(crate::specs::Reading::variable_at))]
     fn variable(&mut self, alloc: Global) -> Result<InlVar, ReadError>
-        ensures { Gives same_value result self.new.bytes.now (variable_at self.old.bytes.now) }
+        ensures { GivesValue same_value result self.new.bytes.now (variable_at self.old.bytes.now) }
     {
         let name = self.name(alloc, Rule::Plain)?;
         let kind = self.simple_kind()?;
@@ -253,7 +253,7 @@ impl Reader<'_> {
     }
 
     fn variables_of(&mut self, alloc: Global, count: u32) -> Result<Items<InlVar>, ReadError>
-        ensures { Gives same_value result self.new.bytes.now (times count variable_at self.old.bytes.now) }
+        ensures { GivesValue same_value result self.new.bytes.now (times count variable_at self.old.bytes.now) }
     {
         let mut items = Items::new(alloc);
         for _ in 0..count {
@@ -265,14 +265,14 @@ impl Reader<'_> {
 
     #[tactic(auto, unfolding(crate::specs::Reading::counted_at))]
     fn variables(&mut self, alloc: Global) -> Result<Items<InlVar>, ReadError>
-        ensures { Gives same_value result self.new.bytes.now (counted_at variable_at self.old.bytes.now) }
+        ensures { GivesValue same_value result self.new.bytes.now (counted_at variable_at self.old.bytes.now) }
     {
         let count = self.count()?;
         self.variables_of(alloc, count)
     }
 
     fn lists(&mut self, alloc: Global, count: u32) -> Result<Items<Items<InlVar>>, ReadError>
-        ensures { Gives same_value result self.new.bytes.now (times count (counted_at variable_at) self.old.bytes.now) }
+        ensures { GivesValue same_value result self.new.bytes.now (times count (counted_at variable_at) self.old.bytes.now) }
     {
         let mut items = Items::new(alloc);
         for _ in 0..count {
@@ -284,7 +284,7 @@ impl Reader<'_> {
 
     #[tactic(auto, unfolding(crate::specs::Reading::inl_at, crate::specs::Reading::counted_at))]
     fn inl(&mut self, alloc: Global) -> Result<Object, ReadError>
-        ensures { Gives same_value result self.new.bytes.now (inl_at self.old.bytes.now) }
+        ensures { GivesValue same_value result self.new.bytes.now (inl_at self.old.bytes.now) }
     {
         let name = self.name(alloc, Rule::Plain)?;
         let count = self.count()?;
@@ -292,10 +292,10 @@ impl Reader<'_> {
         Ok(Object::Inl { name, items })
     }
 
-    /// An object behind the letters of its type.
+    /// An object after the letters of its type.
     #[tactic(auto, unfolding(crate::specs::Reading::whole_at))]
     fn whole(&mut self, alloc: Global, kind: Kind) -> Result<Object, ReadError>
-        ensures { Gives same_value result self.new.bytes.now (whole_at kind self.old.bytes.now) }
+        ensures { GivesValue same_value result self.new.bytes.now (whole_at kind self.old.bytes.now) }
     {
         match kind {
             Kind::Hda => Ok(Object::Hda(self.hda(alloc)?)),
@@ -316,7 +316,7 @@ impl Reader<'_> {
     /// An object.
     #[tactic(auto, unfolding(crate::specs::Reading::object_at))]
     pub fn object(&mut self, alloc: Global) -> Result<Object, ReadError>
-        ensures { Gives same_value result self.new.bytes.now (object_at self.old.bytes.now) }
+        ensures { GivesValue same_value result self.new.bytes.now (object_at self.old.bytes.now) }
     {
         let kind = self.kind()?;
         self.whole(alloc, kind)

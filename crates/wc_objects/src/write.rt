@@ -9,7 +9,7 @@ ghost use Rattle.std.specs.Str.{IsUtf8};
 ghost use Rattle.wc_objects.specs.Forms.{well_formed};
 ghost use Rattle.wc_objects.specs.Spells.{Spells};
 ghost use Rattle.wc_objects.specs.Hex.{hex};
-ghost use Rattle.wc_objects.specs.Spelling.{be32, short_bytes, pointer_bytes, text_bytes, counted, simple_bytes, pair_bytes, value_bytes, item_bytes, hda_bytes, variable_bytes, table_bytes, array_bytes, whole_bytes, object_bytes, body_bytes, message_bytes, text_body_bytes, HasRoom, Puts};
+ghost use Rattle.wc_objects.specs.Spelling.{be32, short_bytes, pointer_bytes, text_bytes, with_count, simple_bytes, pair_bytes, value_bytes, item_bytes, hda_bytes, variable_bytes, table_bytes, array_bytes, whole_bytes, object_bytes, body_bytes, message_bytes, text_body_bytes, HasRoomFor, Puts};
 ghost use Rattle.wc_objects.specs.Kinds.{letters};
 
 use crate::hex::HexBuffer;
@@ -30,10 +30,10 @@ pub fn put_count(out: &mut BytesMut, count: usize)
     out.extend_reserved(&bytes[4..]);
 }
 
-/// Puts a text behind its length, as an `str` has it.
+/// Puts a text after its length, as an `str` has it.
 #[tactic(auto, unfolding(crate::specs::Spelling::text_bytes, crate::specs::Spelling::be32))]
 pub fn put_bytes(out: &mut BytesMut, text: &[u8])
-    requires { HasRoom out.old (text_bytes (Some text.now)) }
+    requires { HasRoomFor out.old (text_bytes (Some text.now)) }
     ensures { Puts out.old out.new (text_bytes (Some text.now)) }
 {
     put_count(out, text.len());
@@ -42,7 +42,7 @@ pub fn put_bytes(out: &mut BytesMut, text: &[u8])
 
 #[tactic(auto, unfolding(crate::specs::Spelling::text_bytes))]
 fn put_text(out: &mut BytesMut, text: &Option<Text>)
-    requires { HasRoom out.old (text_bytes text.now) }
+    requires { HasRoomFor out.old (text_bytes text.now) }
     ensures { Puts out.old out.new (text_bytes text.now) }
 {
     match text {
@@ -52,7 +52,7 @@ fn put_text(out: &mut BytesMut, text: &Option<Text>)
 }
 
 fn put_short(out: &mut BytesMut, text: &[u8])
-    requires room { HasRoom out.old (short_bytes text.now) }
+    requires room { HasRoomFor out.old (short_bytes text.now) }
     requires short { length text.now < 256 }
     ensures { Puts out.old out.new (short_bytes text.now) }
 {
@@ -62,7 +62,7 @@ fn put_short(out: &mut BytesMut, text: &[u8])
 
 /// Puts a number as a `lon` or a `tim` has it.
 pub fn put_decimal(out: &mut BytesMut, n: i64)
-    requires { HasRoom out.old (short_bytes (signed_decimal n)) }
+    requires { HasRoomFor out.old (short_bytes (signed_decimal n)) }
     ensures { Puts out.old out.new (short_bytes (signed_decimal n)) }
 {
     let mut buffer = itoa::Buffer::new();
@@ -71,7 +71,7 @@ pub fn put_decimal(out: &mut BytesMut, n: i64)
 
 /// Puts a pointer.
 pub fn put_pointer(out: &mut BytesMut, p: u64)
-    requires { HasRoom out.old (pointer_bytes p) }
+    requires { HasRoomFor out.old (pointer_bytes p) }
     ensures { Puts out.old out.new (pointer_bytes p) }
 {
     let mut buffer = HexBuffer::new();
@@ -88,7 +88,7 @@ pub fn put_chr(out: &mut BytesMut, n: i8)
 
 #[tactic(auto, unfolding(crate::specs::Spelling::simple_bytes, crate::specs::Spelling::be32))]
 fn put_simple(out: &mut BytesMut, object: &Object)
-    requires { HasRoom out.old (simple_bytes object.now) }
+    requires { HasRoomFor out.old (simple_bytes object.now) }
     ensures { Puts out.old out.new (simple_bytes object.now) }
 {
     match object {
@@ -106,7 +106,7 @@ fn put_simple(out: &mut BytesMut, object: &Object)
 }
 
 fn put_pair(out: &mut BytesMut, pair: &(Object, Object))
-    requires { HasRoom out.old (pair_bytes pair.now) }
+    requires { HasRoomFor out.old (pair_bytes pair.now) }
     ensures { Puts out.old out.new (pair_bytes pair.now) }
 {
     put_simple(out, &pair.0);
@@ -114,8 +114,8 @@ fn put_pair(out: &mut BytesMut, pair: &(Object, Object))
 }
 
 fn put_pairs(out: &mut BytesMut, pairs: &[(Object, Object)])
-    requires { HasRoom out.old (counted pair_bytes pairs.now) }
-    ensures { Puts out.old out.new (counted pair_bytes pairs.now) }
+    requires { HasRoomFor out.old (with_count pair_bytes pairs.now) }
+    ensures { Puts out.old out.new (with_count pair_bytes pairs.now) }
 {
     put_count(out, pairs.len());
     for pair in pairs {
@@ -124,8 +124,8 @@ fn put_pairs(out: &mut BytesMut, pairs: &[(Object, Object)])
 }
 
 fn put_values(out: &mut BytesMut, values: &[Object])
-    requires { HasRoom out.old (counted simple_bytes values.now) }
-    ensures { Puts out.old out.new (counted simple_bytes values.now) }
+    requires { HasRoomFor out.old (with_count simple_bytes values.now) }
+    ensures { Puts out.old out.new (with_count simple_bytes values.now) }
 {
     put_count(out, values.len());
     for value in values {
@@ -135,14 +135,14 @@ fn put_values(out: &mut BytesMut, values: &[Object])
 
 /// Puts the letters of a type.
 pub fn put_kind(out: &mut BytesMut, kind: Kind)
-    requires { HasRoom out.old (letters kind) }
+    requires { HasRoomFor out.old (letters kind) }
     ensures { Puts out.old out.new (letters kind) }
 {
     out.extend_reserved(kind.letters());
 }
 
 fn put_table(out: &mut BytesMut, key: Kind, value: Kind, pairs: &[(Object, Object)])
-    requires { HasRoom out.old (table_bytes key value pairs.now) }
+    requires { HasRoomFor out.old (table_bytes key value pairs.now) }
     ensures { Puts out.old out.new (table_bytes key value pairs.now) }
 {
     put_kind(out, key);
@@ -151,7 +151,7 @@ fn put_table(out: &mut BytesMut, key: Kind, value: Kind, pairs: &[(Object, Objec
 }
 
 fn put_array(out: &mut BytesMut, kind: Kind, values: &[Object])
-    requires { HasRoom out.old (array_bytes kind values.now) }
+    requires { HasRoomFor out.old (array_bytes kind values.now) }
     ensures { Puts out.old out.new (array_bytes kind values.now) }
 {
     put_kind(out, kind);
@@ -160,7 +160,7 @@ fn put_array(out: &mut BytesMut, kind: Kind, values: &[Object])
 
 #[tactic(auto, unfolding(crate::specs::Spelling::value_bytes, crate::specs::Spelling::simple_bytes))]
 fn put_value(out: &mut BytesMut, value: &Object)
-    requires { HasRoom out.old (value_bytes value.now) }
+    requires { HasRoomFor out.old (value_bytes value.now) }
     ensures { Puts out.old out.new (value_bytes value.now) }
 {
     match value {
@@ -180,7 +180,7 @@ fn put_value(out: &mut BytesMut, value: &Object)
 }
 
 fn put_pointers(out: &mut BytesMut, pointers: &[u64])
-    requires { HasRoom out.old (flat_map pointer_bytes pointers.now) }
+    requires { HasRoomFor out.old (flat_map pointer_bytes pointers.now) }
     ensures { Puts out.old out.new (flat_map pointer_bytes pointers.now) }
 {
     for pointer in pointers {
@@ -189,7 +189,7 @@ fn put_pointers(out: &mut BytesMut, pointers: &[u64])
 }
 
 fn put_item_values(out: &mut BytesMut, values: &[Object])
-    requires { HasRoom out.old (flat_map value_bytes values.now) }
+    requires { HasRoomFor out.old (flat_map value_bytes values.now) }
     ensures { Puts out.old out.new (flat_map value_bytes values.now) }
 {
     for value in values {
@@ -199,7 +199,7 @@ fn put_item_values(out: &mut BytesMut, values: &[Object])
 
 #[tactic(auto, unfolding(crate::specs::Spelling::item_bytes))]
 fn put_item(out: &mut BytesMut, item: &HdaItem)
-    requires { HasRoom out.old (item_bytes item.now) }
+    requires { HasRoomFor out.old (item_bytes item.now) }
     ensures { Puts out.old out.new (item_bytes item.now) }
 {
     put_pointers(out, item.pointers.as_slice());
@@ -207,8 +207,8 @@ fn put_item(out: &mut BytesMut, item: &HdaItem)
 }
 
 fn put_items(out: &mut BytesMut, items: &[HdaItem])
-    requires { HasRoom out.old (counted item_bytes items.now) }
-    ensures { Puts out.old out.new (counted item_bytes items.now) }
+    requires { HasRoomFor out.old (with_count item_bytes items.now) }
+    ensures { Puts out.old out.new (with_count item_bytes items.now) }
 {
     put_count(out, items.len());
     for item in items {
@@ -218,7 +218,7 @@ fn put_items(out: &mut BytesMut, items: &[HdaItem])
 
 #[tactic(auto, unfolding(crate::specs::Spelling::hda_bytes))]
 fn put_hda(out: &mut BytesMut, hda: &Hda)
-    requires { HasRoom out.old (hda_bytes hda.now) }
+    requires { HasRoomFor out.old (hda_bytes hda.now) }
     ensures { Puts out.old out.new (hda_bytes hda.now) }
 {
     put_text(out, &hda.path);
@@ -228,7 +228,7 @@ fn put_hda(out: &mut BytesMut, hda: &Hda)
 
 #[tactic(auto, unfolding(crate::specs::Spelling::variable_bytes))]
 fn put_variable(out: &mut BytesMut, variable: &InlVar)
-    requires { HasRoom out.old (variable_bytes variable.now) }
+    requires { HasRoomFor out.old (variable_bytes variable.now) }
     ensures { Puts out.old out.new (variable_bytes variable.now) }
 {
     put_bytes(out, variable.name.as_slice());
@@ -237,8 +237,8 @@ fn put_variable(out: &mut BytesMut, variable: &InlVar)
 }
 
 fn put_variables(out: &mut BytesMut, variables: &[InlVar])
-    requires { HasRoom out.old (counted variable_bytes variables.now) }
-    ensures { Puts out.old out.new (counted variable_bytes variables.now) }
+    requires { HasRoomFor out.old (with_count variable_bytes variables.now) }
+    ensures { Puts out.old out.new (with_count variable_bytes variables.now) }
 {
     put_count(out, variables.len());
     for variable in variables {
@@ -247,8 +247,8 @@ fn put_variables(out: &mut BytesMut, variables: &[InlVar])
 }
 
 fn put_lists(out: &mut BytesMut, lists: &[Items<InlVar>])
-    requires { HasRoom out.old (counted (counted variable_bytes) lists.now) }
-    ensures { Puts out.old out.new (counted (counted variable_bytes) lists.now) }
+    requires { HasRoomFor out.old (with_count (with_count variable_bytes) lists.now) }
+    ensures { Puts out.old out.new (with_count (with_count variable_bytes) lists.now) }
 {
     put_count(out, lists.len());
     for list in lists {
@@ -258,7 +258,7 @@ fn put_lists(out: &mut BytesMut, lists: &[Items<InlVar>])
 
 #[tactic(auto, unfolding(crate::specs::Spelling::value_bytes))]
 fn put_whole(out: &mut BytesMut, object: &Object)
-    requires { HasRoom out.old (whole_bytes object.now) }
+    requires { HasRoomFor out.old (whole_bytes object.now) }
     ensures { Puts out.old out.new (whole_bytes object.now) }
 {
     match object {
@@ -285,7 +285,7 @@ fn put_whole(out: &mut BytesMut, object: &Object)
 
 #[tactic(auto, unfolding(crate::specs::Spelling::object_bytes))]
 fn put_object(out: &mut BytesMut, object: &Object)
-    requires { HasRoom out.old (object_bytes object.now) }
+    requires { HasRoomFor out.old (object_bytes object.now) }
     ensures { Puts out.old out.new (object_bytes object.now) }
 {
     put_kind(out, Kind::of(object));
@@ -293,7 +293,7 @@ fn put_object(out: &mut BytesMut, object: &Object)
 }
 
 fn put_objects(out: &mut BytesMut, objects: &[Object])
-    requires { HasRoom out.old (flat_map object_bytes objects.now) }
+    requires { HasRoomFor out.old (flat_map object_bytes objects.now) }
     ensures { Puts out.old out.new (flat_map object_bytes objects.now) }
 {
     for object in objects {
@@ -301,9 +301,9 @@ fn put_objects(out: &mut BytesMut, objects: &[Object])
     }
 }
 
-/// Puts what stands behind the length of a message.
+/// Puts what comes after the length of a message.
 fn put_body(out: &mut BytesMut, id: &[u8], objects: &[Object])
-    requires { HasRoom out.old (body_bytes id.now objects.now) }
+    requires { HasRoomFor out.old (body_bytes id.now objects.now) }
     ensures { Puts out.old out.new (body_bytes id.now objects.now) }
 {
     out.extend_reserved(&[0]);
@@ -314,16 +314,16 @@ fn put_body(out: &mut BytesMut, id: &[u8], objects: &[Object])
 /// Puts a message whose length is known.
 fn put_message(out: &mut BytesMut, size: usize, id: &[u8], objects: &[Object])
     requires size { size ≡ length (message_bytes id.now objects.now) }
-    requires room { HasRoom out.old (message_bytes id.now objects.now) }
+    requires room { HasRoomFor out.old (message_bytes id.now objects.now) }
     ensures { Puts out.old out.new (message_bytes id.now objects.now) }
 {
     put_count(out, size);
     put_body(out, id, objects);
 }
 
-/// Puts what stands behind the length of a message of one `str`.
+/// Puts what comes after the length of a message of one `str`.
 fn put_text_body(out: &mut BytesMut, id: &[u8], text: &[u8])
-    requires { HasRoom out.old (text_body_bytes id.now text.now) }
+    requires { HasRoomFor out.old (text_body_bytes id.now text.now) }
     ensures { Puts out.old out.new (text_body_bytes id.now text.now) }
 {
     out.extend_reserved(&[0]);
@@ -335,7 +335,7 @@ fn put_text_body(out: &mut BytesMut, id: &[u8], text: &[u8])
 /// Puts a message of one `str` whose length is known.
 fn put_text_message(out: &mut BytesMut, size: usize, id: &[u8], text: &[u8])
     requires size { size ≡ length (message_bytes id.now (Object.Str (Some text.now) ∷ [])) }
-    requires room { HasRoom out.old (message_bytes id.now (Object.Str (Some text.now) ∷ [])) }
+    requires room { HasRoomFor out.old (message_bytes id.now (Object.Str (Some text.now) ∷ [])) }
     ensures { Puts out.old out.new (message_bytes id.now (Object.Str (Some text.now) ∷ [])) }
 {
     put_count(out, size);
@@ -351,7 +351,7 @@ pub enum WriteRefused {
     NoMemory,
 }
 
-/// Puts a message of well-formed objects behind the bytes that stand in a buffer, in WeeChat's relay
+/// Puts a message of well-formed objects after the bytes that are in a buffer, in WeeChat's relay
 /// protocol without compression. Where it is refused the bytes stay as they were.
 ///
 /// `TooLong` where the message would be longer than 2^31 - 1 bytes, which is found before memory is
@@ -402,7 +402,7 @@ pub fn write_message(
     }
 }
 
-/// Puts the message of one `str` behind the bytes that stand in a buffer, as `append_message` does.
+/// Puts the message of one `str` after the bytes that are in a buffer, as `append_message` does.
 #[tactic(auto, using(crate::proofs::Rooms::text_sizes))]
 pub fn append_text(out: &mut BytesMut, id: &[u8], text: &[u8]) -> Result<(), WriteRefused>
     requires id { IsUtf8 id.now }

@@ -5,7 +5,7 @@ use Rattle.std.specs.Str.{IsUtf8, is_utf8}
 use Rattle.std.proofs.lemmas.List.{drop-drop, drop_at, get_or-append-add, length-append, take-append-drop}
 use Rattle.std.proofs.lemmas.Slice.Eq.{bytes_eq-Decides}
 use Rattle.std.proofs.lemmas.Str.{IsUtf8-from_is_utf8, is_utf8-from_IsUtf8, IsUtf8-drop, IsCharBoundary-after_ascii}
-use Rattle.wc_options.specs.Config.{behind_line, behind_lines, config_of, of_lines, is_passed_over, taken, version_line}
+use Rattle.wc_options.specs.Config.{after_line, after_lines, config_of, of_lines, is_passed_over, with_setting, version_line}
 use Rattle.wc_options.specs.File.{lines_of, parted, equals_sign}
 use Rattle.wc_options.specs.Options.{OptionsValue, fresh}
 use Rattle.wc_options.proofs.FileLemmas.{parted-here, parted-next}
@@ -26,16 +26,16 @@ pub ruleset utf8_tests = (utf8_true, utf8_false)
 
 -- ---- one line
 
-pub line_passed : (options : OptionsValue) (line : List ℕ) → true ≡ is_passed_over line → behind_line options line ≡ Some options
-unfolding behind_line
+pub line_passed : (options : OptionsValue) (line : List ℕ) → true ≡ is_passed_over line → after_line options line ≡ Some options
+unfolding after_line
 line_passed options line e = rw (← e) refl
 
-pub line_not_text : (options : OptionsValue) (line : List ℕ) → false ≡ is_passed_over line → false ≡ is_utf8 line → behind_line options line ≡ None
-unfolding behind_line
+pub line_not_text : (options : OptionsValue) (line : List ℕ) → false ≡ is_passed_over line → false ≡ is_utf8 line → after_line options line ≡ None
+unfolding after_line
 line_not_text options line e u = rw (← e, ← u) refl
 
-pub line_taken : (options : OptionsValue) (line : List ℕ) → false ≡ is_passed_over line → true ≡ is_utf8 line → behind_line options line ≡ taken options (parted line)
-unfolding behind_line
+pub line_taken : (options : OptionsValue) (line : List ℕ) → false ≡ is_passed_over line → true ≡ is_utf8 line → after_line options line ≡ with_setting options (parted line)
+unfolding after_line
 line_taken options line e u = rw (← e, ← u) refl
 
 pub ruleset lines_taken = (line_passed, line_not_text)
@@ -80,22 +80,22 @@ value-text-by name value text =
     ap (λ n. drop n line) place ∙ sym (drop-drop 3 (length name) line) ∙ ap (drop 3) (drop_at name (equals_sign ++ value) (length name) refl) in
     subst IsUtf8 rest (IsUtf8-drop line (length name + 2 + 1) text (IsCharBoundary-after_ascii line (length name + 2) text inside (omega arith)))
 
--- what stands behind the first ` = ` of a text is a text
+-- what comes after the first ` = ` of a text is a text
 pub value-text : (line name value : List ℕ) → parted line ≡ Some (name, value) → IsUtf8 line → IsUtf8 value
 value-text line name value p text = value-text-by name value (subst IsUtf8 (parted-whole line (name, value) p) text)
 
 -- ---- the lines of a file
 
-pub lines_step : (number : ℕ) (options behind : OptionsValue) (line bytes rest : List ℕ) → lines_of bytes ≡ line ∷ lines_of rest → behind_line options line ≡ Some behind
-    → behind_lines number options (lines_of bytes) ≡ behind_lines (number + 1) behind (lines_of rest)
-lines_step number options behind line bytes rest e h = ap (behind_lines number options) e ∙ rw h refl
+pub lines_step : (number : ℕ) (options following : OptionsValue) (line bytes rest : List ℕ) → lines_of bytes ≡ line ∷ lines_of rest → after_line options line ≡ Some following
+    → after_lines number options (lines_of bytes) ≡ after_lines (number + 1) following (lines_of rest)
+lines_step number options following line bytes rest e h = ap (after_lines number options) e ∙ rw h refl
 
-pub lines_stop : (number : ℕ) (options : OptionsValue) (line bytes rest : List ℕ) → lines_of bytes ≡ line ∷ lines_of rest → behind_line options line ≡ None
-    → behind_lines number options (lines_of bytes) ≡ Err number
-lines_stop number options line bytes rest e h = ap (behind_lines number options) e ∙ rw h refl
+pub lines_stop : (number : ℕ) (options : OptionsValue) (line bytes rest : List ℕ) → lines_of bytes ≡ line ∷ lines_of rest → after_line options line ≡ None
+    → after_lines number options (lines_of bytes) ≡ Err number
+lines_stop number options line bytes rest e h = ap (after_lines number options) e ∙ rw h refl
 
-pub lines_end : (number : ℕ) (options : OptionsValue) (bytes : List ℕ) → lines_of bytes ≡ [] → behind_lines number options (lines_of bytes) ≡ Ok options
-lines_end number options bytes e = ap (behind_lines number options) e
+pub lines_end : (number : ℕ) (options : OptionsValue) (bytes : List ℕ) → lines_of bytes ≡ [] → after_lines number options (lines_of bytes) ≡ Ok options
+lines_end number options bytes e = ap (after_lines number options) e
 
 pub ruleset lines_read = (lines_step, lines_stop, lines_end)
 
@@ -104,14 +104,14 @@ unfolding config_of
 config_empty bytes e = ap of_lines e
 
 pub config_version : (bytes line rest : List ℕ) (options : OptionsValue) → lines_of bytes ≡ line ∷ lines_of rest → bytes_eq line version_line ≡ true → options ≡ fresh
-    → config_of bytes ≡ behind_lines 2 options (lines_of rest)
+    → config_of bytes ≡ after_lines 2 options (lines_of rest)
 unfolding config_of
-config_version bytes line rest options e v o = ap of_lines e ∙ rw v refl ∙ ap (λ (start : OptionsValue). behind_lines 2 start (lines_of rest)) (sym o)
+config_version bytes line rest options e v o = ap of_lines e ∙ rw v refl ∙ ap (λ (start : OptionsValue). after_lines 2 start (lines_of rest)) (sym o)
 
 pub config_plain : (bytes line rest : List ℕ) (options : OptionsValue) → lines_of bytes ≡ line ∷ lines_of rest → bytes_eq line version_line ≡ false → options ≡ fresh
-    → config_of bytes ≡ behind_lines 1 options (lines_of bytes)
+    → config_of bytes ≡ after_lines 1 options (lines_of bytes)
 unfolding config_of
 config_plain bytes line rest options e v o =
-    ap of_lines e ∙ rw v refl ∙ ap (behind_lines 1 fresh) (sym e) ∙ ap (λ (start : OptionsValue). behind_lines 1 start (lines_of bytes)) (sym o)
+    ap of_lines e ∙ rw v refl ∙ ap (after_lines 1 fresh) (sym e) ∙ ap (λ (start : OptionsValue). after_lines 1 start (lines_of bytes)) (sym o)
 
 pub ruleset config_read = (config_empty)

@@ -23,7 +23,7 @@ pub lines_of-miss : (byte : ℕ) (bytes : List ℕ) → (byte == 10) ≡ false �
 unfolding lines_of
 lines_of-miss byte bytes e = rw e
 
--- the first line ends before the first LF, and the others stand behind it
+-- the first line ends before the first LF, and the others come after it
 abbrev BeginsWithLine : List ℕ → Type 0
 BeginsWithLine bytes = lines_of bytes ≡ before_first (λ c. c == 10) bytes ∷ lines_of (after_first (λ c. c == 10) bytes)
 
@@ -67,30 +67,30 @@ parted-along rest byte bytes eq =
     subst (λ (r : List ℕ). bytes_eq (take 3 r) equals_sign ≡ false → parted r ≡ option_map (λ parts. (byte ∷ parts.0, parts.1)) (parted bytes)) (sym eq) (parted-next byte bytes)
 
 -- a front put before the name
-abbrev pub behind : List ℕ → Option (List ℕ × List ℕ) → Option (List ℕ × List ℕ)
-behind front r = option_map (λ parts. (front ++ parts.0, parts.1)) r
+abbrev pub following : List ℕ → Option (List ℕ × List ℕ) → Option (List ℕ × List ℕ)
+following front r = option_map (λ parts. (front ++ parts.0, parts.1)) r
 
-behind-one : (front : List ℕ) (byte : ℕ) (r : Option (List ℕ × List ℕ)) → behind front (option_map (λ parts. (byte ∷ parts.0, parts.1)) r) ≡ behind (front ++ byte ∷ []) r
-behind-one front byte None = refl
-behind-one front byte (Some parts) = rw append_assoc
+following-one : (front : List ℕ) (byte : ℕ) (r : Option (List ℕ × List ℕ)) → following front (option_map (λ parts. (byte ∷ parts.0, parts.1)) r) ≡ following (front ++ byte ∷ []) r
+following-one front byte None = refl
+following-one front byte (Some parts) = rw append_assoc
 
-behind-nil : (r : Option (List ℕ × List ℕ)) → r ≡ behind [] r
-behind-nil None = refl
-behind-nil (Some parts) = refl
+following-nil : (r : Option (List ℕ × List ℕ)) → r ≡ following [] r
+following-nil None = refl
+following-nil (Some parts) = refl
 
 -- before this place no ` = ` begins
 pub record IsPartedFrom (line : List ℕ) (place : ℕ) : Type 0 where
-  pub same : parted line ≡ behind (take place line) (parted (drop place line))
+  pub same : parted line ≡ following (take place line) (parted (drop place line))
 
 pub parted_start : (line : List ℕ) → IsPartedFrom line 0
-parted_start line = record { same = behind-nil (parted line) }
+parted_start line = record { same = following-nil (parted line) }
 
 next-same : (line : List ℕ) (place : ℕ) → place < length line → bytes_eq (take 3 (drop place line)) equals_sign ≡ false
-    → behind (take place line) (parted (drop place line)) ≡ behind (take (place + 1) line) (parted (drop (place + 1) line))
+    → following (take place line) (parted (drop place line)) ≡ following (take (place + 1) line) (parted (drop (place + 1) line))
 next-same line place h e =
-    ap (behind (take place line)) (parted-along (drop place line) (get_or line place 0) (drop (place + 1) line) (drop_more line place 0 h) e)
-    ∙ behind-one (take place line) (get_or line place 0) (parted (drop (place + 1) line))
-    ∙ ap (λ front. behind front (parted (drop (place + 1) line))) (sym (take_more line place 0 h))
+    ap (following (take place line)) (parted-along (drop place line) (get_or line place 0) (drop (place + 1) line) (drop_more line place 0 h) e)
+    ∙ following-one (take place line) (get_or line place 0) (parted (drop (place + 1) line))
+    ∙ ap (λ front. following front (parted (drop (place + 1) line))) (sym (take_more line place 0 h))
 
 pub parted_more : (line : List ℕ) (place : ℕ) → place < length line → bytes_eq (take 3 (drop place line)) equals_sign ≡ false → IsPartedFrom line place → IsPartedFrom line (place + 1)
 parted_more line place h e so_far = record { same = so_far.same ∙ next-same line place h e }

@@ -1,4 +1,4 @@
--- What holds of all options holds again behind each change.
+-- What holds of all options holds again after each change.
 use Rattle.std.proofs.Common.{ℕ, zero, suc, ◌≡◌, ◌≢◌, ◌+◌, ◌<◌, ◌≤◌, Bool, true, false, cond, not, List, [], ◌∷◌, ◌++◌, length, map, get_or, set, Option, Some, None, refl, ap, sym, ◌∙◌, subst, arith}
 use Rattle.std.specs.Prelude.{bytes_eq, option_and_then}
 use Rattle.std.specs.List.{remove}
@@ -8,7 +8,7 @@ use Rattle.std.proofs.lemmas.Bool.Decides.{same_from_decides, Decides-like}
 use Rattle.std.proofs.lemmas.List.{length-set, length_push}
 use Rattle.std.proofs.lemmas.Slice.Eq.{bytes_eq-Decides}
 use Rattle.std.proofs.lemmas.Str.{IsUtf8-nil}
-use Rattle.wc_options.specs.Kept.{Fits, FitAll, AreServers, IsKept, IsStored, unset_at_first}
+use Rattle.wc_options.specs.Kept.{Fits, FitAll, AreServers, AreOptionsKept, AreTextsStored, unset_at_first}
 use Rattle.wc_options.specs.Names.{Located, located, is_server_name}
 use Rattle.wc_options.specs.Options.{ServerOptions, OptionsValue, is_named, has_server, own_at_first, fresh_server, fresh, with_own, without, value_of, value_at, refusal_of, refusal_in, refusal_at, with_value, with_value_at, makes, makes_server, without_value, reset_at}
 use Rattle.wc_options.specs.declared.refusal.SetRefused.{SetRefused}
@@ -153,7 +153,7 @@ with_set options values = record { set = values; servers = options.servers }
 abbrev with_servers : OptionsValue → List ServerOptions → OptionsValue
 with_servers options servers = record { set = options.set; servers = servers }
 
-pub stored-fresh : (defaults : List (List ℕ)) → defaults ≡ map (λ (row : OptionRow). row.default) globals → IsStored fresh defaults [] []
+pub stored-fresh : (defaults : List (List ℕ)) → defaults ≡ map (λ (row : OptionRow). row.default) globals → AreTextsStored fresh defaults [] []
 unfolding fresh
 stored-fresh defaults e = record {
   kept = record { set_fit = FitAll-unset globals; servers_fit = tt; few = omega arith };
@@ -163,7 +163,7 @@ stored-fresh defaults e = record {
 }
 
 pub stored-set : (options : OptionsValue) (defaults : List (List ℕ)) (no_address : List ℕ) (names : List (List ℕ)) (place : ℕ) (value : Option (List ℕ))
-    → IsStored options defaults no_address names → Fits unset_at_first (row_at globals place) value → IsStored (with_set options (set options.set place value)) defaults no_address names
+    → AreTextsStored options defaults no_address names → Fits unset_at_first (row_at globals place) value → AreTextsStored (with_set options (set options.set place value)) defaults no_address names
 stored-set options defaults no_address names place value stored fit = record {
   kept = record { set_fit = FitAll-set unset_at_first globals options.set place value stored.kept.set_fit fit; servers_fit = stored.kept.servers_fit; few = stored.kept.few };
   defaults_are = stored.defaults_are;
@@ -177,8 +177,8 @@ FitAll-own (server ∷ servers) zero d h are = are.1
 FitAll-own (server ∷ servers) (suc place) d h are = FitAll-own servers place d (omega arith) are.3
 
 pub stored-own : (options : OptionsValue) (defaults : List (List ℕ)) (no_address : List ℕ) (names : List (List ℕ)) (found place : ℕ) (value : Option (List ℕ)) (d : ServerOptions)
-    → IsStored options defaults no_address names → found < length options.servers → Fits own_at_first (row_at of_server place) value
-    → IsStored (with_servers options (set options.servers found (with_own place value (get_or options.servers found d)))) defaults no_address names
+    → AreTextsStored options defaults no_address names → found < length options.servers → Fits own_at_first (row_at of_server place) value
+    → AreTextsStored (with_servers options (set options.servers found (with_own place value (get_or options.servers found d)))) defaults no_address names
 stored-own options defaults no_address names found place value d stored h fit =
     let server = get_or options.servers found d in
     let own = FitAll-set own_at_first of_server server.own place value (FitAll-own options.servers found d h stored.kept.servers_fit) fit in
@@ -194,9 +194,9 @@ stored-own options defaults no_address names found place value d stored h fit =
     }
 
 pub stored-made : (options : OptionsValue) (defaults : List (List ℕ)) (no_address : List ℕ) (names : List (List ℕ)) (name : List ℕ) (place : ℕ) (value : List ℕ)
-    → IsStored options defaults no_address names → is_server_name name ≡ true → has_server name options.servers ≡ false → length options.servers < 64
+    → AreTextsStored options defaults no_address names → is_server_name name ≡ true → has_server name options.servers ≡ false → length options.servers < 64
     → Fits own_at_first (row_at of_server place) (Some value)
-    → IsStored (with_servers options (options.servers ++ with_own place (Some value) (fresh_server name) ∷ [])) defaults no_address (names ++ name ∷ [])
+    → AreTextsStored (with_servers options (options.servers ++ with_own place (Some value) (fresh_server name) ∷ [])) defaults no_address (names ++ name ∷ [])
 stored-made options defaults no_address names name place value stored named absent few fit =
     let server = with_own place (Some value) (fresh_server name) in
     let own = FitAll-set own_at_first of_server (map own_at_first of_server) place (Some value) FitAll-fresh fit in
@@ -212,7 +212,7 @@ stored-made options defaults no_address names name place value stored named abse
     }
 
 pub stored-remove : (options : OptionsValue) (defaults : List (List ℕ)) (no_address : List ℕ) (names : List (List ℕ)) (place : ℕ)
-    → IsStored options defaults no_address names → IsStored (with_servers options (remove options.servers place)) defaults no_address (remove names place)
+    → AreTextsStored options defaults no_address names → AreTextsStored (with_servers options (remove options.servers place)) defaults no_address (remove names place)
 stored-remove options defaults no_address names place stored = record {
   kept = record {
     set_fit = stored.kept.set_fit;
@@ -234,7 +234,7 @@ length-of_server : length of_server ≡ 8
 unfolding of_server
 length-of_server = refl
 
-pub length-set_values : (options : OptionsValue) → IsKept options → length options.set ≡ 12
+pub length-set_values : (options : OptionsValue) → AreOptionsKept options → length options.set ≡ 12
 length-set_values options kept = FitAll-length unset_at_first globals options.set kept.set_fit ∙ length-globals
 
 pub length-own_values : (servers : List ServerOptions) (place : ℕ) (d : ServerOptions) → place < length servers → AreServers servers → length (get_or servers place d).own ≡ 8

@@ -6,10 +6,10 @@ use Rattle.std.specs.Str.{IsUtf8, is_utf8, IsAscii}
 use Rattle.std.proofs.lemmas.Bool.Decides.{nat_tests}
 use Rattle.std.proofs.lemmas.List.{append_assoc, append-nil, set_at, length_push}
 use Rattle.std.proofs.lemmas.Str.{IsUtf8-append, IsUtf8-from_ascii, is_utf8-from_IsUtf8}
-use Rattle.wc_options.specs.Address.{before_dot, behind_dot}
-use Rattle.wc_options.specs.Config.{behind_line, behind_lines, config_of, of_lines, is_passed_over, taken, version_line, set_line, set_lines, prefix_of, server_lines, config_lines, ended, config_text}
+use Rattle.wc_options.specs.Address.{before_dot, after_dot}
+use Rattle.wc_options.specs.Config.{after_line, after_lines, config_of, of_lines, is_passed_over, with_setting, version_line, set_line, set_lines, prefix_of, server_lines, config_lines, text_of_lines, config_text}
 use Rattle.wc_options.specs.File.{lines_of, parted, equals_sign, onto_first}
-use Rattle.wc_options.specs.Kept.{Fits, FitAll, AreServers, IsKept, unset_at_first}
+use Rattle.wc_options.specs.Kept.{Fits, FitAll, AreServers, AreOptionsKept, unset_at_first}
 use Rattle.wc_options.specs.Names.{Located, AtGlobal, AtServer, located, located_of_server, row_of_located, is_server_name, is_server_byte, server_prefix}
 use Rattle.wc_options.specs.Options.{ServerOptions, OptionsValue, is_named, has_server, own_at_first, fresh_server, fresh, with_own, put_own, refusal_of, refusal_at, with_value, with_value_at, makes_server}
 use Rattle.wc_options.specs.Table.{OptionRow, globals, of_server, place_in, row_at}
@@ -90,10 +90,10 @@ lines-none : lines_of [] ≡ []
 unfolding lines_of
 lines-none = refl
 
-pub lines_of-ended : (lines : List (List ℕ)) → AreLines lines → lines_of (ended lines) ≡ lines
+pub lines_of-ended : (lines : List (List ℕ)) → AreLines lines → lines_of (text_of_lines lines) ≡ lines
 lines_of-ended [] h = lines-none
 lines_of-ended (line ∷ lines) h =
-    ap lines_of (append_assoc line (10 ∷ []) (ended lines)) ∙ line-first line (ended lines) h.0 ∙ ap (λ rest. line ∷ rest) (lines_of-ended lines h.1)
+    ap lines_of (append_assoc line (10 ∷ []) (text_of_lines lines)) ∙ line-first line (text_of_lines lines) h.0 ∙ ap (λ rest. line ∷ rest) (lines_of-ended lines h.1)
 
 -- ---- parting
 
@@ -128,15 +128,15 @@ pub record CanTake (options : OptionsValue) (place : Located) (value : List ℕ)
 not_refused : (options : OptionsValue) (name value : List ℕ) (place : Located) → located name ≡ Some place → CanTake options place value → refusal_of options name value ≡ None
 not_refused options name value place here can = refusal_of_some options name value place (sym here) ∙ rw (can.fit, can.room) refl
 
-taken-some : (options : OptionsValue) (name value : List ℕ) (place : Located) → located name ≡ Some place → CanTake options place value → taken options (Some (name, value)) ≡ Some (with_value_at options value place)
+taken-some : (options : OptionsValue) (name value : List ℕ) (place : Located) → located name ≡ Some place → CanTake options place value → with_setting options (Some (name, value)) ≡ Some (with_value_at options value place)
 taken-some options name value place here can =
     rw (not_refused options name value place here can) (ap Some (with_value_some options name value place (sym here)))
 
 pub read-line : (options : OptionsValue) (name value : List ℕ) (place : Located) → IsNameAt name place → CanTake options place value
-    → behind_line options (name ++ equals_sign ++ value) ≡ Some (with_value_at options value place)
+    → after_line options (name ++ equals_sign ++ value) ≡ Some (with_value_at options value place)
 read-line options name value place at can =
     let whole : IsUtf8 (name ++ (equals_sign ++ value)) = IsUtf8-append name (equals_sign ++ value) at.text (IsUtf8-append equals_sign value equals-text can.text) in
-    ap (behind_line options) (append_assoc name equals_sign value)
+    ap (after_line options) (append_assoc name equals_sign value)
     ∙ line_taken options (name ++ (equals_sign ++ value)) (sym (at.begins (equals_sign ++ value))) (sym (is_utf8-from_IsUtf8 (name ++ (equals_sign ++ value)) whole))
-    ∙ ap (taken options) (part-first name value at.plain)
+    ∙ ap (with_setting options) (part-first name value at.plain)
     ∙ taken-some options name value place at.here can

@@ -1,4 +1,4 @@
--- What stands before and behind the first element that passes a test, element by element.
+-- What is before and after the first element that passes a test, element by element.
 use Rattle.std.proofs.Common.{ℕ, ◌≡◌, ◌+◌, Bool, true, false, List, [], ◌∷◌, take, drop, arith, suc}
 use Rattle.std.proofs.Math.Numerals.{one-add}
 use Rattle.std.specs.List.{before_first, after_first, prefix_len}

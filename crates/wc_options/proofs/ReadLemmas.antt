@@ -5,7 +5,7 @@ use Rattle.std.proofs.lemmas.Bool.Decides.{nat_tests}
 use Rattle.std.specs.Prelude.{find, position, is_some, option_map, unwrap_or}
 use Rattle.std.specs.List.{remove}
 use Rattle.std.proofs.lemmas.List.{length-map, get_or-map, get_or_read, map_more, take_all}
-use Rattle.wc_options.specs.Kept.{Fits, FitAll, AreServers, IsKept, IsStored, unset_at_first}
+use Rattle.wc_options.specs.Kept.{Fits, FitAll, AreServers, AreOptionsKept, AreTextsStored, unset_at_first}
 use Rattle.wc_options.specs.Names.{Located, AtGlobal, AtServer, row_of_located}
 use Rattle.wc_options.specs.Options.{ServerOptions, OptionsValue, is_named, has_server, own_at_first, fresh_server, fresh, no_server, with_own, put_own, stands_for, global_value, server_value, value_at, refusal_at, with_value_at, makes_server, reset_at, without}
 use Rattle.wc_options.specs.Table.{OptionRow, globals, of_server, place_in, row_at, no_row}
@@ -43,7 +43,7 @@ globals_all place h = take_all place globals (rw length-globals h)
 pub ruleset first_options = (defaults_more, unset_more, globals_all)
 
 pub stored-new : (values : List (Option (List ℕ))) (servers : List ServerOptions) (defaults : List (List ℕ)) (no_address : List ℕ) (names : List (List ℕ))
-    → values ≡ map unset_at_first globals → servers ≡ [] → defaults ≡ map default_of globals → no_address ≡ [] → names ≡ [] → IsStored (record { set = values; servers = servers }) defaults no_address names
+    → values ≡ map unset_at_first globals → servers ≡ [] → defaults ≡ map default_of globals → no_address ≡ [] → names ≡ [] → AreTextsStored (record { set = values; servers = servers }) defaults no_address names
 stored-new values servers defaults no_address names unset none are empty nameless = record {
   kept = record { set_fit = subst (FitAll unset_at_first globals) (sym unset) (FitAll-unset globals); servers_fit = subst AreServers (sym none) tt; few = rw none (omega arith) };
   defaults_are = are;
@@ -120,11 +120,11 @@ with_own_made options name place value at =
     (sym (put_own_none name place value options.servers (find_none name options.servers (sym at))))
 
 pub stored-own_at : (options : OptionsValue) (defaults : List (List ℕ)) (no_address : List ℕ) (names : List (List ℕ)) (found place : ℕ) (value : Option (List ℕ)) (server new : ServerOptions)
-    → IsStored options defaults no_address names → found < length options.servers → Fits own_at_first (row_at of_server place) value
+    → AreTextsStored options defaults no_address names → found < length options.servers → Fits own_at_first (row_at of_server place) value
     → server ≡ get_or options.servers found server → new ≡ with_own place value server
-    → IsStored (record { set = options.set; servers = set options.servers found new }) defaults no_address names
+    → AreTextsStored (record { set = options.set; servers = set options.servers found new }) defaults no_address names
 stored-own_at options defaults no_address names found place value server new stored h fit read is =
-    subst (λ (s : ServerOptions). IsStored (record { set = options.set; servers = set options.servers found s }) defaults no_address names)
+    subst (λ (s : ServerOptions). AreTextsStored (record { set = options.set; servers = set options.servers found s }) defaults no_address names)
     (sym (is ∙ ap (with_own place value) read)) (stored-own options defaults no_address names found place value server stored h fit)
 
 pub length-own_at : (servers : List ServerOptions) (found : ℕ) (server : ServerOptions) → found < length servers → AreServers servers → server ≡ get_or servers found server → length server.own ≡ 8

@@ -5,9 +5,9 @@ use Rattle.std.specs.List.{flat_map, list_all}
 use Rattle.std.specs.Str.{IsUtf8}
 use Rattle.std.proofs.lemmas.Bool.Decides.{nat_tests}
 use Rattle.std.proofs.lemmas.List.{append_assoc, append-nil, set_at, length_push, length-append}
-use Rattle.wc_options.specs.Config.{behind_line, behind_lines, config_of, of_lines, version_line, set_line, set_lines, prefix_of, server_lines, config_lines, ended, config_text}
+use Rattle.wc_options.specs.Config.{after_line, after_lines, config_of, of_lines, version_line, set_line, set_lines, prefix_of, server_lines, config_lines, text_of_lines, config_text}
 use Rattle.wc_options.specs.File.{lines_of, equals_sign}
-use Rattle.wc_options.specs.Kept.{Fits, FitAll, AreServers, IsKept, unset_at_first}
+use Rattle.wc_options.specs.Kept.{Fits, FitAll, AreServers, AreOptionsKept, unset_at_first}
 use Rattle.wc_options.specs.Names.{Located, AtGlobal, AtServer, row_of_located, is_server_name}
 use Rattle.wc_options.specs.Options.{ServerOptions, OptionsValue, is_named, has_server, own_at_first, fresh_server, fresh, with_own, put_own, with_value_at, makes_server}
 use Rattle.wc_options.specs.Table.{OptionRow, globals, of_server, place_in, row_at, no_row}
@@ -17,23 +17,23 @@ use Rattle.wc_options.proofs.LawLemmas.{IsNameAt, CanTake, read-line, no_lf, lis
 use Rattle.wc_options.proofs.ServersLemmas.{put_own_none}
 use Rattle.wc_options.proofs.TableLaw.{AreNamed, globals-AreNamed, ArePlain, of_server-ArePlain, server-IsNameAt}
 
--- ---- lines read one after another, wherever they stand
+-- ---- lines read one after another, wherever they are
 
 pub record Reads (before : OptionsValue) (lines : List (List ℕ)) (after : OptionsValue) : Type 0 where
-  pub run : (number : ℕ) (more : List (List ℕ)) → (last : ℕ) × (behind_lines number before (lines ++ more) ≡ behind_lines last after more)
+  pub run : (number : ℕ) (more : List (List ℕ)) → (last : ℕ) × (after_lines number before (lines ++ more) ≡ after_lines last after more)
 
 Reads-none : (options : OptionsValue) → Reads options [] options
 Reads-none options = record { run = λ number more. (number, refl) }
 
-Reads-line : (before behind after : OptionsValue) (line : List ℕ) (lines : List (List ℕ)) → behind_line before line ≡ Some behind → Reads behind lines after → Reads before (line ∷ lines) after
-Reads-line before behind after line lines e reads = record { run = λ number more. let rest = reads.run (number + 1) more in (rest.0, rw e rest.1) }
+Reads-line : (before following after : OptionsValue) (line : List ℕ) (lines : List (List ℕ)) → after_line before line ≡ Some following → Reads following lines after → Reads before (line ∷ lines) after
+Reads-line before following after line lines e reads = record { run = λ number more. let rest = reads.run (number + 1) more in (rest.0, rw e rest.1) }
 
 Reads-append : (before between after : OptionsValue) (xs ys : List (List ℕ)) → Reads before xs between → Reads between ys after → Reads before (xs ++ ys) after
 Reads-append before between after xs ys first second = record {
   run = λ number more.
       let front = first.run number (ys ++ more) in
       let back = second.run front.0 more in
-      (back.0, ap (behind_lines number before) (append_assoc xs ys more) ∙ front.1 ∙ back.1);
+      (back.0, ap (after_lines number before) (append_assoc xs ys more) ∙ front.1 ∙ back.1);
 }
 
 -- ---- a table of values
@@ -42,7 +42,7 @@ Reads-append before between after xs ys first second = record {
 abbrev EachLine : (List (Option (List ℕ)) → OptionsValue) → List ℕ → ℕ → List OptionRow → Type 0
 EachLine state prefix place [] = Unit {0}
 EachLine state prefix place (row ∷ rows) =
-    ((values : List (Option (List ℕ))) (value : List ℕ) → value_fits row.kind value ≡ true → IsUtf8 value → behind_line (state values) (set_line prefix row value) ≡ Some (state (set values place (Some value))))
+    ((values : List (Option (List ℕ))) (value : List ℕ) → value_fits row.kind value ≡ true → IsUtf8 value → after_line (state values) (set_line prefix row value) ≡ Some (state (set values place (Some value))))
     × EachLine state prefix (suc place) rows
 
 read-table : (state : List (Option (List ℕ)) → OptionsValue) (prefix : List ℕ) (first : OptionRow → Option (List ℕ)) (rows : List OptionRow) (values front : List (Option (List ℕ))) (place : ℕ)
@@ -60,7 +60,7 @@ read-table state prefix first (row ∷ rows) (Some value ∷ values) front place
     let next : length (front ++ Some value ∷ []) ≡ suc place = length-append front (Some value ∷ []) ∙ rw at (omega arith) in
     let rest = read-table state prefix first rows values (front ++ Some value ∷ []) (suc place) each.1 fit.1 next in
     let put : set (front ++ map first (row ∷ rows)) place (Some value) ≡ front ++ Some value ∷ [] ++ map first rows = set_at front (first row) (map first rows) (Some value) place at ∙ sym (append_assoc front (Some value ∷ []) (map first rows)) in
-    let line : behind_line (state (front ++ map first (row ∷ rows))) (set_line prefix row value) ≡ Some (state (front ++ Some value ∷ [] ++ map first rows)) =
+    let line : after_line (state (front ++ map first (row ∷ rows))) (set_line prefix row value) ≡ Some (state (front ++ Some value ∷ [] ++ map first rows)) =
     each.0 (front ++ map first (row ∷ rows)) value fit.0.0 fit.0.1 ∙ ap (λ vs. Some (state vs)) put in
     Reads-line _ _ _ (set_line prefix row value) (set_lines prefix rows values) line
     (subst (λ (vs : List (Option (List ℕ))). Reads (state (front ++ Some value ∷ [] ++ map first rows)) (set_lines prefix rows values) (state vs)) (append_assoc front (Some value ∷ []) values) rest)
@@ -124,7 +124,7 @@ none_from name servers h = none_from-by (find (is_named name) servers) h
 -- the server's first line makes it
 first-line-makes : (values : List (Option (List ℕ))) (done : List ServerOptions) (name value : List ℕ) (row : OptionRow) (rows : List OptionRow)
     → is_server_name name ≡ true → has_server name done ≡ false → length done < 64 → ArePlain 0 (row ∷ rows) → value_fits row.kind value ≡ true → IsUtf8 value
-    → behind_line (global_state done values) (set_line (prefix_of name) row value) ≡ Some (server_state values done name (set (map own_at_first of_server) 0 (Some value)))
+    → after_line (global_state done values) (set_line (prefix_of name) row value) ≡ Some (server_state values done name (set (map own_at_first of_server) 0 (Some value)))
 first-line-makes values done name value row rows named absent few plain fit text =
     let room_test : leb 64 (length done) ≡ false = grind (arith, nat_tests) in
     read-line (global_state done values) (prefix_of name ++ row.name) value (AtServer name 0)
@@ -132,7 +132,7 @@ first-line-makes values done name value row rows named absent few plain fit text
     (record { fit = ap (λ (r : OptionRow). value_fits r.kind value) plain.4 ∙ fit; text = text; room = rw (absent, room_test) refl })
     ∙ ap (λ (servers : List ServerOptions). Some (global_state servers values)) (put_own_none name 0 value done (none_from name done absent))
 
--- `addresses` stands first and is always set
+-- `addresses` is first and is always set
 read-own : (values : List (Option (List ℕ))) (done : List ServerOptions) (name : List ℕ) (row : OptionRow) (rows : List OptionRow) (own : List (Option (List ℕ)))
     → of_server ≡ row ∷ rows → own_at_first row ≢ None → ArePlain 0 (row ∷ rows) → is_server_name name ≡ true → has_server name done ≡ false → length done < 64 → FitAll own_at_first (row ∷ rows) own
     → Reads (global_state done values) (set_lines (prefix_of name) (row ∷ rows) own) (server_state values done name own)
@@ -197,7 +197,7 @@ value-line : (row : OptionRow) (value : List ℕ) → value_fits row.kind value 
 unfolding value_fits
 value-line row value h = storable-line value (is_of_kind row.kind value) h
 
--- the names behind a prefix have no LF
+-- the names after a prefix have no LF
 abbrev AreWhole : List ℕ → List OptionRow → Type 0
 AreWhole prefix [] = Unit {0}
 AreWhole prefix (row ∷ rows) = (list_all no_lf (prefix ++ row.name) ≡ true) × AreWhole prefix rows
@@ -233,14 +233,14 @@ fresh-state : fresh ≡ global_state [] (map unset_at_first globals)
 unfolding fresh
 fresh-state = refl
 
-read-all : (options : OptionsValue) → IsKept options → Reads fresh (set_lines [] globals options.set ++ flat_map server_lines options.servers) options
+read-all : (options : OptionsValue) → AreOptionsKept options → Reads fresh (set_lines [] globals options.set ++ flat_map server_lines options.servers) options
 read-all options kept =
     subst (λ (start : OptionsValue). Reads start (set_lines [] globals options.set ++ flat_map server_lines options.servers) options) (sym fresh-state)
     (Reads-append _ _ _ (set_lines [] globals options.set) (flat_map server_lines options.servers)
     (read-table (global_state []) [] unset_at_first globals options.set [] 0 (globals-each [] 0 globals globals-AreNamed) kept.set_fit refl)
     (read-servers options.set options.servers [] kept.servers_fit (apart-none options.servers) (omega (arith, kept.few))))
 
-lines-are : (options : OptionsValue) → IsKept options → AreLines (config_lines options)
+lines-are : (options : OptionsValue) → AreOptionsKept options → AreLines (config_lines options)
 lines-are options kept = (
   refl,
   AreLines-append (set_lines [] globals options.set) (flat_map server_lines options.servers)
@@ -248,16 +248,16 @@ lines-are options kept = (
       (servers-AreLines options.servers kept.servers_fit),
 )
 
-version-first : (lines : List (List ℕ)) → of_lines (version_line ∷ lines) ≡ behind_lines 2 fresh lines
+version-first : (lines : List (List ℕ)) → of_lines (version_line ∷ lines) ≡ after_lines 2 fresh lines
 version-first lines = refl
 
 -- what is written of options is read as these options
-pub config_of-config_text : (options : OptionsValue) → IsKept options → config_of (config_text options) ≡ Ok options
+pub config_of-config_text : (options : OptionsValue) → AreOptionsKept options → config_of (config_text options) ≡ Ok options
 unfolding config_of config_text
 config_of-config_text options kept =
     let body = set_lines [] globals options.set ++ flat_map server_lines options.servers in
     let run = (read-all options kept).run 2 [] in
     ap of_lines (lines_of-ended (config_lines options) (lines-are options kept))
     ∙ version-first body
-    ∙ ap (behind_lines 2 fresh) (sym (append-nil body))
+    ∙ ap (after_lines 2 fresh) (sym (append-nil body))
     ∙ run.1

@@ -8,7 +8,7 @@ use Rattle.std.proofs.lemmas.Slice.Eq.{bytes_eq-Decides}
 use Rattle.wc_options.specs.Options.{ServerOptions, is_named, put_own, reset_own, without, with_own, has_server, fresh_server, own_at_first}
 use Rattle.wc_options.specs.Table.{of_server, row_at}
 
--- the server with the name stands at a place, and no earlier one has the name
+-- the server with the name is at a place, and no earlier one has the name
 pub record IsAt (name : List ℕ) (servers : List ServerOptions) (place : ℕ) (d : ServerOptions) : Type 0 where
   pub below : place < length servers
   pub here : is_named name (get_or servers place d) ≡ true

@@ -136,11 +136,11 @@ before_dot-name (byte ∷ name) rest h =
     before_first-miss (λ b. b == 46) byte (name ++ 46 ∷ rest) (not-true (byte == 46) (and-first (not (byte == 46)) (list_all no_dot name) h))
     ∙ ap (λ front. byte ∷ front) (before_dot-name name rest (and-second (not (byte == 46)) (list_all no_dot name) h))
 
-behind_dot-name : (name rest : List ℕ) → list_all no_dot name ≡ true → after_first (λ byte. byte == 46) (name ++ 46 ∷ rest) ≡ rest
-behind_dot-name [] rest h = after_first-hit (λ byte. byte == 46) 46 rest refl
-behind_dot-name (byte ∷ name) rest h =
+after_dot-name : (name rest : List ℕ) → list_all no_dot name ≡ true → after_first (λ byte. byte == 46) (name ++ 46 ∷ rest) ≡ rest
+after_dot-name [] rest h = after_first-hit (λ byte. byte == 46) 46 rest refl
+after_dot-name (byte ∷ name) rest h =
     after_first-miss (λ b. b == 46) byte (name ++ 46 ∷ rest) (not-true (byte == 46) (and-first (not (byte == 46)) (list_all no_dot name) h))
-    ∙ behind_dot-name name rest (and-second (not (byte == 46)) (list_all no_dot name) h)
+    ∙ after_dot-name name rest (and-second (not (byte == 46)) (list_all no_dot name) h)
 
 -- a byte of a server's name is no dot, no blank, no LF, and ASCII
 byte-no_dot : (byte : ℕ) → is_server_byte byte ≡ true → no_dot byte ≡ true
@@ -163,8 +163,8 @@ located-server-of : (name option : List ℕ) (place : ℕ) → is_server_name na
 located-server-of name option place named there =
     let plain : list_all no_dot name ≡ true = list_all-weaken is_server_byte no_dot byte-no_dot name (name-bytes name named) in
     let before = before_dot-name name option plain in
-    let behind = behind_dot-name name option plain in
-    rw (before, behind, named, there) refl
+    let following = after_dot-name name option plain in
+    rw (before, following, named, there) refl
 
 located-server : (name option : List ℕ) (place : ℕ) → is_server_name name ≡ true → place_in option of_server ≡ Some place → located (prefix_of name ++ option) ≡ Some (AtServer name place)
 unfolding located

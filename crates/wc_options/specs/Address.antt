@@ -4,24 +4,24 @@ use Rattle.std.specs.List.{before_first, after_first}
 use Rattle.wc_text.specs.declared.names.Address.{Address}
 use Rattle.wc_options.specs.Number.{number_in}
 
--- what stands before the first dot, and what stands behind it
+-- what is before the first dot, and what comes after it
 abbrev pub before_dot : List ℕ → List ℕ
 before_dot text = before_first (λ byte. byte == 46) text
 
-abbrev pub behind_dot : List ℕ → List ℕ
-behind_dot text = after_first (λ byte. byte == 46) text
+abbrev pub after_dot : List ℕ → List ℕ
+after_dot text = after_first (λ byte. byte == 46) text
 
 -- four numbers of one byte each as one number, the first in the highest byte
-abbrev pub joined : Option ℕ → Option ℕ → Option ℕ → Option ℕ → Option ℕ
-joined first second third fourth =
+abbrev pub address_number : Option ℕ → Option ℕ → Option ℕ → Option ℕ → Option ℕ
+address_number first second third fourth =
     option_and_then (λ a. option_and_then (λ b. option_and_then (λ c. option_and_then (λ d.
     Some (((a * 256 + b) * 256 + c) * 256 + d)) fourth) third) second) first
 
 -- a dotted IPv4 address: four numbers up to 255
 unfoldable pub ipv4_of : List ℕ → Option ℕ
 ipv4_of text =
-    let rest = behind_dot text in let last = behind_dot rest in
-    joined (number_in 0 255 (before_dot text)) (number_in 0 255 (before_dot rest)) (number_in 0 255 (before_dot last)) (number_in 0 255 (behind_dot last))
+    let rest = after_dot text in let last = after_dot rest in
+    address_number (number_in 0 255 (before_dot text)) (number_in 0 255 (before_dot rest)) (number_in 0 255 (before_dot last)) (number_in 0 255 (after_dot last))
 
 -- `localhost` is 127.0.0.1
 abbrev pub host_of : List ℕ → Option ℕ

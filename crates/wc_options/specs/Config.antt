@@ -18,27 +18,27 @@ abbrev pub is_passed_over : List ℕ → Bool
 is_passed_over line = bytes_eq line [] || bytes_eq (take 1 line) (codes "#")
 
 -- a name and a value that an option takes
-abbrev pub taken : OptionsValue → Option (List ℕ × List ℕ) → Option OptionsValue
-taken options None = None
-taken options (Some parts) = if is_none (refusal_of options parts.0 parts.1) then Some (with_value options parts.0 parts.1) else None
+abbrev pub with_setting : OptionsValue → Option (List ℕ × List ℕ) → Option OptionsValue
+with_setting options None = None
+with_setting options (Some parts) = if is_none (refusal_of options parts.0 parts.1) then Some (with_value options parts.0 parts.1) else None
 
--- the options behind a line, or none where it is unreadable
-unfoldable pub behind_line : OptionsValue → List ℕ → Option OptionsValue
-behind_line options line =
+-- the options after a line, or none where it is unreadable
+unfoldable pub after_line : OptionsValue → List ℕ → Option OptionsValue
+after_line options line =
     if is_passed_over line then Some options
-    else if is_utf8 line then taken options (parted line)
+    else if is_utf8 line then with_setting options (parted line)
     else None
 
--- the options behind all lines, of which the first has a number, or the number of the first line that is unreadable
-abbrev pub behind_lines : ℕ → OptionsValue → List (List ℕ) → Result OptionsValue ℕ
-behind_lines number options [] = Ok options
-behind_lines number options (line ∷ lines) =
-    option_map_or (λ behind. behind_lines (number + 1) behind lines) (behind_line options line) (Err number)
+-- the options after all lines, of which the first has a number, or the number of the first line that is unreadable
+abbrev pub after_lines : ℕ → OptionsValue → List (List ℕ) → Result OptionsValue ℕ
+after_lines number options [] = Ok options
+after_lines number options (line ∷ lines) =
+    option_map_or (λ following. after_lines (number + 1) following lines) (after_line options line) (Err number)
 
 -- the options that a file holds; its first line may tell the version, which is 1 without it
 abbrev pub of_lines : List (List ℕ) → Result OptionsValue ℕ
 of_lines [] = Ok fresh
-of_lines (line ∷ lines) = if bytes_eq line version_line then behind_lines 2 fresh lines else behind_lines 1 fresh (line ∷ lines)
+of_lines (line ∷ lines) = if bytes_eq line version_line then after_lines 2 fresh lines else after_lines 1 fresh (line ∷ lines)
 
 unfoldable pub config_of : List ℕ → Result OptionsValue ℕ
 config_of bytes = of_lines (lines_of bytes)
@@ -72,8 +72,8 @@ abbrev pub config_lines : OptionsValue → List (List ℕ)
 config_lines options = version_line ∷ (set_lines [] globals options.set ++ flat_map server_lines options.servers)
 
 -- each line ended by LF
-abbrev pub ended : List (List ℕ) → List ℕ
-ended lines = flat_map (λ line. line ++ 10 ∷ []) lines
+abbrev pub text_of_lines : List (List ℕ) → List ℕ
+text_of_lines lines = flat_map (λ line. line ++ 10 ∷ []) lines
 
 unfoldable pub config_text : OptionsValue → List ℕ
-config_text options = ended (config_lines options)
+config_text options = text_of_lines (config_lines options)

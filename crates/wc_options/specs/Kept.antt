@@ -28,14 +28,14 @@ AreServers [] = ⊤
 AreServers (server ∷ servers) =
     (is_server_name server.name ≡ true) × FitAll own_at_first of_server server.own × (has_server server.name servers ≡ false) × AreServers servers
 
-pub record IsKept (options : OptionsValue) : Type 0 where
+pub record AreOptionsKept (options : OptionsValue) : Type 0 where
   pub set_fit : FitAll unset_at_first globals options.set
   pub servers_fit : AreServers options.servers
   pub few : length options.servers ≤ 64
 
 -- and of what is stored beside them: the defaults, and the servers' names
-pub record IsStored (options : OptionsValue) (defaults : List (List ℕ)) (no_address : List ℕ) (names : List (List ℕ)) : Type 0 where
-  pub kept : IsKept options
+pub record AreTextsStored (options : OptionsValue) (defaults : List (List ℕ)) (no_address : List ℕ) (names : List (List ℕ)) : Type 0 where
+  pub kept : AreOptionsKept options
   pub defaults_are : defaults ≡ map (λ (row : OptionRow). row.default) globals
   pub no_address_is : no_address ≡ []
   pub names_are : names ≡ map (λ (server : ServerOptions). server.name) options.servers

@@ -1,7 +1,7 @@
 -- Which option a name names.
 use Rattle.std.specs.Prelude.{ℕ, Bool, ◌==◌, ◌&&◌, ◌||◌, ◌<◌, ◌≡◌, ⊤, true, nat_le, bytes_eq, length, take, drop, List, [], ◌∷◌, Option, Some, None, option_map, codes, if◌then◌else◌}
 use Rattle.std.specs.List.{list_all}
-use Rattle.wc_options.specs.Address.{before_dot, behind_dot}
+use Rattle.wc_options.specs.Address.{before_dot, after_dot}
 use Rattle.wc_options.specs.Table.{OptionRow, globals, of_server, place_in, row_at}
 
 -- an option of the program by its place in the table, or an option of a server by the server's name
@@ -24,7 +24,7 @@ server_prefix = codes "irc.server."
 -- NAME.X
 abbrev pub located_of_server : List ℕ → Option Located
 located_of_server rest =
-    if is_server_name (before_dot rest) then option_map (AtServer (before_dot rest)) (place_in (behind_dot rest) of_server) else None
+    if is_server_name (before_dot rest) then option_map (AtServer (before_dot rest)) (place_in (after_dot rest) of_server) else None
 
 -- the option that a name names: `irc.server.NAME.X` is an option of a server, and every other name is looked up among the options of the program
 unfoldable pub located : List ℕ → Option Located
@@ -36,7 +36,7 @@ abbrev pub row_of_located : Located → OptionRow
 row_of_located (AtGlobal place) = row_at globals place
 row_of_located (AtServer server place) = row_at of_server place
 
--- it stands in the table
+-- it is in the table
 abbrev pub IsInTable : Located → Type 0
 IsInTable (AtGlobal place) = place < 12
 IsInTable (AtServer server place) = place < 8

@@ -1,7 +1,7 @@
 -- Decimal numbers with no sign and no leading zero.
 use Rattle.std.specs.Prelude.{ℕ, ◌+◌, ◌-◌, ◌*◌, ◌==◌, ◌&&◌, nat_le, List, [], ◌∷◌, Option, Some, None, if◌then◌else◌}
 
--- the number that the digits write behind the number n, or none where a byte is no digit
+-- the number that the digits write after the number n, or none where a byte is no digit
 abbrev pub decimal_from : ℕ → List ℕ → Option ℕ
 decimal_from n [] = Some n
 decimal_from n (byte ∷ bytes) = if nat_le 48 byte && nat_le byte 57 then decimal_from (n * 10 + (byte - 48)) bytes else None

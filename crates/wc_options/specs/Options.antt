@@ -17,7 +17,7 @@ pub record OptionsValue : Type 0 where
   pub set : List (Option (List ℕ))
   pub servers : List ServerOptions
 
--- ---- what stands where none is set
+-- ---- what is where none is set
 
 -- the option whose value a server's option takes where it has none of its own
 abbrev pub stands_for : OptionRow → Option ℕ
@@ -88,7 +88,7 @@ refusal_of options name value = refusal_in options value (located name)
 abbrev pub with_own : ℕ → Option (List ℕ) → ServerOptions → ServerOptions
 with_own place value server = record server { own = slice_set server.own place value }
 
--- the server with this name has the value, and where there is none it is made behind the others
+-- the server with this name has the value, and where there is none it is made after the others
 abbrev pub put_own : List ℕ → ℕ → List ℕ → List ServerOptions → List ServerOptions
 put_own name place value [] = with_own place (Some value) (fresh_server name) ∷ []
 put_own name place value (server ∷ servers) =

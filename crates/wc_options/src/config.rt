@@ -1,6 +1,6 @@
 ghost use Rattle.std.specs.Prelude.{◌≡◌, ◌≢◌, ◌<◌, ◌^◌, ◌+◌, ◌∷◌, ◌++◌, [], Ok, Err, Some, None, IfOk, IfErr, OnOk, OnErr, bytes_eq, take, codes, drop, length, slice_index_or};
 ghost use Rattle.std.specs.Str.{is_utf8, IsUtf8};
-ghost use Rattle.wc_options.specs.Config.{config_of, behind_line, behind_lines, is_passed_over, version_line, taken};
+ghost use Rattle.wc_options.specs.Config.{config_of, after_line, after_lines, is_passed_over, version_line, with_setting};
 ghost use Rattle.wc_options.specs.File.{lines_of, parted};
 ghost use Rattle.wc_options.specs.ReadConfig.{IsBadLine};
 
@@ -55,8 +55,8 @@ impl Options {
         bytes: &[u8],
     ) -> Result<Options, ConfigRefused>
         requires { first + length bytes.now < 2 ^ 64 }
-        ensures read { IfOk result (λ options. behind_lines first self (lines_of bytes.now) ≡ Ok options) }
-        ensures bad_line { IfErr result (λ refused. refused ≢ ConfigRefused.NoMemory → IsBadLine refused (behind_lines first self (lines_of bytes.now))) }
+        ensures read { IfOk result (λ options. after_lines first self (lines_of bytes.now) ≡ Ok options) }
+        ensures bad_line { IfErr result (λ refused. refused ≢ ConfigRefused.NoMemory → IsBadLine refused (after_lines first self (lines_of bytes.now))) }
     {
         let mut number = first;
         let mut rest = bytes;
@@ -75,8 +75,8 @@ impl Options {
     /// Takes one line of a file.
     #[tactic(auto, using(crate::proofs::ConfigLemmas::lines_taken))]
     fn take_line(&mut self, alloc: Global, line: &[u8]) -> Result<(), LineRefused>
-        ensures taken { OnOk result (behind_line self.old line.now ≡ Some self.new) }
-        ensures refused { IfErr result (λ refused. refused ≢ LineRefused.NoMemory → behind_line self.old line.now ≡ None) }
+        ensures taken { OnOk result (after_line self.old line.now ≡ Some self.new) }
+        ensures refused { IfErr result (λ refused. refused ≢ LineRefused.NoMemory → after_line self.old line.now ≡ None) }
     {
         if is_passed_over(line) {
             return Ok(());
@@ -89,8 +89,8 @@ impl Options {
 
     fn take_text(&mut self, alloc: Global, line: &[u8]) -> Result<(), LineRefused>
         requires { IsUtf8 line.now }
-        ensures taken { OnOk result (taken self.old (parted line.now) ≡ Some self.new) }
-        ensures refused { IfErr result (λ refused. refused ≢ LineRefused.NoMemory → taken self.old (parted line.now) ≡ None) }
+        ensures taken { OnOk result (with_setting self.old (parted line.now) ≡ Some self.new) }
+        ensures refused { IfErr result (λ refused. refused ≢ LineRefused.NoMemory → with_setting self.old (parted line.now) ≡ None) }
     {
         match part_line(line) {
             Some((name, value)) => self.take_value(alloc, name, value),
@@ -100,8 +100,8 @@ impl Options {
 
     fn take_value(&mut self, alloc: Global, name: &[u8], value: &[u8]) -> Result<(), LineRefused>
         requires { IsUtf8 value.now }
-        ensures taken { OnOk result (taken self.old (Some (name.now, value.now)) ≡ Some self.new) }
-        ensures refused { IfErr result (λ refused. refused ≢ LineRefused.NoMemory → taken self.old (Some (name.now, value.now)) ≡ None) }
+        ensures taken { OnOk result (with_setting self.old (Some (name.now, value.now)) ≡ Some self.new) }
+        ensures refused { IfErr result (λ refused. refused ≢ LineRefused.NoMemory → with_setting self.old (Some (name.now, value.now)) ≡ None) }
     {
         match self.set_bytes(alloc, name, value) {
             Ok(_) => Ok(()),

@@ -9,10 +9,10 @@ fn first_place(text: &[u8], separator: u8) -> Option<usize>
     text.iter().position(|byte| *byte == separator)
 }
 
-/// The bytes before the first byte that equals the separator, and those behind it.
+/// The bytes before the first byte that equals the separator, and those after it.
 pub(crate) fn part_at(text: &[u8], separator: u8) -> (&[u8], &[u8])
     ensures before { result.0.now ≡ before_first (λ byte. byte == separator) text.now }
-    ensures behind { result.1.now ≡ after_first (λ byte. byte == separator) text.now }
+    ensures following { result.1.now ≡ after_first (λ byte. byte == separator) text.now }
 {
     match first_place(text, separator) {
         Some(place) => (text.split_at(place).0, text.split_at(place + 1).1),
@@ -20,7 +20,7 @@ pub(crate) fn part_at(text: &[u8], separator: u8) -> (&[u8], &[u8])
     }
 }
 
-/// The first line of a file without its LF, and what stands behind it. None exactly where the file
+/// The first line of a file without its LF, and what comes after it. None exactly where the file
 /// is empty.
 #[tactic(auto, using(crate::proofs::FileLemmas::first_lines))]
 pub fn first_line(bytes: &[u8]) -> Option<(&[u8], &[u8])>

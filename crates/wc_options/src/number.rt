@@ -16,7 +16,7 @@ pub fn number_in(text: &[u8], lowest: u32, highest: u32) -> Option<u32>
     }
 }
 
-/// What digits write, also behind leading zeros, where it is from the lowest to the highest.
+/// What digits write, also after leading zeros, where it is from the lowest to the highest.
 #[tactic(auto, using(crate::proofs::NumberLemmas::number_steps))]
 fn digits_in(text: &[u8], lowest: u32, highest: u32) -> Option<u32>
     ensures number { result ≡ within lowest highest (decimal_from 0 text.now) }

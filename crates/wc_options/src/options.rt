@@ -41,13 +41,13 @@ pub struct Options {
 
 impl Model for Options {
     ghost use Rattle.wc_options.specs.Options.{OptionsValue};
-    ghost use Rattle.wc_options.specs.Kept.{IsStored};
+    ghost use Rattle.wc_options.specs.Kept.{AreTextsStored};
 
     ghost Value = { OptionsValue };
 
     ghost view = { λ a. record { set = a.set.items; servers = a.servers.items } };
 
-    ghost invariant = { λ a. IsStored (record { set = a.set.items; servers = a.servers.items }) a.defaults.items a.no_address a.names.items };
+    ghost invariant = { λ a. AreTextsStored (record { set = a.set.items; servers = a.servers.items }) a.defaults.items a.no_address a.names.items };
 }
 
 /// The place of the server with a name.

@@ -1,8 +1,8 @@
 ghost use Rattle.std.specs.Prelude.{◌≡◌, ◌++◌, ◌∷◌, [], Ok, IfOk, OnOk, length, map};
 ghost use Rattle.std.specs.List.{flat_map};
-ghost use Rattle.wc_options.specs.Config.{config_of, config_text, ended, prefix_of, set_lines, lines_of_value, server_lines};
+ghost use Rattle.wc_options.specs.Config.{config_of, config_text, text_of_lines, prefix_of, set_lines, lines_of_value, server_lines};
 ghost use Rattle.wc_options.specs.File.{equals_sign};
-ghost use Rattle.wc_options.specs.Kept.{IsKept};
+ghost use Rattle.wc_options.specs.Kept.{AreOptionsKept};
 ghost use Rattle.wc_options.specs.Table.{globals, of_server, row_of};
 
 use crate::config::VERSION_LINE;
@@ -31,14 +31,14 @@ impl Options {
     }
 
     fn write_globals(&self, text: &mut Text) -> Result<(), NoMemory>
-        ensures written { OnOk result (text.new ≡ text.old ++ ended (set_lines [] globals self.now.set)) }
-        ensures kept { IsKept self.now }
+        ensures written { OnOk result (text.new ≡ text.old ++ text_of_lines (set_lines [] globals self.now.set)) }
+        ensures kept { AreOptionsKept self.now }
     {
         write_values(text, b"", &GLOBALS, &self.set)
     }
 
     fn write_servers(&self, alloc: Global, text: &mut Text) -> Result<(), NoMemory>
-        ensures { OnOk result (text.new ≡ text.old ++ ended (flat_map server_lines self.now.servers)) }
+        ensures { OnOk result (text.new ≡ text.old ++ text_of_lines (flat_map server_lines self.now.servers)) }
     {
         for place in 0..self.servers.len() {
             let server = &self.servers[place];
@@ -51,7 +51,7 @@ impl Options {
 impl Server {
     fn write(&self, alloc: Global, text: &mut Text) -> Result<(), NoMemory>
         requires { length self.now.own ≡ 8 }
-        ensures { OnOk result (text.new ≡ text.old ++ ended (server_lines self.now)) }
+        ensures { OnOk result (text.new ≡ text.old ++ text_of_lines (server_lines self.now)) }
     {
         let mut prefix = Text::new(alloc);
         prefix.append(SERVER_PREFIX)?;
@@ -69,7 +69,7 @@ fn write_values(
     values: &[Option<Text>],
 ) -> Result<(), NoMemory>
     requires { length values.now ≡ length table.now }
-    ensures { OnOk result (text.new ≡ text.old ++ ended (set_lines prefix.now (map row_of table.now) values.now)) }
+    ensures { OnOk result (text.new ≡ text.old ++ text_of_lines (set_lines prefix.now (map row_of table.now) values.now)) }
 {
     for place in 0..table.len() {
         write_value(text, prefix, &table[place], &values[place])?;
@@ -83,7 +83,7 @@ fn write_value(
     row: &Row,
     value: &Option<Text>,
 ) -> Result<(), NoMemory>
-    ensures { OnOk result (text.new ≡ text.old ++ ended (lines_of_value prefix.now (row_of row.now) value.now)) }
+    ensures { OnOk result (text.new ≡ text.old ++ text_of_lines (lines_of_value prefix.now (row_of row.now) value.now)) }
 {
     match value {
         Some(value) => write_line(text, prefix, row.name, value.as_slice()),

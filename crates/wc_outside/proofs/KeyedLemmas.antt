@@ -2,28 +2,28 @@
 use Rattle.std.proofs.Common.{◌≡◌, ◌≢◌, ℕ, suc, ◌+◌, ◌<◌, ◌≤◌, Bool, true, false, cond, eqb, List, [], ◌∷◌, ◌++◌, length, Option, Some, None, refl, ap, subst, arith, nat_lt, position, filter, not}
 use Rattle.std.specs.List.{position_or_len}
 use Rattle.std.proofs.lemmas.Bool.Decides.{nat_tests}
-use Rattle.wc_outside.specs.Keyed.{at_key, put_at, without, IsPlace, PlaceOf}
+use Rattle.wc_outside.specs.Keyed.{at_key, put_at, without, IsKeyPlace, PlaceOf}
 
-pub here : {X : Type 0} (key : X → ℕ) (k : ℕ) (x : X) (xs : List X) → eqb (key x) k ≡ true → IsPlace key k (x ∷ xs) 0
+pub here : {X : Type 0} (key : X → ℕ) (k : ℕ) (x : X) (xs : List X) → eqb (key x) k ≡ true → IsKeyPlace key k (x ∷ xs) 0
 here key k x xs e = record { inside = omega arith; found = λ d. rw e refl; put = λ y. rw e refl }
 
-pub behind : {X : Type 0} (key : X → ℕ) (k : ℕ) (x : X) (xs : List X) (i : ℕ) → eqb (key x) k ≡ false → IsPlace key k xs i → IsPlace key k (x ∷ xs) (suc i)
-behind key k x xs i e p = record {
+pub following : {X : Type 0} (key : X → ℕ) (k : ℕ) (x : X) (xs : List X) (i : ℕ) → eqb (key x) k ≡ false → IsKeyPlace key k xs i → IsKeyPlace key k (x ∷ xs) (suc i)
+following key k x xs i e p = record {
   inside = (let h = p.inside in omega arith);
   found = λ d. rw e (p.found d);
   put = λ y. rw e (ap (λ ys. x ∷ ys) (p.put y));
 }
 
-behind_one : {X : Type 0} (key : X → ℕ) (k : ℕ) (x : X) (xs : List X) (i : ℕ) → eqb (key x) k ≡ false → IsPlace key k xs i → IsPlace key k (x ∷ xs) (1 + i)
-behind_one key k x xs i e p = let q : suc i ≡ 1 + i = omega arith in subst (λ n. IsPlace key k (x ∷ xs) n) q (behind key k x xs i e p)
+after_one : {X : Type 0} (key : X → ℕ) (k : ℕ) (x : X) (xs : List X) (i : ℕ) → eqb (key x) k ≡ false → IsKeyPlace key k xs i → IsKeyPlace key k (x ∷ xs) (1 + i)
+after_one key k x xs i e p = let q : suc i ≡ 1 + i = omega arith in subst (λ n. IsKeyPlace key k (x ∷ xs) n) q (following key k x xs i e p)
 
 placed-by : {X : Type 0} (key : X → ℕ) (k : ℕ) (x : X) (xs : List X) (b : Bool) → eqb (key x) k ≡ b
-    → (position_or_len (λ x. eqb (key x) k) xs < length xs → IsPlace key k xs (position_or_len (λ x. eqb (key x) k) xs))
-    → position_or_len (λ x. eqb (key x) k) (x ∷ xs) < length (x ∷ xs) → IsPlace key k (x ∷ xs) (position_or_len (λ x. eqb (key x) k) (x ∷ xs))
+    → (position_or_len (λ x. eqb (key x) k) xs < length xs → IsKeyPlace key k xs (position_or_len (λ x. eqb (key x) k) xs))
+    → position_or_len (λ x. eqb (key x) k) (x ∷ xs) < length (x ∷ xs) → IsKeyPlace key k (x ∷ xs) (position_or_len (λ x. eqb (key x) k) (x ∷ xs))
 placed-by key k x xs true e f h = rw e (here key k x xs e)
-placed-by key k x xs false e f h = rw e (behind_one key k x xs _ e (f (let g = rw e at h in omega arith)))
+placed-by key k x xs false e f h = rw e (after_one key k x xs _ e (f (let g = rw e at h in omega arith)))
 
-placed : {X : Type 0} (key : X → ℕ) (k : ℕ) (xs : List X) → position_or_len (λ x. eqb (key x) k) xs < length xs → IsPlace key k xs (position_or_len (λ x. eqb (key x) k) xs)
+placed : {X : Type 0} (key : X → ℕ) (k : ℕ) (xs : List X) → position_or_len (λ x. eqb (key x) k) xs < length xs → IsKeyPlace key k xs (position_or_len (λ x. eqb (key x) k) xs)
 placed key k [] h = absurd (omega arith)
 placed key k (x ∷ xs) h = placed-by key k x xs (eqb (key x) k) refl (placed key k xs) h
 

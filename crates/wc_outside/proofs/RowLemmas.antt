@@ -7,10 +7,10 @@ use Rattle.wc_outside.specs.declared.rows.Row.{Row}
 use Rattle.wc_outside.specs.declared.sockets.Token.{Token}
 use Rattle.wc_outside.specs.declared.sockets.Token.TheVariants.{Listener, Link}
 use Rattle.wc_outside.specs.Happenings.{is_link, is_listener, IsThere}
-use Rattle.wc_outside.specs.Rows.{row_at, freed, Reported}
+use Rattle.wc_outside.specs.Rows.{row_at, freed_row, Reported}
 
 -- once a wait returned
-pub row_at_freed : (rows : List Row) (link : ℕ) → row_at link (map freed rows) ≡ freed (row_at link rows)
+pub row_at_freed : (rows : List Row) (link : ℕ) → row_at link (map freed_row rows) ≡ freed_row (row_at link rows)
 row_at_freed [] link = refl
 row_at_freed (row ∷ rows) zero = refl
 row_at_freed (row ∷ rows) (suc link) = row_at_freed rows link

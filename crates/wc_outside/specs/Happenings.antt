@@ -28,7 +28,7 @@ accept_gives (Ok (Some arrival)) = Accepted arrival.link arrival.nonce ∷ []
 accept_gives (Ok None) = []
 accept_gives (Err fault) = ListenFailed ∷ []
 
--- what a read of a link adds, where the bytes stand in front of the buffer
+-- what a read of a link adds, where the bytes are in front of the buffer
 abbrev pub read_gives : LinkId → List ℕ → Result Got Fault → List Happening
 read_gives link buffer (Ok (Bytes n)) = Read link (take n buffer) ∷ []
 read_gives link buffer (Ok End) = Ended link ∷ []

@@ -14,12 +14,12 @@ abbrev pub row_at : ℕ → List Row → Row
 row_at link rows = slice_index_or rows link blank
 
 -- what each row is once its link is closed
-abbrev pub closed : Row → Row
-closed row = record row { is_open = false; undrained = false; blocked = false; choked = row.choked || row.blocked }
+abbrev pub closed_row : Row → Row
+closed_row row = record row { is_open = false; undrained = false; blocked = false; choked = row.choked || row.blocked }
 
 -- what each row is once a wait returned
-abbrev pub freed : Row → Row
-freed row = record row { blocked = false }
+abbrev pub freed_row : Row → Row
+freed_row row = record row { blocked = false }
 
 -- a wait has reported these sources so far: their rows are no longer drained, and nothing else changed
 pub record Reported (old new : List Row) (listening_old listening_new : Bool) (tokens : List Token) : Type 0 where

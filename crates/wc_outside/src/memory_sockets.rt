@@ -56,8 +56,8 @@ impl MemorySockets {
     /// calls but those of `close` from 1. A link takes `window` bytes between two waits, or any
     /// number where `window` is 0.
     ///
-    /// The script begins with a `Wake`; each wait goes on to the next one, and behind the last one
-    /// the moment rises by 100 at each wait. What stands before a first `Wake` is ready after the
+    /// The script begins with a `Wake`; each wait goes on to the next one, and after the last one
+    /// the moment rises by 100 at each wait. What is before a first `Wake` is ready after the
     /// first wait.
     pub fn new(
         alloc: Global,

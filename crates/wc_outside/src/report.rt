@@ -1,12 +1,12 @@
 ghost use Rattle.std.specs.Prelude.{◌≡◌, ◌+◌, ◌<◌, ◌++◌, ◌∷◌, [], map, take};
-ghost use Rattle.wc_outside.specs.Rows.{row_at, freed, Reported};
+ghost use Rattle.wc_outside.specs.Rows.{row_at, freed_row, Reported};
 ghost use Rattle.wc_outside.specs.Happenings.{IsThere};
 
 use crate::play::Play;
 use crate::rows::{Row, free_all};
 use crate::sockets::{READY_LIMIT, Ready, Token};
 
-/// Puts a source behind those that are reported.
+/// Puts a source after those that are reported.
 fn add(ready: &mut Ready, source: Token)
     requires { ready.old.count < 64 }
     ensures count { ready.new.count ≡ ready.old.count + 1 }
@@ -49,7 +49,7 @@ fn report_ready(play: &mut Play, rows: &mut [Row], listening: &mut bool, ready: 
 
 /// Notes that a wait returned, and reports the sources that are ready or not drained.
 pub(crate) fn report(play: &mut Play, rows: &mut [Row], listening: &mut bool, ready: &mut Ready)
-    ensures { Reported (map freed rows.old) rows.new listening.old listening.new (take ready.new.count ready.new.tokens) }
+    ensures { Reported (map freed_row rows.old) rows.new listening.old listening.new (take ready.new.count ready.new.tokens) }
 {
     free_all(rows);
     report_ready(play, rows, listening, ready);

@@ -1,5 +1,5 @@
 ghost use Rattle.std.specs.Prelude.{◌≡◌, ◌+◌, ◌<◌, ◌≤◌, ◌++◌, ◌∷◌, [], false, true, map, slice_set, IsTrue, OnOk, OnErr, IfSome, length, take};
-ghost use Rattle.wc_outside.specs.Rows.{blank, row_at, closed, freed};
+ghost use Rattle.wc_outside.specs.Rows.{blank, row_at, closed_row, freed_row};
 
 use std::alloc::Global;
 use wc_text::{LinkId, NoMemory, Text};
@@ -60,14 +60,14 @@ pub(crate) fn set_blocked(rows: &mut [Row], link: LinkId, blocked: bool)
 
 /// Notes that no link is blocked any more.
 pub(crate) fn free_all(rows: &mut [Row])
-    ensures { rows.new ≡ map freed rows.old }
+    ensures { rows.new ≡ map freed_row rows.old }
 {
     for row in rows.iter_mut() {
         row.blocked = false;
     }
 }
 
-/// Puts bytes behind what was sent on a link that is there.
+/// Puts bytes after what was sent on a link that is there.
 pub(crate) fn send(rows: &mut [Row], link: LinkId, bytes: &[u8]) -> Result<(), NoMemory>
     requires { IsTrue (row_at link.0 rows.old).is_open }
     ensures ok { OnOk result (rows.new ≡ slice_set rows.old link.0 (let row = row_at link.0 rows.old in record row { sent = row.sent ++ bytes.now; blocked = false })) }
@@ -85,7 +85,7 @@ pub(crate) fn send(rows: &mut [Row], link: LinkId, bytes: &[u8]) -> Result<(), N
 
 /// Gives a link up.
 pub(crate) fn close(rows: &mut [Row], link: LinkId)
-    ensures { rows.new ≡ slice_set rows.old link.0 (closed (row_at link.0 rows.old)) }
+    ensures { rows.new ≡ slice_set rows.old link.0 (closed_row (row_at link.0 rows.old)) }
 {
     let place = link.0 as usize;
     if place < rows.len() {

@@ -14,7 +14,7 @@ pub(crate) struct Script {
     ghost within: { released ≤ length steps },
 }
 
-/// How many steps stand before the next wake.
+/// How many steps are before the next wake.
 fn steps_before_wake(steps: &[Scripted]) -> usize
     ensures { result ≤ length steps.now }
 {
@@ -24,7 +24,7 @@ fn steps_before_wake(steps: &[Scripted]) -> usize
         .unwrap_or(steps.len())
 }
 
-/// Where the next step of a source stands.
+/// Where the next step of a source is.
 fn next_step(steps: &[Scripted], source: Token) -> Option<usize>
     ensures { IfSome result (λ place. place < length steps.now) }
 {

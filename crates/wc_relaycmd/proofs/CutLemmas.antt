@@ -2,7 +2,7 @@
 use Rattle.std.proofs.Common.{◌≡◌, ℕ, ◌+◌, ◌-◌, ◌≤◌, ◌<◌, List, [], ◌∷◌, ◌++◌, length, take, refl, ap, sym, ◌∙◌, arith, length-append, subst, Some}
 use Rattle.std.proofs.lemmas.Bool.Decides.{nat_tests}
 use Rattle.std.proofs.lemmas.List.{take_at}
-use Rattle.wc_relaycmd.specs.Cuts.{before, onward, behind}
+use Rattle.wc_relaycmd.specs.Cuts.{before, onward, following}
 
 -- the two parts are the text
 pub before-onward : (c : ℕ) (text : List ℕ) → before c text ++ onward c text ≡ text
@@ -22,9 +22,9 @@ before_by_length c text =
     let P : List ℕ → Type 0 = λ t. take (length text - length (onward c text)) t ≡ before c text in
     subst P (before-onward c text) (take_at (before c text) (onward c text) _ n)
 
--- what stands behind the first c is shorter than the text
-pub length-behind : (c : ℕ) (text rest : List ℕ) → behind c text ≡ Some rest → length rest < length text
-length-behind c [] rest some = absurd (cc)
-length-behind c (b ∷ text) rest some = grind (arith, nat_tests, length-behind c text rest)
+-- what comes after the first c is shorter than the text
+pub length-following : (c : ℕ) (text rest : List ℕ) → following c text ≡ Some rest → length rest < length text
+length-following c [] rest some = absurd (cc)
+length-following c (b ∷ text) rest some = grind (arith, nat_tests, length-following c text rest)
 
-pub ruleset cuts = (length-onward, before_by_length, length-before-onward, length-behind)
+pub ruleset cuts = (length-onward, before_by_length, length-before-onward, length-following)

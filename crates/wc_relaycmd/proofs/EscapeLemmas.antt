@@ -4,26 +4,26 @@ use Rattle.std.proofs.lemmas.Bool.{false≢true}
 use Rattle.std.proofs.lemmas.Bool.Decides.{nat_tests}
 use Rattle.wc_relaycmd.specs.Cuts.{before, onward}
 use Rattle.wc_relaycmd.proofs.CutLemmas.{before-onward}
-use Rattle.wc_relaycmd.specs.Escapes.{unescaped}
+use Rattle.wc_relaycmd.specs.Escapes.{without_escapes}
 
 -- up to its first `\` a text means itself
-pub unescaped_cut : (text : List ℕ) → before 92 text ++ unescaped (onward 92 text) ≡ unescaped text
+pub unescaped_cut : (text : List ℕ) → before 92 text ++ without_escapes (onward 92 text) ≡ without_escapes text
 unescaped_cut [] = refl
 unescaped_cut (b ∷ []) = grind (arith, nat_tests)
 unescaped_cut (b ∷ c ∷ text) = by (eqb b 92) refl (unescaped_cut (c ∷ text)) where
-  by : (t : Bool) → eqb b 92 ≡ t → before 92 (c ∷ text) ++ unescaped (onward 92 (c ∷ text)) ≡ unescaped (c ∷ text) → before 92 (b ∷ c ∷ text) ++ unescaped (onward 92 (b ∷ c ∷ text)) ≡ unescaped (b ∷ c ∷ text)
-  by true e rest = ap (λ t. cond t [] (b ∷ before 92 (c ∷ text)) ++ unescaped (cond t (b ∷ c ∷ text) (onward 92 (c ∷ text)))) e
+  by : (t : Bool) → eqb b 92 ≡ t → before 92 (c ∷ text) ++ without_escapes (onward 92 (c ∷ text)) ≡ without_escapes (c ∷ text) → before 92 (b ∷ c ∷ text) ++ without_escapes (onward 92 (b ∷ c ∷ text)) ≡ without_escapes (b ∷ c ∷ text)
+  by true e rest = ap (λ t. cond t [] (b ∷ before 92 (c ∷ text)) ++ without_escapes (cond t (b ∷ c ∷ text) (onward 92 (c ∷ text)))) e
   by false e rest =
-      ap (λ t. cond t [] (b ∷ before 92 (c ∷ text)) ++ unescaped (cond t (b ∷ c ∷ text) (onward 92 (c ∷ text)))) e ∙ ap (λ t. b ∷ t) rest ∙
-      sym (ap (λ t. cond (t && eqb c 92) (92 ∷ unescaped text) (cond (t && eqb c 110) (10 ∷ unescaped text) (b ∷ unescaped (c ∷ text)))) e)
+      ap (λ t. cond t [] (b ∷ before 92 (c ∷ text)) ++ without_escapes (cond t (b ∷ c ∷ text) (onward 92 (c ∷ text)))) e ∙ ap (λ t. b ∷ t) rest ∙
+      sym (ap (λ t. cond (t && eqb c 92) (92 ∷ without_escapes text) (cond (t && eqb c 110) (10 ∷ without_escapes text) (b ∷ without_escapes (c ∷ text)))) e)
 
--- what is read so far, and a run and what stands at the front behind it
-pub unescaped_more : (plain with_run new run rest back front more text : List ℕ) → plain ++ unescaped rest ≡ unescaped text → run ≡ before 92 rest → back ≡ onward 92 rest →
-    unescaped back ≡ front ++ unescaped more → with_run ≡ plain ++ run → new ≡ with_run ++ front → new ++ unescaped more ≡ unescaped text
-unescaped_more plain with_run new run rest back front more text so_far cut behind read first second =
-    ap (λ t. t ++ unescaped more) (second ∙ ap (λ t. t ++ front) (first ∙ ap (λ r. plain ++ r) cut)) ∙
-    append_assoc (plain ++ before 92 rest) front (unescaped more) ∙ ap (λ t. (plain ++ before 92 rest) ++ t) (sym read ∙ ap unescaped behind) ∙
-    append_assoc plain (before 92 rest) (unescaped (onward 92 rest)) ∙ ap (λ t. plain ++ t) (unescaped_cut rest) ∙ so_far
+-- what is read so far, and a run and what is at the front after it
+pub unescaped_more : (plain with_run new run rest back front more text : List ℕ) → plain ++ without_escapes rest ≡ without_escapes text → run ≡ before 92 rest → back ≡ onward 92 rest →
+    without_escapes back ≡ front ++ without_escapes more → with_run ≡ plain ++ run → new ≡ with_run ++ front → new ++ without_escapes more ≡ without_escapes text
+unescaped_more plain with_run new run rest back front more text so_far cut following read first second =
+    ap (λ t. t ++ without_escapes more) (second ∙ ap (λ t. t ++ front) (first ∙ ap (λ r. plain ++ r) cut)) ∙
+    append_assoc (plain ++ before 92 rest) front (without_escapes more) ∙ ap (λ t. (plain ++ before 92 rest) ++ t) (sym read ∙ ap without_escapes following) ∙
+    append_assoc plain (before 92 rest) (without_escapes (onward 92 rest)) ∙ ap (λ t. plain ++ t) (unescaped_cut rest) ∙ so_far
 
 -- each turn leaves less
 pub shrinks : (rest back more : List ℕ) (empty : Bool) → empty ≡ eqb (length rest) 0 → empty ≡ false → length back ≤ length rest → length more ≤ length back → (0 < length back → length more < length back) → length more < length rest
@@ -32,6 +32,6 @@ shrinks (b ∷ rest) [] more empty is some within less moves = omega arith
 shrinks (b ∷ rest) (c ∷ back) more empty is some within less moves = let shorter : length more < length (c ∷ back) = moves (omega arith) in omega arith
 
 -- a text without a `\` means itself
-pub unescaped-plain : (text : List ℕ) → onward 92 text ≡ [] → unescaped text ≡ text
+pub unescaped-plain : (text : List ℕ) → onward 92 text ≡ [] → without_escapes text ≡ text
 unescaped-plain text none =
-    sym (unescaped_cut text) ∙ ap (λ t. before 92 text ++ unescaped t) none ∙ ap (λ t. before 92 text ++ t) (sym none) ∙ before-onward 92 text
+    sym (unescaped_cut text) ∙ ap (λ t. before 92 text ++ without_escapes t) none ∙ ap (λ t. before 92 text ++ t) (sym none) ∙ before-onward 92 text

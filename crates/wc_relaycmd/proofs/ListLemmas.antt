@@ -3,26 +3,26 @@ use Rattle.std.proofs.Common.{◌≡◌, ◌≢◌, ℕ, List, [], ◌∷◌, �
 use Rattle.std.specs.List.{onto_first, filter_map, cons_option}
 use Rattle.wc_text.specs.declared.names.Pair.{Pair}
 use Rattle.std.specs.Option.{option_to_list}
-use Rattle.wc_relaycmd.specs.Cuts.{before, behind}
+use Rattle.wc_relaycmd.specs.Cuts.{before, following}
 use Rattle.wc_relaycmd.specs.Lists.{pieces_of, items_of, pair_in, pairs_of}
 use Rattle.wc_relaycmd.proofs.SplitLemmas.{slice_split_last, slice_split_more}
 
 -- items, the first with more bytes at its front
-abbrev pub items_behind : List ℕ → List (List ℕ) → List (List ℕ)
-items_behind front [] = front ∷ []
-items_behind front (item ∷ items) = (front ++ item) ∷ items
+abbrev pub items_after : List ℕ → List (List ℕ) → List (List ℕ)
+items_after front [] = front ∷ []
+items_after front (item ∷ items) = (front ++ item) ∷ items
 
-pub items_behind-onto_first : (front : List ℕ) (b : ℕ) (items : List (List ℕ)) → items_behind front (onto_first b items) ≡ items_behind (front ++ b ∷ []) items
-items_behind-onto_first front b [] = refl
-items_behind-onto_first front b (item ∷ items) = ap (λ first. first ∷ items) (sym (append_assoc front (b ∷ []) item))
+pub items_after-onto_first : (front : List ℕ) (b : ℕ) (items : List (List ℕ)) → items_after front (onto_first b items) ≡ items_after (front ++ b ∷ []) items
+items_after-onto_first front b [] = refl
+items_after-onto_first front b (item ∷ items) = ap (λ first. first ∷ items) (sym (append_assoc front (b ∷ []) item))
 
 -- the pieces so far, and the last one
-pub pieces_end : (front new all : List (List ℕ)) (piece rest : List ℕ) → front ++ pieces_of rest ≡ all → piece ≡ before 44 rest → None ≡ behind 44 rest → new ≡ front ++ piece ∷ [] → new ≡ all
+pub pieces_end : (front new all : List (List ℕ)) (piece rest : List ℕ) → front ++ pieces_of rest ≡ all → piece ≡ before 44 rest → None ≡ following 44 rest → new ≡ front ++ piece ∷ [] → new ≡ all
 pieces_end front new all piece rest so_far cut none pushed =
     pushed ∙ ap (λ p. front ++ p ∷ []) cut ∙ ap (λ ps. front ++ ps) (sym (slice_split_last 44 rest (sym none))) ∙ so_far
 
 -- the pieces so far, and one more
-pub pieces_more : (front new all : List (List ℕ)) (piece rest more : List ℕ) → front ++ pieces_of rest ≡ all → piece ≡ before 44 rest → Some more ≡ behind 44 rest → new ≡ front ++ piece ∷ [] → new ++ pieces_of more ≡ all
+pub pieces_more : (front new all : List (List ℕ)) (piece rest more : List ℕ) → front ++ pieces_of rest ≡ all → piece ≡ before 44 rest → Some more ≡ following 44 rest → new ≡ front ++ piece ∷ [] → new ++ pieces_of more ≡ all
 pieces_more front new all piece rest more so_far cut some pushed =
     ap (λ ps. ps ++ pieces_of more) (pushed ∙ ap (λ p. front ++ p ∷ []) cut) ∙
     append_assoc front (before 44 rest ∷ []) (pieces_of more) ∙ ap (λ ps. front ++ ps) (sym (slice_split_more 44 rest more (sym some))) ∙ so_far
@@ -49,18 +49,18 @@ pairs_more front new all pair text item rest more so_far items same found pushed
     ap (λ is. front ++ filter_map pair_in is) (sym items) ∙ so_far
 
 -- an item so far, and one more byte
-pub item_more : (item new rest more list : List ℕ) (b : ℕ) → items_behind item (items_of rest) ≡ items_of list → items_of rest ≡ onto_first b (items_of more) → new ≡ item ++ b ∷ [] → items_behind new (items_of more) ≡ items_of list
+pub item_more : (item new rest more list : List ℕ) (b : ℕ) → items_after item (items_of rest) ≡ items_of list → items_of rest ≡ onto_first b (items_of more) → new ≡ item ++ b ∷ [] → items_after new (items_of more) ≡ items_of list
 item_more item new rest more list b so_far front pushed =
-    ap (λ i. items_behind i (items_of more)) pushed ∙ sym (items_behind-onto_first item b (items_of more)) ∙ ap (items_behind item) (sym front) ∙ so_far
+    ap (λ i. items_after i (items_of more)) pushed ∙ sym (items_after-onto_first item b (items_of more)) ∙ ap (items_after item) (sym front) ∙ so_far
 
 -- an item that ends
-pub item_end : (item rest list : List ℕ) (others : List (List ℕ)) → items_behind item (items_of rest) ≡ items_of list → items_of rest ≡ [] ∷ others → items_of list ≡ item ∷ others
+pub item_end : (item rest list : List ℕ) (others : List (List ℕ)) → items_after item (items_of rest) ≡ items_of list → items_of rest ≡ [] ∷ others → items_of list ≡ item ∷ others
 item_end item rest list others so_far front =
-    sym so_far ∙ ap (items_behind item) front ∙ ap (λ i. i ∷ others) (append-nil item)
+    sym so_far ∙ ap (items_after item) front ∙ ap (λ i. i ∷ others) (append-nil item)
 
-pub items_behind-nil : (items : List (List ℕ)) (item : List ℕ) → item ≡ [] → items ≢ [] → items_behind item items ≡ items
-items_behind-nil [] item nil some = absurd (some refl)
-items_behind-nil (first ∷ items) item nil some = ap (λ i. (i ++ first) ∷ items) nil
+pub items_after-nil : (items : List (List ℕ)) (item : List ℕ) → item ≡ [] → items ≢ [] → items_after item items ≡ items
+items_after-nil [] item nil some = absurd (some refl)
+items_after-nil (first ∷ items) item nil some = ap (λ i. (i ++ first) ∷ items) nil
 
 pub onto_first-filled : (b : ℕ) (items : List (List ℕ)) → onto_first b items ≢ []
 onto_first-filled b [] e = cc

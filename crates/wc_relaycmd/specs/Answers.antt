@@ -9,32 +9,32 @@ use Rattle.wc_relaycmd.specs.declared.request.Command.{Command}
 use Rattle.wc_relaycmd.specs.declared.request.Command.TheVariants as Commands
 use Rattle.wc_relaycmd.specs.declared.request.Request.{Request}
 use Rattle.wc_text.specs.Integer.{integer_of}
-use Rattle.wc_relaycmd.specs.Cuts.{before, behind, past}
+use Rattle.wc_relaycmd.specs.Cuts.{before, following, past}
 use Rattle.wc_relaycmd.specs.Words.{word_of, rest_of}
 use Rattle.wc_relaycmd.specs.Lists.{pieces_of, pairs_of}
-use Rattle.wc_relaycmd.specs.Escapes.{meant}
+use Rattle.wc_relaycmd.specs.Escapes.{arguments_meant}
 use Rattle.wc_relaycmd.specs.Grammar.{word_named}
 
 -- this value, where the text is not empty
-abbrev pub filled : {A : Type 0} → List ℕ → A → Option A
-filled [] value = None
-filled (b ∷ text) value = Some value
+abbrev pub if_filled : {A : Type 0} → List ℕ → A → Option A
+if_filled [] value = None
+if_filled (b ∷ text) value = Some value
 
 -- the first word of the text, where the text is not empty
 abbrev pub leading_of : List ℕ → Option (List ℕ)
-leading_of text = filled text (word_of text)
+leading_of text = if_filled text (word_of text)
 
 abbrev pub second_of : List ℕ → List ℕ
 second_of text = word_of (rest_of text)
 
 abbrev pub init_of : List ℕ → Option Command
-init_of text = filled text (Commands.Init (pairs_of text))
+init_of text = if_filled text (Commands.Init (pairs_of text))
 
 abbrev pub hdata_of : List ℕ → Option Command
-hdata_of text = filled text (Commands.Hdata (word_of text) (second_of text))
+hdata_of text = if_filled text (Commands.Hdata (word_of text) (second_of text))
 
 abbrev pub input_of : List ℕ → Option Command
-input_of text = option_and_then (λ typed. filled typed (Commands.Input (word_of text) typed)) (behind 32 text)
+input_of text = option_and_then (λ typed. if_filled typed (Commands.Input (word_of text) typed)) (following 32 text)
 
 unfoldable pub completion_of : List ℕ → Option Command
 completion_of [] = None
@@ -46,7 +46,7 @@ buffers_of [] = codes "*" ∷ []
 buffers_of (b ∷ text) = pieces_of (word_of (b ∷ text))
 
 abbrev pub options_of : List ℕ → Option (List (List ℕ))
-options_of text = filled (second_of text) (pieces_of (second_of text))
+options_of text = if_filled (second_of text) (pieces_of (second_of text))
 
 -- what a command's arguments ask
 unfoldable pub command_of : Word → List ℕ → Option Command
@@ -67,7 +67,7 @@ command_of Words.Quit text = Some Commands.Quit
 -- an id up to its `)`, and what follows it
 abbrev pub named_tag : List ℕ → Option (List ℕ × List ℕ)
 named_tag [] = None
-named_tag (b ∷ text) = if b == 95 then None else option_map (λ rest. (before 41 (b ∷ text), rest)) (behind 41 (b ∷ text))
+named_tag (b ∷ text) = if b == 95 then None else option_map (λ rest. (before 41 (b ∷ text), rest)) (following 41 (b ∷ text))
 
 -- the id of a text, empty where it has none, and what follows it
 abbrev pub tag_of : List ℕ → Option (List ℕ × List ℕ)
@@ -83,8 +83,8 @@ pub record Called : Type 0 where
   pub word : Word
   pub arguments : List ℕ
 
-abbrev pub called : Call → Called
-called call = record { id = call.id.now; word = call.word; arguments = call.arguments.now }
+abbrev pub call_named : Call → Called
+call_named call = record { id = call.id.now; word = call.word; arguments = call.arguments.now }
 
 abbrev pub called_by : List ℕ → List ℕ → Option Called
 called_by id text = option_map (λ word. record { id = id; word = word; arguments = rest_of text }) (word_named (word_of text))
@@ -95,7 +95,7 @@ call_of line = option_and_then (λ (tag : List ℕ × List ℕ). called_by tag.0
 
 -- the request of a call
 unfoldable pub asked_by : Bool → Called → Option Request
-asked_by escaped call = option_map (λ command. record { id = call.id; command = command }) (command_of call.word (meant escaped call.arguments))
+asked_by escaped call = option_map (λ command. record { id = call.id; command = command }) (command_of call.word (arguments_meant escaped call.arguments))
 
 -- the request of a line, where it has one
 unfoldable pub request_of : Bool → List ℕ → Option Request

@@ -11,10 +11,10 @@ abbrev pub onward : ℕ → List ℕ → List ℕ
 onward c [] = []
 onward c (b ∷ text) = if b == c then b ∷ text else onward c text
 
--- the bytes behind the first c, where there is one
-abbrev pub behind : ℕ → List ℕ → Option (List ℕ)
-behind c [] = None
-behind c (b ∷ text) = if b == c then Some text else behind c text
+-- the bytes after the first c, where there is one
+abbrev pub following : ℕ → List ℕ → Option (List ℕ)
+following c [] = None
+following c (b ∷ text) = if b == c then Some text else following c text
 
 -- the text without each c at its front
 abbrev pub past : ℕ → List ℕ → List ℕ
@@ -22,11 +22,11 @@ past c [] = []
 past c (b ∷ text) = if b == c then past c text else b ∷ text
 
 -- no byte of the text is c
-abbrev pub Lacks : ℕ → List ℕ → Type 0
-Lacks c [] = Unit {0}
-Lacks c (b ∷ text) = (b ≢ c) × Lacks c text
+abbrev pub LacksByte : ℕ → List ℕ → Type 0
+LacksByte c [] = Unit {0}
+LacksByte c (b ∷ text) = (b ≢ c) × LacksByte c text
 
 -- the first byte of the text, if it has one, is not c
-abbrev pub BeginsWithout : ℕ → List ℕ → Type 0
-BeginsWithout c [] = Unit {0}
-BeginsWithout c (b ∷ text) = b ≢ c
+abbrev pub FirstByteIsNot : ℕ → List ℕ → Type 0
+FirstByteIsNot c [] = Unit {0}
+FirstByteIsNot c (b ∷ text) = b ≢ c

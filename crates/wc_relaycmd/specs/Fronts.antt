@@ -6,7 +6,7 @@ use Rattle.wc_relaycmd.specs.declared.lists.Front.TheVariants.{Ends, Goes}
 use Rattle.wc_relaycmd.specs.Lists.{items_of}
 
 -- how the items of a list go on
-abbrev pub IsFront : List ℕ → Front → Type 0
-IsFront list (Ends None) = list ≡ []
-IsFront list (Ends (Some behind)) = (items_of list ≡ [] ∷ items_of behind.now) × (length behind.now < length list)
-IsFront list (Goes byte behind) = (items_of list ≡ onto_first byte (items_of behind.now)) × (length behind.now < length list)
+abbrev pub IsListFront : List ℕ → Front → Type 0
+IsListFront list (Ends None) = list ≡ []
+IsListFront list (Ends (Some following)) = (items_of list ≡ [] ∷ items_of following.now) × (length following.now < length list)
+IsListFront list (Goes byte following) = (items_of list ≡ onto_first byte (items_of following.now)) × (length following.now < length list)

@@ -8,10 +8,10 @@ use Rattle.wc_relaycmd.specs.declared.request.Command.{Command}
 use Rattle.wc_relaycmd.specs.declared.request.Command.TheVariants as Commands
 use Rattle.wc_relaycmd.specs.declared.request.Request.{Request}
 use Rattle.wc_text.specs.Integer.{integer_of}
-use Rattle.wc_relaycmd.specs.Cuts.{Lacks}
-use Rattle.wc_relaycmd.specs.Words.{blanks, Parts}
+use Rattle.wc_relaycmd.specs.Cuts.{LacksByte}
+use Rattle.wc_relaycmd.specs.Words.{blanks, WordAndBlanks}
 use Rattle.wc_relaycmd.specs.Lists.{pieces_of, pairs_of}
-use Rattle.wc_relaycmd.specs.Escapes.{meant}
+use Rattle.wc_relaycmd.specs.Escapes.{arguments_meant}
 
 -- how each command is written
 abbrev pub name_of : Word → List ℕ
@@ -41,14 +41,14 @@ word_named text = find (λ word. bytes_eq text (name_of word)) all_words
 -- an id has no `)` and does not begin with `_`
 abbrev pub IsId : List ℕ → Type 0
 IsId [] = Unit {0}
-IsId (b ∷ id) = (b ≢ 95) × Lacks 41 (b ∷ id)
+IsId (b ∷ id) = (b ≢ 95) × LacksByte 41 (b ∷ id)
 
--- An id stands in parentheses; where nothing stands the id is empty.
+-- An id is in parentheses; where there is nothing, the id is empty.
 abbrev pub IsTag : List ℕ → List ℕ → Type 0
 IsTag [] id = id ≡ []
 IsTag (b ∷ tag) id = (b ≡ 40) × (tag ≡ id ++ 41 ∷ []) × IsId id
 
--- A line is blanks, an id or none, blanks, the name of a command, and behind blanks its arguments.
+-- A line is blanks, an id or none, blanks, the name of a command, and after blanks its arguments.
 pub record Calls (line id : List ℕ) (word : Word) (arguments : List ℕ) : Type 0 where
   pub margin : ℕ
   pub tag : List ℕ
@@ -56,7 +56,7 @@ pub record Calls (line id : List ℕ) (word : Word) (arguments : List ℕ) : Typ
   pub call : List ℕ
   pub spelled : line ≡ blanks margin ++ (tag ++ (blanks gap ++ call))
   pub tagged : IsTag tag id
-  pub called : Parts call (name_of word) arguments
+  pub called : WordAndBlanks call (name_of word) arguments
 
 -- a line that is text and calls a command
 pub record HasCommand (line : List ℕ) : Type 0 where
@@ -69,9 +69,9 @@ pub record HasCommand (line : List ℕ) : Type 0 where
 -- A text is two words, of which the second may be empty, and what follows them.
 pub record TwoParts (text first second rest : List ℕ) : Type 0 where
   pub filled : first ≢ []
-  pub behind : List ℕ
-  pub front : Parts text first behind
-  pub back : Parts behind second rest
+  pub following : List ℕ
+  pub front : WordAndBlanks text first following
+  pub back : WordAndBlanks following second rest
 
 -- what follows the buffers of `sync` and `desync`: one word of options, or none
 abbrev pub AreOptions : List ℕ → Option (List (List ℕ)) → Type 0
@@ -87,18 +87,18 @@ Selects (b ∷ text) buffers options = (first second rest : List ℕ) ×
 -- `nicklist` alone, or with a buffer
 abbrev pub AsksNicks : List ℕ → Command → Type 0
 AsksNicks [] command = command ≡ Commands.Nicklist None
-AsksNicks (b ∷ text) command = (buffer rest : List ℕ) × Parts (b ∷ text) buffer rest × (command ≡ Commands.Nicklist (Some buffer))
+AsksNicks (b ∷ text) command = (buffer rest : List ℕ) × WordAndBlanks (b ∷ text) buffer rest × (command ≡ Commands.Nicklist (Some buffer))
 
 -- what a command's arguments ask
 unfoldable pub Asks : Word → List ℕ → Command → Type 0
 Asks Words.Handshake text command = command ≡ Commands.Handshake (pairs_of text)
 Asks Words.Init text command = (text ≢ []) × (command ≡ Commands.Init (pairs_of text))
 Asks Words.Hdata text command = (path keys rest : List ℕ) × TwoParts text path keys rest × (command ≡ Commands.Hdata path keys)
-Asks Words.Info text command = (name rest : List ℕ) × (name ≢ []) × Parts text name rest × (command ≡ Commands.Info name)
-Asks Words.Infolist text command = (name rest : List ℕ) × (name ≢ []) × Parts text name rest × (command ≡ Commands.Infolist name)
+Asks Words.Info text command = (name rest : List ℕ) × (name ≢ []) × WordAndBlanks text name rest × (command ≡ Commands.Info name)
+Asks Words.Infolist text command = (name rest : List ℕ) × (name ≢ []) × WordAndBlanks text name rest × (command ≡ Commands.Infolist name)
 Asks Words.Nicklist text command = AsksNicks text command
 Asks Words.Input text command = (buffer typed : List ℕ) × (buffer ≢ []) × (typed ≢ []) ×
-    Lacks 32 buffer × (text ≡ buffer ++ 32 ∷ typed) × (command ≡ Commands.Input buffer typed)
+    LacksByte 32 buffer × (text ≡ buffer ++ 32 ∷ typed) × (command ≡ Commands.Input buffer typed)
 Asks Words.Completion text command = (buffer number typed : List ℕ) × (position : ℤ) ×
     TwoParts text buffer number typed × (integer_of number ≡ Some position) × (command ≡ Commands.Completion buffer position typed)
 Asks Words.Sync text command = (buffers : List (List ℕ)) × (options : Option (List (List ℕ))) ×
@@ -111,9 +111,9 @@ Asks Words.Quit text command = command ≡ Commands.Quit
 
 -- The request that a line spells: its id, and what the arguments of its command ask, whose escapes are read first
 -- where they are on.
-pub record Reads (line : List ℕ) (escaped : Bool) (request : Request) : Type 0 where
+pub record ReadsRequest (line : List ℕ) (escaped : Bool) (request : Request) : Type 0 where
   pub utf8 : IsUtf8 line
   pub word : Word
   pub arguments : List ℕ
   pub calls : Calls line request.id word arguments
-  pub asks : Asks word (meant escaped arguments) request.command
+  pub asks : Asks word (arguments_meant escaped arguments) request.command

@@ -52,21 +52,21 @@ unfoldable pub login_of : List Pair → Option Login
 login_of pairs = login_with (last_value (codes "password") pairs) (last_value (codes "password_hash") pairs)
 
 -- these bytes are the digest of the message
-abbrev pub IsDigest : Algorithm → List ℕ → List ℕ → Type 0
-IsDigest Plain message digest = ⊥
-IsDigest Sha256 message digest = digest ≡ sha256 message
-IsDigest Sha512 message digest = digest ≡ sha512 message
+abbrev pub IsDigestOf : Algorithm → List ℕ → List ℕ → Type 0
+IsDigestOf Plain message digest = ⊥
+IsDigestOf Sha256 message digest = digest ≡ sha256 message
+IsDigestOf Sha512 message digest = digest ≡ sha512 message
 
--- a salt begins with the nonce and has more behind it
+-- a salt begins with the nonce and has more after it
 abbrev pub IsSalted : List ℕ → List ℕ → Type 0
 IsSalted salt nonce = (more : List ℕ) × (salt ≡ nonce ++ more) × (more ≢ [])
 
 -- A hash login is made with the chosen algorithm and a salt for this nonce, and its hash is that of the salt and the
--- password behind it.
+-- password after it.
 pub record Proves (login : HashLogin) (password nonce : List ℕ) (chosen : Algorithm) : Type 0 where
   pub algorithm : login.algorithm ≡ chosen
   pub salted : IsSalted login.salt nonce
-  pub hashed : IsDigest chosen (login.salt ++ password) login.hash
+  pub hashed : IsDigestOf chosen (login.salt ++ password) login.hash
 
 -- Where the password is empty nobody is let in. Where a hash is given it alone decides; else the plain password does,
 -- where `plain` was chosen.

@@ -6,9 +6,9 @@ use Rattle.wc_relaycmd.specs.declared.request.Command.{Command}
 use Rattle.wc_relaycmd.specs.declared.request.Command.TheVariants as Commands
 use Rattle.wc_relaycmd.specs.declared.request.Request.{Request}
 
-abbrev pub AllUtf8 : List (List ℕ) → Type 0
-AllUtf8 [] = Unit {0}
-AllUtf8 (text ∷ texts) = IsUtf8 text × AllUtf8 texts
+abbrev pub AreUtf8Words : List (List ℕ) → Type 0
+AreUtf8Words [] = Unit {0}
+AreUtf8Words (text ∷ texts) = IsUtf8 text × AreUtf8Words texts
 
 abbrev pub PairsUtf8 : List Pair → Type 0
 PairsUtf8 [] = Unit {0}
@@ -16,7 +16,7 @@ PairsUtf8 (pair ∷ pairs) = (IsUtf8 pair.name × IsUtf8 pair.value) × PairsUtf
 
 abbrev pub OptionsUtf8 : Option (List (List ℕ)) → Type 0
 OptionsUtf8 None = Unit {0}
-OptionsUtf8 (Some texts) = AllUtf8 texts
+OptionsUtf8 (Some texts) = AreUtf8Words texts
 
 abbrev pub OptionUtf8 : Option (List ℕ) → Type 0
 OptionUtf8 None = Unit {0}
@@ -32,13 +32,13 @@ CommandUtf8 (Commands.Infolist name) = IsUtf8 name
 CommandUtf8 (Commands.Nicklist buffer) = OptionUtf8 buffer
 CommandUtf8 (Commands.Input buffer text) = IsUtf8 buffer × IsUtf8 text
 CommandUtf8 (Commands.Completion buffer position text) = IsUtf8 buffer × IsUtf8 text
-CommandUtf8 (Commands.Sync buffers options) = AllUtf8 buffers × OptionsUtf8 options
-CommandUtf8 (Commands.Desync buffers options) = AllUtf8 buffers × OptionsUtf8 options
+CommandUtf8 (Commands.Sync buffers options) = AreUtf8Words buffers × OptionsUtf8 options
+CommandUtf8 (Commands.Desync buffers options) = AreUtf8Words buffers × OptionsUtf8 options
 CommandUtf8 Commands.Test = Unit {0}
 CommandUtf8 (Commands.Ping text) = IsUtf8 text
 CommandUtf8 Commands.Quit = Unit {0}
 
 -- each text of a request is UTF-8
-pub record HasUtf8 (request : Request) : Type 0 where
+pub record RequestIsUtf8 (request : Request) : Type 0 where
   pub id : IsUtf8 request.id
   pub command : CommandUtf8 request.command

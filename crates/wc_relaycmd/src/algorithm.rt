@@ -48,7 +48,7 @@ fn is_common(offered: &[u8], allowed: &[u8], algorithm: Algorithm) -> bool
     is_offered(offered, algorithm.name()) && is_allowed(allowed, algorithm.name())
 }
 
-/// The strongest algorithm that stands in the client's list, whose names colons part, and is allowed: some mask of the
+/// The strongest algorithm that is in the client's list, whose names colons part, and is allowed: some mask of the
 /// option, whose masks commas part, matches its name with case kept. None where there is no such algorithm.
 pub fn choose_algorithm(offered: &[u8], allowed: &[u8]) -> Option<Algorithm>
     ensures { result ≡ choice_of offered.now allowed.now }

@@ -1,5 +1,5 @@
 ghost use Rattle.std.specs.Prelude.{◌≡◌, IfOk, option_map};
-ghost use Rattle.wc_relaycmd.specs.Answers.{leading_of, init_of, hdata_of, input_of, completion_of, buffers_of, options_of, command_of, filled};
+ghost use Rattle.wc_relaycmd.specs.Answers.{leading_of, init_of, hdata_of, input_of, completion_of, buffers_of, options_of, command_of, if_filled};
 ghost use Rattle.wc_relaycmd.specs.Lists.{pieces_of};
 
 use crate::cuts::{cut_word, split_once};
@@ -35,8 +35,8 @@ fn hdata(alloc: Global, text: &[u8]) -> Result<Option<Command>, NoMemory>
     if text.is_empty() {
         return Ok(None);
     }
-    let (path, behind) = cut_word(text);
-    let (keys, _) = cut_word(behind);
+    let (path, following) = cut_word(text);
+    let (keys, _) = cut_word(following);
     let path = Text::from_slice(alloc, path)?;
     let keys = Text::from_slice(alloc, keys)?;
     Ok(Some(Command::Hdata { path, keys }))
@@ -46,8 +46,8 @@ fn hdata(alloc: Global, text: &[u8]) -> Result<Option<Command>, NoMemory>
 fn input(alloc: Global, text: &[u8]) -> Result<Option<Command>, NoMemory>
     ensures { IfOk result (λ command. command ≡ input_of text.now) }
 {
-    let (buffer, behind) = split_once(text, b' ');
-    let Some(typed) = behind else {
+    let (buffer, following) = split_once(text, b' ');
+    let Some(typed) = following else {
         return Ok(None);
     };
     if typed.is_empty() {
@@ -66,8 +66,8 @@ fn completion(alloc: Global, text: &[u8]) -> Result<Option<Command>, NoMemory>
     if text.is_empty() {
         return Ok(None);
     }
-    let (buffer, behind) = cut_word(text);
-    let (number, typed) = cut_word(behind);
+    let (buffer, following) = cut_word(text);
+    let (number, typed) = cut_word(following);
     let Some(position) = read_i64(number) else {
         return Ok(None);
     };
@@ -97,8 +97,8 @@ fn buffers(alloc: Global, text: &[u8]) -> Result<Items<Text>, NoMemory>
 fn options(alloc: Global, text: &[u8]) -> Result<Option<Items<Text>>, NoMemory>
     ensures { IfOk result (λ options. options ≡ options_of text.now) }
 {
-    let (_, behind) = cut_word(text);
-    let (word, _) = cut_word(behind);
+    let (_, following) = cut_word(text);
+    let (word, _) = cut_word(following);
     if word.is_empty() {
         return Ok(None);
     }

@@ -1,9 +1,9 @@
 ghost use Rattle.std.specs.Prelude.{◌≡◌, ◌↔◌, ℕ, Bool, List, Option, Some, None, IfOk, IfSome, OnErr, IsTrue, option_map};
 ghost use Rattle.std.specs.Str.{IsUtf8};
-ghost use Rattle.wc_relaycmd.specs.Answers.{tag_of, tag_seen, called, call_of, command_of, asked_by, request_of};
-ghost use Rattle.wc_relaycmd.specs.Escapes.{unescaped, meant};
-ghost use Rattle.wc_relaycmd.specs.Grammar.{HasCommand, Reads};
-ghost use Rattle.wc_relaycmd.specs.Utf8.{HasUtf8};
+ghost use Rattle.wc_relaycmd.specs.Answers.{tag_of, tag_seen, call_named, call_of, command_of, asked_by, request_of};
+ghost use Rattle.wc_relaycmd.specs.Escapes.{without_escapes, arguments_meant};
+ghost use Rattle.wc_relaycmd.specs.Grammar.{HasCommand, ReadsRequest};
+ghost use Rattle.wc_relaycmd.specs.Utf8.{RequestIsUtf8};
 ghost use Rattle.wc_relaycmd.specs.declared.request.Request.{Request};
 
 use crate::arguments::command;
@@ -22,7 +22,7 @@ pub struct Call<'a> {
     pub arguments: &'a [u8],
 }
 
-/// The id at the front of a text, empty where none stands there, and what follows it. None where the id begins with
+/// The id at the front of a text, empty where none is there, and what follows it. None where the id begins with
 /// `_`, or its parenthesis is not closed.
 fn cut_tag(text: &[u8]) -> Option<(&[u8], &[u8])>
     ensures { option_map tag_seen result ≡ tag_of text.now }
@@ -33,17 +33,17 @@ fn cut_tag(text: &[u8]) -> Option<(&[u8], &[u8])>
     if let [b'_', ..] = named {
         return None;
     }
-    let (id, behind) = split_once(named, b')');
-    Some((id, behind?))
+    let (id, following) = split_once(named, b')');
+    Some((id, following?))
 }
 
 /// What a line calls. It takes no memory.
 #[tactic(auto, unfolding(crate::specs::Answers::call_of))]
 fn read_call(line: &[u8]) -> Option<Call<'_>>
-    ensures { option_map called result ≡ call_of line.now }
+    ensures { option_map call_named result ≡ call_of line.now }
 {
-    let (id, behind) = cut_tag(past_blanks(line))?;
-    let (name, arguments) = cut_word(past_blanks(behind));
+    let (id, following) = cut_tag(past_blanks(line))?;
+    let (name, arguments) = cut_word(past_blanks(following));
     let word = Word::named(name)?;
     Some(Call {
         id,
@@ -53,13 +53,13 @@ fn read_call(line: &[u8]) -> Option<Call<'_>>
 }
 
 /// What the arguments ask once their escapes are read. A text without a `\` is not copied for it, and one that is
-/// asked for as it stands is moved into the command.
+/// asked for as it is is moved into the command.
 #[tactic(auto, unfolding(crate::specs::Answers::command_of))]
 fn escaped_command(alloc: Global, word: Word, arguments: &[u8]) -> Result<Option<Command>, NoMemory>
-    ensures { IfOk result (λ asked. asked ≡ command_of word (unescaped arguments.now)) }
+    ensures { IfOk result (λ asked. asked ≡ command_of word (without_escapes arguments.now)) }
 {
-    let (_, behind) = cut_at(arguments, b'\\');
-    if behind.is_empty() {
+    let (_, following) = cut_at(arguments, b'\\');
+    if following.is_empty() {
         return command(alloc, word, arguments);
     }
     let text = unescape(alloc, arguments)?;
@@ -75,7 +75,7 @@ fn meant_command(
     arguments: &[u8],
     escaped: bool,
 ) -> Result<Option<Command>, NoMemory>
-    ensures { IfOk result (λ asked. asked ≡ command_of word (meant escaped arguments.now)) }
+    ensures { IfOk result (λ asked. asked ≡ command_of word (arguments_meant escaped arguments.now)) }
 {
     if escaped {
         escaped_command(alloc, word, arguments)
@@ -86,7 +86,7 @@ fn meant_command(
 
 #[tactic(auto, unfolding(crate::specs::Answers::asked_by))]
 fn request_by(alloc: Global, call: Call<'_>, escaped: bool) -> Result<Option<Request>, NoMemory>
-    ensures { IfOk result (λ asked. asked ≡ asked_by escaped (called call.entry)) }
+    ensures { IfOk result (λ asked. asked ≡ asked_by escaped (call_named call.entry)) }
 {
     let Some(command) = meant_command(alloc, call.word, call.arguments, escaped)? else {
         return Ok(None);
@@ -120,15 +120,15 @@ fn request_in(alloc: Global, line: &[u8], escaped: bool) -> Result<Option<Reques
 /// The request that a line of the WeeChat relay protocol spells, where `escaped` says whether the client asked for
 /// `escape_commands`. None exactly where the line is outside the grammar.
 ///
-/// A line that is not UTF-8, or has no command's word behind its optional id, takes no memory.
+/// A line that is not UTF-8, or has no command's word after its optional id, takes no memory.
 pub fn read_request(alloc: Global, line: &[u8], escaped: bool) -> Result<Option<Request>, NoMemory>
     // What is read is in the grammar, and nothing in it is refused.
-    ensures read { IfOk result (λ asked. IfSome asked (Reads line.now escaped)) }
-    ensures unread { result ≡ Ok None → (request : Request) → ¬ (Reads line.now escaped request) }
+    ensures read { IfOk result (λ asked. IfSome asked (ReadsRequest line.now escaped)) }
+    ensures unread { result ≡ Ok None → (request : Request) → ¬ (ReadsRequest line.now escaped request) }
     ensures computed { IfOk result (λ asked. asked ≡ request_of escaped line.now) }
 
     // Each text of the request is UTF-8.
-    ensures texts { IfOk result (λ asked. IfSome asked HasUtf8) }
+    ensures texts { IfOk result (λ asked. IfSome asked RequestIsUtf8) }
     ensures without_memory { ¬ (HasCommand line.now) → result ≡ Ok None }
 {
     request_in(alloc, line, escaped)
@@ -136,6 +136,6 @@ pub fn read_request(alloc: Global, line: &[u8], escaped: bool) -> Result<Option<
 
 /// A line has at most one request, and it is the one that is computed.
 pub fn one_request()
-    ensures one { (line : List ℕ) (escaped : Bool) (a b : Request) → Reads line escaped a → Reads line escaped b → a ≡ b }
-    ensures computed { (line : List ℕ) (escaped : Bool) (request : Request) → Reads line escaped request ↔ (request_of escaped line ≡ Some request) }
+    ensures one { (line : List ℕ) (escaped : Bool) (a b : Request) → ReadsRequest line escaped a → ReadsRequest line escaped b → a ≡ b }
+    ensures computed { (line : List ℕ) (escaped : Bool) (request : Request) → ReadsRequest line escaped request ↔ (request_of escaped line ≡ Some request) }
 {}

@@ -1,7 +1,7 @@
 ghost use Rattle.std.specs.Prelude.{◌≡◌, ◌++◌, ◌<◌, length, IfOk, IfSome, OnOk, option_to_list};
 ghost use Rattle.std.specs.Option.{option_copied};
-ghost use Rattle.wc_relaycmd.specs.Lists.{pieces_of, items_of, taken_from, pair_in, pairs_of, last_value};
-ghost use Rattle.wc_relaycmd.specs.Fronts.{IsFront};
+ghost use Rattle.wc_relaycmd.specs.Lists.{pieces_of, items_of, items_after, pair_in, pairs_of, last_value};
+ghost use Rattle.wc_relaycmd.specs.Fronts.{IsListFront};
 
 use crate::cuts::{past_blanks, split_once};
 use std::alloc::Global;
@@ -14,25 +14,25 @@ pub fn pieces(alloc: Global, text: &[u8]) -> Result<Items<Text>, NoMemory>
     let mut pieces = Items::new(alloc);
     let mut rest = text;
     loop {
-        let (piece, behind) = split_once(rest, b',');
+        let (piece, following) = split_once(rest, b',');
         pieces.push(Text::from_slice(alloc, piece)?)?;
-        let Some(more) = behind else {
+        let Some(more) = following else {
             return Ok(pieces);
         };
         rest = more;
     }
 }
 
-/// What stands at the front of a list.
+/// What is at the front of a list.
 enum Front<'a> {
-    /// Nothing, or a comma that ends the item, and what stands behind it.
+    /// Nothing, or a comma that ends the item, and what comes after it.
     Ends(Option<&'a [u8]>),
-    /// A byte of the item, and what stands behind it.
+    /// A byte of the item, and what comes after it.
     Goes(u8, &'a [u8]),
 }
 
 fn read_front(list: &[u8]) -> Front<'_>
-    ensures { IsFront list.now result }
+    ensures { IsListFront list.now result }
 {
     match list {
         [] => Front::Ends(None),
@@ -42,19 +42,19 @@ fn read_front(list: &[u8]) -> Front<'_>
     }
 }
 
-/// The first item of a list, in which `\,` is a comma, and what stands behind the comma that ends it, if one does.
+/// The first item of a list, in which `\,` is a comma, and what comes after the comma that ends it, if one does.
 fn take_item(alloc: Global, list: &[u8]) -> Result<(Text, Option<&[u8]>), NoMemory>
-    ensures item { IfOk result (λ taken. items_of list.now ≡ taken_from taken.0 (option_copied taken.1)) }
+    ensures item { IfOk result (λ taken. items_of list.now ≡ items_after taken.0 (option_copied taken.1)) }
     ensures shorter { IfOk result (λ taken. IfSome taken.1 (λ rest. length rest.now < length list.now)) }
 {
     let mut item = Text::new(alloc);
     let mut rest = list;
     loop {
         match read_front(rest) {
-            Front::Ends(behind) => return Ok((item, behind)),
-            Front::Goes(byte, behind) => {
+            Front::Ends(following) => return Ok((item, following)),
+            Front::Goes(byte, following) => {
                 item.append(&[byte])?;
-                rest = behind;
+                rest = following;
             }
         }
     }
@@ -64,8 +64,8 @@ fn take_item(alloc: Global, list: &[u8]) -> Result<(Text, Option<&[u8]>), NoMemo
 fn pair(alloc: Global, item: &[u8]) -> Result<Option<Pair>, NoMemory>
     ensures { IfOk result (λ pair. pair ≡ pair_in item.now) }
 {
-    let (name, behind) = split_once(item, b'=');
-    let Some(value) = behind else {
+    let (name, following) = split_once(item, b'=');
+    let Some(value) = following else {
         return Ok(None);
     };
     let name = Text::from_slice(alloc, past_blanks(name))?;
@@ -89,10 +89,10 @@ pub fn pairs(alloc: Global, list: &[u8]) -> Result<Items<Pair>, NoMemory>
     let mut pairs = Items::new(alloc);
     let mut rest = list;
     loop {
-        let (item, behind) = take_item(alloc, rest)?;
+        let (item, following) = take_item(alloc, rest)?;
         let pair = pair(alloc, item.as_slice())?;
         push_pair(&mut pairs, pair)?;
-        let Some(more) = behind else {
+        let Some(more) = following else {
             return Ok(pairs);
         };
         rest = more;

@@ -1,6 +1,6 @@
 ghost use Rattle.std.specs.Prelude.{◌≡◌, ◌++◌, ◌↔◌, IsTrue, IfOk, Some};
 ghost use Rattle.std.specs.Option.{option_copied};
-ghost use Rattle.wc_relaycmd.specs.Logins.{hash_named, bytes_in, hash_from, hash_of, login_of, IsDigest, IsSalted, Proves, LetsIn};
+ghost use Rattle.wc_relaycmd.specs.Logins.{hash_named, bytes_in, hash_from, hash_of, login_of, IsDigestOf, IsSalted, Proves, LetsIn};
 ghost use Rattle.wc_relaycmd.specs.Choices.{algorithm_name};
 
 use crate::algorithm::Algorithm;
@@ -20,7 +20,7 @@ pub struct Login {
     pub hash: Option<HashLogin>,
 }
 
-/// A hash of a salt and the password behind it. The salt and the hash are bytes, and no text.
+/// A hash of a salt and the password after it. The salt and the hash are bytes, and no text.
 #[derive(Drop)]
 pub struct HashLogin {
     pub algorithm: Algorithm,
@@ -80,15 +80,15 @@ fn hash_from(
 fn read_hash(alloc: Global, text: &[u8]) -> Result<Option<HashLogin>, NoMemory>
     ensures { IfOk result (λ login. login ≡ hash_of text.now) }
 {
-    let (name, behind) = split_once(text, b':');
-    let Some(behind) = behind else {
+    let (name, following) = split_once(text, b':');
+    let Some(following) = following else {
         return Ok(None);
     };
-    let (salt, behind) = split_once(behind, b':');
-    let Some(behind) = behind else {
+    let (salt, following) = split_once(following, b':');
+    let Some(following) = following else {
         return Ok(None);
     };
-    let (hash, more) = split_once(behind, b':');
+    let (hash, more) = split_once(following, b':');
     if let Some(_) = more {
         return Ok(None);
     }
@@ -127,9 +127,9 @@ pub fn read_login(alloc: Global, pairs: &Items<Pair>) -> Result<Option<Login>, N
     }))
 }
 
-/// Whether a digest is that of the salt and the password behind it.
+/// Whether a digest is that of the salt and the password after it.
 fn is_digest(algorithm: Algorithm, salt: &[u8], password: &[u8], digest: &[u8]) -> bool
-    ensures { IsTrue result ↔ IsDigest algorithm (salt.now ++ password.now) digest.now }
+    ensures { IsTrue result ↔ IsDigestOf algorithm (salt.now ++ password.now) digest.now }
 {
     match algorithm {
         Algorithm::Plain => false,

@@ -13,7 +13,7 @@ use Rattle.wc_relaycmd.specs.declared.algorithm.Algorithm.{Algorithm}
 use Rattle.wc_relaycmd.specs.declared.algorithm.Algorithm.TheVariants.{Plain, Sha256, Sha512}
 use Rattle.wc_relaycmd.specs.declared.login.Login.{Login}
 use Rattle.wc_relaycmd.specs.declared.login.HashLogin.{HashLogin}
-use Rattle.wc_relaycmd.specs.Logins.{IsDigest, IsSalted, Proves, LetsIn}
+use Rattle.wc_relaycmd.specs.Logins.{IsDigestOf, IsSalted, Proves, LetsIn}
 use Rattle.wc_session.specs.Logins.{same_algorithm, is_digest, is_salted, hash_proves, is_password, login_proves, lets_in}
 
 both : (a b : Bool) (P Q : Type 0) → Decides a P → Decides b Q → Decides (a && b) (P × Q)
@@ -37,7 +37,7 @@ same_decides Sha256 Sha512 = never _ (λ e. cc)
 same_decides Sha512 Plain = never _ (λ e. cc)
 same_decides Sha512 Sha256 = never _ (λ e. cc)
 
-digest_decides : (algorithm : Algorithm) (message digest : List ℕ) → Decides (is_digest algorithm message digest) (IsDigest algorithm message digest)
+digest_decides : (algorithm : Algorithm) (message digest : List ℕ) → Decides (is_digest algorithm message digest) (IsDigestOf algorithm message digest)
 digest_decides Plain message digest = never _ (λ h. h)
 digest_decides Sha256 message digest = bytes_eq-Decides digest (sha256 message)
 digest_decides Sha512 message digest = bytes_eq-Decides digest (sha512 message)

@@ -5,7 +5,7 @@ use Rattle.std.specs.Prelude.{if◌then◌else◌}
 use Rattle.wc_text.specs.declared.names.Pair.{Pair}
 use Rattle.wc_text.specs.declared.names.Cause.TheVariants as cause
 use Rattle.wc_text.specs.declared.names.Handle.{Handle}
-use Rattle.wc_buffers.specs.Calls.{Groups}
+use Rattle.wc_buffers.specs.Calls.{EntryGroups}
 use Rattle.wc_model.specs.World.{World}
 use Rattle.wc_relaycmd.specs.declared.request.Command.{Command}
 use Rattle.wc_relaycmd.specs.declared.request.Command.TheVariants as ask
@@ -60,7 +60,7 @@ typed_one : (id : List ℕ) (client : Client) (text : List ℕ) (buffer : Option
 typed_one id client text None = tt
 typed_one id client text (Some buffer) = tt
 
-input_one : (id : List ℕ) (groups : Groups) (client : Client) (buffer text : List ℕ) → AtMostOne id (input_answer groups client buffer text).messages
+input_one : (id : List ℕ) (groups : EntryGroups) (client : Client) (buffer text : List ℕ) → AtMostOne id (input_answer groups client buffer text).messages
 input_one id groups client buffer text = typed_one id client text (buffer_named groups buffer)
 
 served_one : (world : World) (password : List ℕ) (client : Client) (id : List ℕ) (command : Command) → AtMostOne (id_of_reply id command) (served world password client id command).messages

@@ -4,8 +4,8 @@ use Rattle.wc_text.specs.declared.names.Handle.{Handle}
 use Rattle.wc_objects.specs.declared.object.Object.{Object}
 use Rattle.wc_objects.specs.declared.object.WireMessage.{WireMessage}
 use Rattle.wc_nickdiff.specs.declared.push.Push.{Push}
-use Rattle.wc_told.specs.BufferObjects.{id_of}
-use Rattle.wc_told.specs.NickObjects.{push_kind, push_objects}
+use Rattle.wc_events.specs.BufferObjects.{id_of}
+use Rattle.wc_events.specs.NickObjects.{push_kind, push_objects}
 use Rattle.wc_session.specs.Event.{if_fits, push_messages}
 use Rattle.wc_session.specs.Sending.{message, fitting, Sends}
 use Rattle.wc_session.proofs.SendingLemmas.{sends_as}

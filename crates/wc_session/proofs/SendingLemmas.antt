@@ -1,4 +1,4 @@
--- Messages behind the unsent bytes.
+-- Messages after the unsent bytes.
 use Rattle.std.proofs.Common.{◌≡◌, ℕ, ◌-◌, ◌^◌, ◌<◌, ◌≤◌, Bool, true, false, cond, List, [], ◌∷◌, ◌++◌, length, refl, sym, ap, subst, ◌∙◌, append-nil, arith}
 use Rattle.std.specs.Str.{IsUtf8}
 use Rattle.std.proofs.lemmas.Bool.Decides.{nat_tests}
@@ -11,7 +11,7 @@ use Rattle.wc_model.specs.declared.notice.EventKind.{EventKind}
 use Rattle.wc_model.specs.declared.notice.Notice.{Notice}
 use Rattle.wc_text.specs.declared.names.Handle.{Handle}
 use Rattle.wc_nickdiff.specs.declared.push.Push.{Push}
-use Rattle.wc_told.specs.NickObjects.{push_kind}
+use Rattle.wc_events.specs.NickObjects.{push_kind}
 use Rattle.wc_session.specs.Known.{Known}
 use Rattle.wc_session.specs.Event.{Spelled, IsEventOf, IsPushOf, event_messages, notice_told, push_messages, push_told, with_event}
 use Rattle.wc_session.specs.Sync.{follows}
@@ -34,7 +34,7 @@ fits_not m h = grind (arith, nat_tests)
 pub sends_none : (bytes : List ℕ) → Sends bytes bytes []
 sends_none bytes = record { bytes = sym (append-nil bytes); spelt = tt }
 
--- a message that was put behind the bytes
+-- a message that was put after the bytes
 pub sends_one : (old new id : List ℕ) (objects : List Object) → new ≡ old ++ message_bytes id objects → length (message_bytes id objects) ≤ 2 ^ 31 - 1
     → IsUtf8 id → well_formed objects ≡ true → Sends old new (fitting (message id objects))
 sends_one old new id objects e within text formed =
@@ -88,7 +88,7 @@ sends_from old mid new messages e sends = let P : List ℕ → Type 0 = λ bytes
 
 -- ---- events
 
--- what an event is to tell a client is behind its bytes, once the event is
+-- what an event is to tell a client is after its bytes, once the event is
 told_sends : (event : Spelled) (kind : EventKind) (at : Handle) (messages : List WireMessage) (session : Known) → event.kind ≡ kind → event.buffer ≡ at → Sends [] event.bytes messages
     → Sends session.unsent (with_event event session).unsent (cond (follows kind at.0 session.client) messages [])
 told_sends event kind at messages session what where_it_is sends = by (follows kind at.0 session.client) refl

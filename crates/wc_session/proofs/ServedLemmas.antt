@@ -5,7 +5,7 @@ use Rattle.std.specs.Prelude.{if◌then◌else◌}
 use Rattle.wc_text.specs.declared.names.Pair.{Pair}
 use Rattle.wc_text.specs.declared.names.Cause.TheVariants as cause
 use Rattle.wc_text.specs.declared.names.Handle.{Handle}
-use Rattle.wc_buffers.specs.Calls.{Groups}
+use Rattle.wc_buffers.specs.Calls.{EntryGroups}
 use Rattle.wc_model.specs.World.{World}
 use Rattle.wc_relaycmd.specs.declared.request.Command.{Command}
 use Rattle.wc_relaycmd.specs.declared.request.Command.TheVariants as ask
@@ -50,7 +50,7 @@ typed_served : (client : Client) (text : List ℕ) (buffer : Option Handle) → 
 typed_served client text None = tt
 typed_served client text (Some buffer) = tt
 
-input_served : (groups : Groups) (client : Client) (buffer text : List ℕ) → IsServed (input_answer groups client buffer text).outcome
+input_served : (groups : EntryGroups) (client : Client) (buffer text : List ℕ) → IsServed (input_answer groups client buffer text).outcome
 input_served groups client buffer text = typed_served client text (buffer_named groups buffer)
 
 served_served : (world : World) (password : List ℕ) (client : Client) (id : List ℕ) (command : Command) → IsServed (served world password client id command).outcome

@@ -6,12 +6,12 @@ use Rattle.std.proofs.lemmas.Bool.Decides.{nat_tests}
 use Rattle.wc_text.specs.declared.names.Handle.{Handle}
 use Rattle.wc_session.specs.declared.sync_set.SyncSet.{SyncSet}
 use Rattle.wc_session.specs.declared.sync_set.BufferSet.{BufferSet}
-use Rattle.wc_session.specs.Sync.{union, difference, put_to, taken_from}
+use Rattle.wc_session.specs.Sync.{union, difference, put_to, without_options}
 
 abbrev with_set : (SyncSet → SyncSet) → BufferSet → BufferSet
 with_set f s = record { buffer = s.buffer; set = f s.set }
 
--- the first set of the buffer changed by f, and where there is none these sets behind the others
+-- the first set of the buffer changed by f, and where there is none these sets after the others
 abbrev changed : (SyncSet → SyncSet) → List BufferSet → ℕ → List BufferSet → List BufferSet
 changed f new buffer [] = new
 changed f new buffer (s ∷ sets) = cond (s.buffer.0 == buffer) (with_set f s ∷ sets) (s ∷ changed f new buffer sets)
@@ -21,7 +21,7 @@ put_is : (options : SyncSet) (buffer : Handle) (sets : List BufferSet)
 put_is options buffer [] = refl
 put_is options buffer (s ∷ sets) = ap (λ others. cond (s.buffer.0 == buffer.0) (record { buffer = s.buffer; set = union s.set options } ∷ sets) (s ∷ others)) (put_is options buffer sets)
 
-taken_is : (options : SyncSet) (buffer : Handle) (sets : List BufferSet) → taken_from options buffer sets ≡ changed (λ set. difference set options) [] buffer.0 sets
+taken_is : (options : SyncSet) (buffer : Handle) (sets : List BufferSet) → without_options options buffer sets ≡ changed (λ set. difference set options) [] buffer.0 sets
 taken_is options buffer [] = refl
 taken_is options buffer (s ∷ sets) = ap (λ others. cond (s.buffer.0 == buffer.0) (record { buffer = s.buffer; set = difference s.set options } ∷ sets) (s ∷ others)) (taken_is options buffer sets)
 
@@ -80,8 +80,8 @@ pub put_none : (options : SyncSet) (buffer : Handle) (sets : List BufferSet) →
 put_none options buffer sets e = put_is options buffer sets ∙ none_at (λ set. union set options) _ buffer.0 sets e
 
 pub taken_some : (options : SyncSet) (buffer : Handle) (sets : List BufferSet) (k : ℕ) → position (λ s. s.buffer.0 == buffer.0) sets ≡ Some k
-    → (d : BufferSet) → taken_from options buffer sets ≡ set sets k (record { buffer = (get_or sets k d).buffer; set = difference (get_or sets k d).set options })
+    → (d : BufferSet) → without_options options buffer sets ≡ set sets k (record { buffer = (get_or sets k d).buffer; set = difference (get_or sets k d).set options })
 taken_some options buffer sets k e d = taken_is options buffer sets ∙ some_at (λ set. difference set options) [] buffer.0 sets k e d
 
-pub taken_none : (options : SyncSet) (buffer : Handle) (sets : List BufferSet) → position (λ s. s.buffer.0 == buffer.0) sets ≡ None → taken_from options buffer sets ≡ sets
+pub taken_none : (options : SyncSet) (buffer : Handle) (sets : List BufferSet) → position (λ s. s.buffer.0 == buffer.0) sets ≡ None → without_options options buffer sets ≡ sets
 taken_none options buffer sets e = taken_is options buffer sets ∙ none_at (λ set. difference set options) [] buffer.0 sets e ∙ append-nil sets

@@ -6,12 +6,12 @@ use Rattle.wc_model.specs.declared.notice.EventKind.{EventKind}
 use Rattle.wc_model.specs.declared.notice.Notice.{Notice}
 use Rattle.wc_model.specs.World.{World}
 use Rattle.wc_nickdiff.specs.declared.push.Push.{Push}
-use Rattle.wc_told.specs.BufferObjects.{event_of}
-use Rattle.wc_told.specs.NickObjects.{push_kind, push_message}
+use Rattle.wc_events.specs.BufferObjects.{event_of}
+use Rattle.wc_events.specs.NickObjects.{push_kind, push_message}
 use Rattle.wc_session.specs.declared.client.Client.{Client}
 use Rattle.wc_session.specs.Known.{Known}
 use Rattle.wc_session.specs.Sending.{fitting, Sends}
-use Rattle.wc_session.specs.Sync.{follows, heard}
+use Rattle.wc_session.specs.Sync.{follows, after_event}
 
 -- an event as it is sent: what happened, to which buffer, and the bytes of its message
 pub record Spelled : Type 0 where
@@ -19,7 +19,7 @@ pub record Spelled : Type 0 where
   pub buffer : Handle
   pub bytes : List ℕ
 
--- the message of a notice, in the world behind the change, where it is not too long for one
+-- the message of a notice, in the world after the change, where it is not too long for one
 abbrev pub if_fits : Option WireMessage → List WireMessage
 if_fits None = []
 if_fits (Some message) = fitting message
@@ -37,10 +37,10 @@ pub record IsEventOf (event : Spelled) (world : World) (notice : Notice) : Type 
 abbrev pub bytes_for : Spelled → Client → List ℕ
 bytes_for event client = if follows event.kind event.buffer.0 client then event.bytes else []
 
--- a session behind an event
+-- a session after an event
 abbrev pub with_event : Spelled → Known → Known
 with_event event session = record {
-  client = heard event.kind event.buffer.0 session.client;
+  client = after_event event.kind event.buffer.0 session.client;
   unsent = session.unsent ++ bytes_for event session.client;
 }
 

@@ -11,12 +11,12 @@ use Rattle.wc_objects.specs.declared.object.Object.{Object}
 use Rattle.wc_objects.specs.declared.object.Object.TheVariants as o
 
 -- the algorithms that are allowed, as masks
-abbrev pub allowed : List ℕ
-allowed = codes "*"
+abbrev pub allowed_masks : List ℕ
+allowed_masks = codes "*"
 
 -- the strongest algorithm of the client's list that is allowed; a list that is not given is `plain`
 unfoldable pub choice_in : List Pair → Option Algorithm
-choice_in pairs = choice_of (unwrap_or (last_value (codes "password_hash_algo") pairs) (codes "plain")) allowed
+choice_in pairs = choice_of (unwrap_or (last_value (codes "password_hash_algo") pairs) (codes "plain")) allowed_masks
 
 abbrev pub is_on : Option (List ℕ) → Bool
 is_on None = false

@@ -21,7 +21,7 @@ is_digest Plain message digest = false
 is_digest Sha256 message digest = bytes_eq digest (sha256 message)
 is_digest Sha512 message digest = bytes_eq digest (sha512 message)
 
--- a salt begins with the nonce and has more behind it
+-- a salt begins with the nonce and has more after it
 abbrev pub is_salted : List ℕ → List ℕ → Bool
 is_salted salt nonce = bytes_eq (take (length nonce) salt) nonce && nat_lt (length nonce) (length salt)
 

@@ -5,7 +5,7 @@ use Rattle.wc_text.specs.declared.names.Handle.{Handle}
 use Rattle.wc_text.specs.declared.names.Pair.{Pair}
 use Rattle.wc_text.specs.declared.names.Cause.{Cause}
 use Rattle.wc_text.specs.declared.names.Cause.TheVariants as cause
-use Rattle.wc_buffers.specs.Calls.{Groups}
+use Rattle.wc_buffers.specs.Calls.{EntryGroups}
 use Rattle.wc_model.specs.World.{World}
 use Rattle.wc_relaycmd.specs.declared.request.Command.{Command}
 use Rattle.wc_relaycmd.specs.declared.request.Command.TheVariants as ask
@@ -14,9 +14,9 @@ use Rattle.wc_objects.specs.declared.kind.Kind.TheVariants as k
 use Rattle.wc_objects.specs.declared.object.Object.{Object}
 use Rattle.wc_objects.specs.declared.object.Object.TheVariants as o
 use Rattle.wc_objects.specs.declared.object.WireMessage.{WireMessage}
-use Rattle.wc_told.specs.LineObjects.{line_dump}
-use Rattle.wc_told.specs.BufferObjects.{buffer_dump}
-use Rattle.wc_told.specs.NickObjects.{nick_dump, nick_list}
+use Rattle.wc_events.specs.LineObjects.{line_dump}
+use Rattle.wc_events.specs.BufferObjects.{buffer_dump}
+use Rattle.wc_events.specs.NickObjects.{nick_dump, nick_list}
 use Rattle.wc_session.specs.declared.client.Client.{Client}
 use Rattle.wc_session.specs.declared.outcome.Outcome.{Outcome}
 use Rattle.wc_session.specs.declared.outcome.Outcome.TheVariants as outcome
@@ -126,7 +126,7 @@ abbrev pub typed_into : Client → List ℕ → Option Handle → Answer
 typed_into client text None = silent client
 typed_into client text (Some buffer) = record { messages = []; outcome = outcome.Input buffer text; client = client }
 
-abbrev pub input_answer : Groups → Client → List ℕ → List ℕ → Answer
+abbrev pub input_answer : EntryGroups → Client → List ℕ → List ℕ → Answer
 input_answer groups client buffer text = typed_into client text (buffer_named groups buffer)
 
 -- what is served before login

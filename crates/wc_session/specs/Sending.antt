@@ -1,4 +1,4 @@
--- Messages as they are put behind the unsent bytes.
+-- Messages as they are put after the unsent bytes.
 use Rattle.std.specs.Prelude.{◌≡◌, ℕ, ◌^◌, ◌-◌, Bool, true, false, nat_le, List, [], ◌∷◌, ◌++◌, length, if◌then◌else◌, None}
 use Rattle.std.specs.List.{flat_map, AllByRecursion}
 use Rattle.wc_objects.specs.declared.object.Object.{Object}

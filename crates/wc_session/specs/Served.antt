@@ -17,8 +17,8 @@ abbrev pub OnNoMemory : Outcome → Type 0 → Type 0
 OnNoMemory outcome.NoMemory fact = fact
 OnNoMemory _ fact = Unit {0}
 
--- what was answered is the answer, its messages were put behind the bytes, and this is known of the client
-pub record Gives (old new : List ℕ) (result : Outcome) (after : Client) (answer : Answer) : Type 0 where
+-- what was answered is the answer, its messages were put after the bytes, and this is known of the client
+pub record GivesAnswer (old new : List ℕ) (result : Outcome) (after : Client) (answer : Answer) : Type 0 where
   pub sends : Sends old new answer.messages
   pub outcome : result ≡ answer.outcome
   pub client : after ≡ answer.client
@@ -30,7 +30,7 @@ pub record IsQuiet (result : Outcome) (after : Client) (answer : Answer) : Type 
   pub client : after ≡ answer.client
 
 -- the session before and after a request, and what was answered
-pub record Answers (old new : Known) (result : Outcome) (answer : Answer) : Type 0 where
+pub record AnswersRequest (old new : Known) (result : Outcome) (answer : Answer) : Type 0 where
   pub sends : Sends old.unsent new.unsent answer.messages
   pub outcome : result ≡ answer.outcome
   pub client : new.client ≡ answer.client

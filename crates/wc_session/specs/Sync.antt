@@ -3,7 +3,7 @@ use Rattle.std.specs.Prelude.{ℕ, Bool, true, false, not, ◌==◌, ◌&&◌, �
 use Rattle.std.specs.List.{list_any}
 use Rattle.std.specs.Str.{bytes_eq}
 use Rattle.wc_text.specs.declared.names.Handle.{Handle}
-use Rattle.wc_buffers.specs.Calls.{Groups}
+use Rattle.wc_buffers.specs.Calls.{EntryGroups}
 use Rattle.wc_model.specs.declared.notice.EventKind.{EventKind}
 use Rattle.wc_model.specs.declared.notice.EventKind.TheVariants as kind
 use Rattle.wc_session.specs.declared.sync_set.SyncSet.{SyncSet}
@@ -45,37 +45,37 @@ abbrev pub set_at : ℕ → List BufferSet → SyncSet
 set_at buffer [] = no_options
 set_at buffer (s ∷ sets) = if s.buffer.0 == buffer then s.set else set_at buffer sets
 
--- options put to the set of a buffer; the first ones make a set behind the others
+-- options put to the set of a buffer; the first ones make a set after the others
 abbrev pub put_to : SyncSet → Handle → List BufferSet → List BufferSet
 put_to options buffer [] = record { buffer = buffer; set = options } ∷ []
 put_to options buffer (s ∷ sets) =
     if s.buffer.0 == buffer.0 then record { buffer = s.buffer; set = union s.set options } ∷ sets else s ∷ put_to options buffer sets
 
 -- options taken from the set of a buffer, where it has one
-abbrev pub taken_from : SyncSet → Handle → List BufferSet → List BufferSet
-taken_from options buffer [] = []
-taken_from options buffer (s ∷ sets) =
-    if s.buffer.0 == buffer.0 then record { buffer = s.buffer; set = difference s.set options } ∷ sets else s ∷ taken_from options buffer sets
+abbrev pub without_options : SyncSet → Handle → List BufferSet → List BufferSet
+without_options options buffer [] = []
+without_options options buffer (s ∷ sets) =
+    if s.buffer.0 == buffer.0 then record { buffer = s.buffer; set = difference s.set options } ∷ sets else s ∷ without_options options buffer sets
 
 -- what is done for a buffer that is named; one that is not there is passed over
 abbrev pub at_named : (Handle → List BufferSet → List BufferSet) → List BufferSet → Option Handle → List BufferSet
 at_named change sets None = sets
 at_named change sets (Some buffer) = change buffer sets
 
-abbrev pub at_each : Groups → (Handle → List BufferSet → List BufferSet) → List BufferSet → List (List ℕ) → List BufferSet
+abbrev pub at_each : EntryGroups → (Handle → List BufferSet → List BufferSet) → List BufferSet → List (List ℕ) → List BufferSet
 at_each groups change sets names = fold (λ sets name. at_named change sets (buffer_named groups name)) sets names
 
 -- The set for `*` is changed where `*` is among the buffers, and the sets of the buffers that are named.
-unfoldable pub synchronized : Groups → Client → List (List ℕ) → Option (List (List ℕ)) → Client
+unfoldable pub synchronized : EntryGroups → Client → List (List ℕ) → Option (List (List ℕ)) → Client
 synchronized groups client buffers options = record client {
   everywhere = if has (codes "*") buffers then union client.everywhere (options_asked options) else client.everywhere;
   sets = at_each groups (put_to (of_buffer (options_asked options))) client.sets buffers;
 }
 
-unfoldable pub desynchronized : Groups → Client → List (List ℕ) → Option (List (List ℕ)) → Client
+unfoldable pub desynchronized : EntryGroups → Client → List (List ℕ) → Option (List (List ℕ)) → Client
 desynchronized groups client buffers options = record client {
   everywhere = if has (codes "*") buffers then difference client.everywhere (options_asked options) else client.everywhere;
-  sets = at_each groups (taken_from (of_buffer (options_asked options))) client.sets buffers;
+  sets = at_each groups (without_options (of_buffer (options_asked options))) client.sets buffers;
 }
 
 -- ---- which events are for a client
@@ -109,10 +109,10 @@ follows kind buffer client = wants kind (union client.everywhere (set_at buffer 
 abbrev pub without_set : ℕ → List BufferSet → List BufferSet
 without_set buffer sets = filter (λ (s : BufferSet). not (s.buffer.0 == buffer)) sets
 
-abbrev pub sets_behind : EventKind → ℕ → List BufferSet → List BufferSet
-sets_behind kind.Closing buffer sets = without_set buffer sets
-sets_behind _ buffer sets = sets
+abbrev pub sets_after : EventKind → ℕ → List BufferSet → List BufferSet
+sets_after kind.Closing buffer sets = without_set buffer sets
+sets_after _ buffer sets = sets
 
--- what is known of a client behind an event, be it for the client or not
-abbrev pub heard : EventKind → ℕ → Client → Client
-heard kind buffer client = record client { sets = sets_behind kind buffer client.sets }
+-- what is known of a client after an event, be it for the client or not
+abbrev pub after_event : EventKind → ℕ → Client → Client
+after_event kind buffer client = record client { sets = sets_after kind buffer client.sets }

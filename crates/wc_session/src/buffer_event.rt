@@ -8,17 +8,17 @@ ghost use Rattle.wc_nickdiff.specs.Told.{IsTold};
 ghost use Rattle.wc_nicklist.specs.declared.item.Row.{Row};
 ghost use Rattle.wc_session.specs.Event.{IsEventOf, IsPushOf, push_messages};
 ghost use Rattle.wc_session.specs.Sending.{Sends};
-ghost use Rattle.wc_told.specs.NickForms.{IsPushText};
+ghost use Rattle.wc_events.specs.NickForms.{IsPushText};
 
 use crate::sending::send;
 use bytes::BytesMut;
 use std::alloc::Global;
 use std::marker::Model;
+use wc_events::{event_id, event_objects, push_kind, push_objects};
 use wc_model::{EventKind, Notice};
 use wc_nickdiff::{Pending, Push};
 use wc_objects::well_formed;
 use wc_text::{Handle, NoMemory};
-use wc_told::{event_id, event_objects, push_kind, push_objects};
 use wc_world::World;
 
 /// The event of a notice or of a push, as it is sent. Its bytes are none where nothing is told, or the message would be
@@ -39,7 +39,7 @@ impl Model for BufferEvent {
 }
 
 impl BufferEvent {
-    /// Spells the event of a notice, in the world behind the change, for however many clients are to be sent it.
+    /// Spells the event of a notice, in the world after the change, for however many clients are to be sent it.
     pub fn of(alloc: Global, world: &World, notice: &Notice) -> Result<BufferEvent, NoMemory>
         requires text { IsUtf8 notice.now.full_name }
         ensures { IfOk result (λ event. IsEventOf event world.now notice.now) }

@@ -1,5 +1,5 @@
 ghost use Rattle.std.specs.Prelude.{◌≡◌, ◌==◌, ◌++◌, ◌∷◌, [], OnOk, OnErr, IfOk, position};
-ghost use Rattle.wc_session.specs.Sync.{set_at, put_to, taken_from, without_set};
+ghost use Rattle.wc_session.specs.Sync.{set_at, put_to, without_options, without_set};
 
 use crate::sync_set::{BufferSet, SyncSet};
 use std::alloc::Global;
@@ -51,7 +51,7 @@ impl BufferSets {
         SyncSet::none()
     }
 
-    /// Puts options to the set of a buffer. Where it has none, a set is made behind the others. Where memory is refused
+    /// Puts options to the set of a buffer. Where it has none, a set is made after the others. Where memory is refused
     /// the sets stay as they were.
     pub fn put(&mut self, options: SyncSet, buffer: Handle) -> Result<(), NoMemory>
         ensures ok { OnOk result (self.new ≡ put_to options buffer self.old) }
@@ -83,7 +83,7 @@ impl BufferSets {
 
     /// Takes options from the set of a buffer, where it has one.
     pub fn take(&mut self, options: SyncSet, buffer: Handle)
-        ensures { self.new ≡ taken_from options buffer self.old }
+        ensures { self.new ≡ without_options options buffer self.old }
     {
         let Some(place) = place_of(self.sets.as_slice(), buffer) else {
             return;

@@ -1,6 +1,6 @@
 ghost use Rattle.std.specs.Prelude.{◌≡◌};
 ghost use Rattle.wc_session.specs.Known.{new_client};
-ghost use Rattle.wc_session.specs.Sync.{follows, heard};
+ghost use Rattle.wc_session.specs.Sync.{follows, after_event};
 
 use crate::buffer_sets::BufferSets;
 use crate::sync_set::SyncSet;
@@ -51,7 +51,7 @@ impl Client {
 
     /// Takes note of an event, be it for this client or not: a closed buffer has no set from then on.
     pub fn hear(&mut self, kind: EventKind, buffer: Handle)
-        ensures { self.new ≡ heard kind buffer.0 self.old }
+        ensures { self.new ≡ after_event kind buffer.0 self.old }
     {
         if matches!(kind, EventKind::Closing) {
             self.sets.remove(buffer);

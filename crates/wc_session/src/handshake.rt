@@ -3,7 +3,7 @@ ghost use Rattle.std.specs.Str.{IsUtf8};
 ghost use Rattle.wc_objects.specs.Forms.{well_formed};
 ghost use Rattle.wc_session.specs.Handshakes.{choice_in, asks_escapes, name_of_choice, switch, entry, handshake_table, handshake_objects};
 ghost use Rattle.wc_session.specs.Reply.{shaken, handshake_answer};
-ghost use Rattle.wc_session.specs.Served.{Gives};
+ghost use Rattle.wc_session.specs.Served.{GivesAnswer};
 
 use crate::client::Client;
 use crate::outcome::Outcome;
@@ -121,7 +121,7 @@ pub fn shake(
     pairs: &Items<Pair>,
 ) -> Result<Outcome, NoMemory>
     requires { IsUtf8 id.now }
-    ensures ok { IfOk result (λ outcome. Gives out.old.items out.new.items outcome client.new (handshake_answer client.old id.now pairs.now)) }
+    ensures ok { IfOk result (λ outcome. GivesAnswer out.old.items out.new.items outcome client.new (handshake_answer client.old id.now pairs.now)) }
     ensures err { OnErr result (out.new.items ≡ out.old.items) }
     ensures still { OnErr result (client.new ≡ client.old) }
 {

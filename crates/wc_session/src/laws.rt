@@ -27,12 +27,12 @@ pub fn one_reply_each()
     ensures { (world : World) (password : List ℕ) (client : Client) (request : Request) → IsOneReply request (reply_of world password client request).messages }
 {}
 
-/// The event of a notice puts behind the unsent bytes of each client what that client is to be told of it.
+/// The event of a notice puts after the unsent bytes of each client what that client is to be told of it.
 pub fn event_tells()
     ensures { (event : Spelled) (world : World) (notice : Notice) (session : Known) → IsEventOf event world notice → Sends session.unsent (with_event event session).unsent (notice_told world notice session.client) }
 {}
 
-/// The event of a push puts behind the unsent bytes of each client what that client is to be told of it.
+/// The event of a push puts after the unsent bytes of each client what that client is to be told of it.
 pub fn push_tells()
     ensures { (event : Spelled) (buffer : Handle) (push : Push) (session : Known) → IsPushOf event buffer push → Sends session.unsent (with_event event session).unsent (push_told buffer push session.client) }
 {}

@@ -1,11 +1,11 @@
 ghost use Rattle.std.specs.Prelude.{IfOk};
 ghost use Rattle.std.specs.Str.{IsUtf8};
 ghost use Rattle.wc_nicklist.specs.Rows.{TextsAreUtf8};
-ghost use Rattle.wc_told.specs.NickForms.{IsPushText};
+ghost use Rattle.wc_events.specs.NickForms.{IsPushText};
 ghost use Rattle.wc_world.specs.Texts.{IsChangeText};
 
 use crate::buffer_event::BufferEvent;
-use crate::tests::{Bench, ask, behind, text};
+use crate::tests::{Bench, ask, following, text};
 use std::alloc::Global;
 use std::test::Fail;
 use wc_model::{Change, EventKind, What};
@@ -61,7 +61,7 @@ fn pushes_are_told_to_who_asked_for_nicklists(rt: HostRuntime) -> Result<(), Fai
     let event = BufferEvent::of_push(rt.alloc(), BUFFER, &join(rt.alloc())?)?;
     for row in TOLD.lines() {
         let (script, expected) = row.split_once(" => ").ok_or("a row has an answer")?;
-        let mut bench = behind(rt.alloc(), script)?;
+        let mut bench = following(rt.alloc(), script)?;
         let sent = bench.session.unsent().len();
         bench.session.append_event(&event)?;
         let told = bench.session.unsent().len() > sent;
@@ -104,7 +104,7 @@ fn what(alloc: Global, comes: bool, name: &str) -> Result<What, NoMemory>
 
 /// A client that follows nicklists, and three nicks of `core.a` that were told.
 fn channel(alloc: Global, pending: &mut Pending) -> Result<Bench, NoMemory> {
-    let mut bench = behind(alloc, "sync * nicklist")?;
+    let mut bench = following(alloc, "sync * nicklist")?;
     for name in ["al", "bo", "cy"] {
         play(alloc, &mut bench, pending, true, name)?;
     }

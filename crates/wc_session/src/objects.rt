@@ -6,9 +6,9 @@ ghost use Rattle.wc_session.specs.Reply.{list_of_named, test_texts, test_numbers
 
 use crate::names::buffer_named;
 use std::alloc::Global;
+use wc_events::nick_list;
 use wc_objects::{Kind, Object};
 use wc_text::{Items, NoMemory, Text};
-use wc_told::nick_list;
 use wc_world::World;
 
 /// The path and the keys by which a client asks for all buffers.

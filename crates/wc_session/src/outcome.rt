@@ -3,7 +3,7 @@ use wc_text::{Cause, Handle, Text};
 /// What a request came to.
 #[derive(Drop)]
 pub enum Outcome {
-    /// Its reply stands behind the unsent bytes.
+    /// Its reply comes after the unsent bytes.
     Replied,
     /// It gets no reply.
     Silent,

@@ -1,17 +1,17 @@
 ghost use Rattle.std.specs.Prelude.{◌≡◌, true, IfOk, OnErr, is_some};
 ghost use Rattle.std.specs.Str.{IsUtf8};
 ghost use Rattle.wc_objects.specs.Forms.{well_formed};
-ghost use Rattle.wc_told.specs.LineObjects.{line_dump};
+ghost use Rattle.wc_events.specs.LineObjects.{line_dump};
 ghost use Rattle.wc_session.specs.Sending.{message, fits, fitting, reply, null_hdata, Sends, is_owed};
 
 use bytes::BytesMut;
 use std::alloc::Global;
+use wc_events::append_line_dump;
 use wc_objects::{Hda, Object, WriteRefused, append_message};
 use wc_text::{Items, NoMemory};
-use wc_told::append_line_dump;
 use wc_world::World;
 
-/// Puts a message behind the unsent bytes, and answers whether it fits in a message.
+/// Puts a message after the unsent bytes, and answers whether it fits in a message.
 pub fn send(out: &mut BytesMut, id: &[u8], objects: &[Object]) -> Result<bool, NoMemory>
     requires formed { well_formed objects.now ≡ true }
     requires text { IsUtf8 id.now }
@@ -38,7 +38,7 @@ pub fn null_hdata(alloc: Global) -> [Object; 1]
     })]
 }
 
-/// Puts the reply to a request behind the unsent bytes, which is the null hdata where these objects are too long for a
+/// Puts the reply to a request after the unsent bytes, which is the null hdata where these objects are too long for a
 /// message. It answers whether there is one.
 #[tactic(auto, unfolding(crate::specs::Sending::reply))]
 pub fn reply(
@@ -61,7 +61,7 @@ pub fn reply(
     Ok(sent)
 }
 
-/// Puts the reply to a request of the lines of all buffers behind the unsent bytes, as `reply` does. The lines are written
+/// Puts the reply to a request of the lines of all buffers after the unsent bytes, as `reply` does. The lines are written
 /// there one by one, without objects of them.
 #[tactic(auto, unfolding(crate::specs::Sending::reply))]
 pub fn reply_lines(
@@ -83,7 +83,7 @@ pub fn reply_lines(
     Ok(sent)
 }
 
-/// Puts the lines of all buffers behind the unsent bytes, and answers whether they fit in a message.
+/// Puts the lines of all buffers after the unsent bytes, and answers whether they fit in a message.
 fn send_lines(alloc: Global, out: &mut BytesMut, id: &[u8], world: &World) -> Result<bool, NoMemory>
     requires { IsUtf8 id.now }
     ensures fits { IfOk result (λ sent. sent ≡ fits (message id.now (line_dump world.now))) }

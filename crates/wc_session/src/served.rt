@@ -1,12 +1,12 @@
 ghost use Rattle.std.specs.Prelude.{◌≡◌, true, IfOk, OnErr};
 ghost use Rattle.std.specs.Str.{IsUtf8};
 ghost use Rattle.wc_objects.specs.Forms.{well_formed};
-ghost use Rattle.wc_relaycmd.specs.Utf8.{HasUtf8, CommandUtf8};
+ghost use Rattle.wc_relaycmd.specs.Utf8.{RequestIsUtf8, CommandUtf8};
 ghost use Rattle.wc_session.specs.declared.client.Client.{Client};
 ghost use Rattle.wc_session.specs.Reply.{hdata_objects, nicklist_objects, replies, input_answer, is_open, served, reply_of};
 ghost use Rattle.wc_session.specs.Sending.{reply};
-ghost use Rattle.wc_told.specs.LineObjects.{line_dump};
-ghost use Rattle.wc_session.specs.Served.{Gives, IsQuiet};
+ghost use Rattle.wc_events.specs.LineObjects.{line_dump};
+ghost use Rattle.wc_session.specs.Served.{GivesAnswer, IsQuiet};
 
 use crate::client::Client;
 use crate::handshake::shake;
@@ -22,10 +22,10 @@ use crate::sync::{desynchronize, synchronize};
 use bytes::BytesMut;
 use std::alloc::Global;
 use wc_buffers::Buffers;
+use wc_events::{buffer_dump, nick_dump};
 use wc_objects::Object;
 use wc_relaycmd::{Command, Request};
 use wc_text::{Cause, NoMemory, Text};
-use wc_told::{buffer_dump, nick_dump};
 use wc_world::World;
 
 /// Serves a request by these objects as its reply.
@@ -37,7 +37,7 @@ pub fn give(
 ) -> Result<Outcome, NoMemory>
     requires formed { well_formed objects.now ≡ true }
     requires text { IsUtf8 id.now }
-    ensures ok { IfOk result (λ outcome. (client : Client) → Gives out.old.items out.new.items outcome client (replies client (reply id.now objects.now))) }
+    ensures ok { IfOk result (λ outcome. (client : Client) → GivesAnswer out.old.items out.new.items outcome client (replies client (reply id.now objects.now))) }
     ensures err { OnErr result (out.new.items ≡ out.old.items) }
 {
     if !reply(alloc, out, id, objects)? {
@@ -54,7 +54,7 @@ fn give_lines(
     id: &[u8],
 ) -> Result<Outcome, NoMemory>
     requires { IsUtf8 id.now }
-    ensures ok { IfOk result (λ outcome. (client : Client) → Gives out.old.items out.new.items outcome client (replies client (reply id.now (line_dump world.now)))) }
+    ensures ok { IfOk result (λ outcome. (client : Client) → GivesAnswer out.old.items out.new.items outcome client (replies client (reply id.now (line_dump world.now)))) }
     ensures err { OnErr result (out.new.items ≡ out.old.items) }
 {
     if !reply_lines(alloc, out, id, world)? {
@@ -74,7 +74,7 @@ fn give_hdata(
     keys: &[u8],
 ) -> Result<Outcome, NoMemory>
     requires { IsUtf8 id.now }
-    ensures ok { IfOk result (λ outcome. (client : Client) → Gives out.old.items out.new.items outcome client (replies client (reply id.now (hdata_objects world.now path.now keys.now)))) }
+    ensures ok { IfOk result (λ outcome. (client : Client) → GivesAnswer out.old.items out.new.items outcome client (replies client (reply id.now (hdata_objects world.now path.now keys.now)))) }
     ensures err { OnErr result (out.new.items ≡ out.old.items) }
 {
     if is_line_dump(path, keys) {
@@ -98,7 +98,7 @@ fn give_nicks(
     buffer: &Option<Text>,
 ) -> Result<Outcome, NoMemory>
     requires { IsUtf8 id.now }
-    ensures ok { IfOk result (λ outcome. (client : Client) → Gives out.old.items out.new.items outcome client (replies client (reply id.now (nicklist_objects world.now buffer.now)))) }
+    ensures ok { IfOk result (λ outcome. (client : Client) → GivesAnswer out.old.items out.new.items outcome client (replies client (reply id.now (nicklist_objects world.now buffer.now)))) }
     ensures err { OnErr result (out.new.items ≡ out.old.items) }
 {
     let Some(name) = buffer else {
@@ -142,7 +142,7 @@ fn serve_command(
 ) -> Result<Outcome, NoMemory>
     requires id { IsUtf8 id.now }
     requires command { CommandUtf8 command }
-    ensures ok { IfOk result (λ outcome. Gives out.old.items out.new.items outcome client.new (served world.now password.now client.old id.now command)) }
+    ensures ok { IfOk result (λ outcome. GivesAnswer out.old.items out.new.items outcome client.new (served world.now password.now client.old id.now command)) }
     ensures err { OnErr result (out.new.items ≡ out.old.items) }
     ensures still { OnErr result (client.new ≡ client.old) }
 {
@@ -182,8 +182,8 @@ pub fn serve(
     password: &[u8],
     request: Request,
 ) -> Result<Outcome, NoMemory>
-    requires { HasUtf8 request }
-    ensures ok { IfOk result (λ outcome. Gives out.old.items out.new.items outcome client.new (reply_of world.now password.now client.old request)) }
+    requires { RequestIsUtf8 request }
+    ensures ok { IfOk result (λ outcome. GivesAnswer out.old.items out.new.items outcome client.new (reply_of world.now password.now client.old request)) }
     ensures err { OnErr result (out.new.items ≡ out.old.items) }
     ensures still { OnErr result (client.new ≡ client.old) }
 {

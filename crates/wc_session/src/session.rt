@@ -1,10 +1,10 @@
 ghost use Rattle.std.specs.Prelude.{◌≡◌, ◌≤◌, false, length, drop, IfOk, IsOk, OnOk, OnErr};
-ghost use Rattle.wc_relaycmd.specs.Utf8.{HasUtf8};
+ghost use Rattle.wc_relaycmd.specs.Utf8.{RequestIsUtf8};
 ghost use Rattle.wc_session.specs.Known.{new_session};
 ghost use Rattle.wc_session.specs.Event.{with_event};
 ghost use Rattle.wc_session.specs.Reply.{reply_of};
-ghost use Rattle.wc_session.specs.Served.{OnServed, OnNoMemory, Answers};
-ghost use Rattle.wc_session.specs.Sync.{follows, heard};
+ghost use Rattle.wc_session.specs.Served.{OnServed, OnNoMemory, AnswersRequest};
+ghost use Rattle.wc_session.specs.Sync.{follows, after_event};
 
 use crate::buffer_event::BufferEvent;
 use crate::client::Client;
@@ -45,7 +45,7 @@ impl Session {
     }
 
     /// Serves a request in WeeChat's relay protocol, in this world and where this is the password that is set. The reply
-    /// is put behind the unsent bytes.
+    /// is put after the unsent bytes.
     ///
     /// `Leave` where the client asked to quit, its login was refused, or it asked for something else before its login.
     /// `NoMemory` leaves the session as it was.
@@ -56,8 +56,8 @@ impl Session {
         password: &Text,
         request: Request,
     ) -> Outcome
-        requires { HasUtf8 request }
-        ensures answered { OnServed result (Answers self.old self.new result (reply_of world.now password.now self.old.client request)) }
+        requires { RequestIsUtf8 request }
+        ensures answered { OnServed result (AnswersRequest self.old self.new result (reply_of world.now password.now self.old.client request)) }
         ensures refused { OnNoMemory result (self.new ≡ self.old) }
     {
         let Ok(outcome) = serve(
@@ -73,7 +73,7 @@ impl Session {
         outcome
     }
 
-    /// Puts an event behind the unsent bytes, where it is for this client. Where memory is refused the session stays as
+    /// Puts an event after the unsent bytes, where it is for this client. Where memory is refused the session stays as
     /// it was.
     pub fn append_event(&mut self, event: &BufferEvent) -> Result<(), NoMemory>
         ensures told { OnOk result (self.new ≡ with_event event.now self.old) }
@@ -96,9 +96,9 @@ impl Session {
         self.client.follows(kind, buffer)
     }
 
-    /// Takes note of an event that is not put behind the unsent bytes.
+    /// Takes note of an event that is not put after the unsent bytes.
     pub fn hear(&mut self, kind: EventKind, buffer: Handle)
-        ensures { self.new ≡ record self.old { client = heard kind buffer.0 self.old.client } }
+        ensures { self.new ≡ record self.old { client = after_event kind buffer.0 self.old.client } }
     {
         self.client.hear(kind, buffer);
     }

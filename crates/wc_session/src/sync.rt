@@ -1,5 +1,5 @@
 ghost use Rattle.std.specs.Prelude.{◌≡◌, OnOk, OnErr};
-ghost use Rattle.wc_session.specs.Sync.{at_each, put_to, taken_from, synchronized, desynchronized};
+ghost use Rattle.wc_session.specs.Sync.{at_each, put_to, without_options, synchronized, desynchronized};
 
 use crate::buffer_sets::BufferSets;
 use crate::client::Client;
@@ -28,7 +28,7 @@ fn put_each(
 
 /// Takes options from the sets of the buffers that are named. A buffer that is not there is passed over.
 fn take_each(sets: &mut BufferSets, buffers: &Buffers, names: &[Text], options: SyncSet)
-    ensures { sets.new ≡ at_each buffers.now (taken_from options) sets.old names.now }
+    ensures { sets.new ≡ at_each buffers.now (without_options options) sets.old names.now }
 {
     for name in names {
         if let Some(buffer) = buffer_named(buffers, name.as_slice()) {

@@ -258,7 +258,7 @@ fn replies_are_as_documented(rt: HostRuntime) -> Result<(), Fail> {
 }
 
 #[test]
-fn replies_stand_behind_one_another(rt: HostRuntime) -> Result<(), Fail> {
+fn replies_stand_after_one_another(rt: HostRuntime) -> Result<(), Fail> {
     let mut bench = new_bench(rt.alloc(), "x")?;
     for line in ["init password=x", "ping a", "ping", "ping b"] {
         let _outcome = ask(rt.alloc(), &mut bench, line)?;
@@ -386,8 +386,8 @@ fn tells(alloc: Global, bench: &mut Bench, kind: EventKind, buffer: u64) -> Resu
     Ok(bench.session.unsent().len() > before)
 }
 
-/// A session behind these lines of a client that is logged in.
-pub(crate) fn behind(alloc: Global, script: &str) -> Result<Bench, NoMemory> {
+/// A session after these lines of a client that is logged in.
+pub(crate) fn following(alloc: Global, script: &str) -> Result<Bench, NoMemory> {
     let mut bench = new_bench(alloc, "x")?;
     let _outcome = ask(alloc, &mut bench, "init password=x")?;
     for line in script.split('|') {
@@ -400,7 +400,7 @@ pub(crate) fn behind(alloc: Global, script: &str) -> Result<Bench, NoMemory> {
 fn clients_are_told_what_they_asked_for(rt: HostRuntime) -> Result<(), Fail> {
     for row in TOLD.lines() {
         let (script, expected) = row.split_once(" => ").ok_or("a row has an answer")?;
-        let mut bench = behind(rt.alloc(), script)?;
+        let mut bench = following(rt.alloc(), script)?;
         for (letter, kind, buffer) in EVENTS {
             let told = tells(rt.alloc(), &mut bench, kind, buffer)?;
             assert!(rt; told == expected.contains(letter), "{row}, {letter}");
@@ -411,7 +411,7 @@ fn clients_are_told_what_they_asked_for(rt: HostRuntime) -> Result<(), Fail> {
 
 #[test]
 fn a_closed_buffer_has_no_set(rt: HostRuntime) -> Result<(), Fail> {
-    let mut bench = behind(rt.alloc(), "sync core.a,core.weechat")?;
+    let mut bench = following(rt.alloc(), "sync core.a,core.weechat")?;
     let follows = bench.session.follows(EventKind::TitleChanged, Handle(5));
     assert!(rt; follows);
     assert!(rt; tells(rt.alloc(), &mut bench, EventKind::Closing, 5)?);
@@ -422,7 +422,7 @@ fn a_closed_buffer_has_no_set(rt: HostRuntime) -> Result<(), Fail> {
 
 #[test]
 fn a_new_line_is_told_of_its_buffer(rt: HostRuntime) -> Result<(), Fail> {
-    let mut bench = behind(rt.alloc(), "sync core.a")?;
+    let mut bench = following(rt.alloc(), "sync core.a")?;
     print_line(rt.alloc(), &mut bench, 5, "hello")?;
     assert!(rt; tells(rt.alloc(), &mut bench, EventKind::LineAdded, 5)?);
     assert_eq!(rt;
@@ -436,7 +436,7 @@ fn a_new_line_is_told_of_its_buffer(rt: HostRuntime) -> Result<(), Fail> {
 fn the_dump_has_all_buffers(rt: HostRuntime) -> Result<(), Fail> {
     let asked =
         "(b) hdata buffer:gui_buffers(*) number,full_name,short_name,hidden,title,local_variables";
-    let bench = behind(rt.alloc(), asked)?;
+    let bench = following(rt.alloc(), asked)?;
     assert_eq!(rt;
         bench.session.unsent(),
         b"\0\0\x01\x1d\0\0\0\0\x01bhda\0\0\0\x06buffer\0\0\0Pnumber:int,full_name:str,short_name:str,hidden:int,title:str,local_variables:htb\0\0\0\x02\x011\0\0\0\x01\0\0\0\x0ccore.weechat\0\0\0\x07weechat\0\0\0\0\0\0\0\x10WeeChat headlessstrstr\0\0\0\x02\0\0\0\x06plugin\0\0\0\x04core\0\0\0\x04name\0\0\0\x07weechat\x015\0\0\0\x02\0\0\0\x06core.a\0\0\0\x01a\0\0\0\0\0\0\0\0strstr\0\0\0\x02\0\0\0\x06plugin\0\0\0\x04core\0\0\0\x04name\0\0\0\x01a".as_slice()
@@ -449,7 +449,7 @@ const LINES: &str =
 
 #[test]
 fn the_dump_has_the_held_lines_of_all_buffers(rt: HostRuntime) -> Result<(), Fail> {
-    let mut bench = behind(rt.alloc(), "sync")?;
+    let mut bench = following(rt.alloc(), "sync")?;
     for (buffer, message) in [(1u64, "one"), (1, "two"), (1, "three"), (5, "four")] {
         print_line(rt.alloc(), &mut bench, buffer, message)?;
     }

@@ -11,7 +11,7 @@ use Rattle.std.proofs.lemmas.Bool.Decides.{nat_tests}
 use lib.Utf8.{scalar, scalars, next, encode, encodes, scalar_cases}
 use Rattle.std.proofs.str.Laws.{one, two, three, four}
 use Rattle.std.proofs.str.Valid.{of_one, of_two, of_three, of_four, longer}
-use Rattle.wc_text.specs.Lossy.{ends_char, char_len, lossy_behind, lossy_of}
+use Rattle.wc_text.specs.Lossy.{ends_char, char_len, lossy_after, lossy_of}
 
 -- ---- the table and the encoding agree
 len_one : (x : ℕ) (bytes : List ℕ) → x < 128 → char_len (x ∷ bytes) ≡ 1
@@ -28,22 +28,22 @@ len_four : (x y z w : ℕ) (bytes : List ℕ) → 240 ≤ x → x < 245 → seco
 len_four x y z w bytes a b c d e f g h = grind (arith, nat_tests)
 
 -- ---- bytes that are kept
-within : (front rest : List ℕ) → lossy_behind (length front) (front ++ rest) ≡ front ++ lossy_behind 0 rest
+within : (front rest : List ℕ) → lossy_after (length front) (front ++ rest) ≡ front ++ lossy_after 0 rest
 within [] rest = refl
 within (b ∷ front) rest = ap (λ bytes. b ∷ bytes) (within front rest)
 
-kept : (n b : ℕ) (bytes : List ℕ) → cond (suc n == 0) (replacement_bytes ++ lossy_behind 0 bytes) (b ∷ lossy_behind (suc n - 1) bytes) ≡ b ∷ lossy_behind n bytes
+kept : (n b : ℕ) (bytes : List ℕ) → cond (suc n == 0) (replacement_bytes ++ lossy_after 0 bytes) (b ∷ lossy_after (suc n - 1) bytes) ≡ b ∷ lossy_after n bytes
 kept n b bytes =
     let other : (suc n == 0) ≡ false = grind (arith, nat_tests) in
     let less : suc n - 1 ≡ n = omega arith in
     rw (other, less) refl
 
-kept_by : (n b : ℕ) (bytes : List ℕ) → char_len (b ∷ bytes) ≡ suc n → lossy_behind 0 (b ∷ bytes) ≡ b ∷ lossy_behind n bytes
+kept_by : (n b : ℕ) (bytes : List ℕ) → char_len (b ∷ bytes) ≡ suc n → lossy_after 0 (b ∷ bytes) ≡ b ∷ lossy_after n bytes
 kept_by n b bytes e =
-    ap (λ k. cond (k == 0) (replacement_bytes ++ lossy_behind 0 bytes) (b ∷ lossy_behind (k - 1) bytes)) e ∙ kept n b bytes
+    ap (λ k. cond (k == 0) (replacement_bytes ++ lossy_after 0 bytes) (b ∷ lossy_after (k - 1) bytes)) e ∙ kept n b bytes
 
 -- a character at the front is kept
-keeps_front : (front rest : List ℕ) → 0 < length front → char_len (front ++ rest) ≡ length front → lossy_behind 0 (front ++ rest) ≡ front ++ lossy_behind 0 rest
+keeps_front : (front rest : List ℕ) → 0 < length front → char_len (front ++ rest) ≡ length front → lossy_after 0 (front ++ rest) ≡ front ++ lossy_after 0 rest
 keeps_front [] rest some e = absurd (omega arith)
 keeps_front (b ∷ front) rest some e = kept_by (length front) b (front ++ rest) e ∙ ap (λ bytes. b ∷ bytes) (within front rest)
 
@@ -103,23 +103,23 @@ starts_char c rest e =
       ]
     ]
 
-keeps_char : (c : ℕ) (rest : List ℕ) → scalar c ≡ true → lossy_behind 0 (encode c ++ rest) ≡ encode c ++ lossy_behind 0 rest
+keeps_char : (c : ℕ) (rest : List ℕ) → scalar c ≡ true → lossy_after 0 (encode c ++ rest) ≡ encode c ++ lossy_after 0 rest
 keeps_char c rest e = let starts = starts_char c rest e in keeps_front (encode c) rest starts.0 starts.1
 
-keeps_chars : (cs rest : List ℕ) → scalars cs ≡ true → lossy_behind 0 (encodes cs ++ rest) ≡ encodes cs ++ lossy_behind 0 rest
+keeps_chars : (cs rest : List ℕ) → scalars cs ≡ true → lossy_after 0 (encodes cs ++ rest) ≡ encodes cs ++ lossy_after 0 rest
 keeps_chars [] rest e = refl
 keeps_chars (c ∷ cs) rest e =
     let both = and_parts (scalar c) (scalars cs) e in
-    ap (lossy_behind 0) (append_assoc (encode c) (encodes cs) rest)
+    ap (lossy_after 0) (append_assoc (encode c) (encodes cs) rest)
     ∙ keeps_char c (encodes cs ++ rest) both.0
     ∙ ap (λ bytes. encode c ++ bytes) (keeps_chars cs rest both.1)
-    ∙ sym (append_assoc (encode c) (encodes cs) (lossy_behind 0 rest))
+    ∙ sym (append_assoc (encode c) (encodes cs) (lossy_after 0 rest))
 
 -- text at the front stays as it is
 pub lossy_of_append : (valid rest : List ℕ) → IsUtf8 valid → lossy_of (valid ++ rest) ≡ valid ++ lossy_of rest
 unfolding lossy_of
 lossy_of_append valid rest u =
-    let P : List ℕ → Type 0 = λ front. lossy_behind 0 (front ++ rest) ≡ front ++ lossy_behind 0 rest in
+    let P : List ℕ → Type 0 = λ front. lossy_after 0 (front ++ rest) ≡ front ++ lossy_after 0 rest in
     subst P u.1.1 (keeps_chars u.0 rest u.1.0)
 
 -- and so does text that is all there is
@@ -253,20 +253,20 @@ by_len : (bytes : List ℕ) (n : ℕ) → ((k : ℕ) → n ≡ suc k → IsUtf8 
 by_len bytes zero h e = e
 by_len bytes (suc k) h e = e ∙ h k refl (sound bytes k e)
 
--- behind the longest front that is text no character begins
-pub no_char_behind : (bytes : List ℕ) (n : ℕ) → IsValidUpTo bytes n → char_len (drop n bytes) ≡ 0
-no_char_behind bytes n valid =
+-- after the longest front that is text no character begins
+pub no_char_after : (bytes : List ℕ) (n : ℕ) → IsValidUpTo bytes n → char_len (drop n bytes) ≡ 0
+no_char_after bytes n valid =
     by_len (drop n bytes) (char_len (drop n bytes))
     (λ k is u. absurd (valid.longest (n + char_len (drop n bytes)) (omega arith) (longer bytes n (char_len (drop n bytes)) valid.front u))) refl
 
 -- ---- the turns of the loop
-pub next_lossy : (made valid rest behind whole : List ℕ) (b : ℕ) → made ++ lossy_of rest ≡ whole → rest ≡ valid ++ (b ∷ behind) → IsUtf8 valid → char_len (b ∷ behind) ≡ 0
-    → ((made ++ valid) ++ replacement_bytes) ++ lossy_of behind ≡ whole
-next_lossy made valid rest behind whole b so_far parts u none =
-    append_assoc (made ++ valid) replacement_bytes (lossy_of behind)
-    ∙ ap (λ bytes. (made ++ valid) ++ bytes) (sym (replaced b behind none))
-    ∙ append_assoc made valid (lossy_of (b ∷ behind))
-    ∙ ap (λ bytes. made ++ bytes) (sym (ap lossy_of parts ∙ lossy_of_append valid (b ∷ behind) u))
+pub next_lossy : (made valid rest following whole : List ℕ) (b : ℕ) → made ++ lossy_of rest ≡ whole → rest ≡ valid ++ (b ∷ following) → IsUtf8 valid → char_len (b ∷ following) ≡ 0
+    → ((made ++ valid) ++ replacement_bytes) ++ lossy_of following ≡ whole
+next_lossy made valid rest following whole b so_far parts u none =
+    append_assoc (made ++ valid) replacement_bytes (lossy_of following)
+    ∙ ap (λ bytes. (made ++ valid) ++ bytes) (sym (replaced b following none))
+    ∙ append_assoc made valid (lossy_of (b ∷ following))
+    ∙ ap (λ bytes. made ++ bytes) (sym (ap lossy_of parts ∙ lossy_of_append valid (b ∷ following) u))
     ∙ so_far
 
 pub end_lossy : (made valid rest others whole : List ℕ) → made ++ lossy_of rest ≡ whole → rest ≡ valid ++ others → IsUtf8 valid → length others ≡ 0 → made ++ valid ≡ whole

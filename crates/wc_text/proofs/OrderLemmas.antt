@@ -6,12 +6,12 @@ use Rattle.std.specs.Ordering.{nat_cmp, ordering_then}
 use Rattle.std.specs.Cmp.{IsTotalOrder}
 use Rattle.std.proofs.lemmas.Cmp.{then_total, on_total, nat_list_cmp_total, tied_itself}
 use Rattle.std.proofs.lemmas.Bool.Decides.{nat_tests}
-use Rattle.wc_text.specs.Order.{folded, byte_order, fold_order}
+use Rattle.wc_text.specs.Order.{lower_case, byte_order, fold_order}
 
 -- `antisymm`, `trans` and `congr` of std's order laws
 pub fold_order_total : IsTotalOrder fold_order
 unfolding fold_order
-fold_order_total = then_total (on_total folded nat_list_cmp_total) nat_list_cmp_total
+fold_order_total = then_total (on_total lower_case nat_list_cmp_total) nat_list_cmp_total
 
 pub fold_order_itself : (a : List ℕ) → fold_order a a ≡ Equal
 fold_order_itself a = tied_itself fold_order_total a
@@ -38,4 +38,4 @@ same_bytes (x ∷ a) (y ∷ b) e = ap₂ (λ z c. z ∷ c) (same_number x y (fir
 -- only equal texts are tied
 pub same_from_fold_order : (a b : List ℕ) → fold_order a b ≡ Equal → a ≡ b
 unfolding fold_order
-same_from_fold_order a b e = same_bytes a b (then_equal (byte_order (folded a) (folded b)) _ e)
+same_from_fold_order a b e = same_bytes a b (then_equal (byte_order (lower_case a) (lower_case b)) _ e)

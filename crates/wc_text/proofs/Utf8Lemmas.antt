@@ -1,4 +1,4 @@
--- Where UTF-8 may be parted: at an ASCII byte, before it and behind it.
+-- Where UTF-8 may be parted: at an ASCII byte, before it and after it.
 use Rattle.std.proofs.Common.{◌≡◌, ℕ, suc, ◌+◌, ◌<◌, List, [], ◌∷◌, ◌++◌, length, get_or, take, drop, IsUtf8, refl, sym, ap, subst, ◌∙◌, arith}
 use Rattle.std.proofs.lemmas.Str.{IsUtf8-append, IsUtf8-take, IsUtf8-drop, IsUtf8-from_ascii, IsCharBoundary-before_ascii, IsCharBoundary-after_ascii}
 use Rattle.std.proofs.lemmas.Str.Ascii.{IsAscii-cons, IsAscii-nil}
@@ -16,9 +16,9 @@ utf8_from_ascii bytes i u h a = IsUtf8-drop bytes i u (IsCharBoundary-before_asc
 pub utf8_with_ascii : (bytes : List ℕ) (i : ℕ) → IsUtf8 bytes → i < length bytes → get_or bytes i 0 < 128 → IsUtf8 (take (i + 1) bytes)
 utf8_with_ascii bytes i u h a = IsUtf8-take bytes (i + 1) u (IsCharBoundary-after_ascii bytes i u h a)
 
--- the rest behind it
-pub utf8_behind_ascii : (bytes : List ℕ) (i : ℕ) → IsUtf8 bytes → i < length bytes → get_or bytes i 0 < 128 → IsUtf8 (drop (i + 1) bytes)
-utf8_behind_ascii bytes i u h a = IsUtf8-drop bytes (i + 1) u (IsCharBoundary-after_ascii bytes i u h a)
+-- the rest after it
+pub utf8_after_ascii : (bytes : List ℕ) (i : ℕ) → IsUtf8 bytes → i < length bytes → get_or bytes i 0 < 128 → IsUtf8 (drop (i + 1) bytes)
+utf8_after_ascii bytes i u h a = IsUtf8-drop bytes (i + 1) u (IsCharBoundary-after_ascii bytes i u h a)
 
 -- one ASCII byte is a text
 pub utf8_one : (b : ℕ) → b < 128 → IsUtf8 (b ∷ [])
@@ -53,5 +53,5 @@ utf8_parts front b rest a u =
     let low : get_or bytes n 0 < 128 = let P : ℕ → Type 0 = λ x. x < 128 in subst P (sym (byte_at front b rest)) a in
     let next : n + 1 ≡ suc n = omega arith in (
       subst IsUtf8 (front_of front (b ∷ rest)) (utf8_before_ascii bytes n u inside low),
-      subst IsUtf8 (ap (λ k. drop k bytes) next ∙ rest_of front b rest) (utf8_behind_ascii bytes n u inside low),
+      subst IsUtf8 (ap (λ k. drop k bytes) next ∙ rest_of front b rest) (utf8_after_ascii bytes n u inside low),
     )

@@ -7,8 +7,8 @@ use Rattle.std.proofs.lemmas.Bool.Decides.{nat_tests}
 use Rattle.std.proofs.lemmas.List.{take_all, length-drop}
 use Rattle.std.proofs.lemmas.List.Sums.{passes_at_first}
 use Rattle.std.proofs.lemmas.List.Splits.{slice_split_at, slice_split_none}
-use Rattle.wc_text.specs.Words.{is_space, is_filled, words_of, behind_spaces}
-use Rattle.wc_text.proofs.Utf8Lemmas.{utf8_before_ascii, utf8_from_ascii, utf8_behind_ascii}
+use Rattle.wc_text.specs.Words.{is_space, is_filled, words_of, after_spaces}
+use Rattle.wc_text.proofs.Utf8Lemmas.{utf8_before_ascii, utf8_from_ascii, utf8_after_ascii}
 use Rattle.wc_text.proofs.WordsLemmas.{filter_first, next_word, no_word, starts_word}
 
 pub words_of_nothing : words_of [] ≡ []
@@ -31,25 +31,25 @@ all_with_first : (word : List ℕ) (words : List (List ℕ)) → IsUtf8 word →
 all_with_first word words u all zero d inside = u
 all_with_first word words u all (suc k) d inside = all k d (omega arith)
 
-behind_by : (b : ℕ) (bytes : List ℕ) (test : Bool) → is_space b ≡ test → IsUtf8 (b ∷ bytes) → (IsUtf8 bytes → IsUtf8 (behind_spaces bytes)) → IsUtf8 (behind_spaces (b ∷ bytes))
-behind_by b bytes true e u ih =
+after_by : (b : ℕ) (bytes : List ℕ) (test : Bool) → is_space b ≡ test → IsUtf8 (b ∷ bytes) → (IsUtf8 bytes → IsUtf8 (after_spaces bytes)) → IsUtf8 (after_spaces (b ∷ bytes))
+after_by b bytes true e u ih =
     let space : b ≡ 32 = grind (arith, nat_tests) in
-    rw e (ih (utf8_behind_ascii (b ∷ bytes) 0 u (omega arith) (omega arith)))
-behind_by b bytes false e u ih = rw e u
+    rw e (ih (utf8_after_ascii (b ∷ bytes) 0 u (omega arith) (omega arith)))
+after_by b bytes false e u ih = rw e u
 
-behind_utf8 : (bytes : List ℕ) → IsUtf8 bytes → IsUtf8 (behind_spaces bytes)
-behind_utf8 [] u = u
-behind_utf8 (b ∷ bytes) u = behind_by b bytes (is_space b) refl u (behind_utf8 bytes)
+after_utf8 : (bytes : List ℕ) → IsUtf8 bytes → IsUtf8 (after_spaces bytes)
+after_utf8 [] u = u
+after_utf8 (b ∷ bytes) u = after_by b bytes (is_space b) refl u (after_utf8 bytes)
 
-behind_short_by : (b : ℕ) (bytes : List ℕ) (test : Bool) → is_space b ≡ test → length (behind_spaces bytes) ≤ length bytes → length (behind_spaces (b ∷ bytes)) ≤ suc (length bytes)
-behind_short_by b bytes true e h = rw e (omega arith)
-behind_short_by b bytes false e h = rw e (omega arith)
+after_short_by : (b : ℕ) (bytes : List ℕ) (test : Bool) → is_space b ≡ test → length (after_spaces bytes) ≤ length bytes → length (after_spaces (b ∷ bytes)) ≤ suc (length bytes)
+after_short_by b bytes true e h = rw e (omega arith)
+after_short_by b bytes false e h = rw e (omega arith)
 
-behind_short : (bytes : List ℕ) → length (behind_spaces bytes) ≤ length bytes
-behind_short [] = omega arith
-behind_short (b ∷ bytes) = behind_short_by b bytes (is_space b) refl (behind_short bytes)
+after_short : (bytes : List ℕ) → length (after_spaces bytes) ≤ length bytes
+after_short [] = omega arith
+after_short (b ∷ bytes) = after_short_by b bytes (is_space b) refl (after_short bytes)
 
--- the front before the first space, and what stands from it on
+-- the front before the first space, and what is from it on
 parts_utf8 : (rest : List ℕ) → IsUtf8 rest → IsUtf8 (take (position_or_len is_space rest) rest) × IsUtf8 (drop (position_or_len is_space rest) rest)
 parts_utf8 rest u = elim (cases_lt (position_or_len is_space rest) (length rest)) [
   | inl inside ↦
@@ -80,17 +80,17 @@ filled_later (suc n) rest e = omega arith
 
 utf8_within : (k : ℕ) (bytes : List ℕ) → length bytes ≤ k → IsUtf8 bytes → All IsUtf8 (words_of bytes)
 utf8_within zero bytes short u =
-    let none : length (behind_spaces bytes) ≡ 0 = omega (arith, behind_short bytes) in
-    subst (All IsUtf8) (sym (no_word bytes (behind_spaces bytes) refl none).0) (λ i d inside. absurd (omega arith))
-utf8_within (suc k) bytes short u = elim (cases_eq (length (behind_spaces bytes)) 0) [
-  | inl none ↦ subst (All IsUtf8) (sym (no_word bytes (behind_spaces bytes) refl none).0) (λ i d inside. absurd (omega arith))
+    let none : length (after_spaces bytes) ≡ 0 = omega (arith, after_short bytes) in
+    subst (All IsUtf8) (sym (no_word bytes (after_spaces bytes) refl none).0) (λ i d inside. absurd (omega arith))
+utf8_within (suc k) bytes short u = elim (cases_eq (length (after_spaces bytes)) 0) [
+  | inl none ↦ subst (All IsUtf8) (sym (no_word bytes (after_spaces bytes) refl none).0) (λ i d inside. absurd (omega arith))
   | inr more ↦
-      let rest = behind_spaces bytes in
+      let rest = after_spaces bytes in
       let e = position_or_len is_space rest in
       let some : 0 < length rest = omega arith in
-      let parts = parts_utf8 rest (behind_utf8 bytes u) in
+      let parts = parts_utf8 rest (after_utf8 bytes u) in
       let later : 0 < e = filled_later e rest (starts_word bytes some) in
-      let less : length (drop e rest) ≤ k = omega (arith, length-drop e rest, behind_short bytes) in
+      let less : length (drop e rest) ≤ k = omega (arith, length-drop e rest, after_short bytes) in
       subst (All IsUtf8) (sym (next_word bytes rest e refl some refl)) (all_with_first (take e rest) (words_of (drop e rest)) parts.0 (utf8_within k (drop e rest) less parts.1))
 ]
 

@@ -3,13 +3,13 @@ use Rattle.std.specs.Prelude.{ℕ, zero, suc, ◌-◌, Bool, true, false, ◌&&�
 use Rattle.std.specs.Int.{is_in_range}
 use Rattle.std.specs.Str.Lossy.{second_byte_min, second_byte_max, replacement_bytes}
 
--- whether n bytes that continue a character stand at the front
+-- whether n bytes that continue a character are at the front
 abbrev pub continues : ℕ → List ℕ → Bool
 continues zero bytes = true
 continues (suc n) [] = false
 continues (suc n) (b ∷ bytes) = is_in_range 0x80 0xBF b && continues n bytes
 
--- whether behind the first byte `x` of a character stand a second that goes with it and n further ones
+-- whether after the first byte `x` of a character are a second that goes with it and n further ones
 abbrev pub ends_char : ℕ → ℕ → List ℕ → Bool
 ends_char x n [] = false
 ends_char x n (y ∷ bytes) = is_in_range (second_byte_min x) (second_byte_max x) y && continues n bytes
@@ -24,13 +24,13 @@ char_len (x ∷ bytes) =
     else (if is_in_range 0xF0 0xF4 x && ends_char x 2 bytes then 4 else 0)))
 
 -- what is made of the bytes where the first n belong to a character that is kept
-abbrev pub lossy_behind : ℕ → List ℕ → List ℕ
-lossy_behind n [] = []
-lossy_behind (suc n) (b ∷ bytes) = b ∷ lossy_behind n bytes
-lossy_behind zero (b ∷ bytes) =
-    if char_len (b ∷ bytes) == 0 then replacement_bytes ++ lossy_behind 0 bytes
-    else b ∷ lossy_behind (char_len (b ∷ bytes) - 1) bytes
+abbrev pub lossy_after : ℕ → List ℕ → List ℕ
+lossy_after n [] = []
+lossy_after (suc n) (b ∷ bytes) = b ∷ lossy_after n bytes
+lossy_after zero (b ∷ bytes) =
+    if char_len (b ∷ bytes) == 0 then replacement_bytes ++ lossy_after 0 bytes
+    else b ∷ lossy_after (char_len (b ∷ bytes) - 1) bytes
 
 -- from the left: each well-formed character, and U+FFFD for each other byte
 unfoldable pub lossy_of : List ℕ → List ℕ
-lossy_of bytes = lossy_behind 0 bytes
+lossy_of bytes = lossy_after 0 bytes

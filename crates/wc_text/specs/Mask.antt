@@ -12,7 +12,7 @@ abbrev pub some_end : (List ℕ → Bool) → List ℕ → Bool
 some_end test [] = test []
 some_end test (b ∷ text) = test (b ∷ text) || some_end test text
 
--- whether the text begins with this byte, and the test holds of what stands behind it
+-- whether the text begins with this byte, and the test holds of what comes after it
 abbrev pub first_and : Bool → ℕ → (List ℕ → Bool) → List ℕ → Bool
 first_and fold c test [] = false
 first_and fold c test (b ∷ text) = same_byte fold c b && test text
@@ -25,7 +25,7 @@ abbrev pub is_star : ℕ → Bool
 is_star c = c == 42
 
 -- whether the mask matches the whole text: an empty mask the empty text, `*` and more where the more matches some end,
--- and another byte and more where the text begins with that byte and the more matches what stands behind it
+-- and another byte and more where the text begins with that byte and the more matches what comes after it
 abbrev pub matches_of : Bool → List ℕ → List ℕ → Bool
 matches_of fold [] text = is_nothing text
 matches_of fold (c ∷ mask) text =
@@ -35,20 +35,20 @@ matches_of fold (c ∷ mask) text =
 abbrev pub is_plain : List ℕ → Bool
 is_plain part = list_all (λ c. not (is_star c)) part
 
--- what stands behind the part, where the text begins with it
-abbrev pub behind_front : Bool → List ℕ → List ℕ → Option (List ℕ)
-behind_front fold [] text = Some text
-behind_front fold (c ∷ part) [] = None
-behind_front fold (c ∷ part) (b ∷ text) = if same_byte fold c b then behind_front fold part text else None
+-- what comes after the part, where the text begins with it
+abbrev pub after_front : Bool → List ℕ → List ℕ → Option (List ℕ)
+after_front fold [] text = Some text
+after_front fold (c ∷ part) [] = None
+after_front fold (c ∷ part) (b ∷ text) = if same_byte fold c b then after_front fold part text else None
 
 abbrev pub first_of_two : Option (List ℕ) → Option (List ℕ) → Option (List ℕ)
 first_of_two (Some text) other = Some text
 first_of_two None other = other
 
--- what stands behind the first place of the part
-abbrev pub behind_first : Bool → List ℕ → List ℕ → Option (List ℕ)
-behind_first fold part [] = behind_front fold part []
-behind_first fold part (b ∷ text) = first_of_two (behind_front fold part (b ∷ text)) (behind_first fold part text)
+-- what comes after the first place of the part
+abbrev pub after_first : Bool → List ℕ → List ℕ → Option (List ℕ)
+after_first fold part [] = after_front fold part []
+after_first fold part (b ∷ text) = first_of_two (after_front fold part (b ∷ text)) (after_first fold part text)
 
 -- whether the text ends with the mask, which has no star
 abbrev pub ends_with : Bool → List ℕ → List ℕ → Bool

@@ -6,12 +6,12 @@ use Rattle.std.specs.Cmp.Lexicographic.{slice_cmp}
 use Rattle.std.specs.Char.{to_ascii_lowercase}
 
 -- the bytes with ASCII letters in lower case
-abbrev pub folded : List ℕ → List ℕ
-folded bytes = map to_ascii_lowercase bytes
+abbrev pub lower_case : List ℕ → List ℕ
+lower_case bytes = map to_ascii_lowercase bytes
 
 abbrev pub byte_order : List ℕ → List ℕ → Ordering
 byte_order = slice_cmp nat_cmp
 
 -- the order of the folded bytes, and of the bytes where those are alike
 unfoldable pub fold_order : List ℕ → List ℕ → Ordering
-fold_order a b = ordering_then (byte_order (folded a) (folded b)) (byte_order a b)
+fold_order a b = ordering_then (byte_order (lower_case a) (lower_case b)) (byte_order a b)

@@ -15,9 +15,9 @@ unfoldable pub words_of : List ℕ → List (List ℕ)
 words_of bytes = filter is_filled (slice_split is_space bytes)
 
 -- the bytes without the spaces at their front
-abbrev pub behind_spaces : List ℕ → List ℕ
-behind_spaces [] = []
-behind_spaces (b ∷ bytes) = if b == 32 then behind_spaces bytes else b ∷ bytes
+abbrev pub after_spaces : List ℕ → List ℕ
+after_spaces [] = []
+after_spaces (b ∷ bytes) = if b == 32 then after_spaces bytes else b ∷ bytes
 
 -- the words that an iterator has still to give
 abbrev pub words_left : WordIter → List (List ℕ)

@@ -17,7 +17,7 @@ pub fn cut(text: &[u8], limit: usize) -> usize
     end
 }
 
-/// Whether the byte stands in a character behind its first byte.
+/// Whether the byte is in a character after its first byte.
 fn is_within_char(byte: u8) -> bool
     ensures within { IsTrue result → (128 ≤ byte) × (byte < 192) }
     ensures begins { result ≡ false → 128 ≤ byte → 192 ≤ byte }

@@ -1,6 +1,6 @@
 ghost use Rattle.std.specs.Prelude.{◌≡◌, ◌++◌, ◌∷◌, true, IsTrue, MatchOption};
 ghost use Rattle.std.specs.Option.{option_copied};
-ghost use Rattle.wc_text.specs.Mask.{matches_of, is_plain, behind_front, behind_first, ends_with, same_byte};
+ghost use Rattle.wc_text.specs.Mask.{matches_of, is_plain, after_front, after_first, ends_with, same_byte};
 
 use crate::places::place_of;
 
@@ -13,30 +13,30 @@ pub fn mask_matches(mask: &[u8], text: &[u8], fold: bool) -> bool
     let Some((front, others)) = split_at_star(mask) else {
         return is_whole(mask, text, fold);
     };
-    let Some(behind) = behind_front(front, text, fold) else {
+    let Some(following) = after_front(front, text, fold) else {
         return false;
     };
-    matches_some_end(others, behind, fold)
+    matches_some_end(others, following, fold)
 }
 
 /// Whether the mask matches some end of the text: each part between stars is looked for
-/// behind the first place of the part before it, and the last part at the end.
+/// after the first place of the part before it, and the last part at the end.
 fn matches_some_end(mask: &[u8], text: &[u8], fold: bool) -> bool
     ensures { result ≡ ends_with fold mask.now text.now }
 {
     let mut mask = mask;
     let mut text = text;
     while let Some((part, others)) = split_at_star(mask) {
-        let Some(behind) = behind_first(part, text, fold) else {
+        let Some(following) = after_first(part, text, fold) else {
             return false;
         };
         mask = others;
-        text = behind;
+        text = following;
     }
     is_end(mask, text, fold)
 }
 
-/// What stands before the first `*` and behind it.
+/// What is before the first `*` and after it.
 fn split_at_star(mask: &[u8]) -> Option<(&[u8], &[u8])>
     ensures { MatchOption result (IsTrue (is_plain mask.now)) (λ parts. IsTrue (is_plain parts.0.now) × (mask.now ≡ parts.0.now ++ 42 ∷ parts.1.now)) }
 {
@@ -52,8 +52,8 @@ fn is_whole(mask: &[u8], text: &[u8], fold: bool) -> bool
     requires { IsTrue (is_plain mask.now) }
     ensures { result ≡ matches_of fold mask.now text.now }
 {
-    match behind_front(mask, text, fold) {
-        Some(behind) => behind.is_empty(),
+    match after_front(mask, text, fold) {
+        Some(following) => following.is_empty(),
         None => false,
     }
 }
@@ -67,35 +67,35 @@ fn is_end(mask: &[u8], text: &[u8], fold: bool) -> bool
         return false;
     }
     let (_, end) = text.split_at(text.len() - mask.len());
-    behind_front(mask, end, fold).is_some()
+    after_front(mask, end, fold).is_some()
 }
 
-/// What stands behind the part, where the text begins with it.
-fn behind_front<'a>(part: &[u8], text: &'a [u8], fold: bool) -> Option<&'a [u8]>
-    ensures { option_copied result ≡ behind_front fold part.now text.now }
+/// What comes after the part, where the text begins with it.
+fn after_front<'a>(part: &[u8], text: &'a [u8], fold: bool) -> Option<&'a [u8]>
+    ensures { option_copied result ≡ after_front fold part.now text.now }
 {
     let mut part = part;
     let mut text = text;
     while let Some((c, others)) = part.split_first() {
-        let (b, behind) = text.split_first()?;
+        let (b, following) = text.split_first()?;
         if !same_byte(*c, *b, fold) {
             return None;
         }
         part = others;
-        text = behind;
+        text = following;
     }
     Some(text)
 }
 
-/// What stands behind the first place of the part.
+/// What comes after the first place of the part.
 #[tactic(auto, using(crate::proofs::MaskLemmas::found_first))]
-fn behind_first<'a>(part: &[u8], text: &'a [u8], fold: bool) -> Option<&'a [u8]>
-    ensures { option_copied result ≡ behind_first fold part.now text.now }
+fn after_first<'a>(part: &[u8], text: &'a [u8], fold: bool) -> Option<&'a [u8]>
+    ensures { option_copied result ≡ after_first fold part.now text.now }
 {
     let mut text = text;
     loop {
-        if let Some(behind) = behind_front(part, text, fold) {
-            return Some(behind);
+        if let Some(following) = after_front(part, text, fold) {
+            return Some(following);
         }
         text = text.split_first()?.1;
     }

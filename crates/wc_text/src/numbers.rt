@@ -7,9 +7,9 @@ ghost use Rattle.wc_text.specs.Integer.{integer_of, magnitude_of, negative_of, p
 pub fn read_i64(bytes: &[u8]) -> Option<i64>
     ensures { result ≡ integer_of bytes.now }
 {
-    let (first, behind) = bytes.split_first()?;
+    let (first, following) = bytes.split_first()?;
     if *first == b'-' {
-        read_negative(behind)
+        read_negative(following)
     } else {
         read_positive(bytes)
     }

@@ -1,5 +1,5 @@
 ghost use Rattle.std.specs.Prelude.{◌≡◌};
-ghost use Rattle.wc_text.specs.Order.{fold_order, byte_order, folded};
+ghost use Rattle.wc_text.specs.Order.{fold_order, byte_order, lower_case};
 
 use std::cmp::Ordering;
 
@@ -17,7 +17,7 @@ pub fn fold_cmp(a: &[u8], b: &[u8]) -> Ordering
 
 /// Compares with ASCII letters in lower case.
 fn fold_only_cmp(a: &[u8], b: &[u8]) -> Ordering
-    ensures { result ≡ byte_order (folded a.now) (folded b.now) }
+    ensures { result ≡ byte_order (lower_case a.now) (lower_case b.now) }
 {
     a.iter()
         .map(|x| x.to_ascii_lowercase())

@@ -44,7 +44,7 @@ impl Text {
         self.bytes.as_slice()
     }
 
-    /// Puts bytes behind the text. Where memory is refused the text stays as it was.
+    /// Puts bytes after the text. Where memory is refused the text stays as it was.
     pub fn append(&mut self, bytes: &[u8]) -> Result<(), NoMemory>
         ensures ok { OnOk result (self.new ≡ self.old ++ bytes.now) }
         ensures err { OnErr result (self.new ≡ self.old) }

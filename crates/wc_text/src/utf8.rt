@@ -23,15 +23,15 @@ pub fn lossy(alloc: Global, bytes: &[u8]) -> Result<Text, NoMemory>
     loop {
         let (valid, others) = split_valid(rest);
         text.append(valid)?;
-        let Some((_, behind)) = others.split_first() else {
+        let Some((_, following)) = others.split_first() else {
             return Ok(text);
         };
         text.append(&REPLACEMENT)?;
-        rest = behind;
+        rest = following;
     }
 }
 
-/// The longest front that is UTF-8, and what stands behind it, which begins with no character.
+/// The longest front that is UTF-8, and what comes after it, which begins with no character.
 fn split_valid(bytes: &[u8]) -> (&[u8], &[u8])
     ensures whole { bytes.now ≡ result.0.now ++ result.1.now }
     ensures valid { IsUtf8 result.0.now }

@@ -1,6 +1,6 @@
 ghost use Rattle.std.specs.Prelude.{◌≡◌};
 ghost use Rattle.std.specs.Iterator.{YieldsFirstRef, item_count};
-ghost use Rattle.wc_text.specs.Words.{words_of, words_left, behind_spaces};
+ghost use Rattle.wc_text.specs.Words.{words_of, words_left, after_spaces};
 
 use crate::places::place_of;
 
@@ -26,7 +26,7 @@ impl<'a> Iterator for WordIter<'a> {
 
     #[tactic(auto, using(crate::proofs::WordsLemmas::next_word))]
     fn next(&mut self) -> Option<&'a [u8]> {
-        self.rest = behind_spaces(self.rest);
+        self.rest = after_spaces(self.rest);
         if self.rest.is_empty() {
             return None;
         }
@@ -37,12 +37,12 @@ impl<'a> Iterator for WordIter<'a> {
 }
 
 /// The bytes from the first on that is no space.
-fn behind_spaces(bytes: &[u8]) -> &[u8]
-    ensures { result.now ≡ behind_spaces bytes.now }
+fn after_spaces(bytes: &[u8]) -> &[u8]
+    ensures { result.now ≡ after_spaces bytes.now }
 {
     let mut rest = bytes;
-    while let [b' ', behind @ ..] = rest {
-        rest = behind;
+    while let [b' ', following @ ..] = rest {
+        rest = following;
     }
     rest
 }

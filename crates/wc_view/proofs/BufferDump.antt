@@ -8,7 +8,7 @@ use Rattle.wc_buffers.specs.Groups.{AllFilled, times, times_in, in_group}
 use Rattle.wc_buffers.specs.Calls.{handle_of}
 use Rattle.wc_buffers.proofs.GroupLaws.{in_group_tells}
 use Rattle.wc_objects.specs.declared.object.HdaItem.{HdaItem}
-use Rattle.wc_told.specs.BufferObjects.{dump_keys, dumped_values, dumped_buffer, dumped_groups as told_groups, buffer_dump}
+use Rattle.wc_events.specs.BufferObjects.{dump_keys, dumped_values, dumped_buffer, dumped_groups as told_groups, buffer_dump}
 use Rattle.wc_view.specs.declared.carried.Carried.{Carried}
 use Rattle.wc_view.specs.Each.{each}
 use Rattle.wc_view.specs.Carried.{carry, carried_by}

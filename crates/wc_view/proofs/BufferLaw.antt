@@ -1,4 +1,4 @@
--- The event of a change of a world is folded to the buffers behind the change.
+-- The event of a change of a world is folded to the buffers after the change.
 use Rattle.std.proofs.Common.{◌≡◌, ℕ, ◌^◌, ◌+◌, ◌-◌, ◌<◌, ◌≤◌, Bool, true, false, cond, not, ◌&&◌, eqb, List, [], ◌∷◌, ◌++◌, length, map, codes, Option, Some, None, option_map, refl, sym, ap, subst, ◌∙◌, arith, lt-ltb, le-leb}
 use Rattle.std.specs.Prelude.{unwrap_or, nat_lt, nat_le}
 use Rattle.std.proofs.lemmas.Bool.{eq-eqb, eqb-true, false≢true}
@@ -9,7 +9,7 @@ use Rattle.wc_text.specs.declared.names.Pair.{Pair}
 use Rattle.wc_buffers.specs.declared.row.BufferSpec.{BufferSpec}
 use Rattle.wc_buffers.specs.declared.entry.BufferEntry.{BufferEntry}
 use Rattle.wc_buffers.specs.Groups.{rows, in_group, has, row_of, times, update, take_out, pick, append_to, merge, others, own, move_group}
-use Rattle.wc_buffers.specs.Calls.{Groups as Held, handle_of, entry_of, lacks_var, opened as opened_entry, with_hidden, with_full_name, with_short_name, with_title, with_var, without_var, changed}
+use Rattle.wc_buffers.specs.Calls.{EntryGroups as Held, handle_of, entry_of, lacks_var, new_entry as opened_entry, with_hidden, with_full_name, with_short_name, with_title, with_var, without_var, with_entry}
 use Rattle.wc_buffers.specs.Vars.{cut_to}
 use Rattle.wc_buffers.proofs.GroupLaws.{by_bool, in_group-map, has-map, rows-map, times-map, row_of-map, update-map, take_out-map, merge-map, move_group-map, unmerge-map, times-take_out}
 use Rattle.wc_buffers.proofs.RefusalLemmas.{there_good, close_good, move_good, merge_good, unmerge_good, rename_good, short_name_good, set_var_good, remove_var_good}
@@ -27,16 +27,16 @@ use Rattle.wc_model.specs.Order.{order, before_in}
 use Rattle.wc_model.specs.Apply.{refusal_of, after_of, of_buffers, or_else, row_of as new_row}
 use Rattle.wc_model.specs.Notices.{notice_of, notice_at, var_kind, name_in, flips_between}
 use Rattle.wc_objects.specs.declared.object.Object.{Object}
-use Rattle.wc_told.specs.BufferObjects.{event_of, event_objects, objects_of, opened_objects, renamed_objects, title_objects, vars_objects}
+use Rattle.wc_events.specs.BufferObjects.{event_of, event_objects, objects_of, opened_objects, renamed_objects, title_objects, vars_objects}
 use Rattle.wc_view.specs.declared.mirror_buffer.MirrorBuffer.{MirrorBuffer}
 use Rattle.wc_view.specs.declared.carried.Carried.{Carried}
 use Rattle.wc_view.specs.Ids.{IsFree}
-use Rattle.wc_view.specs.Grouped.{Groups, key_of, put_behind, moved, merged, with_told, edited, with_event}
+use Rattle.wc_view.specs.Grouped.{MirrorGroups, key_of, put_after, move_group_at, merge_groups_at, with_told, edited, with_event}
 use Rattle.wc_view.specs.BufferFold.{fold_buffers}
 use Rattle.wc_view.specs.BufferViews.{shown_buffer, shown_groups, HasBuffers, AreGrouped, fold_told_buffers, BufferNoticeShows}
 use Rattle.wc_view.proofs.NoticeLaw.{other_id, message_of}
 use Rattle.wc_view.proofs.BufferTold.{cut, placed_told, opened_told, renamed_told, title_told, vars_told, opened_folds, renamed_folds, title_folds, added_folds, changed_folds, removed_folds, closing_folds, moved_folds, merged_folds, unmerged_folds, hidden_folds, unhidden_folds}
-use Rattle.wc_view.proofs.BufferPlaces.{once_changed, own_few, parted, moved_place, merged_behind, pick_filled}
+use Rattle.wc_view.proofs.BufferPlaces.{once_changed, own_few, parted, moved_place, merged_after, pick_filled}
 
 -- ---- groups as they are shown
 same_key : (e : BufferEntry) → key_of (shown_buffer e) ≡ handle_of e
@@ -80,7 +80,7 @@ updates : (h : ℕ) (kind : EventKind) (told : Carried) (F : BufferEntry → Buf
 updates h kind told F gs e is few row there same =
     is ∙ if_there (has key_of h (shown_groups gs)) _ (shown_groups gs) (shown_has h gs ∙ there) ∙ shown_update F (with_told kind told.buffer) h e gs few row same
 
--- the buffer behind its change
+-- the buffer after its change
 changed_entry : (buffer : Handle) (F : BufferEntry → BufferEntry) (gs : Held) (e : BufferEntry) → ((x : BufferEntry) → handle_of (F x) ≡ handle_of x) → row_of handle_of buffer.0 gs ≡ Some e
     → entry_of buffer (update handle_of buffer.0 F gs) ≡ Some (F e)
 changed_entry buffer F gs e keeps row = row_of-update handle_of buffer.0 F keeps gs ∙ ap (option_map F) row
@@ -172,12 +172,12 @@ set_var_shows : (id : List ℕ) (world : World) (buffer : Handle) (var : Pair) �
 unfolding refusal_of after_of objects_of edited
 set_var_shows id world buffer var are free ok = by (lacks_var var.name (entry_of buffer world.groups))
   where
-    by : (b : Bool) → HasBuffers (fold_told_buffers id (Some (shown_groups world.groups)) (event_of (after_of world buffer (SetVar var)) (notice_at (var_kind b) buffer (changed buffer (with_var var.name var.value) world.groups) [] (flips_between world (after_of world buffer (SetVar var)))))) (after_of world buffer (SetVar var))
+    by : (b : Bool) → HasBuffers (fold_told_buffers id (Some (shown_groups world.groups)) (event_of (after_of world buffer (SetVar var)) (notice_at (var_kind b) buffer (with_entry buffer (with_var var.name var.value) world.groups) [] (flips_between world (after_of world buffer (SetVar var)))))) (after_of world buffer (SetVar var))
     by true =
         let gs = world.groups in
         let there = (set_var_good buffer var.name gs (buffers_accepted _ ok)).0 in
         let r = some_row handle_of buffer.0 gs there in
-        let told = notice_at event.VarAdded buffer (changed buffer (with_var var.name var.value) gs) [] (flips_between world (after_of world buffer (SetVar var))) in
+        let told = notice_at event.VarAdded buffer (with_entry buffer (with_var var.name var.value) gs) [] (flips_between world (after_of world buffer (SetVar var))) in
         let named : told.full_name ≡ r.0.row.full_name = ap row_name (changed_entry buffer (with_var var.name var.value) gs r.0 (λ x. refl) r.1) in
         vars_show id gs buffer event.VarAdded (with_var var.name var.value) r.0 told (added_folds id (Some (shown_groups gs)) told (with_var var.name var.value r.0) free) refl (λ x. refl) (are.once buffer.0) r.1 there
         (λ i. record (shown_buffer r.0) { full_name = sym named i; vars = (with_var var.name var.value r.0).vars })
@@ -185,7 +185,7 @@ set_var_shows id world buffer var are free ok = by (lacks_var var.name (entry_of
         let gs = world.groups in
         let there = (set_var_good buffer var.name gs (buffers_accepted _ ok)).0 in
         let r = some_row handle_of buffer.0 gs there in
-        let told = notice_at event.VarChanged buffer (changed buffer (with_var var.name var.value) gs) [] (flips_between world (after_of world buffer (SetVar var))) in
+        let told = notice_at event.VarChanged buffer (with_entry buffer (with_var var.name var.value) gs) [] (flips_between world (after_of world buffer (SetVar var))) in
         let named : told.full_name ≡ r.0.row.full_name = ap row_name (changed_entry buffer (with_var var.name var.value) gs r.0 (λ x. refl) r.1) in
         vars_show id gs buffer event.VarChanged (with_var var.name var.value) r.0 told (changed_folds id (Some (shown_groups gs)) told (with_var var.name var.value r.0) free) refl (λ x. refl) (are.once buffer.0) r.1 there
         (λ i. record (shown_buffer r.0) { full_name = sym named i; vars = (with_var var.name var.value r.0).vars })
@@ -258,7 +258,7 @@ move_shows id world buffer n are free ok =
     let test : (nat_lt 0 n && nat_le (n - 1) (length (others key_of h (shown_groups gs)))) ≡ true = both _ _ (lt-ltb 0 n good.1) (le-leb (n - 1) (length (others key_of h (shown_groups gs))) shown_room) in
     moved_folds id (Some (shown_groups gs)) told free
     ∙ ap Some (if_there (has key_of h (shown_groups gs)) _ (shown_groups gs) (shown_has h gs ∙ good.0)
-    ∙ ap (λ k. moved h k (shown_groups gs)) number_is
+    ∙ ap (λ k. move_group_at h k (shown_groups gs)) number_is
     ∙ if_there _ (move_group key_of h (n - 1) (shown_groups gs)) (shown_groups gs) test
     ∙ sym (move_group-map shown_buffer handle_of key_of same_key h (n - 1) gs))
   where
@@ -290,20 +290,20 @@ merge_shows id world buffer into are free ok =
     let few : (q : ℕ) → times key_of q rest ≤ 1 = λ q. shown_few q in
     let none : times key_of h rest ≡ 0 = times-take_out key_of h h ms ∙ ap (λ b. cond b 0 (times key_of h ms)) (eq-eqb h h refl) in
     let stays : has key_of into.0 rest ≡ true = has-take_out key_of h into.0 ms ∙ ap (λ b. cond b false (has key_of into.0 ms)) apart ∙ into_there in
-    let behind = merged_behind into.0 h 0 p.0 p.1 rest p.3 none stays few in
+    let following = merged_after into.0 h 0 p.0 p.1 rest p.3 none stays few in
     let picked : append_to key_of into.0 (pick key_of h ms) rest ≡ append_to key_of into.0 (p.0 ∷ p.1) rest = ap (λ l. append_to key_of into.0 l rest) p.2 in
     let shown_is : shown_groups (merge handle_of h into.0 gs) ≡ append_to key_of into.0 (p.0 ∷ p.1) rest = merge-map shown_buffer handle_of key_of same_key h into.0 gs ∙ picked in
     let ordered : order (merge handle_of h into.0 gs) ≡ map key_of (rows (append_to key_of into.0 (p.0 ∷ p.1) rest)) =
     order-shown (merge handle_of h into.0 gs) ∙ ap (λ gs. map key_of (rows gs)) shown_is in
     let q = before_in 0 h (map key_of (rows (append_to key_of into.0 (p.0 ∷ p.1) rest))) in
     let prev_is : told.prev.0 ≡ q = ap (before_in 0 h) ordered in
-    let q_apart : eqb q h ≡ false = not_h q (behind.0) in
-    let q_there : has key_of q ms ≡ true = sym (ap (λ b. cond b false (has key_of q ms)) (turned q q_apart)) ∙ sym (has-take_out key_of h q ms) ∙ behind.0 in
+    let q_apart : eqb q h ≡ false = not_h q (following.0) in
+    let q_there : has key_of q ms ≡ true = sym (ap (λ b. cond b false (has key_of q ms)) (turned q q_apart)) ∙ sym (has-take_out key_of h q ms) ∙ following.0 in
     merged_folds id (Some ms) told free
     ∙ ap Some (if_there (has key_of h ms) _ ms there
-    ∙ ap (λ k. merged h k ms) prev_is
-    ∙ if_there (not (eqb q h) && has key_of q ms) (put_behind q (pick key_of h ms) rest) ms (both _ _ (ap not q_apart) q_there)
-    ∙ ap (λ l. put_behind q l rest) p.2 ∙ behind.1 ∙ sym shown_is)
+    ∙ ap (λ k. merge_groups_at h k ms) prev_is
+    ∙ if_there (not (eqb q h) && has key_of q ms) (put_after q (pick key_of h ms) rest) ms (both _ _ (ap not q_apart) q_there)
+    ∙ ap (λ l. put_after q l rest) p.2 ∙ following.1 ∙ sym shown_is)
   where
     both : (a b : Bool) → a ≡ true → b ≡ true → (a && b) ≡ true
     both a b x y = ap (λ c. c && b) x ∙ y
@@ -338,7 +338,7 @@ lines_alone event.LineAdded = true
 lines_alone event.LineDataChanged = true
 lines_alone _ = false
 
-other_message : (id : List ℕ) (part : Option Groups) (kind : EventKind) (objects : List Object) → IsFree id → lines_alone kind ≡ true → fold_buffers id part (message_of kind objects) ≡ part
+other_message : (id : List ℕ) (part : Option MirrorGroups) (kind : EventKind) (objects : List Object) → IsFree id → lines_alone kind ≡ true → fold_buffers id part (message_of kind objects) ≡ part
 other_message id part event.Cleared objects free e = rw (other_id (codes "buffer_cleared") id free) refl
 other_message id part event.LineAdded objects free e = rw (other_id (codes "buffer_line_added") id free) refl
 other_message id part event.LineDataChanged objects free e = rw (other_id (codes "buffer_line_data_changed") id free) refl
@@ -358,7 +358,7 @@ other_message id part event.Nicklist objects free e = absurd (let z = e in cc)
 other_message id part event.NicklistDiff objects free e = absurd (let z = e in cc)
 other_message id part event.NickTouched objects free e = absurd (let z = e in cc)
 
-other_told : (id : List ℕ) (part : Option Groups) (kind : EventKind) (objects : Option (List Object)) → IsFree id → lines_alone kind ≡ true → fold_told_buffers id part (option_map (message_of kind) objects) ≡ part
+other_told : (id : List ℕ) (part : Option MirrorGroups) (kind : EventKind) (objects : Option (List Object)) → IsFree id → lines_alone kind ≡ true → fold_told_buffers id part (option_map (message_of kind) objects) ≡ part
 other_told id part kind None free e = refl
 other_told id part kind (Some objects) free e = other_message id part kind objects free e
 

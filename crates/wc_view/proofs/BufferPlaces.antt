@@ -1,4 +1,4 @@
--- Groups of a client behind an edit.
+-- Groups of a client after an edit.
 use Rattle.std.proofs.Common.{◌≡◌, ℕ, ◌+◌, ◌<◌, ◌≤◌, true, false, cond, not, eqb, List, [], ◌∷◌, ◌++◌, length, map, take, drop, find, Option, Some, None, refl, sym, ap, subst, ◌∙◌, arith, lt-ltb}
 use Rattle.std.specs.List.{position_or_len}
 use Rattle.std.proofs.lemmas.Bool.{eq-eqb, eqb-true, or_parts, false≢true}
@@ -11,7 +11,7 @@ use Rattle.wc_buffers.proofs.GroupLaws.{by_bool, in_group_tells, has_tells}
 use Rattle.wc_world.proofs.GroupRows.{find-append, or_some, not_found}
 use Rattle.wc_model.specs.Order.{before_in}
 use Rattle.wc_view.specs.declared.mirror_buffer.MirrorBuffer.{MirrorBuffer}
-use Rattle.wc_view.specs.Grouped.{Groups, key_of, insert_behind, put_behind}
+use Rattle.wc_view.specs.Grouped.{MirrorGroups, key_of, insert_after, put_after}
 
 -- ---- a change of the one row of a key
 module _ {A : Type 0} (key : A → ℕ) (h : ℕ) where
@@ -71,16 +71,16 @@ module _ {A : Type 0} (key : A → ℕ) (h : ℕ) where
   pub parted : (gs : List (List A)) → length (own key h gs) + length (others key h gs) ≡ length gs
   parted gs = length-filter_both (in_group key h) (λ g. not (in_group key h g)) (λ g. refl) gs
 
-  position_behind : (front : List (List A)) (g : List A) (back : List (List A)) → has key h front ≡ false → in_group key h g ≡ true
+  position_after : (front : List (List A)) (g : List A) (back : List (List A)) → has key h front ≡ false → in_group key h g ≡ true
       → position_or_len (in_group key h) (front ++ g ∷ back) ≡ length front
-  position_behind [] g back none t = rw t refl
-  position_behind (x ∷ front) g back none t =
+  position_after [] g back none t = rw t refl
+  position_after (x ∷ front) g back none t =
       let o = or_parts (in_group key h x) (has key h front) none in
-      rw o.0 (let r = position_behind front g back o.1 t in omega arith)
+      rw o.0 (let r = position_after front g back o.1 t in omega arith)
 
   pub placed : (front : List (List A)) (g : List A) (back : List (List A)) → has key h front ≡ false → in_group key h g ≡ true → place key h (front ++ g ∷ back) ≡ Some (length front)
   placed front g back none t =
-      let n = position_behind front g back none t in
+      let n = position_after front g back none t in
       let inside : length front < length (front ++ g ∷ back) = omega (arith, length-append front (g ∷ back)) in
       rw (n, lt-ltb (length front) (length (front ++ g ∷ back)) inside) refl
 
@@ -106,7 +106,7 @@ module _ {A : Type 0} (key : A → ℕ) (h : ℕ) where
       ∙ placed (take n os) r.0 (r.1 ++ drop n os) (front_lacks n os (others_lack gs)) r.3
       ∙ ap Some long
 
--- ---- to put a buffer behind the one before is to append
+-- ---- to put a buffer after the one before is to append
 abbrev last_key : ℕ → List MirrorBuffer → ℕ
 last_key p [] = p
 last_key p (x ∷ xs) = last_key (key_of x) xs
@@ -122,16 +122,16 @@ last_in : (p : ℕ) (x : MirrorBuffer) (xs : List MirrorBuffer) → in_group key
 last_in p x [] = rw (eq-eqb (key_of x) (key_of x) refl) refl
 last_in p x (y ∷ ys) = grind (arith, last_in (key_of x) y ys)
 
-none_behind : (q : ℕ) (new g : List MirrorBuffer) → in_group key_of q g ≡ false → insert_behind q new g ≡ g
-none_behind q new [] e = refl
-none_behind q new (x ∷ xs) e = let o = or_parts (eqb (key_of x) q) (in_group key_of q xs) e in rw o.0 (ap (λ l. x ∷ l) (none_behind q new xs o.1))
+none_after : (q : ℕ) (new g : List MirrorBuffer) → in_group key_of q g ≡ false → insert_after q new g ≡ g
+none_after q new [] e = refl
+none_after q new (x ∷ xs) e = let o = or_parts (eqb (key_of x) q) (in_group key_of q xs) e in rw o.0 (ap (λ l. x ∷ l) (none_after q new xs o.1))
 
-none_put : (q : ℕ) (new : List MirrorBuffer) (gs : Groups) → has key_of q gs ≡ false → put_behind q new gs ≡ gs
+none_put : (q : ℕ) (new : List MirrorBuffer) (gs : MirrorGroups) → has key_of q gs ≡ false → put_after q new gs ≡ gs
 none_put q new [] e = refl
-none_put q new (g ∷ gs) e = let o = or_parts (in_group key_of q g) (has key_of q gs) e in λ i. none_behind q new g o.0 i ∷ none_put q new gs o.1 i
+none_put q new (g ∷ gs) e = let o = or_parts (in_group key_of q g) (has key_of q gs) e in λ i. none_after q new g o.0 i ∷ none_put q new gs o.1 i
 
 insert_last : (p : ℕ) (new : List MirrorBuffer) (x : MirrorBuffer) (xs : List MirrorBuffer) → ((q : ℕ) → times_in key_of q (x ∷ xs) ≤ 1)
-    → insert_behind (last_key p (x ∷ xs)) new (x ∷ xs) ≡ (x ∷ xs) ++ new
+    → insert_after (last_key p (x ∷ xs)) new (x ∷ xs) ≡ (x ∷ xs) ++ new
 insert_last p new x [] u = rw (eq-eqb (key_of x) (key_of x) refl) (ap (λ l. x ∷ l) (append-nil new))
 insert_last p new x (y ∷ ys) u =
     let l = last_key (key_of x) (y ∷ ys) in
@@ -144,27 +144,27 @@ last_in_filled : (t p : ℕ) (g : List MirrorBuffer) → in_group key_of t g ≡
 last_in_filled t p [] i = absurd (false≢true i)
 last_in_filled t p (x ∷ xs) i = last_in p x xs
 
-insert_last_filled : (t p : ℕ) (new g : List MirrorBuffer) → ((q : ℕ) → times_in key_of q g ≤ 1) → in_group key_of t g ≡ true → insert_behind (last_key p g) new g ≡ g ++ new
+insert_last_filled : (t p : ℕ) (new g : List MirrorBuffer) → ((q : ℕ) → times_in key_of q g ≤ 1) → in_group key_of t g ≡ true → insert_after (last_key p g) new g ≡ g ++ new
 insert_last_filled t p new [] u i = absurd (false≢true i)
 insert_last_filled t p new (x ∷ xs) u i = insert_last p new x xs u
 
-abbrev order_of : Groups → List ℕ
+abbrev order_of : MirrorGroups → List ℕ
 order_of gs = map key_of (rows gs)
 
-order_of-cons : (g : List MirrorBuffer) (gs : Groups) → order_of (g ∷ gs) ≡ map key_of g ++ order_of gs
+order_of-cons : (g : List MirrorBuffer) (gs : MirrorGroups) → order_of (g ∷ gs) ≡ map key_of g ++ order_of gs
 order_of-cons g gs = map-append key_of g (rows gs)
 
-untouched : (t : ℕ) (new : List MirrorBuffer) (gs : Groups) → has key_of t gs ≡ false → append_to key_of t new gs ≡ gs
+untouched : (t : ℕ) (new : List MirrorBuffer) (gs : MirrorGroups) → has key_of t gs ≡ false → append_to key_of t new gs ≡ gs
 untouched t new [] e = refl
 untouched t new (g ∷ gs) e = let o = or_parts (in_group key_of t g) (has key_of t gs) e in rw (o.0, untouched t new gs o.1) refl
 
-abbrev Behind : ℕ → ℕ → ℕ → List MirrorBuffer → Groups → Type 0
-Behind t h p new gs =
+abbrev After : ℕ → ℕ → ℕ → List MirrorBuffer → MirrorGroups → Type 0
+After t h p new gs =
     (has key_of (before_in p h (order_of (append_to key_of t new gs))) gs ≡ true)
-    × (put_behind (before_in p h (order_of (append_to key_of t new gs))) new gs ≡ append_to key_of t new gs)
+    × (put_after (before_in p h (order_of (append_to key_of t new gs))) new gs ≡ append_to key_of t new gs)
 
-here : (t h p : ℕ) (r : MirrorBuffer) (rs g : List MirrorBuffer) (gs : Groups) → key_of r ≡ h → times_in key_of h g ≡ 0 → ((q : ℕ) → times key_of q (g ∷ gs) ≤ 1) → in_group key_of t g ≡ true
-    → Behind t h p (r ∷ rs) (g ∷ gs)
+here : (t h p : ℕ) (r : MirrorBuffer) (rs g : List MirrorBuffer) (gs : MirrorGroups) → key_of r ≡ h → times_in key_of h g ≡ 0 → ((q : ℕ) → times key_of q (g ∷ gs) ≤ 1) → in_group key_of t g ≡ true
+    → After t h p (r ∷ rs) (g ∷ gs)
 here t h p r rs g gs k none few i =
     let new = r ∷ rs in
     let q = last_key p g in
@@ -176,17 +176,17 @@ here t h p r rs g gs k none few i =
     let e : before_in p h (order_of ((g ++ new) ∷ gs)) ≡ q =
     ap (before_in p h) (order_of-cons (g ++ new) gs ∙ ap (λ l. l ++ order_of gs) (map-append key_of g new) ∙ append_assoc (map key_of g) (map key_of new) (order_of gs))
     ∙ before-append p h g (map key_of new ++ order_of gs) none ∙ first_before q h r rs (order_of gs) k in
-    subst (λ w. (has key_of (before_in p h (order_of w)) (g ∷ gs) ≡ true) × (put_behind (before_in p h (order_of w)) new (g ∷ gs) ≡ w)) (sym whole)
-    (subst (λ z. (has key_of z (g ∷ gs) ≡ true) × (put_behind z new (g ∷ gs) ≡ (g ++ new) ∷ gs)) (sym e)
+    subst (λ w. (has key_of (before_in p h (order_of w)) (g ∷ gs) ≡ true) × (put_after (before_in p h (order_of w)) new (g ∷ gs) ≡ w)) (sym whole)
+    (subst (λ z. (has key_of z (g ∷ gs) ≡ true) × (put_after z new (g ∷ gs) ≡ (g ++ new) ∷ gs)) (sym e)
     (rw l refl, λ j. insert_last_filled t p new g few_g i j ∷ none_put q new gs rest_q j))
   where
     first_before : (q h : ℕ) (r : MirrorBuffer) (rs : List MirrorBuffer) (rest : List ℕ) → key_of r ≡ h → before_in q h (map key_of (r ∷ rs) ++ rest) ≡ q
     first_before q h r rs rest k = rw (eq-eqb (key_of r) h k) refl
 
-pub merged_behind : (t h p : ℕ) (r : MirrorBuffer) (rs : List MirrorBuffer) (gs : Groups) → key_of r ≡ h → times key_of h gs ≡ 0 → has key_of t gs ≡ true → ((q : ℕ) → times key_of q gs ≤ 1)
-    → Behind t h p (r ∷ rs) gs
-merged_behind t h p r rs [] k none there u = absurd (false≢true there)
-merged_behind t h p r rs (g ∷ gs) k none there u =
+pub merged_after : (t h p : ℕ) (r : MirrorBuffer) (rs : List MirrorBuffer) (gs : MirrorGroups) → key_of r ≡ h → times key_of h gs ≡ 0 → has key_of t gs ≡ true → ((q : ℕ) → times key_of q gs ≤ 1)
+    → After t h p (r ∷ rs) gs
+merged_after t h p r rs [] k none there u = absurd (false≢true there)
+merged_after t h p r rs (g ∷ gs) k none there u =
     let few_gs : (q : ℕ) → times key_of q gs ≤ 1 = λ q. let v : times_in key_of q g + times key_of q gs ≤ 1 = u q in omega arith in
     let none_g : times_in key_of h g ≡ 0 = omega arith in
     let none_gs : times key_of h gs ≡ 0 = omega arith in
@@ -194,17 +194,17 @@ merged_behind t h p r rs (g ∷ gs) k none there u =
     (λ i. here t h p r rs g gs k none_g u i)
     (λ i.
     let new = r ∷ rs in
-    let ih = merged_behind t h (last_key p g) r rs gs k none_gs (rw i at there) few_gs in
+    let ih = merged_after t h (last_key p g) r rs gs k none_gs (rw i at there) few_gs in
     let q = before_in (last_key p g) h (order_of (append_to key_of t new gs)) in
     let whole : append_to key_of t new (g ∷ gs) ≡ g ∷ append_to key_of t new gs = rw i refl in
     let e : before_in p h (order_of (g ∷ append_to key_of t new gs)) ≡ q =
     ap (before_in p h) (order_of-cons g (append_to key_of t new gs)) ∙ before-append p h g (order_of (append_to key_of t new gs)) none_g in
     let not_g : in_group key_of q g ≡ false = (let v : times_in key_of q g + times key_of q gs ≤ 1 = u q in grind (arith, in_group_tells key_of q g, has_tells key_of q gs, ih.0)) in
-    subst (λ w. (has key_of (before_in p h (order_of w)) (g ∷ gs) ≡ true) × (put_behind (before_in p h (order_of w)) new (g ∷ gs) ≡ w)) (sym whole)
-    (subst (λ z. (has key_of z (g ∷ gs) ≡ true) × (put_behind z new (g ∷ gs) ≡ g ∷ append_to key_of t new gs)) (sym e)
-    (rw not_g ih.0, λ j. none_behind q new g not_g j ∷ ih.1 j)))
+    subst (λ w. (has key_of (before_in p h (order_of w)) (g ∷ gs) ≡ true) × (put_after (before_in p h (order_of w)) new (g ∷ gs) ≡ w)) (sym whole)
+    (subst (λ z. (has key_of z (g ∷ gs) ≡ true) × (put_after z new (g ∷ gs) ≡ g ∷ append_to key_of t new gs)) (sym e)
+    (rw not_g ih.0, λ j. none_after q new g not_g j ∷ ih.1 j)))
 
-pub pick_filled : (h : ℕ) (gs : Groups) → has key_of h gs ≡ true → (x : MirrorBuffer) × (xs : List MirrorBuffer) × (pick key_of h gs ≡ x ∷ xs) × (key_of x ≡ h)
+pub pick_filled : (h : ℕ) (gs : MirrorGroups) → has key_of h gs ≡ true → (x : MirrorBuffer) × (xs : List MirrorBuffer) × (pick key_of h gs ≡ x ∷ xs) × (key_of x ≡ h)
 pick_filled h [] e = absurd (false≢true e)
 pick_filled h (g ∷ gs) e = by_bool (in_group key_of h g) _
     (λ t. let r = only_filled g t in (r.0, r.1 ++ pick key_of h gs, ap (λ l. l ++ pick key_of h gs) r.2, r.3))

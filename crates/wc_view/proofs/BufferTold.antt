@@ -14,8 +14,8 @@ use Rattle.wc_objects.specs.declared.object.HdaItem.{roll-HdaItem}
 use Rattle.wc_model.specs.declared.notice.Notice.{Notice}
 use Rattle.wc_model.specs.declared.notice.EventKind.{EventKind}
 use Rattle.wc_model.specs.declared.notice.EventKind.TheVariants as event
-use Rattle.wc_told.specs.LineObjects.{truth}
-use Rattle.wc_told.specs.BufferObjects.{pair_of, table, about, opened_keys, opened_values, opened_objects, placed_keys, placed_values, placed_objects, renamed_keys, renamed_values, renamed_objects, title_keys, title_values, title_objects, vars_keys, vars_values, vars_objects, named_keys, named_values, named_objects}
+use Rattle.wc_events.specs.LineObjects.{truth}
+use Rattle.wc_events.specs.BufferObjects.{pair_of, table, about, opened_keys, opened_values, opened_objects, placed_keys, placed_values, placed_objects, renamed_keys, renamed_values, renamed_objects, title_keys, title_values, title_objects, vars_keys, vars_values, vars_objects, named_keys, named_values, named_objects}
 use Rattle.wc_view.specs.declared.carried.Carried.{Carried}
 use Rattle.wc_view.specs.declared.carried.Field.{Field}
 use Rattle.wc_view.specs.Each.{each, only}
@@ -23,7 +23,7 @@ use Rattle.wc_view.specs.Values.{switch_in, pair_in, pairs_in}
 use Rattle.wc_view.specs.Items.{items_on}
 use Rattle.wc_view.specs.Carried.{bare, carry, carry_all, carried_by}
 use Rattle.wc_view.specs.BufferFold.{fields_of, told_by, fold_buffers, changed_by}
-use Rattle.wc_view.specs.Grouped.{Groups, with_event}
+use Rattle.wc_view.specs.Grouped.{MirrorGroups, with_event}
 use Rattle.wc_view.specs.Ids.{IsFree}
 use Rattle.wc_view.proofs.LineTold.{pointer_told, number_told, text_told, items_told}
 use Rattle.wc_view.proofs.NoticeLaw.{other_id, message_of}
@@ -122,27 +122,27 @@ unfolding carry named_values
 named_read notice = rw (number_told, text_told) refl
 
 -- ---- what each event makes of the groups
-abbrev Folds : List ℕ → Option Groups → EventKind → List Object → Carried → Type 0
+abbrev Folds : List ℕ → Option MirrorGroups → EventKind → List Object → Carried → Type 0
 Folds id part kind objects told = fold_buffers id part (message_of kind objects) ≡ option_map (with_event kind told) part
 
-folded : (kind : EventKind) (told : Option Carried) (part : Option Groups) (is : Carried) → told ≡ Some is → changed_by kind told part ≡ option_map (with_event kind is) part
+folded : (kind : EventKind) (told : Option Carried) (part : Option MirrorGroups) (is : Carried) → told ≡ Some is → changed_by kind told part ≡ option_map (with_event kind is) part
 folded kind told part is e = ap (λ t. changed_by kind t part) e
 
 pub opened_by : (notice : Notice) (e : BufferEntry) → told_by event.Opened (opened_objects notice e) ≡ Some (opened_told notice e)
 unfolding told_by
 opened_by notice e = read_about (fields_of event.Opened) opened_keys notice.buffer (opened_values notice e) refl ∙ opened_read notice e
 
-pub opened_folds : (id : List ℕ) (part : Option Groups) (notice : Notice) (e : BufferEntry) → IsFree id → Folds id part event.Opened (opened_objects notice e) (opened_told notice e)
+pub opened_folds : (id : List ℕ) (part : Option MirrorGroups) (notice : Notice) (e : BufferEntry) → IsFree id → Folds id part event.Opened (opened_objects notice e) (opened_told notice e)
 opened_folds id part notice e free =
     rw (other_id (codes "buffer_opened") id free) (folded event.Opened _ part (opened_told notice e) (opened_by notice e))
 
-pub renamed_folds : (id : List ℕ) (part : Option Groups) (notice : Notice) (e : BufferEntry) → IsFree id → Folds id part event.Renamed (renamed_objects notice e) (renamed_told notice e)
+pub renamed_folds : (id : List ℕ) (part : Option MirrorGroups) (notice : Notice) (e : BufferEntry) → IsFree id → Folds id part event.Renamed (renamed_objects notice e) (renamed_told notice e)
 unfolding told_by
 renamed_folds id part notice e free =
     rw (other_id (codes "buffer_renamed") id free) (folded event.Renamed _ part (renamed_told notice e)
     (read_about (fields_of event.Renamed) renamed_keys notice.buffer (renamed_values notice e) refl ∙ renamed_read notice e))
 
-pub title_folds : (id : List ℕ) (part : Option Groups) (notice : Notice) (e : BufferEntry) → IsFree id → Folds id part event.TitleChanged (title_objects notice e) (title_told notice e)
+pub title_folds : (id : List ℕ) (part : Option MirrorGroups) (notice : Notice) (e : BufferEntry) → IsFree id → Folds id part event.TitleChanged (title_objects notice e) (title_told notice e)
 unfolding told_by
 title_folds id part notice e free =
     rw (other_id (codes "buffer_title_changed") id free) (folded event.TitleChanged _ part (title_told notice e)
@@ -151,19 +151,19 @@ title_folds id part notice e free =
 vars_about : (notice : Notice) (e : BufferEntry) → option_and_then (carried_by (fields_of event.VarAdded)) (option_and_then only (items_on (codes "buffer") vars_keys (vars_objects notice e))) ≡ Some (vars_told notice e)
 vars_about notice e = read_about (fields_of event.VarAdded) vars_keys notice.buffer (vars_values notice e) refl ∙ vars_read notice e
 
-pub added_folds : (id : List ℕ) (part : Option Groups) (notice : Notice) (e : BufferEntry) → IsFree id → Folds id part event.VarAdded (vars_objects notice e) (vars_told notice e)
+pub added_folds : (id : List ℕ) (part : Option MirrorGroups) (notice : Notice) (e : BufferEntry) → IsFree id → Folds id part event.VarAdded (vars_objects notice e) (vars_told notice e)
 unfolding told_by
 added_folds id part notice e free = rw (other_id (codes "buffer_localvar_added") id free) (folded event.VarAdded _ part (vars_told notice e) (vars_about notice e))
 
-pub changed_folds : (id : List ℕ) (part : Option Groups) (notice : Notice) (e : BufferEntry) → IsFree id → Folds id part event.VarChanged (vars_objects notice e) (vars_told notice e)
+pub changed_folds : (id : List ℕ) (part : Option MirrorGroups) (notice : Notice) (e : BufferEntry) → IsFree id → Folds id part event.VarChanged (vars_objects notice e) (vars_told notice e)
 unfolding told_by
 changed_folds id part notice e free = rw (other_id (codes "buffer_localvar_changed") id free) (folded event.VarChanged _ part (vars_told notice e) (vars_about notice e))
 
-pub removed_folds : (id : List ℕ) (part : Option Groups) (notice : Notice) (e : BufferEntry) → IsFree id → Folds id part event.VarRemoved (vars_objects notice e) (vars_told notice e)
+pub removed_folds : (id : List ℕ) (part : Option MirrorGroups) (notice : Notice) (e : BufferEntry) → IsFree id → Folds id part event.VarRemoved (vars_objects notice e) (vars_told notice e)
 unfolding told_by
 removed_folds id part notice e free = rw (other_id (codes "buffer_localvar_removed") id free) (folded event.VarRemoved _ part (vars_told notice e) (vars_about notice e))
 
-pub closing_folds : (id : List ℕ) (part : Option Groups) (notice : Notice) → IsFree id → Folds id part event.Closing (named_objects notice) (named_told notice)
+pub closing_folds : (id : List ℕ) (part : Option MirrorGroups) (notice : Notice) → IsFree id → Folds id part event.Closing (named_objects notice) (named_told notice)
 unfolding told_by
 closing_folds id part notice free =
     rw (other_id (codes "buffer_closing") id free) (folded event.Closing _ part (named_told notice)
@@ -172,22 +172,22 @@ closing_folds id part notice free =
 placed_about : (notice : Notice) → option_and_then (carried_by (fields_of event.Moved)) (option_and_then only (items_on (codes "buffer") placed_keys (placed_objects notice))) ≡ Some (placed_told notice)
 placed_about notice = read_about (fields_of event.Moved) placed_keys notice.buffer (placed_values notice) refl ∙ placed_read notice
 
-pub moved_folds : (id : List ℕ) (part : Option Groups) (notice : Notice) → IsFree id → Folds id part event.Moved (placed_objects notice) (placed_told notice)
+pub moved_folds : (id : List ℕ) (part : Option MirrorGroups) (notice : Notice) → IsFree id → Folds id part event.Moved (placed_objects notice) (placed_told notice)
 unfolding told_by
 moved_folds id part notice free = rw (other_id (codes "buffer_moved") id free) (folded event.Moved _ part (placed_told notice) (placed_about notice))
 
-pub merged_folds : (id : List ℕ) (part : Option Groups) (notice : Notice) → IsFree id → Folds id part event.Merged (placed_objects notice) (placed_told notice)
+pub merged_folds : (id : List ℕ) (part : Option MirrorGroups) (notice : Notice) → IsFree id → Folds id part event.Merged (placed_objects notice) (placed_told notice)
 unfolding told_by
 merged_folds id part notice free = rw (other_id (codes "buffer_merged") id free) (folded event.Merged _ part (placed_told notice) (placed_about notice))
 
-pub unmerged_folds : (id : List ℕ) (part : Option Groups) (notice : Notice) → IsFree id → Folds id part event.Unmerged (placed_objects notice) (placed_told notice)
+pub unmerged_folds : (id : List ℕ) (part : Option MirrorGroups) (notice : Notice) → IsFree id → Folds id part event.Unmerged (placed_objects notice) (placed_told notice)
 unfolding told_by
 unmerged_folds id part notice free = rw (other_id (codes "buffer_unmerged") id free) (folded event.Unmerged _ part (placed_told notice) (placed_about notice))
 
-pub hidden_folds : (id : List ℕ) (part : Option Groups) (notice : Notice) → IsFree id → Folds id part event.Hidden (placed_objects notice) (placed_told notice)
+pub hidden_folds : (id : List ℕ) (part : Option MirrorGroups) (notice : Notice) → IsFree id → Folds id part event.Hidden (placed_objects notice) (placed_told notice)
 unfolding told_by
 hidden_folds id part notice free = rw (other_id (codes "buffer_hidden") id free) (folded event.Hidden _ part (placed_told notice) (placed_about notice))
 
-pub unhidden_folds : (id : List ℕ) (part : Option Groups) (notice : Notice) → IsFree id → Folds id part event.Unhidden (placed_objects notice) (placed_told notice)
+pub unhidden_folds : (id : List ℕ) (part : Option MirrorGroups) (notice : Notice) → IsFree id → Folds id part event.Unhidden (placed_objects notice) (placed_told notice)
 unfolding told_by
 unhidden_folds id part notice free = rw (other_id (codes "buffer_unhidden") id free) (folded event.Unhidden _ part (placed_told notice) (placed_about notice))

@@ -8,17 +8,17 @@ use Rattle.wc_lines.specs.declared.line.Line.{Line}
 use Rattle.wc_lines.specs.Ring.{last_of}
 use Rattle.wc_buffers.specs.declared.entry.BufferEntry.{BufferEntry}
 use Rattle.wc_buffers.specs.Groups.{rows, times, times_in, has}
-use Rattle.wc_buffers.specs.Calls.{Groups, handle_of}
+use Rattle.wc_buffers.specs.Calls.{EntryGroups, handle_of}
 use Rattle.wc_buffers.proofs.GroupLaws.{times_in-append, has_tells}
 use Rattle.wc_model.specs.World.{World, lines_at as lines_in}
 use Rattle.wc_objects.specs.declared.object.HdaItem.{HdaItem}
-use Rattle.wc_told.specs.LineObjects.{dumped_item, dumped_lines, line_dump}
+use Rattle.wc_events.specs.LineObjects.{dumped_item, dumped_lines, line_dump}
 use Rattle.wc_view.specs.declared.rows.LineRow.{LineRow}
 use Rattle.wc_view.specs.Each.{each}
 use Rattle.wc_view.specs.Rows.{row_in, rows_on}
 use Rattle.wc_view.specs.Parts.{Part, lines_of, part_of}
-use Rattle.wc_view.specs.Fold.{fold_lines, dumped}
-use Rattle.wc_view.specs.Views.{shown_line, view_of, HasLines, Stands, reply, DumpShows}
+use Rattle.wc_view.specs.Fold.{fold_lines, with_dump}
+use Rattle.wc_view.specs.Views.{shown_line, view_of, HasLines, IsMirrorable, reply, DumpShows}
 use Rattle.wc_view.proofs.EntryLemmas.{by_bool, last_all}
 use Rattle.wc_view.proofs.PartLemmas.{part_lines}
 use Rattle.wc_view.proofs.LineTold.{row, dumped_told, rows_told, same_bytes}
@@ -45,7 +45,7 @@ dump_read world =
     rows_told (codes "buffer/lines/line/line_data") (flat_map (dumped_lines world) (rows world.groups)) refl ∙ each_dumped world (rows world.groups)
 
 after_dump : (limit : ℕ) (id : List ℕ) (part : Option Part) (world : World) → fold_lines limit id part (reply id world) ≡ Some (part_of limit (all_rows world))
-after_dump limit id part world = rw (same_bytes id) (ap (λ told. dumped limit told part) (dump_read world))
+after_dump limit id part world = rw (same_bytes id) (ap (λ told. with_dump limit told part) (dump_read world))
 
 -- ---- the lines of one buffer in it
 lines_here : (buffer : Handle) (lines : List Line) (told : List LineRow) → lines_of buffer.0 (map (row buffer) lines ++ told) ≡ view_of lines ++ lines_of buffer.0 told
@@ -77,11 +77,11 @@ once_there world q (e ∷ es) n = by_bool (eqb (handle_of e) q) _
     (λ t. let z : 0 + times_in handle_of q es ≡ 1 = rw t at n in
     lines_else e.row.handle q (lines_in world e.row.handle.0) (flat_map (entry_rows world) es) t ∙ once_there world q es (omega arith))
 
-times_rows : (q : ℕ) (groups : Groups) → times_in handle_of q (rows groups) ≡ times handle_of q groups
+times_rows : (q : ℕ) (groups : EntryGroups) → times_in handle_of q (rows groups) ≡ times handle_of q groups
 times_rows q [] = refl
 times_rows q (g ∷ groups) = omega (arith, times_in-append handle_of q g (rows groups), times_rows q groups)
 
-all_lines : (world : World) (q : ℕ) → Stands world → lines_of q (all_rows world) ≡ view_of (lines_in world q)
+all_lines : (world : World) (q : ℕ) → IsMirrorable world → lines_of q (all_rows world) ≡ view_of (lines_in world q)
 all_lines world q stands = by (has_tells handle_of q world.groups)
   where
     by : ((has handle_of q world.groups ≡ true) × (1 ≤ times handle_of q world.groups)) ⊎ ((has handle_of q world.groups ≡ false) × (times handle_of q world.groups ≡ 0))

@@ -8,7 +8,7 @@ use Rattle.std.specs.Cmp.{nat_cmp_total}
 use Rattle.std.proofs.lemmas.Bool.{eqb-true}
 use Rattle.wc_view.specs.declared.flags.LineFlag.{LineFlag}
 use Rattle.wc_view.specs.Entries.{Entry, part_at, IsEntry}
-use Rattle.wc_view.specs.Parts.{without, flagged, flagged_in, with_flag}
+use Rattle.wc_view.specs.Parts.{without, with_line_flag, flagged_in, with_flag}
 use Rattle.wc_view.proofs.EntryLemmas.{by_bool, tied, find_here, entry_set}
 
 -- ---- a buffer that goes
@@ -33,13 +33,13 @@ gone h es = same_map nat_cmp_total nat_cmp-IsAntisymmetric _ _ (λ q.
 
 -- ---- a flag
 pub flag_at : (i : ℕ) (es : List Entry) (b b2 : Entry) (flag : LineFlag) → i < length es → IsEntry flag.buffer i es → b ≡ get_or es i b
-    → b2 ≡ (b.0, flagged flag b.1) → part_at (set es i b2) ≡ with_flag (part_at es) flag
+    → b2 ≡ (b.0, with_line_flag flag b.1) → part_at (set es i b2) ≡ with_flag (part_at es) flag
 flag_at i es b b2 flag l e is new =
     let k : b.0 ≡ flag.buffer = ap (λ (z : Entry). z.0) is ∙ e.at b in
     let held : get (part_at es) flag.buffer ≡ Some b.1 =
     get-from_entries nat_cmp_total es flag.buffer ∙ find_here flag.buffer i es b l (e.at b) e.before ∙ ap (λ (z : Entry). Some z.1) (sym is) in
-    ap (λ z. part_at (set es i z)) (new ∙ λ j. (k j, flagged flag b.1))
-    ∙ entry_set flag.buffer i es (flagged flag b.1) b l e
+    ap (λ z. part_at (set es i z)) (new ∙ λ j. (k j, with_line_flag flag b.1))
+    ∙ entry_set flag.buffer i es (with_line_flag flag b.1) b l e
     ∙ sym (ap (flagged_in flag (part_at es)) held)
 
 pub flag_nowhere : (es : List Entry) (flag : LineFlag) → find nat_cmp flag.buffer es ≡ None → part_at es ≡ with_flag (part_at es) flag

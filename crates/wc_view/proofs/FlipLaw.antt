@@ -1,4 +1,4 @@
--- The events of flags are folded to the lines behind a change.
+-- The events of flags are folded to the lines after a change.
 use Rattle.std.proofs.Common.{◌≡◌, ◌⊎◌, inl, inr, ℕ, Bool, true, false, cond, not, ◌||◌, List, [], ◌∷◌, map, filter, fold, flat_map, Option, Some, None, refl, sym, ap, subst, ◌∙◌, arith, eqb}
 use Rattle.std.specs.Prelude.{unwrap_or, codes}
 use Rattle.std.specs.Option.{option_and_then}
@@ -15,7 +15,7 @@ use Rattle.wc_lines.specs.declared.line.Line.{Line}
 use Rattle.wc_lines.specs.Ring.{has_content, set_displayed}
 use Rattle.wc_buffers.specs.declared.entry.BufferEntry.{BufferEntry}
 use Rattle.wc_buffers.specs.Groups.{has, in_group, rows}
-use Rattle.wc_buffers.specs.Calls.{Groups, handle_of, changed, with_full_name}
+use Rattle.wc_buffers.specs.Calls.{EntryGroups, handle_of, with_entry, with_full_name}
 use Rattle.wc_buffers.proofs.GroupLaws.{has-map}
 use Rattle.wc_model.specs.declared.change.Flip.{Flip}
 use Rattle.wc_model.specs.declared.change.What.{What}
@@ -23,18 +23,18 @@ use Rattle.wc_model.specs.declared.change.What.TheVariants.{Add, Close, MoveTo, 
 use Rattle.wc_model.specs.declared.notice.EventKind.TheVariants as kind
 use Rattle.wc_model.specs.World.{World, lines_at as lines_in}
 use Rattle.wc_model.specs.Order.{order}
-use Rattle.wc_model.specs.Apply.{flipped, after_of}
+use Rattle.wc_model.specs.Apply.{with_flips, after_of}
 use Rattle.wc_model.specs.Notices.{bool_eq, same_flag, is_flipped as differs, flips_in, flips_between, notice_of}
-use Rattle.wc_told.specs.BufferObjects.{event_of, objects_of, is_flipped, flag_keys, flag_item, flag_items, flag_objects}
+use Rattle.wc_events.specs.BufferObjects.{event_of, objects_of, is_flipped, flag_keys, flag_item, flag_items, flag_objects}
 use Rattle.wc_view.specs.declared.mirror_line.MirrorLine.{MirrorLine}
 use Rattle.wc_view.specs.declared.flags.LineFlag.{LineFlag}
 use Rattle.wc_view.specs.Each.{each}
 use Rattle.wc_view.specs.Ids.{IsFree}
 use Rattle.wc_view.specs.Flags.{flag_in, flags_on}
-use Rattle.wc_view.specs.Parts.{Part, lines_at, flagged_line, flagged, flagged_in, with_flag, with_flags}
-use Rattle.wc_view.specs.Fold.{fold_lines, shown}
-use Rattle.wc_view.specs.Views.{shown_line, view_of, HasLines, HasAll, Stands, SetsNoFlags, fold_told}
-use Rattle.wc_view.specs.Flipped.{flag_message, flag_event, flag_events, AreApart, fold_all, FlipsShow}
+use Rattle.wc_view.specs.Parts.{Part, lines_at, flagged_line, with_line_flag, flagged_in, with_flag, with_flags}
+use Rattle.wc_view.specs.Fold.{fold_lines, with_shown_flags}
+use Rattle.wc_view.specs.Views.{shown_line, view_of, HasLines, HasAll, IsMirrorable, SetsNoFlags, fold_told}
+use Rattle.wc_view.specs.Flipped.{flag_message, flag_event, flag_events, ContentsDiffer, fold_all, FlipsShow}
 use Rattle.wc_view.proofs.EntryLemmas.{by_bool, tied}
 use Rattle.wc_view.proofs.LineTold.{pointer_told, truth_told, items_told}
 use Rattle.wc_view.proofs.NoticeLaw.{other_id, nothing_flipped, flipped_lines, quiet_told, told_of, change_shows}
@@ -62,21 +62,21 @@ flags_told buffer flips lines =
 after_flags : (limit : ℕ) (id : List ℕ) (held : Part) (buffer : ℕ) (flips : List Handle) (lines : List Line) → IsFree id
     → fold_lines limit id (Some held) (flag_message buffer flips lines) ≡ Some (with_flags held (flags_of buffer flips lines))
 after_flags limit id held buffer flips lines free =
-    rw (other_id (codes "buffer_line_data_changed") id free) (ap (λ flags. shown flags (Some held)) (flags_told buffer flips lines))
+    rw (other_id (codes "buffer_line_data_changed") id free) (ap (λ flags. with_shown_flags flags (Some held)) (flags_told buffer flips lines))
 
 -- ---- what flags of one buffer make of its lines
 abbrev all_flagged : List MirrorLine → List LineFlag → List MirrorLine
-all_flagged lines flags = fold (λ lines flag. flagged flag lines) lines flags
+all_flagged lines flags = fold (λ lines flag. with_line_flag flag lines) lines flags
 
-one_flag : (held : Part) (flag : LineFlag) (q : ℕ) → lines_at (with_flag held flag) q ≡ cond (eqb q flag.buffer) (flagged flag (lines_at held flag.buffer)) (lines_at held q)
+one_flag : (held : Part) (flag : LineFlag) (q : ℕ) → lines_at (with_flag held flag) q ≡ cond (eqb q flag.buffer) (with_line_flag flag (lines_at held flag.buffer)) (lines_at held q)
 one_flag held flag q = by (get held flag.buffer) refl
   where
     by : (o : Option (List MirrorLine)) → get held flag.buffer ≡ o
-        → lines_at (flagged_in flag held (get held flag.buffer)) q ≡ cond (eqb q flag.buffer) (flagged flag (unwrap_or (get held flag.buffer) [])) (lines_at held q)
+        → lines_at (flagged_in flag held (get held flag.buffer)) q ≡ cond (eqb q flag.buffer) (with_line_flag flag (unwrap_or (get held flag.buffer) [])) (lines_at held q)
     by None e = rw e (by_bool (eqb q flag.buffer) _
         (λ t. rw t (ap (λ b. lines_at held b) (eqb-true q flag.buffer t) ∙ ap (λ o. unwrap_or o []) e))
         (λ t. rw t refl))
-    by (Some lines) e = rw e (ap (λ o. unwrap_or o []) (get-insert nat_cmp_total held flag.buffer (flagged flag lines) q) ∙ by_bool (eqb q flag.buffer) _
+    by (Some lines) e = rw e (ap (λ o. unwrap_or o []) (get-insert nat_cmp_total held flag.buffer (with_line_flag flag lines) q) ∙ by_bool (eqb q flag.buffer) _
         (λ t. rw (tied q flag.buffer, t) refl)
         (λ t. rw (tied q flag.buffer, t) refl))
 
@@ -87,11 +87,11 @@ all_flags held buffer [] q = by_bool (eqb q buffer) _
     (λ t. rw t refl)
 all_flags held buffer (line ∷ lines) q =
     let now = with_flag held (flag_of buffer line) in
-    let here : lines_at now buffer ≡ flagged (flag_of buffer line) (lines_at held buffer) =
-    one_flag held (flag_of buffer line) buffer ∙ ap (λ b. cond b (flagged (flag_of buffer line) (lines_at held buffer)) (lines_at held buffer)) (eq-eqb buffer buffer refl) in
+    let here : lines_at now buffer ≡ with_line_flag (flag_of buffer line) (lines_at held buffer) =
+    one_flag held (flag_of buffer line) buffer ∙ ap (λ b. cond b (with_line_flag (flag_of buffer line) (lines_at held buffer)) (lines_at held buffer)) (eq-eqb buffer buffer refl) in
     all_flags now buffer lines q ∙ by_bool (eqb q buffer) _
     (λ t. rw t (ap (λ ls. all_flagged ls (map (flag_of buffer) lines)) here))
-    (λ t. rw t (one_flag held (flag_of buffer line) q ∙ ap (λ b. cond b (flagged (flag_of buffer line) (lines_at held buffer)) (lines_at held q)) t))
+    (λ t. rw t (one_flag held (flag_of buffer line) q ∙ ap (λ b. cond b (with_line_flag (flag_of buffer line) (lines_at held buffer)) (lines_at held q)) t))
 
 -- a line of a client that is a line of the buffer but for the flag, and with the flag where that is not told
 record IsLike (flips : List Handle) (held : MirrorLine) (line : Line) : Type 0 where
@@ -122,9 +122,9 @@ line_flagged line flags = fold (λ line flag. flagged_line flag line) line flags
 all_lines_flagged : (lines : List MirrorLine) (flags : List LineFlag) → all_flagged lines flags ≡ map (λ line. line_flagged line flags) lines
 all_lines_flagged [] [] = refl
 all_lines_flagged (x ∷ lines) [] = ap (λ ls. x ∷ ls) (all_lines_flagged lines [])
-all_lines_flagged lines (flag ∷ flags) = all_lines_flagged (flagged flag lines) flags ∙ by lines
+all_lines_flagged lines (flag ∷ flags) = all_lines_flagged (with_line_flag flag lines) flags ∙ by lines
   where
-    by : (lines : List MirrorLine) → map (λ line. line_flagged line flags) (flagged flag lines) ≡ map (λ line. line_flagged line (flag ∷ flags)) lines
+    by : (lines : List MirrorLine) → map (λ line. line_flagged line flags) (with_line_flag flag lines) ≡ map (λ line. line_flagged line (flag ∷ flags)) lines
     by [] = refl
     by (x ∷ lines) = ap (λ ls. line_flagged x (flag ∷ flags) ∷ ls) (by lines)
 
@@ -142,7 +142,7 @@ other_line flag held e = rw e refl
 own_line : (flag : LineFlag) (held : MirrorLine) → eqb held.content.0 flag.content ≡ true → flagged_line flag held ≡ record held { displayed = flag.displayed }
 own_line flag held e = rw e refl
 
--- a line behind another of another content
+-- a line after another of another content
 skip_line : (flips : List Handle) (buffer : ℕ) (held : MirrorLine) (line : Line) (lines : List Line) → eqb held.content.0 line.content.0 ≡ false
     → line_flagged held (flags_of buffer flips (line ∷ lines)) ≡ line_flagged held (flags_of buffer flips lines)
 skip_line flips buffer held line lines apart = by_bool (is_flipped flips line) _
@@ -183,7 +183,7 @@ passed_over flips buffer line rest (x ∷ held) (next ∷ lines) a e =
     let apart : eqb x.content.0 line.content.0 ≡ false = ap (λ n. eqb n line.content.0) is ∙ o.0 in
     λ i. skip_line flips buffer x line rest apart i ∷ passed_over flips buffer line rest held lines a.1 o.1 i
 
-all_shown : (flips : List Handle) (buffer : ℕ) (held : List MirrorLine) (lines : List Line) → Alike flips held lines → AreApart lines
+all_shown : (flips : List Handle) (buffer : ℕ) (held : List MirrorLine) (lines : List Line) → Alike flips held lines → ContentsDiffer lines
     → map (λ l. line_flagged l (flags_of buffer flips lines)) held ≡ view_of lines
 all_shown flips buffer [] [] a apart = refl
 all_shown flips buffer [] (line ∷ lines) a apart = absurd a
@@ -210,7 +210,7 @@ abbrev with_lines_of : World → ℕ → (ℕ → List MirrorLine) → ℕ → L
 with_lines_of world buffer now q = cond (eqb q buffer) (view_of (lines_in world buffer)) (now q)
 
 one_event : (limit : ℕ) (id : List ℕ) (part : Option Part) (world : World) (flips : List Handle) (now : ℕ → List MirrorLine) (buffer : ℕ) → IsFree id
-    → AreApart (lines_in world buffer) → Alike flips (now buffer) (lines_in world buffer) → ((q : ℕ) → HasThese part q (now q))
+    → ContentsDiffer (lines_in world buffer) → Alike flips (now buffer) (lines_in world buffer) → ((q : ℕ) → HasThese part q (now q))
     → (q : ℕ) → HasThese (fold_all limit id part (flag_event world flips buffer)) q (with_lines_of world buffer now q)
 one_event limit id None world flips now buffer free apart like has q = absurd (has 0)
 one_event limit id (Some held) world flips now buffer free apart like has q =
@@ -225,7 +225,7 @@ one_event limit id (Some held) world flips now buffer free apart like has q =
     (λ u. rw u (has q ∙ ap now (eqb-true q buffer u) ∙ unflagged flips (now buffer) (lines_in world buffer) like t))
     (λ u. rw u (has q))))
 
-all_events : (limit : ℕ) (id : List ℕ) (world : World) (flips : List Handle) → IsFree id → ((q : ℕ) → AreApart (lines_in world q))
+all_events : (limit : ℕ) (id : List ℕ) (world : World) (flips : List Handle) → IsFree id → ((q : ℕ) → ContentsDiffer (lines_in world q))
     → (buffers : List ℕ) (part : Option Part) (now : ℕ → List MirrorLine) → ((q : ℕ) → Alike flips (now q) (lines_in world q)) → ((q : ℕ) → HasThese part q (now q))
     → (q : ℕ) → (list_any (λ b. eqb b q) buffers ≡ true) ⊎ (now q ≡ view_of (lines_in world q))
     → HasLines (fold_all limit id part (flat_map (flag_event world flips) buffers)) q (lines_in world q)
@@ -270,7 +270,7 @@ same_set content on (line ∷ lines) (new ∷ news) s = by_bool (eqb new.content
     (λ t. rw t (ap (λ (l : Line). record l { displayed = on }) s.0, s.1))
     (λ t. rw t (s.0, same_set content on lines news s.1))
 
-same_flipped : (flips : List Flip) (lines news : List Line) → SameBut lines news → SameBut lines (flipped flips news)
+same_flipped : (flips : List Flip) (lines news : List Line) → SameBut lines news → SameBut lines (with_flips flips news)
 same_flipped [] lines news s = s
 same_flipped (flip ∷ flips) lines news s = same_flipped flips lines (set_displayed flip.content flip.displayed news) (same_set flip.content flip.displayed lines news s)
 
@@ -280,23 +280,23 @@ Found all [] [] = Unit {0}
 Found all (line ∷ lines) (new ∷ news) = (find_first (λ (other : Line). eqb other.content.0 new.content.0) all ≡ Some line) × Found all lines news
 Found all _ _ = ⊥
 
-found_behind : (x : Line) (all lines news : List Line) → has_content x.content news ≡ false → Found all lines news → Found (x ∷ all) lines news
-found_behind x all [] [] e f = tt
-found_behind x all [] (new ∷ news) e f = absurd f
-found_behind x all (line ∷ lines) [] e f = absurd f
-found_behind x all (line ∷ lines) (new ∷ news) e f =
+found_after : (x : Line) (all lines news : List Line) → has_content x.content news ≡ false → Found all lines news → Found (x ∷ all) lines news
+found_after x all [] [] e f = tt
+found_after x all [] (new ∷ news) e f = absurd f
+found_after x all (line ∷ lines) [] e f = absurd f
+found_after x all (line ∷ lines) (new ∷ news) e f =
     let o = or_parts (eqb new.content.0 x.content.0) (has_content x.content news) e in
     let apart : eqb x.content.0 new.content.0 ≡ false = (let z = o.0 in grind (arith, nat_tests)) in
-    (rw apart f.0, found_behind x all lines news o.1 f.1)
+    (rw apart f.0, found_after x all lines news o.1 f.1)
 
-found_all : (lines news : List Line) → SameBut lines news → AreApart news → Found lines lines news
+found_all : (lines news : List Line) → SameBut lines news → ContentsDiffer news → Found lines lines news
 found_all [] [] s apart = tt
 found_all [] (new ∷ news) s apart = absurd s
 found_all (line ∷ lines) [] s apart = absurd s
 found_all (line ∷ lines) (new ∷ news) s apart =
     let is : line.content ≡ new.content = ap (λ (l : Line). l.content) s.0 in
     let same : eqb line.content.0 new.content.0 ≡ true = eq-eqb line.content.0 new.content.0 (ap (λ (h : Handle). h.0) is) in
-    (rw same refl, found_behind line lines lines news (subst (λ c. has_content c news ≡ false) (sym is) apart.0) (found_all lines news s.1 apart.1))
+    (rw same refl, found_after line lines lines news (subst (λ c. has_content c news ≡ false) (sym is) apart.0) (found_all lines news s.1 apart.1))
 
 -- what differs is told
 abbrev Tells : List Line → List Handle → List Line → Type 0
@@ -364,81 +364,81 @@ part_told test f q (b ∷ buffers) there e =
     either false = refl
 
 abbrev between : World → World → ℕ → List Handle
-between world behind buffer = flips_in (lines_in world buffer) (lines_in behind buffer)
+between world following buffer = flips_in (lines_in world buffer) (lines_in following buffer)
 
-all_tell : (world behind : World) (q : ℕ) → list_any (λ b. eqb b q) (order behind.groups) ≡ true
-    → Tells (lines_in world q) (flips_between world behind) (lines_in behind q)
-all_tell world behind q there =
-    tells_within (lines_in world q) (between world behind q) (flips_between world behind) (lines_in behind q)
-    (λ new e. part_told (λ (flip : Handle). eqb flip.0 new.content.0) (between world behind) q (order behind.groups) there e)
-    (own_tells (lines_in world q) (lines_in behind q))
+all_tell : (world following : World) (q : ℕ) → list_any (λ b. eqb b q) (order following.groups) ≡ true
+    → Tells (lines_in world q) (flips_between world following) (lines_in following q)
+all_tell world following q there =
+    tells_within (lines_in world q) (between world following q) (flips_between world following) (lines_in following q)
+    (λ new e. part_told (λ (flip : Handle). eqb flip.0 new.content.0) (between world following) q (order following.groups) there e)
+    (own_tells (lines_in world q) (lines_in following q))
 
 -- the buffers in order
 in_rows : (q : ℕ) (g : List BufferEntry) → list_any (λ b. eqb b q) (map handle_of g) ≡ in_group handle_of q g
 in_rows q [] = refl
 in_rows q (e ∷ g) = rw (in_rows q g) refl
 
-in_order : (q : ℕ) (groups : Groups) → list_any (λ b. eqb b q) (order groups) ≡ has handle_of q groups
+in_order : (q : ℕ) (groups : EntryGroups) → list_any (λ b. eqb b q) (order groups) ≡ has handle_of q groups
 in_order q [] = refl
 in_order q (g ∷ groups) =
     ap (list_any (λ b. eqb b q)) (map-append handle_of g (rows groups)) ∙ list_any-append (λ b. eqb b q) (map handle_of g) (order groups)
     ∙ λ i. in_rows q g i || in_order q groups i
 
-flagged_like : (flips : List Flip) (world behind : World) → Stands world → ((q : ℕ) → has handle_of q behind.groups ≡ has handle_of q world.groups)
-    → ((q : ℕ) → lines_in behind q ≡ flipped flips (lines_in world q)) → ((q : ℕ) → AreApart (lines_in behind q))
-    → (q : ℕ) → Alike (flips_between world behind) (view_of (lines_in world q)) (lines_in behind q)
-flagged_like flips world behind stands groups lines apart q = by_bool (has handle_of q behind.groups) _
-    (λ t. alike_by (lines_in world q) (flips_between world behind) (lines_in world q) (lines_in behind q) same (found_all (lines_in world q) (lines_in behind q) same (apart q))
-    (all_tell world behind q (in_order q behind.groups ∙ t)))
+flagged_like : (flips : List Flip) (world following : World) → IsMirrorable world → ((q : ℕ) → has handle_of q following.groups ≡ has handle_of q world.groups)
+    → ((q : ℕ) → lines_in following q ≡ with_flips flips (lines_in world q)) → ((q : ℕ) → ContentsDiffer (lines_in following q))
+    → (q : ℕ) → Alike (flips_between world following) (view_of (lines_in world q)) (lines_in following q)
+flagged_like flips world following stands groups lines apart q = by_bool (has handle_of q following.groups) _
+    (λ t. alike_by (lines_in world q) (flips_between world following) (lines_in world q) (lines_in following q) same (found_all (lines_in world q) (lines_in following q) same (apart q))
+    (all_tell world following q (in_order q following.groups ∙ t)))
     (λ t. let none : lines_in world q ≡ [] = stands.gone q (sym (groups q) ∙ t) in
-    let behind_none : lines_in behind q ≡ [] = lines q ∙ ap (flipped flips) none ∙ nothing_flipped flips in
-    subst (λ ls. Alike (flips_between world behind) (view_of ls) (lines_in behind q)) (sym none)
-    (subst (Alike (flips_between world behind) []) (sym behind_none) tt))
+    let after_none : lines_in following q ≡ [] = lines q ∙ ap (with_flips flips) none ∙ nothing_flipped flips in
+    subst (λ ls. Alike (flips_between world following) (view_of ls) (lines_in following q)) (sym none)
+    (subst (Alike (flips_between world following) []) (sym after_none) tt))
   where
-    same : SameBut (lines_in world q) (lines_in behind q)
+    same : SameBut (lines_in world q) (lines_in following q)
     same = subst (SameBut (lines_in world q)) (sym (lines q)) (same_flipped flips (lines_in world q) (lines_in world q) (same_self (lines_in world q)))
 
 -- ---- the law
-flags_show : (limit : ℕ) (id : List ℕ) (part : Option Part) (world behind : World) (told : List Handle) → IsFree id → ((q : ℕ) → AreApart (lines_in behind q))
-    → ((q : ℕ) → Alike told (view_of (lines_in world q)) (lines_in behind q))
-    → ((q : ℕ) → (has handle_of q behind.groups ≡ true) ⊎ (lines_in world q ≡ lines_in behind q))
-    → HasAll part world → HasAll (fold_all limit id part (flag_events behind told)) behind
-flags_show limit id part world behind told free apart like there had q =
-    all_events limit id behind told free apart (order behind.groups) part (λ b. view_of (lines_in world b)) like (λ b. from_lines part b (lines_in world b) (had b)) q (by (there q))
+flags_show : (limit : ℕ) (id : List ℕ) (part : Option Part) (world following : World) (told : List Handle) → IsFree id → ((q : ℕ) → ContentsDiffer (lines_in following q))
+    → ((q : ℕ) → Alike told (view_of (lines_in world q)) (lines_in following q))
+    → ((q : ℕ) → (has handle_of q following.groups ≡ true) ⊎ (lines_in world q ≡ lines_in following q))
+    → HasAll part world → HasAll (fold_all limit id part (flag_events following told)) following
+flags_show limit id part world following told free apart like there had q =
+    all_events limit id following told free apart (order following.groups) part (λ b. view_of (lines_in world b)) like (λ b. from_lines part b (lines_in world b) (had b)) q (by (there q))
   where
-    by : (has handle_of q behind.groups ≡ true) ⊎ (lines_in world q ≡ lines_in behind q)
-        → (list_any (λ b. eqb b q) (order behind.groups) ≡ true) ⊎ (view_of (lines_in world q) ≡ view_of (lines_in behind q))
-    by (inl t) = inl (in_order q behind.groups ∙ t)
+    by : (has handle_of q following.groups ≡ true) ⊎ (lines_in world q ≡ lines_in following q)
+        → (list_any (λ b. eqb b q) (order following.groups) ≡ true) ⊎ (view_of (lines_in world q) ≡ view_of (lines_in following q))
+    by (inl t) = inl (in_order q following.groups ∙ t)
     by (inr e) = inr (ap view_of e)
 
-flagged_show : (limit : ℕ) (id : List ℕ) (part folded : Option Part) (world behind : World) (flips : List Flip) → Stands world → IsFree id
-    → ((q : ℕ) → has handle_of q behind.groups ≡ has handle_of q world.groups) → ((q : ℕ) → lines_in behind q ≡ flipped flips (lines_in world q))
-    → ((q : ℕ) → AreApart (lines_in behind q)) → HasAll part world → folded ≡ part
-    → HasAll (fold_all limit id folded (flag_events behind (flips_between world behind))) behind
-flagged_show limit id part folded world behind flips stands free groups lines apart had same =
-    subst (λ p. HasAll (fold_all limit id p (flag_events behind (flips_between world behind))) behind) (sym same)
-    (flags_show limit id part world behind (flips_between world behind) free apart (flagged_like flips world behind stands groups lines apart) there had)
+flagged_show : (limit : ℕ) (id : List ℕ) (part folded : Option Part) (world following : World) (flips : List Flip) → IsMirrorable world → IsFree id
+    → ((q : ℕ) → has handle_of q following.groups ≡ has handle_of q world.groups) → ((q : ℕ) → lines_in following q ≡ with_flips flips (lines_in world q))
+    → ((q : ℕ) → ContentsDiffer (lines_in following q)) → HasAll part world → folded ≡ part
+    → HasAll (fold_all limit id folded (flag_events following (flips_between world following))) following
+flagged_show limit id part folded world following flips stands free groups lines apart had same =
+    subst (λ p. HasAll (fold_all limit id p (flag_events following (flips_between world following))) following) (sym same)
+    (flags_show limit id part world following (flips_between world following) free apart (flagged_like flips world following stands groups lines apart) there had)
   where
-    there : (q : ℕ) → (has handle_of q behind.groups ≡ true) ⊎ (lines_in world q ≡ lines_in behind q)
-    there q = by_bool (has handle_of q behind.groups) _
+    there : (q : ℕ) → (has handle_of q following.groups ≡ true) ⊎ (lines_in world q ≡ lines_in following q)
+    there q = by_bool (has handle_of q following.groups) _
         (λ t. inl t)
         (λ t. let none : lines_in world q ≡ [] = stands.gone q (sym (groups q) ∙ t) in
-        inr (none ∙ sym (lines q ∙ ap (flipped flips) none ∙ nothing_flipped flips)))
+        inr (none ∙ sym (lines q ∙ ap (with_flips flips) none ∙ nothing_flipped flips)))
 
 abbrev AllShow : ℕ → List ℕ → Option Part → World → Handle → What → Type 0
 AllShow limit id part world buffer what =
     HasAll (fold_all limit id (fold_told limit id part (event_of (after_of world buffer what) (notice_of world (after_of world buffer what) buffer what)))
     (flag_events (after_of world buffer what) (flips_between world (after_of world buffer what)))) (after_of world buffer what)
 
-plain_shows : (limit : ℕ) (id : List ℕ) (part : Option Part) (world : World) (buffer : Handle) (what : What) → Stands world → world.limit ≡ limit → IsFree id
-    → ((q : ℕ) → AreApart (lines_in (after_of world buffer what) q)) → SetsNoFlags what → HasAll part world → AllShow limit id part world buffer what
+plain_shows : (limit : ℕ) (id : List ℕ) (part : Option Part) (world : World) (buffer : Handle) (what : What) → IsMirrorable world → world.limit ≡ limit → IsFree id
+    → ((q : ℕ) → ContentsDiffer (lines_in (after_of world buffer what) q)) → SetsNoFlags what → HasAll part world → AllShow limit id part world buffer what
 plain_shows limit id part world buffer what stands limited free apart plain had =
-    let behind = after_of world buffer what in
-    flags_show limit id (fold_told limit id part (event_of behind (notice_of world behind buffer what))) behind behind (flips_between world behind) free apart
-    (λ q. alike_view (flips_between world behind) (lines_in behind q)) (λ q. inr refl)
+    let following = after_of world buffer what in
+    flags_show limit id (fold_told limit id part (event_of following (notice_of world following buffer what))) following following (flips_between world following) free apart
+    (λ q. alike_view (flips_between world following) (lines_in following q)) (λ q. inr refl)
     (change_shows limit id part world buffer what stands limited free plain had)
 
-renamed_has : (q : ℕ) (buffer : Handle) (name : List ℕ) (groups : Groups) → has handle_of q (changed buffer (with_full_name name) groups) ≡ has handle_of q groups
+renamed_has : (q : ℕ) (buffer : Handle) (name : List ℕ) (groups : EntryGroups) → has handle_of q (with_entry buffer (with_full_name name) groups) ≡ has handle_of q groups
 renamed_has q buffer name groups = has-map renamed handle_of handle_of kept q groups
   where
     renamed : BufferEntry → BufferEntry
@@ -447,23 +447,23 @@ renamed_has q buffer name groups = has-map renamed handle_of handle_of kept q gr
     kept : (e : BufferEntry) → handle_of (cond (eqb (handle_of e) buffer.0) (with_full_name name e) e) ≡ handle_of e
     kept e = by_bool (eqb (handle_of e) buffer.0) _ (λ t. rw t refl) (λ t. rw t refl)
 
-renamed_shows : (limit : ℕ) (id : List ℕ) (part : Option Part) (world : World) (buffer : Handle) (name : List ℕ) (flips : List Flip) → Stands world → IsFree id
-    → ((q : ℕ) → AreApart (lines_in (after_of world buffer (Rename name flips)) q)) → HasAll part world → AllShow limit id part world buffer (Rename name flips)
+renamed_shows : (limit : ℕ) (id : List ℕ) (part : Option Part) (world : World) (buffer : Handle) (name : List ℕ) (flips : List Flip) → IsMirrorable world → IsFree id
+    → ((q : ℕ) → ContentsDiffer (lines_in (after_of world buffer (Rename name flips)) q)) → HasAll part world → AllShow limit id part world buffer (Rename name flips)
 unfolding after_of
 renamed_shows limit id part world buffer name flips stands free apart had =
     flagged_show limit id part _ world (after_of world buffer (Rename name flips)) flips stands free
     (λ q. renamed_has q buffer name world.groups) (flipped_lines flips world (after_of world buffer (Rename name flips)) refl) apart had
     (quiet_told limit id part kind.Renamed (told_of world buffer (Rename name flips)) refl free)
 
-flips_shows : (limit : ℕ) (id : List ℕ) (part : Option Part) (world : World) (buffer : Handle) (flips : List Flip) → Stands world → IsFree id
-    → ((q : ℕ) → AreApart (lines_in (after_of world buffer (Flips flips)) q)) → HasAll part world → AllShow limit id part world buffer (Flips flips)
+flips_shows : (limit : ℕ) (id : List ℕ) (part : Option Part) (world : World) (buffer : Handle) (flips : List Flip) → IsMirrorable world → IsFree id
+    → ((q : ℕ) → ContentsDiffer (lines_in (after_of world buffer (Flips flips)) q)) → HasAll part world → AllShow limit id part world buffer (Flips flips)
 unfolding after_of objects_of
 flips_shows limit id part world buffer flips stands free apart had =
     flagged_show limit id part part world (after_of world buffer (Flips flips)) flips stands free
     (λ q. refl) (flipped_lines flips world (after_of world buffer (Flips flips)) refl) apart had refl
 
-all_show : (limit : ℕ) (id : List ℕ) (part : Option Part) (world : World) (buffer : Handle) (what : What) → Stands world → world.limit ≡ limit → IsFree id
-    → ((q : ℕ) → AreApart (lines_in (after_of world buffer what) q)) → HasAll part world → AllShow limit id part world buffer what
+all_show : (limit : ℕ) (id : List ℕ) (part : Option Part) (world : World) (buffer : Handle) (what : What) → IsMirrorable world → world.limit ≡ limit → IsFree id
+    → ((q : ℕ) → ContentsDiffer (lines_in (after_of world buffer what) q)) → HasAll part world → AllShow limit id part world buffer what
 all_show limit id part world buffer (Add spec) stands limited free apart had = plain_shows limit id part world buffer (Add spec) stands limited free apart tt had
 all_show limit id part world buffer Close stands limited free apart had = plain_shows limit id part world buffer Close stands limited free apart tt had
 all_show limit id part world buffer (MoveTo number) stands limited free apart had = plain_shows limit id part world buffer (MoveTo number) stands limited free apart tt had

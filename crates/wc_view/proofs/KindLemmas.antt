@@ -2,7 +2,7 @@
 use Rattle.std.proofs.Common.{◌≡◌, ℕ, zero, suc, ◌+◌, ◌<◌, true, false, List, [], ◌∷◌, length, drop, get_or, Option, Some, None, refl, sym, ap, ◌∙◌, arith}
 use Rattle.std.specs.Prelude.{bytes_eq}
 use Rattle.wc_model.specs.declared.notice.EventKind.{EventKind}
-use Rattle.wc_told.specs.BufferObjects.{id_of}
+use Rattle.wc_events.specs.BufferObjects.{id_of}
 use Rattle.wc_objects.specs.declared.object.Object.{Object}
 use Rattle.wc_objects.specs.declared.object.WireMessage.{WireMessage}
 use Rattle.wc_view.specs.declared.carried.Carried.{Carried}

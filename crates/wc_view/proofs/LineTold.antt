@@ -12,8 +12,8 @@ use Rattle.wc_objects.specs.declared.object.Object.TheViews.{out-Object, out-rol
 use Rattle.wc_objects.specs.declared.object.Hda.{roll-Hda}
 use Rattle.wc_objects.specs.declared.object.HdaItem.{HdaItem, roll-HdaItem}
 use Rattle.wc_model.specs.declared.notice.Notice.{Notice}
-use Rattle.wc_told.specs.LineObjects.{truth, moment, texts, line_keys, line_values, on_path, added_item, added_objects, dumped_item}
-use Rattle.wc_told.specs.BufferObjects.{named_keys, named_values, named_objects}
+use Rattle.wc_events.specs.LineObjects.{truth, moment, texts, line_keys, line_values, on_path, added_item, added_objects, dumped_item}
+use Rattle.wc_events.specs.BufferObjects.{named_keys, named_values, named_objects}
 use Rattle.wc_view.specs.declared.rows.LineRow.{LineRow}
 use Rattle.wc_view.specs.Each.{each, only}
 use Rattle.wc_view.specs.Values.{pointer_in, date_in, number_in, level_in, truth_in, text_in, texts_in}

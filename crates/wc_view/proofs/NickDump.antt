@@ -15,11 +15,11 @@ use Rattle.wc_nicklist.specs.declared.item.Row.{Row}
 use Rattle.wc_nickdiff.specs.NickPush.{root_item, full_list}
 use Rattle.wc_buffers.specs.declared.entry.BufferEntry.{BufferEntry}
 use Rattle.wc_buffers.specs.Groups.{rows, times, times_in, has, in_group}
-use Rattle.wc_buffers.specs.Calls.{Groups, handle_of}
+use Rattle.wc_buffers.specs.Calls.{EntryGroups, handle_of}
 use Rattle.wc_buffers.proofs.GroupLaws.{times_in-append}
 use Rattle.wc_model.specs.World.{World, rows_at, root_at}
 use Rattle.wc_objects.specs.declared.object.HdaItem.{HdaItem}
-use Rattle.wc_told.specs.NickObjects.{nick_path, nick_keys, nick_item, nick_dump, listed as told_list}
+use Rattle.wc_events.specs.NickObjects.{nick_path, nick_keys, nick_item, nick_dump, root_and_rows as told_list}
 use Rattle.wc_view.specs.declared.nick_rows.NickRow.{NickRow}
 use Rattle.wc_view.specs.Each.{each}
 use Rattle.wc_view.specs.NickRows.{nick_row_in, nick_rows_on}
@@ -87,7 +87,7 @@ once_there world q (e ∷ es) n = by_bool (eqb (handle_of e) q) _
     (λ t. let z : 0 + times_in handle_of q es ≡ 1 = rw t at n in
     items_else e.row.handle q (items_at world e.row.handle.0) (flat_map (entry_rows world) es) t ∙ once_there world q es (omega arith))
 
-times_rows : (q : ℕ) (groups : Groups) → times_in handle_of q (rows groups) ≡ times handle_of q groups
+times_rows : (q : ℕ) (groups : EntryGroups) → times_in handle_of q (rows groups) ≡ times handle_of q groups
 times_rows q [] = refl
 times_rows q (g ∷ groups) = omega (arith, times_in-append handle_of q g (rows groups), times_rows q groups)
 
@@ -146,7 +146,7 @@ has_all world q (e ∷ es) = by_bool (eqb q (handle_of e)) _
     (λ t. rw (t, turned q (handle_of e) false t)
     (has_else q e.row.handle (map (λ r. r.item) (rows_at world (handle_of e))) (flat_map (entry_rows world) es) t ∙ has_all world q es))
 
-has_group : (q : ℕ) (groups : Groups) → in_group handle_of q (rows groups) ≡ has handle_of q groups
+has_group : (q : ℕ) (groups : EntryGroups) → in_group handle_of q (rows groups) ≡ has handle_of q groups
 has_group q [] = refl
 has_group q (g ∷ groups) = list_any-append (λ e. eqb (handle_of e) q) g (rows groups) ∙ ap (λ b. in_group handle_of q g || b) (has_group q groups)
 

@@ -11,14 +11,14 @@ use Rattle.wc_objects.specs.Forms.{well_formed}
 use Rattle.wc_objects.specs.declared.object.Object.{Object}
 use Rattle.wc_view.specs.declared.nick_rows.NickRow.{NickRow}
 use Rattle.wc_view.specs.declared.nick_rows.NickChange.{NickChange}
-use Rattle.wc_view.specs.Each.{onto, each, only, behind}
+use Rattle.wc_view.specs.Each.{onto, each, only, following}
 use Rattle.wc_view.specs.NickEntries.{NickEntry, nicks_at}
 use Rattle.wc_view.specs.NickFold.{NickPart, rows_listed, part_listed, new_or, listed_or, are_of, put_rows, with_full, with_full_told, changes_are_of, put_applied, apply_to, with_diff, with_diff_told, some_part}
 use Rattle.wc_view.specs.NickGroups.{Group, with_item, by_buffer, entry_listed, GroupsAreUtf8}
 use Rattle.wc_view.specs.NickLists.{ItemsAreUtf8}
 use Rattle.wc_view.specs.NickRows.{nick_rows_on, nick_changes_on}
 use Rattle.wc_view.specs.NickSteps.{buffer_of}
-use Rattle.wc_view.proofs.EachLemmas.{behind_onto}
+use Rattle.wc_view.proofs.EachLemmas.{after_onto}
 use Rattle.wc_view.proofs.EntryLemmas.{by_bool}
 use Rattle.wc_view.proofs.NickGroups.{one_group, more_groups, groups_utf8}
 use Rattle.wc_view.proofs.NickTexts.{rows_utf8, changes_utf8}
@@ -26,27 +26,27 @@ use Rattle.wc_view.proofs.NickDumped.{part_by_groups}
 
 -- ---- the lists of groups
 abbrev pub Lists : List NickEntry → List Group → Option (List NickEntry) → Type 0
-Lists front left all = behind front (each entry_listed left) ≡ all
+Lists front left all = following front (each entry_listed left) ≡ all
 
 pub list_more : (front : List NickEntry) (left rest : List Group) (group : Group) (all : Option (List NickEntry)) (entry : NickEntry)
     → Lists front left all → left ≡ group ∷ rest → Some entry ≡ entry_listed group → Lists (front ++ entry ∷ []) rest all
 list_more front left rest group all entry h e l =
-    behind_onto front entry (each entry_listed rest)
-    ∙ ap (λ o. behind front (onto o (each entry_listed rest))) l
-    ∙ ap (λ z. behind front (each entry_listed z)) (sym e) ∙ h
+    after_onto front entry (each entry_listed rest)
+    ∙ ap (λ o. following front (onto o (each entry_listed rest))) l
+    ∙ ap (λ z. following front (each entry_listed z)) (sym e) ∙ h
 
-nothing_behind : (front : List NickEntry) (rest : Option (List NickEntry)) → behind front (onto None rest) ≡ None
-nothing_behind front rest = refl
+nothing_after : (front : List NickEntry) (rest : Option (List NickEntry)) → following front (onto None rest) ≡ None
+nothing_after front rest = refl
 
 pub list_none : (front : List NickEntry) (left rest : List Group) (group : Group) (all : Option (List NickEntry))
     → Lists front left all → left ≡ group ∷ rest → None ≡ entry_listed group → None ≡ all
 list_none front left rest group all h e l =
-    sym (ap (λ z. behind front (each entry_listed z)) e
-    ∙ ap (λ o. behind front (onto o (each entry_listed rest))) (sym l)
-    ∙ nothing_behind front (each entry_listed rest)) ∙ h
+    sym (ap (λ z. following front (each entry_listed z)) e
+    ∙ ap (λ o. following front (onto o (each entry_listed rest))) (sym l)
+    ∙ nothing_after front (each entry_listed rest)) ∙ h
 
 pub list_all : (front : List NickEntry) (left : List Group) (all : Option (List NickEntry)) → Lists front left all → left ≡ [] → Some front ≡ all
-list_all front left all h e = sym (ap (λ z. behind front (each entry_listed z)) e ∙ ap Some (append-nil front)) ∙ h
+list_all front left all h e = sym (ap (λ z. following front (each entry_listed z)) e ∙ ap Some (append-nil front)) ∙ h
 
 pub group_utf8 : (left rest : List Group) (group : Group) → left ≡ group ∷ rest → GroupsAreUtf8 left → ItemsAreUtf8 group.1
 group_utf8 left rest group e h = (subst GroupsAreUtf8 e h).0

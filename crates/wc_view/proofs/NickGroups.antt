@@ -67,11 +67,11 @@ groups_utf8 rows u = groups_from [] rows tt u
 
 -- ---- one buffer
 pub one_group : (b : ℕ) (xs : List Item) (rows : List NickRow) → are_of b rows ≡ true → fold with_item ((b, xs) ∷ []) rows ≡ (b, xs ++ map (λ (row : NickRow). row.item) rows) ∷ []
-one_group b xs [] e = ap (λ z. (b, z) ∷ []) (sym (nothing_behind xs))
+one_group b xs [] e = ap (λ z. (b, z) ∷ []) (sym (nothing_after xs))
   where
-    nothing_behind : (ys : List Item) → ys ++ [] ≡ ys
-    nothing_behind [] = refl
-    nothing_behind (y ∷ ys) = ap (λ z. y ∷ z) (nothing_behind ys)
+    nothing_after : (ys : List Item) → ys ++ [] ≡ ys
+    nothing_after [] = refl
+    nothing_after (y ∷ ys) = ap (λ z. y ∷ z) (nothing_after ys)
 one_group b xs (row ∷ rows) e = by_bool (eqb row.buffer b) _
     (λ t.
     let u : eqb b row.buffer ≡ true = grind (arith, nat_tests) in

@@ -17,10 +17,10 @@ use Rattle.wc_nicklist.proofs.OrderLaws.{by_bool}
 use Rattle.wc_nickdiff.specs.PushLaw.{rows_from}
 use Rattle.wc_view.specs.declared.nick_list.Listing.{Listing}
 use Rattle.wc_view.specs.NickFold.{are_rows, is_root_item, rows_if, rows_listed}
-use Rattle.wc_view.specs.NickLists.{last_row, path_behind, nick_name, next_row, comes_behind, rows_behind, Took, IsListing, ItemsAreUtf8}
+use Rattle.wc_view.specs.NickLists.{last_row, path_after, nick_name, next_row, comes_after, rows_after, Took, IsListing, ItemsAreUtf8}
 use Rattle.wc_view.proofs.NickStands.{good_from, good_to, good_left}
 use Rattle.wc_view.proofs.NickNext.{last-append}
-use Rattle.wc_view.proofs.NickPush.{refused_level, refused_add, fitted, added, nick_path, nick_comes, nick_behind, nick_misplaced, group_path, group_comes, group_behind, group_misplaced, group_level, group_too_deep, group_at_root, group_path_now}
+use Rattle.wc_view.proofs.NickPush.{refused_level, refused_add, fitted, added, nick_path, nick_comes, nick_after, nick_misplaced, group_path, group_comes, group_after, group_misplaced, group_level, group_too_deep, group_at_root, group_path_now}
 
 last_is : (rows : List Row) (r : Row) → last_row (rows ++ r ∷ []) ≡ Some r
 last_is rows r = last-append None rows r
@@ -51,7 +51,7 @@ no_rows_are = refl
 pub empty_listed : (l : Listing) → l.list.rows ≡ [] → l.path.items ≡ [] → l.nick ≡ None → IsListing l
 empty_listed l rows path nick = record {
   rows = ap are_rows rows ∙ no_rows_are;
-  path = path ∙ ap (λ z. path_behind (last_row z)) (sym rows);
+  path = path ∙ ap (λ z. path_after (last_row z)) (sym rows);
   nick = nick ∙ ap (λ z. nick_name (last_row z)) (sym rows);
 }
 
@@ -60,8 +60,8 @@ module _ (l : Listing) (ok : IsListing l) (i : Item) (e : i.is_group ≡ false) 
   pub nick_of_other_level : (i.level ≡ 0 → ⊥) → false ≡ are_rows (l.list.rows ++ next_row l.list.rows i ∷ [])
   nick_of_other_level n = refused_level l.list.rows (next_row l.list.rows i) false (nick_comes l.list.rows i ok.rows e) n
 
-  pub nick_in_front : comes_behind l.nick i.name ≡ false → false ≡ are_rows (l.list.rows ++ next_row l.list.rows i ∷ [])
-  nick_in_front b = nick_misplaced l.list.rows i ok.rows e (ap (λ o. comes_behind o i.name) (sym ok.nick) ∙ b)
+  pub nick_in_front : comes_after l.nick i.name ≡ false → false ≡ are_rows (l.list.rows ++ next_row l.list.rows i ∷ [])
+  nick_in_front b = nick_misplaced l.list.rows i ok.rows e (ap (λ o. comes_after o i.name) (sym ok.nick) ∙ b)
 
   module _ (named : l.root_name ≡ root_name) (p : List ℕ) (p_is : p ≡ last_or l.root_name l.path.items) where
     nick_parent : p ≡ last_or root_name (next_row l.list.rows i).path
@@ -70,18 +70,18 @@ module _ (l : Listing) (ok : IsListing l) (i : Item) (e : i.is_group ≡ false) 
     pub nick_refused : (why : NickRefused) → add_refusal false p i.name l.list.rows ≡ Some why → false ≡ are_rows (l.list.rows ++ next_row l.list.rows i ∷ [])
     nick_refused why a = refused_add l.list.rows (next_row l.list.rows i) false why (nick_comes l.list.rows i ok.rows e) (ap (λ z. add_refusal false z i.name l.list.rows) (sym nick_parent) ∙ a)
 
-    module _ (level : i.level ≡ 0) (b : comes_behind l.nick i.name ≡ true) (a : add_refusal false p i.name l.list.rows ≡ None) where
-      behind : comes_behind (nick_name (last_row l.list.rows)) i.name ≡ true
-      behind = ap (λ o. comes_behind o i.name) (sym ok.nick) ∙ b
+    module _ (level : i.level ≡ 0) (b : comes_after l.nick i.name ≡ true) (a : add_refusal false p i.name l.list.rows ≡ None) where
+      following : comes_after (nick_name (last_row l.list.rows)) i.name ≡ true
+      following = ap (λ o. comes_after o i.name) (sym ok.nick) ∙ b
 
       accepted : add_refusal false (last_or root_name (next_row l.list.rows i).path) i.name l.list.rows ≡ None
       accepted = ap (λ z. add_refusal false z i.name l.list.rows) (sym nick_parent) ∙ a
 
       pub nick_fits : true ≡ are_rows (l.list.rows ++ next_row l.list.rows i ∷ [])
-      nick_fits = fitted l.list.rows (next_row l.list.rows i) false (nick_comes l.list.rows i ok.rows e) (nick_behind l.list.rows i e behind) level accepted
+      nick_fits = fitted l.list.rows (next_row l.list.rows i) false (nick_comes l.list.rows i ok.rows e) (nick_after l.list.rows i e following) level accepted
 
       pub nick_added : add_row false p i l.list.rows ≡ l.list.rows ++ next_row l.list.rows i ∷ []
-      nick_added = ap (λ z. add_row false z i l.list.rows) nick_parent ∙ added l.list.rows (next_row l.list.rows i) false (nick_comes l.list.rows i ok.rows e) (nick_behind l.list.rows i e behind) level accepted
+      nick_added = ap (λ z. add_row false z i l.list.rows) nick_parent ∙ added l.list.rows (next_row l.list.rows i) false (nick_comes l.list.rows i ok.rows e) (nick_after l.list.rows i e following) level accepted
 
       pub nick_listed : (m : Listing) → m.list.rows ≡ add_row false p i l.list.rows → m.path.items ≡ l.path.items → m.nick ≡ Some i.name → IsListing m
       nick_listed m rows_are path_is nick_is =
@@ -90,11 +90,11 @@ module _ (l : Listing) (ok : IsListing l) (i : Item) (e : i.is_group ≡ false) 
           let last : last_row m.list.rows ≡ Some r = ap last_row rows ∙ last_is l.list.rows r in
           record {
             rows = ap are_rows rows ∙ sym nick_fits;
-            path = path_is ∙ ok.path ∙ sym (nick_path l.list.rows i e) ∙ of_nick r e ∙ ap path_behind (sym last);
+            path = path_is ∙ ok.path ∙ sym (nick_path l.list.rows i e) ∙ of_nick r e ∙ ap path_after (sym last);
             nick = nick_is ∙ name_of r e ∙ ap nick_name (sym last);
           }
         where
-          of_nick : (r : Row) → r.item.is_group ≡ false → r.path ≡ path_behind (Some r)
+          of_nick : (r : Row) → r.item.is_group ≡ false → r.path ≡ path_after (Some r)
           of_nick r e = rw e refl
 
           name_of : (r : Row) → r.item.is_group ≡ false → Some r.item.name ≡ nick_name (Some r)
@@ -109,11 +109,11 @@ module _ (l : Listing) (ok : IsListing l) (i : Item) (e : i.is_group ≡ true) w
   group_too_far h = refused_level l.list.rows (next_row l.list.rows i) true (group_comes l.list.rows i ok.rows e) (group_too_deep l.list.rows i e (subst (λ z. length z < i.level - 1) ok.path h))
 
   module _ (deep : i.level - 1 ≤ length l.path.items) where
-    within : i.level - 1 ≤ length (path_behind (last_row l.list.rows))
+    within : i.level - 1 ≤ length (path_after (last_row l.list.rows))
     within = subst (λ z. i.level - 1 ≤ length z) ok.path deep
 
-    pub group_in_front : comes_behind (slice_get l.path.items (i.level - 1)) i.name ≡ false → false ≡ are_rows (l.list.rows ++ next_row l.list.rows i ∷ [])
-    group_in_front b = group_misplaced l.list.rows i ok.rows e within (ap (λ z. comes_behind (slice_get z (i.level - 1)) i.name) (sym ok.path) ∙ b)
+    pub group_in_front : comes_after (slice_get l.path.items (i.level - 1)) i.name ≡ false → false ≡ are_rows (l.list.rows ++ next_row l.list.rows i ∷ [])
+    group_in_front b = group_misplaced l.list.rows i ok.rows e within (ap (λ z. comes_after (slice_get z (i.level - 1)) i.name) (sym ok.path) ∙ b)
 
     module _ (named : l.root_name ≡ root_name) (p : List ℕ) (p_is : p ≡ last_or l.root_name (take (i.level - 1) l.path.items)) where
       group_parent : p ≡ last_or root_name (next_row l.list.rows i).path
@@ -122,18 +122,18 @@ module _ (l : Listing) (ok : IsListing l) (i : Item) (e : i.is_group ≡ true) w
       pub group_refused : (why : NickRefused) → add_refusal true p i.name l.list.rows ≡ Some why → false ≡ are_rows (l.list.rows ++ next_row l.list.rows i ∷ [])
       group_refused why a = refused_add l.list.rows (next_row l.list.rows i) true why (group_comes l.list.rows i ok.rows e) (ap (λ z. add_refusal true z i.name l.list.rows) (sym group_parent) ∙ a)
 
-      module _ (some : 0 < i.level) (b : comes_behind (slice_get l.path.items (i.level - 1)) i.name ≡ true) (a : add_refusal true p i.name l.list.rows ≡ None) where
-        behind_sibling : comes_behind (slice_get (path_behind (last_row l.list.rows)) (i.level - 1)) i.name ≡ true
-        behind_sibling = ap (λ z. comes_behind (slice_get z (i.level - 1)) i.name) (sym ok.path) ∙ b
+      module _ (some : 0 < i.level) (b : comes_after (slice_get l.path.items (i.level - 1)) i.name ≡ true) (a : add_refusal true p i.name l.list.rows ≡ None) where
+        after_sibling : comes_after (slice_get (path_after (last_row l.list.rows)) (i.level - 1)) i.name ≡ true
+        after_sibling = ap (λ z. comes_after (slice_get z (i.level - 1)) i.name) (sym ok.path) ∙ b
 
         group_accepted : add_refusal true (last_or root_name (next_row l.list.rows i).path) i.name l.list.rows ≡ None
         group_accepted = ap (λ z. add_refusal true z i.name l.list.rows) (sym group_parent) ∙ a
 
         pub group_fits : true ≡ are_rows (l.list.rows ++ next_row l.list.rows i ∷ [])
-        group_fits = fitted l.list.rows (next_row l.list.rows i) true (group_comes l.list.rows i ok.rows e) (group_behind l.list.rows i e within behind_sibling) (group_level l.list.rows i e some within) group_accepted
+        group_fits = fitted l.list.rows (next_row l.list.rows i) true (group_comes l.list.rows i ok.rows e) (group_after l.list.rows i e within after_sibling) (group_level l.list.rows i e some within) group_accepted
 
         pub group_added : add_row true p i l.list.rows ≡ l.list.rows ++ next_row l.list.rows i ∷ []
-        group_added = ap (λ z. add_row true z i l.list.rows) group_parent ∙ added l.list.rows (next_row l.list.rows i) true (group_comes l.list.rows i ok.rows e) (group_behind l.list.rows i e within behind_sibling) (group_level l.list.rows i e some within) group_accepted
+        group_added = ap (λ z. add_row true z i l.list.rows) group_parent ∙ added l.list.rows (next_row l.list.rows i) true (group_comes l.list.rows i ok.rows e) (group_after l.list.rows i e within after_sibling) (group_level l.list.rows i e some within) group_accepted
 
         pub group_listed : (m : Listing) → m.list.rows ≡ add_row true p i l.list.rows → m.path.items ≡ take (i.level - 1) l.path.items ++ i.name ∷ [] → m.nick ≡ None → IsListing m
         group_listed m rows_are path_is nick_is =
@@ -142,7 +142,7 @@ module _ (l : Listing) (ok : IsListing l) (i : Item) (e : i.is_group ≡ true) w
             let last : last_row m.list.rows ≡ Some r = ap last_row rows ∙ last_is l.list.rows r in
             record {
               rows = ap are_rows rows ∙ sym group_fits;
-              path = path_is ∙ ap (λ z. take (i.level - 1) z ++ i.name ∷ []) ok.path ∙ group_path_now l.list.rows i e ∙ ap path_behind (sym last);
+              path = path_is ∙ ap (λ z. take (i.level - 1) z ++ i.name ∷ []) ok.path ∙ group_path_now l.list.rows i e ∙ ap path_after (sym last);
               nick = nick_is ∙ no_name r e ∙ ap nick_name (sym last);
             }
           where
@@ -150,7 +150,7 @@ module _ (l : Listing) (ok : IsListing l) (i : Item) (e : i.is_group ≡ true) w
             no_name r e = rw e refl
 
 -- ---- all rows
-below_nick : (r : Row) → r.item.is_group ≡ false → path_behind (Some r) ≡ r.path
+below_nick : (r : Row) → r.item.is_group ≡ false → path_after (Some r) ≡ r.path
 below_nick r e = rw e refl
 
 from_group : (path : List (List ℕ)) (i : Item) (rest : List Item) → i.is_group ≡ true
@@ -164,50 +164,50 @@ row_by : (path : List (List ℕ)) (rows : List Row) (i : Item) → path ≡ (nex
 row_by path rows i e = λ j. record { path = e j; item = i }
 
 abbrev Rest : List Row → Item → List Item → List Row
-Rest rows i rest = next_row rows i ∷ rows_from (path_behind (Some (next_row rows i))) rest
+Rest rows i rest = next_row rows i ∷ rows_from (path_after (Some (next_row rows i))) rest
 
-read_group : (rows : List Row) (i : Item) (rest : List Item) → i.is_group ≡ true → rows_from (path_behind (last_row rows)) (i ∷ rest) ≡ Rest rows i rest
+read_group : (rows : List Row) (i : Item) (rest : List Item) → i.is_group ≡ true → rows_from (path_after (last_row rows)) (i ∷ rest) ≡ Rest rows i rest
 read_group rows i rest g =
-    from_group (path_behind (last_row rows)) i rest g
-    ∙ ap (λ r. r ∷ rows_from (take (i.level - 1) (path_behind (last_row rows)) ++ i.name ∷ []) rest) (row_by _ rows i (sym (group_path rows i g)))
+    from_group (path_after (last_row rows)) i rest g
+    ∙ ap (λ r. r ∷ rows_from (take (i.level - 1) (path_after (last_row rows)) ++ i.name ∷ []) rest) (row_by _ rows i (sym (group_path rows i g)))
     ∙ ap (λ z. next_row rows i ∷ rows_from z rest) (group_path_now rows i g)
 
-read_nick : (rows : List Row) (i : Item) (rest : List Item) → i.is_group ≡ false → rows_from (path_behind (last_row rows)) (i ∷ rest) ≡ Rest rows i rest
+read_nick : (rows : List Row) (i : Item) (rest : List Item) → i.is_group ≡ false → rows_from (path_after (last_row rows)) (i ∷ rest) ≡ Rest rows i rest
 read_nick rows i rest g =
-    let path : path_behind (last_row rows) ≡ (next_row rows i).path = sym (nick_path rows i g) in
-    from_nick (path_behind (last_row rows)) i rest g
-    ∙ ap (λ r. r ∷ rows_from (path_behind (last_row rows)) rest) (row_by _ rows i path)
+    let path : path_after (last_row rows) ≡ (next_row rows i).path = sym (nick_path rows i g) in
+    from_nick (path_after (last_row rows)) i rest g
+    ∙ ap (λ r. r ∷ rows_from (path_after (last_row rows)) rest) (row_by _ rows i path)
     ∙ ap (λ z. next_row rows i ∷ rows_from z rest) (path ∙ sym (below_nick (next_row rows i) g))
 
-read_step : (rows : List Row) (i : Item) (rest : List Item) → rows_from (path_behind (last_row rows)) (i ∷ rest) ≡ Rest rows i rest
+read_step : (rows : List Row) (i : Item) (rest : List Item) → rows_from (path_after (last_row rows)) (i ∷ rest) ≡ Rest rows i rest
 read_step rows i rest = by_bool i.is_group _ (read_group rows i rest) (read_nick rows i rest)
 
 -- the rows so far, and those of the items that are left
 abbrev pub Reads : List Row → List Row → List Item → Type 0
-Reads whole rows rest = whole ≡ rows ++ rows_from (path_behind (last_row rows)) rest
+Reads whole rows rest = whole ≡ rows ++ rows_from (path_after (last_row rows)) rest
 
 pub read_more : (whole rows new : List Row) (i : Item) (left rest : List Item) → Reads whole rows left → left ≡ i ∷ rest → new ≡ rows ++ next_row rows i ∷ [] → Reads whole new rest
 read_more whole rows new i left rest h e n =
     let r = next_row rows i in
     let last : Some r ≡ last_row new = sym (ap last_row n ∙ last_is rows r) in
-    h ∙ ap (λ z. rows ++ rows_from (path_behind (last_row rows)) z) e ∙ ap (λ z. rows ++ z) (read_step rows i rest)
-    ∙ sym (append_assoc rows (r ∷ []) (rows_from (path_behind (Some r)) rest))
-    ∙ (λ j. sym n j ++ rows_from (path_behind (last j)) rest)
+    h ∙ ap (λ z. rows ++ rows_from (path_after (last_row rows)) z) e ∙ ap (λ z. rows ++ z) (read_step rows i rest)
+    ∙ sym (append_assoc rows (r ∷ []) (rows_from (path_after (Some r)) rest))
+    ∙ (λ j. sym n j ++ rows_from (path_after (last j)) rest)
 
 pub read_refused : (whole rows : List Row) (i : Item) (left rest : List Item) → Reads whole rows left → left ≡ i ∷ rest → false ≡ are_rows (rows ++ next_row rows i ∷ [])
     → None ≡ rows_if (are_rows whole) whole
 read_refused whole rows i left rest h e n =
     let r = next_row rows i in
-    let more = rows_from (path_behind (Some r)) rest in
+    let more = rows_from (path_after (Some r)) rest in
     let split : whole ≡ (rows ++ r ∷ []) ++ more =
-    h ∙ ap (λ z. rows ++ rows_from (path_behind (last_row rows)) z) e ∙ ap (λ z. rows ++ z) (read_step rows i rest) ∙ sym (append_assoc rows (r ∷ []) more) in
+    h ∙ ap (λ z. rows ++ rows_from (path_after (last_row rows)) z) e ∙ ap (λ z. rows ++ z) (read_step rows i rest) ∙ sym (append_assoc rows (r ∷ []) more) in
     let no : are_rows whole ≡ false = false_from_ne_true _ (λ t.
     true≢false (sym (good_to (rows ++ r ∷ []) (good_left (rows ++ r ∷ []) more (good_from _ (ap are_rows (sym split) ∙ t)))) ∙ sym n)) in
     rw no refl
 
 pub read_all : (whole rows : List Row) (left : List Item) → Reads whole rows left → left ≡ [] → are_rows rows ≡ true → Some rows ≡ rows_if (are_rows whole) whole
 read_all whole rows left h e t =
-    let same : whole ≡ rows = h ∙ ap (λ z. rows ++ rows_from (path_behind (last_row rows)) z) e ∙ append-nil rows in
+    let same : whole ≡ rows = h ∙ ap (λ z. rows ++ rows_from (path_after (last_row rows)) z) e ∙ append-nil rows in
     let yes : are_rows whole ≡ true = ap are_rows same ∙ t in
     rw yes (ap Some (sym same))
 
@@ -232,7 +232,7 @@ pub listed_other : (items rest : List Item) (root : Item) → items ≡ root ∷
 unfolding rows_listed
 listed_other items rest root e n = only_false (is_root_item root) (are_rows (rows_from [] rest)) (rows_from [] rest) n ∙ ap rows_listed (sym e)
 
-pub listed_rows : (items rest : List Item) (root : Item) → items ≡ root ∷ rest → is_root_item root ≡ true → rows_behind rest ≡ rows_listed items
+pub listed_rows : (items rest : List Item) (root : Item) → items ≡ root ∷ rest → is_root_item root ≡ true → rows_after rest ≡ rows_listed items
 unfolding rows_listed
 listed_rows items rest root e n = only_true (is_root_item root) (are_rows (rows_from [] rest)) (rows_from [] rest) n ∙ ap rows_listed (sym e)
 

@@ -1,4 +1,4 @@
--- The row that comes behind rows that are read.
+-- The row that comes after rows that are read.
 use Rattle.std.proofs.Common.{◌≡◌, ℕ, zero, suc, ◌+◌, ◌-◌, ◌<◌, ◌≤◌, Bool, true, false, Option, Some, None, List, [], ◌∷◌, ◌++◌, ◌⊎◌, length, map, take, drop, refl, sym, ap, ◌∙◌, subst, inl, inr, arith, append_assoc, Ordering, ◌&&◌}
 use Rattle.std.specs.List.{slice_get}
 use Rattle.std.specs.declared.cmp.Ordering.TheVariants.{Less, Equal, Greater}
@@ -18,7 +18,7 @@ use Rattle.wc_nicklist.proofs.Held.{by_row, parent_found}
 use Rattle.wc_nicklist.proofs.Refusals.{is_name}
 use Rattle.wc_nicklist.proofs.RowLaws.{find_key}
 use Rattle.wc_nickdiff.proofs.Split.{one_row, split_of}
-use Rattle.wc_view.specs.NickLists.{last_from, last_row, path_behind, nick_name, comes_behind}
+use Rattle.wc_view.specs.NickLists.{last_from, last_row, path_after, nick_name, comes_after}
 use Rattle.wc_view.proofs.NickStands.{Stands, Good, alone, found_left, found_right}
 
 -- ---- the last row
@@ -45,9 +45,9 @@ no_rows (x ∷ xs) e = absurd (last_some x xs e)
 pub last_found : (rows : List Row) (l : Row) → Good rows → last_row rows ≡ Some l → find_row (key l) rows ≡ Some l
 last_found rows l g e = let f = front_of rows l e in (split_of rows f.0 l [] f.1 g.ascending g.keyed).there
 
--- what comes behind the last row comes behind each
-pub behind_all : (rows : List Row) (l r : Row) → Good rows → last_row rows ≡ Some l → before l r ≡ true → (k : Key) (x : Row) → find_row k rows ≡ Some x → before x r ≡ true
-behind_all rows l r g e b k x f =
+-- what comes after the last row comes after each
+pub after_all : (rows : List Row) (l r : Row) → Good rows → last_row rows ≡ Some l → before l r ≡ true → (k : Key) (x : Row) → find_row k rows ≡ Some x → before x r ≡ true
+after_all rows l r g e b k x f =
     let split = front_of rows l e in
     let s = split_of rows split.0 l [] split.1 g.ascending g.keyed in
     let h : find_row k (split.0 ++ l ∷ []) ≡ Some x = ap (find_row k) (sym split.1) ∙ f in
@@ -62,7 +62,7 @@ ends Equal [] = refl
 ends Equal (a ∷ more) = refl
 ends Greater more = refl
 
--- behind a common front the next keys decide
+-- after a common front the next keys decide
 sibling : (xs : List Key) (a : Key) (more : List Key) (b : Key) → is_lt (slice_cmp key_cmp (xs ++ a ∷ more) (xs ++ b ∷ [])) ≡ is_lt (key_cmp a b)
 sibling [] a more b = ends (key_cmp a b) more
 sibling (x ∷ xs) a more b = rw (tied_itself key_total x) (sibling xs a more b)
@@ -75,10 +75,10 @@ same_kind a b false e f = (λ i. is_lt (ordering_then (nat_cmp (kind (e i)) (kin
 nick_first : (a b : Key) → a.is_group ≡ false → b.is_group ≡ true → is_lt (key_cmp a b) ≡ true
 nick_first a b e f = (λ i. is_lt (ordering_then (nat_cmp (kind (e i)) (kind (f i))) (fold_order a.name b.name)))
 
-path_of_group : (l : Row) → l.item.is_group ≡ true → path_behind (Some l) ≡ below l
+path_of_group : (l : Row) → l.item.is_group ≡ true → path_after (Some l) ≡ below l
 path_of_group l e = rw e refl
 
-path_of_nick : (l : Row) → l.item.is_group ≡ false → path_behind (Some l) ≡ l.path
+path_of_nick : (l : Row) → l.item.is_group ≡ false → path_after (Some l) ≡ l.path
 path_of_nick l e = rw e refl
 
 name_of_group : (l : Row) → l.item.is_group ≡ true → nick_name (Some l) ≡ None
@@ -87,17 +87,17 @@ name_of_group l e = rw e refl
 name_of_nick : (l : Row) → l.item.is_group ≡ false → nick_name (Some l) ≡ Some l.item.name
 name_of_nick l e = rw e refl
 
--- a nick behind the last row
-pub nick_place : (l r : Row) → r.item.is_group ≡ false → r.path ≡ path_behind (Some l) → before l r ≡ comes_behind (nick_name (Some l)) r.item.name
+-- a nick after the last row
+pub nick_place : (l r : Row) → r.item.is_group ≡ false → r.path ≡ path_after (Some l) → before l r ≡ comes_after (nick_name (Some l)) r.item.name
 unfolding before address_cmp
 nick_place l r nick p = by_bool l.item.is_group _
-    (λ g. before_below l r g (p ∙ path_of_group l g) ∙ sym (ap (λ o. comes_behind o r.item.name) (name_of_group l g)))
+    (λ g. before_below l r g (p ∙ path_of_group l g) ∙ sym (ap (λ o. comes_after o r.item.name) (name_of_group l g)))
     (λ g.
     let q : r.path ≡ l.path = p ∙ path_of_nick l g in
     ap (λ z. is_lt (slice_cmp key_cmp (address l) (map group_key z ++ key r ∷ []))) q
     ∙ sibling (map group_key l.path) (key l) [] (key r)
     ∙ same_kind (key l) (key r) false g nick
-    ∙ sym (ap (λ o. comes_behind o r.item.name) (name_of_nick l g)))
+    ∙ sym (ap (λ o. comes_after o r.item.name) (name_of_nick l g)))
 
 -- a path at a depth
 data At (path : List (List ℕ)) (depth : ℕ) : Type 0 where
@@ -113,31 +113,31 @@ at_depth (n ∷ ns) (suc d) h = elim (at_depth ns d (omega arith)) [
   | within m rest p s ↦ within m rest (ap (λ z. n ∷ z) p) s
 ]
 
--- an address begins with the path behind its row
-address_is : (l : Row) → (tail : List Key) × (address l ≡ map group_key (path_behind (Some l)) ++ tail)
+-- an address begins with the path after its row
+address_is : (l : Row) → (tail : List Key) × (address l ≡ map group_key (path_after (Some l)) ++ tail)
 address_is l = by_group l.item.is_group refl
   where
-    by_group : (b : Bool) → l.item.is_group ≡ b → (tail : List Key) × (address l ≡ map group_key (path_behind (Some l)) ++ tail)
-    by_group true g = ([], group_address l g ∙ ap (map group_key) (sym (path_of_group l g)) ∙ sym (append-nil (map group_key (path_behind (Some l)))))
+    by_group : (b : Bool) → l.item.is_group ≡ b → (tail : List Key) × (address l ≡ map group_key (path_after (Some l)) ++ tail)
+    by_group true g = ([], group_address l g ∙ ap (map group_key) (sym (path_of_group l g)) ∙ sym (append-nil (map group_key (path_after (Some l)))))
     by_group false g = (key l ∷ [], ap (λ z. map group_key z ++ key l ∷ []) (sym (path_of_nick l g)))
 
--- a group behind the last row
-pub group_place : (l r : Row) (depth : ℕ) → r.item.is_group ≡ true → depth ≤ length (path_behind (Some l)) → r.path ≡ take depth (path_behind (Some l))
-    → before l r ≡ comes_behind (slice_get (path_behind (Some l)) depth) r.item.name
+-- a group after the last row
+pub group_place : (l r : Row) (depth : ℕ) → r.item.is_group ≡ true → depth ≤ length (path_after (Some l)) → r.path ≡ take depth (path_after (Some l))
+    → before l r ≡ comes_after (slice_get (path_after (Some l)) depth) r.item.name
 unfolding before address_cmp
-group_place l r depth group h p = elim (at_depth (path_behind (Some l)) depth h) [
-  | at_end all none ↦ behind (p ∙ all) ∙ sym (ap (λ o. comes_behind o r.item.name) none)
+group_place l r depth group h p = elim (at_depth (path_after (Some l)) depth h) [
+  | at_end all none ↦ following (p ∙ all) ∙ sym (ap (λ o. comes_after o r.item.name) none)
   | within n rest split some ↦ (
       let a = address_is l in
-      let front = map group_key (take depth (path_behind (Some l))) in
+      let front = map group_key (take depth (path_after (Some l))) in
       let left : address l ≡ front ++ group_key n ∷ (map group_key rest ++ a.0) =
-      a.1 ∙ ap (λ z. map group_key z ++ a.0) split ∙ ap (λ z. z ++ a.0) (map-append group_key (take depth (path_behind (Some l))) (n ∷ rest))
+      a.1 ∙ ap (λ z. map group_key z ++ a.0) split ∙ ap (λ z. z ++ a.0) (map-append group_key (take depth (path_after (Some l))) (n ∷ rest))
       ∙ append_assoc front (group_key n ∷ map group_key rest) a.0 in
       let right : address r ≡ front ++ key r ∷ [] = ap (λ z. map group_key z ++ key r ∷ []) p in
       (λ i. is_lt (slice_cmp key_cmp (left i) (right i)))
       ∙ sibling front (group_key n) (map group_key rest ++ a.0) (key r)
       ∙ same_kind (group_key n) (key r) true refl group
-      ∙ sym (ap (λ o. comes_behind o r.item.name) some))
+      ∙ sym (ap (λ o. comes_after o r.item.name) some))
 ]
   where
     after_nick : r.path ≡ l.path → l.item.is_group ≡ false → before l r ≡ true
@@ -146,8 +146,8 @@ group_place l r depth group h p = elim (at_depth (path_behind (Some l)) depth h)
         ∙ sibling (map group_key l.path) (key l) [] (key r)
         ∙ nick_first (key l) (key r) g group
 
-    behind : r.path ≡ path_behind (Some l) → before l r ≡ true
-    behind q = by_bool l.item.is_group _
+    following : r.path ≡ path_after (Some l) → before l r ≡ true
+    following q = by_bool l.item.is_group _
         (λ g. before_below l r g (q ∙ path_of_group l g))
         (λ g. after_nick (q ∙ path_of_nick l g) g)
 
@@ -168,7 +168,7 @@ PathStands rows path = path_below (last_or root_name path) rows ≡ Some path
 whole : (rows : List Row) (path : List (List ℕ)) (k : ℕ) → length path ≤ k → PathStands rows path → PathStands rows (take k path)
 whole rows path k l e = subst (PathStands rows) (sym (take_all k path l)) e
 
--- each front of a path that stands stands
+-- each front of a path that is is
 pub fronts : (rows : List Row) → Good rows → (n : ℕ) (path : List (List ℕ)) → length path ≡ n → path_below (last_or root_name path) rows ≡ Some path
     → (k : ℕ) → path_below (last_or root_name (take k path)) rows ≡ Some (take k path)
 fronts rows g zero path len e k = whole rows path k (omega arith) e
@@ -192,7 +192,7 @@ not_root : (g b : Bool) → (g && b) ≡ false → g ≡ true → b ≡ false
 not_root true b e t = e
 not_root false b e t = absurd (true≢false (sym t))
 
--- the path below a group that stands
+-- the path below a group that is
 own_below : (rows : List Row) (l : Row) → Stands rows l → find_row (key l) rows ≡ Some l → l.item.is_group ≡ true → path_below l.item.name rows ≡ Some (below l)
 unfolding path_below
 own_below rows l s f g =
@@ -201,13 +201,13 @@ own_below rows l s f g =
     let there : find_row (group_key l.item.name) rows ≡ Some l = ap (λ q. find_row q rows) (sym k) ∙ f in
     rw (n, there) refl
 
--- the path behind the last row stands
-pub behind_stands : (rows : List Row) → Good rows → path_below (last_or root_name (path_behind (last_row rows))) rows ≡ Some (path_behind (last_row rows))
-behind_stands rows g = by_row (last_row rows) _
-    (λ n. subst (PathStands rows) (ap path_behind (sym n)) (root_below rows))
+-- the path after the last row is
+pub after_stands : (rows : List Row) → Good rows → path_below (last_or root_name (path_after (last_row rows))) rows ≡ Some (path_after (last_row rows))
+after_stands rows g = by_row (last_row rows) _
+    (λ n. subst (PathStands rows) (ap path_after (sym n)) (root_below rows))
     (λ l e.
     let f = last_found rows l g e in
     let s = g.stand (key l) l f in
-    subst (PathStands rows) (ap path_behind (sym e)) (by_bool l.item.is_group _
+    subst (PathStands rows) (ap path_after (sym e)) (by_bool l.item.is_group _
     (λ t. subst (PathStands rows) (sym (path_of_group l t)) (ap (λ n. path_below n rows) (last_or-push root_name l.path l.item.name) ∙ own_below rows l s f t))
     (λ t. subst (PathStands rows) (sym (path_of_nick l t)) s.parent)))

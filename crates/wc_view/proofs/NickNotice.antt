@@ -1,11 +1,11 @@
--- The event of a change of a world is folded to the nicklists that are told behind the change.
+-- The event of a change of a world is folded to the nicklists that are told after the change.
 use Rattle.std.proofs.Common.{◌≡◌, ℕ, ◌<◌, Bool, true, false, cond, List, [], ◌∷◌, ◌++◌, codes, Option, Some, None, option_map, Ok, refl, ap, ◌∙◌, arith, eq-eqb}
 use Rattle.std.specs.Prelude.{is_some}
 use Rattle.std.specs.FinMap.{get, insert}
 use Rattle.wc_text.specs.declared.names.Handle.{Handle}
 use Rattle.wc_buffers.specs.declared.row.BufferSpec.{BufferSpec}
 use Rattle.wc_buffers.specs.Groups.{has, row_of}
-use Rattle.wc_buffers.specs.Calls.{handle_of, entry_of, lacks_var, opened as opened_entry}
+use Rattle.wc_buffers.specs.Calls.{handle_of, entry_of, lacks_var, new_entry as opened_entry}
 use Rattle.wc_world.proofs.GroupRows.{row_of-append, or_some, no_row}
 use Rattle.wc_model.specs.declared.change.What.{What}
 use Rattle.wc_model.specs.declared.change.What.TheVariants.{Add, Close, MoveTo, MergeInto, Unmerge, Hide, Unhide, Rename, ShortName, Title, SetVar, RemoveVar, Print, Clear, Flips, AddGroup, AddNick, RemoveGroup, RemoveNick, ChangeGroup, ChangeNick}
@@ -16,7 +16,7 @@ use Rattle.wc_model.specs.Apply.{after_of, row_of as new_row}
 use Rattle.wc_model.specs.Notices.{notice_of, var_kind}
 use Rattle.wc_model.specs.Touches.{told_after}
 use Rattle.wc_objects.specs.declared.object.Object.{Object}
-use Rattle.wc_told.specs.BufferObjects.{event_of, objects_of, opened_objects}
+use Rattle.wc_events.specs.BufferObjects.{event_of, objects_of, opened_objects}
 use Rattle.wc_view.specs.Ids.{IsFree}
 use Rattle.wc_view.specs.NickFold.{NickPart, with_opened, without_named, fold_nicks}
 use Rattle.wc_view.specs.NickViews.{HasNicks, HasLists, fold_told_nicks, NickNoticeShows}

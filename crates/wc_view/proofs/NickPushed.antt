@@ -15,10 +15,10 @@ use Rattle.wc_nickdiff.specs.declared.diff_item.DiffItem.{DiffItem}
 use Rattle.wc_nickdiff.specs.declared.diff_item.Mark.{Mark}
 use Rattle.wc_nickdiff.specs.declared.diff_item.Mark.TheVariants.{Removed, Added, Changed}
 use Rattle.wc_nickdiff.specs.Apply.{applied_all}
-use Rattle.wc_nickdiff.specs.NickPush.{root_item, item_or, group_item, Op, op, ops, is_group, is_nick, outs, ins, changed, same_name, with_parents, diff, full_list, push_of}
+use Rattle.wc_nickdiff.specs.NickPush.{root_item, item_or, group_item, Op, op, ops, is_group, is_nick, outs, ins, changed_rows, same_name, with_parents, diff, full_list, push_of}
 use Rattle.wc_nickdiff.proofs.PushLaw.{kept, diff_law}
 use Rattle.wc_model.specs.declared.notice.EventKind.TheVariants as event
-use Rattle.wc_told.specs.NickObjects.{push_message, diff_objects, nick_objects, diff_item, nick_item}
+use Rattle.wc_events.specs.NickObjects.{push_message, diff_objects, nick_objects, diff_item, nick_item}
 use Rattle.wc_view.specs.declared.nick_rows.NickRow.{NickRow}
 use Rattle.wc_view.specs.declared.nick_rows.NickChange.{NickChange}
 use Rattle.wc_view.specs.Ids.{IsFree}
@@ -90,7 +90,7 @@ few_diff root told now old new =
     (few_both _ _ (few_ops Removed root told (reverse (filter is_group (outs told now))) old (few_reverse (filter is_group (outs told now)) (few_filter is_group (outs told now) away)))
     (few_both _ _ (few_ops Added root now (filter is_group (ins told now)) new (few_filter is_group (ins told now) here))
     (few_both _ _ (few_ops Added root now (filter is_nick (ins told now)) new (few_filter is_nick (ins told now) here))
-    (few_ops Changed root now (changed told now) new (few_filter _ now new))))))
+    (few_ops Changed root now (changed_rows told now) new (few_filter _ now new))))))
 
 -- ---- the items of one buffer
 all_of : (buffer : Handle) (items : List Item) → are_of buffer.0 (map (row_at buffer) items) ≡ true

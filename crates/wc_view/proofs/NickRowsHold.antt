@@ -8,25 +8,25 @@ use Rattle.wc_text.specs.declared.names.Handle.{Handle}
 use Rattle.wc_nicklist.specs.declared.item.Key.{Key}
 use Rattle.wc_nicklist.specs.declared.item.Row.{Row}
 use Rattle.wc_nicklist.specs.Order.{key, before}
-use Rattle.wc_nicklist.specs.Rows.{key_eq, find_row, is_root, parent_of, path_below, level_at, AllBehind, Ascending, Keyed, IsHeld, IsRows}
+use Rattle.wc_nicklist.specs.Rows.{key_eq, find_row, is_root, parent_of, path_below, level_at, AllAfter, Ascending, Keyed, IsListedRow, IsRows}
 use Rattle.wc_nicklist.specs.Calls.{is_bad_name, name_refusal}
 use Rattle.wc_nicklist.proofs.OrderLaws.{by_bool, key_eq-true, key_eq-same, path_eq-same}
 use Rattle.wc_nickdiff.specs.NickPush.{root_item, full_list}
 use Rattle.wc_nickdiff.proofs.PushLaw.{kept}
 use Rattle.wc_nickdiff.proofs.FullLaw.{full_law}
 use Rattle.wc_nickdiff.proofs.Split.{no_row}
-use Rattle.wc_view.specs.NickFold.{are_ascending, are_keyed, is_path, can_stand, are_rows, is_root_item, rows_if, rows_listed}
+use Rattle.wc_view.specs.NickFold.{are_ascending, are_keyed, is_path, may_be_listed, are_rows, is_root_item, rows_if, rows_listed}
 
 both : (a b : Bool) → a ≡ true → b ≡ true → (a && b) ≡ true
 both a b x y = ap (λ c. c && b) x ∙ y
 
-all_behind : (x : Row) (ys : List Row) → AllBehind x ys → list_all (λ y. before x y) ys ≡ true
-all_behind x [] behind = refl
-all_behind x (y ∷ ys) behind = both (before x y) (list_all (λ y. before x y) ys) behind.0 (all_behind x ys behind.1)
+all_after : (x : Row) (ys : List Row) → AllAfter x ys → list_all (λ y. before x y) ys ≡ true
+all_after x [] following = refl
+all_after x (y ∷ ys) following = both (before x y) (list_all (λ y. before x y) ys) following.0 (all_after x ys following.1)
 
 ascending : (rows : List Row) → Ascending rows → are_ascending rows ≡ true
 ascending [] up = refl
-ascending (x ∷ xs) up = both (list_all (λ y. before x y) xs) (are_ascending xs) (all_behind x xs up.0) (ascending xs up.1)
+ascending (x ∷ xs) up = both (list_all (λ y. before x y) xs) (are_ascending xs) (all_after x xs up.0) (ascending xs up.1)
 
 keyed : (rows : List Row) → Keyed rows → are_keyed rows ≡ true
 keyed [] once = refl
@@ -50,7 +50,7 @@ named : (is_group : Bool) (name : List ℕ) → (is_group && is_root name) ≡ f
 unfolding name_refusal
 named is_group name no_root good = rw (no_root, good) refl
 
-stands : (rows : List Row) (r : Row) → IsHeld rows r → can_stand rows r ≡ true
+stands : (rows : List Row) (r : Row) → IsListedRow rows r → may_be_listed rows r ≡ true
 stands rows r held =
     both (is_path (path_below (parent_of r) rows) r.path) _ (ap (λ found. is_path found r.path) held.parent ∙ path_eq-same r.path)
     (both (eqb r.item.level (level_at r.item.is_group r.path)) (is_none (name_refusal r.item.is_group r.item.name)) (eq-eqb r.item.level (level_at r.item.is_group r.path) held.level)
@@ -60,7 +60,7 @@ rows_hold : (rows : List Row) → IsRows rows → are_rows rows ≡ true
 unfolding are_rows
 rows_hold rows ok =
     both (are_ascending rows) _ (ascending rows ok.ascending)
-    (both (are_keyed rows) (list_all (can_stand rows) rows) (keyed rows ok.keyed) (all_found (can_stand rows) rows ok.keyed (λ k r found. stands rows r (ok.held k r found))))
+    (both (are_keyed rows) (list_all (may_be_listed rows) rows) (keyed rows ok.keyed) (all_found (may_be_listed rows) rows ok.keyed (λ k r found. stands rows r (ok.held k r found))))
 
 pub listed : (root : Handle) (rows : List Row) → IsRows rows → rows_listed (full_list (root_item root) rows) ≡ Some rows
 unfolding rows_listed

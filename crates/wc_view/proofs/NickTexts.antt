@@ -17,7 +17,7 @@ use Rattle.wc_objects.specs.declared.object.Hda.{Hda, out-Hda}
 use Rattle.wc_objects.specs.declared.object.HdaItem.{HdaItem, out-HdaItem}
 use Rattle.wc_objects.specs.Forms.{names_of, kinds_of, object_layer_is, value_layer_is, value_is, values_are, values_of, item_of, hda_parts_are, hda_is, object_is, well_formed}
 use Rattle.wc_objects.specs.Kinds.{Layer}
-use Rattle.wc_told.specs.NickObjects.{nick_path, nick_keys, diff_keys}
+use Rattle.wc_events.specs.NickObjects.{nick_path, nick_keys, diff_keys}
 use Rattle.wc_view.specs.declared.nick_rows.NickTexts.{NickTexts}
 use Rattle.wc_view.specs.declared.nick_rows.NickRow.{NickRow}
 use Rattle.wc_view.specs.declared.nick_rows.NickChange.{NickChange}

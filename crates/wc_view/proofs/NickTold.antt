@@ -11,9 +11,9 @@ use Rattle.wc_nickdiff.specs.declared.diff_item.Mark.{Mark}
 use Rattle.wc_nickdiff.specs.declared.diff_item.Mark.TheVariants.{Parent, Added, Removed, Changed}
 use Rattle.wc_objects.specs.declared.object.Object.TheVariants as o
 use Rattle.wc_objects.specs.declared.object.Object.TheViews.{out-Object}
-use Rattle.wc_told.specs.LineObjects.{truth}
-use Rattle.wc_told.specs.BufferObjects.{count, text}
-use Rattle.wc_told.specs.NickObjects.{nick_path, nick_keys, diff_keys, nick_values, nick_item, mark_code, diff_item, nick_objects, diff_objects}
+use Rattle.wc_events.specs.LineObjects.{truth}
+use Rattle.wc_events.specs.BufferObjects.{count, text}
+use Rattle.wc_events.specs.NickObjects.{nick_path, nick_keys, diff_keys, nick_values, nick_item, mark_code, diff_item, nick_objects, diff_objects}
 use Rattle.wc_view.specs.declared.nick_rows.NickRow.{NickRow}
 use Rattle.wc_view.specs.declared.nick_rows.NickChange.{NickChange}
 use Rattle.wc_view.specs.Each.{each}

@@ -1,4 +1,4 @@
--- The event of a change of a world is folded to the lines behind the change.
+-- The event of a change of a world is folded to the lines after the change.
 use Rattle.std.proofs.Common.{◌≡◌, ℕ, zero, suc, ◌-◌, ◌<◌, ◌≤◌, Bool, true, false, cond, List, [], ◌∷◌, ◌++◌, length, drop, map, codes, Option, Some, None, option_map, refl, sym, ap, subst, ◌∙◌, arith, eqb}
 use Rattle.std.specs.Prelude.{unwrap_or, bytes_eq}
 use Rattle.std.specs.FinMap.{get, find, insert, remove, entries, get-insert, get-remove, get-from_entries, get-entries}
@@ -21,17 +21,17 @@ use Rattle.wc_model.specs.declared.notice.EventKind.{EventKind}
 use Rattle.wc_model.specs.declared.notice.EventKind.TheVariants as kind
 use Rattle.wc_model.specs.declared.notice.Notice.{Notice}
 use Rattle.wc_model.specs.World.{World, lines_at as lines_in}
-use Rattle.wc_model.specs.Apply.{after_of, flip_all, flipped}
+use Rattle.wc_model.specs.Apply.{after_of, flip_all, with_flips}
 use Rattle.wc_model.specs.LineCuts.{line_of}
 use Rattle.wc_model.specs.Notices.{notice_of, var_kind}
 use Rattle.wc_objects.specs.declared.object.Object.{Object}
 use Rattle.wc_objects.specs.declared.object.WireMessage.{WireMessage}
-use Rattle.wc_told.specs.LineObjects.{line_added, added_objects}
-use Rattle.wc_told.specs.BufferObjects.{id_of, event_of, event_objects, objects_of, named_objects}
+use Rattle.wc_events.specs.LineObjects.{line_added, added_objects}
+use Rattle.wc_events.specs.BufferObjects.{id_of, event_of, event_objects, objects_of, named_objects}
 use Rattle.wc_view.specs.Ids.{IsFree}
 use Rattle.wc_view.specs.Parts.{Part, lines_at, with_row, without}
-use Rattle.wc_view.specs.Fold.{fold_lines, grown, emptied}
-use Rattle.wc_view.specs.Views.{shown_line, view_of, HasLines, HasAll, Stands, fold_told, SetsNoFlags, NoticeShows}
+use Rattle.wc_view.specs.Fold.{fold_lines, with_new_line, without_lines_of}
+use Rattle.wc_view.specs.Views.{shown_line, view_of, HasLines, HasAll, IsMirrorable, fold_told, SetsNoFlags, NoticeShows}
 use Rattle.wc_view.proofs.EntryLemmas.{by_bool, tied}
 use Rattle.wc_view.proofs.LineTold.{row, added_read, named_told}
 
@@ -82,26 +82,26 @@ pub quiet_told : (limit : ℕ) (id : List ℕ) (part : Option Part) (kind : Even
 quiet_told limit id part kind None q free = refl
 quiet_told limit id part kind (Some objects) q free = quiet_message limit id part kind objects q free
 
-stays : (part folded : Option Part) (world behind : World) → folded ≡ part → ((q : ℕ) → lines_in behind q ≡ lines_in world q) → HasAll part world → HasAll folded behind
-stays part folded world behind same lines had q =
-    subst (λ p. HasLines p q (lines_in behind q)) (sym same) (subst (HasLines part q) (sym (lines q)) (had q))
+stays : (part folded : Option Part) (world following : World) → folded ≡ part → ((q : ℕ) → lines_in following q ≡ lines_in world q) → HasAll part world → HasAll folded following
+stays part folded world following same lines had q =
+    subst (λ p. HasLines p q (lines_in following q)) (sym same) (subst (HasLines part q) (sym (lines q)) (had q))
 
 -- ---- a buffer that has no lines any more
-emptied_shows : (part : Option Part) (world behind : World) (buffer : ℕ) → ((q : ℕ) → lines_in behind q ≡ cond (eqb q buffer) [] (lines_in world q))
-    → HasAll part world → HasAll (option_map (without buffer) part) behind
-emptied_shows None world behind buffer lines had q = absurd (had 0)
-emptied_shows (Some held) world behind buffer lines had q =
+emptied_shows : (part : Option Part) (world following : World) (buffer : ℕ) → ((q : ℕ) → lines_in following q ≡ cond (eqb q buffer) [] (lines_in world q))
+    → HasAll part world → HasAll (option_map (without buffer) part) following
+emptied_shows None world following buffer lines had q = absurd (had 0)
+emptied_shows (Some held) world following buffer lines had q =
     ap (λ o. unwrap_or o []) (get-remove nat_cmp_total held buffer q) ∙ by_bool (eqb q buffer) _
     (λ t. rw (tied q buffer, t) (sym (ap view_of (lines q ∙ ap (λ b. cond b [] (lines_in world q)) t))))
     (λ t. rw (tied q buffer, t) (had q ∙ sym (ap view_of (lines q ∙ ap (λ b. cond b [] (lines_in world q)) t))))
 
 closing_told : (limit : ℕ) (id : List ℕ) (part : Option Part) (notice : Notice) → IsFree id
     → fold_lines limit id part (message_of kind.Closing (named_objects notice)) ≡ option_map (without notice.buffer.0) part
-closing_told limit id part notice free = rw (other_id (codes "buffer_closing") id free) (ap (λ b. emptied b part) (named_told notice))
+closing_told limit id part notice free = rw (other_id (codes "buffer_closing") id free) (ap (λ b. without_lines_of b part) (named_told notice))
 
 cleared_told : (limit : ℕ) (id : List ℕ) (part : Option Part) (notice : Notice) → IsFree id
     → fold_lines limit id part (message_of kind.Cleared (named_objects notice)) ≡ option_map (without notice.buffer.0) part
-cleared_told limit id part notice free = rw (other_id (codes "buffer_cleared") id free) (ap (λ b. emptied b part) (named_told notice))
+cleared_told limit id part notice free = rw (other_id (codes "buffer_cleared") id free) (ap (λ b. without_lines_of b part) (named_told notice))
 
 -- ---- a new line
 newest_more : (xs : List Line) (x : Line) → newest (xs ++ x ∷ []) ≡ Some x
@@ -122,7 +122,7 @@ newest_last n xs x =
 after_line : (limit : ℕ) (id : List ℕ) (held : Part) (buffer : Handle) (line : Line) → IsFree id
     → fold_lines limit id (Some held) (line_added buffer line) ≡ Some (with_row limit (row buffer line) held)
 after_line limit id held buffer line free =
-    rw (other_id (codes "buffer_line_added") id free) (ap (λ found. grown limit found (Some held)) (added_read buffer line))
+    rw (other_id (codes "buffer_line_added") id free) (ap (λ found. with_new_line limit found (Some held)) (added_read buffer line))
 
 view_last : (limit : ℕ) (lines : List Line) → last_of limit (view_of lines) ≡ view_of (last_of limit lines)
 view_last limit lines =
@@ -142,15 +142,15 @@ row_else limit held buffer line other apart =
     let new = last_of limit (lines_at held buffer.0 ++ shown_line line ∷ []) in
     ap (λ o. unwrap_or o []) (get-insert nat_cmp_total held buffer.0 new other ∙ ap (λ b. cond b (Some new) (get held other)) (tied other buffer.0 ∙ apart))
 
-line_shows : (limit : ℕ) (id : List ℕ) (part : Option Part) (world behind : World) (buffer : Handle) (line : Line) → IsFree id
-    → ((q : ℕ) → lines_in behind q ≡ cond (eqb q buffer.0) (last_of limit (lines_in world buffer.0 ++ line ∷ [])) (lines_in world q))
-    → HasAll part world → HasAll (fold_lines limit id part (line_added buffer line)) behind
-line_shows limit id None world behind buffer line free lines had q = absurd (had 0)
-line_shows limit id (Some held) world behind buffer line free lines had q =
-    subst (λ folded. HasLines folded q (lines_in behind q)) (sym (after_line limit id held buffer line free))
+line_shows : (limit : ℕ) (id : List ℕ) (part : Option Part) (world following : World) (buffer : Handle) (line : Line) → IsFree id
+    → ((q : ℕ) → lines_in following q ≡ cond (eqb q buffer.0) (last_of limit (lines_in world buffer.0 ++ line ∷ [])) (lines_in world q))
+    → HasAll part world → HasAll (fold_lines limit id part (line_added buffer line)) following
+line_shows limit id None world following buffer line free lines had q = absurd (had 0)
+line_shows limit id (Some held) world following buffer line free lines had q =
+    subst (λ folded. HasLines folded q (lines_in following q)) (sym (after_line limit id held buffer line free))
     (by_bool (eqb q buffer.0) _
     (λ t. let is : buffer.0 ≡ q = sym (eqb-true q buffer.0 t) in
-    subst (λ b. lines_at (with_row limit (row buffer line) held) b ≡ view_of (lines_in behind q)) is
+    subst (λ b. lines_at (with_row limit (row buffer line) held) b ≡ view_of (lines_in following q)) is
     (row_here limit held buffer (lines_in world buffer.0) line (had buffer.0)
     ∙ sym (ap view_of (lines q ∙ ap (λ b. cond b (last_of limit (lines_in world buffer.0 ++ line ∷ [])) (lines_in world q)) t))))
     (λ t. row_else limit held buffer line q t ∙ had q
@@ -160,14 +160,14 @@ line_shows limit id (Some held) world behind buffer line free lines had q =
 abbrev told_newest : Handle → List Line → Option WireMessage
 told_newest buffer lines = option_map (message_of kind.LineAdded) (option_map (added_objects buffer) (newest lines))
 
-told_shows : (limit : ℕ) (id : List ℕ) (part : Option Part) (world behind : World) (buffer : Handle) (line : Line) → IsFree id
+told_shows : (limit : ℕ) (id : List ℕ) (part : Option Part) (world following : World) (buffer : Handle) (line : Line) → IsFree id
     → ((q : ℕ) → length (lines_in world q) ≤ limit)
-    → ((q : ℕ) → lines_in behind q ≡ cond (eqb q buffer.0) (last_of limit (lines_in world buffer.0 ++ line ∷ [])) (lines_in world q))
-    → HasAll part world → HasAll (fold_told limit id part (told_newest buffer (last_of limit (lines_in world buffer.0 ++ line ∷ [])))) behind
-told_shows zero id part world behind buffer line free within lines had =
+    → ((q : ℕ) → lines_in following q ≡ cond (eqb q buffer.0) (last_of limit (lines_in world buffer.0 ++ line ∷ [])) (lines_in world q))
+    → HasAll part world → HasAll (fold_told limit id part (told_newest buffer (last_of limit (lines_in world buffer.0 ++ line ∷ [])))) following
+told_shows zero id part world following buffer line free within lines had =
     let ls = lines_in world buffer.0 in
     let none : last_of 0 (ls ++ line ∷ []) ≡ [] = none_last (ls ++ line ∷ []) in
-    stays part _ world behind (ap (λ held. fold_told 0 id part (told_newest buffer held)) none)
+    stays part _ world following (ap (λ held. fold_told 0 id part (told_newest buffer held)) none)
     (λ q. lines q ∙ by_bool (eqb q buffer.0) _
     (λ t. rw t (none ∙ sym (empty (lines_in world q) (within q))))
     (λ t. rw t refl)) had
@@ -182,31 +182,31 @@ told_shows zero id part world behind buffer line free within lines had =
     empty : {X : Type 0} (xs : List X) → length xs ≤ 0 → xs ≡ []
     empty [] l = refl
     empty (x ∷ xs) l = absurd (omega arith)
-told_shows (suc n) id part world behind buffer line free within lines had =
-    subst (λ found. HasAll (fold_told (suc n) id part (option_map (message_of kind.LineAdded) (option_map (added_objects buffer) found))) behind)
-    (sym (newest_last n (lines_in world buffer.0) line)) (line_shows (suc n) id part world behind buffer line free lines had)
+told_shows (suc n) id part world following buffer line free within lines had =
+    subst (λ found. HasAll (fold_told (suc n) id part (option_map (message_of kind.LineAdded) (option_map (added_objects buffer) found))) following)
+    (sym (newest_last n (lines_in world buffer.0) line)) (line_shows (suc n) id part world following buffer line free lines had)
 
--- ---- the lines of a world behind a change
-inserted : (world behind : World) (buffer : ℕ) (lines : List Line) → behind.lines ≡ insert world.lines buffer lines
-    → (q : ℕ) → lines_in behind q ≡ cond (eqb q buffer) lines (lines_in world q)
-inserted world behind buffer lines is q =
+-- ---- the lines of a world after a change
+inserted : (world following : World) (buffer : ℕ) (lines : List Line) → following.lines ≡ insert world.lines buffer lines
+    → (q : ℕ) → lines_in following q ≡ cond (eqb q buffer) lines (lines_in world q)
+inserted world following buffer lines is q =
     ap (λ m. unwrap_or (get m q) []) is
     ∙ ap (λ o. unwrap_or o []) (get-insert nat_cmp_total world.lines buffer lines q) ∙ by_bool (eqb q buffer) _
     (λ t. rw (tied q buffer, t) refl)
     (λ t. rw (tied q buffer, t) refl)
 
-removed : (world behind : World) (buffer : ℕ) → behind.lines ≡ remove world.lines buffer
-    → (q : ℕ) → lines_in behind q ≡ cond (eqb q buffer) [] (lines_in world q)
-removed world behind buffer is q =
+removed : (world following : World) (buffer : ℕ) → following.lines ≡ remove world.lines buffer
+    → (q : ℕ) → lines_in following q ≡ cond (eqb q buffer) [] (lines_in world q)
+removed world following buffer is q =
     ap (λ m. unwrap_or (get m q) []) is
     ∙ ap (λ o. unwrap_or o []) (get-remove nat_cmp_total world.lines buffer q) ∙ by_bool (eqb q buffer) _
     (λ t. rw (tied q buffer, t) refl)
     (λ t. rw (tied q buffer, t) refl)
 
 -- a new buffer had no lines
-opened_lines : (world behind : World) → Stands world → behind.lines ≡ insert world.lines world.next [] → (q : ℕ) → lines_in behind q ≡ lines_in world q
-opened_lines world behind stands is q =
-    inserted world behind world.next [] is q ∙ by_bool (eqb q world.next) _
+opened_lines : (world following : World) → IsMirrorable world → following.lines ≡ insert world.lines world.next [] → (q : ℕ) → lines_in following q ≡ lines_in world q
+opened_lines world following stands is q =
+    inserted world following world.next [] is q ∙ by_bool (eqb q world.next) _
     (λ t. rw t (sym (stands.gone q (unknown q (eqb-true q world.next t)))))
     (λ t. rw t refl)
   where
@@ -216,7 +216,7 @@ opened_lines world behind stands is q =
         (λ t. t)
 
 -- ---- flags
-pub nothing_flipped : (flips : List Flip) → flipped flips [] ≡ []
+pub nothing_flipped : (flips : List Flip) → with_flips flips [] ≡ []
 nothing_flipped [] = refl
 nothing_flipped (flip ∷ flips) = nothing_flipped flips
 
@@ -226,13 +226,13 @@ find_mapped f q (e ∷ es) = by_bool (eqb q e.0) _
     (λ t. rw (tied q e.0, t) refl)
     (λ t. rw (tied q e.0, t) (find_mapped f q es))
 
-pub flipped_lines : (flips : List Flip) (world behind : World) → behind.lines ≡ (flip_all flips world).lines → (q : ℕ) → lines_in behind q ≡ flipped flips (lines_in world q)
-flipped_lines flips world behind is q =
-    ap (λ m. unwrap_or (get m q) []) is ∙ ap (λ o. unwrap_or o []) (get-from_entries nat_cmp_total (map (λ e. (e.0, flipped flips e.1)) (entries world.lines)) q
-    ∙ find_mapped (flipped flips) q (entries world.lines) ∙ ap (option_map (flipped flips)) (sym (get-entries world.lines q)))
+pub flipped_lines : (flips : List Flip) (world following : World) → following.lines ≡ (flip_all flips world).lines → (q : ℕ) → lines_in following q ≡ with_flips flips (lines_in world q)
+flipped_lines flips world following is q =
+    ap (λ m. unwrap_or (get m q) []) is ∙ ap (λ o. unwrap_or o []) (get-from_entries nat_cmp_total (map (λ e. (e.0, with_flips flips e.1)) (entries world.lines)) q
+    ∙ find_mapped (with_flips flips) q (entries world.lines) ∙ ap (option_map (with_flips flips)) (sym (get-entries world.lines q)))
     ∙ by (get world.lines q)
   where
-    by : (o : Option (List Line)) → unwrap_or (option_map (flipped flips) o) [] ≡ flipped flips (unwrap_or o [])
+    by : (o : Option (List Line)) → unwrap_or (option_map (with_flips flips) o) [] ≡ with_flips flips (unwrap_or o [])
     by None = sym (nothing_flipped flips)
     by (Some lines) = refl
 
@@ -245,18 +245,18 @@ Shows limit id part world buffer what =
     HasAll (fold_told limit id part (event_of (after_of world buffer what) (notice_of world (after_of world buffer what) buffer what))) (after_of world buffer what)
 
 print_shows : (limit : ℕ) (id : List ℕ) (part : Option Part) (world : World) (buffer : Handle) (spec : LineSpec)
-    → Stands world → world.limit ≡ limit → IsFree id → HasAll part world → Shows limit id part world buffer (Print spec)
+    → IsMirrorable world → world.limit ≡ limit → IsFree id → HasAll part world → Shows limit id part world buffer (Print spec)
 unfolding after_of objects_of
 print_shows limit id part world buffer spec stands limited free had =
-    let behind = after_of world buffer (Print spec) in
+    let following = after_of world buffer (Print spec) in
     let lines = last_of world.limit (lines_in world buffer.0 ++ line_of world.next spec ∷ []) in
-    let here : lines_in behind buffer.0 ≡ lines = inserted world behind buffer.0 lines refl buffer.0 ∙ ap (λ b. cond b lines (lines_in world buffer.0)) (eq-eqb buffer.0 buffer.0 refl) in
-    subst (λ n. HasAll (fold_told n id part (told_newest buffer (lines_in behind buffer.0))) behind) limited
-    (subst (λ held. HasAll (fold_told world.limit id part (told_newest buffer held)) behind) (sym here)
-    (told_shows world.limit id part world behind buffer (line_of world.next spec) free stands.within (inserted world behind buffer.0 lines refl) had))
+    let here : lines_in following buffer.0 ≡ lines = inserted world following buffer.0 lines refl buffer.0 ∙ ap (λ b. cond b lines (lines_in world buffer.0)) (eq-eqb buffer.0 buffer.0 refl) in
+    subst (λ n. HasAll (fold_told n id part (told_newest buffer (lines_in following buffer.0))) following) limited
+    (subst (λ held. HasAll (fold_told world.limit id part (told_newest buffer held)) following) (sym here)
+    (told_shows world.limit id part world following buffer (line_of world.next spec) free stands.within (inserted world following buffer.0 lines refl) had))
 
 pub change_shows : (limit : ℕ) (id : List ℕ) (part : Option Part) (world : World) (buffer : Handle) (what : What)
-    → Stands world → world.limit ≡ limit → IsFree id → SetsNoFlags what → HasAll part world → Shows limit id part world buffer what
+    → IsMirrorable world → world.limit ≡ limit → IsFree id → SetsNoFlags what → HasAll part world → Shows limit id part world buffer what
 unfolding after_of objects_of
 change_shows limit id part world buffer (Add spec) stands limited free plain had =
     stays part _ world (after_of world buffer (Add spec)) (quiet_told limit id part kind.Opened (told_of world buffer (Add spec)) refl free) (opened_lines world (after_of world buffer (Add spec)) stands refl) had
@@ -273,7 +273,7 @@ change_shows limit id part world buffer Hide stands limited free plain had =
 change_shows limit id part world buffer Unhide stands limited free plain had =
     stays part _ world (after_of world buffer Unhide) (quiet_told limit id part kind.Unhidden (told_of world buffer Unhide) refl free) (λ q. refl) had
 change_shows limit id part world buffer (Rename name flips) stands limited free plain had =
-    stays part _ world (after_of world buffer (Rename name flips)) (quiet_told limit id part kind.Renamed (told_of world buffer (Rename name flips)) refl free) (λ q. flipped_lines flips world (after_of world buffer (Rename name flips)) refl q ∙ ap (λ fs. flipped fs (lines_in world q)) plain) had
+    stays part _ world (after_of world buffer (Rename name flips)) (quiet_told limit id part kind.Renamed (told_of world buffer (Rename name flips)) refl free) (λ q. flipped_lines flips world (after_of world buffer (Rename name flips)) refl q ∙ ap (λ fs. with_flips fs (lines_in world q)) plain) had
 change_shows limit id part world buffer (ShortName name) stands limited free plain had =
     stays part _ world (after_of world buffer (ShortName name)) (quiet_told limit id part kind.Renamed (told_of world buffer (ShortName name)) refl free) (λ q. refl) had
 change_shows limit id part world buffer (Title title) stands limited free plain had =

@@ -13,7 +13,7 @@ use Rattle.wc_view.specs.declared.rows.LineRow.{LineRow}
 use Rattle.wc_view.specs.Parts.{lines_at, with_row, lines_of, part_of}
 use Rattle.wc_view.proofs.EntryLemmas.{by_bool, tied}
 
--- a line behind the last n, and of these the last n
+-- a line after the last n, and of these the last n
 pub last_with : {X : Type 0} (n : ℕ) (xs : List X) (x : X) → last_of n (last_of n xs ++ x ∷ []) ≡ last_of n (xs ++ x ∷ [])
 last_with n xs x =
     let all = xs ++ x ∷ [] in

@@ -10,27 +10,27 @@ use Rattle.wc_objects.specs.Spells.{FrontSpells, misses_bytes}
 use Rattle.wc_objects.proofs.Fronts.{only, missing}
 use Rattle.wc_view.specs.declared.mirror.MirrorRefused.{MirrorRefused}
 use Rattle.wc_view.specs.declared.mirror.MirrorRefused.TheVariants.{BadMessage, BadDiff, NoMemory}
-use Rattle.wc_view.specs.Taking.{Mirrored, folded, Takes}
+use Rattle.wc_view.specs.Taking.{MirrorParts, parts_after, TakesMessage}
 
 abbrev pub Front : Type 0
 Front = Option (WireMessage × ℕ)
 
-pub takes_found : (read : Result Front ℕ) (message : WireMessage) (size : ℕ) (old new : Mirrored) → read ≡ Ok (Some (message, size))
-    → folded old message ≡ Ok new → Takes (Ok size) old new read
-takes_found read message size old new is e = subst (Takes (Ok size) old new) (sym is) (refl, e)
+pub takes_found : (read : Result Front ℕ) (message : WireMessage) (size : ℕ) (old new : MirrorParts) → read ≡ Ok (Some (message, size))
+    → parts_after old message ≡ Ok new → TakesMessage (Ok size) old new read
+takes_found read message size old new is e = subst (TakesMessage (Ok size) old new) (sym is) (refl, e)
 
-pub takes_refused : (read : Result Front ℕ) (message : WireMessage) (size place : ℕ) (old new : Mirrored) → read ≡ Ok (Some (message, size))
-    → folded old message ≡ Err place → new ≡ old → Takes (Err (BadDiff place)) old new read
-takes_refused read message size place old new is e same = subst (Takes (Err (BadDiff place)) old new) (sym is) (e, same)
+pub takes_refused : (read : Result Front ℕ) (message : WireMessage) (size place : ℕ) (old new : MirrorParts) → read ≡ Ok (Some (message, size))
+    → parts_after old message ≡ Err place → new ≡ old → TakesMessage (Err (BadDiff place)) old new read
+takes_refused read message size place old new is e same = subst (TakesMessage (Err (BadDiff place)) old new) (sym is) (e, same)
 
-pub takes_none : (read : Result Front ℕ) (old new : Mirrored) → read ≡ Ok None → new ≡ old → Takes (Ok 0) old new read
-takes_none read old new is e = subst (Takes (Ok 0) old new) (sym is) (refl, e)
+pub takes_none : (read : Result Front ℕ) (old new : MirrorParts) → read ≡ Ok None → new ≡ old → TakesMessage (Ok 0) old new read
+takes_none read old new is e = subst (TakesMessage (Ok 0) old new) (sym is) (refl, e)
 
-pub takes_bad : (read : Result Front ℕ) (place : ℕ) (old new : Mirrored) → read ≡ Err place → new ≡ old → Takes (Err (BadMessage place)) old new read
-takes_bad read place old new is e = subst (Takes (Err (BadMessage place)) old new) (sym is) (refl, e)
+pub takes_bad : (read : Result Front ℕ) (place : ℕ) (old new : MirrorParts) → read ≡ Err place → new ≡ old → TakesMessage (Err (BadMessage place)) old new read
+takes_bad read place old new is e = subst (TakesMessage (Err (BadMessage place)) old new) (sym is) (refl, e)
 
 -- after a refusal nothing has changed
-pub unchanged : (result : Result ℕ MirrorRefused) (read : Result Front ℕ) (old new : Mirrored) → Takes result old new read → OnErr result (new ≡ old)
+pub unchanged : (result : Result ℕ MirrorRefused) (read : Result Front ℕ) (old new : MirrorParts) → TakesMessage result old new read → OnErr result (new ≡ old)
 unchanged (Ok size) read old new t = tt
 unchanged (Err NoMemory) read old new t = t
 unchanged (Err (BadMessage at)) (Err place) old new t = t.1
@@ -62,13 +62,13 @@ missing_first bytes m =
     let read = first_message bytes in
     is_given read None (missing bytes (answered read) (gives_answered read) m)
 
-pub takes_spelt : (bytes : List ℕ) (result : Result ℕ MirrorRefused) (old new : Mirrored) → Takes result old new (first_message bytes)
-    → (message : WireMessage) (size : ℕ) → FrontSpells message size bytes → Takes result old new (Ok (Some (message, size)))
-takes_spelt bytes result old new t message size f = subst (Takes result old new) (spelt_first bytes message size f) t
+pub takes_spelt : (bytes : List ℕ) (result : Result ℕ MirrorRefused) (old new : MirrorParts) → TakesMessage result old new (first_message bytes)
+    → (message : WireMessage) (size : ℕ) → FrontSpells message size bytes → TakesMessage result old new (Ok (Some (message, size)))
+takes_spelt bytes result old new t message size f = subst (TakesMessage result old new) (spelt_first bytes message size f) t
 
-pub takes_missing : (bytes : List ℕ) (result : Result ℕ MirrorRefused) (old new : Mirrored) → Takes result old new (first_message bytes)
-    → IsTrue (misses_bytes bytes) → Takes result old new (Ok None)
-takes_missing bytes result old new t m = subst (Takes result old new) (missing_first bytes m) t
+pub takes_missing : (bytes : List ℕ) (result : Result ℕ MirrorRefused) (old new : MirrorParts) → TakesMessage result old new (first_message bytes)
+    → IsTrue (misses_bytes bytes) → TakesMessage result old new (Ok None)
+takes_missing bytes result old new t m = subst (TakesMessage result old new) (missing_first bytes m) t
 
 -- what is read keeps the rules of its types
 pub front_formed : {E : Type 0} (result : Result Front E) (bytes : List ℕ) → IfOk result (λ front. IfSome front (λ found. FrontSpells found.0 found.1 bytes))

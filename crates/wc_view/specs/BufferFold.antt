@@ -6,7 +6,7 @@ use Rattle.wc_model.specs.declared.notice.EventKind.{EventKind}
 use Rattle.wc_model.specs.declared.notice.EventKind.TheVariants as event
 use Rattle.wc_objects.specs.declared.object.Object.{Object}
 use Rattle.wc_objects.specs.declared.object.WireMessage.{WireMessage}
-use Rattle.wc_told.specs.BufferObjects.{id_of, opened_keys, placed_keys, renamed_keys, title_keys, vars_keys, named_keys, dump_keys}
+use Rattle.wc_events.specs.BufferObjects.{id_of, opened_keys, placed_keys, renamed_keys, title_keys, vars_keys, named_keys, dump_keys}
 use Rattle.wc_view.specs.declared.mirror_buffer.MirrorBuffer.{MirrorBuffer}
 use Rattle.wc_view.specs.declared.carried.Carried.{Carried}
 use Rattle.wc_view.specs.declared.carried.Field.{Field}
@@ -14,7 +14,7 @@ use Rattle.wc_view.specs.declared.carried.Field.TheVariants.{Number, FullName, S
 use Rattle.wc_view.specs.Each.{each, only}
 use Rattle.wc_view.specs.Items.{items_on}
 use Rattle.wc_view.specs.Carried.{carried_by}
-use Rattle.wc_view.specs.Grouped.{Groups, key_of, with_event}
+use Rattle.wc_view.specs.Grouped.{MirrorGroups, key_of, with_event}
 
 -- ---- the dump
 
@@ -29,28 +29,28 @@ abbrev pub are_once : List Carried → Bool
 are_once [] = true
 are_once (row ∷ rows) = not (is_told (key_of row.buffer) rows) && are_once rows
 
-abbrev pub in_front : MirrorBuffer → Groups → Groups
+abbrev pub in_front : MirrorBuffer → MirrorGroups → MirrorGroups
 in_front b [] = (b ∷ []) ∷ []
 in_front b (group ∷ groups) = (b ∷ group) ∷ groups
 
 -- in front of these groups, whose first begins with this row
-abbrev pub joined : Carried → List Carried → Groups → Groups
-joined row [] groups = (row.buffer ∷ []) ∷ groups
-joined row (next ∷ rows) groups = if row.number == next.number then in_front row.buffer groups else (row.buffer ∷ []) ∷ groups
+abbrev pub put_in_front : Carried → List Carried → MirrorGroups → MirrorGroups
+put_in_front row [] groups = (row.buffer ∷ []) ∷ groups
+put_in_front row (next ∷ rows) groups = if row.number == next.number then in_front row.buffer groups else (row.buffer ∷ []) ∷ groups
 
 -- runs of equal numbers are groups
-abbrev pub runs : List Carried → Groups
+abbrev pub runs : List Carried → MirrorGroups
 runs [] = []
-runs (row ∷ rows) = joined row rows (runs rows)
+runs (row ∷ rows) = put_in_front row rows (runs rows)
 
-abbrev pub dumped_groups : Option (List Carried) → Option Groups → Option Groups
+abbrev pub dumped_groups : Option (List Carried) → Option MirrorGroups → Option MirrorGroups
 dumped_groups None part = part
 dumped_groups (Some rows) part = if are_once rows then Some (runs rows) else part
 
 abbrev pub rows_dumped : List Object → Option (List Carried)
 rows_dumped objects = option_and_then (each (carried_by dump_fields)) (items_on (codes "buffer") dump_keys objects)
 
-abbrev pub fold_buffer_dump : Option Groups → WireMessage → Option Groups
+abbrev pub fold_buffer_dump : Option MirrorGroups → WireMessage → Option MirrorGroups
 fold_buffer_dump part message = dumped_groups (rows_dumped message.objects) part
 
 -- ---- events
@@ -105,18 +105,18 @@ keys_of _ = named_keys
 unfoldable pub told_by : EventKind → List Object → Option Carried
 told_by kind objects = option_and_then (carried_by (fields_of kind)) (option_and_then only (items_on (codes "buffer") (keys_of kind) objects))
 
-abbrev pub changed_by : EventKind → Option Carried → Option Groups → Option Groups
+abbrev pub changed_by : EventKind → Option Carried → Option MirrorGroups → Option MirrorGroups
 changed_by kind None part = part
 changed_by kind (Some told) part = option_map (with_event kind told) part
 
-abbrev pub event_groups : Option EventKind → List Object → Option Groups → Option Groups
+abbrev pub event_groups : Option EventKind → List Object → Option MirrorGroups → Option MirrorGroups
 event_groups None objects part = part
 event_groups (Some kind) objects part = changed_by kind (told_by kind objects) part
 
-abbrev pub fold_buffer_event : Option Groups → WireMessage → Option Groups
+abbrev pub fold_buffer_event : Option MirrorGroups → WireMessage → Option MirrorGroups
 fold_buffer_event part message = event_groups (kind_named message.id) message.objects part
 
 -- The reply under the id of the buffer dump, where it tells of no buffer twice, and the events of buffers. Other
 -- messages, and those whose keys or values are not those of their kind, change nothing.
-abbrev pub fold_buffers : List ℕ → Option Groups → WireMessage → Option Groups
+abbrev pub fold_buffers : List ℕ → Option MirrorGroups → WireMessage → Option MirrorGroups
 fold_buffers id part message = if bytes_eq message.id id then fold_buffer_dump part message else fold_buffer_event part message

@@ -8,10 +8,10 @@ use Rattle.wc_model.specs.World.{World}
 use Rattle.wc_model.specs.Apply.{refusal, after}
 use Rattle.wc_model.specs.Notices.{notice}
 use Rattle.wc_objects.specs.declared.object.WireMessage.{WireMessage}
-use Rattle.wc_told.specs.BufferObjects.{event_of, buffer_dump}
+use Rattle.wc_events.specs.BufferObjects.{event_of, buffer_dump}
 use Rattle.wc_view.specs.declared.mirror_buffer.MirrorBuffer.{MirrorBuffer}
 use Rattle.wc_view.specs.Ids.{IsFree}
-use Rattle.wc_view.specs.Grouped.{Groups}
+use Rattle.wc_view.specs.Grouped.{MirrorGroups}
 use Rattle.wc_view.specs.BufferFold.{fold_buffers}
 
 abbrev pub shown_buffer : BufferEntry → MirrorBuffer
@@ -24,11 +24,11 @@ shown_buffer e = record {
   vars = e.vars;
 }
 
-abbrev pub shown_groups : List (List BufferEntry) → Groups
+abbrev pub shown_groups : List (List BufferEntry) → MirrorGroups
 shown_groups groups = map (map shown_buffer) groups
 
 -- the dump was taken, and the groups are those of the world
-abbrev pub HasBuffers : Option Groups → World → Type 0
+abbrev pub HasBuffers : Option MirrorGroups → World → Type 0
 HasBuffers part world = part ≡ Some (shown_groups world.groups)
 
 -- What always holds of the groups of a world: no buffer is there twice, the handles were drawn, no group is empty, and
@@ -44,15 +44,15 @@ dump_reply id world = record { id = id; objects = buffer_dump world.groups }
 
 -- After the reply to the buffer dump a client has the buffers of the world in their groups, whatever it had before.
 abbrev pub BufferDumpShows : Type 0
-BufferDumpShows = (id : List ℕ) (part : Option Groups) (world : World) → AreGrouped world → HasBuffers (fold_buffers id part (dump_reply id world)) world
+BufferDumpShows = (id : List ℕ) (part : Option MirrorGroups) (world : World) → AreGrouped world → HasBuffers (fold_buffers id part (dump_reply id world)) world
 
--- the buffers behind an event, where there is one
-abbrev pub fold_told_buffers : List ℕ → Option Groups → Option WireMessage → Option Groups
+-- the buffers after an event, where there is one
+abbrev pub fold_told_buffers : List ℕ → Option MirrorGroups → Option WireMessage → Option MirrorGroups
 fold_told_buffers id part None = part
 fold_told_buffers id part (Some message) = fold_buffers id part message
 
--- After the event of a change a client that had the buffers of the world has those of the world behind it.
+-- After the event of a change a client that had the buffers of the world has those of the world after it.
 abbrev pub BufferNoticeShows : Type 0
-BufferNoticeShows = (id : List ℕ) (part : Option Groups) (world : World) (change : Change)
+BufferNoticeShows = (id : List ℕ) (part : Option MirrorGroups) (world : World) (change : Change)
     → AreGrouped world → IsFree id → refusal world change ≡ None → HasBuffers part world
     → HasBuffers (fold_told_buffers id part (event_of (after world change) (notice world change))) (after world change)

@@ -16,6 +16,6 @@ abbrev pub only : {A : Type 0} → List A → Option A
 only (x ∷ []) = Some x
 only _ = None
 
--- a list behind another, where it is there
-abbrev pub behind : {A : Type 0} → List A → Option (List A) → Option (List A)
-behind front rest = option_map (λ xs. front ++ xs) rest
+-- a list after another, where it is there
+abbrev pub following : {A : Type 0} → List A → Option (List A) → Option (List A)
+following front rest = option_map (λ xs. front ++ xs) rest

@@ -12,7 +12,7 @@ Entry = ℕ × List MirrorLine
 abbrev pub part_at : List Entry → Part
 part_at entries = from_entries entries
 
--- the first entry of this buffer stands at this place
+-- the first entry of this buffer is at this place
 pub record IsEntry {V : Type 0} (buffer place : ℕ) (entries : List (ℕ × V)) : Type 0 where
   pub at : (d : ℕ × V) → (get_or entries place d).0 ≡ buffer
   pub before : find nat_cmp buffer (take place entries) ≡ None

@@ -1,4 +1,4 @@
--- What a client has behind a change that sets flags of lines.
+-- What a client has after a change that sets flags of lines.
 use Rattle.std.specs.Prelude.{◌≡◌, ℕ, false, List, [], ◌∷◌, fold, Option, None, if◌then◌else◌}
 use Rattle.std.specs.List.{list_any, flat_map}
 use Rattle.wc_text.specs.declared.names.Handle.{Handle}
@@ -11,11 +11,11 @@ use Rattle.wc_model.specs.Order.{order}
 use Rattle.wc_model.specs.Apply.{refusal, after}
 use Rattle.wc_model.specs.Notices.{notice}
 use Rattle.wc_objects.specs.declared.object.WireMessage.{WireMessage}
-use Rattle.wc_told.specs.BufferObjects.{id_of, event_of, is_flipped, flag_objects}
+use Rattle.wc_events.specs.BufferObjects.{id_of, event_of, is_flipped, flag_objects}
 use Rattle.wc_view.specs.Ids.{IsFree}
 use Rattle.wc_view.specs.Parts.{Part}
 use Rattle.wc_view.specs.Fold.{fold_lines}
-use Rattle.wc_view.specs.Views.{HasAll, Stands, fold_told}
+use Rattle.wc_view.specs.Views.{HasAll, IsMirrorable, fold_told}
 
 -- the event of the lines of a buffer whose flags differ, where there are such
 abbrev pub flag_message : ℕ → List Handle → List Line → WireMessage
@@ -30,18 +30,18 @@ abbrev pub flag_events : World → List Handle → List WireMessage
 flag_events world flips = flat_map (flag_event world flips) (order world.groups)
 
 -- no two lines have one content
-abbrev pub AreApart : List Line → Type 0
-AreApart [] = Unit {0}
-AreApart (line ∷ lines) = (has_content line.content lines ≡ false) × AreApart lines
+abbrev pub ContentsDiffer : List Line → Type 0
+ContentsDiffer [] = Unit {0}
+ContentsDiffer (line ∷ lines) = (has_content line.content lines ≡ false) × ContentsDiffer lines
 
 abbrev pub fold_all : ℕ → List ℕ → Option Part → List WireMessage → Option Part
 fold_all limit id part messages = fold (fold_lines limit id) part messages
 
--- After the event of any change, and behind it the events of flags, a client that had the lines of the world has
--- those of the world behind the change.
+-- After the event of any change, and after it the events of flags, a client that had the lines of the world has
+-- those of the world after the change.
 abbrev pub FlipsShow : Type 0
 FlipsShow = (limit : ℕ) (id : List ℕ) (part : Option Part) (world : World) (change : Change)
-    → Stands world → world.limit ≡ limit → IsFree id → refusal world change ≡ None
-    → ((buffer : ℕ) → AreApart (lines_in (after world change) buffer)) → HasAll part world
+    → IsMirrorable world → world.limit ≡ limit → IsFree id → refusal world change ≡ None
+    → ((buffer : ℕ) → ContentsDiffer (lines_in (after world change) buffer)) → HasAll part world
     → HasAll (fold_all limit id (fold_told limit id part (event_of (after world change) (notice world change)))
     (flag_events (after world change) (notice world change).flips)) (after world change)

@@ -3,7 +3,7 @@ use Rattle.std.specs.Prelude.{ℕ, Bool, ◌||◌, List, Option, Some, None, cod
 use Rattle.std.specs.Option.{option_and_then}
 use Rattle.wc_model.specs.declared.notice.EventKind.TheVariants as kind
 use Rattle.wc_objects.specs.declared.object.WireMessage.{WireMessage}
-use Rattle.wc_told.specs.BufferObjects.{id_of}
+use Rattle.wc_events.specs.BufferObjects.{id_of}
 use Rattle.wc_view.specs.declared.flags.LineFlag.{LineFlag}
 use Rattle.wc_view.specs.declared.rows.LineRow.{LineRow}
 use Rattle.wc_view.specs.Each.{only}
@@ -13,40 +13,40 @@ use Rattle.wc_view.specs.Parts.{Part, with_row, part_of, without, with_flags}
 use Rattle.wc_view.specs.Rows.{rows_on}
 
 -- the dump sets the part
-abbrev pub dumped : ℕ → Option (List LineRow) → Option Part → Option Part
-dumped limit None part = part
-dumped limit (Some rows) part = Some (part_of limit rows)
+abbrev pub with_dump : ℕ → Option (List LineRow) → Option Part → Option Part
+with_dump limit None part = part
+with_dump limit (Some rows) part = Some (part_of limit rows)
 
 -- a new line, where the part is set
-abbrev pub grown : ℕ → Option LineRow → Option Part → Option Part
-grown limit None part = part
-grown limit (Some row) None = None
-grown limit (Some row) (Some part) = Some (with_row limit row part)
+abbrev pub with_new_line : ℕ → Option LineRow → Option Part → Option Part
+with_new_line limit None part = part
+with_new_line limit (Some row) None = None
+with_new_line limit (Some row) (Some part) = Some (with_row limit row part)
 
 -- a buffer without its lines, where the part is set
-abbrev pub emptied : Option ℕ → Option Part → Option Part
-emptied None part = part
-emptied (Some buffer) part = option_map (without buffer) part
+abbrev pub without_lines_of : Option ℕ → Option Part → Option Part
+without_lines_of None part = part
+without_lines_of (Some buffer) part = option_map (without buffer) part
 
 -- flags of lines, where the part is set
-abbrev pub shown : Option (List LineFlag) → Option Part → Option Part
-shown None part = part
-shown (Some flags) part = option_map (λ part. with_flags part flags) part
+abbrev pub with_shown_flags : Option (List LineFlag) → Option Part → Option Part
+with_shown_flags None part = part
+with_shown_flags (Some flags) part = option_map (λ part. with_flags part flags) part
 
 abbrev pub only_row : Option (List LineRow) → Option LineRow
 only_row rows = option_and_then only rows
 
 abbrev pub fold_dump : ℕ → Option Part → WireMessage → Option Part
-fold_dump limit part message = dumped limit (rows_on (codes "buffer/lines/line/line_data") message.objects) part
+fold_dump limit part message = with_dump limit (rows_on (codes "buffer/lines/line/line_data") message.objects) part
 
 abbrev pub fold_added : ℕ → Option Part → WireMessage → Option Part
-fold_added limit part message = grown limit (only_row (rows_on (codes "line_data") message.objects)) part
+fold_added limit part message = with_new_line limit (only_row (rows_on (codes "line_data") message.objects)) part
 
 abbrev pub fold_emptied : Option Part → WireMessage → Option Part
-fold_emptied part message = emptied (buffer_named message.objects) part
+fold_emptied part message = without_lines_of (buffer_named message.objects) part
 
 abbrev pub fold_flags : Option Part → WireMessage → Option Part
-fold_flags part message = shown (flags_on message.objects) part
+fold_flags part message = with_shown_flags (flags_on message.objects) part
 
 -- a buffer that is closed or cleared has no lines any more
 abbrev pub empties : List ℕ → Bool

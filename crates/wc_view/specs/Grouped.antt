@@ -7,34 +7,34 @@ use Rattle.wc_model.specs.declared.notice.EventKind.TheVariants as event
 use Rattle.wc_view.specs.declared.mirror_buffer.MirrorBuffer.{MirrorBuffer}
 use Rattle.wc_view.specs.declared.carried.Carried.{Carried}
 
-abbrev pub Groups : Type 0
-Groups = List (List MirrorBuffer)
+abbrev pub MirrorGroups : Type 0
+MirrorGroups = List (List MirrorBuffer)
 
 abbrev pub key_of : MirrorBuffer → ℕ
 key_of b = b.handle.0
 
--- others right behind a buffer
-abbrev pub with_behind : ℕ → List MirrorBuffer → MirrorBuffer → List MirrorBuffer
-with_behind h new b = if key_of b == h then b ∷ new else b ∷ []
+-- others right after a buffer
+abbrev pub with_after : ℕ → List MirrorBuffer → MirrorBuffer → List MirrorBuffer
+with_after h new b = if key_of b == h then b ∷ new else b ∷ []
 
-abbrev pub insert_behind : ℕ → List MirrorBuffer → List MirrorBuffer → List MirrorBuffer
-insert_behind h new group = flat_map (with_behind h new) group
+abbrev pub insert_after : ℕ → List MirrorBuffer → List MirrorBuffer → List MirrorBuffer
+insert_after h new group = flat_map (with_after h new) group
 
-abbrev pub put_behind : ℕ → List MirrorBuffer → Groups → Groups
-put_behind h new groups = map (insert_behind h new) groups
+abbrev pub put_after : ℕ → List MirrorBuffer → MirrorGroups → MirrorGroups
+put_after h new groups = map (insert_after h new) groups
 
-abbrev pub opened : MirrorBuffer → Groups → Groups
-opened b groups = if has key_of (key_of b) groups then groups else groups ++ (b ∷ []) ∷ []
+abbrev pub open_buffer_in : MirrorBuffer → MirrorGroups → MirrorGroups
+open_buffer_in b groups = if has key_of (key_of b) groups then groups else groups ++ (b ∷ []) ∷ []
 
 -- a place that is not there changes nothing
-abbrev pub moved : ℕ → ℕ → Groups → Groups
-moved h number groups =
+abbrev pub move_group_at : ℕ → ℕ → MirrorGroups → MirrorGroups
+move_group_at h number groups =
     if nat_lt 0 number && nat_le (number - 1) (length (others key_of h groups)) then move_group key_of h (number - 1) groups else groups
 
 -- and neither does one that is no other held buffer
-abbrev pub merged : ℕ → ℕ → Groups → Groups
-merged h prev groups =
-    if not (prev == h) && has key_of prev groups then put_behind prev (pick key_of h groups) (take_out key_of h groups) else groups
+abbrev pub merge_groups_at : ℕ → ℕ → MirrorGroups → MirrorGroups
+merge_groups_at h prev groups =
+    if not (prev == h) && has key_of prev groups then put_after prev (pick key_of h groups) (take_out key_of h groups) else groups
 
 -- a buffer with the values that are told of it
 abbrev pub with_told : EventKind → MirrorBuffer → MirrorBuffer → MirrorBuffer
@@ -54,18 +54,18 @@ abbrev pub told_group : EventKind → MirrorBuffer → List MirrorBuffer → Lis
 told_group kind told group = map (told_or_same kind told) group
 
 -- the buffer that is told of, wherever it is, so changed
-abbrev pub told_update : EventKind → MirrorBuffer → Groups → Groups
+abbrev pub told_update : EventKind → MirrorBuffer → MirrorGroups → MirrorGroups
 told_update kind told groups = map (told_group kind told) groups
 
--- the groups behind an event of a buffer that is held
-unfoldable pub edited : EventKind → Carried → Groups → Groups
+-- the groups after an event of a buffer that is held
+unfoldable pub edited : EventKind → Carried → MirrorGroups → MirrorGroups
 edited event.Closing told groups = take_out key_of (key_of told.buffer) groups
-edited event.Moved told groups = moved (key_of told.buffer) told.number groups
-edited event.Merged told groups = merged (key_of told.buffer) told.prev groups
+edited event.Moved told groups = move_group_at (key_of told.buffer) told.number groups
+edited event.Merged told groups = merge_groups_at (key_of told.buffer) told.prev groups
 edited event.Unmerged told groups = unmerge key_of (key_of told.buffer) groups
 edited kind told groups = told_update kind told.buffer groups
 
 -- an opening of a buffer that is held changes nothing, and neither does another event of one that is not
-abbrev pub with_event : EventKind → Carried → Groups → Groups
-with_event event.Opened told groups = opened told.buffer groups
+abbrev pub with_event : EventKind → Carried → MirrorGroups → MirrorGroups
+with_event event.Opened told groups = open_buffer_in told.buffer groups
 with_event kind told groups = if has key_of (key_of told.buffer) groups then edited kind told groups else groups

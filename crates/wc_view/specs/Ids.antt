@@ -10,7 +10,7 @@ event_mark = 95
 abbrev pub IsFree : List ℕ → Type 0
 IsFree id = (slice_index id 0 == event_mark) ≡ false
 
--- each differs from those behind it
+-- each differs from those after it
 abbrev pub Differ : List (List ℕ) → Type 0
 Differ [] = Unit {0}
 Differ (id ∷ ids) = AllByRecursion (λ other. bytes_eq id other ≡ false) ids × Differ ids

@@ -3,7 +3,7 @@ use Rattle.std.specs.Prelude.{ℕ, List, [], ◌∷◌, Option, None, codes}
 use Rattle.std.specs.Option.{option_and_then}
 use Rattle.wc_objects.specs.declared.object.Object.{Object}
 use Rattle.wc_objects.specs.declared.object.HdaItem.{HdaItem, out-HdaItem}
-use Rattle.wc_told.specs.BufferObjects.{named_keys}
+use Rattle.wc_events.specs.BufferObjects.{named_keys}
 use Rattle.wc_view.specs.Each.{only}
 use Rattle.wc_view.specs.Items.{items_on, last_pointer}
 use Rattle.wc_view.specs.Values.{number_in, text_in}

@@ -15,7 +15,7 @@ use Rattle.wc_nickdiff.specs.PushLaw.{rows_from}
 use Rattle.wc_model.specs.declared.notice.EventKind.TheVariants as event
 use Rattle.wc_objects.specs.declared.object.Object.{Object}
 use Rattle.wc_objects.specs.declared.object.WireMessage.{WireMessage}
-use Rattle.wc_told.specs.BufferObjects.{id_of}
+use Rattle.wc_events.specs.BufferObjects.{id_of}
 use Rattle.wc_view.specs.declared.carried.Carried.{Carried}
 use Rattle.wc_view.specs.declared.nick_rows.NickRow.{NickRow}
 use Rattle.wc_view.specs.declared.nick_rows.NickChange.{NickChange}
@@ -45,13 +45,13 @@ is_path None path = false
 is_path (Some found) path = path_eq found path
 
 -- a row whose parent is the root or a group of these rows, with its level and a name that it may have
-abbrev pub can_stand : List Row → Row → Bool
-can_stand rows r =
+abbrev pub may_be_listed : List Row → Row → Bool
+may_be_listed rows r =
     is_path (path_below (parent_of r) rows) r.path
     && ((r.item.level == level_at r.item.is_group r.path) && is_none (name_refusal r.item.is_group r.item.name))
 
 unfoldable pub are_rows : List Row → Bool
-are_rows rows = are_ascending rows && (are_keyed rows && list_all (can_stand rows) rows)
+are_rows rows = are_ascending rows && (are_keyed rows && list_all (may_be_listed rows) rows)
 
 -- ---- full lists
 
@@ -61,7 +61,7 @@ is_root_item i = i.is_group && is_root i.name
 abbrev pub rows_if : Bool → List Row → Option (List Row)
 rows_if holds rows = if holds then Some rows else None
 
--- the rows behind one root
+-- the rows after one root
 unfoldable pub rows_listed : List Item → Option (List Row)
 rows_listed [] = None
 rows_listed (root ∷ items) = rows_if (is_root_item root && are_rows (rows_from [] items)) (rows_from [] items)

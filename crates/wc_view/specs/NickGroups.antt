@@ -9,7 +9,7 @@ use Rattle.wc_view.specs.NickLists.{ItemsAreUtf8}
 abbrev pub Group : Type 0
 Group = ℕ × List Item
 
--- a row behind the others of its buffer
+-- a row after the others of its buffer
 abbrev pub with_item : List Group → NickRow → List Group
 with_item [] row = (row.buffer, row.item ∷ []) ∷ []
 with_item (group ∷ groups) row = if group.0 == row.buffer then (group.0, group.1 ++ row.item ∷ []) ∷ groups else group ∷ with_item groups row

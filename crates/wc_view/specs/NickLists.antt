@@ -18,41 +18,41 @@ last_from d (x ∷ xs) = last_from (Some x) xs
 abbrev pub last_row : List Row → Option Row
 last_row rows = last_from None rows
 
--- the path of a nick that comes behind this row
-abbrev pub path_behind : Option Row → List (List ℕ)
-path_behind None = []
-path_behind (Some r) = if r.item.is_group then below r else r.path
+-- the path of a nick that comes after this row
+abbrev pub path_after : Option Row → List (List ℕ)
+path_after None = []
+path_after (Some r) = if r.item.is_group then below r else r.path
 
 -- the name of a row that is a nick
 abbrev pub nick_name : Option Row → Option (List ℕ)
 nick_name None = None
 nick_name (Some r) = if r.item.is_group then None else Some r.item.name
 
--- the row of an item that comes behind these
+-- the row of an item that comes after these
 abbrev pub next_row : List Row → Item → Row
 next_row rows i = record {
-  path = if i.is_group then take (i.level - 1) (path_behind (last_row rows)) else path_behind (last_row rows);
+  path = if i.is_group then take (i.level - 1) (path_after (last_row rows)) else path_after (last_row rows);
   item = i;
 }
 
--- whether a name comes behind that of the row before it at its place, where there is one
-abbrev pub comes_behind : Option (List ℕ) → List ℕ → Bool
-comes_behind None name = true
-comes_behind (Some other) name = is_lt (fold_order other name)
+-- whether a name comes after that of the row before it at its place, where there is one
+abbrev pub comes_after : Option (List ℕ) → List ℕ → Bool
+comes_after None name = true
+comes_after (Some other) name = is_lt (fold_order other name)
 
 -- rows that a nicklist can hold, and where the next one comes
 pub record IsListing (l : Listing) : Type 0 where
   pub rows : are_rows l.list.rows ≡ true
-  pub path : l.path.items ≡ path_behind (last_row l.list.rows)
+  pub path : l.path.items ≡ path_after (last_row l.list.rows)
   pub nick : l.nick ≡ nick_name (last_row l.list.rows)
 
 abbrev pub ItemsAreUtf8 : List Item → Type 0
 ItemsAreUtf8 [] = Unit {0}
 ItemsAreUtf8 (i ∷ is) = TextsAreUtf8 i × ItemsAreUtf8 is
 
--- the rows of the items behind a root
-abbrev pub rows_behind : List Item → Option (List Row)
-rows_behind items = rows_if (are_rows (rows_from [] items)) (rows_from [] items)
+-- the rows of the items after a root
+abbrev pub rows_after : List Item → Option (List Row)
+rows_after items = rows_if (are_rows (rows_from [] items)) (rows_from [] items)
 
 -- a row that was taken, or one that was refused for another cause than want of memory
 abbrev pub Took : {A : Type 0} → Result A NickRefused → Bool → Type 0

@@ -8,7 +8,7 @@ use Rattle.wc_nickdiff.specs.declared.diff_item.Mark.{Mark}
 use Rattle.wc_nickdiff.specs.declared.diff_item.Mark.TheVariants.{Parent, Added, Removed, Changed}
 use Rattle.wc_objects.specs.declared.object.Object.{Object}
 use Rattle.wc_objects.specs.declared.object.HdaItem.{HdaItem, out-HdaItem}
-use Rattle.wc_told.specs.NickObjects.{nick_path, nick_keys, diff_keys}
+use Rattle.wc_events.specs.NickObjects.{nick_path, nick_keys, diff_keys}
 use Rattle.wc_view.specs.declared.nick_rows.NickMarks.{NickMarks}
 use Rattle.wc_view.specs.declared.nick_rows.NickTexts.{NickTexts}
 use Rattle.wc_view.specs.declared.nick_rows.NickRow.{NickRow}

@@ -21,9 +21,9 @@ after_step (Opened entry) part = option_map (put_new entry) part
 after_step (Closed buffer) part = option_map (λ part. remove part buffer) part
 
 -- why nothing comes of a message
-abbrev pub Refuses : {A : Type 0} → DiffRefused → Result A ℕ → Type 0
-Refuses (BadItem place) folded = folded ≡ Err place
-Refuses NoMemory folded = Unit {0}
+abbrev pub RefusesDiff : {A : Type 0} → DiffRefused → Result A ℕ → Type 0
+RefusesDiff (BadItem place) folded = folded ≡ Err place
+RefusesDiff NoMemory folded = Unit {0}
 
 -- the one buffer that changes are of
 abbrev pub buffer_of : List NickChange → Option ℕ

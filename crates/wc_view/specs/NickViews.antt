@@ -14,8 +14,8 @@ use Rattle.wc_model.specs.Apply.{refusal, after}
 use Rattle.wc_model.specs.Notices.{notice}
 use Rattle.wc_model.specs.Touches.{told_after}
 use Rattle.wc_objects.specs.declared.object.WireMessage.{WireMessage}
-use Rattle.wc_told.specs.BufferObjects.{event_of}
-use Rattle.wc_told.specs.NickObjects.{nick_dump, push_message}
+use Rattle.wc_events.specs.BufferObjects.{event_of}
+use Rattle.wc_events.specs.NickObjects.{nick_dump, push_message}
 use Rattle.wc_view.specs.Ids.{IsFree}
 use Rattle.wc_view.specs.NickFold.{NickPart, fold_nicks}
 
@@ -48,12 +48,12 @@ nick_reply id world = record { id = id; objects = nick_dump world }
 abbrev pub NickDumpShows : Type 0
 NickDumpShows = (id : List ℕ) (part : Option NickPart) (world : World) → HasLists world → HasNicks (fold_nicks id part (nick_reply id world)) world.nicks
 
--- the nicklists behind an event, where there is one
+-- the nicklists after an event, where there is one
 abbrev pub fold_told_nicks : List ℕ → Option NickPart → Option WireMessage → Result (Option NickPart) ℕ
 fold_told_nicks id part None = Ok part
 fold_told_nicks id part (Some message) = fold_nicks id part message
 
--- After the event of a change a client that had the rows that were told has those that are told behind it: a buffer that
+-- After the event of a change a client that had the rows that were told has those that are told after it: a buffer that
 -- came has none, and one that went is gone.
 abbrev pub NickNoticeShows : Type 0
 NickNoticeShows = (id : List ℕ) (told : NickPart) (world : World) (change : Change)

@@ -15,7 +15,7 @@ Part = FinMap nat_cmp (List MirrorLine)
 abbrev pub lines_at : Part → ℕ → List MirrorLine
 lines_at part buffer = unwrap_or (get part buffer) []
 
--- a line behind the others of its buffer, as far as the limit allows
+-- a line after the others of its buffer, as far as the limit allows
 abbrev pub with_row : ℕ → LineRow → Part → Part
 with_row limit row part = insert part row.buffer (last_of limit (lines_at part row.buffer ++ row.line ∷ []))
 
@@ -35,13 +35,13 @@ without buffer part = remove part buffer
 abbrev pub flagged_line : LineFlag → MirrorLine → MirrorLine
 flagged_line flag line = if line.content.0 == flag.content then record line { displayed = flag.displayed } else line
 
-abbrev pub flagged : LineFlag → List MirrorLine → List MirrorLine
-flagged flag lines = map (flagged_line flag) lines
+abbrev pub with_line_flag : LineFlag → List MirrorLine → List MirrorLine
+with_line_flag flag lines = map (flagged_line flag) lines
 
 -- a flag of a line that is not held is passed over
 abbrev pub flagged_in : LineFlag → Part → Option (List MirrorLine) → Part
 flagged_in flag part None = part
-flagged_in flag part (Some lines) = insert part flag.buffer (flagged flag lines)
+flagged_in flag part (Some lines) = insert part flag.buffer (with_line_flag flag lines)
 
 abbrev pub with_flag : Part → LineFlag → Part
 with_flag part flag = flagged_in flag part (get part flag.buffer)

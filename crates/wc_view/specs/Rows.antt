@@ -3,7 +3,7 @@ use Rattle.std.specs.Prelude.{ℕ, List, [], ◌∷◌, Option, Some, None}
 use Rattle.std.specs.Option.{option_and_then}
 use Rattle.wc_objects.specs.declared.object.Object.{Object}
 use Rattle.wc_objects.specs.declared.object.HdaItem.{HdaItem, out-HdaItem}
-use Rattle.wc_told.specs.LineObjects.{line_keys}
+use Rattle.wc_events.specs.LineObjects.{line_keys}
 use Rattle.wc_view.specs.declared.rows.LineMarks.{LineMarks}
 use Rattle.wc_view.specs.declared.rows.LineRow.{LineRow}
 use Rattle.wc_view.specs.declared.rows.LineTexts.{LineTexts}

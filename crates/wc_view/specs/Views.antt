@@ -10,8 +10,8 @@ use Rattle.wc_model.specs.World.{World, lines_at as lines_in}
 use Rattle.wc_model.specs.Apply.{refusal, after}
 use Rattle.wc_model.specs.Notices.{notice}
 use Rattle.wc_objects.specs.declared.object.WireMessage.{WireMessage}
-use Rattle.wc_told.specs.LineObjects.{line_dump}
-use Rattle.wc_told.specs.BufferObjects.{event_of}
+use Rattle.wc_events.specs.LineObjects.{line_dump}
+use Rattle.wc_events.specs.BufferObjects.{event_of}
 use Rattle.wc_view.specs.declared.mirror_line.MirrorLine.{MirrorLine}
 use Rattle.wc_view.specs.Ids.{IsFree}
 use Rattle.wc_view.specs.Parts.{Part, lines_at}
@@ -49,7 +49,7 @@ HasAll part world = (buffer : ℕ) → HasLines part buffer (lines_in world buff
 
 -- What always holds of a world: no buffer is there twice, the handles of buffers were drawn, a buffer holds no more
 -- lines than the limit, and one that is not there holds none.
-pub record Stands (world : World) : Type 0 where
+pub record IsMirrorable (world : World) : Type 0 where
   pub once : (buffer : ℕ) → times handle_of buffer world.groups ≤ 1
   pub drawn : (buffer : ℕ) → has handle_of buffer world.groups ≡ true → buffer < world.next
   pub within : (buffer : ℕ) → length (lines_in world buffer) ≤ world.limit
@@ -61,10 +61,10 @@ reply id world = record { id = id; objects = line_dump world }
 
 -- After the reply a client has the lines of the world, whatever it had before.
 abbrev pub DumpShows : Type 0
-DumpShows = (limit : ℕ) (id : List ℕ) (part : Option Part) (world : World) → Stands world → world.limit ≡ limit
+DumpShows = (limit : ℕ) (id : List ℕ) (part : Option Part) (world : World) → IsMirrorable world → world.limit ≡ limit
     → HasAll (fold_lines limit id part (reply id world)) world
 
--- the lines behind an event, where there is one
+-- the lines after an event, where there is one
 abbrev pub fold_told : ℕ → List ℕ → Option Part → Option WireMessage → Option Part
 fold_told limit id part None = part
 fold_told limit id part (Some message) = fold_lines limit id part message
@@ -75,8 +75,8 @@ SetsNoFlags (Rename name flips) = flips ≡ []
 SetsNoFlags (Flips flips) = ⊥
 SetsNoFlags _ = Unit {0}
 
--- After the event of a change a client that had the lines of the world has those of the world behind it.
+-- After the event of a change a client that had the lines of the world has those of the world after it.
 abbrev pub NoticeShows : Type 0
 NoticeShows = (limit : ℕ) (id : List ℕ) (part : Option Part) (world : World) (change : Change)
-    → Stands world → world.limit ≡ limit → IsFree id → refusal world change ≡ None → SetsNoFlags change.what → HasAll part world
+    → IsMirrorable world → world.limit ≡ limit → IsFree id → refusal world change ≡ None → SetsNoFlags change.what → HasAll part world
     → HasAll (fold_told limit id part (event_of (after world change) (notice world change))) (after world change)

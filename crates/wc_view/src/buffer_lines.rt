@@ -5,7 +5,7 @@ ghost use Rattle.std.specs.FinMap.{find};
 ghost use Rattle.std.specs.Ordering.{nat_cmp};
 ghost use Rattle.wc_lines.specs.Ring.{last_of};
 ghost use Rattle.wc_view.specs.Entries.{part_at, IsEntry};
-ghost use Rattle.wc_view.specs.Parts.{lines_at, with_row, part_of, without, flagged_line, flagged, with_flag, with_flags};
+ghost use Rattle.wc_view.specs.Parts.{lines_at, with_row, part_of, without, flagged_line, with_line_flag, with_flag, with_flags};
 
 use crate::flags::LineFlag;
 use crate::mirror_line::MirrorLine;
@@ -52,7 +52,7 @@ impl BufferLines {
         self.lines.as_slice()
     }
 
-    /// Puts a line behind the others, of which the oldest go above the limit. Where memory is refused, all stay.
+    /// Puts a line after the others, of which the oldest go above the limit. Where memory is refused, all stay.
     fn push(&mut self, line: MirrorLine, limit: usize) -> Result<(), NoMemory>
         ensures ok { OnOk result (self.new ≡ (self.old.0, last_of limit (self.old.1 ++ line ∷ []))) }
         ensures err { OnErr result (self.new ≡ self.old) }
@@ -68,7 +68,7 @@ impl BufferLines {
 
     /// Sets the flag in the lines of its content.
     fn set_flag(&mut self, flag: LineFlag)
-        ensures { self.new ≡ (self.old.0, flagged flag self.old.1) }
+        ensures { self.new ≡ (self.old.0, with_line_flag flag self.old.1) }
     {
         flag_lines(self.lines.as_mut_slice(), flag);
     }
@@ -85,7 +85,7 @@ fn flag_line(line: &mut MirrorLine, flag: LineFlag)
 
 /// Sets the flag in the lines of its content.
 fn flag_lines(lines: &mut [MirrorLine], flag: LineFlag)
-    ensures { lines.new ≡ flagged flag lines.old }
+    ensures { lines.new ≡ with_line_flag flag lines.old }
 {
     for line in lines.iter_mut() {
         flag_line(line, flag);
@@ -125,7 +125,7 @@ pub(crate) fn lines_of(entries: &[BufferLines], buffer: u64) -> &[MirrorLine]
     }
 }
 
-/// Puts a line behind the others of its buffer, of which the oldest go above the limit. Where memory is refused,
+/// Puts a line after the others of its buffer, of which the oldest go above the limit. Where memory is refused,
 /// all stay.
 #[tactic(auto, using(crate::proofs::EntryLemmas::row_at, crate::proofs::EntryLemmas::row_new))]
 pub(crate) fn add_row(

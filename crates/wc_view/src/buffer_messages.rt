@@ -12,7 +12,7 @@ pub const BUFFERS_TWICE: &[u8] =
 pub const MOVED: &[u8] =
     b"\0\0\0s\0\0\0\0\x0d_buffer_movedhda\0\0\0\x06buffer\0\0\08number:int,full_name:str,prev_buffer:ptr,next_buffer:ptr\0\0\0\x01\x0230\0\0\0\x01\0\0\0\x01x\x010\x011";
 
-/// Buffer 48 is put behind buffer 16.
+/// Buffer 48 is put after buffer 16.
 pub const MERGED: &[u8] =
     b"\0\0\0v\0\0\0\0\x0e_buffer_mergedhda\0\0\0\x06buffer\0\0\08number:int,full_name:str,prev_buffer:ptr,next_buffer:ptr\0\0\0\x01\x0230\0\0\0\x02\0\0\0\x01x\x0210\x0220";
 
@@ -40,7 +40,7 @@ pub const VARS: &[u8] =
 pub const MOVED_TO_NONE: &[u8] =
     b"\0\0\0s\0\0\0\0\x0d_buffer_movedhda\0\0\0\x06buffer\0\0\08number:int,full_name:str,prev_buffer:ptr,next_buffer:ptr\0\0\0\x01\x0230\0\0\0\0\0\0\0\x01x\x010\x010";
 
-/// Buffer 48 is put behind itself.
+/// Buffer 48 is put after itself.
 pub const MERGED_BEHIND_ITSELF: &[u8] =
     b"\0\0\0u\0\0\0\0\x0e_buffer_mergedhda\0\0\0\x06buffer\0\0\08number:int,full_name:str,prev_buffer:ptr,next_buffer:ptr\0\0\0\x01\x0230\0\0\0\x03\0\0\0\x01x\x0230\x010";
 

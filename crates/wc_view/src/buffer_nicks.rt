@@ -80,7 +80,7 @@ pub(crate) fn replace_list(entries: &mut [BufferNicks], entry: BufferNicks)
     }
 }
 
-/// Puts a buffer behind the others, where it is not there.
+/// Puts a buffer after the others, where it is not there.
 #[tactic(auto, using(crate::proofs::NickEntries::held_already, crate::proofs::NickEntries::buffer_added))]
 pub(crate) fn add_buffer(entries: &mut Vec<BufferNicks>, entry: BufferNicks)
     requires { vec_len entries.old < vec_capacity entries.old }

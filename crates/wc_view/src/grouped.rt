@@ -1,9 +1,9 @@
-//! The buffers in groups, and what events make of them. The groups behind an event are new lists; the buffers in them
+//! The buffers in groups, and what events make of them. The groups after an event are new lists; the buffers in them
 //! are shared with the lists before, so that want of memory leaves these as they were.
 
 ghost use Rattle.std.specs.Prelude.{◌≡◌, ◌++◌, ◌∷◌, [], IfOk, OnOk};
-ghost use Rattle.wc_buffers.specs.Groups.{filled, has, in_group, without, only, take_out, pick, others, own, move_group, part, unmerge};
-ghost use Rattle.wc_view.specs.Grouped.{key_of, with_behind, insert_behind, put_behind, opened, moved, merged, with_told, told_or_same, told_group, told_update, edited, with_event};
+ghost use Rattle.wc_buffers.specs.Groups.{filled_groups, has, in_group, without, only, take_out, pick, others, own, move_group, part, unmerge};
+ghost use Rattle.wc_view.specs.Grouped.{key_of, with_after, insert_after, put_after, open_buffer_in, move_group_at, merge_groups_at, with_told, told_or_same, told_group, told_update, edited, with_event};
 
 use crate::carried::Carried;
 use crate::mirror_buffer::{MirrorBuffer, SharedBuffer};
@@ -45,7 +45,7 @@ fn without(alloc: Global, h: u64, group: &[SharedBuffer]) -> Result<Group, NoMem
     Ok(kept)
 }
 
-/// One buffer of a group, behind others.
+/// One buffer of a group, after others.
 #[tactic(auto, using(crate::proofs::GroupLoops::only_more, crate::proofs::GroupLoops::only_same))]
 fn push_only(picked: &mut Group, h: u64, group: &[SharedBuffer]) -> Result<(), NoMemory>
     ensures { OnOk result (picked.new ≡ picked.old ++ only key_of h group.now) }
@@ -69,9 +69,9 @@ fn pick(alloc: Global, h: u64, groups: &[Group]) -> Result<Group, NoMemory>
     Ok(picked)
 }
 
-/// A group that has buffers, behind others.
+/// A group that has buffers, after others.
 pub(crate) fn push_filled(groups: &mut Items<Group>, group: Group) -> Result<(), NoMemory>
-    ensures { OnOk result (groups.new ≡ groups.old ++ filled (group ∷ [])) }
+    ensures { OnOk result (groups.new ≡ groups.old ++ filled_groups (group ∷ [])) }
 {
     if group.as_slice().is_empty() {
         return Ok(());
@@ -91,7 +91,7 @@ fn take_out(alloc: Global, h: u64, groups: &[Group]) -> Result<Items<Group>, NoM
     Ok(left)
 }
 
-/// Buffers behind others.
+/// Buffers after others.
 fn push_all(group: &mut Group, new: &[SharedBuffer]) -> Result<(), NoMemory>
     ensures { OnOk result (group.new ≡ group.old ++ new.now) }
 {
@@ -101,14 +101,14 @@ fn push_all(group: &mut Group, new: &[SharedBuffer]) -> Result<(), NoMemory>
     Ok(())
 }
 
-/// One buffer, and behind it the new ones where it is the one that they go behind.
-fn push_with_behind(
+/// One buffer, and after it the new ones where it is the one that they go after.
+fn push_with_after(
     group: &mut Group,
     h: u64,
     new: &[SharedBuffer],
     buffer: &SharedBuffer,
 ) -> Result<(), NoMemory>
-    ensures { OnOk result (group.new ≡ group.old ++ with_behind h new.now buffer.now) }
+    ensures { OnOk result (group.new ≡ group.old ++ with_after h new.now buffer.now) }
 {
     group.push(buffer.share()?)?;
     if key_of(buffer) == h {
@@ -118,51 +118,51 @@ fn push_with_behind(
 }
 
 #[tactic(auto, using(crate::proofs::GroupLoops::insert_more))]
-fn insert_behind(
+fn insert_after(
     alloc: Global,
     h: u64,
     new: &[SharedBuffer],
     group: &[SharedBuffer],
 ) -> Result<Group, NoMemory>
-    ensures { IfOk result (λ placed. placed ≡ insert_behind h new.now group.now) }
+    ensures { IfOk result (λ placed. placed ≡ insert_after h new.now group.now) }
 {
     let mut placed = Items::new(alloc);
     for buffer in group {
-        push_with_behind(&mut placed, h, new, buffer)?;
+        push_with_after(&mut placed, h, new, buffer)?;
     }
     Ok(placed)
 }
 
 #[tactic(auto, using(crate::proofs::GroupLoops::put_more))]
-fn put_behind(
+fn put_after(
     alloc: Global,
     h: u64,
     new: &[SharedBuffer],
     groups: &[Group],
 ) -> Result<Items<Group>, NoMemory>
-    ensures { IfOk result (λ placed. placed ≡ put_behind h new.now groups.now) }
+    ensures { IfOk result (λ placed. placed ≡ put_after h new.now groups.now) }
 {
     let mut placed = Items::new(alloc);
     for group in groups {
-        placed.push(insert_behind(alloc, h, new, group.as_slice())?)?;
+        placed.push(insert_after(alloc, h, new, group.as_slice())?)?;
     }
     Ok(placed)
 }
 
-/// A buffer behind another, of which it need not be in the group. Nothing changes where that is no other buffer that
+/// A buffer after another, of which it need not be in the group. Nothing changes where that is no other buffer that
 /// is there.
 fn merged(alloc: Global, h: u64, prev: u64, groups: &Items<Group>) -> Result<Items<Group>, NoMemory>
-    ensures { IfOk result (λ new. new ≡ merged h prev groups.now) }
+    ensures { IfOk result (λ new. new ≡ merge_groups_at h prev groups.now) }
 {
     if prev == h || !has(prev, groups.as_slice()) {
         return groups.copy(alloc);
     }
     let picked = pick(alloc, h, groups.as_slice())?;
     let left = take_out(alloc, h, groups.as_slice())?;
-    put_behind(alloc, prev, picked.as_slice(), left.as_slice())
+    put_after(alloc, prev, picked.as_slice(), left.as_slice())
 }
 
-/// The parts of a group, of which one is the buffer alone, behind other groups.
+/// The parts of a group, of which one is the buffer alone, after other groups.
 fn push_parts(
     groups: &mut Items<Group>,
     alloc: Global,
@@ -205,7 +205,7 @@ fn others(alloc: Global, h: u64, groups: &[Group]) -> Result<Items<Group>, NoMem
     Ok(found)
 }
 
-/// The groups that have a buffer, behind others.
+/// The groups that have a buffer, after others.
 #[tactic(auto, using(crate::proofs::GroupLoops::own_more, crate::proofs::GroupLoops::own_same))]
 fn push_own(
     found: &mut Items<Group>,
@@ -239,7 +239,7 @@ fn moved(
     number: u32,
     groups: &Items<Group>,
 ) -> Result<Items<Group>, NoMemory>
-    ensures { IfOk result (λ new. new ≡ moved h number groups.now) }
+    ensures { IfOk result (λ new. new ≡ move_group_at h number groups.now) }
 {
     let others = others(alloc, h, groups.as_slice())?;
     let place = number as usize;
@@ -339,7 +339,7 @@ fn told_update(
     Ok(new)
 }
 
-/// The groups behind an event of a buffer that is held.
+/// The groups after an event of a buffer that is held.
 #[tactic(auto, unfolding(crate::specs::Grouped::edited))]
 fn edited(
     alloc: Global,
@@ -359,13 +359,13 @@ fn edited(
     }
 }
 
-/// A buffer in a group of its own behind the others. Nothing changes where it is there.
+/// A buffer in a group of its own after the others. Nothing changes where it is there.
 fn opened(
     alloc: Global,
     buffer: MirrorBuffer,
     groups: &Items<Group>,
 ) -> Result<Items<Group>, NoMemory>
-    ensures { IfOk result (λ new. new ≡ opened buffer groups.now) }
+    ensures { IfOk result (λ new. new ≡ open_buffer_in buffer groups.now) }
 {
     let mut new = groups.copy(alloc)?;
     if has(buffer.handle.0, groups.as_slice()) {
@@ -377,7 +377,7 @@ fn opened(
     Ok(new)
 }
 
-/// The groups behind an event. An opening of a buffer that is held changes nothing, and neither does another event of
+/// The groups after an event. An opening of a buffer that is held changes nothing, and neither does another event of
 /// one that is not.
 pub(crate) fn with_event(
     alloc: Global,

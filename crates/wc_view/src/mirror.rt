@@ -8,9 +8,9 @@ ghost use Rattle.wc_objects.specs.Reading.{GivesFirst, first_message};
 ghost use Rattle.wc_view.specs.BufferFold.{fold_buffers};
 ghost use Rattle.wc_view.specs.Runs.{or_kept};
 ghost use Rattle.wc_view.specs.Ids.{AreIds};
-ghost use Rattle.wc_view.specs.NickSteps.{Refuses};
+ghost use Rattle.wc_view.specs.NickSteps.{RefusesDiff};
 ghost use Rattle.wc_view.specs.Parts.{lines_at};
-ghost use Rattle.wc_view.specs.Taking.{nothing_taken, folded, Takes};
+ghost use Rattle.wc_view.specs.Taking.{nothing_taken, parts_after, TakesMessage};
 
 use crate::buffer_lines::{BufferLines, lines_of};
 use crate::buffer_nicks::{BufferNicks, nicklist_of};
@@ -59,9 +59,9 @@ impl Model for Mirror {
     ghost use Rattle.std.specs.FinMap as map;
     ghost use Rattle.wc_view.specs.Entries.{part_at};
     ghost use Rattle.wc_view.specs.NickEntries.{nicks_at};
-    ghost use Rattle.wc_view.specs.Taking.{Mirrored};
+    ghost use Rattle.wc_view.specs.Taking.{MirrorParts};
 
-    ghost Value = { Mirrored };
+    ghost Value = { MirrorParts };
 
     ghost coded = { Prim.hlevel (codes, map.code) };
 
@@ -140,8 +140,8 @@ impl Mirror {
     #[tactic(auto, using(crate::proofs::FoldLemmas::fold_done, crate::proofs::FoldLemmas::fold_refused))]
     fn fold(&mut self, alloc: Global, message: &WireMessage) -> Result<(), DiffRefused>
         requires { well_formed message.now.objects ≡ true }
-        ensures ok { OnOk result (folded self.old message.now ≡ Ok self.new) }
-        ensures refused { IfErr result (λ e. Refuses e (folded self.old message.now)) }
+        ensures ok { OnOk result (parts_after self.old message.now ≡ Ok self.new) }
+        ensures refused { IfErr result (λ e. RefusesDiff e (parts_after self.old message.now)) }
         ensures err { OnErr result (self.new ≡ self.old) }
     {
         let groups = self.told_groups(alloc, message)?;
@@ -156,7 +156,7 @@ impl Mirror {
     /// Folds the message at the front of the bytes, as `take` does.
     #[tactic(auto, using(crate::proofs::TakeLemmas::takes_found, crate::proofs::TakeLemmas::takes_none, crate::proofs::TakeLemmas::takes_bad, crate::proofs::TakeLemmas::takes_refused))]
     fn take_front(&mut self, alloc: Global, bytes: &[u8]) -> Result<usize, MirrorRefused>
-        ensures { Takes result self.old self.new (first_message bytes.now) }
+        ensures { TakesMessage result self.old self.new (first_message bytes.now) }
     {
         match front_of(alloc, bytes) {
             Ok(Some((message, size))) => match self.fold(alloc, &message) {
@@ -170,19 +170,19 @@ impl Mirror {
         }
     }
 
-    /// Folds the first message of WeeChat's relay protocol where a whole one stands at the front of the bytes, and
-    /// answers how many bytes it takes. 0 where none stands there yet, as `read_message` tells.
+    /// Folds the first message of WeeChat's relay protocol where a whole one is at the front of the bytes, and
+    /// answers how many bytes it takes. 0 where none is there yet, as `read_message` tells.
     ///
-    /// `BadMessage` where the bytes of the length that stands at the front spell no message, and for a length that
+    /// `BadMessage` where the bytes of the length that is at the front spell no message, and for a length that
     /// no message has. The mirror stays as it was after each refusal.
     pub fn take(&mut self, alloc: Global, bytes: &[u8]) -> Result<usize, MirrorRefused>
         // A message at the front is folded, unless memory is refused.
-        ensures folded { (message : WireMessage) (size : ℕ) → FrontSpells message size bytes.now → Takes result self.old self.new (Ok (Some (message, size))) }
+        ensures folded { (message : WireMessage) (size : ℕ) → FrontSpells message size bytes.now → TakesMessage result self.old self.new (Ok (Some (message, size))) }
         // Nothing changes exactly where bytes are missing.
-        ensures missing { IsTrue (misses_bytes bytes.now) → Takes result self.old self.new (Ok None) }
+        ensures missing { IsTrue (misses_bytes bytes.now) → TakesMessage result self.old self.new (Ok None) }
         ensures none { IfOk result (λ size. size ≡ 0 → IsTrue (misses_bytes bytes.now)) }
         // Which field is the first that breaks a rule.
-        ensures exact { Takes result self.old self.new (first_message bytes.now) }
+        ensures exact { TakesMessage result self.old self.new (first_message bytes.now) }
         ensures refused { OnErr result (self.new ≡ self.old) }
     {
         self.take_front(alloc, bytes)

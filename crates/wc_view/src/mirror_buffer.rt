@@ -37,7 +37,7 @@ impl MirrorBuffer {
     }
 }
 
-/// A buffer that the groups before and behind an event share. Contracts see the buffer.
+/// A buffer that the groups before and after an event share. Contracts see the buffer.
 #[derive(Drop)]
 pub struct SharedBuffer {
     buffer: Rc<MirrorBuffer>,

@@ -9,10 +9,10 @@ use crate::flags::flags_on;
 use crate::named::buffer_named;
 use crate::rows::{only_row, rows_on};
 use std::alloc::Global;
+use wc_events::event_id;
 use wc_model::EventKind;
 use wc_objects::WireMessage;
 use wc_text::{NoMemory, Text};
-use wc_told::event_id;
 
 /// The dump of lines sets them.
 fn take_dump(
@@ -32,7 +32,7 @@ fn take_dump(
     Ok(())
 }
 
-/// A new line goes behind those of its buffer, once the dump was taken.
+/// A new line goes after those of its buffer, once the dump was taken.
 fn take_line(
     lines: &mut Option<Vec<BufferLines>>,
     alloc: Global,

@@ -7,7 +7,7 @@ ghost use Rattle.wc_view.specs.NickEntries.{nicks_at};
 ghost use Rattle.wc_view.specs.NickFold.{NickPart, fold_nick_dump, fold_full, fold_diff, fold_opened, fold_closed, fold_nick_event, fold_nicks, changes_are_of};
 ghost use Rattle.wc_view.specs.NickGroups.{entry_listed, GroupsAreUtf8};
 ghost use Rattle.wc_view.specs.NickLists.{ItemsAreUtf8};
-ghost use Rattle.wc_view.specs.NickSteps.{after_step, buffer_of, Refuses};
+ghost use Rattle.wc_view.specs.NickSteps.{after_step, buffer_of, RefusesDiff};
 
 use crate::buffer_nicks::{BufferNicks, add_buffer, nicklist_of, remove_list, replace_list};
 use crate::named::buffer_named;
@@ -17,12 +17,12 @@ use crate::nick_list::list_of;
 use crate::nick_rows::NickChange;
 use crate::told::told_by;
 use std::alloc::Global;
+use wc_events::event_id;
 use wc_model::EventKind;
 use wc_nickdiff::{DiffItem, DiffRefused, applied};
 use wc_nicklist::Nicklist;
 use wc_objects::WireMessage;
 use wc_text::{Handle, Items, NoMemory, Text};
-use wc_told::event_id;
 
 /// What is to be done to the nicklists.
 #[derive(Drop)]
@@ -154,7 +154,7 @@ fn diff_step(
 ) -> Result<NickStep, DiffRefused>
     requires { well_formed message.now.objects ≡ true }
     ensures ok { IfOk result (λ step. fold_diff (Some (nicks_at entries.now)) message.now ≡ Ok (after_step step (Some (nicks_at entries.now)))) }
-    ensures err { IfErr result (λ e. Refuses e (fold_diff (Some (nicks_at entries.now)) message.now)) }
+    ensures err { IfErr result (λ e. RefusesDiff e (fold_diff (Some (nicks_at entries.now)) message.now)) }
 {
     let Some(changes) = nick_changes_on(alloc, &message.objects)? else {
         return Ok(NickStep::Nothing);
@@ -199,7 +199,7 @@ fn event_step(
 ) -> Result<NickStep, DiffRefused>
     requires { well_formed message.now.objects ≡ true }
     ensures ok { IfOk result (λ step. fold_nick_event (Some (nicks_at entries.now)) message.now ≡ Ok (after_step step (Some (nicks_at entries.now)))) }
-    ensures err { IfErr result (λ e. Refuses e (fold_nick_event (Some (nicks_at entries.now)) message.now)) }
+    ensures err { IfErr result (λ e. RefusesDiff e (fold_nick_event (Some (nicks_at entries.now)) message.now)) }
 {
     let id = message.id.as_slice();
     if id == event_id(EventKind::NicklistDiff) {
@@ -226,7 +226,7 @@ pub(crate) fn nick_step(
 ) -> Result<NickStep, DiffRefused>
     requires { well_formed message.now.objects ≡ true }
     ensures ok { IfOk result (λ step. fold_nicks dump.now (option_map (λ v. nicks_at v.items) nicks.now) message.now ≡ Ok (after_step step (option_map (λ v. nicks_at v.items) nicks.now))) }
-    ensures err { IfErr result (λ e. Refuses e (fold_nicks dump.now (option_map (λ v. nicks_at v.items) nicks.now) message.now)) }
+    ensures err { IfErr result (λ e. RefusesDiff e (fold_nicks dump.now (option_map (λ v. nicks_at v.items) nicks.now) message.now)) }
 {
     if message.id.as_slice() == dump.as_slice() {
         return Ok(dump_step(alloc, message)?);

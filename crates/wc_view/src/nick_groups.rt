@@ -78,7 +78,7 @@ fn place_of(groups: &[BufferItems], buffer: u64) -> Option<usize>
     None
 }
 
-/// Puts an item behind the others of its buffer.
+/// Puts an item after the others of its buffer.
 #[tactic(auto, using(crate::proofs::NickGroups::item_at, crate::proofs::NickGroups::item_new))]
 fn add_item(groups: &mut Vec<BufferItems>, alloc: Global, row: NickRow) -> Result<(), NoMemory>
     ensures { OnOk result (groups.new.items ≡ with_item groups.old.items row) }

@@ -5,7 +5,7 @@ ghost use Rattle.std.specs.List.{slice_get};
 ghost use Rattle.std.specs.Vec.Iter.{into_iter_items};
 ghost use Rattle.wc_nicklist.specs.Rows.{last_or, root_name, TextsAreUtf8};
 ghost use Rattle.wc_view.specs.NickFold.{are_rows, is_root_item, rows_listed};
-ghost use Rattle.wc_view.specs.NickLists.{next_row, comes_behind, rows_behind, Took, IsListing, ItemsAreUtf8};
+ghost use Rattle.wc_view.specs.NickLists.{next_row, comes_after, rows_after, Took, IsListing, ItemsAreUtf8};
 
 use std::alloc::Global;
 use std::cmp::Ordering;
@@ -16,11 +16,11 @@ use wc_text::{Handle, NoMemory, Text, fold_cmp};
 /// The name of the root, which is no group's.
 const ROOT_NAME: &[u8] = b"root";
 
-/// A nicklist that is read row by row, each behind those before it.
+/// A nicklist that is read row by row, each after those before it.
 #[derive(Drop)]
 pub(crate) struct Listing {
     pub list: Nicklist,
-    /// The names of the groups that a nick behind the last row stands in.
+    /// The names of the groups that a nick after the last row is in.
     pub path: Vec<Text>,
     /// The name of the last row, where that is a nick.
     pub nick: Option<Text>,
@@ -43,7 +43,7 @@ impl Listing {
         })
     }
 
-    /// Puts a row behind the others. False where it can't stand there.
+    /// Puts a row after the others. False where it can't are there.
     fn push(&mut self, alloc: Global, item: Item) -> Result<bool, NoMemory>
         requires utf8 { TextsAreUtf8 item }
         requires listing { IsListing self.old }
@@ -73,7 +73,7 @@ impl Listing {
         if nick.level != 0 {
             return Ok(false);
         }
-        if !comes_behind(self.nick.as_ref(), nick.name.as_slice()) {
+        if !comes_after(self.nick.as_ref(), nick.name.as_slice()) {
             return Ok(false);
         }
         let name = nick.name.copy(alloc)?;
@@ -104,7 +104,7 @@ impl Listing {
         if depth > self.path.len() {
             return Ok(false);
         }
-        if !comes_behind(sibling_at(&self.path, depth), group.name.as_slice()) {
+        if !comes_after(sibling_at(&self.path, depth), group.name.as_slice()) {
             return Ok(false);
         }
         let name = group.name.copy(alloc)?;
@@ -134,7 +134,7 @@ fn is_taken(outcome: Result<(), NickRefused>) -> Result<bool, NoMemory>
     }
 }
 
-/// The name of the group that what has this path stands in.
+/// The name of the group that what has this path is in.
 fn parent_in<'a>(path: &'a [Text], root_name: &'a Text) -> &'a Text
     ensures { result.now ≡ last_or root_name.now path.now }
 {
@@ -151,9 +151,9 @@ fn sibling_at(path: &[Text], depth: usize) -> Option<&Text>
     path.get(depth)
 }
 
-/// Whether a name comes behind that of the row before it at its place.
-fn comes_behind(other: Option<&Text>, name: &[u8]) -> bool
-    ensures { result ≡ comes_behind (option_copied other.entry) name.now }
+/// Whether a name comes after that of the row before it at its place.
+fn comes_after(other: Option<&Text>, name: &[u8]) -> bool
+    ensures { result ≡ comes_after (option_copied other.entry) name.now }
 {
     match other {
         Some(other) => fold_cmp(other.as_slice(), name) == Ordering::Less,
@@ -168,14 +168,14 @@ fn is_root_item(item: &Item) -> bool
     item.is_group && item.name.as_slice() == ROOT_NAME
 }
 
-/// The nicklist of the rows behind a root of this handle.
-fn list_behind(
+/// The nicklist of the rows after a root of this handle.
+fn list_after(
     alloc: Global,
     root: Handle,
     rows: IntoIter<Item>,
 ) -> Result<Option<Nicklist>, NoMemory>
     requires { ItemsAreUtf8 (into_iter_items rows) }
-    ensures { IfOk result (λ list. option_map (λ list. list.rows) list ≡ rows_behind (into_iter_items rows)) }
+    ensures { IfOk result (λ list. option_map (λ list. list.rows) list ≡ rows_after (into_iter_items rows)) }
 {
     let mut listing = Listing::new(alloc, root)?;
     for item in rows {
@@ -187,7 +187,7 @@ fn list_behind(
     Ok(Some(listing.list))
 }
 
-/// The nicklist of items. None where they are something else than one root and behind it rows that a nicklist can
+/// The nicklist of items. None where they are something else than one root and after it rows that a nicklist can
 /// hold, in canonical order.
 pub(crate) fn list_of(alloc: Global, items: Vec<Item>) -> Result<Option<Nicklist>, NoMemory>
     requires { ItemsAreUtf8 items.items }
@@ -200,5 +200,5 @@ pub(crate) fn list_of(alloc: Global, items: Vec<Item>) -> Result<Option<Nicklist
     if !is_root_item(&root) {
         return Ok(None);
     }
-    list_behind(alloc, root.handle, rows)
+    list_after(alloc, root.handle, rows)
 }

@@ -30,7 +30,7 @@ pub const FULL_OF_TWO: &[u8] =
 pub const OUT_OF_ORDER: &[u8] =
     b"\0\0\0\xdc\0\0\0\0\x09_nicklisthda\0\0\0\x14buffer/nicklist_item\0\0\0Ngroup:chr,visible:chr,level:int,name:str,color:str,prefix:str,prefix_color:str\0\0\0\x03\x011\x0212\x01\x01\0\0\0\0\0\0\0\x04root\0\0\0\0\0\0\0\0\0\0\0\0\x011\x0223\0\x01\0\0\0\0\0\0\0\x02bo\0\0\0\0\0\0\0\0\0\0\0\0\x011\x0221\0\x01\0\0\0\0\0\0\0\x02al\0\0\0\0\0\0\0\0\0\0\0\0";
 
-/// A nick of the root behind a group of the root, as a nick of the group with the name of another.
+/// A nick of the root after a group of the root, as a nick of the group with the name of another.
 pub const GROUP_FIRST: &[u8] =
     b"\0\0\0\xfa\0\0\0\0\x09_nicklisthda\0\0\0\x14buffer/nicklist_item\0\0\0Ngroup:chr,visible:chr,level:int,name:str,color:str,prefix:str,prefix_color:str\0\0\0\x04\x011\x0212\x01\x01\0\0\0\0\0\0\0\x04root\0\0\0\0\0\0\0\0\0\0\0\0\x011\x0221\0\x01\0\0\0\0\0\0\0\x02al\0\0\0\0\0\0\0\0\0\0\0\0\x011\x0222\x01\x01\0\0\0\x01\0\0\0\x03ops\0\0\0\0\0\0\0\0\0\0\0\0\x011\x0226\0\x01\0\0\0\0\0\0\0\x02al\0\0\0\0\0\0\0\0\0\0\0\0";
 
@@ -42,7 +42,7 @@ pub const NICK_WITH_LEVEL: &[u8] =
 pub const GROUP_WITHOUT_LEVEL: &[u8] =
     b"\0\0\0\xc0\0\0\0\0\x09_nicklisthda\0\0\0\x14buffer/nicklist_item\0\0\0Ngroup:chr,visible:chr,level:int,name:str,color:str,prefix:str,prefix_color:str\0\0\0\x02\x011\x0212\x01\x01\0\0\0\0\0\0\0\x04root\0\0\0\0\0\0\0\0\0\0\0\0\x011\x0222\x01\x01\0\0\0\0\0\0\0\x03ops\0\0\0\0\0\0\0\0\0\0\0\0";
 
-/// A group of level 2 right behind the root.
+/// A group of level 2 right after the root.
 pub const WITHOUT_PARENT: &[u8] =
     b"\0\0\0\xc0\0\0\0\0\x09_nicklisthda\0\0\0\x14buffer/nicklist_item\0\0\0Ngroup:chr,visible:chr,level:int,name:str,color:str,prefix:str,prefix_color:str\0\0\0\x02\x011\x0212\x01\x01\0\0\0\0\0\0\0\x04root\0\0\0\0\0\0\0\0\0\0\0\0\x011\x0224\x01\x01\0\0\0\x02\0\0\0\x03sub\0\0\0\0\0\0\0\0\0\0\0\0";
 

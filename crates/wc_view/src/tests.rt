@@ -1,14 +1,14 @@
 ghost use Rattle.std.specs.Prelude.{IfOk};
-ghost use Rattle.wc_lines.specs.LineText.{HasText};
+ghost use Rattle.wc_lines.specs.LineText.{HasUtf8Texts};
 
 use super::*;
 use bytes::BytesMut;
 use std::alloc::Global;
 use std::test::Fail;
+use wc_events::line_added;
 use wc_lines::Line;
 use wc_objects::append_message;
 use wc_text::{Handle, Items, NoMemory, Text};
-use wc_told::line_added;
 
 /// A new line of the first buffer, `hello`.
 const EVENT: &[u8] =
@@ -69,7 +69,7 @@ fn held_mirror(alloc: Global) -> Result<Mirror, Fail> {
 }
 
 fn line(alloc: Global, message: &str) -> Result<Line, NoMemory>
-    ensures { IfOk result HasText }
+    ensures { IfOk result HasUtf8Texts }
 {
     let mut tags = Items::new(alloc);
     tags.push(Text::from_slice(alloc, b"irc_privmsg")?)?;

@@ -5,7 +5,7 @@ ghost use Rattle.wc_view.specs.declared.mirror_buffer.MirrorBuffer.{MirrorBuffer
 ghost use Rattle.wc_view.specs.Each.{each};
 ghost use Rattle.wc_view.specs.Carried.{carried_by};
 ghost use Rattle.wc_view.specs.BufferFold.{is_told, are_once, runs, dump_fields, rows_dumped, fold_buffer_dump, kind_among, fields_of, keys_of, told_by, fold_buffer_event};
-ghost use Rattle.wc_view.specs.Runs.{Open, nothing_open, with_row, finished, or_kept};
+ghost use Rattle.wc_view.specs.Runs.{GroupsSoFar, nothing_open, with_row, groups_of_open, or_kept};
 
 use crate::carried::{Carried, Field, carried_by};
 use crate::grouped::{push_filled, with_event};
@@ -13,10 +13,10 @@ use crate::items::{items_on, only_item};
 use crate::mirror_buffer::SharedBuffer;
 use std::alloc::Global;
 use std::marker::Model;
+use wc_events::event_id;
 use wc_model::EventKind;
 use wc_objects::{HdaItem, Object, WireMessage};
 use wc_text::{Items, NoMemory};
-use wc_told::event_id;
 
 type Group = Items<SharedBuffer>;
 
@@ -78,7 +78,7 @@ fn is_told(h: u64, rows: &[Carried]) -> bool
     rows.iter().any(|other| other.buffer.handle.0 == h)
 }
 
-/// Groups, and behind them one that may grow: that of this number.
+/// Groups, and after them one that may grow: that of this number.
 #[derive(Drop)]
 struct OpenGroup {
     groups: Items<Group>,
@@ -87,9 +87,9 @@ struct OpenGroup {
 }
 
 impl Model for OpenGroup {
-    ghost use Rattle.wc_view.specs.Runs.{Open};
+    ghost use Rattle.wc_view.specs.Runs.{GroupsSoFar};
 
-    ghost Value = { Open };
+    ghost Value = { GroupsSoFar };
 
     ghost view = { λ o. record { groups = o.groups; number = o.number; group = o.group } };
 }
@@ -123,7 +123,7 @@ impl OpenGroup {
 
     /// All groups.
     fn finish(self) -> Result<Items<Group>, NoMemory>
-        ensures { IfOk result (λ groups. groups ≡ finished self) }
+        ensures { IfOk result (λ groups. groups ≡ groups_of_open self) }
     {
         let mut groups = self.groups;
         push_filled(&mut groups, self.group)?;
@@ -263,7 +263,7 @@ pub(crate) fn told_by(
     carried_by(alloc, fields_of(kind), item)
 }
 
-/// The groups behind an event. None where the message is not one that changes them.
+/// The groups after an event. None where the message is not one that changes them.
 pub(crate) fn event_told(
     alloc: Global,
     groups: &Items<Group>,

@@ -2,7 +2,7 @@
 use Rattle.std.proofs.Common.{◌≡◌, ℕ, ◌+◌, ◌≤◌, ◌||◌, ltb, List, [], ◌∷◌, length, take, refl, ap, sym, subst, ◌∙◌, arith, All}
 use Rattle.std.specs.Str.{IsUtf8}
 use Rattle.std.proofs.lemmas.List.Elements.{All-take}
-use Rattle.wc_lines.specs.LineText.{HasText}
+use Rattle.wc_lines.specs.LineText.{HasUtf8Texts}
 use Rattle.wc_text.proofs.CutLemmas.{cut_utf8}
 use Rattle.wc_buffers.proofs.GroupLaws.{by_bool}
 use Rattle.wc_model.specs.declared.change.LineSpec.{LineSpec}
@@ -28,7 +28,7 @@ pub cut_tags_length : (tags : List (List ℕ)) → length (cut_tags tags) ≤ le
 cut_tags_length tags = shorter_from 0 0 tags
 
 -- a line that is cut has text where what was given is text
-pub line_text : (handle : ℕ) (spec : LineSpec) → IsLineText spec → HasText (line_of handle spec)
+pub line_text : (handle : ℕ) (spec : LineSpec) → IsLineText spec → HasUtf8Texts (line_of handle spec)
 line_text handle spec t = record {
   tags = subst (λ tags. All IsUtf8 tags) (sym (cut_tags_front spec.tags)) (All-take IsUtf8 (length (cut_tags spec.tags)) spec.tags t.tags);
   prefix = cut_utf8 spec.prefix 128;

@@ -7,13 +7,13 @@ use Rattle.std.specs.Ordering.{nat_cmp}
 use Rattle.wc_text.specs.declared.names.Handle.{Handle}
 use Rattle.wc_text.specs.declared.names.Pair.{Pair}
 use Rattle.wc_lines.specs.declared.line.Line.{Line}
-use Rattle.wc_lines.specs.Held.{Held}
+use Rattle.wc_lines.specs.Held.{RingView}
 use Rattle.wc_lines.specs.Ring.{last_of, with_line, without_lines}
 use Rattle.wc_nicklist.specs.Rows.{Nicks}
 use Rattle.wc_nicklist.specs.declared.item.Row.{Row}
 use Rattle.wc_buffers.specs.declared.entry.BufferEntry.{BufferEntry}
 use Rattle.wc_buffers.specs.declared.refused.BufferRefused.{BufferRefused}
-use Rattle.wc_buffers.specs.Calls.{Groups, handle_of, is_there, entry_of, buffer_of, moved, merged, unmerged, changed, move_refusal, merge_refusal, unmerge_refusal, no_buffer, short_name_refusal, set_var_refusal, remove_var_refusal, with_hidden, with_short_name, with_title, with_var, without_var, lacks_var}
+use Rattle.wc_buffers.specs.Calls.{EntryGroups, handle_of, is_there, entry_of, buffer_of, move_group_to, merge_groups, unmerge_group, with_entry, move_refusal, merge_refusal, unmerge_refusal, no_buffer, short_name_refusal, set_var_refusal, remove_var_refusal, with_hidden, with_short_name, with_title, with_var, without_var, lacks_var}
 use Rattle.wc_buffers.specs.Vars.{cut_to}
 use Rattle.wc_buffers.specs.Groups.{has, row_of}
 use Rattle.wc_buffers.proofs.GroupLaws.{by_bool}
@@ -29,7 +29,7 @@ use Rattle.wc_model.specs.Order.{order}
 use Rattle.wc_model.specs.LineCuts.{line_of}
 use Rattle.wc_model.specs.Apply.{refusal_of, after_of, with_groups, with_lines, of_buffers}
 use Rattle.wc_model.specs.Notices.{notice_of, notice_at, name_in, flips_in, flips_between, var_kind, Accepted}
-use Rattle.wc_world.specs.Kept.{held_at, held_in, lines_map, world_of, IsWorld, IsHeld, AreApart, IsChangedAt}
+use Rattle.wc_world.specs.Kept.{held_at, held_in, lines_map, world_of, IsWorld, IsHeldBuffer, AreContentsApart, IsHeldChanged}
 use Rattle.wc_world.specs.Nicks.{list_at, AreNicks}
 use Rattle.wc_world.specs.Told.{told_at}
 use Rattle.wc_world.proofs.GroupRows.{row_of-move, row_of-merge, row_of-unmerge, row_of-update, merged_apart}
@@ -40,12 +40,12 @@ use Rattle.wc_world.proofs.HeldLemmas.{tied, get_lines, put_lines, changed_to, s
 -- ---- lines that stay as they were
 
 abbrev pub Apart : World → Type 0
-Apart w = (h : ℕ) → AreApart w.next (lines_at w h)
+Apart w = (h : ℕ) → AreContentsApart w.next (lines_at w h)
 
-pub are_apart : {S : Type 0} (gs : Groups) (m : HashMap ℕ Held S) (ns : FinMap nat_cmp (List Row)) (limit next : ℕ) → IsWorld gs m limit next → Apart (world_of gs m ns limit next)
-are_apart gs m ns limit next w h = subst (λ o. AreApart next (unwrap_or o [])) (sym (get_lines m h)) (by (held_at m h) refl)
+pub are_apart : {S : Type 0} (gs : EntryGroups) (m : HashMap ℕ RingView S) (ns : FinMap nat_cmp (List Row)) (limit next : ℕ) → IsWorld gs m limit next → Apart (world_of gs m ns limit next)
+are_apart gs m ns limit next w h = subst (λ o. AreContentsApart next (unwrap_or o [])) (sym (get_lines m h)) (by (held_at m h) refl)
   where
-    by : (o : Option Held) → held_at m h ≡ o → AreApart next (unwrap_or (option_map (λ (x : Held). x.lines) o) [])
+    by : (o : Option RingView) → held_at m h ≡ o → AreContentsApart next (unwrap_or (option_map (λ (x : RingView). x.lines) o) [])
     by None e = tt
     by (Some x) e = (w.fit h x e).apart
 
@@ -53,19 +53,19 @@ pub no_flips_between : (w v : World) → Apart w → ((h : ℕ) → flips_in (li
 no_flips_between w v apart none = nothing_flat (λ h. flips_in (lines_at w h) (lines_at v h)) (order v.groups) none
 
 -- what is held of a buffer, as the world has it
-pub held_shown : {S : Type 0} (gs : Groups) (m : HashMap ℕ Held S) (ns : FinMap nat_cmp (List Row)) (limit next : ℕ) → IsWorld gs m limit next → (h : ℕ) → held_at m h ≡ held_in (world_of gs m ns limit next) h
+pub held_shown : {S : Type 0} (gs : EntryGroups) (m : HashMap ℕ RingView S) (ns : FinMap nat_cmp (List Row)) (limit next : ℕ) → IsWorld gs m limit next → (h : ℕ) → held_at m h ≡ held_in (world_of gs m ns limit next) h
 held_shown gs m ns limit next w h = by (held_at m h) refl ∙ ap with_limit (sym (get_lines m h))
   where
-    with_limit : Option (List Line) → Option Held
+    with_limit : Option (List Line) → Option RingView
     with_limit o = option_map (λ lines. record { limit = limit; lines = lines }) o
 
-    by : (o : Option Held) → held_at m h ≡ o → held_at m h ≡ with_limit (option_map (λ (x : Held). x.lines) (held_at m h))
+    by : (o : Option RingView) → held_at m h ≡ o → held_at m h ≡ with_limit (option_map (λ (x : RingView). x.lines) (held_at m h))
     by None e = rw e refl
     by (Some x) e = rw e (λ i. Some (record { limit = (w.fit h x e).limited i; lines = x.lines }))
 
 -- ---- changes of the groups alone
 
-pub grouped : (w v : World) (h : Handle) (what : What) (gs hs : Groups) (kind : EventKind) (name : List ℕ) (ls fs : List Handle) (told : Notice)
+pub grouped : (w v : World) (h : Handle) (what : What) (gs hs : EntryGroups) (kind : EventKind) (name : List ℕ) (ls fs : List Handle) (told : Notice)
     → w ≡ v → Apart w → gs ≡ hs → refusal_of w h what ≡ None → after_of w h what ≡ with_groups w hs
     → ((b : World) → notice_of w b h what ≡ notice_at kind h b.groups [] (flips_between w b))
     → name ≡ name_in (buffer_of h w.groups) → name_in (buffer_of h hs) ≡ name_in (buffer_of h w.groups)
@@ -75,17 +75,17 @@ grouped w v h what gs hs kind name ls fs told is apart g r a n e k t l f =
     let flips : flips_between w (with_groups w hs) ≡ [] = no_flips_between w (with_groups w hs) apart (λ q. no_flips w.next (lines_at w q) (apart q)) in
     let read : told_at kind h gs name ls fs ≡ told_at kind h hs (name_in (buffer_of h hs)) [] [] = λ i. told_at kind h (g i) ((e ∙ sym k) i) (l i) (f i) in
     let meant : told_at kind h hs (name_in (buffer_of h hs)) [] [] ≡ notice_at kind h hs [] (flips_between w (with_groups w hs)) = ap (notice_at kind h hs []) (sym flips) in
-    let behind : notice_of w (with_groups w hs) h what ≡ notice_of w (after_of w h what) h what = ap (λ b. notice_of w b h what) (sym a) in
+    let following : notice_of w (with_groups w hs) h what ≡ notice_of w (after_of w h what) h what = ap (λ b. notice_of w b h what) (sym a) in
     subst (λ v. Accepted v (record { buffer = h; what = what }) (with_groups w gs) told) is (record {
       accepted = r;
       after = ap (with_groups w) g ∙ sym a;
-      notice = t ∙ read ∙ meant ∙ sym (n (with_groups w hs)) ∙ behind;
+      notice = t ∙ read ∙ meant ∙ sym (n (with_groups w hs)) ∙ following;
     })
 
-kept_name : (h : Handle) (gs hs : Groups) → row_of handle_of h.0 hs ≡ row_of handle_of h.0 gs → name_in (buffer_of h hs) ≡ name_in (buffer_of h gs)
+kept_name : (h : Handle) (gs hs : EntryGroups) → row_of handle_of h.0 hs ≡ row_of handle_of h.0 gs → name_in (buffer_of h hs) ≡ name_in (buffer_of h gs)
 kept_name h gs hs e = ap (λ (o : Option BufferEntry). name_in (option_map (λ (x : BufferEntry). x.row) o)) e
 
-changed_name : (h : Handle) (F : BufferEntry → BufferEntry) (gs : Groups) → ((x : BufferEntry) → handle_of (F x) ≡ handle_of x) → ((x : BufferEntry) → (F x).row.full_name ≡ x.row.full_name) → name_in (buffer_of h (changed h F gs)) ≡ name_in (buffer_of h gs)
+changed_name : (h : Handle) (F : BufferEntry → BufferEntry) (gs : EntryGroups) → ((x : BufferEntry) → handle_of (F x) ≡ handle_of x) → ((x : BufferEntry) → (F x).row.full_name ≡ x.row.full_name) → name_in (buffer_of h (with_entry h F gs)) ≡ name_in (buffer_of h gs)
 changed_name h F gs same name = ap (λ (o : Option BufferEntry). name_in (option_map (λ (x : BufferEntry). x.row) o)) (row_of-update handle_of h.0 F same gs) ∙ by (entry_of h gs)
   where
     by : (o : Option BufferEntry) → name_in (option_map (λ (x : BufferEntry). x.row) (option_map F o)) ≡ name_in (option_map (λ (x : BufferEntry). x.row) o)
@@ -95,45 +95,45 @@ changed_name h F gs same name = ap (λ (o : Option BufferEntry). name_in (option
 accepted_by : (o : Option BufferRefused) → o ≡ None → of_buffers o ≡ None
 accepted_by o e = ap of_buffers e
 
-module _ (w v : World) (h : Handle) (gs : Groups) (name : List ℕ) (ls fs : List Handle) (told : Notice) (is : w ≡ v) (apart : Apart w) (e : name ≡ name_in (buffer_of h w.groups)) (l : ls ≡ []) (f : fs ≡ []) where
-  pub moved_done : (n : ℕ) → gs ≡ moved h n w.groups → move_refusal h n w.groups ≡ None → told ≡ told_at kinds.Moved h gs name ls fs → Accepted v (record { buffer = h; what = MoveTo n }) (with_groups w gs) told
+module _ (w v : World) (h : Handle) (gs : EntryGroups) (name : List ℕ) (ls fs : List Handle) (told : Notice) (is : w ≡ v) (apart : Apart w) (e : name ≡ name_in (buffer_of h w.groups)) (l : ls ≡ []) (f : fs ≡ []) where
+  pub moved_done : (n : ℕ) → gs ≡ move_group_to h n w.groups → move_refusal h n w.groups ≡ None → told ≡ told_at kinds.Moved h gs name ls fs → Accepted v (record { buffer = h; what = MoveTo n }) (with_groups w gs) told
   unfolding refusal_of after_of
-  moved_done n g r t = grouped w v h (MoveTo n) gs (moved h n w.groups) kinds.Moved name ls fs told is apart g (accepted_by _ r) refl (λ b. refl) e (kept_name h w.groups (moved h n w.groups) (row_of-move handle_of h.0 (n - 1) w.groups)) t l f
+  moved_done n g r t = grouped w v h (MoveTo n) gs (move_group_to h n w.groups) kinds.Moved name ls fs told is apart g (accepted_by _ r) refl (λ b. refl) e (kept_name h w.groups (move_group_to h n w.groups) (row_of-move handle_of h.0 (n - 1) w.groups)) t l f
 
-  pub merged_done : (into : Handle) → gs ≡ merged h into w.groups → merge_refusal h into w.groups ≡ None → told ≡ told_at kinds.Merged h gs name ls fs → Accepted v (record { buffer = h; what = MergeInto into }) (with_groups w gs) told
+  pub merged_done : (into : Handle) → gs ≡ merge_groups h into w.groups → merge_refusal h into w.groups ≡ None → told ≡ told_at kinds.Merged h gs name ls fs → Accepted v (record { buffer = h; what = MergeInto into }) (with_groups w gs) told
   unfolding refusal_of after_of
   merged_done into g r t =
       let good = merge_good h into w.groups r in
-      grouped w v h (MergeInto into) gs (merged h into w.groups) kinds.Merged name ls fs told is apart g (accepted_by _ r) refl (λ b. refl) e
-      (kept_name h w.groups (merged h into w.groups) (row_of-merge handle_of h.0 into.0 w.groups good.0 good.1 (merged_apart handle_of h.0 into.0 w.groups good.0 good.2))) t l f
+      grouped w v h (MergeInto into) gs (merge_groups h into w.groups) kinds.Merged name ls fs told is apart g (accepted_by _ r) refl (λ b. refl) e
+      (kept_name h w.groups (merge_groups h into w.groups) (row_of-merge handle_of h.0 into.0 w.groups good.0 good.1 (merged_apart handle_of h.0 into.0 w.groups good.0 good.2))) t l f
 
-  pub unmerged_done : gs ≡ unmerged h w.groups → unmerge_refusal h w.groups ≡ None → told ≡ told_at kinds.Unmerged h gs name ls fs → Accepted v (record { buffer = h; what = Unmerge }) (with_groups w gs) told
+  pub unmerged_done : gs ≡ unmerge_group h w.groups → unmerge_refusal h w.groups ≡ None → told ≡ told_at kinds.Unmerged h gs name ls fs → Accepted v (record { buffer = h; what = Unmerge }) (with_groups w gs) told
   unfolding refusal_of after_of
-  unmerged_done g r t = grouped w v h Unmerge gs (unmerged h w.groups) kinds.Unmerged name ls fs told is apart g (accepted_by _ r) refl (λ b. refl) e (kept_name h w.groups (unmerged h w.groups) (row_of-unmerge handle_of h.0 w.groups)) t l f
+  unmerged_done g r t = grouped w v h Unmerge gs (unmerge_group h w.groups) kinds.Unmerged name ls fs told is apart g (accepted_by _ r) refl (λ b. refl) e (kept_name h w.groups (unmerge_group h w.groups) (row_of-unmerge handle_of h.0 w.groups)) t l f
 
-  pub hidden_done : gs ≡ changed h (with_hidden true) w.groups → no_buffer h w.groups ≡ None → told ≡ told_at kinds.Hidden h gs name ls fs → Accepted v (record { buffer = h; what = Hide }) (with_groups w gs) told
+  pub hidden_done : gs ≡ with_entry h (with_hidden true) w.groups → no_buffer h w.groups ≡ None → told ≡ told_at kinds.Hidden h gs name ls fs → Accepted v (record { buffer = h; what = Hide }) (with_groups w gs) told
   unfolding refusal_of after_of
-  hidden_done g r t = grouped w v h Hide gs (changed h (with_hidden true) w.groups) kinds.Hidden name ls fs told is apart g (accepted_by _ r) refl (λ b. refl) e (changed_name h (with_hidden true) w.groups (λ x. refl) (λ x. refl)) t l f
+  hidden_done g r t = grouped w v h Hide gs (with_entry h (with_hidden true) w.groups) kinds.Hidden name ls fs told is apart g (accepted_by _ r) refl (λ b. refl) e (changed_name h (with_hidden true) w.groups (λ x. refl) (λ x. refl)) t l f
 
-  pub unhidden_done : gs ≡ changed h (with_hidden false) w.groups → no_buffer h w.groups ≡ None → told ≡ told_at kinds.Unhidden h gs name ls fs → Accepted v (record { buffer = h; what = Unhide }) (with_groups w gs) told
+  pub unhidden_done : gs ≡ with_entry h (with_hidden false) w.groups → no_buffer h w.groups ≡ None → told ≡ told_at kinds.Unhidden h gs name ls fs → Accepted v (record { buffer = h; what = Unhide }) (with_groups w gs) told
   unfolding refusal_of after_of
-  unhidden_done g r t = grouped w v h Unhide gs (changed h (with_hidden false) w.groups) kinds.Unhidden name ls fs told is apart g (accepted_by _ r) refl (λ b. refl) e (changed_name h (with_hidden false) w.groups (λ x. refl) (λ x. refl)) t l f
+  unhidden_done g r t = grouped w v h Unhide gs (with_entry h (with_hidden false) w.groups) kinds.Unhidden name ls fs told is apart g (accepted_by _ r) refl (λ b. refl) e (changed_name h (with_hidden false) w.groups (λ x. refl) (λ x. refl)) t l f
 
-  pub short_name_done : (short : List ℕ) → gs ≡ changed h (with_short_name short) w.groups → short_name_refusal h short w.groups ≡ None → told ≡ told_at kinds.Renamed h gs name ls fs → Accepted v (record { buffer = h; what = ShortName short }) (with_groups w gs) told
+  pub short_name_done : (short : List ℕ) → gs ≡ with_entry h (with_short_name short) w.groups → short_name_refusal h short w.groups ≡ None → told ≡ told_at kinds.Renamed h gs name ls fs → Accepted v (record { buffer = h; what = ShortName short }) (with_groups w gs) told
   unfolding refusal_of after_of
-  short_name_done short g r t = grouped w v h (ShortName short) gs (changed h (with_short_name short) w.groups) kinds.Renamed name ls fs told is apart g (accepted_by _ r) refl (λ b. refl) e (changed_name h (with_short_name short) w.groups (λ x. refl) (λ x. refl)) t l f
+  short_name_done short g r t = grouped w v h (ShortName short) gs (with_entry h (with_short_name short) w.groups) kinds.Renamed name ls fs told is apart g (accepted_by _ r) refl (λ b. refl) e (changed_name h (with_short_name short) w.groups (λ x. refl) (λ x. refl)) t l f
 
-  pub title_done : (title : List ℕ) → gs ≡ changed h (with_title (cut_to 1024 title)) w.groups → no_buffer h w.groups ≡ None → told ≡ told_at kinds.TitleChanged h gs name ls fs → Accepted v (record { buffer = h; what = Title title }) (with_groups w gs) told
+  pub title_done : (title : List ℕ) → gs ≡ with_entry h (with_title (cut_to 1024 title)) w.groups → no_buffer h w.groups ≡ None → told ≡ told_at kinds.TitleChanged h gs name ls fs → Accepted v (record { buffer = h; what = Title title }) (with_groups w gs) told
   unfolding refusal_of after_of
-  title_done title g r t = grouped w v h (Title title) gs (changed h (with_title (cut_to 1024 title)) w.groups) kinds.TitleChanged name ls fs told is apart g (accepted_by _ r) refl (λ b. refl) e (changed_name h (with_title (cut_to 1024 title)) w.groups (λ x. refl) (λ x. refl)) t l f
+  title_done title g r t = grouped w v h (Title title) gs (with_entry h (with_title (cut_to 1024 title)) w.groups) kinds.TitleChanged name ls fs told is apart g (accepted_by _ r) refl (λ b. refl) e (changed_name h (with_title (cut_to 1024 title)) w.groups (λ x. refl) (λ x. refl)) t l f
 
-  pub set_var_done : (var : Pair) (new : Bool) → gs ≡ changed h (with_var var.name var.value) w.groups → set_var_refusal h var.name w.groups ≡ None → new ≡ lacks_var var.name (entry_of h w.groups) → told ≡ told_at (var_kind new) h gs name ls fs → Accepted v (record { buffer = h; what = SetVar var }) (with_groups w gs) told
+  pub set_var_done : (var : Pair) (new : Bool) → gs ≡ with_entry h (with_var var.name var.value) w.groups → set_var_refusal h var.name w.groups ≡ None → new ≡ lacks_var var.name (entry_of h w.groups) → told ≡ told_at (var_kind new) h gs name ls fs → Accepted v (record { buffer = h; what = SetVar var }) (with_groups w gs) told
   unfolding refusal_of after_of
-  set_var_done var new g r k t = grouped w v h (SetVar var) gs (changed h (with_var var.name var.value) w.groups) (var_kind (lacks_var var.name (entry_of h w.groups))) name ls fs told is apart g (accepted_by _ r) refl (λ b. refl) e (changed_name h (with_var var.name var.value) w.groups (λ x. refl) (λ x. refl)) (t ∙ ap (λ b. told_at (var_kind b) h gs name ls fs) k) l f
+  set_var_done var new g r k t = grouped w v h (SetVar var) gs (with_entry h (with_var var.name var.value) w.groups) (var_kind (lacks_var var.name (entry_of h w.groups))) name ls fs told is apart g (accepted_by _ r) refl (λ b. refl) e (changed_name h (with_var var.name var.value) w.groups (λ x. refl) (λ x. refl)) (t ∙ ap (λ b. told_at (var_kind b) h gs name ls fs) k) l f
 
-  pub remove_var_done : (var : List ℕ) → gs ≡ changed h (without_var var) w.groups → remove_var_refusal h var w.groups ≡ None → told ≡ told_at kinds.VarRemoved h gs name ls fs → Accepted v (record { buffer = h; what = RemoveVar var }) (with_groups w gs) told
+  pub remove_var_done : (var : List ℕ) → gs ≡ with_entry h (without_var var) w.groups → remove_var_refusal h var w.groups ≡ None → told ≡ told_at kinds.VarRemoved h gs name ls fs → Accepted v (record { buffer = h; what = RemoveVar var }) (with_groups w gs) told
   unfolding refusal_of after_of
-  remove_var_done var g r t = grouped w v h (RemoveVar var) gs (changed h (without_var var) w.groups) kinds.VarRemoved name ls fs told is apart g (accepted_by _ r) refl (λ b. refl) e (changed_name h (without_var var) w.groups (λ x. refl) (λ x. refl)) t l f
+  remove_var_done var g r t = grouped w v h (RemoveVar var) gs (with_entry h (without_var var) w.groups) kinds.VarRemoved name ls fs told is apart g (accepted_by _ r) refl (λ b. refl) e (changed_name h (without_var var) w.groups (λ x. refl) (λ x. refl)) t l f
 
 -- ---- changes of the lines of one buffer
 
@@ -168,21 +168,21 @@ lined w v b h what ms next kind name ls fs own told is apart r c a n none e t l 
     let flips = inserted_flips w u h.0 ms apart refl none in
     let read : told_at kind h w.groups name ls fs ≡ told_at kind h w.groups (name_in (buffer_of h w.groups)) own [] = λ i. told_at kind h w.groups (e i) (l i) (f i) in
     let meant : told_at kind h w.groups (name_in (buffer_of h w.groups)) own [] ≡ notice_at kind h w.groups own (flips_between w u) = ap (notice_at kind h w.groups own) (sym flips) in
-    let behind : notice_of w u h what ≡ notice_of w (after_of w h what) h what = ap (λ b. notice_of w b h what) (sym a) in
+    let following : notice_of w u h what ≡ notice_of w (after_of w h what) h what = ap (λ b. notice_of w b h what) (sym a) in
     subst (λ v. Accepted v (record { buffer = h; what = what }) b told) is (record {
       accepted = r;
       after = c ∙ sym a;
-      notice = t ∙ read ∙ meant ∙ sym (n u) ∙ behind;
+      notice = t ∙ read ∙ meant ∙ sym (n u) ∙ following;
     })
 
-module _ {S T : Type 0} (gs : Groups) (m : HashMap ℕ Held S) (n : HashMap ℕ Held T) (ns : FinMap nat_cmp (List Row)) (limit next : ℕ) (w : IsWorld gs m limit next) (h : Handle) where
-  there : is_there h gs ≡ true → (x : Held) × (held_at m h.0 ≡ Some x)
+module _ {S T : Type 0} (gs : EntryGroups) (m : HashMap ℕ RingView S) (n : HashMap ℕ RingView T) (ns : FinMap nat_cmp (List Row)) (limit next : ℕ) (w : IsWorld gs m limit next) (h : Handle) where
+  there : is_there h gs ≡ true → (x : RingView) × (held_at m h.0 ≡ Some x)
   there t = some_held (held_at m h.0) (w.stored h.0 ∙ t)
 
-  lines_there : (x : Held) → held_at m h.0 ≡ Some x → lines_at (world_of gs m ns limit next) h.0 ≡ x.lines
-  lines_there x e = ap (λ o. unwrap_or o []) (get_lines m h.0 ∙ ap (option_map (λ (x : Held). x.lines)) e)
+  lines_there : (x : RingView) → held_at m h.0 ≡ Some x → lines_at (world_of gs m ns limit next) h.0 ≡ x.lines
+  lines_there x e = ap (λ o. unwrap_or o []) (get_lines m h.0 ∙ ap (option_map (λ (x : RingView). x.lines)) e)
 
-  pub cleared_done : (v : World) (name : List ℕ) (ls fs : List Handle) (told : Notice) → world_of gs m ns limit next ≡ v → is_there h gs ≡ true → IsChangedAt h.0 without_lines m n
+  pub cleared_done : (v : World) (name : List ℕ) (ls fs : List Handle) (told : Notice) → world_of gs m ns limit next ≡ v → is_there h gs ≡ true → IsHeldChanged h.0 without_lines m n
       → name ≡ name_in (buffer_of h gs) → told ≡ told_at kinds.Cleared h gs name ls fs → ls ≡ [] → fs ≡ [] → Accepted v (record { buffer = h; what = Clear }) (world_of gs n ns limit next) told
   unfolding refusal_of after_of
   cleared_done v name ls fs told is t c e k l f =
@@ -191,7 +191,7 @@ module _ {S T : Type 0} (gs : Groups) (m : HashMap ℕ Held S) (n : HashMap ℕ 
       lined (world_of gs m ns limit next) v (world_of gs n ns limit next) h Clear [] next kinds.Cleared name ls fs [] told is (are_apart gs m ns limit next w)
       (rw t refl) (λ i. record { groups = gs; lines = lines i; nicks = ns; limit = limit; next = next }) refl (λ b. refl) refl e k l f
 
-  pub printed_done : (v : World) (spec : LineSpec) (name : List ℕ) (ls fs : List Handle) (told : Notice) → world_of gs m ns limit next ≡ v → is_there h gs ≡ true → next < 2 ^ 62 → IsChangedAt h.0 (λ x. with_line x (line_of next spec)) m n
+  pub printed_done : (v : World) (spec : LineSpec) (name : List ℕ) (ls fs : List Handle) (told : Notice) → world_of gs m ns limit next ≡ v → is_there h gs ≡ true → next < 2 ^ 62 → IsHeldChanged h.0 (λ x. with_line x (line_of next spec)) m n
       → name ≡ name_in (buffer_of h gs) → told ≡ told_at kinds.LineAdded h gs name ls fs → ls ≡ record { 0 = next } ∷ [] → fs ≡ [] → Accepted v (record { buffer = h; what = Print spec }) (world_of gs n ns limit (next + 2)) told
   unfolding refusal_of after_of
   printed_done v spec name ls fs told is t below c e k l f =
@@ -211,7 +211,7 @@ module _ {S T : Type 0} (gs : Groups) (m : HashMap ℕ Held S) (n : HashMap ℕ 
 
 -- ---- what holds of a world still holds
 
-pub kept_groups : {S : Type 0} (gs hs : Groups) (m : HashMap ℕ Held S) (limit next : ℕ) → ((q : ℕ) → has handle_of q hs ≡ has handle_of q gs) → IsWorld gs m limit next → IsWorld hs m limit next
+pub kept_groups : {S : Type 0} (gs hs : EntryGroups) (m : HashMap ℕ RingView S) (limit next : ℕ) → ((q : ℕ) → has handle_of q hs ≡ has handle_of q gs) → IsWorld gs m limit next → IsWorld hs m limit next
 kept_groups gs hs m limit next e w = record {
   stored = λ q. w.stored q ∙ sym (e q);
   fit = w.fit;
@@ -222,13 +222,13 @@ kept_groups gs hs m limit next e w = record {
   ended = w.ended;
 }
 
-pub kept_grouped : {S T : Type 0} (gs hs : Groups) (m : HashMap ℕ Held S) (k : HashMap ℕ Nicks T) (limit next count : ℕ) → ((q : ℕ) → has handle_of q hs ≡ has handle_of q gs) → IsWorld gs m limit next × AreNicks gs k count → IsWorld hs m limit next × AreNicks hs k count
+pub kept_grouped : {S T : Type 0} (gs hs : EntryGroups) (m : HashMap ℕ RingView S) (k : HashMap ℕ Nicks T) (limit next count : ℕ) → ((q : ℕ) → has handle_of q hs ≡ has handle_of q gs) → IsWorld gs m limit next × AreNicks gs k count → IsWorld hs m limit next × AreNicks hs k count
 kept_grouped gs hs m k limit next count e w = (kept_groups gs hs m limit next e w.0, kept_nicks gs hs k count e w.1)
 
 pub same_some : {A : Type 0} (x y : A) → Some x ≡ Some y → x ≡ y
 same_some x y e = ap (λ o. unwrap_or o x) e
 
-pub kept_changed : {S T : Type 0} (gs : Groups) (m : HashMap ℕ Held S) (n : HashMap ℕ Held T) (limit next next2 : ℕ) (h : ℕ) (f : Held → Held) → IsChangedAt h f m n → ((x : Held) → IsHeld limit next x → IsHeld limit next2 (f x)) → next ≤ next2 → next2 ≤ 2 ^ 62 + 1 → IsWorld gs m limit next → IsWorld gs n limit next2
+pub kept_changed : {S T : Type 0} (gs : EntryGroups) (m : HashMap ℕ RingView S) (n : HashMap ℕ RingView T) (limit next next2 : ℕ) (h : ℕ) (f : RingView → RingView) → IsHeldChanged h f m n → ((x : RingView) → IsHeldBuffer limit next x → IsHeldBuffer limit next2 (f x)) → next ≤ next2 → next2 ≤ 2 ^ 62 + 1 → IsWorld gs m limit next → IsWorld gs n limit next2
 kept_changed gs m n limit next next2 h f c keeps le most w = record {
   stored = λ q. ap is_some (c q) ∙ still q ∙ w.stored q;
   fit = λ q y e. by_bool (eqb h q) _ (λ t. here (held_at m q) y (w.fit q) (let z = sym (c q) ∙ e in rw t at z)) (λ t. grown y (w.fit q y (let z = sym (c q) ∙ e in rw t at z)));
@@ -239,27 +239,27 @@ kept_changed gs m n limit next next2 h f c keeps le most w = record {
   ended = most;
 }
   where
-    mapped : (o : Option Held) → is_some (option_map f o) ≡ is_some o
+    mapped : (o : Option RingView) → is_some (option_map f o) ≡ is_some o
     mapped None = refl
     mapped (Some x) = refl
 
     still : (q : ℕ) → is_some (cond (eqb h q) (option_map f (held_at m q)) (held_at m q)) ≡ is_some (held_at m q)
     still q = by_bool (eqb h q) _ (λ t. rw t (mapped (held_at m q))) (λ t. rw t refl)
 
-    grown : (x : Held) → IsHeld limit next x → IsHeld limit next2 x
+    grown : (x : RingView) → IsHeldBuffer limit next x → IsHeldBuffer limit next2 x
     grown x i = record { limited = i.limited; apart = apart_more next next2 x.lines (omega arith) i.apart }
 
-    here : (o : Option Held) (y : Held) → ((x : Held) → o ≡ Some x → IsHeld limit next x) → option_map f o ≡ Some y → IsHeld limit next2 y
+    here : (o : Option RingView) (y : RingView) → ((x : RingView) → o ≡ Some x → IsHeldBuffer limit next x) → option_map f o ≡ Some y → IsHeldBuffer limit next2 y
     here None y i e = absurd cc
-    here (Some x) y i e = subst (IsHeld limit next2) (same_some (f x) y e) (keeps x (i x refl))
+    here (Some x) y i e = subst (IsHeldBuffer limit next2) (same_some (f x) y e) (keeps x (i x refl))
 
-pub kept_cleared : {S T : Type 0} (gs : Groups) (m : HashMap ℕ Held S) (n : HashMap ℕ Held T) (limit next : ℕ) (h : ℕ) → IsChangedAt h without_lines m n → IsWorld gs m limit next → IsWorld gs n limit next
+pub kept_cleared : {S T : Type 0} (gs : EntryGroups) (m : HashMap ℕ RingView S) (n : HashMap ℕ RingView T) (limit next : ℕ) (h : ℕ) → IsHeldChanged h without_lines m n → IsWorld gs m limit next → IsWorld gs n limit next
 kept_cleared gs m n limit next h c w = kept_changed gs m n limit next next h without_lines c (λ x i. record { limited = i.limited; apart = tt }) (omega arith) w.ended w
 
-pub kept_printed : {S T : Type 0} (gs : Groups) (m : HashMap ℕ Held S) (n : HashMap ℕ Held T) (limit next : ℕ) (h : ℕ) (line : Line) → line.content.0 ≡ next + 1 → next < 2 ^ 62 → IsChangedAt h (λ x. with_line x line) m n → IsWorld gs m limit next → IsWorld gs n limit (next + 2)
+pub kept_printed : {S T : Type 0} (gs : EntryGroups) (m : HashMap ℕ RingView S) (n : HashMap ℕ RingView T) (limit next : ℕ) (h : ℕ) (line : Line) → line.content.0 ≡ next + 1 → next < 2 ^ 62 → IsHeldChanged h (λ x. with_line x line) m n → IsWorld gs m limit next → IsWorld gs n limit (next + 2)
 kept_printed gs m n limit next h line e below c w = kept_changed gs m n limit next (next + 2) h (λ x. with_line x line) c (λ x i. record { limited = i.limited; apart = apart_printed next (next + 2) x.limit line x.lines i.apart (omega arith) (omega arith) }) (omega arith) (omega arith) w
 
-pub kept_stored : {S T : Type 0} (gs hs : Groups) (m : HashMap ℕ Held S) (n : HashMap ℕ Held T) (limit next : ℕ) → hs ≡ gs → ((q : ℕ) → held_at n q ≡ held_at m q) → IsWorld gs m limit next → IsWorld hs n limit next
+pub kept_stored : {S T : Type 0} (gs hs : EntryGroups) (m : HashMap ℕ RingView S) (n : HashMap ℕ RingView T) (limit next : ℕ) → hs ≡ gs → ((q : ℕ) → held_at n q ≡ held_at m q) → IsWorld gs m limit next → IsWorld hs n limit next
 kept_stored gs hs m n limit next e s w = subst (λ g. IsWorld g n limit next) (sym e) (record {
   stored = λ q. ap is_some (s q) ∙ w.stored q;
   fit = λ q x f. w.fit q x (sym (s q) ∙ f);
@@ -271,7 +271,7 @@ kept_stored gs hs m n limit next e s w = subst (λ g. IsWorld g n limit next) (s
 })
 
 -- handles were drawn
-pub kept_drawn : {S : Type 0} (gs : Groups) (m : HashMap ℕ Held S) (limit next next2 : ℕ) → next ≤ next2 → next2 ≤ 2 ^ 62 + 1 → IsWorld gs m limit next → IsWorld gs m limit next2
+pub kept_drawn : {S : Type 0} (gs : EntryGroups) (m : HashMap ℕ RingView S) (limit next next2 : ℕ) → next ≤ next2 → next2 ≤ 2 ^ 62 + 1 → IsWorld gs m limit next → IsWorld gs m limit next2
 kept_drawn gs m limit next next2 le most w = record {
   stored = w.stored;
   fit = λ q x e. (let i = w.fit q x e in record { limited = i.limited; apart = apart_more next next2 x.lines (omega arith) i.apart });
@@ -283,6 +283,6 @@ kept_drawn gs m limit next next2 le most w = record {
 }
 
 -- memory was taken
-pub kept_reserved : {S T U V : Type 0} (gs hs : Groups) (m : HashMap ℕ Held S) (n : HashMap ℕ Held T) (k : HashMap ℕ Nicks U) (l : HashMap ℕ Nicks V) (limit next count : ℕ)
+pub kept_reserved : {S T U V : Type 0} (gs hs : EntryGroups) (m : HashMap ℕ RingView S) (n : HashMap ℕ RingView T) (k : HashMap ℕ Nicks U) (l : HashMap ℕ Nicks V) (limit next count : ℕ)
     → hs ≡ gs → ((q : ℕ) → held_at n q ≡ held_at m q) → ((q : ℕ) → list_at l q ≡ list_at k q) → IsWorld gs m limit next × AreNicks gs k count → IsWorld hs n limit next × AreNicks hs l count
 kept_reserved gs hs m n k l limit next count g s t w = (kept_stored gs hs m n limit next g s w.0, kept_shown gs hs k l count g (same_lists k l t) w.1)

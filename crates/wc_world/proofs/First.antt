@@ -8,13 +8,13 @@ use Rattle.std.proofs.lemmas.Bool.{and_parts, ltb-true}
 use Rattle.std.specs.List.{list_all}
 use Rattle.std.specs.Map.{lookup}
 use Rattle.std.proofs.lemmas.Str.{IsUtf8-from_ascii}
-use Rattle.wc_buffers.specs.Kept.{HasText}
-use Rattle.wc_lines.specs.Held.{Held, no_lines}
-use Rattle.wc_buffers.specs.Calls.{Groups, handle_of, added}
+use Rattle.wc_buffers.specs.Kept.{HasUtf8Row}
+use Rattle.wc_lines.specs.Held.{RingView, no_lines}
+use Rattle.wc_buffers.specs.Calls.{EntryGroups, handle_of, with_buffer}
 use Rattle.wc_buffers.specs.Groups.{has}
 use Rattle.wc_buffers.proofs.GroupLaws.{by_bool}
 use Rattle.wc_model.specs.World.{core_row, first_world}
-use Rattle.wc_world.specs.Kept.{held_at, lines_map, world_of, IsWorld, IsHeld}
+use Rattle.wc_world.specs.Kept.{held_at, lines_map, world_of, IsWorld, IsHeldBuffer}
 use Rattle.wc_world.proofs.HeldLemmas.{put_lines}
 use Rattle.wc_world.proofs.Done.{same_some}
 
@@ -22,14 +22,14 @@ or_false : (b : Bool) → cond b true false ≡ b
 or_false true = refl
 or_false false = refl
 
-pub has_core : (q : ℕ) → has handle_of q (added core_row [] []) ≡ eqb 1 q
+pub has_core : (q : ℕ) → has handle_of q (with_buffer core_row [] []) ≡ eqb 1 q
 has_core q = by_bool (eqb 1 q) _ (λ t. rw t refl) (λ t. rw t refl)
 
-pub first_kept : {S : Type 0} (gs : Groups) (n : HashMap ℕ Held S) (limit : ℕ) → gs ≡ added core_row [] [] → ((q : ℕ) → held_at n q ≡ cond (eqb 1 q) (Some (no_lines limit)) None) → 1 ≤ limit → limit ≤ 4096 → IsWorld gs n limit 5
+pub first_kept : {S : Type 0} (gs : EntryGroups) (n : HashMap ℕ RingView S) (limit : ℕ) → gs ≡ with_buffer core_row [] [] → ((q : ℕ) → held_at n q ≡ cond (eqb 1 q) (Some (no_lines limit)) None) → 1 ≤ limit → limit ≤ 4096 → IsWorld gs n limit 5
 first_kept gs n limit g c some most = subst (λ g. IsWorld g n limit 5) (sym g) (record {
   stored = λ q. ap is_some (c q) ∙ still q ∙ sym (has_core q);
   fit = λ q x f. by_bool (eqb 1 q) _
-      (λ t. (let z : Some (no_lines limit) ≡ Some x = (let y = sym (c q) ∙ f in rw t at y) in subst (IsHeld limit 5) (same_some (no_lines limit) x z) (record { limited = refl; apart = tt })))
+      (λ t. (let z : Some (no_lines limit) ≡ Some x = (let y = sym (c q) ∙ f in rw t at y) in subst (IsHeldBuffer limit 5) (same_some (no_lines limit) x z) (record { limited = refl; apart = tt })))
       (λ t. absurd (let z : None ≡ Some x = (let y = sym (c q) ∙ f in rw t at y) in cc));
   below = λ q t. (let z = eqb-true 1 q (sym (has_core q) ∙ t) in omega arith);
   some = some;
@@ -41,12 +41,12 @@ first_kept gs n limit g c some most = subst (λ g. IsWorld g n limit 5) (sym g) 
     still : (q : ℕ) → is_some (cond (eqb 1 q) (Some (no_lines limit)) None) ≡ eqb 1 q
     still q = by_bool (eqb 1 q) _ (λ t. rw t refl) (λ t. rw t refl)
 
-pub none_held : {S : Type 0} (m : HashMap ℕ Held S) (q : ℕ) → m.entries ≡ [] → held_at m q ≡ None
-none_held m q none = ap (λ (es : List (ℕ × Held)). lookup (eqb q) es) none
+pub none_held : {S : Type 0} (m : HashMap ℕ RingView S) (q : ℕ) → m.entries ≡ [] → held_at m q ≡ None
+none_held m q none = ap (λ (es : List (ℕ × RingView)). lookup (eqb q) es) none
 
-pub first_is : {S T : Type 0} (gs : Groups) (m : HashMap ℕ Held S) (n : HashMap ℕ Held T) (ms : FinMap nat_cmp (List Row)) (limit : ℕ) → m.entries ≡ [] → gs ≡ added core_row [] [] → ((q : ℕ) → held_at n q ≡ cond (eqb 1 q) (Some (no_lines limit)) (held_at m q)) → ms ≡ insert empty 1 [] → world_of gs n ms limit 5 ≡ first_world limit
+pub first_is : {S T : Type 0} (gs : EntryGroups) (m : HashMap ℕ RingView S) (n : HashMap ℕ RingView T) (ms : FinMap nat_cmp (List Row)) (limit : ℕ) → m.entries ≡ [] → gs ≡ with_buffer core_row [] [] → ((q : ℕ) → held_at n q ≡ cond (eqb 1 q) (Some (no_lines limit)) (held_at m q)) → ms ≡ insert empty 1 [] → world_of gs n ms limit 5 ≡ first_world limit
 first_is gs m n ms limit none g c k =
-    let nothing : lines_map m ≡ empty = ap (λ (es : List (ℕ × Held)). from_entries (map (λ e. (e.0, e.1.lines)) es)) none in
+    let nothing : lines_map m ≡ empty = ap (λ (es : List (ℕ × RingView)). from_entries (map (λ e. (e.0, e.1.lines)) es)) none in
     let lines : lines_map n ≡ insert empty 1 [] = put_lines m n 1 (no_lines limit) c ∙ ap (λ l. insert l 1 []) nothing in
     λ i. record { groups = g i; lines = lines i; nicks = k i; limit = limit; next = 5 }
 
@@ -55,7 +55,7 @@ ascii [] e i = omega arith
 ascii (b ∷ text) e zero = let a = and_parts (ltb b 128) (list_all (λ b. ltb b 128) text) e in ltb-true b 128 a.0
 ascii (b ∷ text) e (suc i) = let a = and_parts (ltb b 128) (list_all (λ b. ltb b 128) text) e in ascii text a.1 i
 
-pub core_text : HasText core_row
+pub core_text : HasUtf8Row core_row
 core_text = record {
   full_name = IsUtf8-from_ascii core_row.full_name (ascii core_row.full_name refl);
   short_name = IsUtf8-from_ascii core_row.short_name (ascii core_row.short_name refl);

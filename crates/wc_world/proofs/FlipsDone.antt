@@ -12,12 +12,12 @@ use Rattle.std.proofs.lemmas.Bool.{false≢true, true≢false}
 use Rattle.std.proofs.lemmas.List.{map-append}
 use Rattle.wc_text.specs.declared.names.Handle.{Handle}
 use Rattle.wc_lines.specs.declared.line.Line.{Line}
-use Rattle.wc_lines.specs.Flags.{flagged, with_flags}
-use Rattle.wc_lines.specs.Held.{Held}
+use Rattle.wc_lines.specs.Flags.{with_own_flag, with_flags}
+use Rattle.wc_lines.specs.Held.{RingView}
 use Rattle.wc_lines.specs.Ring.{has_content}
 use Rattle.wc_buffers.specs.declared.entry.BufferEntry.{BufferEntry}
 use Rattle.wc_buffers.specs.declared.refused.BufferRefused.{BufferRefused}
-use Rattle.wc_buffers.specs.Calls.{Groups, Answers, handle_of, is_there, buffer_of, changed, rename_refusal, with_full_name}
+use Rattle.wc_buffers.specs.Calls.{EntryGroups, AnswersRefusal, handle_of, is_there, buffer_of, with_entry, rename_refusal, with_full_name}
 use Rattle.wc_buffers.specs.Groups.{rows, has}
 use Rattle.wc_buffers.proofs.GroupLaws.{by_bool, list_any-map}
 use Rattle.wc_buffers.proofs.RefusalLemmas.{rename_good}
@@ -30,10 +30,10 @@ use Rattle.wc_model.specs.declared.refused.ChangeRefused.{ChangeRefused}
 use Rattle.wc_model.specs.declared.refused.ChangeRefused.TheVariants.{Buffer, Nick, NoLine, TooManyRows, Spent, NoMemory}
 use Rattle.wc_model.specs.World.{World, lines_at}
 use Rattle.wc_model.specs.Order.{order}
-use Rattle.wc_model.specs.Apply.{refusal, refusal_of, after_of, no_line, flipped, flip_all, with_groups}
+use Rattle.wc_model.specs.Apply.{refusal, refusal_of, after_of, no_line, with_flips, flip_all, with_groups}
 use Rattle.wc_model.specs.Notices.{Outcome, Accepted, flips_in, flips_between, name_in, notice_at}
-use Rattle.wc_world.specs.Flips.{last_flag, differing, all_differing, stored_lines, is_stored, stands_in}
-use Rattle.wc_world.specs.Kept.{held_at, lines_map, world_of, IsWorld, IsHeld}
+use Rattle.wc_world.specs.Flips.{last_flag, differing_handles, all_differing, stored_lines, is_stored, lies_in}
+use Rattle.wc_world.specs.Kept.{held_at, lines_map, world_of, IsWorld, IsHeldBuffer}
 use Rattle.wc_world.specs.Nicks.{AreNicks}
 use Rattle.wc_world.specs.Told.{told_at}
 use Rattle.wc_world.proofs.Done.{are_apart, kept_groups, same_some}
@@ -71,7 +71,7 @@ pub flips_refused : (v : World) (h : Handle) (flips : List Flip) (e : ChangeRefu
 unfolding refusal_of
 flips_refused v h flips e r = r
 
-pub rename_refused : (v : World) (h : Handle) (name : List ℕ) (flips : List Flip) (e : BufferRefused) → Answers (rename_refusal h name v.groups) (Some e) → e ≢ BufferRefused.NoMemory → refusal_of v h (Rename name flips) ≡ Some (Buffer e)
+pub rename_refused : (v : World) (h : Handle) (name : List ℕ) (flips : List Flip) (e : BufferRefused) → AnswersRefusal (rename_refusal h name v.groups) (Some e) → e ≢ BufferRefused.NoMemory → refusal_of v h (Rename name flips) ≡ Some (Buffer e)
 unfolding refusal_of
 rename_refused v h name flips e a n = rw (sym (a (λ p. n (same_some e BufferRefused.NoMemory p)))) refl
 
@@ -84,10 +84,10 @@ rename_flips_refused v h name flips e n r = rw n r
 abbrev pub refused_at : Option Handle → Option ChangeRefused
 refused_at o = option_map (λ (h : Handle). NoLine h) o
 
-stored_shown : {S : Type 0} (gs : Groups) (m : HashMap ℕ Held S) (nk : FinMap nat_cmp (List Row)) (limit next buffer : ℕ) → stored_lines m buffer ≡ lines_at (world_of gs m nk limit next) buffer
+stored_shown : {S : Type 0} (gs : EntryGroups) (m : HashMap ℕ RingView S) (nk : FinMap nat_cmp (List Row)) (limit next buffer : ℕ) → stored_lines m buffer ≡ lines_at (world_of gs m nk limit next) buffer
 stored_shown gs m nk limit next buffer = ap (λ o. unwrap_or o []) (sym (get_lines m buffer))
 
-module _ {S : Type 0} (gs : Groups) (m : HashMap ℕ Held S) (nk : FinMap nat_cmp (List Row)) (limit next : ℕ) (v : World) (is : world_of gs m nk limit next ≡ v) (flips : List Flip) (ns : List ℕ) (ordered : ns ≡ order gs) where
+module _ {S : Type 0} (gs : EntryGroups) (m : HashMap ℕ RingView S) (nk : FinMap nat_cmp (List Row)) (limit next : ℕ) (v : World) (is : world_of gs m nk limit next ≡ v) (flips : List Flip) (ns : List ℕ) (ordered : ns ≡ order gs) where
   pub first_refused : (first : Option Handle) → first ≡ option_map (λ (flip : Flip). flip.content) (find (λ (flip : Flip). not (is_stored m ns flip.content.0)) flips) → no_line flips v ≡ refused_at first
   first_refused first e =
       let meant : no_line flips (world_of gs m nk limit next) ≡ option_map (λ (flip : Flip). NoLine flip.content) (find (λ (flip : Flip). not (is_stored m ns flip.content.0)) flips) =
@@ -98,26 +98,26 @@ module _ {S : Type 0} (gs : Groups) (m : HashMap ℕ Held S) (nk : FinMap nat_cm
       split None = refl
       split (Some flip) = refl
 
-  pub found_all : (flags : ℕ → Option Bool) (found : List Handle) → ((c : ℕ) → flags c ≡ last_flag flips c) → found ≡ all_differing flags m ns → found ≡ flat_map (λ buffer. differing (last_flag flips) (lines_at v buffer)) (order v.groups)
+  pub found_all : (flags : ℕ → Option Bool) (found : List Handle) → ((c : ℕ) → flags c ≡ last_flag flips c) → found ≡ all_differing flags m ns → found ≡ flat_map (λ buffer. differing_handles (last_flag flips) (lines_at v buffer)) (order v.groups)
   found_all flags found last e =
       e
-      ∙ (λ i. flat_map (λ buffer. differing (λ c. last c i) (stored_shown gs m nk limit next buffer i)) (ordered i))
-      ∙ ap (λ (w : World). flat_map (λ buffer. differing (last_flag flips) (lines_at w buffer)) (order w.groups)) is
+      ∙ (λ i. flat_map (λ buffer. differing_handles (λ c. last c i) (stored_shown gs m nk limit next buffer i)) (ordered i))
+      ∙ ap (λ (w : World). flat_map (λ buffer. differing_handles (last_flag flips) (lines_at w buffer)) (order w.groups)) is
 
 -- ---- the lines of all buffers
 
-stands : (q : ℕ) (gs : Groups) → stands_in q (order gs) ≡ has handle_of q gs
+stands : (q : ℕ) (gs : EntryGroups) → lies_in q (order gs) ≡ has handle_of q gs
 stands q gs = list_any-map handle_of (λ n. eqb n q) (λ x. eqb (handle_of x) q) (λ x. refl) (rows gs) ∙ in_rows handle_of q gs
 
-no_held : (o : Option Held) → is_some o ≡ false → o ≡ None
+no_held : (o : Option RingView) → is_some o ≡ false → o ≡ None
 no_held None e = refl
 no_held (Some x) e = absurd (true≢false e)
 
 -- the flags are set at each buffer that is there, and so at all that is held
-pub all_set : {S T : Type 0} (gs : Groups) (m : HashMap ℕ Held S) (n : HashMap ℕ Held T) (limit next : ℕ) (flips : List Flip) (flags : ℕ → Option Bool) (ns : List ℕ) → IsWorld gs m limit next → ns ≡ order gs → ((c : ℕ) → flags c ≡ last_flag flips c)
-    → ((q : ℕ) → held_at n q ≡ cond (stands_in q ns) (option_map (with_flags flags) (held_at m q)) (held_at m q)) → (q : ℕ) → held_at n q ≡ option_map (with_flags (last_flag flips)) (held_at m q)
+pub all_set : {S T : Type 0} (gs : EntryGroups) (m : HashMap ℕ RingView S) (n : HashMap ℕ RingView T) (limit next : ℕ) (flips : List Flip) (flags : ℕ → Option Bool) (ns : List ℕ) → IsWorld gs m limit next → ns ≡ order gs → ((c : ℕ) → flags c ≡ last_flag flips c)
+    → ((q : ℕ) → held_at n q ≡ cond (lies_in q ns) (option_map (with_flags flags) (held_at m q)) (held_at m q)) → (q : ℕ) → held_at n q ≡ option_map (with_flags (last_flag flips)) (held_at m q)
 all_set gs m n limit next flips flags ns w ordered last each q =
-    let test : stands_in q ns ≡ has handle_of q gs = ap (stands_in q) ordered ∙ stands q gs in
+    let test : lies_in q ns ≡ has handle_of q gs = ap (lies_in q) ordered ∙ stands q gs in
     each q
     ∙ (λ i. cond (test i) (option_map (with_flags (λ c. last c i)) (held_at m q)) (held_at m q))
     ∙ by_bool (has handle_of q gs) _
@@ -128,58 +128,58 @@ find_mapped : (F : List Line → List Line) (q : ℕ) (es : List (ℕ × List Li
 find_mapped F q [] = refl
 find_mapped F q (e ∷ es) = by_bool (eq_by_cmp nat_cmp q e.0) _ (λ t. rw t refl) (λ t. rw t (find_mapped F q es))
 
-get_flipped : (flips : List Flip) (w : World) (q : ℕ) → get (flip_all flips w).lines q ≡ option_map (flipped flips) (get w.lines q)
+get_flipped : (flips : List Flip) (w : World) (q : ℕ) → get (flip_all flips w).lines q ≡ option_map (with_flips flips) (get w.lines q)
 get_flipped flips w q =
-    get-from_entries nat_cmp_total (map (λ e. (e.0, flipped flips e.1)) (entries w.lines)) q
-    ∙ find_mapped (flipped flips) q (entries w.lines)
-    ∙ ap (option_map (flipped flips)) (sym (get-entries w.lines q))
+    get-from_entries nat_cmp_total (map (λ e. (e.0, with_flips flips e.1)) (entries w.lines)) q
+    ∙ find_mapped (with_flips flips) q (entries w.lines)
+    ∙ ap (option_map (with_flips flips)) (sym (get-entries w.lines q))
 
 order_group : (f : BufferEntry → BufferEntry) → ((x : BufferEntry) → handle_of (f x) ≡ handle_of x) → (g : List BufferEntry) → map handle_of (map f g) ≡ map handle_of g
 order_group f same [] = refl
 order_group f same (x ∷ xs) = λ i. same x i ∷ order_group f same xs i
 
-order_mapped : (f : BufferEntry → BufferEntry) → ((x : BufferEntry) → handle_of (f x) ≡ handle_of x) → (gs : Groups) → order (map (map f) gs) ≡ order gs
+order_mapped : (f : BufferEntry → BufferEntry) → ((x : BufferEntry) → handle_of (f x) ≡ handle_of x) → (gs : EntryGroups) → order (map (map f) gs) ≡ order gs
 order_mapped f same [] = refl
 order_mapped f same (g ∷ gs) = map-append handle_of (map f g) (rows (map (map f) gs)) ∙ (λ i. order_group f same g i ++ order_mapped f same gs i) ∙ sym (map-append handle_of g (rows gs))
 
-order_renamed : (h : Handle) (name : List ℕ) (gs : Groups) → order (changed h (with_full_name name) gs) ≡ order gs
+order_renamed : (h : Handle) (name : List ℕ) (gs : EntryGroups) → order (with_entry h (with_full_name name) gs) ≡ order gs
 order_renamed h name gs = order_mapped (λ x. cond (eqb (handle_of x) h.0) (with_full_name name x) x) (λ x. by_bool (eqb (handle_of x) h.0) _ (λ t. rw t refl) (λ t. rw t refl)) gs
 
-name_renamed : (h : Handle) (name : List ℕ) (gs : Groups) → is_there h gs ≡ true → name_in (buffer_of h (changed h (with_full_name name) gs)) ≡ name
+name_renamed : (h : Handle) (name : List ℕ) (gs : EntryGroups) → is_there h gs ≡ true → name_in (buffer_of h (with_entry h (with_full_name name) gs)) ≡ name
 name_renamed h name gs t =
     let row = some_row handle_of h.0 gs t in
     ap (λ (o : Option BufferEntry). name_in (option_map (λ (x : BufferEntry). x.row) o)) (row_of-update handle_of h.0 (with_full_name name) (λ x. refl) gs ∙ ap (option_map (with_full_name name)) row.1)
 
-module _ {S T : Type 0} (gs : Groups) (m : HashMap ℕ Held S) (n : HashMap ℕ Held T) (nk : FinMap nat_cmp (List Row)) (limit next : ℕ) (w : IsWorld gs m limit next) (flips : List Flip) (set : (q : ℕ) → held_at n q ≡ option_map (with_flags (last_flag flips)) (held_at m q)) where
+module _ {S T : Type 0} (gs : EntryGroups) (m : HashMap ℕ RingView S) (n : HashMap ℕ RingView T) (nk : FinMap nat_cmp (List Row)) (limit next : ℕ) (w : IsWorld gs m limit next) (flips : List Flip) (set : (q : ℕ) → held_at n q ≡ option_map (with_flags (last_flag flips)) (held_at m q)) where
   lines_flipped : lines_map n ≡ (flip_all flips (world_of gs m nk limit next)).lines
   lines_flipped = same_map nat_cmp_total nat_cmp-IsAntisymmetric (lines_map n) (flip_all flips (world_of gs m nk limit next)).lines each
     where
-      by : (q : ℕ) (o : Option Held) → held_at m q ≡ o → option_map (λ (x : Held). x.lines) (option_map (with_flags (last_flag flips)) o) ≡ option_map (flipped flips) (option_map (λ (x : Held). x.lines) o)
+      by : (q : ℕ) (o : Option RingView) → held_at m q ≡ o → option_map (λ (x : RingView). x.lines) (option_map (with_flags (last_flag flips)) o) ≡ option_map (with_flips flips) (option_map (λ (x : RingView). x.lines) o)
       by q None e = refl
       by q (Some x) e = ap (λ ls. Some ls) (sym (flipped_last next flips x.lines (w.fit q x e).apart))
 
       each : (q : ℕ) → get (lines_map n) q ≡ get (flip_all flips (world_of gs m nk limit next)).lines q
       each q =
           get_lines n q
-          ∙ ap (option_map (λ (x : Held). x.lines)) (set q)
+          ∙ ap (option_map (λ (x : RingView). x.lines)) (set q)
           ∙ by q (held_at m q) refl
-          ∙ ap (option_map (flipped flips)) (sym (get_lines m q))
+          ∙ ap (option_map (with_flips flips)) (sym (get_lines m q))
           ∙ sym (get_flipped flips (world_of gs m nk limit next) q)
 
-  at_flagged : (hs : Groups) (b : ℕ) → lines_at (world_of hs n nk limit next) b ≡ map (flagged (last_flag flips)) (lines_at (world_of gs m nk limit next) b)
+  at_flagged : (hs : EntryGroups) (b : ℕ) → lines_at (world_of hs n nk limit next) b ≡ map (with_own_flag (last_flag flips)) (lines_at (world_of gs m nk limit next) b)
   at_flagged hs b =
-      ap (λ o. unwrap_or o []) (get_lines n b ∙ ap (option_map (λ (x : Held). x.lines)) (set b))
+      ap (λ o. unwrap_or o []) (get_lines n b ∙ ap (option_map (λ (x : RingView). x.lines)) (set b))
       ∙ by (held_at m b)
-      ∙ ap (λ o. map (flagged (last_flag flips)) (unwrap_or o [])) (sym (get_lines m b))
+      ∙ ap (λ o. map (with_own_flag (last_flag flips)) (unwrap_or o [])) (sym (get_lines m b))
     where
-      by : (o : Option Held) → unwrap_or (option_map (λ (x : Held). x.lines) (option_map (with_flags (last_flag flips)) o)) [] ≡ map (flagged (last_flag flips)) (unwrap_or (option_map (λ (x : Held). x.lines) o) [])
+      by : (o : Option RingView) → unwrap_or (option_map (λ (x : RingView). x.lines) (option_map (with_flags (last_flag flips)) o)) [] ≡ map (with_own_flag (last_flag flips)) (unwrap_or (option_map (λ (x : RingView). x.lines) o) [])
       by None = refl
       by (Some x) = refl
 
-  flips_shown : (hs : Groups) → order hs ≡ order gs → flips_between (world_of gs m nk limit next) (world_of hs n nk limit next) ≡ flat_map (λ buffer. differing (last_flag flips) (lines_at (world_of gs m nk limit next) buffer)) (order gs)
+  flips_shown : (hs : EntryGroups) → order hs ≡ order gs → flips_between (world_of gs m nk limit next) (world_of hs n nk limit next) ≡ flat_map (λ buffer. differing_handles (last_flag flips) (lines_at (world_of gs m nk limit next) buffer)) (order gs)
   flips_shown hs same =
       let old = world_of gs m nk limit next in
-      let each : (b : ℕ) → flips_in (lines_at old b) (lines_at (world_of hs n nk limit next) b) ≡ differing (last_flag flips) (lines_at old b) =
+      let each : (b : ℕ) → flips_in (lines_at old b) (lines_at (world_of hs n nk limit next) b) ≡ differing_handles (last_flag flips) (lines_at old b) =
       λ b. ap (flips_in (lines_at old b)) (at_flagged hs b) ∙ flips_found (last_flag flips) next (lines_at old b) (are_apart gs m nk limit next w b) in
       λ i. flat_map (λ b. each b i) (same i)
 
@@ -194,18 +194,18 @@ module _ {S T : Type 0} (gs : Groups) (m : HashMap ℕ Held S) (n : HashMap ℕ 
     ended = w.ended;
   }
     where
-      still : (o : Option Held) → is_some (option_map (with_flags (last_flag flips)) o) ≡ is_some o
+      still : (o : Option RingView) → is_some (option_map (with_flags (last_flag flips)) o) ≡ is_some o
       still None = refl
       still (Some x) = refl
 
-      here : (o : Option Held) (y : Held) → ((x : Held) → o ≡ Some x → IsHeld limit next x) → option_map (with_flags (last_flag flips)) o ≡ Some y → IsHeld limit next y
+      here : (o : Option RingView) (y : RingView) → ((x : RingView) → o ≡ Some x → IsHeldBuffer limit next x) → option_map (with_flags (last_flag flips)) o ≡ Some y → IsHeldBuffer limit next y
       here None y fit e = absurd cc
-      here (Some x) y fit e = subst (IsHeld limit next) (same_some (with_flags (last_flag flips) x) y e) (record { limited = (fit x refl).limited; apart = apart_flagged (last_flag flips) next x.lines (fit x refl).apart })
+      here (Some x) y fit e = subst (IsHeldBuffer limit next) (same_some (with_flags (last_flag flips) x) y e) (record { limited = (fit x refl).limited; apart = apart_flagged (last_flag flips) next x.lines (fit x refl).apart })
 
-  module _ (v : World) (h : Handle) (is : world_of gs m nk limit next ≡ v) (all_held : no_line flips v ≡ None) (ls fs : List Handle) (told : Notice) (l : ls ≡ []) (found : fs ≡ flat_map (λ buffer. differing (last_flag flips) (lines_at v buffer)) (order v.groups)) where
+  module _ (v : World) (h : Handle) (is : world_of gs m nk limit next ≡ v) (all_held : no_line flips v ≡ None) (ls fs : List Handle) (told : Notice) (l : ls ≡ []) (found : fs ≡ flat_map (λ buffer. differing_handles (last_flag flips) (lines_at v buffer)) (order v.groups)) where
     -- what was found is what differs between the two worlds
-    flips_told : (hs : Groups) → order hs ≡ order gs → fs ≡ flips_between (world_of gs m nk limit next) (world_of hs n nk limit next)
-    flips_told hs same = found ∙ sym (ap (λ (u : World). flat_map (λ buffer. differing (last_flag flips) (lines_at u buffer)) (order u.groups)) is) ∙ sym (flips_shown hs same)
+    flips_told : (hs : EntryGroups) → order hs ≡ order gs → fs ≡ flips_between (world_of gs m nk limit next) (world_of hs n nk limit next)
+    flips_told hs same = found ∙ sym (ap (λ (u : World). flat_map (λ buffer. differing_handles (last_flag flips) (lines_at u buffer)) (order u.groups)) is) ∙ sym (flips_shown hs same)
 
     pub flips_done : (name : List ℕ) → name ≡ name_in (buffer_of (record { 0 = 0 }) gs) → told ≡ told_at kinds.LineDataChanged (record { 0 = 0 }) gs name ls fs
         → Accepted v (record { buffer = h; what = Flips flips }) (world_of gs n nk limit next) told
@@ -220,13 +220,13 @@ module _ {S T : Type 0} (gs : Groups) (m : HashMap ℕ Held S) (n : HashMap ℕ 
           notice = t ∙ read ∙ ap (λ (u : World). notice_at kinds.LineDataChanged (record { 0 = 0 }) u.groups [] (flips_between old u)) after;
         })
 
-    pub rename_done : (hs : Groups) (name : List ℕ) → rename_refusal h name gs ≡ None → hs ≡ changed h (with_full_name name) gs → told ≡ told_at kinds.Renamed h hs name ls fs
+    pub rename_done : (hs : EntryGroups) (name : List ℕ) → rename_refusal h name gs ≡ None → hs ≡ with_entry h (with_full_name name) gs → told ≡ told_at kinds.Renamed h hs name ls fs
         → Accepted v (record { buffer = h; what = Rename name flips }) (world_of hs n nk limit next) told
     unfolding refusal_of after_of
     rename_done hs name r g t =
         let old = world_of gs m nk limit next in
         let named : name ≡ name_in (buffer_of h hs) = sym (ap (λ gs. name_in (buffer_of h gs)) g ∙ name_renamed h name gs (rename_good h name gs r).0) in
-        let after : world_of hs n nk limit next ≡ flip_all flips (with_groups old (changed h (with_full_name name) gs)) = λ i. record { groups = g i; lines = lines_flipped i; nicks = nk; limit = limit; next = next } in
+        let after : world_of hs n nk limit next ≡ flip_all flips (with_groups old (with_entry h (with_full_name name) gs)) = λ i. record { groups = g i; lines = lines_flipped i; nicks = nk; limit = limit; next = next } in
         let read : told_at kinds.Renamed h hs name ls fs ≡ notice_at kinds.Renamed h hs [] (flips_between old (world_of hs n nk limit next)) = λ i. told_at kinds.Renamed h hs (named i) (l i) (flips_told hs (ap order g ∙ order_renamed h name gs) i) in
         subst (λ v. Accepted v (record { buffer = h; what = Rename name flips }) (world_of hs n nk limit next) told) is (record {
           accepted = rw r (ap (no_line flips) is ∙ all_held);
@@ -234,8 +234,8 @@ module _ {S T : Type 0} (gs : Groups) (m : HashMap ℕ Held S) (n : HashMap ℕ 
           notice = t ∙ read ∙ ap (λ (u : World). notice_at kinds.Renamed h u.groups [] (flips_between old u)) after;
         })
 
-pub kept_renamed : {S : Type 0} (gs hs : Groups) (m : HashMap ℕ Held S) (limit next : ℕ) (h : Handle) (name : List ℕ) → hs ≡ changed h (with_full_name name) gs → IsWorld gs m limit next → IsWorld hs m limit next
+pub kept_renamed : {S : Type 0} (gs hs : EntryGroups) (m : HashMap ℕ RingView S) (limit next : ℕ) (h : Handle) (name : List ℕ) → hs ≡ with_entry h (with_full_name name) gs → IsWorld gs m limit next → IsWorld hs m limit next
 kept_renamed gs hs m limit next h name g w = kept_groups gs hs m limit next (λ q. ap (has handle_of q) g ∙ has-update handle_of h.0 (with_full_name name) (λ x. refl) q gs) w
 
-pub nicks_renamed : {S : Type 0} (gs hs : Groups) (k : HashMap ℕ Nicks S) (count : ℕ) (h : Handle) (name : List ℕ) → hs ≡ changed h (with_full_name name) gs → AreNicks gs k count → AreNicks hs k count
+pub nicks_renamed : {S : Type 0} (gs hs : EntryGroups) (k : HashMap ℕ Nicks S) (count : ℕ) (h : Handle) (name : List ℕ) → hs ≡ with_entry h (with_full_name name) gs → AreNicks gs k count → AreNicks hs k count
 nicks_renamed gs hs k count h name g w = kept_nicks gs hs k count (λ q. ap (has handle_of q) g ∙ has-update handle_of h.0 (with_full_name name) (λ x. refl) q gs) w

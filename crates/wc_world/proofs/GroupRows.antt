@@ -5,7 +5,7 @@ use Rattle.std.proofs.lemmas.Bool.{false≢true, or_parts}
 use Rattle.std.proofs.lemmas.List.{map-append}
 use Rattle.std.proofs.lemmas.List.Concat.{flat_map-append}
 use Rattle.std.proofs.lemmas.List.Folds.{list_any-append}
-use Rattle.wc_buffers.specs.Groups.{filled, rows, in_group, has, row_of, times, without, only, update, take_out, pick, append_to, merge, others, own, move_group, part, unmerge}
+use Rattle.wc_buffers.specs.Groups.{filled_groups, rows, in_group, has, row_of, times, without, only, update, take_out, pick, append_to, merge, others, own, move_group, part, unmerge}
 use Rattle.wc_buffers.proofs.GroupLaws.{by_bool, filled-some, has_tells, times-take_out, has_from_times, times-move_group, times-unmerge, times-update}
 
 abbrev pub or_some : {A : Type 0} → Option A → Option A → Option A
@@ -75,7 +75,7 @@ module _ {A : Type 0} (key : A → ℕ) where
       ∙ or_some-none (row_of key h (own key h gs))
       ∙ row_of-own h gs
 
-  -- ---- a row that is put behind those of another group
+  -- ---- a row that is put after those of another group
 
   found-only : (h : ℕ) (g : List A) → found h (only key h g) ≡ found h g
   found-only h [] = refl
@@ -158,7 +158,7 @@ module _ {A : Type 0} (key : A → ℕ) where
 
   -- ---- a row that gets a group of its own
 
-  rows-filled : (gs : List (List A)) → rows (filled gs) ≡ rows gs
+  rows-filled : (gs : List (List A)) → rows (filled_groups gs) ≡ rows gs
   rows-filled [] = refl
   rows-filled ([] ∷ gs) = rows-filled gs
   rows-filled ((x ∷ xs) ∷ gs) = ap rows (filled-some x xs gs) ∙ ap (λ r. (x ∷ xs) ++ r) (rows-filled gs)

@@ -10,11 +10,11 @@ use Rattle.std.proofs.lemmas.Bool.{false≢true}
 use Rattle.wc_nicklist.specs.declared.item.Row.{Row}
 use Rattle.wc_nicklist.specs.Rows.{Nicks, IsRows}
 use Rattle.wc_text.specs.declared.names.Handle.{Handle}
-use Rattle.wc_buffers.specs.Calls.{Groups, handle_of}
+use Rattle.wc_buffers.specs.Calls.{EntryGroups, handle_of}
 use Rattle.wc_buffers.specs.Groups.{has}
 use Rattle.wc_buffers.proofs.GroupLaws.{by_bool}
 use Rattle.wc_model.specs.World.{root_at, count_rows, row_limit}
-use Rattle.wc_world.specs.Nicks.{list_at, rows_of, room_of, rows_map, shown_list, with_room, edited, AreSameRows, IsListChangedAt, AreCut, IsList, AreNicks}
+use Rattle.wc_world.specs.Nicks.{list_at, rows_of, room_of, rows_map, shown_list, with_room, with_edit, AreSameRows, IsListChangedAt, AreCut, IsList, AreNicks}
 use Rattle.wc_world.proofs.Counted.{some_rows, count-insert, count-remove}
 use Rattle.wc_world.proofs.MapLemmas.{get_shown, same_shown, put_shown, removed_shown, map_in_cond}
 
@@ -74,7 +74,7 @@ some_list (Some x) e = (x, refl)
 
 -- ---- what holds of the nicklists still holds
 
-pub kept_nicks : {S : Type 0} (gs hs : Groups) (m : HashMap ℕ Nicks S) (count : ℕ) → ((q : ℕ) → has handle_of q hs ≡ has handle_of q gs) → AreNicks gs m count → AreNicks hs m count
+pub kept_nicks : {S : Type 0} (gs hs : EntryGroups) (m : HashMap ℕ Nicks S) (count : ℕ) → ((q : ℕ) → has handle_of q hs ≡ has handle_of q gs) → AreNicks gs m count → AreNicks hs m count
 kept_nicks gs hs m count e w = record {
   stored = λ q. w.stored q ∙ sym (e q);
   fit = w.fit;
@@ -86,7 +86,7 @@ none_held : IsRows []
 none_held = record { ascending = tt; keyed = tt; held = λ k r e. absurd cc }
 
 -- the rows of each buffer are rows that a nicklist can hold
-pub all_held : {S : Type 0} (gs : Groups) (m : HashMap ℕ Nicks S) (count : ℕ) → AreNicks gs m count → (b : ℕ) → IsRows (some_rows (get (rows_map m) b))
+pub all_held : {S : Type 0} (gs : EntryGroups) (m : HashMap ℕ Nicks S) (count : ℕ) → AreNicks gs m count → (b : ℕ) → IsRows (some_rows (get (rows_map m) b))
 all_held gs m count w b = subst IsRows (sym (rows_there m b)) (by (list_at m b) (w.fit b))
   where
     by : (o : Option Nicks) → ((x : Nicks) → o ≡ Some x → IsList b x) → IsRows (rows_of o)
@@ -94,7 +94,7 @@ all_held gs m count w b = subst IsRows (sym (rows_there m b)) (by (list_at m b) 
     by (Some x) f = (f x refl).held
 
 -- where roots and rows are the same
-pub kept_shown : {S T : Type 0} (gs hs : Groups) (m : HashMap ℕ Nicks S) (n : HashMap ℕ Nicks T) (count : ℕ) → hs ≡ gs → AreSameRows m n → AreNicks gs m count → AreNicks hs n count
+pub kept_shown : {S T : Type 0} (gs hs : EntryGroups) (m : HashMap ℕ Nicks S) (n : HashMap ℕ Nicks T) (count : ℕ) → hs ≡ gs → AreSameRows m n → AreNicks gs m count → AreNicks hs n count
 kept_shown gs hs m n count g s w = subst (λ g. AreNicks g n count) (sym g) (record {
   stored = λ q. sym (some_shown (list_at n q)) ∙ ap is_some (s q) ∙ some_shown (list_at m q) ∙ w.stored q;
   fit = λ q x e. here q (list_at m q) x (w.fit q) (sym (s q) ∙ ap (option_map shown_list) e);
@@ -116,7 +116,7 @@ kept_shown gs hs m n count g s w = subst (λ g. AreNicks g n count) (sym g) (rec
 same_list : (x y : Nicks) → Some x ≡ Some y → x ≡ y
 same_list x y e = ap (λ o. unwrap_or o x) e
 
-module _ {S T : Type 0} (gs hs : Groups) (m : HashMap ℕ Nicks S) (n : HashMap ℕ Nicks T) (count : ℕ) (w : AreNicks gs m count) where
+module _ {S T : Type 0} (gs hs : EntryGroups) (m : HashMap ℕ Nicks S) (n : HashMap ℕ Nicks T) (count : ℕ) (w : AreNicks gs m count) where
   -- a buffer more, whose nicklist has no rows
   pub nicks_opened : (k : ℕ) (x : Nicks) → x.rows ≡ [] → x.root ≡ root_at k → list_at m k ≡ None
       → ((q : ℕ) → list_at n q ≡ cond (eqb k q) (Some x) (list_at m q)) → ((q : ℕ) → has handle_of q hs ≡ cond (eqb k q) true (has handle_of q gs)) → AreNicks hs n count
@@ -168,7 +168,7 @@ module _ {S T : Type 0} (gs hs : Groups) (m : HashMap ℕ Nicks S) (n : HashMap 
       still q = by_bool (eqb k q) _ (λ t. rw t refl) (λ t. rw t (w.stored q))
 
 -- a nicklist is put in in place of another one of the same root
-pub nicks_changed : {S T : Type 0} (gs : Groups) (m : HashMap ℕ Nicks S) (n : HashMap ℕ Nicks T) (count count2 : ℕ) (k : ℕ) (x y : Nicks)
+pub nicks_changed : {S T : Type 0} (gs : EntryGroups) (m : HashMap ℕ Nicks S) (n : HashMap ℕ Nicks T) (count count2 : ℕ) (k : ℕ) (x y : Nicks)
     → AreNicks gs m count → list_at m k ≡ Some x → ((q : ℕ) → list_at n q ≡ cond (eqb k q) (Some y) (list_at m q)) → y.root ≡ x.root → IsRows y.rows → AreCut y.rows → count2 + length x.rows ≡ count + length y.rows → count2 ≤ row_limit → AreNicks gs n count2
 nicks_changed gs m n count count2 k x y w at is root held cut sum most = record {
   stored = λ q. ap is_some (is q) ∙ still q ∙ w.stored q;
@@ -209,10 +209,10 @@ module _ {S T U : Type 0} (m : HashMap ℕ Nicks S) (n : HashMap ℕ Nicks T) (o
       by (Some x) = refl
 
   -- an edit takes the room away that was made before
-  pub through_room : (h : ℕ) (parent : List ℕ) (f : List Row → List Row) → IsListChangedAt h (with_room parent) m n → IsListChangedAt h (edited f) n o → IsListChangedAt h (edited f) m o
-  through_room h parent f a b q = b q ∙ ap (λ x. cond (eqb h q) (option_map (edited f) x) x) (a q) ∙ by_bool (eqb h q) _ (λ t. rw t (by (list_at m q))) (λ t. rw t refl)
+  pub through_room : (h : ℕ) (parent : List ℕ) (f : List Row → List Row) → IsListChangedAt h (with_room parent) m n → IsListChangedAt h (with_edit f) n o → IsListChangedAt h (with_edit f) m o
+  through_room h parent f a b q = b q ∙ ap (λ x. cond (eqb h q) (option_map (with_edit f) x) x) (a q) ∙ by_bool (eqb h q) _ (λ t. rw t (by (list_at m q))) (λ t. rw t refl)
     where
-      by : (o : Option Nicks) → option_map (edited f) (option_map (with_room parent) o) ≡ option_map (edited f) o
+      by : (o : Option Nicks) → option_map (with_edit f) (option_map (with_room parent) o) ≡ option_map (with_edit f) o
       by None = refl
       by (Some x) = refl
 
@@ -240,7 +240,7 @@ no_length (x ∷ es) e = absurd (omega arith)
 none_counted : count_rows (entries (empty {X = List Row} {R = nat_cmp})) ≡ 0
 none_counted = no_length (entries empty) (sym (len-entries empty) ∙ len-empty nat_cmp (List Row))
 
-pub first_nicks : {S T : Type 0} (hs : Groups) (m : HashMap ℕ Nicks S) (n : HashMap ℕ Nicks T) (x : Nicks) → m.entries ≡ [] → x.rows ≡ [] → x.root ≡ root_at 1
+pub first_nicks : {S T : Type 0} (hs : EntryGroups) (m : HashMap ℕ Nicks S) (n : HashMap ℕ Nicks T) (x : Nicks) → m.entries ≡ [] → x.rows ≡ [] → x.root ≡ root_at 1
     → ((q : ℕ) → list_at n q ≡ cond (eqb 1 q) (Some x) (list_at m q)) → ((q : ℕ) → has handle_of q hs ≡ eqb 1 q) → AreNicks hs n 0
 first_nicks hs m n x none rows root c h =
     let start : AreNicks [] m 0 = record {

@@ -5,7 +5,7 @@ use Rattle.std.specs.HashMap.{HashMap}
 use Rattle.std.proofs.lemmas.Bool.{true≢false}
 use borrow.Author.Tests.{ltb-false, leb-false, le-leb, lt-leb}
 use Rattle.wc_text.specs.declared.names.Handle.{Handle}
-use Rattle.wc_lines.specs.Held.{Held}
+use Rattle.wc_lines.specs.Held.{RingView}
 use Rattle.wc_nicklist.specs.declared.item.Item.{Item}
 use Rattle.wc_nicklist.specs.declared.item.Key.{Key}
 use Rattle.wc_nicklist.specs.declared.item.Row.{Row}
@@ -16,7 +16,7 @@ use Rattle.wc_nicklist.specs.Order.{key_at}
 use Rattle.wc_nicklist.specs.Rows.{Nicks, find_row, remove_row, change_row, change_found, path_below, is_root, TextsAreUtf8, IsRows}
 use Rattle.wc_nicklist.specs.Touched.{first_touch}
 use Rattle.wc_buffers.specs.declared.refused.BufferRefused.{BufferRefused}
-use Rattle.wc_buffers.specs.Calls.{Groups, no_buffer, buffer_of}
+use Rattle.wc_buffers.specs.Calls.{EntryGroups, no_buffer, buffer_of}
 use Rattle.wc_model.specs.declared.change.What.{What}
 use Rattle.wc_model.specs.declared.notice.EventKind.TheVariants as kinds
 use Rattle.wc_model.specs.declared.notice.Notice.{Notice}
@@ -26,7 +26,7 @@ use Rattle.wc_model.specs.Apply.{refusal_of, after_of, or_else, of_buffers, of_n
 use Rattle.wc_model.specs.Notices.{notice_of, notice_at, name_in, flips_between, Accepted}
 use Rattle.wc_model.specs.Touches.{touched_key, touched_at, touched_by}
 use Rattle.wc_world.specs.Kept.{world_of, IsWorld}
-use Rattle.wc_world.specs.Nicks.{list_at, rows_of, rows_map, edited, IsListChangedAt, IsCut, AreCut, AreNicks, adding, removing, changing, refused_by_nicks}
+use Rattle.wc_world.specs.Nicks.{list_at, rows_of, rows_map, with_edit, IsListChangedAt, IsCut, AreCut, AreNicks, add_of, remove_of, change_of_rows, refused_by_nicks}
 use Rattle.wc_world.specs.Told.{told_at}
 use Rattle.wc_world.proofs.Done.{are_apart, no_flips_between}
 use Rattle.wc_world.proofs.FlipLemmas.{no_flips}
@@ -40,27 +40,27 @@ use Rattle.wc_world.proofs.NickLemmas.{rows_there, rows_within, some_list, list_
 -- ---- the six kinds, by the kind of the item
 
 module _ (w : World) (h : Handle) (g : Bool) where
-  pub adding_refused : (parent : List ℕ) (item : Item) → refusal_of w h (adding g parent item) ≡ adds_row w h g parent item
+  pub adding_refused : (parent : List ℕ) (item : Item) → refusal_of w h (add_of g parent item) ≡ adds_row w h g parent item
   unfolding refusal_of
   adding_refused parent item = by g
     where
-      by : (g : Bool) → refusal_of w h (adding g parent item) ≡ adds_row w h g parent item
+      by : (g : Bool) → refusal_of w h (add_of g parent item) ≡ adds_row w h g parent item
       by true = refl
       by false = refl
 
-  pub removing_refused : (name : List ℕ) → refusal_of w h (removing g name) ≡ removes_row w h g name
+  pub removing_refused : (name : List ℕ) → refusal_of w h (remove_of g name) ≡ removes_row w h g name
   unfolding refusal_of
   removing_refused name = by g
     where
-      by : (g : Bool) → refusal_of w h (removing g name) ≡ removes_row w h g name
+      by : (g : Bool) → refusal_of w h (remove_of g name) ≡ removes_row w h g name
       by true = refl
       by false = refl
 
-  pub changing_refused : (item : Item) → refusal_of w h (changing g item) ≡ changes_row w h g item
+  pub changing_refused : (item : Item) → refusal_of w h (change_of_rows g item) ≡ changes_row w h g item
   unfolding refusal_of
   changing_refused item = by g
     where
-      by : (g : Bool) → refusal_of w h (changing g item) ≡ changes_row w h g item
+      by : (g : Bool) → refusal_of w h (change_of_rows g item) ≡ changes_row w h g item
       by true = refl
       by false = refl
 
@@ -68,27 +68,27 @@ module _ (w : World) (h : Handle) (g : Bool) where
   abbrev pub with_list : List Row → ℕ → World
   with_list rows next = record (with_rows w h rows) { next = next }
 
-  pub after_adding : (parent : List ℕ) (item : Item) → after_of w h (adding g parent item) ≡ with_list (calls.add_row g parent (item_with (record { 0 = w.next }) item) (rows_at w h.0)) (w.next + 1)
+  pub after_adding : (parent : List ℕ) (item : Item) → after_of w h (add_of g parent item) ≡ with_list (calls.add_row g parent (item_with (record { 0 = w.next }) item) (rows_at w h.0)) (w.next + 1)
   unfolding after_of
   after_adding parent item = by g
     where
-      by : (g : Bool) → after_of w h (adding g parent item) ≡ with_list (calls.add_row g parent (item_with (record { 0 = w.next }) item) (rows_at w h.0)) (w.next + 1)
+      by : (g : Bool) → after_of w h (add_of g parent item) ≡ with_list (calls.add_row g parent (item_with (record { 0 = w.next }) item) (rows_at w h.0)) (w.next + 1)
       by true = refl
       by false = refl
 
-  pub after_removing : (name : List ℕ) → after_of w h (removing g name) ≡ with_list (remove_row (key_at g name) (rows_at w h.0)) w.next
+  pub after_removing : (name : List ℕ) → after_of w h (remove_of g name) ≡ with_list (remove_row (key_at g name) (rows_at w h.0)) w.next
   unfolding after_of
   after_removing name = by g
     where
-      by : (g : Bool) → after_of w h (removing g name) ≡ with_list (remove_row (key_at g name) (rows_at w h.0)) w.next
+      by : (g : Bool) → after_of w h (remove_of g name) ≡ with_list (remove_row (key_at g name) (rows_at w h.0)) w.next
       by true = refl
       by false = refl
 
-  pub after_changing : (item : Item) → after_of w h (changing g item) ≡ with_list (change_row (key_at g item.name) (item_with (handle_in (find_row (key_at g item.name) (rows_at w h.0))) item) (rows_at w h.0)) w.next
+  pub after_changing : (item : Item) → after_of w h (change_of_rows g item) ≡ with_list (change_row (key_at g item.name) (item_with (handle_in (find_row (key_at g item.name) (rows_at w h.0))) item) (rows_at w h.0)) w.next
   unfolding after_of
   after_changing item = by g
     where
-      by : (g : Bool) → after_of w h (changing g item) ≡ with_list (change_row (key_at g item.name) (item_with (handle_in (find_row (key_at g item.name) (rows_at w h.0))) item) (rows_at w h.0)) w.next
+      by : (g : Bool) → after_of w h (change_of_rows g item) ≡ with_list (change_row (key_at g item.name) (item_with (handle_in (find_row (key_at g item.name) (rows_at w h.0))) item) (rows_at w h.0)) w.next
       by true = refl
       by false = refl
 
@@ -97,19 +97,19 @@ pub record IsNickChange (what : What) (key : Key) : Type 0 where
   pub told : (w b : World) (h : Handle) → notice_of w b h what ≡ notice_at kinds.NickTouched h b.groups [] (flips_between w b)
   pub touched : touched_key what ≡ Some key
 
-pub is_adding : (g : Bool) (parent : List ℕ) (item : Item) → IsNickChange (adding g parent item) (key_at g item.name)
+pub is_adding : (g : Bool) (parent : List ℕ) (item : Item) → IsNickChange (add_of g parent item) (key_at g item.name)
 is_adding true parent item = record { told = λ w b h. refl; touched = refl }
 is_adding false parent item = record { told = λ w b h. refl; touched = refl }
 
-pub is_removing : (g : Bool) (name : List ℕ) → IsNickChange (removing g name) (key_at g name)
+pub is_removing : (g : Bool) (name : List ℕ) → IsNickChange (remove_of g name) (key_at g name)
 is_removing true name = record { told = λ w b h. refl; touched = refl }
 is_removing false name = record { told = λ w b h. refl; touched = refl }
 
-pub is_changing : (g : Bool) (item : Item) → IsNickChange (changing g item) (key_at g item.name)
+pub is_changing : (g : Bool) (item : Item) → IsNickChange (change_of_rows g item) (key_at g item.name)
 is_changing true item = record { told = λ w b h. refl; touched = refl }
 is_changing false item = record { told = λ w b h. refl; touched = refl }
 
--- the touch of the row that stands
+-- the touch of the row that is
 pub row_touched : (w v : World) (h : Handle) (what : What) (key k : Key) (before : Option Row) (first now : Handle → Key → Option (Option Row))
     → w ≡ v → IsNickChange what key → k ≡ key → before ≡ find_row key (rows_at w h.0) → ((b : Handle) (q : Key) → now b q ≡ first_touch h k before first b q) → (b : Handle) (q : Key) → now b q ≡ touched_by v h what first b q
 row_touched w v h what key k before first now is n e f t b q =
@@ -219,15 +219,15 @@ of_list e r o is f n = by e is f
 -- ---- accepted changes
 
 -- a nicklist changed by f, seen in the world
-pub rows_put : {S T : Type 0} (m : HashMap ℕ Nicks S) (n : HashMap ℕ Nicks T) (h : ℕ) (f : List Row → List Row) → is_some (list_at m h) ≡ true → IsListChangedAt h (edited f) m n → rows_map n ≡ insert (rows_map m) h (f (unwrap_or (get (rows_map m) h) []))
+pub rows_put : {S T : Type 0} (m : HashMap ℕ Nicks S) (n : HashMap ℕ Nicks T) (h : ℕ) (f : List Row → List Row) → is_some (list_at m h) ≡ true → IsListChangedAt h (with_edit f) m n → rows_map n ≡ insert (rows_map m) h (f (unwrap_or (get (rows_map m) h) []))
 rows_put m n h f t is =
     let x = some_list (list_at m h) t in
-    put_rows m n h (edited f x.0) (list_put m n h (edited f) x.0 x.1 is)
+    put_rows m n h (with_edit f x.0) (list_put m n h (with_edit f) x.0 x.1 is)
     ∙ ap (λ rows. insert (rows_map m) h (f rows)) (sym (rows_there m h ∙ ap rows_of x.1))
 
-pub nicked : {S T U : Type 0} (gs : Groups) (m : HashMap ℕ Held S) (k : HashMap ℕ Nicks T) (l : HashMap ℕ Nicks U) (limit next next2 : ℕ) (v : World) (h : Handle) (what : What) (key : Key) (f : List Row → List Row) (name : List ℕ) (told : Notice)
+pub nicked : {S T U : Type 0} (gs : EntryGroups) (m : HashMap ℕ RingView S) (k : HashMap ℕ Nicks T) (l : HashMap ℕ Nicks U) (limit next next2 : ℕ) (v : World) (h : Handle) (what : What) (key : Key) (f : List Row → List Row) (name : List ℕ) (told : Notice)
     → IsWorld gs m limit next → world_of gs m (rows_map k) limit next ≡ v → refusal_of v h what ≡ None → IsNickChange what key
-    → is_some (list_at k h.0) ≡ true → IsListChangedAt h.0 (edited f) k l
+    → is_some (list_at k h.0) ≡ true → IsListChangedAt h.0 (with_edit f) k l
     → after_of (world_of gs m (rows_map k) limit next) h what ≡ record (with_rows (world_of gs m (rows_map k) limit next) h (f (rows_at (world_of gs m (rows_map k) limit next) h.0))) { next = next2 }
     → name ≡ name_in (buffer_of h gs) → told ≡ told_at kinds.NickTouched h gs name [] []
     → Accepted v (record { buffer = h; what = what }) (world_of gs m (rows_map l) limit next2) told
@@ -236,14 +236,14 @@ nicked gs m k l limit next next2 v h what key f name told w is r n t c a e d =
     let new : World = record (with_rows old h (f (rows_at old h.0))) { next = next2 } in
     let apart = are_apart gs m (rows_map k) limit next w in
     let rows : rows_map l ≡ insert (rows_map k) h.0 (f (rows_at old h.0)) = rows_put k l h.0 f t c in
-    let behind : world_of gs m (rows_map l) limit next2 ≡ new = ap (λ ns. world_of gs m ns limit next2) rows in
+    let following : world_of gs m (rows_map l) limit next2 ≡ new = ap (λ ns. world_of gs m ns limit next2) rows in
     let flips : flips_between old new ≡ [] = no_flips_between old new apart (λ q. no_flips next (lines_at old q) (apart q)) in
     let read : told_at kinds.NickTouched h gs name [] [] ≡ told_at kinds.NickTouched h gs (name_in (buffer_of h gs)) [] [] = ap (λ name. told_at kinds.NickTouched h gs name [] []) e in
     let meant : told_at kinds.NickTouched h gs (name_in (buffer_of h gs)) [] [] ≡ notice_at kinds.NickTouched h gs [] (flips_between old new) = ap (notice_at kinds.NickTouched h gs []) (sym flips) in
     subst (λ v. refusal_of v h what ≡ None → Accepted v (record { buffer = h; what = what }) (world_of gs m (rows_map l) limit next2) told) is
     (λ r. record {
       accepted = r;
-      after = behind ∙ sym a;
+      after = following ∙ sym a;
       notice = d ∙ read ∙ meant ∙ sym (n.told old new h) ∙ ap (λ b. notice_of old b h what) (sym a);
     }) r
 
@@ -289,16 +289,16 @@ changed_held key i rows u held = by (find_row key rows) refl
     by None e = held
     by (Some r) e = held-change rows key r i held e u
 
-module _ {S T : Type 0} (gs : Groups) (m : HashMap ℕ Nicks S) (n : HashMap ℕ Nicks T) (count : ℕ) (h : ℕ) (w : AreNicks gs m count) (t : is_some (list_at m h) ≡ true) where
-  edited_kept : (count2 : ℕ) (f : List Row → List Row) → IsListChangedAt h (edited f) m n → ((rows : List Row) → AreCut rows → AreCut (f rows)) → (IsRows (rows_of (list_at m h)) → IsRows (f (rows_of (list_at m h))))
+module _ {S T : Type 0} (gs : EntryGroups) (m : HashMap ℕ Nicks S) (n : HashMap ℕ Nicks T) (count : ℕ) (h : ℕ) (w : AreNicks gs m count) (t : is_some (list_at m h) ≡ true) where
+  edited_kept : (count2 : ℕ) (f : List Row → List Row) → IsListChangedAt h (with_edit f) m n → ((rows : List Row) → AreCut rows → AreCut (f rows)) → (IsRows (rows_of (list_at m h)) → IsRows (f (rows_of (list_at m h))))
       → count2 + length (rows_of (list_at m h)) ≡ count + length (f (rows_of (list_at m h))) → count2 ≤ row_limit → AreNicks gs n count2
   edited_kept count2 f is cut held sum most =
       let x = some_list (list_at m h) t in
       let whole : count2 + length x.0.rows ≡ count + length (f x.0.rows) = subst (λ o. count2 + length (rows_of o) ≡ count + length (f (rows_of o))) x.1 sum in
       let fits : IsRows (f x.0.rows) = subst (λ o. IsRows (rows_of o) → IsRows (f (rows_of o))) x.1 held (w.fit h x.0 x.1).held in
-      nicks_changed gs m n count count2 h x.0 (edited f x.0) w x.1 (list_put m n h (edited f) x.0 x.1 is) refl fits (cut x.0.rows (w.fit h x.0 x.1).cut) whole most
+      nicks_changed gs m n count count2 h x.0 (with_edit f x.0) w x.1 (list_put m n h (with_edit f) x.0 x.1 is) refl fits (cut x.0.rows (w.fit h x.0 x.1).cut) whole most
 
-  pub added_kept : (g : Bool) (parent : List ℕ) (item : Item) → IsListChangedAt h (edited (calls.add_row g parent item)) m n → calls.add_refusal g parent item.name (rows_of (list_at m h)) ≡ None → TextsAreUtf8 item → IsCut item → count < row_limit → AreNicks gs n (count + 1)
+  pub added_kept : (g : Bool) (parent : List ℕ) (item : Item) → IsListChangedAt h (with_edit (calls.add_row g parent item)) m n → calls.add_refusal g parent item.name (rows_of (list_at m h)) ≡ None → TextsAreUtf8 item → IsCut item → count < row_limit → AreNicks gs n (count + 1)
   added_kept g parent item is free text cut few =
       let more = added_length g parent item (rows_of (list_at m h)) free in
       edited_kept (count + 1) (calls.add_row g parent item) is (λ rows c. added_cut g parent item rows cut c) (added_held g parent item (rows_of (list_at m h)) free text) (omega (arith, more)) (omega (arith, few))
@@ -312,7 +312,7 @@ module _ {S T : Type 0} (gs : Groups) (m : HashMap ℕ Nicks S) (n : HashMap ℕ
       let within = rows_within gs gs m m count w h in
       omega (arith, some, within)
 
-  pub removed_kept : (left : ℕ) (g : Bool) (name : List ℕ) → IsListChangedAt h (edited (remove_row (key_at g name))) m n → calls.remove_refusal g name (rows_of (list_at m h)) ≡ None → left + 1 ≡ count → AreNicks gs n left
+  pub removed_kept : (left : ℕ) (g : Bool) (name : List ℕ) → IsListChangedAt h (with_edit (remove_row (key_at g name))) m n → calls.remove_refusal g name (rows_of (list_at m h)) ≡ None → left + 1 ≡ count → AreNicks gs n left
   removed_kept left g name is free less =
       let rows : IsRows (rows_of (list_at m h)) = held_there in
       let found = find_some (find_row (key_at g name) (rows_of (list_at m h))) (may_remove g name (rows_of (list_at m h)) free).stands in
@@ -320,7 +320,7 @@ module _ {S T : Type 0} (gs : Groups) (m : HashMap ℕ Nicks S) (n : HashMap ℕ
       let most = w.most in
       edited_kept left (remove_row (key_at g name)) is (λ rows c. removed_cut (key_at g name) rows c) (removed_held g name (rows_of (list_at m h)) free) (omega (arith, fewer, less)) (omega (arith, most, less))
 
-  pub changed_kept : (key : Key) (item : Item) → IsListChangedAt h (edited (change_row key item)) m n → TextsAreUtf8 item → IsCut item → AreNicks gs n count
+  pub changed_kept : (key : Key) (item : Item) → IsListChangedAt h (with_edit (change_row key item)) m n → TextsAreUtf8 item → IsCut item → AreNicks gs n count
   changed_kept key item is text cut =
       let same = length-change_row key item (rows_of (list_at m h)) in
       edited_kept count (change_row key item) is (λ rows c. changed_cut key item rows cut c) (changed_held key item (rows_of (list_at m h)) text) (omega (arith, same)) w.most

@@ -11,13 +11,13 @@ use Rattle.std.proofs.lemmas.List.{map-append}
 use Rattle.std.proofs.lemmas.List.Elements.{filter-append}
 use Rattle.std.proofs.lemmas.List.Folds.{list_any-append}
 use Rattle.wc_text.specs.declared.names.Handle.{Handle}
-use Rattle.wc_lines.specs.Held.{Held, no_lines}
+use Rattle.wc_lines.specs.Held.{RingView, no_lines}
 use Rattle.wc_buffers.specs.declared.entry.BufferEntry.{BufferEntry}
 use Rattle.wc_buffers.specs.declared.refused.BufferRefused.{BufferRefused}
 use Rattle.wc_buffers.specs.declared.row.BufferRow.{BufferRow}
 use Rattle.wc_buffers.specs.Kept.{AreBuffers}
-use Rattle.wc_buffers.specs.Calls.{Groups, handle_of, buffer_of, opened, added, closed, add_refusal, close_refusal}
-use Rattle.wc_buffers.specs.Groups.{has, in_group, row_of, without, filled, take_out, AllFilled}
+use Rattle.wc_buffers.specs.Calls.{EntryGroups, handle_of, buffer_of, new_entry, with_buffer, without_buffer, add_refusal, close_refusal}
+use Rattle.wc_buffers.specs.Groups.{has, in_group, row_of, without, filled_groups, take_out, AllFilled}
 use Rattle.wc_buffers.proofs.GroupLaws.{by_bool, filled-some}
 use Rattle.wc_buffers.specs.declared.row.BufferSpec.{BufferSpec}
 use Rattle.wc_model.specs.declared.change.What.TheVariants.{Add, Close}
@@ -26,7 +26,7 @@ use Rattle.wc_model.specs.declared.notice.Notice.{Notice}
 use Rattle.wc_model.specs.World.{World}
 use Rattle.wc_model.specs.Apply.{refusal_of, after_of, row_of as new_row, of_buffers}
 use Rattle.wc_model.specs.Notices.{notice_of, notice_at, name_in, flips_between, Accepted}
-use Rattle.wc_world.specs.Kept.{held_at, lines_map, world_of, IsWorld, IsHeld}
+use Rattle.wc_world.specs.Kept.{held_at, lines_map, world_of, IsWorld, IsHeldBuffer}
 use Rattle.wc_world.specs.Told.{told_at}
 use Rattle.wc_world.proofs.GroupRows.{or_some, row_of-append, no_row, has-take_out}
 use Rattle.wc_world.proofs.FlipLemmas.{apart_more}
@@ -34,10 +34,10 @@ use Rattle.wc_world.proofs.HeldLemmas.{put_lines, removed_lines}
 use Rattle.wc_world.proofs.Done.{are_apart, inserted_flips, removed_flips, same_some}
 
 -- no buffer has the next handle
-pub is_new : {S : Type 0} (gs : Groups) (m : HashMap ℕ Held S) (limit next : ℕ) → IsWorld gs m limit next → has handle_of next gs ≡ false
+pub is_new : {S : Type 0} (gs : EntryGroups) (m : HashMap ℕ RingView S) (limit next : ℕ) → IsWorld gs m limit next → has handle_of next gs ≡ false
 is_new gs m limit next w = by_bool (has handle_of next gs) _ (λ t. absurd (let b = w.below next t in omega arith)) (λ t. t)
 
-new_name : (k : ℕ) (e : BufferEntry) (gs : Groups) → has handle_of k gs ≡ false → handle_of e ≡ k → name_in (buffer_of (record { 0 = k }) (gs ++ (e ∷ []) ∷ [])) ≡ e.row.full_name
+new_name : (k : ℕ) (e : BufferEntry) (gs : EntryGroups) → has handle_of k gs ≡ false → handle_of e ≡ k → name_in (buffer_of (record { 0 = k }) (gs ++ (e ∷ []) ∷ [])) ≡ e.row.full_name
 new_name k e gs t s =
     let own : row_of handle_of k ((e ∷ []) ∷ []) ≡ Some e = rw (eq-eqb (handle_of e) k s) refl in
     let found : row_of handle_of k (gs ++ (e ∷ []) ∷ []) ≡ Some e = row_of-append handle_of k gs ((e ∷ []) ∷ []) ∙ ap (λ o. or_some o (row_of handle_of k ((e ∷ []) ∷ []))) (no_row handle_of k gs t) ∙ own in
@@ -52,25 +52,25 @@ or_true true = refl
 or_true false = refl
 
 -- the buffers that are there where one more is, and where one is not any more
-pub has_opened : (gs hs : Groups) (e : BufferEntry) (k : ℕ) → handle_of e ≡ k → hs ≡ gs ++ (e ∷ []) ∷ [] → (q : ℕ) → has handle_of q hs ≡ cond (eqb k q) true (has handle_of q gs)
+pub has_opened : (gs hs : EntryGroups) (e : BufferEntry) (k : ℕ) → handle_of e ≡ k → hs ≡ gs ++ (e ∷ []) ∷ [] → (q : ℕ) → has handle_of q hs ≡ cond (eqb k q) true (has handle_of q gs)
 has_opened gs hs e k s g q = ap (has handle_of q) g ∙ list_any-append (in_group handle_of q) gs ((e ∷ []) ∷ []) ∙ rw s (by_bool (eqb k q) _ (λ t. rw t (or_true (has handle_of q gs))) (λ t. rw t (or_false (has handle_of q gs))))
 
-pub has_closed : (gs hs : Groups) (h : Handle) → hs ≡ closed h gs → (q : ℕ) → has handle_of q hs ≡ cond (eqb h.0 q) false (has handle_of q gs)
+pub has_closed : (gs hs : EntryGroups) (h : Handle) → hs ≡ without_buffer h gs → (q : ℕ) → has handle_of q hs ≡ cond (eqb h.0 q) false (has handle_of q gs)
 has_closed gs hs h g q = ap (has handle_of q) g ∙ has-take_out handle_of h.0 q gs
 
-module _ {S T : Type 0} (gs hs : Groups) (m : HashMap ℕ Held S) (n : HashMap ℕ Held T) (ns ms : FinMap nat_cmp (List Row)) (limit next : ℕ) (w : IsWorld gs m limit next) (v : World) (is : world_of gs m ns limit next ≡ v) (h : Handle) (name : List ℕ) (told : Notice) where
-  pub added_done : (spec : BufferSpec) → hs ≡ added (new_row next spec) spec.vars gs → add_refusal (new_row next spec) spec.vars gs ≡ None → next + 4 ≤ 2 ^ 62 + 1
+module _ {S T : Type 0} (gs hs : EntryGroups) (m : HashMap ℕ RingView S) (n : HashMap ℕ RingView T) (ns ms : FinMap nat_cmp (List Row)) (limit next : ℕ) (w : IsWorld gs m limit next) (v : World) (is : world_of gs m ns limit next ≡ v) (h : Handle) (name : List ℕ) (told : Notice) where
+  pub added_done : (spec : BufferSpec) → hs ≡ with_buffer (new_row next spec) spec.vars gs → add_refusal (new_row next spec) spec.vars gs ≡ None → next + 4 ≤ 2 ^ 62 + 1
       → ((q : ℕ) → held_at n q ≡ cond (eqb next q) (Some (no_lines limit)) (held_at m q)) → ms ≡ insert ns next [] → name ≡ spec.full_name → told ≡ told_at kinds.Opened (record { 0 = next }) hs name [] []
       → Accepted v (record { buffer = h; what = Add spec }) (world_of hs n ms limit (next + 4)) told
   unfolding refusal_of after_of
   added_done spec g r below c k e t =
       let old = world_of gs m ns limit next in
-      let new = added (new_row next spec) spec.vars gs in
+      let new = with_buffer (new_row next spec) spec.vars gs in
       let u : World = record { groups = new; lines = insert (lines_map m) next []; nicks = insert ns next []; limit = limit; next = next + 4 } in
       let lines : lines_map n ≡ insert (lines_map m) next [] = put_lines m n next (no_lines limit) c in
       let flips : flips_between old u ≡ [] = inserted_flips old u next [] (are_apart gs m ns limit next w) refl refl in
       let room : ltb (2 ^ 62 + 1) (next + 4) ≡ false = le-ltb (2 ^ 62 + 1) (next + 4) below in
-      let named : name_in (buffer_of (record { 0 = next }) new) ≡ spec.full_name = new_name next (opened (new_row next spec) spec.vars) gs (is_new gs m limit next w) refl in
+      let named : name_in (buffer_of (record { 0 = next }) new) ≡ spec.full_name = new_name next (new_entry (new_row next spec) spec.vars) gs (is_new gs m limit next w) refl in
       let read : told_at kinds.Opened (record { 0 = next }) hs name [] [] ≡ told_at kinds.Opened (record { 0 = next }) new (name_in (buffer_of (record { 0 = next }) new)) [] [] = λ i. told_at kinds.Opened (record { 0 = next }) (g i) ((e ∙ sym named) i) [] [] in
       let meant : told_at kinds.Opened (record { 0 = next }) new (name_in (buffer_of (record { 0 = next }) new)) [] [] ≡ notice_of old u h (Add spec) = ap (notice_at kinds.Opened (record { 0 = next }) new []) (sym flips) in
       subst (λ v. Accepted v (record { buffer = h; what = Add spec }) (world_of hs n ms limit (next + 4)) told) is (record {
@@ -79,12 +79,12 @@ module _ {S T : Type 0} (gs hs : Groups) (m : HashMap ℕ Held S) (n : HashMap �
         notice = t ∙ read ∙ meant;
       })
 
-  pub closed_done : hs ≡ closed h gs → close_refusal h gs ≡ None → ((q : ℕ) → held_at n q ≡ cond (eqb h.0 q) None (held_at m q)) → ms ≡ remove ns h.0 → name ≡ name_in (buffer_of h gs) → told ≡ told_at kinds.Closing h gs name [] []
+  pub closed_done : hs ≡ without_buffer h gs → close_refusal h gs ≡ None → ((q : ℕ) → held_at n q ≡ cond (eqb h.0 q) None (held_at m q)) → ms ≡ remove ns h.0 → name ≡ name_in (buffer_of h gs) → told ≡ told_at kinds.Closing h gs name [] []
       → Accepted v (record { buffer = h; what = Close }) (world_of hs n ms limit next) told
   unfolding refusal_of after_of
   closed_done g r c k e t =
       let old = world_of gs m ns limit next in
-      let u : World = record { groups = closed h gs; lines = remove (lines_map m) h.0; nicks = remove ns h.0; limit = limit; next = next } in
+      let u : World = record { groups = without_buffer h gs; lines = remove (lines_map m) h.0; nicks = remove ns h.0; limit = limit; next = next } in
       let lines : lines_map n ≡ remove (lines_map m) h.0 = removed_lines m n h.0 c in
       let flips : flips_between old u ≡ [] = removed_flips old u h.0 (are_apart gs m ns limit next w) refl in
       let read : told_at kinds.Closing h gs name [] [] ≡ told_at kinds.Closing h gs (name_in (buffer_of h gs)) [] [] = ap (λ x. told_at kinds.Closing h gs x [] []) e in
@@ -95,14 +95,14 @@ module _ {S T : Type 0} (gs hs : Groups) (m : HashMap ℕ Held S) (n : HashMap �
         notice = t ∙ read ∙ meant;
       })
 
-  grown : (next2 : ℕ) → next ≤ next2 → (x : Held) → IsHeld limit next x → IsHeld limit next2 x
+  grown : (next2 : ℕ) → next ≤ next2 → (x : RingView) → IsHeldBuffer limit next x → IsHeldBuffer limit next2 x
   grown next2 le x i = record { limited = i.limited; apart = apart_more next next2 x.lines (omega arith) i.apart }
 
   pub kept_added : (e : BufferEntry) → handle_of e ≡ next → hs ≡ gs ++ (e ∷ []) ∷ [] → ((q : ℕ) → held_at n q ≡ cond (eqb next q) (Some (no_lines limit)) (held_at m q)) → next + 4 ≤ 2 ^ 62 + 1 → IsWorld hs n limit (next + 4)
   kept_added e s g c below = record {
     stored = λ q. ap is_some (c q) ∙ still q ∙ sym (has_new q);
     fit = λ q x f. by_bool (eqb next q) _
-        (λ t. (let z : Some (no_lines limit) ≡ Some x = (let y = sym (c q) ∙ f in rw t at y) in subst (IsHeld limit (next + 4)) (same_some (no_lines limit) x z) (record { limited = refl; apart = tt })))
+        (λ t. (let z : Some (no_lines limit) ≡ Some x = (let y = sym (c q) ∙ f in rw t at y) in subst (IsHeldBuffer limit (next + 4)) (same_some (no_lines limit) x z) (record { limited = refl; apart = tt })))
         (λ t. (let z : held_at m q ≡ Some x = (let y = sym (c q) ∙ f in rw t at y) in grown (next + 4) (omega arith) x (w.fit q x z)));
     below = λ q t. by_bool (eqb next q) _
         (λ u. (let z = eqb-true next q u in omega arith))
@@ -119,7 +119,7 @@ module _ {S T : Type 0} (gs hs : Groups) (m : HashMap ℕ Held S) (n : HashMap �
       still : (q : ℕ) → is_some (cond (eqb next q) (Some (no_lines limit)) (held_at m q)) ≡ cond (eqb next q) true (has handle_of q gs)
       still q = by_bool (eqb next q) _ (λ t. rw t refl) (λ t. rw t (w.stored q))
 
-  pub kept_closed : hs ≡ closed h gs → ((q : ℕ) → held_at n q ≡ cond (eqb h.0 q) None (held_at m q)) → IsWorld hs n limit next
+  pub kept_closed : hs ≡ without_buffer h gs → ((q : ℕ) → held_at n q ≡ cond (eqb h.0 q) None (held_at m q)) → IsWorld hs n limit next
   kept_closed g c = record {
     stored = λ q. ap is_some (c q) ∙ still q ∙ sym (has_left q);
     fit = λ q x f. by_bool (eqb h.0 q) _
@@ -146,46 +146,46 @@ lacking : (k : ℕ) (g : List BufferEntry) → in_group handle_of k g ≡ false 
 lacking k [] t = refl
 lacking k (x ∷ xs) t = let o = or_parts (eqb (handle_of x) k) (in_group handle_of k xs) t in rw o.0 (ap (λ l. x ∷ l) (lacking k xs o.1))
 
-all_lacking : (k : ℕ) (gs : Groups) → has handle_of k gs ≡ false → map (without handle_of k) gs ≡ gs
+all_lacking : (k : ℕ) (gs : EntryGroups) → has handle_of k gs ≡ false → map (without handle_of k) gs ≡ gs
 all_lacking k [] t = refl
 all_lacking k (g ∷ gs) t = let o = or_parts (in_group handle_of k g) (has handle_of k gs) t in λ i. lacking k g o.0 i ∷ all_lacking k gs o.1 i
 
-all_filled : (gs : Groups) → AllFilled gs → filled gs ≡ gs
+all_filled : (gs : EntryGroups) → AllFilled gs → filled_groups gs ≡ gs
 all_filled [] a = refl
 all_filled ([] ∷ gs) a = absurd a
 all_filled ((x ∷ xs) ∷ gs) a = filled-some x xs gs ∙ ap (λ l. (x ∷ xs) ∷ l) (all_filled gs a)
 
-pub taken_back : (k : ℕ) (e : BufferEntry) (gs : Groups) → has handle_of k gs ≡ false → handle_of e ≡ k → AllFilled gs → take_out handle_of k (gs ++ (e ∷ []) ∷ []) ≡ gs
+pub taken_back : (k : ℕ) (e : BufferEntry) (gs : EntryGroups) → has handle_of k gs ≡ false → handle_of e ≡ k → AllFilled gs → take_out handle_of k (gs ++ (e ∷ []) ∷ []) ≡ gs
 taken_back k e gs t s a =
-    let own : filled (map (without handle_of k) ((e ∷ []) ∷ [])) ≡ [] = rw (eq-eqb (handle_of e) k s) refl in
-    ap filled (map-append (without handle_of k) gs ((e ∷ []) ∷ []))
-    ∙ ap (λ l. filled (l ++ map (without handle_of k) ((e ∷ []) ∷ []))) (all_lacking k gs t)
+    let own : filled_groups (map (without handle_of k) ((e ∷ []) ∷ [])) ≡ [] = rw (eq-eqb (handle_of e) k s) refl in
+    ap filled_groups (map-append (without handle_of k) gs ((e ∷ []) ∷ []))
+    ∙ ap (λ l. filled_groups (l ++ map (without handle_of k) ((e ∷ []) ∷ []))) (all_lacking k gs t)
     ∙ filter-append (λ (g : List BufferEntry). ltb 0 (length g)) gs (map (without handle_of k) ((e ∷ []) ∷ []))
-    ∙ ap (λ l. filled gs ++ l) own
+    ∙ ap (λ l. filled_groups gs ++ l) own
     ∙ rw (all_filled gs a) (append_nil gs)
   where
-    append_nil : (l : Groups) → l ++ [] ≡ l
+    append_nil : (l : EntryGroups) → l ++ [] ≡ l
     append_nil [] = refl
     append_nil (g ∷ l) = ap (λ r. g ∷ r) (append_nil l)
 
-filled_front : (gs hs : Groups) → AllFilled (gs ++ hs) → AllFilled gs
+filled_front : (gs hs : EntryGroups) → AllFilled (gs ++ hs) → AllFilled gs
 filled_front [] hs a = tt
 filled_front ([] ∷ gs) hs a = absurd a
 filled_front ((x ∷ xs) ∷ gs) hs a = filled_front gs hs a
 
-closed_either : (h : Handle) (a b : Groups) (r : Result BufferRow BufferRefused) → OnOk r (b ≡ closed h a) → IfErr r (λ e. close_refusal h a ≡ Some e) → close_refusal h a ≡ None → b ≡ closed h a
+closed_either : (h : Handle) (a b : EntryGroups) (r : Result BufferRow BufferRefused) → OnOk r (b ≡ without_buffer h a) → IfErr r (λ e. close_refusal h a ≡ Some e) → close_refusal h a ≡ None → b ≡ without_buffer h a
 closed_either h a b (Ok row) o f n = o
 closed_either h a b (Err e) o f n = absurd (let z : None ≡ Some e = sym n ∙ f in cc)
 
-may_close : (h : Handle) (a : Groups) → has handle_of h.0 a ≡ true → eqb h.0 1 ≡ false → close_refusal h a ≡ None
+may_close : (h : Handle) (a : EntryGroups) → has handle_of h.0 a ≡ true → eqb h.0 1 ≡ false → close_refusal h a ≡ None
 unfolding close_refusal
 may_close h a t n = rw (t, n) refl
 
 -- a buffer that was added and is closed at once leaves the groups as they were
-pub undone : {S : Type 0} (gs a b : Groups) (m : HashMap ℕ Held S) (limit next : ℕ) (spec : BufferSpec) (r : Result BufferRow BufferRefused) → IsWorld gs m limit next → a ≡ added (new_row next spec) spec.vars gs → AreBuffers a
-    → OnOk r (b ≡ closed (record { 0 = next }) a) → IfErr r (λ e. close_refusal (record { 0 = next }) a ≡ Some e) → b ≡ gs
+pub undone : {S : Type 0} (gs a b : EntryGroups) (m : HashMap ℕ RingView S) (limit next : ℕ) (spec : BufferSpec) (r : Result BufferRow BufferRefused) → IsWorld gs m limit next → a ≡ with_buffer (new_row next spec) spec.vars gs → AreBuffers a
+    → OnOk r (b ≡ without_buffer (record { 0 = next }) a) → IfErr r (λ e. close_refusal (record { 0 = next }) a ≡ Some e) → b ≡ gs
 undone gs a b m limit next spec r w g all o f =
-    let e = opened (new_row next spec) spec.vars in
+    let e = new_entry (new_row next spec) spec.vars in
     let there : has handle_of next a ≡ true = ap (has handle_of next) g ∙ list_any-append (in_group handle_of next) gs ((e ∷ []) ∷ []) ∙ rw (is_new gs m limit next w, eq-eqb next next refl) refl in
     let other : eqb next 1 ≡ false = (let s = w.started in grind (arith, nat_tests)) in
     closed_either (record { 0 = next }) a b r o f (may_close (record { 0 = next }) a there other)

@@ -6,11 +6,11 @@ use Rattle.std.specs.HashMap.{HashMap}
 use Rattle.std.specs.Ordering.{nat_cmp}
 use Rattle.std.proofs.lemmas.Bool.{false≢true}
 use Rattle.wc_text.specs.declared.names.Handle.{Handle}
-use Rattle.wc_lines.specs.Held.{Held}
+use Rattle.wc_lines.specs.Held.{RingView}
 use Rattle.wc_nicklist.specs.declared.item.Row.{Row}
 use Rattle.wc_buffers.specs.declared.refused.BufferRefused.{BufferRefused}
 use Rattle.wc_buffers.specs.declared.refused.BufferRefused.TheVariants.{NoBuffer, IsCore, BadName, FixedVar, NameTaken, NoVar, SameGroup, NotMerged, BadNumber, TooMany, NoMemory}
-use Rattle.wc_buffers.specs.Calls.{Groups, is_there, no_buffer, add_refusal}
+use Rattle.wc_buffers.specs.Calls.{EntryGroups, is_there, no_buffer, add_refusal}
 use Rattle.wc_buffers.specs.declared.row.BufferSpec.{BufferSpec}
 use Rattle.wc_model.specs.declared.change.Change.{Change}
 use Rattle.wc_model.specs.declared.change.LineSpec.{LineSpec}
@@ -58,10 +58,10 @@ refusing v b c e r is same f = subst (λ r. Outcome v c b (Err r)) (sym is) (by 
     by (BadNumber n) f = (same, f (not_memory (BadNumber n) refl))
     by (TooMany n) f = (same, f (not_memory (TooMany n) refl))
 
-pub same_groups : {S : Type 0} (gs hs : Groups) (m : HashMap ℕ Held S) (ns : FinMap nat_cmp (List Row)) (limit next : ℕ) (v : World) → hs ≡ gs → world_of gs m ns limit next ≡ v → world_of hs m ns limit next ≡ v
+pub same_groups : {S : Type 0} (gs hs : EntryGroups) (m : HashMap ℕ RingView S) (ns : FinMap nat_cmp (List Row)) (limit next : ℕ) (v : World) → hs ≡ gs → world_of gs m ns limit next ≡ v → world_of hs m ns limit next ≡ v
 same_groups gs hs m ns limit next v e is = ap (λ g. world_of g m ns limit next) e ∙ is
 
-pub same_stored : {S T : Type 0} (gs hs : Groups) (m : HashMap ℕ Held S) (n : HashMap ℕ Held T) (ns ms : FinMap nat_cmp (List Row)) (limit next : ℕ) (v : World) → hs ≡ gs → ((q : ℕ) → held_at n q ≡ held_at m q) → ms ≡ ns → world_of gs m ns limit next ≡ v → world_of hs n ms limit next ≡ v
+pub same_stored : {S T : Type 0} (gs hs : EntryGroups) (m : HashMap ℕ RingView S) (n : HashMap ℕ RingView T) (ns ms : FinMap nat_cmp (List Row)) (limit next : ℕ) (v : World) → hs ≡ gs → ((q : ℕ) → held_at n q ≡ held_at m q) → ms ≡ ns → world_of gs m ns limit next ≡ v → world_of hs n ms limit next ≡ v
 same_stored gs hs m n ns ms limit next v e s k is =
     let lines : lines_map n ≡ lines_map m = same_lines m n s in
     let same : world_of hs n ms limit next ≡ world_of gs m ns limit next = λ i. record { groups = e i; lines = lines i; nicks = k i; limit = limit; next = next } in

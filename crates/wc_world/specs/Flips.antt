@@ -5,7 +5,7 @@ use Rattle.std.specs.List.{list_any, flat_map}
 use Rattle.wc_text.specs.declared.names.Handle.{Handle}
 use Rattle.wc_lines.specs.declared.line.Line.{Line}
 use Rattle.wc_lines.specs.Flags.{flag_at}
-use Rattle.wc_lines.specs.Held.{Held}
+use Rattle.wc_lines.specs.Held.{RingView}
 use Rattle.wc_lines.specs.Ring.{has_content}
 use Rattle.wc_model.specs.declared.change.Flip.{Flip}
 use Rattle.wc_model.specs.declared.refused.ChangeRefused.{ChangeRefused}
@@ -39,24 +39,24 @@ abbrev pub differs : (ℕ → Option Bool) → Line → Bool
 differs flags line = is_other (flags line.content.0) line.displayed
 
 -- the lines that get another flag
-abbrev pub differing : (ℕ → Option Bool) → List Line → List Handle
-differing flags lines = map (λ (line : Line). line.content) (filter (differs flags) lines)
+abbrev pub differing_handles : (ℕ → Option Bool) → List Line → List Handle
+differing_handles flags lines = map (λ (line : Line). line.content) (filter (differs flags) lines)
 
 -- ---- the lines of all buffers
 
 -- the lines that are stored for a buffer
-abbrev pub stored_lines : {S : Type 0} → HashMap ℕ Held S → ℕ → List Line
-stored_lines m buffer = unwrap_or (option_map (λ (x : Held). x.lines) (held_at m buffer)) []
+abbrev pub stored_lines : {S : Type 0} → HashMap ℕ RingView S → ℕ → List Line
+stored_lines m buffer = unwrap_or (option_map (λ (x : RingView). x.lines) (held_at m buffer)) []
 
-abbrev pub is_stored : {S : Type 0} → HashMap ℕ Held S → List ℕ → ℕ → Bool
+abbrev pub is_stored : {S : Type 0} → HashMap ℕ RingView S → List ℕ → ℕ → Bool
 is_stored m buffers content = list_any (λ buffer. has_number content (stored_lines m buffer)) buffers
 
-abbrev pub all_differing : {S : Type 0} → (ℕ → Option Bool) → HashMap ℕ Held S → List ℕ → List Handle
-all_differing flags m buffers = flat_map (λ buffer. differing flags (stored_lines m buffer)) buffers
+abbrev pub all_differing : {S : Type 0} → (ℕ → Option Bool) → HashMap ℕ RingView S → List ℕ → List Handle
+all_differing flags m buffers = flat_map (λ buffer. differing_handles flags (stored_lines m buffer)) buffers
 
--- whether a number stands in a list
-abbrev pub stands_in : ℕ → List ℕ → Bool
-stands_in n ns = list_any (λ m. nat_eq m n) ns
+-- whether a number is in a list
+abbrev pub lies_in : ℕ → List ℕ → Bool
+lies_in n ns = list_any (λ m. nat_eq m n) ns
 
 -- ---- what is found before anything is written
 
@@ -64,7 +64,7 @@ pub record IsPlan (flips : List Flip) (world : World) (plan : Plan) : Type 0 whe
   pub all_held : no_line flips world ≡ None
   pub last : (content : ℕ) → flag_at plan.flags content ≡ last_flag flips content
   pub ordered : numbers plan.order ≡ order world.groups
-  pub found : plan.differing ≡ flat_map (λ buffer. differing (last_flag flips) (lines_at world buffer)) (order world.groups)
+  pub found : plan.differing ≡ flat_map (λ buffer. differing_handles (last_flag flips) (lines_at world buffer)) (order world.groups)
 
 abbrev pub Planned : List Flip → World → Result Plan ChangeRefused → Type 0
 Planned flips world (Ok plan) = IsPlan flips world plan

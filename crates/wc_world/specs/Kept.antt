@@ -4,38 +4,38 @@ use Rattle.std.specs.FinMap.{FinMap, from_entries, get}
 use Rattle.std.specs.HashMap.{HashMap, get_by}
 use Rattle.std.specs.Ordering.{nat_cmp}
 use Rattle.wc_lines.specs.declared.line.Line.{Line}
-use Rattle.wc_lines.specs.Held.{Held}
+use Rattle.wc_lines.specs.Held.{RingView}
 use Rattle.wc_lines.specs.Ring.{has_content}
 use Rattle.wc_nicklist.specs.declared.item.Row.{Row}
-use Rattle.wc_buffers.specs.Calls.{Groups, handle_of}
+use Rattle.wc_buffers.specs.Calls.{EntryGroups, handle_of}
 use Rattle.wc_buffers.specs.Groups.{has}
 use Rattle.wc_model.specs.World.{World}
 
 -- what is held under a handle
-abbrev pub held_at : {S : Type 0} → HashMap ℕ Held S → ℕ → Option Held
+abbrev pub held_at : {S : Type 0} → HashMap ℕ RingView S → ℕ → Option RingView
 held_at m h = get_by (nat_eq h) m
 
 -- the lines of each buffer, by its handle
-abbrev pub lines_map : {S : Type 0} → HashMap ℕ Held S → FinMap nat_cmp (List Line)
+abbrev pub lines_map : {S : Type 0} → HashMap ℕ RingView S → FinMap nat_cmp (List Line)
 lines_map m = from_entries (map (λ e. (e.0, e.1.lines)) m.entries)
 
 -- what is held under one handle changed by f, and all else as it was
-abbrev pub IsChangedAt : {S T : Type 0} → ℕ → (Held → Held) → HashMap ℕ Held S → HashMap ℕ Held T → Type 0
-IsChangedAt h f old new = (q : ℕ) → held_at new q ≡ (if nat_eq h q then option_map f (held_at old q) else held_at old q)
+abbrev pub IsHeldChanged : {S T : Type 0} → ℕ → (RingView → RingView) → HashMap ℕ RingView S → HashMap ℕ RingView T → Type 0
+IsHeldChanged h f old new = (q : ℕ) → held_at new q ≡ (if nat_eq h q then option_map f (held_at old q) else held_at old q)
 
 -- no two lines have one content, and all contents lie below the next handle
-abbrev pub AreApart : ℕ → List Line → Type 0
-AreApart next [] = Unit {0}
-AreApart next (line ∷ lines) = (line.content.0 < next) × (has_content line.content lines ≡ false) × AreApart next lines
+abbrev pub AreContentsApart : ℕ → List Line → Type 0
+AreContentsApart next [] = Unit {0}
+AreContentsApart next (line ∷ lines) = (line.content.0 < next) × (has_content line.content lines ≡ false) × AreContentsApart next lines
 
-pub record IsHeld (limit next : ℕ) (x : Held) : Type 0 where
+pub record IsHeldBuffer (limit next : ℕ) (x : RingView) : Type 0 where
   pub limited : x.limit ≡ limit
-  pub apart : AreApart next x.lines
+  pub apart : AreContentsApart next x.lines
 
-pub record IsWorld {S : Type 0} (groups : Groups) (lines : HashMap ℕ Held S) (limit next : ℕ) : Type 0 where
+pub record IsWorld {S : Type 0} (groups : EntryGroups) (lines : HashMap ℕ RingView S) (limit next : ℕ) : Type 0 where
   -- each buffer has lines, and nothing else has
   pub stored : (h : ℕ) → is_some (held_at lines h) ≡ has handle_of h groups
-  pub fit : (h : ℕ) (x : Held) → held_at lines h ≡ Some x → IsHeld limit next x
+  pub fit : (h : ℕ) (x : RingView) → held_at lines h ≡ Some x → IsHeldBuffer limit next x
   pub below : (h : ℕ) → has handle_of h groups ≡ true → h < next
   pub some : 1 ≤ limit
   pub most : limit ≤ 4096
@@ -43,9 +43,9 @@ pub record IsWorld {S : Type 0} (groups : Groups) (lines : HashMap ℕ Held S) (
   pub ended : next ≤ 2 ^ 62 + 1
 
 -- the world that these fields stand for
-abbrev pub world_of : {S : Type 0} → Groups → HashMap ℕ Held S → FinMap nat_cmp (List Row) → ℕ → ℕ → World
+abbrev pub world_of : {S : Type 0} → EntryGroups → HashMap ℕ RingView S → FinMap nat_cmp (List Row) → ℕ → ℕ → World
 world_of groups held nicks limit next = record { groups = groups; lines = lines_map held; nicks = nicks; limit = limit; next = next }
 
 -- the lines of a buffer, with how many it holds at most
-abbrev pub held_in : World → ℕ → Option Held
+abbrev pub held_in : World → ℕ → Option RingView
 held_in world h = option_map (λ lines. record { limit = world.limit; lines = lines }) (get world.lines h)

@@ -10,7 +10,7 @@ use Rattle.wc_nicklist.specs.declared.item.Row.{Row}
 use Rattle.wc_nicklist.specs.declared.refused.NickRefused.{NickRefused}
 use Rattle.wc_nicklist.specs.declared.refused.NickRefused.TheVariants.{IsRoot, BadName, NoParent, NameTaken, NoSuch, NotEmpty, NoMemory}
 use Rattle.wc_text.specs.declared.names.Handle.{Handle}
-use Rattle.wc_buffers.specs.Calls.{Groups, handle_of}
+use Rattle.wc_buffers.specs.Calls.{EntryGroups, handle_of}
 use Rattle.wc_buffers.specs.Groups.{has}
 use Rattle.wc_model.specs.World.{root_at, count_rows, row_limit}
 use Rattle.wc_model.specs.declared.change.What.{What}
@@ -47,8 +47,8 @@ abbrev pub with_room : List ℕ → Nicks → Nicks
 with_room parent x = record { root = x.root; rows = x.rows; room = Some parent }
 
 -- the nicklist with other rows, and no room any more
-abbrev pub edited : (List Row → List Row) → Nicks → Nicks
-edited f x = with_rows (f x.rows) x
+abbrev pub with_edit : (List Row → List Row) → Nicks → Nicks
+with_edit f x = with_rows (f x.rows) x
 
 -- what is stored under one handle changed by f, and all else as it was
 abbrev pub IsListChangedAt : {S T : Type 0} → ℕ → (Nicks → Nicks) → HashMap ℕ Nicks S → HashMap ℕ Nicks T → Type 0
@@ -69,7 +69,7 @@ pub record IsList (h : ℕ) (x : Nicks) : Type 0 where
   pub held : IsRows x.rows
   pub cut : AreCut x.rows
 
-pub record AreNicks {S : Type 0} (groups : Groups) (nicks : HashMap ℕ Nicks S) (count : ℕ) : Type 0 where
+pub record AreNicks {S : Type 0} (groups : EntryGroups) (nicks : HashMap ℕ Nicks S) (count : ℕ) : Type 0 where
   -- each buffer has a nicklist, and nothing else has
   pub stored : (h : ℕ) → is_some (list_at nicks h) ≡ has handle_of h groups
   pub fit : (h : ℕ) (x : Nicks) → list_at nicks h ≡ Some x → IsList h x
@@ -78,17 +78,17 @@ pub record AreNicks {S : Type 0} (groups : Groups) (nicks : HashMap ℕ Nicks S)
 
 -- ---- the changes of groups and nicks, by the kind of the item
 
-abbrev pub adding : Bool → List ℕ → Item → What
-adding true parent item = AddGroup parent item
-adding false group item = AddNick group item
+abbrev pub add_of : Bool → List ℕ → Item → What
+add_of true parent item = AddGroup parent item
+add_of false group item = AddNick group item
 
-abbrev pub removing : Bool → List ℕ → What
-removing true name = RemoveGroup name
-removing false name = RemoveNick name
+abbrev pub remove_of : Bool → List ℕ → What
+remove_of true name = RemoveGroup name
+remove_of false name = RemoveNick name
 
-abbrev pub changing : Bool → Item → What
-changing true item = ChangeGroup item
-changing false item = ChangeNick item
+abbrev pub change_of_rows : Bool → Item → What
+change_of_rows true item = ChangeGroup item
+change_of_rows false item = ChangeNick item
 
 -- the refusal of a change that a nicklist refused
 abbrev pub refused_by_nicks : NickRefused → ChangeRefused

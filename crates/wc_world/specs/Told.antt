@@ -1,7 +1,7 @@
 -- What is noticed of a buffer in these groups.
 use Rattle.std.specs.Prelude.{ℕ, List, unwrap_or}
 use Rattle.wc_text.specs.declared.names.Handle.{Handle}
-use Rattle.wc_buffers.specs.Calls.{Groups, number}
+use Rattle.wc_buffers.specs.Calls.{EntryGroups, number}
 use Rattle.wc_buffers.specs.declared.refused.BufferRefused.{BufferRefused}
 use Rattle.wc_buffers.specs.declared.refused.BufferRefused.TheVariants.{NoBuffer, IsCore, BadName, FixedVar, NameTaken, NoVar, SameGroup, NotMerged, BadNumber, TooMany, NoMemory}
 use Rattle.wc_model.specs.declared.notice.EventKind.{EventKind}
@@ -10,7 +10,7 @@ use Rattle.wc_model.specs.declared.refused.ChangeRefused.{ChangeRefused}
 use Rattle.wc_model.specs.Order.{prev_of, next_of}
 
 -- under a name that was read before
-abbrev pub told_at : EventKind → Handle → Groups → List ℕ → List Handle → List Handle → Notice
+abbrev pub told_at : EventKind → Handle → EntryGroups → List ℕ → List Handle → List Handle → Notice
 told_at kind h groups name lines flips = record {
   kind = kind;
   buffer = h;

@@ -2,8 +2,8 @@ ghost use Rattle.std.specs.Prelude.{◌≡◌, ◌++◌, ℕ, IfOk, OnOk, None, 
 ghost use Rattle.wc_lines.specs.Flags.{flag_at, with_flags};
 ghost use Rattle.wc_model.specs.Order.{order};
 ghost use Rattle.wc_model.specs.declared.change.Flip.{Flip as FlipValue};
-ghost use Rattle.wc_world.specs.Flips.{is_stored, all_differing, stands_in};
-ghost use Rattle.wc_world.specs.Kept.{held_at, IsChangedAt};
+ghost use Rattle.wc_world.specs.Flips.{is_stored, all_differing, lies_in};
+ghost use Rattle.wc_world.specs.Kept.{held_at, IsHeldChanged};
 ghost use Rattle.wc_world.specs.Near.{numbers};
 
 use crate::flags::{first_in, flags_of, push_differing, take_out};
@@ -80,7 +80,7 @@ pub(crate) fn all_differing(
 
 /// Sets the flags of the lines of all these buffers. It takes no memory.
 pub(crate) fn set_flags(held: &mut Held, buffers: &[Handle], flags: &Flags)
-    ensures { (q : ℕ) → held_at held.new q ≡ (if stands_in q (numbers buffers.now) then option_map (with_flags (flag_at flags.now)) (held_at held.old q) else held_at held.old q) }
+    ensures { (q : ℕ) → held_at held.new q ≡ (if lies_in q (numbers buffers.now) then option_map (with_flags (flag_at flags.now)) (held_at held.old q) else held_at held.old q) }
 {
     for h in buffers {
         set_flags_at(held, *h, flags);
@@ -88,7 +88,7 @@ pub(crate) fn set_flags(held: &mut Held, buffers: &[Handle], flags: &Flags)
 }
 
 fn set_flags_at(held: &mut Held, h: Handle, flags: &Flags)
-    ensures { IsChangedAt h.0 (with_flags (flag_at flags.now)) held.old held.new }
+    ensures { IsHeldChanged h.0 (with_flags (flag_at flags.now)) held.old held.new }
 {
     if let Some(lines) = held.get_mut(&h.0) {
         lines.set_flags(flags);

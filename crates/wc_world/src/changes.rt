@@ -19,7 +19,7 @@ impl World {
     /// handle past 2^62.
     ///
     /// An accepted change of a group or a nick touches its key before it is made, with the row that
-    /// then stands there. Where `touch` is refused memory the change is refused for it too.
+    /// then is there. Where `touch` is refused memory the change is refused for it too.
     pub fn change<T: Touch>(
         &mut self,
         alloc: Global,

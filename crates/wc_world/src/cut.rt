@@ -34,7 +34,7 @@ pub(crate) fn cut_text(alloc: Global, text: Text, limit: usize) -> Result<Text, 
     Text::from_slice(alloc, text.as_slice().split_at(end).0)
 }
 
-/// How many tags stand before the first that does not fit.
+/// How many tags are before the first that does not fit.
 fn fitting(tags: &[Text]) -> usize
     ensures { result ≡ length (cut_tags tags.now) }
 {

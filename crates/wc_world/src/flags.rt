@@ -1,7 +1,7 @@
 ghost use Rattle.std.specs.Prelude.{◌≡◌, ◌++◌, ℕ, IfOk, OnOk, None, Some, nat_eq, is_some, find, option_map, if◌then◌else◌};
 ghost use Rattle.wc_lines.specs.Flags.{flag_at};
 ghost use Rattle.wc_model.specs.declared.change.Flip.{Flip as FlipValue};
-ghost use Rattle.wc_world.specs.Flips.{last_flag, has_number, differs, differing};
+ghost use Rattle.wc_world.specs.Flips.{last_flag, has_number, differs, differing_handles};
 
 use std::alloc::Global;
 use std::collections::HashMap;
@@ -29,7 +29,7 @@ fn put(flags: &mut Flags, flip: Flip) -> Result<(), NoMemory>
     }
 }
 
-/// The content of the first flip for which a flag stands here.
+/// The content of the first flip that has a flag here.
 pub(crate) fn first_in(flips: &[Flip], flags: &Flags) -> Option<Handle>
     ensures { result ≡ option_map (λ (flip : FlipValue). flip.content) (find (λ (flip : FlipValue). is_some (flag_at flags.now flip.content.0)) flips.now) }
 {
@@ -56,13 +56,13 @@ fn take_one(flags: &mut Flags, content: Handle)
     let _ = flags.remove(&content.0);
 }
 
-/// Puts the lines that get another flag behind the list.
+/// Puts the lines that get another flag after the list.
 pub(crate) fn push_differing(
     contents: &mut Items<Handle>,
     flags: &Flags,
     lines: &Lines,
 ) -> Result<(), NoMemory>
-    ensures { OnOk result (contents.new ≡ contents.old ++ differing (flag_at flags.now) lines.now.lines) }
+    ensures { OnOk result (contents.new ≡ contents.old ++ differing_handles (flag_at flags.now) lines.now.lines) }
 {
     for line in lines.iter() {
         if differs(flags, line) {

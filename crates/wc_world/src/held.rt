@@ -1,8 +1,8 @@
 ghost use Rattle.std.specs.Prelude.{◌≡◌, ◌<◌, IsSome, OnOk, Some, None, ℕ, nat_eq, if◌then◌else◌};
 ghost use Rattle.std.specs.HashMap.{spare};
-ghost use Rattle.wc_lines.specs.LineText.{HasText};
+ghost use Rattle.wc_lines.specs.LineText.{HasUtf8Texts};
 ghost use Rattle.wc_lines.specs.Ring.{with_line, without_lines};
-ghost use Rattle.wc_world.specs.Kept.{held_at, IsChangedAt};
+ghost use Rattle.wc_world.specs.Kept.{held_at, IsHeldChanged};
 
 use std::collections::HashMap;
 use wc_lines::{Line, Lines};
@@ -37,11 +37,11 @@ pub(crate) fn remove(held: &mut Held, h: Handle)
     let _ = held.remove(&h.0);
 }
 
-/// Puts a line behind those of a buffer that is there.
+/// Puts a line after those of a buffer that is there.
 pub(crate) fn put_line(held: &mut Held, h: Handle, line: Line)
     requires there { IsSome (held_at held.old h.0) }
-    requires text { HasText line }
-    ensures { IsChangedAt h.0 (λ lines. with_line lines line) held.old held.new }
+    requires text { HasUtf8Texts line }
+    ensures { IsHeldChanged h.0 (λ lines. with_line lines line) held.old held.new }
 {
     let Some(lines) = held.get_mut(&h.0) else {
         unreachable!()
@@ -52,7 +52,7 @@ pub(crate) fn put_line(held: &mut Held, h: Handle, line: Line)
 /// Takes the lines of a buffer that is there.
 pub(crate) fn clear(held: &mut Held, h: Handle)
     requires { IsSome (held_at held.old h.0) }
-    ensures { IsChangedAt h.0 without_lines held.old held.new }
+    ensures { IsHeldChanged h.0 without_lines held.old held.new }
 {
     let Some(lines) = held.get_mut(&h.0) else {
         unreachable!()

@@ -1,6 +1,6 @@
 ghost use Rattle.std.specs.Prelude.{◌≡◌, ◌++◌, ℕ, List, IfOk, IfErr};
 ghost use Rattle.wc_model.specs.Order.{before_in, prev_of, next_of};
-ghost use Rattle.wc_world.specs.Near.{numbers, behind_seen};
+ghost use Rattle.wc_world.specs.Near.{numbers, after_seen};
 
 use wc_buffers::Buffers;
 use wc_text::Handle;
@@ -20,10 +20,10 @@ fn before_here(last: Handle, h: Handle, group: &[Handle]) -> Result<Handle, Hand
     Err(last)
 }
 
-/// Ok: the handle behind `h`; Err: whether `h` was the last one.
-fn behind_here(seen: bool, h: Handle, group: &[Handle]) -> Result<Handle, bool>
-    ensures here { IfOk result (λ x. (rest : List ℕ) → behind_seen seen h.0 (numbers group.now ++ rest) ≡ x.0) }
-    ensures past { IfErr result (λ x. (rest : List ℕ) → behind_seen seen h.0 (numbers group.now ++ rest) ≡ behind_seen x h.0 rest) }
+/// Ok: the handle after `h`; Err: whether `h` was the last one.
+fn after_here(seen: bool, h: Handle, group: &[Handle]) -> Result<Handle, bool>
+    ensures here { IfOk result (λ x. (rest : List ℕ) → after_seen seen h.0 (numbers group.now ++ rest) ≡ x.0) }
+    ensures past { IfErr result (λ x. (rest : List ℕ) → after_seen seen h.0 (numbers group.now ++ rest) ≡ after_seen x h.0 rest) }
 {
     let mut seen = seen;
     for other in group {
@@ -50,14 +50,14 @@ pub(crate) fn prev_of(buffers: &Buffers, h: Handle) -> Handle
     Handle(0)
 }
 
-#[tactic(auto, using(crate::proofs::NearLemmas::order_handles, crate::proofs::NearLemmas::behind_first))]
-/// The buffer behind `h` in the order of buffers; null where there is none.
+#[tactic(auto, using(crate::proofs::NearLemmas::order_handles, crate::proofs::NearLemmas::after_first))]
+/// The buffer after `h` in the order of buffers; null where there is none.
 pub(crate) fn next_of(buffers: &Buffers, h: Handle) -> Handle
     ensures { result.0 ≡ next_of h.0 buffers.now }
 {
     let mut seen = false;
     for group in buffers.groups() {
-        match behind_here(seen, h, group) {
+        match after_here(seen, h, group) {
             Ok(next) => return next,
             Err(is_seen) => seen = is_seen,
         }

@@ -3,7 +3,7 @@ ghost use Rattle.wc_model.specs.Apply.{item_with, handle_in};
 ghost use Rattle.wc_nicklist.specs.Calls.{add_refusal, remove_refusal, change_refusal, add_row};
 ghost use Rattle.wc_nicklist.specs.Order.{key_at};
 ghost use Rattle.wc_nicklist.specs.Rows.{remove_row, change_row, TextsAreUtf8};
-ghost use Rattle.wc_world.specs.Nicks.{edited};
+ghost use Rattle.wc_world.specs.Nicks.{with_edit};
 
 use crate::cut::cut_text;
 use std::alloc::Global;
@@ -62,7 +62,7 @@ pub(crate) fn add_item(
     requires room { list.old.room ≡ Some parent.now }
     requires free { add_refusal is_group parent.now item.name list.old.rows ≡ None }
     requires text { TextsAreUtf8 item }
-    ensures { list.new ≡ edited (add_row is_group parent.now item) list.old }
+    ensures { list.new ≡ with_edit (add_row is_group parent.now item) list.old }
 {
     if is_group {
         let Ok(()) = list.add_group(alloc, parent, item) else {
@@ -78,7 +78,7 @@ pub(crate) fn add_item(
 /// Takes out the item of a key, which can be taken. It takes no memory.
 pub(crate) fn remove_item(list: &mut Nicklist, key: &Key)
     requires { remove_refusal key.now.is_group key.now.name list.old.rows ≡ None }
-    ensures { list.new ≡ edited (remove_row (key_at key.now.is_group key.now.name)) list.old }
+    ensures { list.new ≡ with_edit (remove_row (key_at key.now.is_group key.now.name)) list.old }
 {
     if key.is_group {
         let Ok(_) = list.remove_group(&key.name) else {
@@ -95,7 +95,7 @@ pub(crate) fn remove_item(list: &mut Nicklist, key: &Key)
 pub(crate) fn change_item(list: &mut Nicklist, is_group: bool, item: Item)
     requires free { change_refusal is_group item.name list.old.rows ≡ None }
     requires text { TextsAreUtf8 item }
-    ensures { list.new ≡ edited (change_row (key_at is_group item.name) item) list.old }
+    ensures { list.new ≡ with_edit (change_row (key_at is_group item.name) item) list.old }
 {
     if is_group {
         let Ok(()) = list.change_group(item) else {

@@ -141,7 +141,7 @@ fn play(world: &mut World, alloc: Global, acts: &[Act<'static>]) -> Result<(), C
 }
 
 /// The rows of a buffer as words: a group is `parent/name`, a nick `parent.name`, each with its prefix and its handle
-/// behind it.
+/// after it.
 fn spelled(alloc: Global, world: &World, buffer: u64) -> Result<String, AllocError> {
     let mut words = String::new(alloc);
     let Some(list) = world.nicks(Handle(buffer)) else {
@@ -348,7 +348,7 @@ fn next(state: &mut u32, limit: u8) -> usize
     ((*state >> 16) % u32::from(limit)) as usize
 }
 
-/// The row that stood under the key of a touch.
+/// The row that was under the key of a touch.
 fn noted_row(noted: &Noted) -> Option<Plain> {
     let row = noted.before.as_ref()?;
     let bytes = row.item.name.as_slice();

@@ -3,7 +3,7 @@ ghost use Rattle.std.specs.HashMap.{spare};
 ghost use Rattle.wc_nicklist.specs.Calls.{add_refusal, remove_refusal, change_refusal, add_row};
 ghost use Rattle.wc_nicklist.specs.Order.{key_at};
 ghost use Rattle.wc_nicklist.specs.Rows.{remove_row, change_row, TextsAreUtf8};
-ghost use Rattle.wc_world.specs.Nicks.{list_at, rows_of, room_of, with_room, edited, IsListChangedAt};
+ghost use Rattle.wc_world.specs.Nicks.{list_at, rows_of, room_of, with_room, with_edit, IsListChangedAt};
 
 use crate::nick_item::{add_item, change_item, remove_item};
 use std::alloc::Global;
@@ -88,7 +88,7 @@ pub(crate) fn put(
     requires room { room_of (list_at lists.old h.0) ≡ Some parent.now }
     requires free { add_refusal is_group parent.now item.name (rows_of (list_at lists.old h.0)) ≡ None }
     requires text { TextsAreUtf8 item }
-    ensures { IsListChangedAt h.0 (edited (add_row is_group parent.now item)) lists.old lists.new }
+    ensures { IsListChangedAt h.0 (with_edit (add_row is_group parent.now item)) lists.old lists.new }
 {
     let Some(list) = lists.get_mut(&h.0) else {
         unreachable!()
@@ -100,7 +100,7 @@ pub(crate) fn put(
 pub(crate) fn take(lists: &mut Lists, h: Handle, key: &Key)
     requires there { IsSome (list_at lists.old h.0) }
     requires free { remove_refusal key.now.is_group key.now.name (rows_of (list_at lists.old h.0)) ≡ None }
-    ensures { IsListChangedAt h.0 (edited (remove_row (key_at key.now.is_group key.now.name))) lists.old lists.new }
+    ensures { IsListChangedAt h.0 (with_edit (remove_row (key_at key.now.is_group key.now.name))) lists.old lists.new }
 {
     let Some(list) = lists.get_mut(&h.0) else {
         unreachable!()
@@ -113,7 +113,7 @@ pub(crate) fn write(lists: &mut Lists, h: Handle, is_group: bool, item: Item)
     requires there { IsSome (list_at lists.old h.0) }
     requires free { change_refusal is_group item.name (rows_of (list_at lists.old h.0)) ≡ None }
     requires text { TextsAreUtf8 item }
-    ensures { IsListChangedAt h.0 (edited (change_row (key_at is_group item.name) item)) lists.old lists.new }
+    ensures { IsListChangedAt h.0 (with_edit (change_row (key_at is_group item.name) item)) lists.old lists.new }
 {
     let Some(list) = lists.get_mut(&h.0) else {
         unreachable!()

@@ -21,7 +21,7 @@ pub(crate) fn name_of(buffers: &Buffers, alloc: Global, h: Handle) -> Result<Tex
     }
 }
 
-/// What is noticed of a buffer as it stands. It takes no memory.
+/// What is noticed of a buffer as it is. It takes no memory.
 pub(crate) fn noticed(
     buffers: &Buffers,
     kind: EventKind,
@@ -47,7 +47,7 @@ pub(crate) fn noticed(
     }
 }
 
-/// What is noticed of a buffer as it stands, without lines. It takes no memory.
+/// What is noticed of a buffer as it is, without lines. It takes no memory.
 pub(crate) fn told(
     buffers: &Buffers,
     alloc: Global,

@@ -99,7 +99,7 @@ impl World {
         Ok(told(&self.buffers, alloc, EventKind::Moved, h, full_name))
     }
 
-    /// The buffer goes behind those of another one's group.
+    /// The buffer goes after those of another one's group.
     pub(crate) fn merge(
         &mut self,
         alloc: Global,
@@ -116,7 +116,7 @@ impl World {
         Ok(told(&self.buffers, alloc, EventKind::Merged, h, full_name))
     }
 
-    /// The buffer gets a group of its own, behind its old one.
+    /// The buffer gets a group of its own, after its old one.
     pub(crate) fn unmerge(&mut self, alloc: Global, h: Handle) -> Result<Notice, ChangeRefused>
         ensures { Outcome self.old (record { buffer = h; what = WhatValue.Unmerge }) self.new result }
     {

@@ -11,7 +11,7 @@ use wc_model::{ChangeRefused, EventKind, LineSpec, Notice};
 use wc_text::Handle;
 
 impl World {
-    /// Puts a line behind those of a buffer, of which the last ones up to the limit stay.
+    /// Puts a line after those of a buffer, of which the last ones up to the limit stay.
     pub(crate) fn print(
         &mut self,
         alloc: Global,

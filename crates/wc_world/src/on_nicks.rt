@@ -6,7 +6,7 @@ ghost use Rattle.wc_model.specs.declared.refused.ChangeRefused.{ChangeRefused as
 ghost use Rattle.wc_nicklist.specs.Rows.{TextsAreUtf8};
 ghost use Rattle.wc_nicklist.specs.declared.item.Key.{Key as KeyValue};
 ghost use Rattle.wc_text.specs.declared.names.Handle.{Handle as HandleValue};
-ghost use Rattle.wc_world.specs.Nicks.{adding, removing, changing, refused_by_nicks};
+ghost use Rattle.wc_world.specs.Nicks.{add_of, remove_of, change_of_rows, refused_by_nicks};
 
 use crate::nick_item::{handle_in, item_with, key_at};
 use crate::nicks;
@@ -66,8 +66,8 @@ impl World {
         touch: &mut T,
     ) -> Result<Notice, ChangeRefused>
         requires { TextsAreUtf8 item }
-        ensures outcome { Outcome self.old (record { buffer = h; what = adding is_group parent item }) self.new result }
-        ensures touched { OnOk result ((b : HandleValue) (k : KeyValue) → T.first touch.new b k ≡ touched_by self.old h (adding is_group parent item) (T.first touch.old) b k) }
+        ensures outcome { Outcome self.old (record { buffer = h; what = add_of is_group parent item }) self.new result }
+        ensures touched { OnOk result ((b : HandleValue) (k : KeyValue) → T.first touch.new b k ≡ touched_by self.old h (add_of is_group parent item) (T.first touch.old) b k) }
         ensures untouched { OnErr result ((b : HandleValue) (k : KeyValue) → T.first touch.new b k ≡ T.first touch.old b k) }
     {
         if let Some(refused) = self.add_refusal(alloc, h, is_group, &parent, &item) {
@@ -107,8 +107,8 @@ impl World {
         name: Text,
         touch: &mut T,
     ) -> Result<Notice, ChangeRefused>
-        ensures outcome { Outcome self.old (record { buffer = h; what = removing is_group name }) self.new result }
-        ensures touched { OnOk result ((b : HandleValue) (k : KeyValue) → T.first touch.new b k ≡ touched_by self.old h (removing is_group name) (T.first touch.old) b k) }
+        ensures outcome { Outcome self.old (record { buffer = h; what = remove_of is_group name }) self.new result }
+        ensures touched { OnOk result ((b : HandleValue) (k : KeyValue) → T.first touch.new b k ≡ touched_by self.old h (remove_of is_group name) (T.first touch.old) b k) }
         ensures untouched { OnErr result ((b : HandleValue) (k : KeyValue) → T.first touch.new b k ≡ T.first touch.old b k) }
     {
         if let Some(refused) = self.remove_refusal(h, is_group, &name) {
@@ -146,8 +146,8 @@ impl World {
         touch: &mut T,
     ) -> Result<Notice, ChangeRefused>
         requires { TextsAreUtf8 item }
-        ensures outcome { Outcome self.old (record { buffer = h; what = changing is_group item }) self.new result }
-        ensures touched { OnOk result ((b : HandleValue) (k : KeyValue) → T.first touch.new b k ≡ touched_by self.old h (changing is_group item) (T.first touch.old) b k) }
+        ensures outcome { Outcome self.old (record { buffer = h; what = change_of_rows is_group item }) self.new result }
+        ensures touched { OnOk result ((b : HandleValue) (k : KeyValue) → T.first touch.new b k ≡ touched_by self.old h (change_of_rows is_group item) (T.first touch.old) b k) }
         ensures untouched { OnErr result ((b : HandleValue) (k : KeyValue) → T.first touch.new b k ≡ T.first touch.old b k) }
     {
         if let Some(refused) = self.change_refusal(h, is_group, &item) {

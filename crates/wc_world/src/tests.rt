@@ -121,7 +121,7 @@ fn four_buffers(alloc: Global) -> Result<World, ChangeRefused> {
     Ok(world)
 }
 
-/// The number of a buffer, and the buffers before and behind it.
+/// The number of a buffer, and the buffers before and after it.
 fn place(answer: Result<Notice, ChangeRefused>) -> Option<(u32, u64, u64)> {
     match answer {
         Ok(notice) => Some((notice.number, notice.prev.0, notice.next.0)),

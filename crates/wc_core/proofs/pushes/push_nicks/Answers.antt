@@ -3,9 +3,9 @@ use Rattle.wc_buffers.specs.Kept.{handles}
 use Rattle.wc_model.specs.Order.{order}
 use Rattle.wc_world.specs.Near.{numbers, all_numbers}
 use Rattle.wc_world.proofs.NearLemmas.{order_handles}
-use Rattle.wc_core.specs.Pushes.{pushed_seat}
-use Rattle.wc_core.proofs.SeatLemmas.{and_left, and_right}
-use Rattle.wc_core.proofs.PushSeats.{AllThere, all_there, pushed_more, pushed_none, map_more, map_none, SeatsKept-refl, SeatsKept-trans}
+use Rattle.wc_core.specs.Pushes.{pushed_connection}
+use Rattle.wc_core.proofs.ConnectionLemmas.{and_left, and_right}
+use Rattle.wc_core.proofs.PushConnections.{AllThere, all_there, pushed_more, pushed_none, map_more, map_none, ConnectionsKept-refl, ConnectionsKept-trans}
 use Rattle.wc_core.proofs.PushBytes.{pushes-sent}
 use Rattle.wc_core.specs.State.{told_at}
 use Rattle.wc_core.proofs.pushes.push_nicks.Goals as goal
@@ -16,16 +16,16 @@ loop-group-init c =
     let all : c.into_iter-group-iterator.result ≡ handles w.groups = search rules in
     let order : all_numbers c.into_iter-group-iterator.result ≡ order w.groups = ap all_numbers all ∙ sym (order_handles w.groups) in
     record {
-      told = λ t told are. ap (λ ns. map (pushed_seat w told ns) c.args.seats.now) order;
+      told = λ t told are. ap (λ ns. map (pushed_connection w told ns) c.args.connections.now) order;
       there = subst (AllThere w) (sym all) (all_there w);
-      kept = SeatsKept-refl c.args.seats.now;
+      kept = ConnectionsKept-refl c.args.connections.now;
       idle = λ none. (refl, refl);
     }
 
 pub loop-group-preserved : goal.loop-group-preserved
 loop-group-preserved c =
     let w = c.args.world.now in
-    let seats = c.loop-group.seats in
+    let connections = c.loop-group.connections in
     let group = c.in-Some.group.now in
     let rest = all_numbers c.next.new.self in
     let holds = c.loop-group.invariant in
@@ -34,24 +34,24 @@ loop-group-preserved c =
     let there = subst (AllThere w) next holds.there in
     record {
       told = λ both told are.
-          ap (map (pushed_seat w told rest)) (pushed.told (and_right c.loop-group.told c.push_group-pushed.result both) there.0 told are)
-          ∙ sym (map_more (pushed_seat w told (numbers group ++ rest)) (pushed_seat w told rest) (pushed_seat w told (numbers group)) (pushed_more w told (numbers group) rest) seats)
-          ∙ ap (λ groups. map (pushed_seat w told (all_numbers groups)) seats) (sym next)
+          ap (map (pushed_connection w told rest)) (pushed.told (and_right c.loop-group.told c.push_group-pushed.result both) there.0 told are)
+          ∙ sym (map_more (pushed_connection w told (numbers group ++ rest)) (pushed_connection w told rest) (pushed_connection w told (numbers group)) (pushed_more w told (numbers group) rest) connections)
+          ∙ ap (λ groups. map (pushed_connection w told (all_numbers groups)) connections) (sym next)
           ∙ holds.told (and_left c.loop-group.told c.push_group-pushed.result both) told are;
       there = there.1;
-      kept = SeatsKept-trans c.args.seats.now seats c.push_group-pushed.new.seats holds.kept pushed.kept;
+      kept = ConnectionsKept-trans c.args.connections.now connections c.push_group-pushed.new.connections holds.kept pushed.kept;
       idle = λ none. let before = holds.idle none in let now = pushed.idle none in (rw (before.0, now.0) refl, now.1 ∙ before.1);
     }
 
 pub returns-clause-told : goal.returns-clause-told
 returns-clause-told c = λ t told are.
     let w = c.args.world.now in
-    let seats = c.loop-group.seats in
+    let connections = c.loop-group.connections in
     let end : c.loop-group.group-iterator ≡ [] = search rules in
-    sym (map_none (pushed_seat w told []) (pushed_none w told) seats)
-    ∙ ap (λ groups. map (pushed_seat w told (all_numbers groups)) seats) (sym end)
+    sym (map_none (pushed_connection w told []) (pushed_none w told) connections)
+    ∙ ap (λ groups. map (pushed_connection w told (all_numbers groups)) connections) (sym end)
     ∙ c.loop-group.invariant.told t told are
 
 pub returns-clause-sent : goal.returns-clause-sent
 returns-clause-sent c = λ t state same clients are distinct j.
-    pushes-sent j state c.args.world.now c.args.seats.now c.loop-group.seats same clients distinct (returns-clause-told c t (told_at state) are)
+    pushes-sent j state c.args.world.now c.args.connections.now c.loop-group.connections same clients distinct (returns-clause-told c t (told_at state) are)

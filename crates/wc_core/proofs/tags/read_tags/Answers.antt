@@ -7,8 +7,8 @@ use Rattle.wc_core.proofs.tags.read_tags.Goals as goal
 pub loop-left-preserved : goal.loop-left-preserved
 loop-left-preserved c =
     let tags = c.loop-left.tags in
-    let behind = c.split_once.result.1 in
+    let following = c.split_once.result.1 in
     let pushed : c.push_filled.new.tags ≡ tags ++ filter is_filled (c.split_once.result.0.now ∷ []) = c.in_ok-push_filled.ensures in
-    ap (λ t. t ++ tags_left behind) (pushed ∙ ap (λ tag. tags ++ filter is_filled (tag ∷ [])) c.split_once.ensures.front)
-    ∙ append_assoc tags (filter is_filled (before 44 c.in-Some.rest.now ∷ [])) (tags_left behind)
-    ∙ ap (λ t. tags ++ t) (sym (tags_split c.in-Some.rest.now behind c.split_once.ensures.back)) ∙ sym (ap (λ o. tags ++ tags_left o) c.in-Some.is) ∙ c.loop-left.invariant
+    ap (λ t. t ++ tags_left following) (pushed ∙ ap (λ tag. tags ++ filter is_filled (tag ∷ [])) c.split_once.ensures.front)
+    ∙ append_assoc tags (filter is_filled (before 44 c.in-Some.rest.now ∷ [])) (tags_left following)
+    ∙ ap (λ t. tags ++ t) (sym (tags_split c.in-Some.rest.now following c.split_once.ensures.back)) ∙ sym (ap (λ o. tags ++ tags_left o) c.in-Some.is) ∙ c.loop-left.invariant

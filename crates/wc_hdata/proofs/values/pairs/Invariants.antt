@@ -1,5 +1,5 @@
 use Rattle.std.proofs.Common.{◌≡◌, ◌++◌, map}
-use Rattle.wc_told.specs.BufferObjects.{pair_of}
+use Rattle.wc_events.specs.BufferObjects.{pair_of}
 use Rattle.wc_hdata.proofs.values.pairs.Given as goal
 
 -- the pairs so far, and those of the variables that are left

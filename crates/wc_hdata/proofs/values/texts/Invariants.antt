@@ -1,5 +1,5 @@
 use Rattle.std.proofs.Common.{◌≡◌, take}
-use Rattle.wc_told.specs.LineObjects.{texts}
+use Rattle.wc_events.specs.LineObjects.{texts}
 use Rattle.wc_hdata.proofs.values.texts.Given as goal
 
 abbrev pub invariant-loop-tag : goal.invariant-loop-tag

@@ -16,7 +16,7 @@ loop-line-preserved c =
 pub returns-then-quits-clause-takes : goal.returns-then-quits-clause-takes
 returns-then-quits-clause-takes c =
     let e = c.end_line.ensures in
-    Fed-quit c.args.core.now c.end_line.new.core c.args.link.0 c.args.tail.now c.end_line.new.tail c.args.ran.now c.end_line.new.ran c.args.bytes.now c.in-Some.behind.now c.requires.going (sym c.quits.ensures ∙ c.if-quits.true)
+    Fed-quit c.args.core.now c.end_line.new.core c.args.link.0 c.args.tail.now c.end_line.new.tail c.args.ran.now c.end_line.new.ran c.args.bytes.now c.in-Some.following.now c.requires.going (sym c.quits.ensures ∙ c.if-quits.true)
     (Fed-line _ _ _ _ _ _ _ _ _ _ _ _ _ _ c.loop-line.invariant.fed c.in-Some.ensures.some c.in-Some.ensures.line e.begins (λ line h. record { takes = e.does line h; counts = e.ran line h }) e.causes)
 
 pub returns-then-quits-clause-causes : goal.returns-then-quits-clause-causes

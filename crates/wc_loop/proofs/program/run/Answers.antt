@@ -1,11 +1,11 @@
 use Rattle.std.proofs.Common.{◌≡◌, ◌++◌, [], ◌∷◌, ap, ◌∙◌, arith}
 use Rattle.wc_outside.specs.declared.asked.Asked.TheVariants.{Listen}
-use Rattle.wc_loop.specs.Turns.{wakes, listen_faults}
-use Rattle.wc_loop.proofs.CauseLemmas.{caused-behind}
-use Rattle.wc_loop.proofs.EndingLemmas.{Runs-behind, known-readable}
+use Rattle.wc_loop.specs.Turns.{wake_count, listen_faults}
+use Rattle.wc_loop.proofs.CauseLemmas.{caused-following}
+use Rattle.wc_loop.proofs.EndingLemmas.{Runs-following, known-readable}
 use Rattle.wc_loop.proofs.HeadlineLemmas.{Fresh-listening, HandsOut-run, Headline-known}
 use Rattle.wc_loop.proofs.ProgramLemmas.{Rose-before}
-use Rattle.wc_loop.proofs.ServeLemmas.{AllServed-behind, AllSent-behind}
+use Rattle.wc_loop.proofs.ServeLemmas.{AllServed-following, AllSent-following}
 use Rattle.wc_loop.proofs.SourceLemmas.{later-of}
 use Rattle.wc_loop.proofs.program.run.Goals as goal
 
@@ -17,12 +17,12 @@ returns-clause-runs g c =
     let ran = c.take_turns-then.ensures in
     let first = c.in-Ok.ensures.first in
     let fresh = Fresh-listening (seen c.args.sockets.now) (seen c.listen.new.self) new listened.told listened.taken listened.sent listened.used listened.there listened.undrained listened.listening in
-    rw c.kept.ensures (Runs-behind c.args.turns (g.K.Keeper.contents c.args.keeper.now) (g.K.Keeper.faults c.args.keeper.now) (g.K.Keeper.faults c.take_turns-then.new.keeper)
+    rw c.kept.ensures (Runs-following c.args.turns (g.K.Keeper.contents c.args.keeper.now) (g.K.Keeper.faults c.args.keeper.now) (g.K.Keeper.faults c.take_turns-then.new.keeper)
     (seen c.args.sockets.now) (seen c.take_turns-then.new.sockets) c.take_turns-then.result c.ending_of.result c.take_turns-then.new.headless
     (record {
       above = c.requires.above;
       known = known-readable _ _ c.in-Ok.ensures.known;
-      woke = λ t. (let w = ran.continues.wakes t in let z : wakes (seen c.listen.new.self).taken ≡ 0 = ap wakes (fresh.taken (ran.continues.told t)) in omega arith);
+      woke = λ t. (let w = ran.continues.wakes t in let z : wake_count (seen c.listen.new.self).taken ≡ 0 = ap wake_count (fresh.taken (ran.continues.told t)) in omega arith);
       listens = λ t. (let w = ran.continues.listens t in let z : listen_faults (seen c.listen.new.self).taken ≡ 0 = ap listen_faults (fresh.taken (ran.continues.told t)) in omega arith);
       never = ran.never;
       quit = ran.quit;
@@ -34,13 +34,13 @@ returns-clause-runs g c =
       wait_fault = λ q. Rose-before _ _ _ listened.counts.waits (ran.wait_fault q);
       listen_fault = λ q. Rose-before _ _ _ listened.counts.listens (ran.listen_fault q);
       asked = λ t. ran.continues.asked t ∙ listened.asked (ran.continues.told t) ∙ ap (λ xs. xs ++ Listen 9000 ∷ []) (new.asked (listened.told (ran.continues.told t)));
-      served = λ q. AllServed-behind c.take_turns-then.new.headless.core.seats (seen c.args.sockets.now) (seen c.listen.new.self) (seen c.take_turns-then.new.sockets) (record { told = listened.told; more = []; taken = listened.taken }) (later-of _ _ ran.continues) (ran.served q c.requires.above);
-      sent = λ q. AllSent-behind c.take_turns-then.new.headless.core.seats (seen c.args.sockets.now) (seen c.listen.new.self) (seen c.take_turns-then.new.sockets) (record { told = listened.told; more = []; taken = listened.taken }) (later-of _ _ ran.continues) listened.counts (ran.sent q);
+      served = λ q. AllServed-following c.take_turns-then.new.headless.core.connections (seen c.args.sockets.now) (seen c.listen.new.self) (seen c.take_turns-then.new.sockets) (record { told = listened.told; more = []; taken = listened.taken }) (later-of _ _ ran.continues) (ran.served q c.requires.above);
+      sent = λ q. AllSent-following c.take_turns-then.new.headless.core.connections (seen c.args.sockets.now) (seen c.listen.new.self) (seen c.take_turns-then.new.sockets) (record { told = listened.told; more = []; taken = listened.taken }) (later-of _ _ ran.continues) listened.counts (ran.sent q);
       left = λ above. record {
         headline = Headline-known _ c.in-Ok.headless _ _ c.in-Ok.ensures.known (λ t fed. HandsOut-run c.in-Ok.headless c.take_turns-then.new.headless (seen c.listen.new.self) (seen c.take_turns-then.new.sockets) ran.continues first fresh ran.calm t fed);
-        stands = ran.stands;
+        agrees = ran.agrees;
         calm = ran.calm;
-        causes = caused-behind (seen c.args.sockets.now) (seen c.listen.new.self) (seen c.take_turns-then.new.sockets) _ [] ran.continues.told listened.taken listened.counts ran.causes;
+        causes = caused-following (seen c.args.sockets.now) (seen c.listen.new.self) (seen c.take_turns-then.new.sockets) _ [] ran.continues.told listened.taken listened.counts ran.causes;
       };
     })
     c.ending_of.ensures)

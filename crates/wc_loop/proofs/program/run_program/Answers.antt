@@ -1,7 +1,7 @@
 use Rattle.std.proofs.Common.{sym, ◌∙◌, arith}
 use Rattle.wc_loop.specs.Endings.{number_of, status_of}
-use Rattle.wc_loop.proofs.OutcomeLemmas.{IsNumber-runs, Common-runs, Waits-runs, IfSome-headline, IfSome-stands, IfSome-calm, IfSome-causes, printed-by}
-use Rattle.wc_loop.proofs.MirrorLemmas.{Mirrored-last}
+use Rattle.wc_loop.proofs.OutcomeLemmas.{IsNumber-runs, Common-runs, Waits-runs, IfSome-headline, IfSome-agrees, IfSome-calm, IfSome-causes, printed-by}
+use Rattle.wc_loop.proofs.MirrorLemmas.{ClientsHoldDumps-last}
 use Rattle.wc_loop.proofs.program.run_program.Goals as goal
 
 pub returns-clause-headline : goal.returns-clause-headline
@@ -11,7 +11,7 @@ returns-clause-headline g c =
     rw c.end.ensures.last (IfSome-headline _ _ _ _ common.left)
 
 pub returns-clause-mirrored : goal.returns-clause-mirrored
-returns-clause-mirrored g c = Mirrored-last _ _ _
+returns-clause-mirrored g c = ClientsHoldDumps-last _ _ _
 
 pub returns-clause-waits : goal.returns-clause-waits
 returns-clause-waits g c =
@@ -53,11 +53,11 @@ returns-clause-last g c =
     let common = Common-runs _ _ _ _ (seen c.args.sockets.now) (seen c.run_words-outcome.new.sockets) _ _ c.requires c.run_words-outcome.ensures.runs in
     rw c.end.ensures.last common.counted
 
-pub returns-clause-stands : goal.returns-clause-stands
-returns-clause-stands g c =
+pub returns-clause-agrees : goal.returns-clause-agrees
+returns-clause-agrees g c =
     let seen = g.S.Sockets.seen in
     let common = Common-runs _ _ _ _ (seen c.args.sockets.now) (seen c.run_words-outcome.new.sockets) _ _ c.requires c.run_words-outcome.ensures.runs in
-    rw c.end.ensures.last (IfSome-stands _ _ _ _ common.left)
+    rw c.end.ensures.last (IfSome-agrees _ _ _ _ common.left)
 
 pub returns-clause-calm : goal.returns-clause-calm
 returns-clause-calm g c =

@@ -1,20 +1,20 @@
 use Rattle.std.proofs.Common.{◌≡◌, ◌+◌, ap, refl, ◌∙◌, subst, false, arith}
-use Rattle.wc_loop.specs.declared.then.Then.TheVariants.{GoOn}
+use Rattle.wc_loop.specs.declared.turn_end.TurnEnd.TheVariants.{GoOn}
 use Rattle.wc_loop.specs.Served.{leaving_closes}
-use Rattle.wc_loop.specs.Turns.{Continues, waits_then}
-use Rattle.wc_loop.proofs.CauseLemmas.{caused-behind}
-use Rattle.wc_loop.proofs.CloseLemmas.{Continues-refl}
-use Rattle.wc_loop.proofs.TurnLemmas.{Continues-wider}
-use Rattle.wc_loop.proofs.ProgramLemmas.{Continues-turn, Rose-before, waits-few, unwoken-by, woke-once}
-use Rattle.wc_loop.proofs.ServeLemmas.{AllServed-behind, AllSent-behind}
+use Rattle.wc_loop.specs.Turns.{LoopStep, waits_then}
+use Rattle.wc_loop.proofs.CauseLemmas.{caused-following}
+use Rattle.wc_loop.proofs.CloseLemmas.{LoopStep-refl}
+use Rattle.wc_loop.proofs.TurnLemmas.{LoopStep-wider}
+use Rattle.wc_loop.proofs.ProgramLemmas.{LoopStep-turn, Rose-before, waits-few, unwoken-by, woke-once}
+use Rattle.wc_loop.proofs.ServeLemmas.{AllServed-following, AllSent-following}
 use Rattle.wc_loop.proofs.SourceLemmas.{later-of}
 use Rattle.wc_loop.proofs.program.take_turns.Goals as goal
 
 pub loop-init : goal.loop-init
 loop-init g c = record {
-  continues = Continues-wider _ _ _ _ (Continues-refl _ _);
-  stands = c.requires.stands;
-  calm = ap leaving_closes c.requires.first.seats;
+  continues = LoopStep-wider _ _ _ _ (LoopStep-refl _ _);
+  agrees = c.requires.agrees;
+  calm = ap leaving_closes c.requires.first.connections;
   going = c.requires.first.quits;
   causes = rw c.requires.first.closed (λ k d below. absurd (omega arith));
   served = λ one. absurd (omega arith);
@@ -31,12 +31,12 @@ returns-in_default g c =
     let few = waits-few c.turn.result in
     let turns : c.turn.new.self.turns ≡ c.loop.headless.turns + waits_then c.turn.result = (let n = i.count in e.continues.turns (omega arith)) in
     record {
-      continues = Continues-turn c.turn.result c.loop.counter c.args.headless.now c.loop.headless c.turn.new.self (seen c.args.sockets.now) (seen c.loop.sockets) (seen c.turn.new.sockets) i.count (omega arith) i.continues e.continues;
-      stands = e.stands;
+      continues = LoopStep-turn c.turn.result c.loop.counter c.args.headless.now c.loop.headless c.turn.new.self (seen c.args.sockets.now) (seen c.loop.sockets) (seen c.turn.new.sockets) i.count (omega arith) i.continues e.continues;
+      agrees = e.agrees;
       calm = e.calm;
-      causes = caused-behind (seen c.args.sockets.now) (seen c.loop.sockets) (seen c.turn.new.sockets) _ i.continues.gained e.continues.told i.continues.taken i.continues.counts e.causes;
+      causes = caused-following (seen c.args.sockets.now) (seen c.loop.sockets) (seen c.turn.new.sockets) _ i.continues.gained e.continues.told i.continues.taken i.continues.counts e.causes;
       served = λ q. absurd (c.in_default.not-GoOn q);
-      sent = λ q. AllSent-behind c.turn.new.self.core.seats (seen c.args.sockets.now) (seen c.loop.sockets) (seen c.turn.new.sockets) (later-of _ _ i.continues) (later-of _ _ e.continues) i.continues.counts (e.sent q);
+      sent = λ q. AllSent-following c.turn.new.self.core.connections (seen c.args.sockets.now) (seen c.loop.sockets) (seen c.turn.new.sockets) (later-of _ _ i.continues) (later-of _ _ e.continues) i.continues.counts (e.sent q);
       never = e.never;
       quit = e.quit;
       going = λ quit listen. unwoken-by c.turn.result _ c.in_default.not-GoOn e.never quit listen e.unwoken;
@@ -57,13 +57,13 @@ loop-preserved g c =
     let seen = g.S.Sockets.seen in
     let count : c.turn.new.self.turns ≡ c.loop.counter + 1 = (let n = i.count in let t = e.continues.turns (omega arith) in omega arith) in
     record {
-      continues = subst (λ n. Continues false n 0 c.args.headless.now c.turn.new.self (seen c.args.sockets.now) (seen c.turn.new.sockets)) count
-          (Continues-turn GoOn c.loop.counter c.args.headless.now c.loop.headless c.turn.new.self (seen c.args.sockets.now) (seen c.loop.sockets) (seen c.turn.new.sockets) i.count (omega arith) i.continues e.continues);
-      stands = e.stands;
+      continues = subst (λ n. LoopStep false n 0 c.args.headless.now c.turn.new.self (seen c.args.sockets.now) (seen c.turn.new.sockets)) count
+          (LoopStep-turn GoOn c.loop.counter c.args.headless.now c.loop.headless c.turn.new.self (seen c.args.sockets.now) (seen c.loop.sockets) (seen c.turn.new.sockets) i.count (omega arith) i.continues e.continues);
+      agrees = e.agrees;
       calm = e.calm;
       going = e.goes_on refl;
-      causes = caused-behind (seen c.args.sockets.now) (seen c.loop.sockets) (seen c.turn.new.sockets) _ i.continues.gained e.continues.told i.continues.taken i.continues.counts e.causes;
-      served = λ one. AllServed-behind c.turn.new.self.core.seats (seen c.args.sockets.now) (seen c.loop.sockets) (seen c.turn.new.sockets) (later-of _ _ i.continues) (later-of _ _ e.continues) (e.served refl);
+      causes = caused-following (seen c.args.sockets.now) (seen c.loop.sockets) (seen c.turn.new.sockets) _ i.continues.gained e.continues.told i.continues.taken i.continues.counts e.causes;
+      served = λ one. AllServed-following c.turn.new.self.core.connections (seen c.args.sockets.now) (seen c.loop.sockets) (seen c.turn.new.sockets) (later-of _ _ i.continues) (later-of _ _ e.continues) (e.served refl);
       kept = ap g.K.Keeper.contents e.kept ∙ i.kept;
       count = count;
     }

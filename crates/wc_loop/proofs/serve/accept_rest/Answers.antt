@@ -1,13 +1,13 @@
-use Rattle.wc_loop.proofs.ContainedLemmas.{Contained-refl}
-use Rattle.wc_loop.proofs.CloseLemmas.{Continues-refl}
+use Rattle.wc_loop.proofs.ContainedLemmas.{KeepsLinks-refl}
+use Rattle.wc_loop.proofs.CloseLemmas.{LoopStep-refl}
 use Rattle.wc_loop.proofs.ServeLemmas.{OnOk-map}
 use Rattle.wc_loop.proofs.serve.accept_rest.Goals as goal
 
 pub returns-clause-heard : goal.returns-clause-heard
-returns-clause-heard g c = OnOk-map c.accept_all.result _ _ c.accept_all.ensures.heard (λ heard stands out. heard)
+returns-clause-heard g c = OnOk-map c.accept_all.result _ _ c.accept_all.ensures.heard (λ heard agrees out. heard)
 
 pub returns-then-not-headless-clause-continues : goal.returns-then-not-headless-clause-continues
-returns-then-not-headless-clause-continues g c = Continues-refl _ _
+returns-then-not-headless-clause-continues g c = LoopStep-refl _ _
 
 pub returns-then-not-headless-clause-contained : goal.returns-then-not-headless-clause-contained
-returns-then-not-headless-clause-contained g c = λ stands. Contained-refl _
+returns-then-not-headless-clause-contained g c = λ agrees. KeepsLinks-refl _

@@ -1,16 +1,16 @@
 use Rattle.std.proofs.Common.{◌≡◌, ◌+◌, ◌-◌, ◌≤◌, true, false, length, IsTrue}
-use Rattle.wc_loop.specs.Contained.{Contained}
+use Rattle.wc_loop.specs.Contained.{KeepsLinks}
 use Rattle.wc_loop.specs.Parts.{ReadsOn}
-use Rattle.wc_loop.specs.Served.{IsCalm}
+use Rattle.wc_loop.specs.Served.{NobodyLeaving}
 use Rattle.wc_loop.specs.Sources.{bytes_taken}
-use Rattle.wc_loop.specs.Turns.{Continues}
+use Rattle.wc_loop.specs.Turns.{LoopStep}
 use Rattle.wc_loop.proofs.turns.read_link.Given as goal
 
 abbrev pub invariant-loop-left : goal.invariant-loop-left
 invariant-loop-left g l = record {
-  continues : Continues true 0 0 l.fn.headless l.headless (g.S.Sockets.seen l.fn.sockets) (g.S.Sockets.seen l.sockets);
-  calm : IsCalm l.headless.core.seats;
-  contained : Contained l.fn.headless l.headless;
+  continues : LoopStep true 0 0 l.fn.headless l.headless (g.S.Sockets.seen l.fn.sockets) (g.S.Sockets.seen l.sockets);
+  calm : NobodyLeaving l.headless.core.connections;
+  contained : KeepsLinks l.fn.headless l.headless;
   going : l.headless.core.quits ≡ false;
   reads : ReadsOn l.link.0 (g.S.Sockets.seen l.fn.sockets) (g.S.Sockets.seen l.sockets);
   size : length l.buffer ≡ 16384;

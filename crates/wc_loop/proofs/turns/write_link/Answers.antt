@@ -1,19 +1,19 @@
-use Rattle.wc_loop.proofs.TurnLemmas.{Continues-trans}
-use Rattle.wc_loop.proofs.CloseLemmas.{Continues-refl}
-use Rattle.wc_loop.proofs.ContainedLemmas.{Contained-refl, Contained-trans}
-use Rattle.wc_loop.proofs.SourceLemmas.{Falls-refl, Falls-trans, TakesNothing-refl, TakesNothing-trans}
+use Rattle.wc_loop.proofs.TurnLemmas.{LoopStep-trans}
+use Rattle.wc_loop.proofs.CloseLemmas.{LoopStep-refl}
+use Rattle.wc_loop.proofs.ContainedLemmas.{KeepsLinks-refl, KeepsLinks-trans}
+use Rattle.wc_loop.proofs.SourceLemmas.{NothingBecameReady-refl, NothingBecameReady-trans, TakesNothing-refl, TakesNothing-trans}
 use Rattle.wc_loop.proofs.turns.write_link.Goals as goal
 
 pub loop-link-init : goal.loop-link-init
-loop-link-init g c = record { continues = Continues-refl _ _; calm = c.requires.calm; contained = Contained-refl _; going = c.requires.going; falls = Falls-refl _; others = λ k n h. h; nothing = TakesNothing-refl _ }
+loop-link-init g c = record { continues = LoopStep-refl _ _; calm = c.requires.calm; contained = KeepsLinks-refl _; going = c.requires.going; falls = NothingBecameReady-refl _; others = λ k n h. h; nothing = TakesNothing-refl _ }
 
 pub returns-then-not-write_once-clause-continues : goal.returns-then-not-write_once-clause-continues
 returns-then-not-write_once-clause-continues g c =
     let seen = g.S.Sockets.seen in
-    Continues-trans c.args.headless.now c.loop-link.headless c.write_once.new.headless (seen c.args.sockets.now) (seen c.loop-link.sockets) (seen c.write_once.new.sockets) c.loop-link.invariant.continues c.write_once.ensures.continues
+    LoopStep-trans c.args.headless.now c.loop-link.headless c.write_once.new.headless (seen c.args.sockets.now) (seen c.loop-link.sockets) (seen c.write_once.new.sockets) c.loop-link.invariant.continues c.write_once.ensures.continues
 
 pub returns-then-not-write_once-clause-falls : goal.returns-then-not-write_once-clause-falls
-returns-then-not-write_once-clause-falls g c = Falls-trans _ (g.S.Sockets.seen c.loop-link.sockets) _ c.loop-link.invariant.falls c.write_once.ensures.falls
+returns-then-not-write_once-clause-falls g c = NothingBecameReady-trans _ (g.S.Sockets.seen c.loop-link.sockets) _ c.loop-link.invariant.falls c.write_once.ensures.falls
 
 pub returns-then-not-write_once-clause-others : goal.returns-then-not-write_once-clause-others
 returns-then-not-write_once-clause-others g c = λ k n h. c.write_once.ensures.others k n (c.loop-link.invariant.others k n h)
@@ -27,14 +27,14 @@ loop-link-preserved g c =
     let e = c.write_once.ensures in
     let seen = g.S.Sockets.seen in
     record {
-      continues = Continues-trans c.args.headless.now c.loop-link.headless c.write_once.new.headless (seen c.args.sockets.now) (seen c.loop-link.sockets) (seen c.write_once.new.sockets) i.continues e.continues;
+      continues = LoopStep-trans c.args.headless.now c.loop-link.headless c.write_once.new.headless (seen c.args.sockets.now) (seen c.loop-link.sockets) (seen c.write_once.new.sockets) i.continues e.continues;
       calm = e.calm;
-      contained = Contained-trans c.args.headless.now c.loop-link.headless c.write_once.new.headless i.contained e.contained;
+      contained = KeepsLinks-trans c.args.headless.now c.loop-link.headless c.write_once.new.headless i.contained e.contained;
       going = e.going;
-      falls = Falls-trans _ (seen c.loop-link.sockets) _ i.falls e.falls;
+      falls = NothingBecameReady-trans _ (seen c.loop-link.sockets) _ i.falls e.falls;
       others = λ k n h. e.others k n (i.others k n h);
       nothing = TakesNothing-trans _ (seen c.loop-link.sockets) _ e.continues.told i.nothing e.nothing;
     }
 
 pub returns-then-not-write_once-clause-contained : goal.returns-then-not-write_once-clause-contained
-returns-then-not-write_once-clause-contained g c = Contained-trans c.args.headless.now c.loop-link.headless c.write_once.new.headless c.loop-link.invariant.contained c.write_once.ensures.contained
+returns-then-not-write_once-clause-contained g c = KeepsLinks-trans c.args.headless.now c.loop-link.headless c.write_once.new.headless c.loop-link.invariant.contained c.write_once.ensures.contained

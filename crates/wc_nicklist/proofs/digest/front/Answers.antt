@@ -1,5 +1,5 @@
 use Rattle.std.proofs.Common.{◌≡◌, ℕ, subst, ◌<◌, ◌^◌, arith}
-use Rattle.wc_nicklist.specs.Digest.{cased}
+use Rattle.wc_nicklist.specs.Digest.{bytes_compared}
 use Rattle.wc_nicklist.proofs.Digests.{front_next, front_bound, front_fits, cased_bytes}
 use Rattle.wc_nicklist.proofs.digest.front.Goals as goal
 
@@ -20,7 +20,7 @@ overflow_add-front c =
 
 pub loop-i-preserved : goal.loop-i-preserved
 loop-i-preserved c =
-    let more = front_next c.loop-i.i (cased c.args.keeps_case c.args.bytes.now) in
+    let more = front_next c.loop-i.i (bytes_compared c.args.keeps_case c.args.bytes.now) in
     omega (arith, more, c.loop-i.invariant, c.from.ensures, c.byte_at.ensures)
 
 pub returns-clause-bytes : goal.returns-clause-bytes

@@ -2,7 +2,7 @@ use Rattle.std.proofs.Common.{◌≡◌, ◌+◌, ◌≤◌, ◌++◌, take, dro
 use Rattle.std.specs.Prelude.{vec_capacity}
 use Rattle.wc_nicklist.proofs.leaf.move_half.Given as goal
 
--- what was moved stood behind the first half, before what is still to move
+-- what was moved came after the first half, before what is still to move
 abbrev pub invariant-loop-lower : goal.invariant-loop-lower
 invariant-loop-lower l = record {
   rows : l.fn.lower.items ≡ take 32 l.lower.items ++ (l.upper.items ++ drop 32 l.lower.items);

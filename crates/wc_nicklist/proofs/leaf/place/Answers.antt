@@ -5,8 +5,8 @@ use Rattle.wc_nicklist.proofs.Lasts.{row_here, stand_at, first_not}
 use Rattle.wc_nicklist.proofs.Places.{left_grows}
 use Rattle.wc_nicklist.proofs.leaf.place.Goals as goal
 
-pub stands_before-requires : goal.stands_before-requires
-stands_before-requires c = stand_at c.args.store.now c.args.entries.now c.loop-at.at _ c.requires.stand c.loop-at-test.true
+pub comes_before-requires : goal.comes_before-requires
+comes_before-requires c = stand_at c.args.store.now c.args.entries.now c.loop-at.at _ c.requires.stand c.loop-at-test.true
 
 pub loop-at-preserved : goal.loop-at-preserved
 loop-at-preserved c =
@@ -16,17 +16,17 @@ loop-at-preserved c =
     let l : c.loop-at.at < length rows = omega (arith, h, length-map c.args.entries.now (entry_row s)) in
     record {
       within = omega (arith, h);
-      left = left_grows rows _ c.loop-at.at _ c.requires.order l (row_here s c.args.entries.now c.loop-at.at _ h) (sym c.stands_before.ensures ∙ c.if-stands_before.true);
+      left = left_grows rows _ c.loop-at.at _ c.requires.order l (row_here s c.args.entries.now c.loop-at.at _ h) (sym c.comes_before.ensures ∙ c.if-comes_before.true);
     }
 
--- the last branch: some row does not stand before the address, or there is no other
-pub returns-else-stands_before : goal.returns-else-stands_before
-returns-else-stands_before c =
+-- the last branch: some row does not are before the address, or there is no other
+pub returns-else-comes_before : goal.returns-else-comes_before
+returns-else-comes_before c =
     let s = c.args.store.now in
     let es = c.args.entries.now in
     let h = c.loop-at-test.true in
     record {
       within = omega (arith, h, length-map es (entry_row s));
       left = c.loop-at.invariant.left;
-      right = first_not s es c.loop-at.at _ _ h (sym c.stands_before.ensures ∙ c.if-stands_before.false);
+      right = first_not s es c.loop-at.at _ _ h (sym c.comes_before.ensures ∙ c.if-comes_before.false);
     }

@@ -6,13 +6,13 @@ use Rattle.wc_nicklist.proofs.Lasts.{row_here, stand_at}
 use Rattle.wc_nicklist.proofs.Places.{left_grows}
 use Rattle.wc_nicklist.proofs.leaf.place_by_strides.Goals as goal
 
-pub stands_before-requires : goal.stands_before-requires
-stands_before-requires c =
+pub comes_before-requires : goal.comes_before-requires
+comes_before-requires c =
     let test = c.loop-at-test.true in
     let within = c.loop-at.invariant.within in
     stand_at c.args.store.now c.args.entries.now (c.loop-at.at + 8 - 1) _ c.requires.stand (omega (arith, test, within))
 
--- the last row of a stride stands before the address, so all of it does
+-- the last row of a stride is before the address, so all of it does
 pub loop-at-preserved : goal.loop-at-preserved
 loop-at-preserved c =
     let s = c.args.store.now in
@@ -29,5 +29,5 @@ loop-at-preserved c =
     let P : ℕ → Type 0 = λ n. AllBefore (take n rows) a in
     record {
       within = most;
-      left = subst P same (left_grows rows a m _ c.requires.order l (row_here s es m _ h) (sym c.stands_before.ensures ∙ c.if-stands_before.true));
+      left = subst P same (left_grows rows a m _ c.requires.order l (row_here s es m _ h) (sym c.comes_before.ensures ∙ c.if-comes_before.true));
     }

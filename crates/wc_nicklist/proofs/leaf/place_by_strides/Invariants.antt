@@ -3,7 +3,7 @@ use Rattle.wc_nicklist.specs.Order.{key_at, address_of}
 use Rattle.wc_nicklist.specs.Stored.{entry_row, AllBefore}
 use Rattle.wc_nicklist.proofs.leaf.place_by_strides.Given as goal
 
--- the rows so far stand before the address
+-- the rows so far are before the address
 abbrev pub invariant-loop-at : goal.invariant-loop-at
 invariant-loop-at l = record {
   within : l.at ≤ length l.entries;

@@ -3,8 +3,8 @@ use Rattle.std.specs.Prelude.{IsSomeAnd}
 use Rattle.wc_nicklist.specs.declared.item.Row.{Row}
 use Rattle.wc_nicklist.specs.Order.{key_at}
 use Rattle.wc_nicklist.specs.Rows.{find_row}
-use Rattle.wc_nicklist.specs.Tree.{rows_in, StandsIn}
-use Rattle.wc_nicklist.proofs.Children.{children_behind, is_its_group}
+use Rattle.wc_nicklist.specs.Tree.{rows_in, IsInTree}
+use Rattle.wc_nicklist.proofs.Children.{children_after, is_its_group}
 use Rattle.wc_nicklist.proofs.row_tree.has_child.Goals as goal
 
 pub find-at-requires-clause-known : goal.find-at-requires-clause-known
@@ -22,9 +22,9 @@ pub returns : goal.returns
 returns c =
     let s = c.args.store.now in
     let leaves = c.args.leaves.now in
-    let At : Bool → Type 0 = λ g. StandsIn s leaves c.find-at.result.0 c.find-at.result.1 (key_at g c.address.result.name.now) in
-    let Of : List ℕ → Type 0 = λ name. StandsIn s leaves c.find-at.result.0 c.find-at.result.1 (key_at true name) in
+    let At : Bool → Type 0 = λ g. IsInTree s leaves c.find-at.result.0 c.find-at.result.1 (key_at g c.address.result.name.now) in
+    let Of : List ℕ → Type 0 = λ name. IsInTree s leaves c.find-at.result.0 c.find-at.result.1 (key_at true name) in
     let group = is_its_group s leaves c.args.group.now c.requires.stands in
     let t : Of c.args.group.now.item.name = subst Of c.address.ensures.name (subst At (c.address.ensures.kind ∙ group) c.find-at.ensures) in
     c.begins_with_child.ensures
-    ∙ sym (children_behind s leaves c.find-at.result.0 c.find-at.result.1 c.args.group.now c.rows_behind.result t c.requires.held c.requires.stands c.rows_behind.ensures)
+    ∙ sym (children_after s leaves c.find-at.result.0 c.find-at.result.1 c.args.group.now c.rows_after.result t c.requires.held c.requires.stands c.rows_after.ensures)

@@ -3,7 +3,7 @@ use Rattle.std.specs.Prelude.{insert, slice_set, vec_len, vec_capacity}
 use Rattle.wc_nicklist.specs.declared.entry.Entry.{Entry}
 use Rattle.wc_nicklist.specs.Order.{key_at, address_of}
 use Rattle.wc_nicklist.specs.Rows.{Ascending}
-use Rattle.wc_nicklist.specs.Stored.{entry_row, AllStand, IsPlace}
+use Rattle.wc_nicklist.specs.Stored.{entry_row, AllEntriesLead, IsRowPlace}
 use Rattle.wc_nicklist.specs.Tree.{Leaf, leaf_rows, entries_in, IsLeaf, IsInserted}
 use Rattle.wc_nicklist.proofs.Leaves.{is_leaf_at, ascending_leaf, stand_leaf}
 use Rattle.wc_nicklist.proofs.TreeLaws.{tree_inserted, leaves_set}
@@ -15,8 +15,8 @@ put-requires-clause-stand c =
     let leaves = c.roomy_leaf-at.new.leaves.items in
     let p = c.roomy_leaf-at.ensures.place in
     let same : c.index_mut.result.now ≡ p.place.leaf = c.index_mut.ensures.value ∙ p.place.split.value c.index_mut.result.now in
-    let P : Leaf → Type 0 = λ l. AllStand s l.items in
-    subst P (sym same) (stand_leaf s leaves c.roomy_leaf-at.result p.place.leaf (subst (AllStand s) (sym c.roomy_leaf-at.ensures.entries) c.requires.stand) p.place.split)
+    let P : Leaf → Type 0 = λ l. AllEntriesLead s l.items in
+    subst P (sym same) (stand_leaf s leaves c.roomy_leaf-at.result p.place.leaf (subst (AllEntriesLead s) (sym c.roomy_leaf-at.ensures.entries) c.requires.stand) p.place.split)
 
 pub put-requires-clause-order : goal.put-requires-clause-order
 put-requires-clause-order c =
@@ -48,7 +48,7 @@ returns-clause-entries c =
     let p = c.roomy_leaf-at.ensures.place in
     let same : c.index_mut.result.now ≡ p.place.leaf = c.index_mut.ensures.value ∙ p.place.split.value c.index_mut.result.now in
     let q = c.put.ensures.place in
-    let P : Leaf → Type 0 = λ l. IsPlace (leaf_rows s l) a q.0 in
+    let P : Leaf → Type 0 = λ l. IsRowPlace (leaf_rows s l) a q.0 in
     let new = entries_in (slice_set leaves at c.put.new.self) in
     let came = tree_inserted s leaves at a c.args.entry c.put.new.self p.place q.0 (subst P same q.1) (q.2 ∙ ap (λ l. insert l.items q.0 c.args.entry) same) in
     subst (λ z. IsInserted s z new c.args.entry a) c.roomy_leaf-at.ensures.entries came

@@ -5,7 +5,7 @@ use Rattle.wc_nicklist.specs.Tree.{rows_in}
 use Rattle.wc_nicklist.proofs.Leaves.{EndsAt}
 use Rattle.wc_nicklist.proofs.row_tree.leaf_of.Given as goal
 
--- the rows of the leaves below `low` stand before the address, and those of the leaf `high` do not all, if it is not the last
+-- the rows of the leaves below `low` are before the address, and those of the leaf `high` do not all, if it is not the last
 abbrev pub invariant-loop-low : goal.invariant-loop-low
 invariant-loop-low l =
     let a = address_of l.address.path.now (key_at l.address.is_group l.address.name.now) in

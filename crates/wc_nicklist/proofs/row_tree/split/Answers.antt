@@ -4,7 +4,7 @@ use Rattle.std.proofs.lemmas.Bool.{true≢false}
 use Rattle.std.proofs.lemmas.List.{map-append}
 use Rattle.wc_nicklist.specs.Order.{key_at, address_of}
 use Rattle.wc_nicklist.specs.Rows.{Ascending}
-use Rattle.wc_nicklist.specs.Stored.{entry_row, AllStand}
+use Rattle.wc_nicklist.specs.Stored.{entry_row, AllEntriesLead}
 use Rattle.wc_nicklist.specs.Tree.{leaf_rows, IsLeaf}
 use Rattle.wc_nicklist.proofs.Leaves.{is_leaf_at, ascending_leaf, ascending_left, stand_leaf, stand_left}
 use Rattle.wc_nicklist.proofs.TreeLaws.{split_made, split_leaves, lower_place, upper_place}
@@ -16,7 +16,7 @@ ends_before-in_upper-requires-clause-stand c =
     let leaves = c.args.leaves.now.items in
     let p = c.requires.place in
     let same : c.index_mut-lower.result.now ≡ p.leaf = c.index_mut-lower.ensures.value ∙ p.split.value c.index_mut-lower.result.now in
-    stand_left s c.move_half.new.self.items c.move_half.new.upper.items (subst (AllStand s) (ap (λ l. l.items) (sym same) ∙ c.move_half.ensures.rows) (stand_leaf s leaves c.args.at p.leaf c.requires.stand p.split))
+    stand_left s c.move_half.new.self.items c.move_half.new.upper.items (subst (AllEntriesLead s) (ap (λ l. l.items) (sym same) ∙ c.move_half.ensures.rows) (stand_leaf s leaves c.args.at p.leaf c.requires.stand p.split))
 
 pub ends_before-in_upper-requires-clause-order : goal.ends_before-in_upper-requires-clause-order
 ends_before-in_upper-requires-clause-order c =

@@ -3,7 +3,7 @@ use Rattle.std.specs.Int.Digits.{digits_of}
 use Rattle.wc_objects.specs.Hex.{glyph}
 use Rattle.wc_objects.proofs.hex.write_digits.Given as goal
 
--- the digits of what is left stand in front of those that were written
+-- the digits of what is left are in front of those that were written
 abbrev pub invariant-loop-left : goal.invariant-loop-left
 invariant-loop-left l =
     (length l.digits ≡ 16) × (l.at ≤ 16) × (length (digits_of 16 l.left) ≤ l.at)

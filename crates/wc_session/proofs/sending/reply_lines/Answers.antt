@@ -1,5 +1,5 @@
 use Rattle.std.proofs.Common.{◌≡◌, sym, ◌∙◌, arith}
-use Rattle.wc_told.specs.LineObjects.{line_dump}
+use Rattle.wc_events.specs.LineObjects.{line_dump}
 use Rattle.wc_session.specs.Sending.{message, fits, fitting, null_hdata, Sends}
 use Rattle.wc_session.proofs.SendingLemmas.{reply_first, reply_second, owed_second, unsent_same, sends_as, sends_from}
 use Rattle.wc_session.proofs.sending.reply_lines.Goals as goal

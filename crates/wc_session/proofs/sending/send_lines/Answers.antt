@@ -1,6 +1,6 @@
 use Rattle.std.proofs.Common.{◌<◌, ◌^◌, ◌-◌, length, arith}
 use Rattle.wc_objects.specs.Spelling.{message_bytes}
-use Rattle.wc_told.specs.LineObjects.{line_dump}
+use Rattle.wc_events.specs.LineObjects.{line_dump}
 use Rattle.wc_session.proofs.SendingLemmas.{sends_one, sends_too_long}
 use Rattle.wc_session.proofs.sending.send_lines.Goals as goal
 

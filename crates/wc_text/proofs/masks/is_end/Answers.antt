@@ -1,6 +1,6 @@
 use Rattle.std.proofs.Common.{◌≡◌, ◌-◌, length, Option, Some, None, is_some, Bor, List, ℕ, refl, sym, ap, ◌∙◌, arith}
 use Rattle.std.specs.Option.{option_copied}
-use Rattle.wc_text.specs.Mask.{behind_front}
+use Rattle.wc_text.specs.Mask.{after_front}
 use Rattle.wc_text.proofs.MaskLemmas.{no_end, ends_long}
 use Rattle.wc_text.proofs.masks.is_end.Goals as goal
 
@@ -16,6 +16,6 @@ returns c =
     let mask = c.args.mask.now in
     let text = c.args.text.now in
     let n = length text - length mask in
-    c.is_some.ensures ∙ copied_some c.behind_front.result ∙ ap is_some c.behind_front.ensures
-    ∙ ap (λ end. is_some (behind_front c.args.fold mask end)) c.split_at.ensures.back
+    c.is_some.ensures ∙ copied_some c.after_front.result ∙ ap is_some c.after_front.ensures
+    ∙ ap (λ end. is_some (after_front c.args.fold mask end)) c.split_at.ensures.back
     ∙ sym (ends_long c.args.fold mask text n c.requires (omega arith))

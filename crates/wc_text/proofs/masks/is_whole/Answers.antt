@@ -14,8 +14,8 @@ empty_is_nothing (b ∷ rest) = filled (length rest)
 
 pub returns-in-Some : goal.returns-in-Some
 returns-in-Some c =
-    c.is_empty.ensures ∙ empty_is_nothing c.in-Some.behind.now
-    ∙ sym (whole_matches c.args.fold c.args.mask.now c.args.text.now (Some c.in-Some.behind.now) c.requires c.in-Some.ensures)
+    c.is_empty.ensures ∙ empty_is_nothing c.in-Some.following.now
+    ∙ sym (whole_matches c.args.fold c.args.mask.now c.args.text.now (Some c.in-Some.following.now) c.requires c.in-Some.ensures)
 
 pub returns-in-None : goal.returns-in-None
 returns-in-None c = sym (whole_matches c.args.fold c.args.mask.now c.args.text.now None c.requires c.in-None.ensures)

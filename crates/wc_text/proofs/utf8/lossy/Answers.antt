@@ -22,7 +22,7 @@ pub loop-text-preserved : goal.loop-text-preserved
 loop-text-preserved c =
     let s = c.split_valid-in-loop-text.ensures in
     let valid = c.split_valid-in-loop-text.result.0.now in
-    let first : c.split_valid-in-loop-text.result.1.now ≡ c.in-Some.field-0-0.now ∷ c.in-Some.behind.now = c.in-Some.ensures.cases.0 in
-    ap (λ text. text ++ lossy_of c.in-Some.behind.now) (c.in_ok-append-2.ensures.ok ∙ ap (λ text. text ++ replacement_bytes) c.in_ok-append.ensures.ok)
-    ∙ next_lossy c.loop-text.text valid c.loop-text.rest.now c.in-Some.behind.now _ c.in-Some.field-0-0.now c.loop-text.invariant
+    let first : c.split_valid-in-loop-text.result.1.now ≡ c.in-Some.field-0-0.now ∷ c.in-Some.following.now = c.in-Some.ensures.cases.0 in
+    ap (λ text. text ++ lossy_of c.in-Some.following.now) (c.in_ok-append-2.ensures.ok ∙ ap (λ text. text ++ replacement_bytes) c.in_ok-append.ensures.ok)
+    ∙ next_lossy c.loop-text.text valid c.loop-text.rest.now c.in-Some.following.now _ c.in-Some.field-0-0.now c.loop-text.invariant
     (s.whole ∙ ap (λ bytes. valid ++ bytes) first) s.valid (sym (ap char_len first) ∙ s.no_char)

@@ -13,5 +13,5 @@ returns-then-not-is_root_item c =
 
 pub returns : goal.returns
 returns c =
-    answered (λ list. list.rows) c.list_behind.result _ _ c.list_behind.ensures
+    answered (λ list. list.rows) c.list_after.result _ _ c.list_after.ensures
     (listed_rows c.args.items.items (into_iter_items c.next.new.self) c.in-Some.root (sym c.into_iter-rows.ensures.rest ∙ c.in-Some.ensures.items) (sym c.is_root_item.ensures ∙ c.if-not-is_root_item.false))

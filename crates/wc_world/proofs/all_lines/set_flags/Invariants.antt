@@ -1,9 +1,9 @@
 use Rattle.std.proofs.Common.{◌≡◌, ℕ, drop, option_map, if◌then◌else◌}
 use Rattle.wc_lines.specs.Flags.{flag_at, with_flags}
-use Rattle.wc_world.specs.Flips.{stands_in}
+use Rattle.wc_world.specs.Flips.{lies_in}
 use Rattle.wc_world.specs.Kept.{held_at}
 use Rattle.wc_world.specs.Near.{numbers}
 use Rattle.wc_world.proofs.all_lines.set_flags.Given as goal
 
 abbrev pub invariant-loop-h : goal.invariant-loop-h
-invariant-loop-h l = (q : ℕ) → (if stands_in q (numbers (drop l.h-index l.buffers)) then option_map (with_flags (flag_at l.flags)) (held_at l.held q) else held_at l.held q) ≡ (if stands_in q (numbers l.buffers) then option_map (with_flags (flag_at l.flags)) (held_at l.fn.held q) else held_at l.fn.held q)
+invariant-loop-h l = (q : ℕ) → (if lies_in q (numbers (drop l.h-index l.buffers)) then option_map (with_flags (flag_at l.flags)) (held_at l.held q) else held_at l.held q) ≡ (if lies_in q (numbers l.buffers) then option_map (with_flags (flag_at l.flags)) (held_at l.fn.held q) else held_at l.fn.held q)

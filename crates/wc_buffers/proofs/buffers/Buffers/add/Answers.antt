@@ -1,7 +1,7 @@
 use Rattle.std.proofs.Common.{◌≡◌, ◌∙◌, None, ap, sym, subst, length, All, arith}
 use Rattle.std.specs.List.{list_any}
 use Rattle.wc_buffers.specs.declared.entry.BufferEntry.{BufferEntry}
-use Rattle.wc_buffers.specs.Calls.{add_refusal_so_far, opened, other_named}
+use Rattle.wc_buffers.specs.Calls.{add_refusal_so_far, new_entry, other_named}
 use Rattle.wc_buffers.specs.Entries.{IsText}
 use Rattle.wc_buffers.specs.Groups.{rows}
 use Rattle.wc_buffers.specs.Kept.{IsBuffer}
@@ -21,7 +21,7 @@ pub returns-then-len-gt-MOST_VARS-clause-refused : goal.returns-then-len-gt-MOST
 returns-then-len-gt-MOST_VARS-clause-refused c = λ memory.
     let vars = c.as_slice-2.ensures in
     let so_far : add_refusal_so_far c.args.row c.args.vars.now c.args.self.now ≡ None = not_due _ c.add_refusal.result (rw c.as_slice.ensures at c.add_refusal.ensures) c.in_default.is in
-    let entry : c.in_ok-entry.entry ≡ opened c.args.row c.args.vars.now = rw vars at c.in_ok-entry.ensures in
+    let entry : c.in_ok-entry.entry ≡ new_entry c.args.row c.args.vars.now = rw vars at c.in_ok-entry.ensures in
     add_rest c.args.row c.args.vars.now c.args.self.now so_far
     ∙ vars_refused c.args.row.full_name c.args.vars.now (omega (arith, c.if-len-gt-MOST_VARS.true, c.len.ensures, ap (λ (e : BufferEntry). length e.vars) entry))
 
@@ -29,7 +29,7 @@ pub put-requires-clause-fits : goal.put-requires-clause-fits
 put-requires-clause-fits c =
     let vars = c.as_slice-2.ensures in
     let so_far : add_refusal_so_far c.args.row c.args.vars.now c.args.self.now ≡ None = not_due _ c.add_refusal.result (rw c.as_slice.ensures at c.add_refusal.ensures) c.in_default.is in
-    let entry : c.in_ok-entry.entry ≡ opened c.args.row c.args.vars.now = rw vars at c.in_ok-entry.ensures in
+    let entry : c.in_ok-entry.entry ≡ new_entry c.args.row c.args.vars.now = rw vars at c.in_ok-entry.ensures in
     let few = vars_good c.args.row.full_name c.args.vars.now (omega (arith, c.if-len-gt-MOST_VARS.false, c.len.ensures, ap (λ (e : BufferEntry). length e.vars) entry)) in
     subst IsBuffer (sym entry) (opened_fits c.args.row c.args.vars.now c.requires.text c.requires.vars (add_good c.args.row c.args.vars.now c.args.self.now so_far).0 few)
 
@@ -47,6 +47,6 @@ pub returns-clause-accepted : goal.returns-clause-accepted
 returns-clause-accepted c =
     let vars = c.as_slice-2.ensures in
     let so_far : add_refusal_so_far c.args.row c.args.vars.now c.args.self.now ≡ None = not_due _ c.add_refusal.result (rw c.as_slice.ensures at c.add_refusal.ensures) c.in_default.is in
-    let entry : c.in_ok-entry.entry ≡ opened c.args.row c.args.vars.now = rw vars at c.in_ok-entry.ensures in
+    let entry : c.in_ok-entry.entry ≡ new_entry c.args.row c.args.vars.now = rw vars at c.in_ok-entry.ensures in
     add_rest c.args.row c.args.vars.now c.args.self.now so_far
     ∙ vars_good c.args.row.full_name c.args.vars.now (omega (arith, c.if-len-gt-MOST_VARS.false, c.len.ensures, ap (λ (e : BufferEntry). length e.vars) entry))

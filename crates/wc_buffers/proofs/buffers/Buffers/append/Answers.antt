@@ -1,6 +1,6 @@
 use Rattle.std.proofs.Common.{◌∙◌, ap}
-use Rattle.wc_buffers.specs.Calls.{handle_of, are_together, merged}
-use Rattle.wc_buffers.specs.Kept.{entry_at, shown}
+use Rattle.wc_buffers.specs.Calls.{handle_of, are_together, merge_groups}
+use Rattle.wc_buffers.specs.Kept.{entry_at, groups_of_handles}
 use Rattle.wc_buffers.specs.Table.{key}
 use Rattle.wc_buffers.proofs.EditLemmas.{is_grouped, not_together}
 use Rattle.wc_buffers.proofs.GroupLaws.{merge-map}
@@ -25,6 +25,6 @@ invariant_of-self c = kept_moved c.self.inside.table c.merge.new.self c.self.ins
 
 pub returns : goal.returns
 returns c =
-    ap (shown c.self.inside.entries) c.merge.ensures.merged
+    ap (groups_of_handles c.self.inside.entries) c.merge.ensures.merged
     ∙ merge-map (entry_at c.self.inside.entries) key handle_of (key_at c.self.inside.entries c.self.invariant.keyed) c.args.h.0 c.args.into.0 c.self.inside.table
-    ∙ ap (merged c.args.h c.args.into) c.self.view_is
+    ∙ ap (merge_groups c.args.h c.args.into) c.self.view_is

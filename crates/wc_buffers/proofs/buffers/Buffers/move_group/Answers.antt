@@ -1,7 +1,7 @@
 use Rattle.std.proofs.Common.{◌∙◌, ◌-◌, ap}
-use Rattle.wc_buffers.specs.Calls.{handle_of, moved}
+use Rattle.wc_buffers.specs.Calls.{handle_of, move_group_to}
 use Rattle.wc_buffers.specs.Groups.{has, move_group}
-use Rattle.wc_buffers.specs.Kept.{entry_at, shown}
+use Rattle.wc_buffers.specs.Kept.{entry_at, groups_of_handles}
 use Rattle.wc_buffers.specs.Table.{key}
 use Rattle.wc_buffers.proofs.EditLemmas.{is_grouped, within_shown}
 use Rattle.wc_buffers.proofs.GroupLaws.{move_group-map, has_from_times, times-move_group}
@@ -22,6 +22,6 @@ invariant_of-self c =
 
 pub returns : goal.returns
 returns c =
-    ap (shown c.self.inside.entries) c.move_group.ensures
+    ap (groups_of_handles c.self.inside.entries) c.move_group.ensures
     ∙ move_group-map (entry_at c.self.inside.entries) key handle_of (key_at c.self.inside.entries c.self.invariant.keyed) c.args.h.0 (c.args.number - 1) c.self.inside.table
-    ∙ ap (moved c.args.h c.args.number) c.self.view_is
+    ∙ ap (move_group_to c.args.h c.args.number) c.self.view_is

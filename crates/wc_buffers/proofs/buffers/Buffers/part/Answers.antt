@@ -1,7 +1,7 @@
 use Rattle.std.proofs.Common.{◌∙◌, ap}
-use Rattle.wc_buffers.specs.Calls.{handle_of, is_alone, unmerged}
+use Rattle.wc_buffers.specs.Calls.{handle_of, is_alone, unmerge_group}
 use Rattle.wc_buffers.specs.Groups.{has, unmerge}
-use Rattle.wc_buffers.specs.Kept.{entry_at, shown}
+use Rattle.wc_buffers.specs.Kept.{entry_at, groups_of_handles}
 use Rattle.wc_buffers.specs.Table.{key}
 use Rattle.wc_buffers.proofs.EditLemmas.{is_grouped}
 use Rattle.wc_buffers.proofs.GroupLaws.{unmerge-map, has_from_times, times-unmerge}
@@ -22,6 +22,6 @@ invariant_of-self c =
 
 pub returns : goal.returns
 returns c =
-    ap (shown c.self.inside.entries) c.unmerge.ensures
+    ap (groups_of_handles c.self.inside.entries) c.unmerge.ensures
     ∙ unmerge-map (entry_at c.self.inside.entries) key handle_of (key_at c.self.inside.entries c.self.invariant.keyed) c.args.h.0 c.self.inside.table
-    ∙ ap (unmerged c.args.h) c.self.view_is
+    ∙ ap (unmerge_group c.args.h) c.self.view_is

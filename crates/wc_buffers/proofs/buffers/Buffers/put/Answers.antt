@@ -1,6 +1,6 @@
 use Rattle.std.proofs.Common.{◌∙◌, ◌++◌, ◌∷◌, [], List, Some, cond, eqb, bytes_eq, ap, sym, subst}
 use Rattle.wc_buffers.specs.declared.entry.BufferEntry.{BufferEntry}
-use Rattle.wc_buffers.specs.Kept.{at_name, shown, IsKept}
+use Rattle.wc_buffers.specs.Kept.{at_name, groups_of_handles, AreBuffersKept}
 use Rattle.wc_buffers.proofs.EditLemmas.{is_not_grouped, room_shown}
 use Rattle.wc_buffers.proofs.Keeps.{kept_same, kept_added, shown_added}
 use Rattle.wc_buffers.proofs.Named.{free_for_new}
@@ -20,7 +20,7 @@ invariant_of-self-2 c =
     let e = c.args.entry in
     let gs = c.self.inside.table in
     let absent = is_not_grouped gs c.self.inside.entries c.self.inside.names c.self.invariant e.row.handle (rw c.self.view_is c.requires.absent) in
-    subst (λ g. IsKept g c.insert-2.new.entries c.insert.new.names) (sym c.add.ensures)
+    subst (λ g. AreBuffersKept g c.insert-2.new.entries c.insert.new.names) (sym c.add.ensures)
     (kept_added e gs c.self.inside.entries c.insert-2.new.entries c.self.inside.names c.insert.new.names c.requires.handle absent c.requires.fits
     (free_for_new gs c.self.inside.entries c.self.inside.names c.self.invariant e.row.full_name e.row.handle absent (rw c.self.view_is c.requires.free))
     (λ q. c.insert-2.ensures q ∙ ap (cond (eqb e.row.handle.0 q) (Some e)) (c.reserve-2.ensures.same q))
@@ -32,6 +32,6 @@ returns-clause-ok c =
     let e = c.args.entry in
     let gs = c.self.inside.table in
     let absent = is_not_grouped gs c.self.inside.entries c.self.inside.names c.self.invariant e.row.handle (rw c.self.view_is c.requires.absent) in
-    ap (shown c.insert-2.new.entries) c.add.ensures
+    ap (groups_of_handles c.insert-2.new.entries) c.add.ensures
     ∙ shown_added e gs c.self.inside.entries c.insert-2.new.entries absent (λ q. c.insert-2.ensures q ∙ ap (cond (eqb e.row.handle.0 q) (Some e)) (c.reserve-2.ensures.same q))
     ∙ ap (λ (l : List (List BufferEntry)). l ++ (e ∷ []) ∷ []) c.self.view_is

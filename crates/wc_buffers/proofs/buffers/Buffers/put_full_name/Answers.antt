@@ -1,6 +1,6 @@
 use Rattle.std.proofs.Common.{◌∙◌, List, ℕ, Some, None, cond, bytes_eq, ap, sym, subst}
-use Rattle.wc_buffers.specs.Calls.{with_full_name, changed}
-use Rattle.wc_buffers.specs.Kept.{at_handle, at_name, IsChangedAt}
+use Rattle.wc_buffers.specs.Calls.{with_full_name, with_entry}
+use Rattle.wc_buffers.specs.Kept.{at_handle, at_name, IsEntryChanged}
 use Rattle.wc_buffers.proofs.EditLemmas.{is_stored, shown_changed_at, stored_entry}
 use Rattle.wc_buffers.proofs.Fits.{full_name_fits}
 use Rattle.wc_buffers.proofs.Keeps.{kept_renamed, kept_same, unchanged}
@@ -20,7 +20,7 @@ invariant_of-self-2 c =
     let name = c.args.name.now in
     let there = is_stored c.self.inside.table es ns c.self.invariant c.args.h (rw c.self.view_is c.requires.there) in
     let old = stored_entry (at_handle es c.args.h.0) c.in_ok-old.old there c.in_ok-old.ensures.old in
-    let new : IsChangedAt c.args.h.0 (with_full_name name) es c.set_full_name.new.entries = subst (λ (n : List ℕ). IsChangedAt c.args.h.0 (with_full_name n) es c.set_full_name.new.entries) c.in_ok-name.ensures c.in_ok-old.ensures.ok in
+    let new : IsEntryChanged c.args.h.0 (with_full_name name) es c.set_full_name.new.entries = subst (λ (n : List ℕ). IsEntryChanged c.args.h.0 (with_full_name n) es c.set_full_name.new.entries) c.in_ok-name.ensures c.in_ok-old.ensures.ok in
     kept_renamed c.args.h old.0 name c.self.inside.table es c.set_full_name.new.entries ns c.remove.new.names c.insert.new.names old.1
     (λ is. full_name_fits name old.0 c.requires.fits c.requires.utf8 is)
     (λ other e. free_but c.self.inside.table es ns c.self.invariant name c.args.h other (rw c.self.view_is c.requires.free) e)
@@ -33,5 +33,5 @@ pub returns-clause-ok : goal.returns-clause-ok
 returns-clause-ok c =
     let es = c.self.inside.entries in
     let name = c.args.name.now in
-    let new : IsChangedAt c.args.h.0 (with_full_name name) es c.set_full_name.new.entries = subst (λ (n : List ℕ). IsChangedAt c.args.h.0 (with_full_name n) es c.set_full_name.new.entries) c.in_ok-name.ensures c.in_ok-old.ensures.ok in
-    shown_changed_at c.args.h (with_full_name name) c.self.inside.table es c.set_full_name.new.entries c.self.inside.names c.self.invariant new (rw c.self.view_is c.requires.there) ∙ ap (changed c.args.h (with_full_name name)) c.self.view_is
+    let new : IsEntryChanged c.args.h.0 (with_full_name name) es c.set_full_name.new.entries = subst (λ (n : List ℕ). IsEntryChanged c.args.h.0 (with_full_name n) es c.set_full_name.new.entries) c.in_ok-name.ensures c.in_ok-old.ensures.ok in
+    shown_changed_at c.args.h (with_full_name name) c.self.inside.table es c.set_full_name.new.entries c.self.inside.names c.self.invariant new (rw c.self.view_is c.requires.there) ∙ ap (with_entry c.args.h (with_full_name name)) c.self.view_is

@@ -1,5 +1,5 @@
 use Rattle.std.proofs.Common.{◌≡◌, ◌∙◌, ◌&&◌, Some, ap, sym, refl}
-use Rattle.wc_buffers.specs.Calls.{with_var, changed, lacks_var, is_full, entry_of}
+use Rattle.wc_buffers.specs.Calls.{with_var, with_entry, lacks_var, is_full, entry_of}
 use Rattle.wc_buffers.proofs.EditLemmas.{is_stored, shown_changed_at}
 use Rattle.wc_buffers.proofs.Fits.{var_fits}
 use Rattle.wc_buffers.proofs.Keeps.{kept_changed, kept_same, unchanged}
@@ -24,7 +24,7 @@ invariant_of-self-2 c =
 pub returns-clause-ok : goal.returns-clause-ok
 returns-clause-ok c =
     let f = with_var c.args.name.now c.args.value.now in
-    shown_changed_at c.args.h f c.self.inside.table c.self.inside.entries c.set_var.new.entries c.self.inside.names c.self.invariant c.in_ok-new.ensures.ok (rw c.self.view_is c.requires.there) ∙ ap (changed c.args.h f) c.self.view_is
+    shown_changed_at c.args.h f c.self.inside.table c.self.inside.entries c.set_var.new.entries c.self.inside.names c.self.invariant c.in_ok-new.ensures.ok (rw c.self.view_is c.requires.there) ∙ ap (with_entry c.args.h f) c.self.view_is
 
 pub returns-clause-new : goal.returns-clause-new
 returns-clause-new c =

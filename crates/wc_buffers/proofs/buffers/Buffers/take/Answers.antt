@@ -1,7 +1,7 @@
 use Rattle.std.proofs.Common.{◌∙◌, None, cond, bytes_eq, ap, sym, subst, option_map}
 use Rattle.wc_buffers.specs.declared.entry.BufferEntry.{BufferEntry}
-use Rattle.wc_buffers.specs.Calls.{buffer_of, closed}
-use Rattle.wc_buffers.specs.Kept.{at_name, shown, IsKept}
+use Rattle.wc_buffers.specs.Calls.{buffer_of, without_buffer}
+use Rattle.wc_buffers.specs.Kept.{at_name, groups_of_handles, AreBuffersKept}
 use Rattle.wc_buffers.proofs.EditLemmas.{is_stored, is_grouped}
 use Rattle.wc_buffers.proofs.Keeps.{kept_taken, shown_taken}
 use Rattle.wc_buffers.proofs.Shown.{entry-shown}
@@ -16,7 +16,7 @@ remove-requires-2 c = is_grouped c.self.inside.table c.self.inside.entries c.sel
 pub invariant_of-self : goal.invariant_of-self
 invariant_of-self c =
     let e = c.remove-entry.result in
-    subst (λ gs. IsKept gs c.remove-entry.new.entries c.remove.new.names) (sym c.remove-2.ensures)
+    subst (λ gs. AreBuffersKept gs c.remove-entry.new.entries c.remove.new.names) (sym c.remove-2.ensures)
     (kept_taken c.args.h.0 e c.self.inside.table c.self.inside.entries c.remove-entry.new.entries c.self.inside.names c.remove.new.names c.remove-entry.ensures.entry c.remove-entry.ensures.left
     (λ s. c.remove.ensures.left s ∙ ap (λ name. cond (bytes_eq name s) None (at_name c.self.inside.names s)) c.as_slice.ensures) c.self.invariant)
 
@@ -27,6 +27,6 @@ returns-clause-row c =
 
 pub returns-clause-after : goal.returns-clause-after
 returns-clause-after c =
-    ap (shown c.remove-entry.new.entries) c.remove-2.ensures
+    ap (groups_of_handles c.remove-entry.new.entries) c.remove-2.ensures
     ∙ shown_taken c.args.h.0 c.self.inside.table c.self.inside.entries c.remove-entry.new.entries c.self.inside.names c.self.invariant c.remove-entry.ensures.left
-    ∙ ap (closed c.args.h) c.self.view_is
+    ∙ ap (without_buffer c.args.h) c.self.view_is

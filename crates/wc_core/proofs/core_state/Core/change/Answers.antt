@@ -6,7 +6,7 @@ use Rattle.wc_core.proofs.core_state.Core.change.Goals as goal
 pub tell-requires : goal.tell-requires
 tell-requires c =
     notice-utf8 c.self.inside.world c.args.change c.change_world.new.world c.in-Ok.notice c.buffers.result.now c.buffers-in-Ok.result.now c.in-Ok.ensures.outcome c.buffers.ensures c.buffers-in-Ok.ensures
-    c.groups-texts.ensures.held c.groups-texts_behind.ensures.held
+    c.groups-texts.ensures.held c.groups-texts_after.ensures.held
 
 pub returns-in-Ok-clause-made : goal.returns-in-Ok-clause-made
 returns-in-Ok-clause-made c = λ none. rw (← c.self.view_is) (changes-told _ _ c.tell.new.self c.args.change c.in-Ok.notice c.requires.plain refl c.in-Ok.ensures.outcome c.tell.ensures)

@@ -2,7 +2,7 @@ use Rattle.std.proofs.Common.{◌≡◌, None, refl, sym, subst}
 use Rattle.wc_model.specs.declared.change.Change.{Change}
 use Rattle.wc_model.specs.Touches.{touched_key}
 use Rattle.wc_world.specs.Texts.{IsChangeText}
-use Rattle.wc_core.specs.Standing.{Standing}
+use Rattle.wc_core.specs.CoreView.{CoreView}
 use Rattle.wc_core.specs.Resolved.{told_refusal}
 use Rattle.wc_core.proofs.CoreLemmas.{tells-changed}
 use Rattle.wc_core.proofs.ResolvedTexts.{told_text}
@@ -20,5 +20,5 @@ change-skipped-requires-clause-plain c =
 
 pub returns-in-Ok : goal.returns-in-Ok
 returns-in-Ok c =
-    let P : Standing → Type 0 = λ core. c.in-Ok.line ≡ told_refusal core.moment c.args.text in
+    let P : CoreView → Type 0 = λ core. c.in-Ok.line ≡ told_refusal core.moment c.args.text in
     tells-changed c.args.self.now c.change-skipped.new.self c.args.text c.in-Ok.line c.change-skipped.result (subst P c.self.view_is c.in-Ok.ensures) c.change-skipped.ensures.made c.change-skipped.ensures.refused

@@ -3,7 +3,7 @@ use Rattle.std.specs.Prelude.{not}
 use Rattle.wc_hooks.specs.declared.entry.HookId.{HookId}
 use Rattle.wc_hooks.specs.Inside.{seen_as}
 use Rattle.wc_hooks.specs.Rows.{new_row}
-use Rattle.wc_hooks.specs.Table.{IsTable, with_row}
+use Rattle.wc_hooks.specs.Table.{IsHookTable, with_row}
 use Rattle.wc_hooks.proofs.Windows.{all_low}
 use Rattle.wc_hooks.proofs.Calls.{law_of, kept_put, seen_put, few_relays, few_others}
 use Rattle.wc_hooks.proofs.ByKey.{hooked_by_key, next_is_fresh}
@@ -38,9 +38,9 @@ pub returns-clause-by_key : goal.returns-clause-by_key
 returns-clause-by_key c =
     let a = c.self.inside in
     let id : HookId = record { 0 = a.hooked + 1 } in
-    hooked_by_key c.args.self.now (seen_as c.put.new.self c.move_all.new.cursors.items a.marks.items (a.hooked + 1)) (new_row id c.args.kind c.args.key.now c.args.priority c.args.owner) (subst IsTable c.self.view_is (law_of a.slots a.cursors.items a.marks.items a.hooked a.relays a.others a.has_gone c.self.invariant.kept))
+    hooked_by_key c.args.self.now (seen_as c.put.new.self c.move_all.new.cursors.items a.marks.items (a.hooked + 1)) (new_row id c.args.kind c.args.key.now c.args.priority c.args.owner) (subst IsHookTable c.self.view_is (law_of a.slots a.cursors.items a.marks.items a.hooked a.relays a.others a.has_gone c.self.invariant.kept))
     (seen_put a.slots a.cursors.items a.marks.items a.hooked a.relays a.others a.has_gone c.self.invariant.kept _ c.in_ok-at.at c.put.new.self c.move_all.new.cursors.items c.args.self.now c.self.view_is c.in_ok-at.ensures.order c.in_ok-at.ensures.there c.move_all.ensures refl refl
     ∙ ap (λ key. with_row (new_row id c.args.kind key c.args.priority c.args.owner) c.args.self.now) c.in_ok-key.ensures)
 
 pub returns-clause-fresh : goal.returns-clause-fresh
-returns-clause-fresh c = let a = c.self.inside in next_is_fresh c.args.self.now _ (subst IsTable c.self.view_is (law_of a.slots a.cursors.items a.marks.items a.hooked a.relays a.others a.has_gone c.self.invariant.kept)) (ap (λ t. t.hooked + 1) c.self.view_is)
+returns-clause-fresh c = let a = c.self.inside in next_is_fresh c.args.self.now _ (subst IsHookTable c.self.view_is (law_of a.slots a.cursors.items a.marks.items a.hooked a.relays a.others a.has_gone c.self.invariant.kept)) (ap (λ t. t.hooked + 1) c.self.view_is)

@@ -3,7 +3,7 @@ use Rattle.wc_hooks.specs.declared.entry.Entry.{Entry}
 use Rattle.wc_hooks.specs.Inside.{seen_as}
 use Rattle.wc_hooks.specs.Slots.{live_rows, Walked}
 use Rattle.wc_hooks.specs.Table.{next_of, after_next}
-use Rattle.wc_hooks.proofs.Sounds.{stands_at}
+use Rattle.wc_hooks.proofs.Sounds.{lies_at}
 use Rattle.wc_hooks.proofs.TableLaws.{marked_next, room_for, next_given}
 use Rattle.wc_hooks.proofs.Calls.{law_of, kept_next, seen_next, goes_at, cursor_there}
 use Rattle.wc_hooks.proofs.table.HookTable.next.Goals as goal
@@ -13,17 +13,17 @@ cursor_at-cursor-requires g c = let a = c.self.inside in cursor_there a.slots a.
 
 pub next-given-requires-clause-inside : goal.next-given-requires-clause-inside
 next-given-requires-clause-inside g c =
-    let stands = stands_at c.self.inside.hooked c.self.inside.slots c.self.inside.cursors.items c.pass.inside.place c.cursor_at-cursor.result c.cursor_at-cursor.ensures c.self.invariant.kept.standing in
+    let stands = lies_at c.self.inside.hooked c.self.inside.slots c.self.inside.cursors.items c.pass.inside.place c.cursor_at-cursor.result c.cursor_at-cursor.ensures c.self.invariant.kept.standing in
     stands.inside
 
 pub next-given-requires-clause-within : goal.next-given-requires-clause-within
 next-given-requires-clause-within g c =
-    let stands = stands_at c.self.inside.hooked c.self.inside.slots c.self.inside.cursors.items c.pass.inside.place c.cursor_at-cursor.result c.cursor_at-cursor.ensures c.self.invariant.kept.standing in
+    let stands = lies_at c.self.inside.hooked c.self.inside.slots c.self.inside.cursors.items c.pass.inside.place c.cursor_at-cursor.result c.cursor_at-cursor.ensures c.self.invariant.kept.standing in
     stands.within
 
 pub next-given-requires-clause-counted : goal.next-given-requires-clause-counted
 next-given-requires-clause-counted g c =
-    let stands = stands_at c.self.inside.hooked c.self.inside.slots c.self.inside.cursors.items c.pass.inside.place c.cursor_at-cursor.result c.cursor_at-cursor.ensures c.self.invariant.kept.standing in
+    let stands = lies_at c.self.inside.hooked c.self.inside.slots c.self.inside.cursors.items c.pass.inside.place c.cursor_at-cursor.result c.cursor_at-cursor.ensures c.self.invariant.kept.standing in
     stands.counted
 
 pub mark_given-requires : goal.mark_given-requires

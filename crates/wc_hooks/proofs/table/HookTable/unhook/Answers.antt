@@ -3,7 +3,7 @@ use Rattle.std.specs.Prelude.{is_some}
 use Rattle.std.specs.List.{list_any}
 use Rattle.wc_hooks.specs.Inside.{seen_as}
 use Rattle.wc_hooks.specs.Rows.{lives}
-use Rattle.wc_hooks.specs.Table.{IsTable}
+use Rattle.wc_hooks.specs.Table.{IsHookTable}
 use Rattle.wc_hooks.proofs.LiveRows.{lives_is}
 use Rattle.wc_hooks.proofs.Calls.{law_of, kept_left, seen_left}
 use Rattle.wc_hooks.proofs.ByKey.{unhooked_by_key, unhooks_none}
@@ -26,13 +26,13 @@ returns-then-not-lives-clause-found c = sym c.if-not-lives.true ∙ c.lives.ensu
 pub returns-then-not-lives-clause-after : goal.returns-then-not-lives-clause-after
 returns-then-not-lives-clause-after c =
     let a = c.self.inside in
-    unhooks_none c.args.id c.args.self.now (subst IsTable c.self.view_is (law_of a.slots a.cursors.items a.marks.items a.hooked a.relays a.others a.has_gone c.self.invariant.kept)) (sym (c.lives.ensures ∙ lives_is c.args.id a.slots ∙ ap (λ t. lives c.args.id t.rows) c.self.view_is) ∙ c.if-not-lives.true)
+    unhooks_none c.args.id c.args.self.now (subst IsHookTable c.self.view_is (law_of a.slots a.cursors.items a.marks.items a.hooked a.relays a.others a.has_gone c.self.invariant.kept)) (sym (c.lives.ensures ∙ lives_is c.args.id a.slots ∙ ap (λ t. lives c.args.id t.rows) c.self.view_is) ∙ c.if-not-lives.true)
 
 pub returns-then-not-lives-clause-by_key : goal.returns-then-not-lives-clause-by_key
 returns-then-not-lives-clause-by_key c =
     let a = c.self.inside in
     unhooked_by_key c.args.self.now c.args.self.now c.args.id
-    (unhooks_none c.args.id c.args.self.now (subst IsTable c.self.view_is (law_of a.slots a.cursors.items a.marks.items a.hooked a.relays a.others a.has_gone c.self.invariant.kept)) (sym (c.lives.ensures ∙ lives_is c.args.id a.slots ∙ ap (λ t. lives c.args.id t.rows) c.self.view_is) ∙ c.if-not-lives.true))
+    (unhooks_none c.args.id c.args.self.now (subst IsHookTable c.self.view_is (law_of a.slots a.cursors.items a.marks.items a.hooked a.relays a.others a.has_gone c.self.invariant.kept)) (sym (c.lives.ensures ∙ lives_is c.args.id a.slots ∙ ap (λ t. lives c.args.id t.rows) c.self.view_is) ∙ c.if-not-lives.true))
 
 pub returns-clause-found : goal.returns-clause-found
 returns-clause-found c = sym c.if-not-lives.false ∙ c.lives.ensures ∙ lives_is c.args.id c.self.inside.slots ∙ ap (λ t. lives c.args.id t.rows) c.self.view_is

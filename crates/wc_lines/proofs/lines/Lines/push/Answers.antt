@@ -1,7 +1,7 @@
 use Rattle.std.proofs.Common.{◌∷◌, ◌++◌, [], drop, sym, subst, ◌∙◌, ap, arith}
 use Rattle.std.specs.Prelude.{All}
 use Rattle.std.proofs.lemmas.List.Elements.{All-drop}
-use Rattle.wc_lines.specs.LineText.{HasText}
+use Rattle.wc_lines.specs.LineText.{HasUtf8Texts}
 use Rattle.wc_lines.proofs.RingLemmas.{all_with_line, popped_len, oldest_text}
 use Rattle.wc_lines.proofs.lines.Lines.push.Goals as goal
 
@@ -14,7 +14,7 @@ invariant_of-self c =
       most = was.most;
       within = omega (arith, now.len);
       room = omega (arith, now.capacity, was.room);
-      text = subst (All HasText) (sym now.items) (all_with_line c.self.inside.queue.items c.args.line was.text c.requires);
+      text = subst (All HasUtf8Texts) (sym now.items) (all_with_line c.self.inside.queue.items c.args.line was.text c.requires);
     }
 
 pub invariant_of-self-2 : goal.invariant_of-self-2
@@ -27,8 +27,8 @@ invariant_of-self-2 c =
       most = was.most;
       within = omega (arith, now.len, popped_len c.pop_front-oldest.result _ _ popped.cases (omega (arith, was.some)));
       room = omega (arith, now.capacity, popped.capacity, was.room);
-      text = subst (All HasText) (sym (now.items ∙ ap (λ lines. lines ++ c.args.line ∷ []) popped.rest))
-          (all_with_line (drop 1 c.self.inside.queue.items) c.args.line (All-drop HasText 1 c.self.inside.queue.items was.text) c.requires);
+      text = subst (All HasUtf8Texts) (sym (now.items ∙ ap (λ lines. lines ++ c.args.line ∷ []) popped.rest))
+          (all_with_line (drop 1 c.self.inside.queue.items) c.args.line (All-drop HasUtf8Texts 1 c.self.inside.queue.items was.text) c.requires);
     }
 
 pub returns-clause-text : goal.returns-clause-text

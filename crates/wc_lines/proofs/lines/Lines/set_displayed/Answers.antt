@@ -1,11 +1,11 @@
 use Rattle.std.proofs.Common.{◌≡◌, ℕ, List, set, sym, subst, ◌∙◌, ap}
 use Rattle.wc_lines.specs.declared.line.Line.{Line}
-use Rattle.wc_lines.specs.Held.{Held}
+use Rattle.wc_lines.specs.Held.{RingView}
 use Rattle.wc_lines.specs.Ring.{has_content, with_displayed}
 use Rattle.wc_lines.proofs.RingLemmas.{none_at, some_at, written, written_text}
 use Rattle.wc_lines.proofs.lines.Lines.set_displayed.Goals as goal
 
-abbrev held_at : ℕ → List Line → Held
+abbrev held_at : ℕ → List Line → RingView
 held_at limit lines = record { limit = limit; lines = lines }
 
 pub returns-in_default-clause-found : goal.returns-in_default-clause-found

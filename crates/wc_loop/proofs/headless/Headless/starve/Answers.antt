@@ -1,8 +1,8 @@
 use Rattle.std.proofs.Common.{refl, ap, ◌∙◌, arith}
 use Rattle.wc_text.specs.declared.names.Cause.TheVariants.{NoMemory}
 use Rattle.wc_outside.specs.Keyed.{without}
-use Rattle.wc_core.specs.Served.{seat_link}
-use Rattle.wc_loop.proofs.ArriveLemmas.{starved-more, starve-seats, starve-same, starve-calm}
+use Rattle.wc_core.specs.Served.{connection_link}
+use Rattle.wc_loop.proofs.ArriveLemmas.{starved-more, starve-connections, starve-same, starve-calm}
 use Rattle.wc_loop.proofs.headless.Headless.starve.Goals as goal
 
 pub returns-clause-starved : goal.returns-clause-starved
@@ -16,14 +16,14 @@ returns-clause-rises c =
     let e = ap (λ s. s.starved) c.forget.ensures in
     omega arith
 
-pub returns-clause-seats : goal.returns-clause-seats
-returns-clause-seats c = λ absent.
-    starve-same c.args.arrival.link.0 c.args.self.now.core.seats c.forget.new.self.seats
-    (starve-seats c.accepted-refused.result c.args.self.now.core c.accepted-refused.new.self c.args.arrival.link c.args.arrival.nonce NoMemory c.forget.new.self.seats c.accepted-refused.ensures.admitted c.accepted-refused.ensures.refused
-    (ap (λ s. s.seats) c.forget.ensures ∙ ap (λ s. without seat_link c.args.arrival.link.0 s.seats) c.link_gone.ensures.leaves)) absent
+pub returns-clause-connections : goal.returns-clause-connections
+returns-clause-connections c = λ absent.
+    starve-same c.args.arrival.link.0 c.args.self.now.core.connections c.forget.new.self.connections
+    (starve-connections c.accepted-refused.result c.args.self.now.core c.accepted-refused.new.self c.args.arrival.link c.args.arrival.nonce NoMemory c.forget.new.self.connections c.accepted-refused.ensures.admitted c.accepted-refused.ensures.refused
+    (ap (λ s. s.connections) c.forget.ensures ∙ ap (λ s. without connection_link c.args.arrival.link.0 s.connections) c.link_gone.ensures.leaves)) absent
 
 pub returns-clause-calm : goal.returns-clause-calm
 returns-clause-calm c = λ calm.
-    starve-calm c.args.arrival.link.0 c.args.self.now.core.seats c.forget.new.self.seats
-    (starve-seats c.accepted-refused.result c.args.self.now.core c.accepted-refused.new.self c.args.arrival.link c.args.arrival.nonce NoMemory c.forget.new.self.seats c.accepted-refused.ensures.admitted c.accepted-refused.ensures.refused
-    (ap (λ s. s.seats) c.forget.ensures ∙ ap (λ s. without seat_link c.args.arrival.link.0 s.seats) c.link_gone.ensures.leaves)) calm
+    starve-calm c.args.arrival.link.0 c.args.self.now.core.connections c.forget.new.self.connections
+    (starve-connections c.accepted-refused.result c.args.self.now.core c.accepted-refused.new.self c.args.arrival.link c.args.arrival.nonce NoMemory c.forget.new.self.connections c.accepted-refused.ensures.admitted c.accepted-refused.ensures.refused
+    (ap (λ s. s.connections) c.forget.ensures ∙ ap (λ s. without connection_link c.args.arrival.link.0 s.connections) c.link_gone.ensures.leaves)) calm

@@ -1,6 +1,6 @@
 use Rattle.std.proofs.Common.{◌≡◌, length, ap, sym, arith, rules, ◌∙◌}
 use Rattle.std.proofs.lemmas.Fn.{filter_same}
-use Rattle.wc_loop.specs.Links.{link_number, listed}
+use Rattle.wc_loop.specs.Links.{link_number, with_closed}
 use Rattle.wc_outside.specs.Keyed.{without}
 use Rattle.wc_loop.proofs.KeyedLemmas.{without-missing}
 use Rattle.wc_loop.proofs.LinkLemmas.{missing-place, listed-there, fewer-there}
@@ -12,7 +12,7 @@ returns-then-is_none-clause-opened c = sym (without-missing link_number c.args.l
 pub returns-then-is_none-clause-closed : goal.returns-then-is_none-clause-closed
 returns-then-is_none-clause-closed c =
     let none = missing-place c.args.link.0 c.args.self.now.opened.items c.place.result c.place.ensures c.if-is_none.ensures in
-    sym (ap (λ o. listed o c.args.self.now.closed.items (record { link = c.args.link; cause = c.args.cause })) none)
+    sym (ap (λ o. with_closed o c.args.self.now.closed.items (record { link = c.args.link; cause = c.args.cause })) none)
 
 pub invariant_of-self : goal.invariant_of-self
 invariant_of-self c =

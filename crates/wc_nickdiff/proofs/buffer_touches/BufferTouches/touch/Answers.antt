@@ -4,8 +4,8 @@ use Rattle.wc_nicklist.specs.declared.item.Key.{Key}
 use Rattle.wc_nicklist.specs.Order.{key_at}
 use Rattle.wc_nicklist.specs.Rows.{key_eq}
 use Rattle.wc_nickdiff.specs.declared.first_touch.FirstTouch.{FirstTouch}
-use Rattle.wc_nickdiff.specs.Held.{OfBuffer, before_at, touched, EachOnce}
-use Rattle.wc_nickdiff.specs.Index.{place_in, place_of, IsIndexOf}
+use Rattle.wc_nickdiff.specs.Held.{OfBuffer, before_at, with_touch, EachOnce}
+use Rattle.wc_nickdiff.specs.Index.{place_in, place_of, IndexesTouches}
 use Rattle.wc_nickdiff.proofs.Touches.{none_some, touched_again, touched_first, place_none, once_push, index_push, insert_step}
 use Rattle.wc_nickdiff.proofs.buffer_touches.BufferTouches.touch.Goals as goal
 
@@ -34,7 +34,7 @@ invariant_of-self-2 c =
     λ q. insert_step k first.key c.in_ok-name.name.items c.len-place.result (length ts) c.self.inside.index c.reserve.new.self c.insert.new.self q (c.insert.ensures q) name place (c.in_ok-reserve.ensures.same q) same in
     record {
       once = subst EachOnce (sym c.in_ok-push.ensures.ok) (once_push ts first c.self.invariant.once absent);
-      indexed = subst (λ l. IsIndexOf l c.insert.new.self) (sym c.in_ok-push.ensures.ok) (index_push ts c.self.inside.index c.insert.new.self first absent c.self.invariant.indexed step);
+      indexed = subst (λ l. IndexesTouches l c.insert.new.self) (sym c.in_ok-push.ensures.ok) (index_push ts c.self.inside.index c.insert.new.self first absent c.self.invariant.indexed step);
     }
 
 pub returns-clause-ok : goal.returns-clause-ok
@@ -45,5 +45,5 @@ returns-clause-ok c =
     let found : c.find.result ≡ place_in c.self.inside.index k = c.find.ensures ∙ ap (λ n. place_in c.self.inside.index (key_at k.is_group n)) c.as_slice-name.ensures in
     let p : place_of k ts ≡ None = sym (c.self.invariant.indexed k) ∙ sym found ∙ none_some c.find.result (sym c.is_some.ensures ∙ c.if-is_some.false) in
     let same : first.key ≡ k = c.in_ok-copy.ensures in
-    let items : c.push.new.items.items ≡ touched k c.args.before ts = c.in_ok-push.ensures.ok ∙ ap (λ (z : Key). ts ++ record { key = z; before = c.args.before } ∷ []) same ∙ touched_first k c.args.before ts p in
-    (λ i. record { buffer = c.self.inside.buffer; touches = items i }) ∙ ap (λ (v : OfBuffer). record { buffer = v.buffer; touches = touched k c.args.before v.touches }) c.self.view_is
+    let items : c.push.new.items.items ≡ with_touch k c.args.before ts = c.in_ok-push.ensures.ok ∙ ap (λ (z : Key). ts ++ record { key = z; before = c.args.before } ∷ []) same ∙ touched_first k c.args.before ts p in
+    (λ i. record { buffer = c.self.inside.buffer; touches = items i }) ∙ ap (λ (v : OfBuffer). record { buffer = v.buffer; touches = with_touch k c.args.before v.touches }) c.self.view_is

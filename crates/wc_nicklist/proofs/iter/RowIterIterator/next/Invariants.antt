@@ -1,5 +1,5 @@
 use Rattle.std.proofs.Common.{◌≡◌, ◌++◌, length, map}
-use Rattle.wc_nicklist.specs.Stored.{entry_row, AllStand}
+use Rattle.wc_nicklist.specs.Stored.{entry_row, AllEntriesLead}
 use Rattle.wc_nicklist.specs.Tree.{entries_in}
 use Rattle.wc_nicklist.proofs.iter.RowIterIterator.next.Given as goal
 
@@ -9,7 +9,7 @@ invariant-loop-self l =
     let left = l.self-inside.leaf.now ++ entries_in l.self-inside.leaves.now in
     record {
       rows : map (entry_row l.self-inside.store.now) left ≡ l.fn.self;
-      stand : AllStand l.self-inside.store.now left;
+      stand : AllEntriesLead l.self-inside.store.now left;
     }
 
 abbrev pub decreases-loop-self : goal.decreases-loop-self

@@ -2,7 +2,7 @@ use Rattle.std.proofs.Common.{◌≡◌, Some, refl, sym, ap, ◌∙◌, subst, 
 use Rattle.wc_nicklist.specs.declared.entry.Entry.{Entry}
 use Rattle.wc_nicklist.specs.Order.{key, key_at, address, address_of}
 use Rattle.wc_nicklist.specs.Rows.{find_row, insert_row, Ascending}
-use Rattle.wc_nicklist.specs.Stored.{row_or, entry_row, Stands}
+use Rattle.wc_nicklist.specs.Stored.{row_or, entry_row, EntryLeads}
 use Rattle.wc_nicklist.specs.Tree.{entries_in, IsInserted}
 use Rattle.wc_nicklist.proofs.Owned.{rows_inserted, stand_inserted, length_inserted, same_rows, same_stand, agree_put, owns_put, new_row, moved_digest}
 use Rattle.wc_nicklist.proofs.row_tree.RowTree.insert.Goals as goal
@@ -52,7 +52,7 @@ invariant_of-self c =
     let e : Entry = record { digest = d.result.digest; id = c.put-id.result } in
     let at = address_of d.result.path.now (key_at d.result.is_group d.result.name.now) in
     let stand = same_stand a.store t es (agree_put a.store t n r c.put-id.ensures.fresh c.put-id.ensures.after es i.stand) i.stand in
-    let stands : Stands t e = record { row = c.get-stored.result.now; found = c.get-stored.ensures; digest = moved_digest d.ensures.path d.ensures.kind d.ensures.name d.result.exact } in
+    let stands : EntryLeads t e = record { row = c.get-stored.result.now; found = c.get-stored.ensures; digest = moved_digest d.ensures.path d.ensures.kind d.ensures.name d.result.exact } in
     let len = length_inserted t es new e at c.insert.ensures.entries in
     record {
       are_leaves = c.insert.ensures.leaves;

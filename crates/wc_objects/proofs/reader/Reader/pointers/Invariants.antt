@@ -1,8 +1,8 @@
 use Rattle.std.proofs.Common.{◌≡◌, ◌-◌}
 use Rattle.wc_objects.specs.Reading.{times, pointer_at}
-use Rattle.wc_objects.proofs.Loops.{behind}
+use Rattle.wc_objects.proofs.Loops.{following}
 use Rattle.wc_objects.proofs.reader.Reader.pointers.Given as goal
 
 -- what is read so far, and what is still read
 abbrev pub invariant-loop : goal.invariant-loop
-invariant-loop l = behind l.items (times (l.count - l.counter) pointer_at l.self.bytes.now) ≡ times l.count pointer_at l.fn.self.bytes.now
+invariant-loop l = following l.items (times (l.count - l.counter) pointer_at l.self.bytes.now) ≡ times l.count pointer_at l.fn.self.bytes.now

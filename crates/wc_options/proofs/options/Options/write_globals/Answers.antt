@@ -1,7 +1,7 @@
 use Rattle.std.proofs.Common.{◌≡◌, ◌∙◌, ◌++◌, [], List, ℕ, Option, ap, subst}
 use Rattle.std.specs.Result.{OnOk}
-use Rattle.wc_options.specs.Config.{ended, set_lines}
-use Rattle.wc_options.specs.Kept.{IsKept}
+use Rattle.wc_options.specs.Config.{text_of_lines, set_lines}
+use Rattle.wc_options.specs.Kept.{AreOptionsKept}
 use Rattle.wc_options.specs.Options.{OptionsValue}
 use Rattle.wc_options.specs.Table.{globals}
 use Rattle.std.proofs.Common.{length}
@@ -14,8 +14,8 @@ write_values-requires c = ap length c.deref.ensures.value ∙ length-set_values 
 pub returns-clause-written : goal.returns-clause-written
 unfolding globals
 returns-clause-written c =
-    subst (λ (values : List (Option (List ℕ))). OnOk c.write_values.result (c.write_values.new.text ≡ c.args.text.now ++ ended (set_lines [] globals values)))
+    subst (λ (values : List (Option (List ℕ))). OnOk c.write_values.result (c.write_values.new.text ≡ c.args.text.now ++ text_of_lines (set_lines [] globals values)))
     (c.deref.ensures.value ∙ ap (λ (o : OptionsValue). o.set) c.self.view_is) c.write_values.ensures
 
 pub returns-clause-kept : goal.returns-clause-kept
-returns-clause-kept c = subst IsKept c.self.view_is c.self.invariant.kept
+returns-clause-kept c = subst AreOptionsKept c.self.view_is c.self.invariant.kept

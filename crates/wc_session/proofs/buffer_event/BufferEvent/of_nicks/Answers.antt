@@ -5,8 +5,8 @@ use Rattle.wc_nickdiff.specs.declared.push.Push.{Push}
 use Rattle.wc_nickdiff.specs.Held.{before_at, touches_of}
 use Rattle.wc_nickdiff.specs.NickPush.{nick_push}
 use Rattle.wc_nickdiff.specs.Told.{IsTold}
-use Rattle.wc_told.specs.NickForms.{IsPushText}
-use Rattle.wc_told.proofs.PushTexts.{push_text}
+use Rattle.wc_events.specs.NickForms.{IsPushText}
+use Rattle.wc_events.proofs.PushTexts.{push_text}
 use Rattle.wc_session.specs.Event.{IsPushOf}
 use Rattle.wc_session.proofs.buffer_event.BufferEvent.of_nicks.Goals as goal
 

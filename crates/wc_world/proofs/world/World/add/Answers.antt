@@ -1,7 +1,7 @@
 use Rattle.std.proofs.Common.{◌∙◌, Some, Err, cond, eqb, refl, ap, arith}
 use Rattle.std.proofs.lemmas.Result.{err_from_is_err_and}
 use Rattle.wc_nicklist.specs.Rows.{Nicks}
-use Rattle.wc_buffers.specs.Calls.{opened}
+use Rattle.wc_buffers.specs.Calls.{new_entry}
 use Rattle.wc_model.specs.declared.change.What.TheVariants.{Add}
 use Rattle.wc_model.specs.Apply.{row_of as new_row}
 use Rattle.std.specs.FinMap.{insert}
@@ -56,7 +56,7 @@ returns-then-self c = (
 pub invariant_of-self-2 : goal.invariant_of-self-2
 invariant_of-self-2 c =
     let next = c.self.inside.next in
-    let entry = opened (new_row next c.args.spec) c.args.spec.vars in (
+    let entry = new_entry (new_row next c.args.spec) c.args.spec.vars in (
       kept_added c.self.inside.buffers c.add.new.self c.self.inside.held c.insert.new.held (rows_map c.self.inside.nicks) (rows_map c.insert-2.new.lists) c.self.inside.limit next c.self.invariant.0 c.args.self.now c.self.view_is c.args.h c.in_ok-full_name.full_name c.told.result entry refl c.in-Ok.ensures.after
           (λ q. c.insert.ensures q ∙ (λ i. cond (eqb next q) (Some (c.in_ok-lines.ensures i)) (c.in_ok-reserve.ensures.same q i))) (omega (arith, c.if-self.false)),
       nicks_opened c.self.inside.buffers c.add.new.self c.self.inside.nicks c.insert-2.new.lists c.self.inside.row_count c.self.invariant.1 next c.in_ok-list.list (ap (λ (x : Nicks). x.rows) c.in_ok-list.ensures) (ap (λ (x : Nicks). x.root) c.in_ok-list.ensures)

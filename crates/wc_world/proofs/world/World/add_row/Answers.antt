@@ -8,7 +8,7 @@ use Rattle.wc_model.specs.declared.refused.ChangeRefused.{ChangeRefused}
 use Rattle.wc_model.specs.Apply.{adds_row, item_with}
 use Rattle.wc_model.specs.World.{World, rows_at, row_count}
 use Rattle.wc_world.specs.Kept.{world_of}
-use Rattle.wc_world.specs.Nicks.{list_at, rows_of, rows_map, adding, edited, IsCut, IsListChangedAt}
+use Rattle.wc_world.specs.Nicks.{list_at, rows_of, rows_map, add_of, with_edit, IsCut, IsListChangedAt}
 use Rattle.wc_world.proofs.CutItems.{item_cut, item_text}
 use Rattle.wc_world.proofs.Done.{kept_drawn, same_some}
 use Rattle.wc_world.proofs.FlipsDone.{not_planned}
@@ -80,9 +80,9 @@ returns-clause-outcome g c =
     let there : is_some (list_at c.self.inside.nicks c.args.h.0) ≡ true = c.self.invariant.1.stored c.args.h.0 ∙ there_good c.args.h c.self.inside.buffers may.there in
     let next : ℕ = c.self.inside.next in
     let edit = through_room c.self.inside.nicks c.make_room.new.lists c.put.new.lists c.args.h.0 c.args.parent (calls.add_row c.args.is_group c.args.parent c.in_ok-item.item) c.in_ok-make_room.ensures.ok c.put.ensures in
-    let drawn : IsListChangedAt c.args.h.0 (edited (calls.add_row c.args.is_group c.args.parent (item_with (record { 0 = next }) c.args.item))) c.self.inside.nicks c.put.new.lists =
-    subst (λ i. IsListChangedAt c.args.h.0 (edited (calls.add_row c.args.is_group c.args.parent i)) c.self.inside.nicks c.put.new.lists) c.in_ok-item.ensures edit in
-    nicked c.self.inside.buffers c.self.inside.held c.self.inside.nicks c.put.new.lists c.self.inside.limit next (next + 1) c.args.self.now c.args.h (adding c.args.is_group c.args.parent c.args.item) (key_at c.args.is_group c.args.item.name) (calls.add_row c.args.is_group c.args.parent (item_with (record { 0 = next }) c.args.item)) c.in_ok-full_name.full_name c.told.result
+    let drawn : IsListChangedAt c.args.h.0 (with_edit (calls.add_row c.args.is_group c.args.parent (item_with (record { 0 = next }) c.args.item))) c.self.inside.nicks c.put.new.lists =
+    subst (λ i. IsListChangedAt c.args.h.0 (with_edit (calls.add_row c.args.is_group c.args.parent i)) c.self.inside.nicks c.put.new.lists) c.in_ok-item.ensures edit in
+    nicked c.self.inside.buffers c.self.inside.held c.self.inside.nicks c.put.new.lists c.self.inside.limit next (next + 1) c.args.self.now c.args.h (add_of c.args.is_group c.args.parent c.args.item) (key_at c.args.is_group c.args.item.name) (calls.add_row c.args.is_group c.args.parent (item_with (record { 0 = next }) c.args.item)) c.in_ok-full_name.full_name c.told.result
     c.self.invariant.0 c.self.view_is (adding_refused c.args.self.now c.args.h c.args.is_group c.args.parent c.args.item ∙ sym (c.add_refusal.ensures (λ p. let z : None ≡ Some ChangeRefused.NoMemory = sym c.in_default.is ∙ p in cc)) ∙ c.in_default.is)
     (is_adding c.args.is_group c.args.parent c.args.item) there drawn (after_adding w c.args.h c.args.is_group c.args.parent c.args.item) c.in_ok-full_name.ensures c.told.ensures
 
@@ -91,5 +91,5 @@ returns-clause-touched g c =
     let w = world_of c.self.inside.buffers c.self.inside.held (rows_map c.self.inside.nicks) c.self.inside.limit c.self.inside.next in
     let may : MayAdd w c.args.h c.args.is_group c.args.parent c.args.item = may_add w c.args.h c.args.is_group c.args.parent c.args.item
     (ap (λ (v : World). adds_row v c.args.h c.args.is_group c.args.parent c.args.item) c.self.view_is ∙ sym (c.add_refusal.ensures (λ p. let z : None ≡ Some ChangeRefused.NoMemory = sym c.in_default.is ∙ p in cc)) ∙ c.in_default.is) in
-    row_touched w c.args.self.now c.args.h (adding c.args.is_group c.args.parent c.args.item) (key_at c.args.is_group c.args.item.name) c.in_ok-key.key None _ _ c.self.view_is (is_adding c.args.is_group c.args.parent c.args.item) c.in_ok-key.ensures
+    row_touched w c.args.self.now c.args.h (add_of c.args.is_group c.args.parent c.args.item) (key_at c.args.is_group c.args.item.name) c.in_ok-key.key None _ _ c.self.view_is (is_adding c.args.is_group c.args.parent c.args.item) c.in_ok-key.ensures
     (sym (nicklist.may_add c.args.is_group c.args.item.name (rows_at w c.args.h.0) c.args.parent may.free).absent) c.in_ok-touch.ensures.ok

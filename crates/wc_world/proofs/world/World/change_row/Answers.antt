@@ -7,7 +7,7 @@ use Rattle.wc_nicklist.specs.declared.item.Item.{Item}
 use Rattle.wc_model.specs.Apply.{changes_row, item_with, handle_in}
 use Rattle.wc_model.specs.World.{World, rows_at}
 use Rattle.wc_world.specs.Kept.{world_of}
-use Rattle.wc_world.specs.Nicks.{list_at, rows_map, changing, edited, IsCut, IsListChangedAt}
+use Rattle.wc_world.specs.Nicks.{list_at, rows_map, change_of_rows, with_edit, IsCut, IsListChangedAt}
 use Rattle.wc_world.proofs.CutItems.{item_cut, item_text}
 use Rattle.wc_world.proofs.FlipsDone.{not_planned}
 use Rattle.wc_world.proofs.NickLemmas.{rows_listed, rows_there}
@@ -44,9 +44,9 @@ returns-clause-outcome g c =
     let own = rows_listed c.self.inside.nicks c.args.h.0 c.at.result.now c.at.ensures in
     let stood : c.in_ok-stood.stood ≡ find_row (key_at c.args.is_group c.args.item.name) (rows_at w c.args.h.0) = c.in_ok-stood.ensures.row ∙ (λ i. find_row (c.in_ok-key.ensures i) (sym own i)) in
     let item : c.in_ok-item.item ≡ item_with (handle_in (find_row (key_at c.args.is_group c.args.item.name) (rows_at w c.args.h.0))) c.args.item = c.in_ok-item.ensures ∙ ap (λ h. item_with h c.args.item) (c.handle_in.ensures ∙ ap handle_in stood) in
-    let written : IsListChangedAt c.args.h.0 (edited (change_row (key_at c.args.is_group c.args.item.name) (item_with (handle_in (find_row (key_at c.args.is_group c.args.item.name) (rows_at w c.args.h.0))) c.args.item))) c.self.inside.nicks c.write.new.lists =
-    subst (λ (i : Item). IsListChangedAt c.args.h.0 (edited (change_row (key_at c.args.is_group i.name) i)) c.self.inside.nicks c.write.new.lists) item c.write.ensures in
-    nicked c.self.inside.buffers c.self.inside.held c.self.inside.nicks c.write.new.lists c.self.inside.limit c.self.inside.next c.self.inside.next c.args.self.now c.args.h (changing c.args.is_group c.args.item) (key_at c.args.is_group c.args.item.name)
+    let written : IsListChangedAt c.args.h.0 (with_edit (change_row (key_at c.args.is_group c.args.item.name) (item_with (handle_in (find_row (key_at c.args.is_group c.args.item.name) (rows_at w c.args.h.0))) c.args.item))) c.self.inside.nicks c.write.new.lists =
+    subst (λ (i : Item). IsListChangedAt c.args.h.0 (with_edit (change_row (key_at c.args.is_group i.name) i)) c.self.inside.nicks c.write.new.lists) item c.write.ensures in
+    nicked c.self.inside.buffers c.self.inside.held c.self.inside.nicks c.write.new.lists c.self.inside.limit c.self.inside.next c.self.inside.next c.args.self.now c.args.h (change_of_rows c.args.is_group c.args.item) (key_at c.args.is_group c.args.item.name)
     (change_row (key_at c.args.is_group c.args.item.name) (item_with (handle_in (find_row (key_at c.args.is_group c.args.item.name) (rows_at w c.args.h.0))) c.args.item)) c.in_ok-full_name.full_name c.told.result
     c.self.invariant.0 c.self.view_is (changing_refused c.args.self.now c.args.h c.args.is_group c.args.item ∙ sym c.change_refusal.ensures ∙ c.in_default.is)
     (is_changing c.args.is_group c.args.item) there written (after_changing w c.args.h c.args.is_group c.args.item) c.in_ok-full_name.ensures c.told.ensures
@@ -56,4 +56,4 @@ returns-clause-touched g c =
     let w = world_of c.self.inside.buffers c.self.inside.held (rows_map c.self.inside.nicks) c.self.inside.limit c.self.inside.next in
     let own = rows_listed c.self.inside.nicks c.args.h.0 c.at.result.now c.at.ensures in
     let stood : c.in_ok-stood.stood ≡ find_row (key_at c.args.is_group c.args.item.name) (rows_at w c.args.h.0) = c.in_ok-stood.ensures.row ∙ (λ i. find_row (c.in_ok-key.ensures i) (sym own i)) in
-    row_touched w c.args.self.now c.args.h (changing c.args.is_group c.args.item) (key_at c.args.is_group c.args.item.name) c.in_ok-key.key c.in_ok-stood.stood _ _ c.self.view_is (is_changing c.args.is_group c.args.item) c.in_ok-key.ensures stood c.in_ok-touch.ensures.ok
+    row_touched w c.args.self.now c.args.h (change_of_rows c.args.is_group c.args.item) (key_at c.args.is_group c.args.item.name) c.in_ok-key.key c.in_ok-stood.stood _ _ c.self.view_is (is_changing c.args.is_group c.args.item) c.in_ok-key.ensures stood c.in_ok-touch.ensures.ok

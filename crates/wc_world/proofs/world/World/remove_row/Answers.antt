@@ -6,7 +6,7 @@ use Rattle.wc_nicklist.specs.Rows.{find_row, remove_row}
 use Rattle.wc_model.specs.Apply.{removes_row}
 use Rattle.wc_model.specs.World.{World, rows_at}
 use Rattle.wc_world.specs.Kept.{world_of}
-use Rattle.wc_world.specs.Nicks.{list_at, rows_of, rows_map, removing}
+use Rattle.wc_world.specs.Nicks.{list_at, rows_of, rows_map, remove_of}
 use Rattle.wc_world.proofs.FlipsDone.{not_planned}
 use Rattle.wc_world.proofs.NickLemmas.{rows_listed, rows_there}
 use Rattle.wc_world.proofs.NicksDone.{may_edit, removing_refused, after_removing, is_removing, row_touched, nicked, row_counted, removed_kept}
@@ -43,7 +43,7 @@ returns-clause-outcome g c =
     let w = world_of c.self.inside.buffers c.self.inside.held (rows_map c.self.inside.nicks) c.self.inside.limit c.self.inside.next in
     let may = may_edit w c.args.h (calls.remove_refusal c.args.is_group c.args.name (rows_at w c.args.h.0)) (ap (λ (v : World). removes_row v c.args.h c.args.is_group c.args.name) c.self.view_is ∙ sym c.remove_refusal.ensures ∙ c.in_default.is) in
     let there : is_some (list_at c.self.inside.nicks c.args.h.0) ≡ true = c.self.invariant.1.stored c.args.h.0 ∙ there_good c.args.h c.self.inside.buffers may.there in
-    nicked c.self.inside.buffers c.self.inside.held c.self.inside.nicks c.take.new.lists c.self.inside.limit c.self.inside.next c.self.inside.next c.args.self.now c.args.h (removing c.args.is_group c.args.name) (key_at c.args.is_group c.args.name) (remove_row (key_at c.args.is_group c.args.name)) c.in_ok-full_name.full_name c.told.result
+    nicked c.self.inside.buffers c.self.inside.held c.self.inside.nicks c.take.new.lists c.self.inside.limit c.self.inside.next c.self.inside.next c.args.self.now c.args.h (remove_of c.args.is_group c.args.name) (key_at c.args.is_group c.args.name) (remove_row (key_at c.args.is_group c.args.name)) c.in_ok-full_name.full_name c.told.result
     c.self.invariant.0 c.self.view_is (removing_refused c.args.self.now c.args.h c.args.is_group c.args.name ∙ sym c.remove_refusal.ensures ∙ c.in_default.is)
     (is_removing c.args.is_group c.args.name) there c.take.ensures (after_removing w c.args.h c.args.is_group c.args.name) c.in_ok-full_name.ensures c.told.ensures
 
@@ -51,5 +51,5 @@ pub returns-clause-touched : goal.returns-clause-touched
 returns-clause-touched g c =
     let w = world_of c.self.inside.buffers c.self.inside.held (rows_map c.self.inside.nicks) c.self.inside.limit c.self.inside.next in
     let own = rows_listed c.self.inside.nicks c.args.h.0 c.at.result.now c.at.ensures in
-    row_touched w c.args.self.now c.args.h (removing c.args.is_group c.args.name) (key_at c.args.is_group c.args.name) (key_at c.args.is_group c.args.name) c.in_ok-before.before _ _ c.self.view_is (is_removing c.args.is_group c.args.name) refl
+    row_touched w c.args.self.now c.args.h (remove_of c.args.is_group c.args.name) (key_at c.args.is_group c.args.name) (key_at c.args.is_group c.args.name) c.in_ok-before.before _ _ c.self.view_is (is_removing c.args.is_group c.args.name) refl
     (c.in_ok-before.ensures.row ∙ ap (find_row (key_at c.args.is_group c.args.name)) (sym own)) c.in_ok-touch.ensures.ok

@@ -1,0 +1,20 @@
+-- What contracts see of the core.
+use Rattle.std.specs.Prelude.{◌≡◌, ℕ, Bool, List, []}
+use Rattle.wc_model.specs.World.{World, rows_at}
+use Rattle.wc_core.specs.declared.connection.Connection.{Connection}
+
+pub record CoreView : Type 0 where
+  pub password : List ℕ
+  pub world : World
+  -- the clients that are open and those that are leaving, in the order in which they came
+  pub connections : List Connection
+  -- the last moment, in milliseconds since 1970
+  pub moment : ℕ
+  -- how often memory was refused
+  pub starved : ℕ
+  -- whether the run is to end
+  pub quits : Bool
+
+-- no buffer has rows in its nicklist
+abbrev pub HasNoRows : World → Type 0
+HasNoRows world = (buffer : ℕ) → rows_at world buffer ≡ []

@@ -1,0 +1,191 @@
+-- What a client is told of buffers: the event of each notice, and the dump of all buffers.
+use Rattle.std.specs.Prelude.{ℕ, ◌+◌, ◌-◌, ◌^◌, ◌==◌, ℤ, pos, Bool, nat_le, List, [], ◌∷◌, ◌++◌, map, filter, Option, Some, None, codes, option_map, if◌then◌else◌}
+use Rattle.std.specs.List.{list_any}
+use Rattle.wc_text.specs.declared.names.Handle.{Handle}
+use Rattle.wc_text.specs.declared.names.Pair.{Pair}
+use Rattle.wc_lines.specs.declared.line.Line.{Line}
+use Rattle.wc_lines.specs.Ring.{newest}
+use Rattle.wc_buffers.specs.declared.entry.BufferEntry.{BufferEntry}
+use Rattle.wc_buffers.specs.Calls.{EntryGroups, entry_of}
+use Rattle.wc_model.specs.declared.notice.EventKind.{EventKind}
+use Rattle.wc_model.specs.declared.notice.EventKind.TheVariants as kind
+use Rattle.wc_model.specs.declared.notice.Notice.{Notice}
+use Rattle.wc_model.specs.World.{World, lines_at}
+use Rattle.wc_objects.specs.declared.kind.Kind.TheVariants as k
+use Rattle.wc_objects.specs.declared.object.Object.{Object}
+use Rattle.wc_objects.specs.declared.object.Object.TheVariants as o
+use Rattle.wc_objects.specs.declared.object.Hda.{roll-Hda}
+use Rattle.wc_objects.specs.declared.object.HdaItem.{HdaItem, roll-HdaItem}
+use Rattle.wc_objects.specs.declared.object.WireMessage.{WireMessage}
+use Rattle.wc_events.specs.LineObjects.{truth, added_objects}
+
+-- ---- the ids of events
+
+abbrev pub id_of : EventKind → List ℕ
+id_of kind.Opened = codes "_buffer_opened"
+id_of kind.Moved = codes "_buffer_moved"
+id_of kind.Merged = codes "_buffer_merged"
+id_of kind.Unmerged = codes "_buffer_unmerged"
+id_of kind.Hidden = codes "_buffer_hidden"
+id_of kind.Unhidden = codes "_buffer_unhidden"
+id_of kind.Renamed = codes "_buffer_renamed"
+id_of kind.TitleChanged = codes "_buffer_title_changed"
+id_of kind.VarAdded = codes "_buffer_localvar_added"
+id_of kind.VarChanged = codes "_buffer_localvar_changed"
+id_of kind.VarRemoved = codes "_buffer_localvar_removed"
+id_of kind.Cleared = codes "_buffer_cleared"
+id_of kind.Closing = codes "_buffer_closing"
+id_of kind.LineAdded = codes "_buffer_line_added"
+id_of kind.LineDataChanged = codes "_buffer_line_data_changed"
+id_of kind.Nicklist = codes "_nicklist"
+id_of kind.NicklistDiff = codes "_nicklist_diff"
+id_of kind.NickTouched = []
+
+-- ---- values
+
+abbrev pub text : List ℕ → Object
+text bytes = o.Str (Some bytes)
+
+abbrev pub pair_of : Pair → Object × Object
+pair_of var = (text var.name, text var.value)
+
+-- the variables of a buffer, in order
+abbrev pub table : List Pair → Object
+table vars = o.Htb k.Str k.Str (map pair_of vars)
+
+-- a number, which counts as the greatest that a message may hold where it is greater
+abbrev pub count : ℕ → ℤ
+count number = pos (if nat_le number (2 ^ 31 - 1) then number else 2 ^ 31 - 1)
+
+abbrev pub number_of : Notice → Object
+number_of notice = o.Int (count notice.number)
+
+-- one item of a buffer on the path `buffer`
+abbrev pub about : List ℕ → Handle → List Object → List Object
+about keys buffer values =
+    o.Hda (roll-Hda (record { path = Some (codes "buffer"); keys = Some keys; items = roll-HdaItem (record { pointers = buffer.0 ∷ []; values = values }) ∷ [] })) ∷ []
+
+-- ---- the keys and the values of each event, by what is noticed and by what is of the buffer after the change
+
+abbrev pub opened_keys : List ℕ
+opened_keys = codes "number:int,full_name:str,short_name:str,hidden:int,title:str,local_variables:htb,prev_buffer:ptr,next_buffer:ptr"
+
+abbrev pub placed_keys : List ℕ
+placed_keys = codes "number:int,full_name:str,prev_buffer:ptr,next_buffer:ptr"
+
+abbrev pub renamed_keys : List ℕ
+renamed_keys = codes "number:int,full_name:str,short_name:str,local_variables:htb"
+
+abbrev pub title_keys : List ℕ
+title_keys = codes "number:int,full_name:str,title:str"
+
+abbrev pub vars_keys : List ℕ
+vars_keys = codes "number:int,full_name:str,local_variables:htb"
+
+abbrev pub named_keys : List ℕ
+named_keys = codes "number:int,full_name:str"
+
+unfoldable pub opened_values : Notice → BufferEntry → List Object
+opened_values notice e =
+    number_of notice ∷ text notice.full_name ∷ text e.row.short_name ∷ o.Int (truth e.row.hidden) ∷ text e.row.title ∷ table e.vars ∷
+    o.Ptr notice.prev.0 ∷ o.Ptr notice.next.0 ∷ []
+
+unfoldable pub placed_values : Notice → List Object
+placed_values notice = number_of notice ∷ text notice.full_name ∷ o.Ptr notice.prev.0 ∷ o.Ptr notice.next.0 ∷ []
+
+unfoldable pub renamed_values : Notice → BufferEntry → List Object
+renamed_values notice e = number_of notice ∷ text notice.full_name ∷ text e.row.short_name ∷ table e.vars ∷ []
+
+unfoldable pub title_values : Notice → BufferEntry → List Object
+title_values notice e = number_of notice ∷ text notice.full_name ∷ text e.row.title ∷ []
+
+unfoldable pub vars_values : Notice → BufferEntry → List Object
+vars_values notice e = number_of notice ∷ text notice.full_name ∷ table e.vars ∷ []
+
+unfoldable pub named_values : Notice → List Object
+named_values notice = number_of notice ∷ text notice.full_name ∷ []
+
+abbrev pub opened_objects : Notice → BufferEntry → List Object
+opened_objects notice e = about opened_keys notice.buffer (opened_values notice e)
+
+abbrev pub placed_objects : Notice → List Object
+placed_objects notice = about placed_keys notice.buffer (placed_values notice)
+
+abbrev pub renamed_objects : Notice → BufferEntry → List Object
+renamed_objects notice e = about renamed_keys notice.buffer (renamed_values notice e)
+
+abbrev pub title_objects : Notice → BufferEntry → List Object
+title_objects notice e = about title_keys notice.buffer (title_values notice e)
+
+abbrev pub vars_objects : Notice → BufferEntry → List Object
+vars_objects notice e = about vars_keys notice.buffer (vars_values notice e)
+
+abbrev pub named_objects : Notice → List Object
+named_objects notice = about named_keys notice.buffer (named_values notice)
+
+-- The objects of the event of a notice, in the world after the change. Flags of lines are told of each buffer by
+-- itself, nicklists are pushed, and nothing is told of a buffer that is not there.
+unfoldable pub objects_of : World → EventKind → Notice → Option (List Object)
+objects_of world kind.Opened notice = option_map (opened_objects notice) (entry_of notice.buffer world.groups)
+objects_of world kind.Moved notice = Some (placed_objects notice)
+objects_of world kind.Merged notice = Some (placed_objects notice)
+objects_of world kind.Unmerged notice = Some (placed_objects notice)
+objects_of world kind.Hidden notice = Some (placed_objects notice)
+objects_of world kind.Unhidden notice = Some (placed_objects notice)
+objects_of world kind.Renamed notice = option_map (renamed_objects notice) (entry_of notice.buffer world.groups)
+objects_of world kind.TitleChanged notice = option_map (title_objects notice) (entry_of notice.buffer world.groups)
+objects_of world kind.VarAdded notice = option_map (vars_objects notice) (entry_of notice.buffer world.groups)
+objects_of world kind.VarChanged notice = option_map (vars_objects notice) (entry_of notice.buffer world.groups)
+objects_of world kind.VarRemoved notice = option_map (vars_objects notice) (entry_of notice.buffer world.groups)
+objects_of world kind.Cleared notice = Some (named_objects notice)
+objects_of world kind.Closing notice = Some (named_objects notice)
+objects_of world kind.LineAdded notice = option_map (added_objects notice.buffer) (newest (lines_at world notice.buffer.0))
+objects_of world kind.LineDataChanged notice = None
+objects_of world kind.Nicklist notice = None
+objects_of world kind.NicklistDiff notice = None
+objects_of world kind.NickTouched notice = None
+
+abbrev pub event_objects : World → Notice → Option (List Object)
+event_objects world notice = objects_of world notice.kind notice
+
+-- the message of a notice
+abbrev pub event_of : World → Notice → Option WireMessage
+event_of world notice = option_map (λ objects. record { id = id_of notice.kind; objects = objects }) (event_objects world notice)
+
+-- ---- the lines of one buffer whose flags differ
+
+abbrev pub flag_keys : List ℕ
+flag_keys = codes "buffer:ptr,displayed:chr"
+
+abbrev pub is_flipped : List Handle → Line → Bool
+is_flipped flips line = list_any (λ (flip : Handle). flip.0 == line.content.0) flips
+
+abbrev pub flag_item : Handle → Line → HdaItem
+flag_item buffer line = roll-HdaItem (record { pointers = line.content.0 ∷ []; values = o.Ptr buffer.0 ∷ o.Chr (truth line.displayed) ∷ [] })
+
+abbrev pub flag_items : Handle → List Handle → List Line → List HdaItem
+flag_items buffer flips lines = map (flag_item buffer) (filter (is_flipped flips) lines)
+
+abbrev pub flag_objects : Handle → List Handle → List Line → List Object
+flag_objects buffer flips lines =
+    o.Hda (roll-Hda (record { path = Some (codes "line_data"); keys = Some flag_keys; items = flag_items buffer flips lines })) ∷ []
+
+-- ---- the dump of all buffers
+
+abbrev pub dump_keys : List ℕ
+dump_keys = codes "number:int,full_name:str,short_name:str,hidden:int,title:str,local_variables:htb"
+
+unfoldable pub dumped_values : ℕ → BufferEntry → List Object
+dumped_values number e =
+    o.Int (pos number) ∷ text e.row.full_name ∷ text e.row.short_name ∷ o.Int (truth e.row.hidden) ∷ text e.row.title ∷ table e.vars ∷ []
+
+abbrev pub dumped_buffer : ℕ → BufferEntry → HdaItem
+dumped_buffer number e = roll-HdaItem (record { pointers = e.row.handle.0 ∷ []; values = dumped_values number e })
+
+-- the groups from this number on
+abbrev pub dumped_groups : ℕ → EntryGroups → List HdaItem
+dumped_groups number [] = []
+dumped_groups number (group ∷ groups) = map (dumped_buffer number) group ++ dumped_groups (number + 1) groups
+
+abbrev pub buffer_dump : EntryGroups → List Object
+buffer_dump groups = o.Hda (roll-Hda (record { path = Some (codes "buffer"); keys = Some dump_keys; items = dumped_groups 1 groups })) ∷ []

@@ -1,0 +1,66 @@
+ghost use Rattle.std.specs.Prelude.{◌≡◌, true, IfOk};
+ghost use Rattle.wc_objects.specs.Forms.{well_formed};
+ghost use Rattle.wc_events.specs.BufferObjects.{flag_item, flag_items, flag_objects, is_flipped};
+
+use crate::line_objects::truth;
+use std::alloc::Global;
+use wc_lines::{Line, Lines};
+use wc_objects::{Hda, HdaItem, Object};
+use wc_text::{Handle, Items, NoMemory, Text};
+
+const FLAG_KEYS: &[u8] = b"buffer:ptr,displayed:chr";
+
+fn is_flipped(flips: &Items<Handle>, line: &Line) -> bool
+    ensures { result ≡ is_flipped flips.now line.now }
+{
+    flips.as_slice().iter().any(|flip| flip.0 == line.content.0)
+}
+
+fn flag_item(alloc: Global, buffer: Handle, line: &Line) -> Result<HdaItem, NoMemory>
+    ensures { IfOk result (λ item. item ≡ flag_item buffer line.now) }
+{
+    let mut pointers = Items::new(alloc);
+    pointers.push(line.content.0)?;
+    let mut values = Items::new(alloc);
+    values.push(Object::Ptr(buffer.0))?;
+    values.push(Object::Chr(truth(line.displayed)))?;
+    Ok(HdaItem { pointers, values })
+}
+
+fn flag_items(
+    alloc: Global,
+    buffer: Handle,
+    flips: &Items<Handle>,
+    lines: &Lines,
+) -> Result<Items<HdaItem>, NoMemory>
+    ensures { IfOk result (λ items. items ≡ flag_items buffer flips.now lines.now.lines) }
+{
+    let mut items = Items::new(alloc);
+    for line in lines.iter() {
+        if is_flipped(flips, line) {
+            items.push(flag_item(alloc, buffer, line)?)?;
+        }
+    }
+    Ok(items)
+}
+
+/// The object of the event of one buffer's lines whose flag differs, which are named by their contents.
+#[tactic(auto, using(crate::proofs::EventsFormed::flags_formed))]
+pub fn flag_objects(
+    alloc: Global,
+    buffer: Handle,
+    flips: &Items<Handle>,
+    lines: &Lines,
+) -> Result<[Object; 1], NoMemory>
+    ensures objects { IfOk result (λ objects. objects ≡ flag_objects buffer flips.now lines.now.lines) }
+    ensures formed { IfOk result (λ objects. well_formed objects ≡ true) }
+{
+    let items = flag_items(alloc, buffer, flips, lines)?;
+    let path = Text::from_slice(alloc, b"line_data")?;
+    let keys = Text::from_slice(alloc, FLAG_KEYS)?;
+    Ok([Object::Hda(Hda {
+        path: Some(path),
+        keys: Some(keys),
+        items,
+    })])
+}

@@ -1,0 +1,75 @@
+ghost use Rattle.std.specs.Prelude.{◌≡◌, ◌++◌, map, IfOk, Some};
+ghost use Rattle.wc_events.specs.BufferObjects.{about, count, pair_of, table, text};
+ghost use Rattle.wc_events.specs.LineObjects.{truth};
+
+use std::alloc::Global;
+use wc_buffers::Vars;
+use wc_objects::{Hda, HdaItem, Kind, Object};
+use wc_text::{Handle, Items, NoMemory, Text};
+
+/// 1 where it is so, and else 0.
+pub(crate) fn truth(on: bool) -> i32
+    ensures { result ≡ truth on }
+{
+    if on { 1 } else { 0 }
+}
+
+/// A number. One that is greater than the protocol can say counts as the greatest.
+pub(crate) fn count(number: u64) -> i32
+    ensures { result ≡ count number }
+{
+    i32::try_from(number).unwrap_or(i32::MAX)
+}
+
+pub(crate) fn text(alloc: Global, value: &Text) -> Result<Object, NoMemory>
+    ensures { IfOk result (λ object. object ≡ text value.now) }
+{
+    let copy = value.copy(alloc)?;
+    Ok(Object::Str(Some(copy)))
+}
+
+fn pairs(alloc: Global, vars: &Vars) -> Result<Items<(Object, Object)>, NoMemory>
+    ensures { IfOk result (λ pairs. pairs ≡ map pair_of vars.now) }
+{
+    let mut pairs = Items::new(alloc);
+    for (name, value) in vars.iter() {
+        let name = text(alloc, name)?;
+        let value = text(alloc, value)?;
+        pairs.push((name, value))?;
+    }
+    Ok(pairs)
+}
+
+/// The variables of a buffer, in order.
+pub(crate) fn table(alloc: Global, vars: &Vars) -> Result<Object, NoMemory>
+    ensures { IfOk result (λ object. object ≡ table vars.now) }
+{
+    let pairs = pairs(alloc, vars)?;
+    Ok(Object::Htb {
+        key: Kind::Str,
+        value: Kind::Str,
+        pairs,
+    })
+}
+
+/// One item of a buffer, with these keys and their values.
+pub(crate) fn about(
+    alloc: Global,
+    keys: &[u8],
+    buffer: Handle,
+    values: Items<Object>,
+) -> Result<[Object; 1], NoMemory>
+    ensures { IfOk result (λ objects. objects ≡ about keys.now buffer values) }
+{
+    let mut pointers = Items::new(alloc);
+    pointers.push(buffer.0)?;
+    let mut items = Items::new(alloc);
+    items.push(HdaItem { pointers, values })?;
+    let path = Text::from_slice(alloc, b"buffer")?;
+    let keys = Text::from_slice(alloc, keys)?;
+    Ok([Object::Hda(Hda {
+        path: Some(path),
+        keys: Some(keys),
+        items,
+    })])
+}

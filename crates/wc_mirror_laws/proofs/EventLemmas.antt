@@ -1,0 +1,161 @@
+-- One event leaves a client that follows with what it holds of the world.
+use Rattle.std.proofs.Common.{◌≡◌, ℕ, ◌≤◌, Bool, true, false, cond, List, [], ◌∷◌, ◌++◌, length, Option, Some, None, refl, sym, ap, subst, ◌∙◌, eqb, nat_lt}
+use Rattle.std.specs.List.{AllByRecursion}
+use Rattle.wc_text.specs.declared.names.Cause.{Cause}
+use Rattle.wc_text.specs.declared.names.Cause.TheVariants as cause
+use Rattle.wc_outside.specs.Keyed.{at_key}
+use Rattle.wc_outside.proofs.KeyedLemmas.{at_key-key}
+use Rattle.wc_relaycmd.specs.declared.request.Request.{Request}
+use Rattle.wc_relaycmd.specs.Answers.{request_of}
+use Rattle.wc_relaycmd.specs.Cuts.{FirstByteIsNot}
+use Rattle.wc_session.specs.declared.client.Client.{Client}
+use Rattle.wc_session.specs.Known.{new_client}
+use Rattle.wc_session.specs.Reply.{reply_of}
+use Rattle.wc_core.specs.Events.{Event, Start, Tick, Arrives, Line as LineCame, Ends, Fails, ListenFails}
+use Rattle.wc_core.specs.State.{State, Stepped, Closes}
+use Rattle.wc_core.specs.Step.{client_link, client_limit, no_step, request_step, line_step, loss_step, step}
+use Rattle.wc_mirror_laws.specs.Held.{HeldPart, HeldOf, Has}
+use Rattle.wc_mirror_laws.specs.Settled.{AskedFor, asked_by, asked_with, asked_in, client_on, is_following, TakesDump}
+use Rattle.wc_mirror_laws.specs.Kept.{IsStateKept}
+use Rattle.wc_mirror_laws.specs.Mirrors.{mirror_after, IsFair, StepMirrors, DumpMirrors}
+use Rattle.wc_mirror_laws.proofs.IdLemmas.{request_free}
+use Rattle.wc_mirror_laws.proofs.PushLemmas.{pushes_stay, asked_replies}
+use Rattle.wc_mirror_laws.proofs.ReplyLemmas.{dump_right, reply_right, sends_right}
+use Rattle.wc_mirror_laws.proofs.StepLemmas.{asked_here, reply_link, reply_text, right-answers}
+
+-- ---- what the client of a link asks at an event
+
+-- it asks one thing, and is open
+pub record IsOne (link : ℕ) (state : State) (first : AskedFor) (others : List AskedFor) : Type 0 where
+  pub client : client_on link state ≡ Some first.client
+  pub none : others ≡ []
+  pub free : FirstByteIsNot 95 first.request.id
+
+pub asked_one : (link : ℕ) (state : State) (event : Event) (first : AskedFor) (others : List AskedFor) → asked_in link state event ≡ first ∷ others → IsOne link state first others
+asked_one link state (Start moment) first others e = absurd (let h = e in cc)
+asked_one link state (Tick moment) first others e = absurd (let h = e in cc)
+asked_one link state (Arrives k nonce) first others e = absurd (let h = e in cc)
+asked_one link state (LineCame k line) first others e = by (eqb k link) e where
+  has : (client : Client) (o : Option Request) → client_on link state ≡ Some client → request_of client.escaped line ≡ o → asked_with client o ≡ first ∷ others → IsOne link state first others
+  has client None at read e = absurd (let h = e in cc)
+  has client (Some request) at read e =
+      let whole : record { client = client; request = request } ≡ first = cc in
+      record {
+        client = at ∙ ap (λ (a : AskedFor). Some a.client) whole;
+        none = cc;
+        free = subst (λ (a : AskedFor). FirstByteIsNot 95 a.request.id) whole (request_free line client.escaped request read);
+      }
+
+  came : (o : Option Client) → client_on link state ≡ o → asked_by line o ≡ first ∷ others → IsOne link state first others
+  came None at e = absurd (let h = e in cc)
+  came (Some client) at e = has client (request_of client.escaped line) at refl e
+
+  by : (b : Bool) → cond b (asked_by line (client_on link state)) [] ≡ first ∷ others → IsOne link state first others
+  by true e = came (client_on link state) refl e
+  by false e = absurd (let h = e in cc)
+asked_one link state (Ends k) first others e = absurd (let h = e in cc)
+asked_one link state (Fails k) first others e = absurd (let h = e in cc)
+asked_one link state ListenFails first others e = absurd (let h = e in cc)
+
+-- ---- a line of a client
+
+-- what was asked by the line of a client
+asked_now : (link : ℕ) (state : State) (k : ℕ) (line : List ℕ) (client : Client) (request : Request) → at_key client_link k state.clients ≡ Some client → request_of client.escaped line ≡ Some request
+    → eqb (client_link client) link ≡ true → asked_in link state (LineCame k line) ≡ record { client = client; request = request } ∷ []
+asked_now link state k line client request at read here =
+    let key = at_key-key client_link k state.clients client at in
+    asked_here link k state line (Some client) (ap (λ n. eqb n link) (sym key) ∙ here) at ∙ ap (asked_with client) read
+
+-- what a client has after what was done
+abbrev HasAfter : (which : HeldPart) → ℕ → ℕ → List ℕ → HeldOf which → Stepped → Type 0
+HasAfter which limit link id part stepped = Has which (mirror_after which limit link id part stepped.acts) stepped.state.world
+
+line_right : (which : HeldPart) (limit link : ℕ) (id : List ℕ) (state : State) (k : ℕ) (line : List ℕ) (part : HeldOf which) → IsStateKept limit link state → FirstByteIsNot 95 id → length line ≤ 65536
+    → AllByRecursion (IsFair which id) (asked_in link state (LineCame k line)) → is_following (client_on link (step state (LineCame k line)).state) ≡ true → Has which part state.world
+    → Has which (mirror_after which limit link id part (step state (LineCame k line)).acts) (step state (LineCame k line)).state.world
+line_right which limit link id state k line part kept free within fair after had = came (at_key client_link k state.clients) refl after where
+  served : (client : Client) (o : Option Request) → at_key client_link k state.clients ≡ Some client → request_of client.escaped line ≡ o
+      → is_following (client_on link (request_step state client o).state) ≡ true → Has which (mirror_after which limit link id part (request_step state client o).acts) (request_step state client o).state.world
+  served client None at read after = had
+  served client (Some request) at read after =
+      let answer = reply_of state.world state.password client request in
+      let own = λ (here : eqb (client_link client) link ≡ true). (subst (AllByRecursion (IsFair which id)) (asked_now link state k line client request at read here) fair).0 in
+      let alone = asked_replies state kept.told kept.world.empty client request in
+      let following = subst (λ (s : Stepped). is_following (client_on link s.state) ≡ true) alone after in
+      subst (HasAfter which limit link id part) (sym alone)
+      (right-answers which limit link id state (client_link client) answer part (reply_link state client line request read) (reply_text state client line request read) kept free following
+      (sends_right which limit link id state (client_link client) answer.messages part
+      (λ here. reply_right which limit link id state client line request part kept free within read (own here) had) (λ else. had)))
+
+  came : (o : Option Client) → at_key client_link k state.clients ≡ o → is_following (client_on link (line_step state line o).state) ≡ true
+      → Has which (mirror_after which limit link id part (line_step state line o).acts) (line_step state line o).state.world
+  came None at after = had
+  came (Some client) at after = served client (request_of client.escaped line) at refl after
+
+-- ---- one event
+
+lost_right : (which : HeldPart) (limit link : ℕ) (id : List ℕ) (state : State) (k : ℕ) (why : Cause) (o : Option Client) (part : HeldOf which) → Has which part state.world
+    → Has which (mirror_after which limit link id part (loss_step state k why o).acts) (loss_step state k why o).state.world
+lost_right which limit link id state k why None part had = had
+lost_right which limit link id state k why (Some client) part had = had
+
+pub step_mirrors : (which : HeldPart) → StepMirrors which
+step_mirrors which limit link id state (Start moment) part kept free within fair after had = had
+step_mirrors which limit link id state (Tick moment) part kept free within fair after had =
+    subst (HasAfter which limit link id part) (sym (pushes_stay (record state { moment = moment }) kept.told kept.world.empty)) had
+step_mirrors which limit link id state (Arrives k nonce) part kept free within fair after had = by (nat_lt (length state.clients) client_limit) where
+  arrived : Bool → Stepped
+  arrived b = cond b (no_step (record state { clients = state.clients ++ new_client (record { 0 = k }) nonce ∷ [] })) (record { state = state; acts = Closes k cause.Surplus ∷ [] })
+
+  by : (b : Bool) → Has which (mirror_after which limit link id part (arrived b).acts) (arrived b).state.world
+  by true = had
+  by false = had
+step_mirrors which limit link id state (LineCame k line) part kept free within fair after had = line_right which limit link id state k line part kept free within fair after had
+step_mirrors which limit link id state (Ends k) part kept free within fair after had = lost_right which limit link id state k cause.Ended (at_key client_link k state.clients) part had
+step_mirrors which limit link id state (Fails k) part kept free within fair after had = lost_right which limit link id state k cause.Failed (at_key client_link k state.clients) part had
+step_mirrors which limit link id state ListenFails part kept free within fair after had = had
+
+-- ---- the dump
+
+line_dumps : (which : HeldPart) (limit link : ℕ) (id : List ℕ) (state : State) (k : ℕ) (line : List ℕ) (part : HeldOf which) (dump : AskedFor) → IsStateKept limit link state → length line ≤ 65536
+    → asked_in link state (LineCame k line) ≡ dump ∷ [] → TakesDump which id dump → is_following (client_on link (step state (LineCame k line)).state) ≡ true
+    → Has which (mirror_after which limit link id part (step state (LineCame k line)).acts) (step state (LineCame k line)).state.world
+line_dumps which limit link id state k line part dump kept within e takes after = by (eqb k link) refl where
+  none : List AskedFor
+  none = []
+
+  free : FirstByteIsNot 95 id
+  free = subst (FirstByteIsNot 95) takes.under (asked_one link state (LineCame k line) dump none e).free
+
+  served : (client : Client) (o : Option Request) → at_key client_link k state.clients ≡ Some client → request_of client.escaped line ≡ o → eqb k link ≡ true → asked_with client o ≡ dump ∷ []
+      → is_following (client_on link (request_step state client o).state) ≡ true → Has which (mirror_after which limit link id part (request_step state client o).acts) (request_step state client o).state.world
+  served client None at read here is after = absurd (let h = is in cc)
+  served client (Some request) at read here is after =
+      let answer = reply_of state.world state.password client request in
+      let whole : record { client = client; request = request } ≡ dump = cc in
+      let key : eqb (client_link client) link ≡ true = ap (λ n. eqb n link) (at_key-key client_link k state.clients client at) ∙ here in
+      let alone = asked_replies state kept.told kept.world.empty client request in
+      let following = subst (λ (s : Stepped). is_following (client_on link s.state) ≡ true) alone after in
+      subst (HasAfter which limit link id part) (sym alone)
+      (right-answers which limit link id state (client_link client) answer part (reply_link state client line request read) (reply_text state client line request read) kept free following
+      (sends_right which limit link id state (client_link client) answer.messages part
+      (λ here. dump_right which limit link id state client line request part kept within read (subst (TakesDump which id) (sym whole) takes))
+      (λ else. absurd (let h : false ≡ true = sym else ∙ key in cc))))
+
+  came : (o : Option Client) → at_key client_link k state.clients ≡ o → eqb k link ≡ true → asked_by line o ≡ dump ∷ [] → is_following (client_on link (line_step state line o).state) ≡ true
+      → Has which (mirror_after which limit link id part (line_step state line o).acts) (line_step state line o).state.world
+  came None at here is after = absurd (let h = is in cc)
+  came (Some client) at here is after = served client (request_of client.escaped line) at refl here is after
+
+  by : (b : Bool) → eqb k link ≡ b → Has which (mirror_after which limit link id part (step state (LineCame k line)).acts) (step state (LineCame k line)).state.world
+  by true here = let o = at_key client_link k state.clients in came o refl here (sym (asked_here link k state line o here refl) ∙ e) after
+  by false here = absurd (let h : none ≡ dump ∷ [] = sym (ap (λ b. cond b (asked_by line (client_on link state)) none) here) ∙ e in cc)
+
+pub dump_mirrors : (which : HeldPart) → DumpMirrors which
+dump_mirrors which limit link id state (Start moment) part dump kept within e takes after = absurd (let h = e in cc)
+dump_mirrors which limit link id state (Tick moment) part dump kept within e takes after = absurd (let h = e in cc)
+dump_mirrors which limit link id state (Arrives k nonce) part dump kept within e takes after = absurd (let h = e in cc)
+dump_mirrors which limit link id state (LineCame k line) part dump kept within e takes after = line_dumps which limit link id state k line part dump kept within e takes after
+dump_mirrors which limit link id state (Ends k) part dump kept within e takes after = absurd (let h = e in cc)
+dump_mirrors which limit link id state (Fails k) part dump kept within e takes after = absurd (let h = e in cc)
+dump_mirrors which limit link id state ListenFails part dump kept within e takes after = absurd (let h = e in cc)

@@ -1,0 +1,161 @@
+-- What is noticed of a change is within its limits.
+use Rattle.std.proofs.Common.{◌≡◌, ℕ, ◌<◌, ◌≤◌, ◌^◌, Bool, true, false, cond, eqb, eqb-true, find, List, [], ◌∷◌, length, Option, Some, None, option_map, refl, sym, subst, arith, IsUtf8}
+use Rattle.std.specs.List.{AllByRecursion}
+use Rattle.std.proofs.lemmas.Str.{IsUtf8-nil}
+use Rattle.wc_text.specs.declared.names.Handle.{Handle}
+use Rattle.wc_buffers.specs.declared.entry.BufferEntry.{BufferEntry}
+use Rattle.wc_buffers.specs.Calls.{handle_of, is_there, entry_of}
+use Rattle.wc_buffers.specs.Groups.{rows, has}
+use Rattle.wc_buffers.proofs.RefusalLemmas.{there_good, close_good, move_good, merge_good, unmerge_good, rename_good, short_name_good, set_var_good, remove_var_good}
+use Rattle.wc_world.proofs.GroupRows.{some_row}
+use Rattle.wc_model.specs.declared.change.What.{What}
+use Rattle.wc_model.specs.declared.change.What.TheVariants.{Add, Close, MoveTo, MergeInto, Unmerge, Hide, Unhide, Rename, ShortName, Title, SetVar, RemoveVar, Print, Clear, Flips, AddGroup, AddNick, RemoveGroup, RemoveNick, ChangeGroup, ChangeNick}
+use Rattle.wc_model.specs.declared.notice.EventKind.{EventKind}
+use Rattle.wc_model.specs.declared.notice.Notice.{Notice}
+use Rattle.wc_model.specs.World.{World, lines_at}
+use Rattle.wc_model.specs.Order.{before_in, first_of, after_in, order}
+use Rattle.wc_model.specs.Apply.{refusal_of, after_of}
+use Rattle.wc_model.specs.Notices.{notice_at, notice_of, name_in}
+use Rattle.wc_view.specs.Views.{IsMirrorable}
+use Rattle.wc_mirror_laws.specs.Worlds.{IsBufferKept, IsWorldKept}
+use Rattle.wc_mirror_laws.proofs.ListLemmas.{all_map}
+use Rattle.wc_mirror_laws.proofs.RowLemmas.{row_has}
+use Rattle.wc_mirror_laws.proofs.WorldLemmas.{IsTold, once, accepted, both_accepted, after_kept}
+
+-- handles of 64 bits, and a full name
+pub record IsTelling (n : Notice) : Type 0 where
+  pub buffer : n.buffer.0 < 2 ^ 64
+  pub name : IsUtf8 n.full_name
+  pub short : length n.full_name ≤ 256
+  pub prev : n.prev.0 < 2 ^ 64
+  pub next : n.next.0 < 2 ^ 64
+
+-- ---- the buffers before and after
+
+abbrev AreSmall : List ℕ → Type 0
+AreSmall ns = AllByRecursion (λ n. n < 2 ^ 64) ns
+
+before_small : (before n : ℕ) (ms : List ℕ) → before < 2 ^ 64 → AreSmall ms → before_in before n ms < 2 ^ 64
+before_small before n [] small all = omega arith
+before_small before n (m ∷ ms) small all = by (eqb m n) (before_small m n ms all.0 all.1) where
+  by : (b : Bool) → before_in m n ms < 2 ^ 64 → cond b before (before_in m n ms) < 2 ^ 64
+  by true rest = small
+  by false rest = rest
+
+first_small : (ms : List ℕ) → AreSmall ms → first_of ms < 2 ^ 64
+first_small [] all = omega arith
+first_small (m ∷ ms) all = all.0
+
+after_small : (n : ℕ) (ms : List ℕ) → AreSmall ms → after_in n ms < 2 ^ 64
+after_small n [] all = omega arith
+after_small n (m ∷ ms) all = by (eqb m n) (after_small n ms all.1) where
+  by : (b : Bool) → after_in n ms < 2 ^ 64 → cond b (first_of ms) (after_in n ms) < 2 ^ 64
+  by true rest = first_small ms all.1
+  by false rest = rest
+
+order_small : (limit : ℕ) (v : World) → IsWorldKept limit v → AreSmall (order v.groups)
+order_small limit v is = all_map (IsBufferKept v.next) (λ n. n < 2 ^ 64) handle_of (rows v.groups) (λ e kept. (let b = kept.below in let ended = is.ended in omega arith)) is.each
+
+-- ---- a notice
+
+named : (limit : ℕ) (v : World) (o : Option BufferEntry) → ((e : BufferEntry) → o ≡ Some e → IsBufferKept v.next e)
+    → IsUtf8 (name_in (option_map (λ (e : BufferEntry). e.row) o)) × (length (name_in (option_map (λ (e : BufferEntry). e.row) o)) ≤ 256)
+named limit v None is = (IsUtf8-nil, omega arith)
+named limit v (Some e) is = let kept = is e refl in (kept.fit.text.full_name, kept.fit.full_name.1)
+
+telling_at : (limit : ℕ) (v : World) (kind : EventKind) (h : Handle) (lines flips : List Handle) → IsWorldKept limit v → h.0 < 2 ^ 64 → IsTelling (notice_at kind h v.groups lines flips)
+telling_at limit v kind h lines flips is small =
+    let name = named limit v (entry_of h v.groups) (λ e at. row_has (IsBufferKept v.next) handle_of h.0 (rows v.groups) e at is.each) in
+    let all = order_small limit v is in
+    record {
+      buffer = small;
+      name = name.0;
+      short = name.1;
+      prev = before_small 0 h.0 (order v.groups) (omega arith) all;
+      next = after_small h.0 (order v.groups) all;
+    }
+
+found_key : (h : ℕ) (xs : List BufferEntry) (e : BufferEntry) → find (λ x. eqb (handle_of x) h) xs ≡ Some e → handle_of e ≡ h
+found_key h [] e at = absurd (let f = at in cc)
+found_key h (x ∷ xs) e at = by (eqb (handle_of x) h) refl at (found_key h xs e) where
+  by : (b : Bool) → eqb (handle_of x) h ≡ b → cond b (Some x) (find (λ x. eqb (handle_of x) h) xs) ≡ Some e → (find (λ x. eqb (handle_of x) h) xs ≡ Some e → handle_of e ≡ h) → handle_of e ≡ h
+  by true t f rest = let same : x ≡ e = cc in subst (λ (y : BufferEntry). handle_of y ≡ h) same (eqb-true (handle_of x) h t)
+  by false t f rest = rest f
+
+there_small : (limit : ℕ) (w : World) (h : Handle) → IsWorldKept limit w → is_there h w.groups ≡ true → h.0 < 2 ^ 64
+there_small limit w h is there =
+    let r = some_row handle_of h.0 w.groups there in
+    let kept = row_has (IsBufferKept w.next) handle_of h.0 (rows w.groups) r.0 r.1 is.each in
+    let same = found_key h.0 (rows w.groups) r.0 r.1 in
+    (let b = kept.below in let ended = is.ended in omega arith)
+
+-- no buffer is added
+abbrev pub IsOld : What → Type 0
+IsOld (Add spec) = ⊥
+IsOld _ = Unit {0}
+
+-- the buffer of a change that is accepted, where it is none that is added
+pub target_there : (w : World) (h : Handle) (a : What) → IsTold a → refusal_of w h a ≡ None → IsOld a → is_there h w.groups ≡ true
+unfolding refusal_of
+target_there w h (Add spec) told good old = absurd old
+target_there w h Close told good old = close_good h w.groups (accepted _ good)
+target_there w h (MoveTo n) told good old = (move_good h n w.groups (accepted _ good)).0
+target_there w h (MergeInto into) told good old = (merge_good h into w.groups (accepted _ good)).0
+target_there w h Unmerge told good old = (unmerge_good h w.groups (accepted _ good)).0
+target_there w h Hide told good old = there_good h w.groups (accepted _ good)
+target_there w h Unhide told good old = there_good h w.groups (accepted _ good)
+target_there w h (Rename name flips) told good old = (rename_good h name w.groups (accepted _ (both_accepted _ _ good).0)).0
+target_there w h (ShortName name) told good old = (short_name_good h name w.groups (accepted _ good)).0
+target_there w h (Title title) told good old = there_good h w.groups (accepted _ good)
+target_there w h (SetVar var) told good old = (set_var_good h var.name w.groups (accepted _ good)).0
+target_there w h (RemoveVar name) told good old = (remove_var_good h name w.groups (accepted _ good)).0
+target_there w h (Print line) told good old = there_good h w.groups (accepted _ (both_accepted _ _ good).0)
+target_there w h Clear told good old = there_good h w.groups (accepted _ good)
+target_there w h (Flips flips) told good old = absurd told
+target_there w h (AddGroup parent item) told good old = absurd told
+target_there w h (AddNick group item) told good old = absurd told
+target_there w h (RemoveGroup name) told good old = absurd told
+target_there w h (RemoveNick name) told good old = absurd told
+target_there w h (ChangeGroup item) told good old = absurd told
+target_there w h (ChangeNick item) told good old = absurd told
+
+-- what is noticed of an accepted change
+pub telling : (limit : ℕ) (w : World) (h : Handle) (a : What) → IsWorldKept limit w → IsTold a → refusal_of w h a ≡ None → IsTelling (notice_of w (after_of w h a) h a)
+telling limit w h (Add spec) is told good =
+    telling_at limit (after_of w h (Add spec)) _ (record { 0 = w.next }) _ _ (after_kept limit w h (Add spec) is told good) (let ended = is.ended in omega arith)
+telling limit w h Close is told good = telling_at limit w _ h _ _ is (there_small limit w h is (target_there w h Close told good tt))
+telling limit w h (MoveTo n) is told good = telling_at limit (after_of w h (MoveTo n)) _ h _ _ (after_kept limit w h (MoveTo n) is told good) (there_small limit w h is (target_there w h (MoveTo n) told good tt))
+telling limit w h (MergeInto into) is told good = telling_at limit (after_of w h (MergeInto into)) _ h _ _ (after_kept limit w h (MergeInto into) is told good) (there_small limit w h is (target_there w h (MergeInto into) told good tt))
+telling limit w h Unmerge is told good = telling_at limit (after_of w h Unmerge) _ h _ _ (after_kept limit w h Unmerge is told good) (there_small limit w h is (target_there w h Unmerge told good tt))
+telling limit w h Hide is told good = telling_at limit (after_of w h Hide) _ h _ _ (after_kept limit w h Hide is told good) (there_small limit w h is (target_there w h Hide told good tt))
+telling limit w h Unhide is told good = telling_at limit (after_of w h Unhide) _ h _ _ (after_kept limit w h Unhide is told good) (there_small limit w h is (target_there w h Unhide told good tt))
+telling limit w h (Rename name flips) is told good = telling_at limit (after_of w h (Rename name flips)) _ h _ _ (after_kept limit w h (Rename name flips) is told good) (there_small limit w h is (target_there w h (Rename name flips) told good tt))
+telling limit w h (ShortName name) is told good = telling_at limit (after_of w h (ShortName name)) _ h _ _ (after_kept limit w h (ShortName name) is told good) (there_small limit w h is (target_there w h (ShortName name) told good tt))
+telling limit w h (Title title) is told good = telling_at limit (after_of w h (Title title)) _ h _ _ (after_kept limit w h (Title title) is told good) (there_small limit w h is (target_there w h (Title title) told good tt))
+telling limit w h (SetVar var) is told good = telling_at limit (after_of w h (SetVar var)) _ h _ _ (after_kept limit w h (SetVar var) is told good) (there_small limit w h is (target_there w h (SetVar var) told good tt))
+telling limit w h (RemoveVar name) is told good = telling_at limit (after_of w h (RemoveVar name)) _ h _ _ (after_kept limit w h (RemoveVar name) is told good) (there_small limit w h is (target_there w h (RemoveVar name) told good tt))
+telling limit w h (Print line) is told good = telling_at limit (after_of w h (Print line)) _ h _ _ (after_kept limit w h (Print line) is told good) (there_small limit w h is (target_there w h (Print line) told good tt))
+telling limit w h Clear is told good = telling_at limit (after_of w h Clear) _ h _ _ (after_kept limit w h Clear is told good) (there_small limit w h is (target_there w h Clear told good tt))
+telling limit w h (Flips flips) is told good = absurd told
+telling limit w h (AddGroup parent item) is told good = absurd told
+telling limit w h (AddNick group item) is told good = absurd told
+telling limit w h (RemoveGroup name) is told good = absurd told
+telling limit w h (RemoveNick name) is told good = absurd told
+telling limit w h (ChangeGroup item) is told good = absurd told
+telling limit w h (ChangeNick item) is told good = absurd told
+
+-- ---- in the words of the mirror
+
+pub stands : (limit : ℕ) (w : World) → IsWorldKept limit w → IsMirrorable w
+stands limit w is = record {
+  once = once limit w is;
+  drawn = drawn;
+  within = λ h. subst (λ n. length (lines_at w h) ≤ n) (sym is.same) (is.within h);
+  gone = is.none;
+}
+  where
+    drawn : (h : ℕ) → has handle_of h w.groups ≡ true → h < w.next
+    drawn h there =
+        let r = some_row handle_of h w.groups there in
+        let kept = row_has (IsBufferKept w.next) handle_of h (rows w.groups) r.0 r.1 is.each in
+        subst (λ n. n < w.next) (found_key h (rows w.groups) r.0 r.1) kept.below

@@ -1,0 +1,199 @@
+-- What a reply leaves of what a client has.
+use Rattle.std.proofs.Common.{◌≡◌, ℕ, ◌≤◌, Bool, true, false, cond, ◌||◌, List, [], ◌∷◌, length, codes, Option, Some, None, is_none, refl, sym, ap, subst, ◌∙◌, arith, eqb, bytes_eq}
+use Rattle.std.specs.Prelude.{Ok, Err}
+use Rattle.std.proofs.lemmas.Bool.{false≢true, and_parts}
+use Rattle.std.proofs.lemmas.Slice.Eq.{bytes_eq-Decides}
+use Rattle.wc_text.specs.declared.names.Cause.TheVariants as cause
+use Rattle.wc_model.specs.World.{World}
+use Rattle.wc_objects.specs.declared.object.Object.{Object}
+use Rattle.wc_objects.specs.declared.object.WireMessage.{WireMessage}
+use Rattle.wc_relaycmd.specs.declared.request.Command.{Command}
+use Rattle.wc_relaycmd.specs.declared.request.Command.TheVariants as ask
+use Rattle.wc_relaycmd.specs.declared.request.Request.{Request}
+use Rattle.wc_relaycmd.specs.Answers.{request_of}
+use Rattle.wc_relaycmd.specs.Cuts.{FirstByteIsNot}
+use Rattle.wc_events.specs.NickObjects.{nick_dump}
+use Rattle.wc_session.specs.declared.client.Client.{Client}
+use Rattle.wc_session.specs.OneReply.{AtMostOne, id_of_reply}
+use Rattle.wc_session.specs.Reply.{is_line_dump, is_open, replies, leaves, hdata_objects, nicklist_objects, served, reply_of}
+use Rattle.wc_session.specs.Sending.{message, fits, reply}
+use Rattle.wc_session.proofs.OneReplyLaws.{one_reply}
+use Rattle.wc_session.proofs.SendingLemmas.{fits_within}
+use Rattle.wc_view.specs.BufferFold.{kind_named}
+use Rattle.wc_core.specs.State.{State}
+use Rattle.wc_core.specs.Step.{sends}
+use Rattle.wc_mirror_laws.specs.Held.{HeldPart, Lines, Buffers, Nicks, HeldOf, asks_dump, fold_one, Has}
+use Rattle.wc_mirror_laws.specs.Settled.{TakesDump}
+use Rattle.wc_mirror_laws.specs.Kept.{IsStateKept}
+use Rattle.wc_mirror_laws.specs.Mirrors.{fold_all, mirror_after, IsFair}
+use Rattle.wc_mirror_laws.proofs.HeldLemmas.{dump_of, dump_short, dump_shown}
+use Rattle.wc_mirror_laws.proofs.IdLemmas.{request_free, request_size, event_apart, apart_event}
+use Rattle.wc_mirror_laws.proofs.ClientLemmas.{messages-sends}
+
+-- ---- a reply under another id
+
+-- an id that is none of those that are folded
+pub record IsOther (id other : List ℕ) : Type 0 where
+  pub dump : bytes_eq other id ≡ false
+  pub added : bytes_eq other (codes "_buffer_line_added") ≡ false
+  pub closing : bytes_eq other (codes "_buffer_closing") ≡ false
+  pub cleared : bytes_eq other (codes "_buffer_cleared") ≡ false
+  pub flags : bytes_eq other (codes "_buffer_line_data_changed") ≡ false
+  pub opened : bytes_eq other (codes "_buffer_opened") ≡ false
+  pub nicklist : bytes_eq other (codes "_nicklist") ≡ false
+  pub diff : bytes_eq other (codes "_nicklist_diff") ≡ false
+  pub buffers : kind_named other ≡ None
+
+-- a message under such an id changes nothing
+passed : (which : HeldPart) (limit : ℕ) (id : List ℕ) (part : HeldOf which) (m : WireMessage) → IsOther id m.id → fold_one which limit id part m ≡ part
+passed Lines limit id part m is = rw (is.dump, is.added, is.closing, is.cleared, is.flags) refl
+passed Buffers limit id part m is = rw (is.dump, is.buffers) refl
+passed Nicks limit id (Ok part) m is = rw (is.dump, is.diff, is.nicklist, is.opened, is.closing) refl
+passed Nicks limit id (Err place) m is = rw is.dump refl
+
+unmoved : (which : HeldPart) (limit : ℕ) (id other : List ℕ) (part : HeldOf which) (messages : List WireMessage) → AtMostOne other messages → IsOther id other → fold_all which limit id part messages ≡ part
+unmoved which limit id other part [] one is = refl
+unmoved which limit id other part (m ∷ []) one is = passed which limit id part m (subst (IsOther id) (sym one) is)
+unmoved which limit id other part (m ∷ n ∷ messages) one is = absurd one
+
+-- the id of a request, and that of its reply
+reply_other : (id other : List ℕ) (command : Command) → IsOther id other → bytes_eq (codes "_pong") id ≡ false → IsOther id (id_of_reply other command)
+reply_other id other (ask.Ping text) is pong = record { dump = pong; added = refl; closing = refl; cleared = refl; flags = refl; opened = refl; nicklist = refl; diff = refl; buffers = refl }
+reply_other id other _ is pong = is
+
+no_kind : (other : List ℕ) → FirstByteIsNot 95 other → kind_named other ≡ None
+no_kind other free =
+    rw (
+      apart_event (codes "buffer_opened") other free,
+      apart_event (codes "buffer_moved") other free,
+      apart_event (codes "buffer_merged") other free,
+      apart_event (codes "buffer_unmerged") other free,
+      apart_event (codes "buffer_hidden") other free,
+      apart_event (codes "buffer_unhidden") other free,
+      apart_event (codes "buffer_renamed") other free,
+      apart_event (codes "buffer_title_changed") other free,
+      apart_event (codes "buffer_localvar_added") other free,
+      apart_event (codes "buffer_localvar_changed") other free,
+      apart_event (codes "buffer_localvar_removed") other free,
+      apart_event (codes "buffer_closing") other free,
+    ) refl
+
+free_other : (id other : List ℕ) → FirstByteIsNot 95 other → bytes_eq other id ≡ false → IsOther id other
+free_other id other free apart = record {
+  dump = apart;
+  added = apart_event (codes "buffer_line_added") other free;
+  closing = apart_event (codes "buffer_closing") other free;
+  cleared = apart_event (codes "buffer_cleared") other free;
+  flags = apart_event (codes "buffer_line_data_changed") other free;
+  opened = apart_event (codes "buffer_opened") other free;
+  nicklist = apart_event (codes "nicklist") other free;
+  diff = apart_event (codes "nicklist_diff") other free;
+  buffers = no_kind other free;
+}
+
+other_reply : (which : HeldPart) (limit : ℕ) (id : List ℕ) (state : State) (client : Client) (line : List ℕ) (request : Request) (part : HeldOf which) → FirstByteIsNot 95 id
+    → request_of client.escaped line ≡ Some request → bytes_eq request.id id ≡ false → fold_all which limit id part (reply_of state.world state.password client request).messages ≡ part
+other_reply which limit id state client line request part free read other =
+    unmoved which limit id (id_of_reply request.id request.command) part (reply_of state.world state.password client request).messages (one_reply state.world state.password client request)
+    (reply_other id request.id request.command (free_other id request.id (request_free line client.escaped request read) other) (event_apart (codes "pong") id free))
+
+-- ---- the dump
+
+dump_objects : (which : HeldPart) (world : World) (path keys : List ℕ) → asks_dump which (ask.Hdata path keys) ≡ true → hdata_objects world path keys ≡ dump_of which world
+unfolding hdata_objects
+dump_objects Lines world path keys e = rw e refl
+dump_objects Buffers world path keys e =
+    let same = (bytes_eq-Decides path (codes "buffer:gui_buffers(*)")).0 (and_parts (bytes_eq path (codes "buffer:gui_buffers(*)")) _ e).0 in
+    let other : is_line_dump path keys ≡ false = ap (λ p. is_line_dump p keys) same in
+    rw (other, e) refl
+dump_objects Nicks world path keys e = absurd (false≢true e)
+
+-- the nicklists of all buffers
+nicklist_dump : (world : World) (buffer : Option (List ℕ)) → is_none buffer ≡ true → nicklist_objects world buffer ≡ nick_dump world
+unfolding nicklist_objects
+nicklist_dump world None e = refl
+nicklist_dump world (Some name) e = absurd (false≢true e)
+
+reply_one : (id : List ℕ) (objects : List Object) → fits (message id objects) ≡ true → reply id objects ≡ message id objects ∷ []
+unfolding reply
+reply_one id objects e = rw e refl
+
+-- the dump is the one message that its request gets
+one_dump : (which : HeldPart) (world : World) (client : Client) (id : List ℕ) (objects : List Object) → objects ≡ dump_of which world → fits (message id (dump_of which world)) ≡ true
+    → (replies client (reply id objects)).messages ≡ message id (dump_of which world) ∷ []
+one_dump which world client id objects e fit =
+    ap (λ objects. (replies client (reply id objects)).messages) e ∙ ap (λ messages. (replies client messages).messages) (reply_one id (dump_of which world) fit)
+
+served_dump : (which : HeldPart) (world : World) (password : List ℕ) (client : Client) (id : List ℕ) (command : Command) → asks_dump which command ≡ true
+    → fits (message id (dump_of which world)) ≡ true → (served world password client id command).messages ≡ message id (dump_of which world) ∷ []
+unfolding served
+served_dump Lines world password client id (ask.Hdata path keys) e fit = one_dump Lines world client id (hdata_objects world path keys) (dump_objects Lines world path keys e) fit
+served_dump Lines world password client id _ e fit = absurd (false≢true e)
+served_dump Buffers world password client id (ask.Hdata path keys) e fit = one_dump Buffers world client id (hdata_objects world path keys) (dump_objects Buffers world path keys e) fit
+served_dump Buffers world password client id _ e fit = absurd (false≢true e)
+served_dump Nicks world password client id (ask.Nicklist buffer) e fit = one_dump Nicks world client id (nicklist_objects world buffer) (nicklist_dump world buffer e) fit
+served_dump Nicks world password client id _ e fit = absurd (false≢true e)
+
+reply_dump : (which : HeldPart) (world : World) (password : List ℕ) (client : Client) (request : Request) → client.logged_in ≡ true → asks_dump which request.command ≡ true
+    → fits (message request.id (dump_of which world)) ≡ true → (reply_of world password client request).messages ≡ message request.id (dump_of which world) ∷ []
+unfolding reply_of
+reply_dump which world password client request logged e fit =
+    ap (λ b. (cond (b || is_open request.command) (served world password client request.id request.command) (leaves client cause.LoginFailed)).messages) logged
+    ∙ served_dump which world password client request.id request.command e fit
+
+-- before login it gets none
+closed_dump : (which : HeldPart) (command : Command) → asks_dump which command ≡ true → is_open command ≡ false
+closed_dump Lines (ask.Hdata path keys) e = refl
+closed_dump Lines _ e = absurd (false≢true e)
+closed_dump Buffers (ask.Hdata path keys) e = refl
+closed_dump Buffers _ e = absurd (false≢true e)
+closed_dump Nicks (ask.Nicklist buffer) e = refl
+closed_dump Nicks _ e = absurd (false≢true e)
+
+early_dump : (which : HeldPart) (world : World) (password : List ℕ) (client : Client) (request : Request) → client.logged_in ≡ false → asks_dump which request.command ≡ true
+    → (reply_of world password client request).messages ≡ []
+unfolding reply_of
+early_dump which world password client request early e =
+    ap (λ b. (cond (b || is_open request.command) (served world password client request.id request.command) (leaves client cause.LoginFailed)).messages) early
+    ∙ ap (λ b. (cond b (served world password client request.id request.command) (leaves client cause.LoginFailed)).messages) (closed_dump which request.command e)
+
+-- the dump shows its part, whatever the client had
+pub dump_right : (which : HeldPart) (limit link : ℕ) (id : List ℕ) (state : State) (client : Client) (line : List ℕ) (request : Request) (part : HeldOf which) → IsStateKept limit link state → length line ≤ 65536
+    → request_of client.escaped line ≡ Some request → TakesDump which id (record { client = client; request = request })
+    → Has which (fold_all which limit id part (reply_of state.world state.password client request).messages) state.world
+dump_right which limit link id state client line request part kept within read takes =
+    let size = request_size line client.escaped request read in
+    let fit = fits_within (message request.id (dump_of which state.world)) (dump_short which limit request.id state.world (omega arith) kept.most kept.world) in
+    let told = reply_dump which state.world state.password client request takes.logged_in takes.dump fit ∙ ap (λ id. message id (dump_of which state.world) ∷ []) takes.under in
+    subst (λ part. Has which part state.world) (sym (ap (fold_all which limit id part) told)) (dump_shown which limit id part state.world kept.world)
+
+-- ---- any reply
+
+-- a reply leaves a client that has a part with it
+pub reply_right : (which : HeldPart) (limit link : ℕ) (id : List ℕ) (state : State) (client : Client) (line : List ℕ) (request : Request) (part : HeldOf which) → IsStateKept limit link state → FirstByteIsNot 95 id → length line ≤ 65536
+    → request_of client.escaped line ≡ Some request → IsFair which id (record { client = client; request = request }) → Has which part state.world
+    → Has which (fold_all which limit id part (reply_of state.world state.password client request).messages) state.world
+reply_right which limit link id state client line request part kept free within read fair had = by (bytes_eq request.id id) client.logged_in refl refl where
+  messages : List WireMessage
+  messages = (reply_of state.world state.password client request).messages
+
+  by : (same logged : Bool) → bytes_eq request.id id ≡ same → client.logged_in ≡ logged → Has which (fold_all which limit id part messages) state.world
+  by true true e logged =
+      dump_right which limit link id state client line request part kept within read (record { logged_in = logged; dump = fair e; under = (bytes_eq-Decides request.id id).0 e })
+  by true false e early =
+      subst (λ part. Has which part state.world) (sym (ap (fold_all which limit id part) (early_dump which state.world state.password client request early (fair e)))) had
+  by false logged e was = subst (λ part. Has which part state.world) (sym (other_reply which limit id state client line request part free read e)) had
+
+-- what is sent to the client of one link
+pub sends_right : (which : HeldPart) (limit link : ℕ) (id : List ℕ) (state : State) (k : ℕ) (messages : List WireMessage) (part : HeldOf which)
+    → (eqb k link ≡ true → Has which (fold_all which limit id part messages) state.world) → (eqb k link ≡ false → Has which part state.world)
+    → Has which (mirror_after which limit link id part (sends k messages)) state.world
+sends_right which limit link id state k messages part here else =
+    subst (λ messages. Has which (fold_all which limit id part messages) state.world) (sym (messages-sends link k messages)) (by (eqb k link) refl)
+  where
+    none : List WireMessage
+    none = []
+
+    by : (b : Bool) → eqb k link ≡ b → Has which (fold_all which limit id part (cond b messages none)) state.world
+    by true e = here e
+    by false e = else e

@@ -1,0 +1,269 @@
+-- Each message that is replied keeps the rules.
+use Rattle.std.proofs.Common.{◌≡◌, ℕ, ◌^◌, ◌<◌, Bool, true, false, cond, not, ◌&&◌, ◌||◌, List, [], ◌∷◌, codes, Option, Some, None, option_map, refl, arith}
+use Rattle.std.specs.Prelude.{ℤ}
+use Rattle.std.specs.List.{AllByRecursion}
+use Rattle.std.specs.Option.{is_none}
+use Rattle.std.specs.Int.{w8, w32, w64}
+use Rattle.std.specs.Int.RustNames.{FitsSigned}
+use Rattle.std.specs.Str.{IsUtf8, is_utf8, chars}
+use Rattle.std.proofs.lemmas.Str.{IsUtf8-from_is_utf8}
+use lib.Utf8.{encode}
+use denote.Hole.Carrier.{out}
+use Rattle.wc_text.specs.declared.names.Cause.TheVariants as cause
+use Rattle.wc_text.specs.declared.names.Handle.{Handle}
+use Rattle.wc_text.specs.declared.names.Pair.{Pair}
+use Rattle.wc_buffers.specs.declared.entry.BufferEntry.{BufferEntry}
+use Rattle.wc_buffers.specs.Calls.{EntryGroups, handle_of, entry_of}
+use Rattle.wc_buffers.specs.Groups.{rows}
+use Rattle.wc_model.specs.World.{World}
+use Rattle.wc_objects.specs.declared.kind.Kind.{Kind}
+use Rattle.wc_objects.specs.declared.kind.Kind.TheVariants as k
+use Rattle.wc_objects.specs.declared.object.Object.{Object}
+use Rattle.wc_objects.specs.declared.object.Object.TheVariants as o
+use Rattle.wc_objects.specs.declared.object.Object.TheViews.{out-Object, out-roll-Object, out-roll-Hda}
+use Rattle.wc_objects.specs.declared.object.Hda.{roll-Hda}
+use Rattle.wc_objects.specs.declared.object.WireMessage.{WireMessage}
+use Rattle.wc_objects.specs.Within.{SimpleWithin, PairWithin, HdaWithin, ObjectWithin}
+use Rattle.wc_relaycmd.specs.declared.algorithm.Algorithm.{Algorithm}
+use Rattle.wc_relaycmd.specs.declared.request.Command.{Command}
+use Rattle.wc_relaycmd.specs.declared.request.Command.TheVariants as ask
+use Rattle.wc_relaycmd.specs.declared.request.Request.{Request}
+use Rattle.wc_relaycmd.specs.Utf8.{CommandUtf8, RequestIsUtf8}
+use Rattle.wc_events.specs.BufferObjects.{buffer_dump}
+use Rattle.wc_events.specs.LineObjects.{line_dump}
+use Rattle.wc_events.specs.NickObjects.{nick_objects, root_and_rows}
+use Rattle.wc_session.specs.declared.client.Client.{Client}
+use Rattle.wc_session.specs.declared.outcome.Outcome.TheVariants as outcome
+use Rattle.wc_session.specs.Handshakes.{choice_in, asks_escapes, entry, handshake_table, handshake_objects}
+use Rattle.wc_session.specs.Logins.{pairs_let_in}
+use Rattle.wc_session.specs.Names.{buffer_named}
+use Rattle.wc_session.specs.Reply.{Answer, silent, leaves, replies, test_texts, test_numbers, test_objects, hdata_objects, is_line_dump, is_buffer_dump, info_objects, infolist_objects, or_null, list_of_named, nicklist_objects, pong_objects, shaken, handshake_reply, handshake_answer, init_answer, typed_into, input_answer, is_open, served, reply_of}
+use Rattle.wc_session.specs.Sending.{message, fits, fitting, null_hdata, reply}
+use Rattle.wc_session.proofs.Formed.{null_formed, info_formed, infolist_formed, pong_formed, test_formed, handshake_formed}
+use Rattle.wc_mirror_laws.specs.Worlds.{IsBufferKept, IsWorldKept}
+use Rattle.wc_mirror_laws.proofs.DumpLemmas.{line_dump_good, buffer_dump_good}
+use Rattle.wc_mirror_laws.proofs.NickDumps.{nick_dump_good, nick_list_good}
+use Rattle.wc_mirror_laws.proofs.RowLemmas.{row_has}
+use Rattle.wc_mirror_laws.proofs.TellingLemmas.{AllSpelt, AreGood, one_spelt, fitting_spelt}
+use Rattle.wc_mirror_laws.proofs.WithinLemmas.{simple_str, hda_within}
+
+-- ---- the numbers of objects
+
+str_within : (text : Option (List ℕ)) → ObjectWithin (o.Str text)
+unfolding ObjectWithin out-Object out
+str_within text = tt
+
+buf_within : (text : Option (List ℕ)) → ObjectWithin (o.Buf text)
+unfolding ObjectWithin out-Object out
+buf_within text = tt
+
+inf_within : (name value : Option (List ℕ)) → ObjectWithin (o.Inf name value)
+unfolding ObjectWithin out-Object out
+inf_within name value = tt
+
+chr_within : (n : ℤ) → FitsSigned w8 n → ObjectWithin (o.Chr n)
+unfolding ObjectWithin out-Object out
+chr_within n fit = fit
+
+int_within : (n : ℤ) → FitsSigned w32 n → ObjectWithin (o.Int n)
+unfolding ObjectWithin out-Object out
+int_within n fit = fit
+
+lon_within : (n : ℤ) → FitsSigned w64 n → ObjectWithin (o.Lon n)
+unfolding ObjectWithin out-Object out
+lon_within n fit = fit
+
+tim_within : (n : ℤ) → FitsSigned w64 n → ObjectWithin (o.Tim n)
+unfolding ObjectWithin out-Object out
+tim_within n fit = fit
+
+ptr_within : (n : ℕ) → n < 2 ^ 64 → ObjectWithin (o.Ptr n)
+unfolding ObjectWithin out-Object out
+ptr_within n fit = fit
+
+simple_int : (n : ℤ) → FitsSigned w32 n → SimpleWithin (o.Int n)
+unfolding SimpleWithin out-Object out
+simple_int n fit = fit
+
+inl_within : (name : List ℕ) → ObjectWithin (o.Inl name [])
+unfolding ObjectWithin
+inl_within name = rw (← o.rolls-Inl name [], out-roll-Object) tt
+
+arr_within : (values : List Object) → AllByRecursion SimpleWithin values → (kind : Kind) → ObjectWithin (o.Arr kind values)
+unfolding ObjectWithin
+arr_within values all kind = rw (← o.rolls-Arr kind values, out-roll-Object) all
+
+htb_within : (table : List (Object × Object)) → AllByRecursion PairWithin table → ObjectWithin (o.Htb k.Str k.Str table)
+unfolding ObjectWithin
+htb_within table all = rw (← o.rolls-Htb k.Str k.Str table, out-roll-Object) all
+
+-- ---- replies
+
+null_within : HdaWithin (roll-Hda (record { path = None; keys = None; items = [] }))
+unfolding HdaWithin
+null_within = rw out-roll-Hda tt
+
+null_good : AreGood null_hdata
+null_good = record { formed = null_formed; within = (hda_within (roll-Hda (record { path = None; keys = None; items = [] })) null_within, tt) }
+
+hdata_good : (limit : ℕ) (world : World) (path keys : List ℕ) → IsWorldKept limit world → AreGood (hdata_objects world path keys)
+unfolding hdata_objects
+hdata_good limit world path keys is = by (is_line_dump path keys) (is_buffer_dump path keys) where
+  by : (lines buffers : Bool) → AreGood (cond lines (line_dump world) (cond buffers (buffer_dump world.groups) null_hdata))
+  by true buffers = line_dump_good limit world is
+  by false true = buffer_dump_good limit world is
+  by false false = null_good
+
+nicklist_good : (limit : ℕ) (world : World) (buffer : Option (List ℕ)) → IsWorldKept limit world → AreGood (nicklist_objects world buffer)
+unfolding nicklist_objects
+nicklist_good limit world None is = nick_dump_good limit world is
+nicklist_good limit world (Some name) is = by (buffer_named world.groups name) where
+  found : (h : Handle) (o : Option BufferEntry) → entry_of h world.groups ≡ o → AreGood (or_null (option_map (λ e. nick_objects (root_and_rows world e)) o))
+  found h None at = null_good
+  found h (Some e) at = nick_list_good limit world e is (row_has (IsBufferKept world.next) handle_of h.0 (rows world.groups) e at is.each)
+
+  by : (o : Option Handle) → AreGood (or_null (list_of_named world o))
+  by None = null_good
+  by (Some h) = found h (entry_of h world.groups) refl
+
+test_within : AllByRecursion ObjectWithin test_objects
+unfolding test_objects
+test_within = (
+  chr_within _ (record { sfits = omega arith }),
+  (
+    int_within _ (record { sfits = omega arith }),
+    (
+      int_within _ (record { sfits = omega arith }),
+      (
+        lon_within _ (record { sfits = omega arith }),
+        (
+          lon_within _ (record { sfits = omega arith }),
+          (
+            str_within _,
+            (
+              str_within _,
+              (
+                str_within _,
+                (
+                  buf_within _,
+                  (
+                    buf_within _,
+                    (
+                      ptr_within _ (omega arith),
+                      (
+                        ptr_within _ (omega arith),
+                        (
+                          tim_within _ (record { sfits = omega arith }),
+                          (
+                            arr_within test_texts (simple_str _, (simple_str _, tt)) k.Str,
+                            (arr_within test_numbers (simple_int _ (record { sfits = omega arith }), (simple_int _ (record { sfits = omega arith }), (simple_int _ (record { sfits = omega arith }), tt))) k.Int, tt),
+                          ),
+                        ),
+                      ),
+                    ),
+                  ),
+                ),
+              ),
+            ),
+          ),
+        ),
+      ),
+    ),
+  ),
+)
+
+test_good : AreGood test_objects
+test_good = record { formed = test_formed; within = test_within }
+
+info_good : (name : List ℕ) → IsUtf8 name → AreGood (info_objects name)
+info_good name text = record { formed = info_formed name text; within = (inf_within (Some name) None, tt) }
+
+infolist_good : (name : List ℕ) → IsUtf8 name → AreGood (infolist_objects name)
+infolist_good name text = record { formed = infolist_formed name text; within = (inl_within name, tt) }
+
+pong_good : (text : List ℕ) → IsUtf8 text → AreGood (pong_objects text)
+pong_good text utf8 = record { formed = pong_formed text utf8; within = (str_within (Some text), tt) }
+
+entry_within : (name value : List ℕ) → PairWithin (entry name value)
+entry_within name value = (simple_str (Some name), simple_str (Some value))
+
+table_within : (nonce : List ℕ) (choice : Option Algorithm) (escapes : Bool) → AllByRecursion PairWithin (handshake_table nonce choice escapes)
+unfolding handshake_table
+table_within nonce choice escapes = (
+  entry_within _ _,
+  (entry_within _ _, (entry_within _ _, (entry_within _ _, (entry_within _ _, (entry_within _ _, tt))))),
+)
+
+handshake_good : (nonce : List ℕ) (choice : Option Algorithm) (escapes : Bool) → AreGood (handshake_objects nonce choice escapes)
+handshake_good nonce choice escapes = record {
+  formed = handshake_formed nonce choice escapes;
+  within = (htb_within (handshake_table nonce choice escapes) (table_within nonce choice escapes), tt);
+}
+
+-- a reply with such objects
+reply_spelt : (id : List ℕ) (objects : List Object) → IsUtf8 id → AreGood objects → AllSpelt (reply id objects)
+unfolding reply
+reply_spelt id objects text good = by (fits (message id objects)) refl where
+  by : (b : Bool) → fits (message id objects) ≡ b → AllSpelt (cond b (message id objects ∷ []) (fitting (message id null_hdata)))
+  by true e = (one_spelt (message id objects) text good e, tt)
+  by false e = fitting_spelt (message id null_hdata) text null_good
+
+if_spelt : (b : Bool) (x y : Answer) → AllSpelt x.messages → AllSpelt y.messages → AllSpelt (cond b x y).messages
+if_spelt true x y p q = p
+if_spelt false x y p q = q
+
+replies_spelt : (client : Client) (messages : List WireMessage) → AllSpelt messages → AllSpelt (replies client messages).messages
+replies_spelt client [] all = tt
+replies_spelt client (m ∷ messages) all = all
+
+handshake_spelt : (client : Client) (id : List ℕ) (pairs : List Pair) → IsUtf8 id → AllSpelt (handshake_answer client id pairs).messages
+unfolding handshake_answer
+handshake_spelt client id pairs text =
+    let messages = handshake_reply client id pairs in
+    let all = reply_spelt id (handshake_objects client.nonce (choice_in pairs) (asks_escapes pairs)) text (handshake_good client.nonce (choice_in pairs) (asks_escapes pairs)) in
+    if_spelt (not client.logged_in && is_none (choice_in pairs))
+    (record { messages = messages; outcome = outcome.Leave cause.LoginFailed; client = shaken client pairs })
+    (replies (shaken client pairs) messages) all (replies_spelt (shaken client pairs) messages all)
+
+init_spelt : (password : List ℕ) (client : Client) (pairs : List Pair) → AllSpelt (init_answer password client pairs).messages
+unfolding init_answer
+init_spelt password client pairs =
+    let let_in : Client = record client { logged_in = true } in
+    if_spelt client.logged_in (silent client) (cond (pairs_let_in pairs password client.nonce client.chosen) (silent let_in) (leaves client cause.LoginFailed))
+    tt (if_spelt (pairs_let_in pairs password client.nonce client.chosen) (silent let_in) (leaves client cause.LoginFailed) tt tt)
+
+input_spelt : (groups : EntryGroups) (client : Client) (buffer text : List ℕ) → AllSpelt (input_answer groups client buffer text).messages
+input_spelt groups client buffer text = by (buffer_named groups buffer) where
+  by : (o : Option Handle) → AllSpelt (typed_into client text o).messages
+  by None = tt
+  by (Some h) = tt
+
+pong_is_text : is_utf8 (codes "_pong") ≡ true
+unfolding is_utf8 chars encode
+pong_is_text = refl
+
+pong_text : IsUtf8 (codes "_pong")
+pong_text = IsUtf8-from_is_utf8 (codes "_pong") pong_is_text
+
+served_spelt : (limit : ℕ) (world : World) (password : List ℕ) (client : Client) (id : List ℕ) (command : Command) → IsWorldKept limit world → IsUtf8 id → CommandUtf8 command → AllSpelt (served world password client id command).messages
+unfolding served CommandUtf8
+served_spelt limit world password client id (ask.Handshake pairs) is text utf8 = handshake_spelt client id pairs text
+served_spelt limit world password client id (ask.Init pairs) is text utf8 = init_spelt password client pairs
+served_spelt limit world password client id (ask.Hdata path keys) is text utf8 = replies_spelt client _ (reply_spelt id _ text (hdata_good limit world path keys is))
+served_spelt limit world password client id (ask.Info name) is text utf8 = replies_spelt client _ (reply_spelt id _ text (info_good name utf8))
+served_spelt limit world password client id (ask.Infolist name) is text utf8 = replies_spelt client _ (reply_spelt id _ text (infolist_good name utf8))
+served_spelt limit world password client id (ask.Nicklist buffer) is text utf8 = replies_spelt client _ (reply_spelt id _ text (nicklist_good limit world buffer is))
+served_spelt limit world password client id (ask.Input buffer typed) is text utf8 = input_spelt world.groups client buffer typed
+served_spelt limit world password client id (ask.Completion buffer position typed) is text utf8 = replies_spelt client _ (reply_spelt id _ text null_good)
+served_spelt limit world password client id (ask.Sync buffers options) is text utf8 = tt
+served_spelt limit world password client id (ask.Desync buffers options) is text utf8 = tt
+served_spelt limit world password client id ask.Test is text utf8 = replies_spelt client _ (reply_spelt id _ text test_good)
+served_spelt limit world password client id (ask.Ping typed) is text utf8 = replies_spelt client _ (reply_spelt (codes "_pong") _ pong_text (pong_good typed utf8))
+served_spelt limit world password client id ask.Quit is text utf8 = tt
+
+-- what a request gets
+pub answer_spelt : (limit : ℕ) (world : World) (password : List ℕ) (client : Client) (request : Request) → IsWorldKept limit world → RequestIsUtf8 request → AllSpelt (reply_of world password client request).messages
+unfolding reply_of
+answer_spelt limit world password client request is utf8 =
+    if_spelt (client.logged_in || is_open request.command) (served world password client request.id request.command) (leaves client cause.LoginFailed)
+    (served_spelt limit world password client request.id request.command is utf8.id utf8.command) tt

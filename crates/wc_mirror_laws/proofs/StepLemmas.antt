@@ -1,0 +1,201 @@
+-- What one event leaves of the core and of its clients.
+use Rattle.std.proofs.Common.{◌≡◌, ◌≢◌, ℕ, Bool, true, false, cond, List, [], ◌∷◌, ◌++◌, length, Option, Some, None, refl, sym, ap, subst, ◌∙◌, arith, eqb, nat_lt}
+use Rattle.std.proofs.lemmas.Bool.{false≢true}
+use Rattle.std.proofs.lemmas.Bool.Decides.{nat_tests}
+use Rattle.wc_text.specs.declared.names.Cause.{Cause}
+use Rattle.wc_text.specs.declared.names.Cause.TheVariants as cause
+use Rattle.wc_text.specs.declared.names.LinkId.{LinkId}
+use Rattle.wc_outside.specs.Keyed.{at_key, put_at, without}
+use Rattle.wc_outside.proofs.KeyedLemmas.{at_key-key, at_key-put_other, at_key-without_other, at_key-filter_same}
+use Rattle.wc_relaycmd.specs.declared.request.Request.{Request}
+use Rattle.wc_relaycmd.specs.Answers.{request_of}
+use Rattle.wc_relaycmd.specs.Cuts.{FirstByteIsNot}
+use Rattle.wc_relaycmd.proofs.ReadLemmas.{reads-request_of}
+use Rattle.wc_relaycmd.proofs.RequestTexts.{HasUtf8-reads}
+use Rattle.wc_session.specs.declared.client.Client.{Client}
+use Rattle.wc_session.specs.declared.outcome.Outcome.{Outcome}
+use Rattle.wc_session.specs.declared.outcome.Outcome.TheVariants as outcome
+use Rattle.wc_session.specs.Known.{new_client}
+use Rattle.wc_session.specs.Reply.{Answer, reply_of}
+use Rattle.wc_core.specs.Events.{Event, Start, Tick, Arrives, Line as LineCame, Ends, Fails, ListenFails}
+use Rattle.wc_core.specs.State.{State, Stepped, Closes}
+use Rattle.wc_core.specs.Step.{client_link, client_limit, no_step, sends, leave_step, outcome_step, answer_step, request_step, line_step, loss_step, step}
+use Rattle.wc_core.specs.Served.{OutcomeUtf8}
+use Rattle.wc_core.specs.Typed.{lines_of_text}
+use Rattle.wc_core.proofs.ReplyLemmas.{reply_fits}
+use Rattle.wc_mirror_laws.specs.Held.{HeldPart, Lines, HeldOf, Has}
+use Rattle.wc_mirror_laws.specs.Settled.{asked_by, asked_with, asked_in, client_on, is_following}
+use Rattle.wc_mirror_laws.specs.Kept.{is_first_alone, IsStateKept}
+use Rattle.wc_mirror_laws.specs.Mirrors.{mirror_after, StepKeeps}
+use Rattle.wc_mirror_laws.proofs.ClientLemmas.{following-push, first-push, first-put, first-without}
+use Rattle.wc_mirror_laws.proofs.ChangeLemmas.{mirror-append, Tells-runs}
+use Rattle.wc_mirror_laws.proofs.PushLemmas.{asked_replies}
+use Rattle.wc_mirror_laws.proofs.TypedLemmas.{parted_text}
+
+kept-clients : (limit link : ℕ) (state : State) (clients : List Client) → IsStateKept limit link state → is_first_alone link clients ≡ true → IsStateKept limit link (record state { clients = clients })
+kept-clients limit link state clients kept e = record { most = kept.most; world = kept.world; told = kept.told; first = e }
+
+kept-leaves : (limit link : ℕ) (state : State) (k : ℕ) (why : Cause) → IsStateKept limit link state → IsStateKept limit link (leave_step state k why).state
+kept-leaves limit link state k why kept = kept-clients limit link state (without client_link k state.clients) kept (first-without link k state.clients kept.first)
+
+-- ---- what an answer asks of the core
+
+kept-follows : (limit link : ℕ) (state : State) (k : ℕ) (o : Outcome) → OutcomeUtf8 o → IsStateKept limit link state → IsStateKept limit link (outcome_step state k o).state
+kept-follows limit link state k outcome.Replied utf8 kept = kept
+kept-follows limit link state k outcome.Silent utf8 kept = kept
+kept-follows limit link state k (outcome.Input buffer text) utf8 kept = (Tells-runs Lines limit link [] state buffer (lines_of_text text) tt kept (parted_text text utf8)).kept
+kept-follows limit link state k (outcome.Leave why) utf8 kept = kept-leaves limit link state k why kept
+kept-follows limit link state k outcome.NoMemory utf8 kept = kept
+
+right-follows : (which : HeldPart) (limit link : ℕ) (id : List ℕ) (state : State) (k : ℕ) (o : Outcome) (part : HeldOf which) → OutcomeUtf8 o → IsStateKept limit link state → FirstByteIsNot 95 id
+    → is_following (client_on link (outcome_step state k o).state) ≡ true → Has which part state.world → Has which (mirror_after which limit link id part (outcome_step state k o).acts) (outcome_step state k o).state.world
+right-follows which limit link id state k outcome.Replied part utf8 kept free after had = had
+right-follows which limit link id state k outcome.Silent part utf8 kept free after had = had
+right-follows which limit link id state k (outcome.Input buffer text) part utf8 kept free after had =
+    let tells = Tells-runs which limit link id state buffer (lines_of_text text) free kept (parted_text text utf8) in
+    tells.right (sym tells.following ∙ after) part had
+right-follows which limit link id state k (outcome.Leave why) part utf8 kept free after had = had
+right-follows which limit link id state k outcome.NoMemory part utf8 kept free after had = had
+
+-- the state after the messages of an answer
+abbrev pub put : State → ℕ → Client → State
+put state k client = record state { clients = put_at client_link k client state.clients }
+
+pub kept-put : (limit link : ℕ) (state : State) (k : ℕ) (client : Client) → client_link client ≡ k → IsStateKept limit link state → IsStateKept limit link (put state k client)
+kept-put limit link state k client here kept = kept-clients limit link state (put_at client_link k client state.clients) kept (first-put link k client state.clients here ∙ kept.first)
+
+kept-answers : (limit link : ℕ) (state : State) (k : ℕ) (answer : Answer) → client_link answer.client ≡ k → OutcomeUtf8 answer.outcome → IsStateKept limit link state → IsStateKept limit link (answer_step state k answer).state
+kept-answers limit link state k answer here utf8 kept = kept-follows limit link (put state k answer.client) k answer.outcome utf8 (kept-put limit link state k answer.client here kept)
+
+-- where the messages of an answer leave a part right, so does what follows them
+pub right-answers : (which : HeldPart) (limit link : ℕ) (id : List ℕ) (state : State) (k : ℕ) (answer : Answer) (part : HeldOf which) → client_link answer.client ≡ k → OutcomeUtf8 answer.outcome → IsStateKept limit link state → FirstByteIsNot 95 id
+    → is_following (client_on link (answer_step state k answer).state) ≡ true → Has which (mirror_after which limit link id part (sends k answer.messages)) state.world
+    → Has which (mirror_after which limit link id part (answer_step state k answer).acts) (answer_step state k answer).state.world
+right-answers which limit link id state k answer part here utf8 kept free after had =
+    let next = put state k answer.client in
+    let last = (outcome_step next k answer.outcome).state in
+    subst (λ part. Has which part last.world) (sym (mirror-append which limit link id part (sends k answer.messages) (outcome_step next k answer.outcome).acts))
+    (right-follows which limit link id next k answer.outcome (mirror_after which limit link id part (sends k answer.messages)) utf8 (kept-put limit link state k answer.client here kept) free after had)
+
+-- ---- what is answered to a request
+
+-- what is typed by a request is text
+pub reply_text : (state : State) (client : Client) (line : List ℕ) (request : Request) → request_of client.escaped line ≡ Some request → OutcomeUtf8 (reply_of state.world state.password client request).outcome
+reply_text state client line request e =
+    (reply_fits state.world state.password client request (HasUtf8-reads line client.escaped request (reads-request_of line client.escaped request e))).text
+
+pub reply_link : (state : State) (client : Client) (line : List ℕ) (request : Request) → request_of client.escaped line ≡ Some request
+    → client_link (reply_of state.world state.password client request).client ≡ client_link client
+reply_link state client line request e =
+    ap (λ (l : LinkId). l.0) (reply_fits state.world state.password client request (HasUtf8-reads line client.escaped request (reads-request_of line client.escaped request e))).link
+
+-- ---- a line of a client
+
+-- what the client of a link asks by a line of it
+pub asked_here : (link k : ℕ) (state : State) (line : List ℕ) (o : Option Client) → eqb k link ≡ true → at_key client_link k state.clients ≡ o
+    → asked_in link state (LineCame k line) ≡ asked_by line o
+asked_here link k state line o here at =
+    let same : k ≡ link = grind (arith, nat_tests) in
+    ap (λ b. cond b (asked_by line (client_on link state)) []) here ∙ ap (λ n. asked_by line (at_key client_link n state.clients)) (sym same) ∙ ap (asked_by line) at
+
+kept-line : (limit link : ℕ) (state : State) (k : ℕ) (line : List ℕ) → IsStateKept limit link state → IsStateKept limit link (step state (LineCame k line)).state
+kept-line limit link state k line kept = came (at_key client_link k state.clients) where
+  served : (client : Client) (o : Option Request) → request_of client.escaped line ≡ o → IsStateKept limit link (request_step state client o).state
+  served client None e = kept
+  served client (Some request) e =
+      subst (λ (s : Stepped). IsStateKept limit link s.state) (sym (asked_replies state kept.told kept.world.empty client request))
+      (kept-answers limit link state (client_link client) (reply_of state.world state.password client request) (reply_link state client line request e) (reply_text state client line request e) kept)
+
+  came : (o : Option Client) → IsStateKept limit link (line_step state line o).state
+  came None = kept
+  came (Some client) = served client (request_of client.escaped line) refl
+
+-- ---- one event
+
+kept-lost : (limit link : ℕ) (state : State) (k : ℕ) (why : Cause) (o : Option Client) → IsStateKept limit link state → IsStateKept limit link (loss_step state k why o).state
+kept-lost limit link state k why None kept = kept
+kept-lost limit link state k why (Some client) kept = kept-leaves limit link state k why kept
+
+pub step_keeps : StepKeeps
+step_keeps limit link state (Start moment) kept = record { most = kept.most; world = kept.world; told = kept.told; first = kept.first }
+step_keeps limit link state (Tick moment) kept = record { most = kept.most; world = kept.world; told = refl; first = kept.first }
+step_keeps limit link state (Arrives k nonce) kept = by (nat_lt (length state.clients) client_limit) where
+  came : Client
+  came = new_client (record { 0 = k }) nonce
+
+  by : (b : Bool) → IsStateKept limit link (cond b (no_step (record state { clients = state.clients ++ came ∷ [] })) (record { state = state; acts = Closes k cause.Surplus ∷ [] })).state
+  by true = kept-clients limit link state (state.clients ++ came ∷ []) kept (first-push link came state.clients refl ∙ kept.first)
+  by false = kept
+step_keeps limit link state (LineCame k line) kept = kept-line limit link state k line kept
+step_keeps limit link state (Ends k) kept = kept-lost limit link state k cause.Ended (at_key client_link k state.clients) kept
+step_keeps limit link state (Fails k) kept = kept-lost limit link state k cause.Failed (at_key client_link k state.clients) kept
+step_keeps limit link state ListenFails kept = kept
+
+-- ---- whether a client followed before an event
+
+following-leaves : (link : ℕ) (state : State) (k : ℕ) → is_following (at_key client_link link (without client_link k state.clients)) ≡ true → is_following (client_on link state) ≡ true
+following-leaves link state k after = by (eqb link k) refl where
+  by : (b : Bool) → eqb link k ≡ b → is_following (client_on link state) ≡ true
+  by true e =
+      let same : link ≡ k = grind (arith, nat_tests) in
+      let gone : at_key client_link link (without client_link k state.clients) ≡ None = ap (λ n. at_key client_link n (without client_link k state.clients)) same ∙ at_key-filter_same client_link k state.clients in
+      absurd (false≢true (sym (ap is_following gone) ∙ after))
+  by false e = sym (ap is_following (at_key-without_other client_link k link state.clients (grind (arith, nat_tests)))) ∙ after
+
+following-lost : (link : ℕ) (state : State) (k : ℕ) (why : Cause) (o : Option Client) → is_following (client_on link (loss_step state k why o).state) ≡ true → is_following (client_on link state) ≡ true
+following-lost link state k why None after = after
+following-lost link state k why (Some client) after = following-leaves link state k after
+
+following-follows : (limit link : ℕ) (state : State) (k : ℕ) (o : Outcome) → OutcomeUtf8 o → IsStateKept limit link state → is_following (client_on link (outcome_step state k o).state) ≡ true → is_following (client_on link state) ≡ true
+following-follows limit link state k outcome.Replied utf8 kept after = after
+following-follows limit link state k outcome.Silent utf8 kept after = after
+following-follows limit link state k (outcome.Input buffer text) utf8 kept after =
+    sym (Tells-runs Lines limit link [] state buffer (lines_of_text text) tt kept (parted_text text utf8)).following ∙ after
+following-follows limit link state k (outcome.Leave why) utf8 kept after = following-leaves link state k after
+following-follows limit link state k outcome.NoMemory utf8 kept after = after
+
+-- a request of another link
+following-answers : (limit link : ℕ) (state : State) (k : ℕ) (answer : Answer) → client_link answer.client ≡ k → link ≢ k → OutcomeUtf8 answer.outcome → IsStateKept limit link state
+    → is_following (client_on link (answer_step state k answer).state) ≡ true → is_following (client_on link state) ≡ true
+following-answers limit link state k answer here other utf8 kept after =
+    sym (ap is_following (at_key-put_other client_link k link answer.client state.clients here other))
+    ∙ following-follows limit link (put state k answer.client) k answer.outcome utf8 (kept-put limit link state k answer.client here kept) after
+
+following-line : (limit link : ℕ) (state : State) (k : ℕ) (line : List ℕ) → IsStateKept limit link state → asked_in link state (LineCame k line) ≡ []
+    → is_following (client_on link (step state (LineCame k line)).state) ≡ true → is_following (client_on link state) ≡ true
+following-line limit link state k line kept none after = came (at_key client_link k state.clients) refl after where
+  other : (client : Client) (request : Request) → at_key client_link k state.clients ≡ Some client → request_of client.escaped line ≡ Some request → link ≢ client_link client
+  other client request at e same =
+      let key = at_key-key client_link k state.clients client at in
+      let here : eqb k link ≡ true = grind (arith, nat_tests) in
+      let is = sym none ∙ asked_here link k state line (Some client) here at ∙ ap (asked_with client) e in
+      cc
+
+  served : (client : Client) (o : Option Request) → at_key client_link k state.clients ≡ Some client → request_of client.escaped line ≡ o
+      → is_following (client_on link (request_step state client o).state) ≡ true → is_following (client_on link state) ≡ true
+  served client None at e after = after
+  served client (Some request) at e after =
+      following-answers limit link state (client_link client) (reply_of state.world state.password client request) (reply_link state client line request e) (other client request at e) (reply_text state client line request e) kept
+      (subst (λ (s : Stepped). is_following (client_on link s.state) ≡ true) (asked_replies state kept.told kept.world.empty client request) after)
+
+  came : (o : Option Client) → at_key client_link k state.clients ≡ o → is_following (client_on link (line_step state line o).state) ≡ true → is_following (client_on link state) ≡ true
+  came None at after = after
+  came (Some client) at after = served client (request_of client.escaped line) at refl after
+
+-- A client that asked nothing at an event, and follows all events after it, did so before.
+pub followed : (limit link : ℕ) (state : State) (event : Event) → IsStateKept limit link state → asked_in link state event ≡ [] → is_following (client_on link (step state event).state) ≡ true
+    → is_following (client_on link state) ≡ true
+followed limit link state (Start moment) kept none after = after
+followed limit link state (Tick moment) kept none after = after
+followed limit link state (Arrives k nonce) kept none after = by (nat_lt (length state.clients) client_limit) after where
+  came : Client
+  came = new_client (record { 0 = k }) nonce
+
+  by : (b : Bool) → is_following (client_on link (cond b (no_step (record state { clients = state.clients ++ came ∷ [] })) (record { state = state; acts = Closes k cause.Surplus ∷ [] })).state) ≡ true
+      → is_following (client_on link state) ≡ true
+  by true after = sym (following-push link came state.clients refl) ∙ after
+  by false after = after
+followed limit link state (LineCame k line) kept none after = following-line limit link state k line kept none after
+followed limit link state (Ends k) kept none after = following-lost link state k cause.Ended (at_key client_link k state.clients) after
+followed limit link state (Fails k) kept none after = following-lost link state k cause.Failed (at_key client_link k state.clients) after
+followed limit link state ListenFails kept none after = after

@@ -1,0 +1,253 @@
+-- The numbers of objects lie within their types.
+use Rattle.std.proofs.Common.{◌≡◌, ℕ, ◌+◌, ◌-◌, ◌^◌, ◌<◌, ◌≤◌, Bool, true, false, cond, List, [], ◌∷◌, map, length, Option, Some, refl, sym, subst, arith, leb}
+use Rattle.std.specs.Prelude.{ℤ, pos, codes}
+use Rattle.std.specs.List.{AllByRecursion, flat_map}
+use Rattle.std.specs.Int.{w8, w32, w64}
+use Rattle.std.specs.Int.RustNames.{FitsSigned}
+use Rattle.std.proofs.lemmas.Bool.Decides.{nat_tests}
+use Rattle.std.proofs.lemmas.List.Elements.{recursion_from_All}
+use denote.Hole.Carrier.{out}
+use Rattle.wc_text.specs.declared.names.Handle.{Handle}
+use Rattle.wc_text.specs.declared.names.Pair.{Pair}
+use Rattle.wc_lines.specs.declared.line.Line.{Line}
+use Rattle.wc_nicklist.specs.declared.item.Item.{Item}
+use Rattle.wc_buffers.specs.declared.entry.BufferEntry.{BufferEntry}
+use Rattle.wc_buffers.specs.Calls.{EntryGroups}
+use Rattle.wc_buffers.specs.Groups.{rows}
+use Rattle.wc_model.specs.declared.notice.Notice.{Notice}
+use Rattle.wc_model.specs.World.{World, lines_at}
+use Rattle.wc_objects.specs.declared.kind.Kind.TheVariants as k
+use Rattle.wc_objects.specs.declared.object.Object.{Object}
+use Rattle.wc_objects.specs.declared.object.Object.TheVariants as o
+use Rattle.wc_objects.specs.declared.object.Object.TheViews.{out-Object, out-roll-Object, out-roll-Hda}
+use Rattle.wc_objects.specs.declared.object.Hda.{Hda, roll-Hda}
+use Rattle.wc_objects.specs.declared.object.HdaItem.{HdaItem, roll-HdaItem}
+use Rattle.wc_objects.specs.Within.{SimpleWithin, PairWithin, ValueWithin, ItemWithin, HdaWithin, ObjectWithin}
+use Rattle.wc_events.specs.LineObjects.{truth, moment, texts, line_keys, line_values, added_item, added_objects, dumped_item, dumped_lines, line_dump}
+use Rattle.wc_events.specs.BufferObjects.{count, pair_of, table, about, opened_keys, opened_values, opened_objects, placed_keys, placed_values, placed_objects, renamed_keys, renamed_values, renamed_objects, title_keys, title_values, title_objects, vars_keys, vars_values, vars_objects, named_keys, named_values, named_objects, dump_keys, dumped_values, dumped_buffer, dumped_groups, buffer_dump}
+use Rattle.wc_events.specs.NickObjects.{nick_path, nick_keys, nick_values, nick_item, nick_objects}
+use Rattle.wc_mirror_laws.specs.Printed.{IsPrinted}
+use Rattle.wc_mirror_laws.specs.Worlds.{IsBufferKept, IsWorldKept}
+use Rattle.wc_mirror_laws.proofs.ListLemmas.{all_append, all_front, all_back, all_map, all_flat}
+use Rattle.wc_mirror_laws.proofs.NoticeLemmas.{IsTelling}
+
+-- ---- single numbers
+
+moment_within : (date : ℕ) → FitsSigned w64 (moment date)
+moment_within date = by (leb date (2 ^ 63 - 1)) refl where
+  by : (b : Bool) → leb date (2 ^ 63 - 1) ≡ b → FitsSigned w64 (pos (cond b date (2 ^ 63 - 1)))
+  by true e = record { sfits = grind (arith, nat_tests) }
+  by false e = record { sfits = omega arith }
+
+count_within : (n : ℕ) → FitsSigned w32 (count n)
+count_within n = by (leb n (2 ^ 31 - 1)) refl where
+  by : (b : Bool) → leb n (2 ^ 31 - 1) ≡ b → FitsSigned w32 (pos (cond b n (2 ^ 31 - 1)))
+  by true e = record { sfits = grind (arith, nat_tests) }
+  by false e = record { sfits = omega arith }
+
+truth_within : (on : Bool) → FitsSigned w8 (truth on)
+truth_within true = record { sfits = omega arith }
+truth_within false = record { sfits = omega arith }
+
+flag_within : (on : Bool) → FitsSigned w32 (truth on)
+flag_within true = record { sfits = omega arith }
+flag_within false = record { sfits = omega arith }
+
+notify_within : (n : ℤ) → n ≡ pos 0 → FitsSigned w8 n
+notify_within n e = subst (FitsSigned w8) (sym e) (record { sfits = omega arith })
+
+-- ---- values
+
+value_tim : (n : ℤ) → FitsSigned w64 n → ValueWithin (o.Tim n)
+unfolding ValueWithin out-Object out
+value_tim n fit = fit
+
+value_chr : (n : ℤ) → FitsSigned w8 n → ValueWithin (o.Chr n)
+unfolding ValueWithin out-Object out
+value_chr n fit = fit
+
+value_int : (n : ℤ) → FitsSigned w32 n → ValueWithin (o.Int n)
+unfolding ValueWithin out-Object out
+value_int n fit = fit
+
+value_ptr : (n : ℕ) → n < 2 ^ 64 → ValueWithin (o.Ptr n)
+unfolding ValueWithin out-Object out
+value_ptr n fit = fit
+
+value_str : (text : List ℕ) → ValueWithin (o.Str (Some text))
+unfolding ValueWithin out-Object out
+value_str text = tt
+
+pub simple_str : (text : Option (List ℕ)) → SimpleWithin (o.Str text)
+unfolding SimpleWithin out-Object out
+simple_str text = tt
+
+texts_within : (tags : List (List ℕ)) → AllByRecursion SimpleWithin (texts tags)
+texts_within [] = tt
+texts_within (tag ∷ tags) = (simple_str (Some tag), texts_within tags)
+
+value_texts : (tags : List (List ℕ)) → ValueWithin (o.Arr k.Str (texts tags))
+unfolding ValueWithin
+value_texts tags = rw (← o.rolls-Arr k.Str (texts tags), out-roll-Object) (texts_within tags)
+
+pairs_within : (vars : List Pair) → AllByRecursion PairWithin (map pair_of vars)
+pairs_within [] = tt
+pairs_within (v ∷ vars) = ((simple_str (Some v.name), simple_str (Some v.value)), pairs_within vars)
+
+value_table : (vars : List Pair) → ValueWithin (table vars)
+unfolding ValueWithin
+value_table vars = rw (← o.rolls-Htb k.Str k.Str (map pair_of vars), out-roll-Object) (pairs_within vars)
+
+-- ---- objects of items
+
+pub hda_within : (h : Hda) → HdaWithin h → ObjectWithin (o.Hda h)
+unfolding ObjectWithin
+hda_within h all = rw (← o.rolls-Hda h, out-roll-Object) all
+
+path_within : (path keys : List ℕ) (items : List HdaItem) → AllByRecursion ItemWithin items → HdaWithin (roll-Hda (record { path = Some path; keys = Some keys; items = items }))
+unfolding HdaWithin
+path_within path keys items all = rw out-roll-Hda all
+
+pub items_within : (path keys : List ℕ) (items : List HdaItem) → AllByRecursion ItemWithin items → AllByRecursion ObjectWithin (o.Hda (roll-Hda (record { path = Some path; keys = Some keys; items = items })) ∷ [])
+items_within path keys items all = (hda_within _ (path_within path keys items all), tt)
+
+-- ---- lines
+
+values_within : (buffer : Handle) (line : Line) → buffer.0 < 2 ^ 64 → IsPrinted line → AllByRecursion ValueWithin (line_values buffer line)
+unfolding line_values
+values_within buffer line small is = (
+  value_ptr buffer.0 small,
+  (
+    value_tim (moment line.date) (moment_within line.date),
+    (
+      value_tim (moment line.date_printed) (moment_within line.date_printed),
+      (
+        value_chr (truth line.displayed) (truth_within line.displayed),
+        (
+          value_chr line.notify (notify_within line.notify is.notify),
+          (value_chr (truth line.highlight) (truth_within line.highlight), (value_texts line.tags, (value_str line.prefix, (value_str line.message, tt)))),
+        ),
+      ),
+    ),
+  ),
+)
+
+added_within : (buffer : Handle) (line : Line) → buffer.0 < 2 ^ 64 → IsPrinted line → ItemWithin (added_item buffer line)
+unfolding ItemWithin added_item
+added_within buffer line small is = ((is.content, tt), values_within buffer line small is)
+
+dumped_within : (buffer own : Handle) (line : Line) → buffer.0 < 2 ^ 64 → own.0 < 2 ^ 64 → IsPrinted line → ItemWithin (dumped_item buffer own line)
+unfolding ItemWithin dumped_item
+dumped_within buffer own line small lines is = ((small, (lines, (is.handle, (is.content, tt)))), values_within buffer line small is)
+
+pub event_within : (buffer : Handle) (line : Line) → buffer.0 < 2 ^ 64 → IsPrinted line → AllByRecursion ObjectWithin (added_objects buffer line)
+event_within buffer line small is = items_within (codes "line_data") line_keys (added_item buffer line ∷ []) (added_within buffer line small is, tt)
+
+pub line_dump_within : (limit : ℕ) (world : World) → IsWorldKept limit world → AllByRecursion ObjectWithin (line_dump world)
+line_dump_within limit world is =
+    items_within (codes "buffer/lines/line/line_data") line_keys (flat_map (dumped_lines world) (rows world.groups))
+    (all_flat (IsBufferKept world.next) ItemWithin (dumped_lines world) (rows world.groups) within is.each)
+  where
+    within : (e : BufferEntry) → IsBufferKept world.next e → AllByRecursion ItemWithin (dumped_lines world e)
+    within e kept =
+        let below = kept.below in
+        let own = kept.own in
+        let ended = is.ended in
+        all_map IsPrinted ItemWithin (dumped_item e.row.handle e.row.own_lines) (lines_at world e.row.handle.0) (λ line printed. dumped_within e.row.handle e.row.own_lines line (omega arith) (omega arith) printed)
+        (recursion_from_All IsPrinted (lines_at world e.row.handle.0) (is.printed e.row.handle.0))
+
+-- ---- buffers
+
+item_within : (buffer : ℕ) (values : List Object) → buffer < 2 ^ 64 → AllByRecursion ValueWithin values → ItemWithin (roll-HdaItem (record { pointers = buffer ∷ []; values = values }))
+unfolding ItemWithin
+item_within buffer values small all = ((small, tt), all)
+
+about_within : (keys : List ℕ) (buffer : Handle) (values : List Object) → buffer.0 < 2 ^ 64 → AllByRecursion ValueWithin values → AllByRecursion ObjectWithin (about keys buffer values)
+about_within keys buffer values small all =
+    items_within (codes "buffer") keys (roll-HdaItem (record { pointers = buffer.0 ∷ []; values = values }) ∷ []) (item_within buffer.0 values small all, tt)
+
+opened_all : (n : Notice) (e : BufferEntry) → IsTelling n → AllByRecursion ValueWithin (opened_values n e)
+unfolding opened_values
+opened_all n e is = (
+  value_int _ (count_within n.number),
+  (value_str _, (value_str _, (value_int _ (flag_within e.row.hidden), (value_str _, (value_table e.vars, (value_ptr _ is.prev, (value_ptr _ is.next, tt))))))),
+)
+
+pub opened_within : (n : Notice) (e : BufferEntry) → IsTelling n → AllByRecursion ObjectWithin (opened_objects n e)
+opened_within n e is = about_within opened_keys n.buffer (opened_values n e) is.buffer (opened_all n e is)
+
+placed_all : (n : Notice) → IsTelling n → AllByRecursion ValueWithin (placed_values n)
+unfolding placed_values
+placed_all n is = (value_int _ (count_within n.number), (value_str _, (value_ptr _ is.prev, (value_ptr _ is.next, tt))))
+
+pub placed_within : (n : Notice) → IsTelling n → AllByRecursion ObjectWithin (placed_objects n)
+placed_within n is = about_within placed_keys n.buffer (placed_values n) is.buffer (placed_all n is)
+
+renamed_all : (n : Notice) (e : BufferEntry) → AllByRecursion ValueWithin (renamed_values n e)
+unfolding renamed_values
+renamed_all n e = (value_int _ (count_within n.number), (value_str _, (value_str _, (value_table e.vars, tt))))
+
+pub renamed_within : (n : Notice) (e : BufferEntry) → IsTelling n → AllByRecursion ObjectWithin (renamed_objects n e)
+renamed_within n e is = about_within renamed_keys n.buffer (renamed_values n e) is.buffer (renamed_all n e)
+
+title_all : (n : Notice) (e : BufferEntry) → AllByRecursion ValueWithin (title_values n e)
+unfolding title_values
+title_all n e = (value_int _ (count_within n.number), (value_str _, (value_str _, tt)))
+
+pub title_within : (n : Notice) (e : BufferEntry) → IsTelling n → AllByRecursion ObjectWithin (title_objects n e)
+title_within n e is = about_within title_keys n.buffer (title_values n e) is.buffer (title_all n e)
+
+vars_all : (n : Notice) (e : BufferEntry) → AllByRecursion ValueWithin (vars_values n e)
+unfolding vars_values
+vars_all n e = (value_int _ (count_within n.number), (value_str _, (value_table e.vars, tt)))
+
+pub vars_within : (n : Notice) (e : BufferEntry) → IsTelling n → AllByRecursion ObjectWithin (vars_objects n e)
+vars_within n e is = about_within vars_keys n.buffer (vars_values n e) is.buffer (vars_all n e)
+
+named_all : (n : Notice) → AllByRecursion ValueWithin (named_values n)
+unfolding named_values
+named_all n = (value_int _ (count_within n.number), (value_str _, tt))
+
+pub named_within : (n : Notice) → IsTelling n → AllByRecursion ObjectWithin (named_objects n)
+named_within n is = about_within named_keys n.buffer (named_values n) is.buffer (named_all n)
+
+-- ---- the dump of all buffers
+
+number_within : (n : ℕ) → n ≤ 1000 → FitsSigned w32 (pos n)
+number_within n small = record { sfits = omega arith }
+
+dumped_all : (number : ℕ) (e : BufferEntry) → number ≤ 1000 → AllByRecursion ValueWithin (dumped_values number e)
+unfolding dumped_values
+dumped_all number e small = (value_int _ (number_within number small), (value_str _, (value_str _, (value_int _ (flag_within e.row.hidden), (value_str _, (value_table e.vars, tt))))))
+
+groups_within : (next number : ℕ) (groups : EntryGroups) → next ≤ 2 ^ 62 + 1 → number + length groups ≤ 1000 → AllByRecursion (IsBufferKept next) (rows groups) → AllByRecursion ItemWithin (dumped_groups number groups)
+groups_within next number [] ended few all = tt
+groups_within next number (group ∷ groups) ended few all =
+    all_append ItemWithin (map (dumped_buffer number) group) (dumped_groups (number + 1) groups)
+    (all_map (IsBufferKept next) ItemWithin (dumped_buffer number) group
+    (λ e kept. item_within e.row.handle.0 (dumped_values number e) (let b = kept.below in omega arith) (dumped_all number e (omega arith)))
+    (all_front (IsBufferKept next) group (rows groups) all))
+    (groups_within next (number + 1) groups ended (omega arith) (all_back (IsBufferKept next) group (rows groups) all))
+
+pub buffer_dump_within : (limit : ℕ) (world : World) → IsWorldKept limit world → length world.groups ≤ 256 → AllByRecursion ObjectWithin (buffer_dump world.groups)
+buffer_dump_within limit world is few =
+    items_within (codes "buffer") dump_keys (dumped_groups 1 world.groups) (groups_within world.next 1 world.groups is.ended (omega arith) is.each)
+
+-- ---- nicklists
+
+nick_all : (i : Item) → AllByRecursion ValueWithin (nick_values i)
+unfolding nick_values
+nick_all i = (
+  value_chr _ (truth_within i.is_group),
+  (
+    value_chr _ (truth_within i.visible),
+    (value_int _ (count_within i.level), (value_str i.name, (value_str i.color, (value_str i.prefix, (value_str i.prefix_color, tt))))),
+  ),
+)
+
+pub nick_within : (buffer : Handle) (i : Item) → buffer.0 < 2 ^ 64 → i.handle.0 < 2 ^ 64 → ItemWithin (nick_item buffer i)
+unfolding ItemWithin
+nick_within buffer i small own = ((small, (own, tt)), nick_all i)
+
+pub nicks_within : (items : List HdaItem) → AllByRecursion ItemWithin items → AllByRecursion ObjectWithin (nick_objects items)
+nicks_within items all = items_within nick_path nick_keys items all

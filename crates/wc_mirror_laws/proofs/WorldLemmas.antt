@@ -1,0 +1,355 @@
+-- What always holds of the world holds still after a change.
+use Rattle.std.proofs.Common.{◌≡◌, ℕ, ◌+◌, ◌-◌, ◌<◌, ◌≤◌, ◌^◌, Bool, true, false, cond, ◌&&◌, eqb, ltb, List, [], ◌∷◌, ◌++◌, length, map, All, Option, Some, None, unwrap_or, is_some, refl, sym, ap, subst, ◌∙◌, arith, eq-eqb, eqb-true, IsUtf8, map-id}
+use Rattle.std.specs.Prelude.{pos}
+use Rattle.std.specs.List.{AllByRecursion}
+use Rattle.std.specs.FinMap.{find as find_entry, get, insert, remove, empty, entries, get-insert, get-remove, get-empty, get-entries, get-from_entries}
+use Rattle.std.specs.Ordering.{nat_cmp, eq_by_cmp}
+use Rattle.std.specs.Cmp.{nat_cmp_total}
+use Rattle.std.proofs.lemmas.Bool.{false≢true, or_parts}
+use Rattle.std.proofs.lemmas.Bool.Decides.{nat_tests}
+use Rattle.std.proofs.lemmas.List.{map-append, length-drop}
+use Rattle.std.proofs.lemmas.List.Elements.{All-nil, All-push, All-drop}
+use Rattle.std.proofs.lemmas.List.Folds.{list_any-append}
+use Rattle.wc_text.specs.declared.names.Handle.{Handle}
+use Rattle.wc_lines.specs.declared.line.Line.{Line}
+use Rattle.wc_lines.specs.Ring.{last_of}
+use Rattle.wc_buffers.specs.declared.entry.BufferEntry.{BufferEntry}
+use Rattle.wc_buffers.specs.declared.refused.BufferRefused.{BufferRefused}
+use Rattle.wc_buffers.specs.declared.row.BufferSpec.{BufferSpec}
+use Rattle.wc_buffers.specs.Calls.{EntryGroups, bad_names, handle_of, is_there, entry_of, with_buffer, new_entry, without_buffer, move_group_to, merge_groups, unmerge_group, with_entry, with_hidden, with_full_name, with_short_name, with_title, with_var, without_var, add_refusal, add_refusal_so_far, too_many_vars, lacks_var, is_full}
+use Rattle.wc_buffers.specs.Entries.{IsText}
+use Rattle.wc_buffers.specs.Groups.{rows, has, in_group, times}
+use Rattle.wc_buffers.specs.Kept.{IsBuffer, handles}
+use Rattle.wc_buffers.specs.Table.{AreGroups}
+use Rattle.wc_buffers.specs.Vars.{cut_to, var as cut_var, vars_of}
+use Rattle.wc_buffers.proofs.GroupLaws.{by_bool}
+use Rattle.wc_buffers.proofs.TableLemmas.{added_are}
+use Rattle.wc_buffers.proofs.RefusalLemmas.{there_good, move_good, merge_good, unmerge_good, rename_good, short_name_good, set_var_good, remove_var_good, add_good}
+use Rattle.wc_buffers.proofs.Fits.{or_none, opened_fits, hidden_fits, short_name_fits, title_fits, full_name_fits, var_fits, removed_fits, cut_short, cut_is_utf8}
+use Rattle.wc_world.proofs.GroupRows.{some_row, in_rows, has-move, has-merge, has-unmerge, has-update, has-take_out, merged_apart}
+use Rattle.wc_world.proofs.First.{core_text}
+use Rattle.wc_world.proofs.HeldLemmas.{tied}
+use Rattle.wc_model.specs.declared.change.LineSpec.{LineSpec}
+use Rattle.wc_model.specs.declared.change.What.{What}
+use Rattle.wc_model.specs.declared.change.What.TheVariants.{Add, Close, MoveTo, MergeInto, Unmerge, Hide, Unhide, Rename, ShortName, Title, SetVar, RemoveVar, Print, Clear, Flips, AddGroup, AddNick, RemoveGroup, RemoveNick, ChangeGroup, ChangeNick}
+use Rattle.wc_model.specs.declared.refused.ChangeRefused.{ChangeRefused}
+use Rattle.wc_model.specs.declared.refused.ChangeRefused.TheVariants as refused
+use Rattle.wc_model.specs.World.{World, core_row, first_world, lines_at, last_handle}
+use Rattle.wc_model.specs.LineCuts.{line_of}
+use Rattle.wc_model.specs.Apply.{refusal_of, after_of, of_buffers, or_else as or_refused, refusal_of_handles, with_groups, with_lines, flip_all, with_flips, row_of as new_row}
+use Rattle.wc_core.specs.CoreView.{HasNoRows}
+use Rattle.wc_mirror_laws.specs.Printed.{IsPrinted}
+use Rattle.wc_mirror_laws.specs.Worlds.{IsBufferKept, IsWorldKept}
+use Rattle.wc_mirror_laws.proofs.ListLemmas.{all_more}
+use Rattle.wc_mirror_laws.proofs.HandleLemmas.{has_handles, times_handles, rows_handles, groups_taken, groups_moved, groups_merged, groups_unmerged, handles_updated}
+use Rattle.wc_mirror_laws.proofs.NickWorlds.{AreListed, listed_added, listed_closed, rows_inserted, rows_removed}
+use Rattle.wc_mirror_laws.proofs.PrintLemmas.{line_printed}
+use Rattle.wc_mirror_laws.proofs.RowLemmas.{added_rows, taken_rows, moved_rows, merged_rows, unmerged_rows, updated_rows, row_has}
+use Rattle.wc_mirror_laws.proofs.VarLemmas.{AreShort, short_set, short_removed, short_fixed, opened_short, set_name_short}
+
+-- ---- the changes that commands ask for
+
+-- texts that are kept whole are text, a line has no level, and no flag of a line is set and no row touched
+abbrev pub IsTold : What → Type 0
+IsTold (Add spec) = IsUtf8 spec.full_name × IsUtf8 spec.short_name × IsUtf8 spec.title × All IsText spec.vars
+IsTold Close = Unit {0}
+IsTold (MoveTo number) = Unit {0}
+IsTold (MergeInto into) = Unit {0}
+IsTold Unmerge = Unit {0}
+IsTold Hide = Unit {0}
+IsTold Unhide = Unit {0}
+IsTold (Rename name flips) = IsUtf8 name × (flips ≡ [])
+IsTold (ShortName name) = IsUtf8 name
+IsTold (Title title) = Unit {0}
+IsTold (SetVar var) = IsUtf8 var.name
+IsTold (RemoveVar name) = Unit {0}
+IsTold (Print line) = All IsUtf8 line.tags × (line.notify ≡ pos 0)
+IsTold Clear = Unit {0}
+IsTold (Flips flips) = ⊥
+IsTold (AddGroup parent item) = ⊥
+IsTold (AddNick group item) = ⊥
+IsTold (RemoveGroup name) = ⊥
+IsTold (RemoveNick name) = ⊥
+IsTold (ChangeGroup item) = ⊥
+IsTold (ChangeNick item) = ⊥
+
+-- ---- refusals that do not hold
+
+pub accepted : (o : Option BufferRefused) → of_buffers o ≡ None → o ≡ None
+accepted None e = refl
+accepted (Some r) e = absurd (let h = e in cc)
+
+pub both_accepted : (a b : Option ChangeRefused) → or_refused a b ≡ None → (a ≡ None) × (b ≡ None)
+both_accepted None b e = (refl, e)
+both_accepted (Some r) b e = absurd (let h = e in cc)
+
+unspent : (n : ℕ) (world : World) → refusal_of_handles n world ≡ None → world.next + n ≤ 2 ^ 62 + 1
+unspent n world e = by (ltb (last_handle + 1) (world.next + n)) refl e where
+  by : (b : Bool) → ltb (last_handle + 1) (world.next + n) ≡ b → cond b (Some refused.Spent) None ≡ None → world.next + n ≤ 2 ^ 62 + 1
+  by true t e = absurd (let h = e in cc)
+  by false t e = grind (arith, nat_tests)
+
+-- ---- changes of groups alone
+
+pub once : (limit : ℕ) (w : World) → IsWorldKept limit w → (h : ℕ) → times handle_of h w.groups ≤ 1
+once limit w is h = subst (λ n. n ≤ 1) (times_handles h w.groups) (is.groups.once h)
+
+regrouped : (limit : ℕ) (w : World) (gs : EntryGroups) → IsWorldKept limit w → AreGroups (handles gs) → AllByRecursion (IsBufferKept w.next) (rows gs)
+    → ((q : ℕ) → has handle_of q gs ≡ has handle_of q w.groups) → IsWorldKept limit (with_groups w gs)
+regrouped limit w gs is groups each same = record {
+  same = is.same;
+  started = is.started;
+  ended = is.ended;
+  groups = groups;
+  each = each;
+  within = is.within;
+  printed = is.printed;
+  none = λ h lacks. is.none h (sym (same h) ∙ lacks);
+  lists = λ h. is.lists h ∙ sym (same h);
+  empty = is.empty;
+}
+
+-- a buffer that is changed by F
+rewritten : (limit : ℕ) (w : World) (h : Handle) (F : BufferEntry → BufferEntry) → IsWorldKept limit w → is_there h w.groups ≡ true
+    → ((x : BufferEntry) → (F x).row.handle ≡ x.row.handle) → ((x : BufferEntry) → (F x).row.own_lines ≡ x.row.own_lines)
+    → ((e : BufferEntry) → entry_of h w.groups ≡ Some e → IsBuffer e → IsBuffer (F e)) → ((e : BufferEntry) → AreShort e.vars → AreShort (F e).vars)
+    → IsWorldKept limit (with_groups w (with_entry h F w.groups))
+rewritten limit w h F is there same own fits short =
+    let r = some_row handle_of h.0 w.groups there in
+    let e = r.0 in
+    let old : IsBufferKept w.next e = row_has (IsBufferKept w.next) handle_of h.0 (rows w.groups) e r.1 is.each in
+    let new : IsBufferKept w.next (F e) = record {
+      fit = fits e r.1 old.fit;
+      names = short e old.names;
+      some = subst (λ (k : Handle). 0 < k.0) (sym (same e)) old.some;
+      below = subst (λ (k : Handle). k.0 < w.next) (sym (same e)) old.below;
+      own = subst (λ (k : Handle). k.0 < w.next) (sym (own e)) old.own;
+    } in
+    regrouped limit w (with_entry h F w.groups) is (subst AreGroups (sym (handles_updated h.0 F same w.groups)) is.groups)
+    (updated_rows handle_of (IsBufferKept w.next) (IsBufferKept w.next) h.0 F (λ x k. k) e new w.groups (once limit w is h.0) r.1 is.each)
+    (λ q. has-update handle_of h.0 F (λ x. ap (λ (k : Handle). k.0) (same x)) q w.groups)
+
+-- ---- lines
+
+turn : (a b : ℕ) → eqb a b ≡ eqb b a
+turn a b = by_bool (eqb a b) _ (λ t. t ∙ sym (eq-eqb b a (sym (eqb-true a b t)))) (λ t. t ∙ sym (let z : eqb b a ≡ false = grind (arith, nat_tests) in z))
+
+-- the lines where a buffer was given others
+put_at : (w : World) (k : ℕ) (ms : List Line) (q : ℕ) → unwrap_or (get (insert w.lines k ms) q) [] ≡ cond (eqb q k) ms (lines_at w q)
+put_at w k ms q = ap (λ o. unwrap_or o []) (get-insert nat_cmp_total w.lines k ms q ∙ ap (λ b. cond b (Some ms) (get w.lines q)) (tied q k)) ∙ by (eqb q k) where
+  by : (b : Bool) → unwrap_or (cond b (Some ms) (get w.lines q)) [] ≡ cond b ms (lines_at w q)
+  by true = refl
+  by false = refl
+
+removed_at : (w : World) (k q : ℕ) → unwrap_or (get (remove w.lines k) q) [] ≡ cond (eqb q k) [] (lines_at w q)
+removed_at w k q = ap (λ o. unwrap_or o []) (get-remove nat_cmp_total w.lines k q ∙ ap (λ b. cond b None (get w.lines q)) (tied q k)) ∙ by (eqb q k) where
+  by : (b : Bool) → unwrap_or (cond b None (get w.lines q)) [] ≡ cond b [] (lines_at w q)
+  by true = refl
+  by false = refl
+
+-- where no flag is set
+pub unflipped_at : (w : World) (q : ℕ) → lines_at (flip_all [] w) q ≡ lines_at w q
+unflipped_at w q =
+    ap (λ o. unwrap_or o [])
+    (get-from_entries nat_cmp_total (map (λ (e : ℕ × List Line). (e.0, with_flips [] e.1)) (entries w.lines)) q ∙ ap (find_entry nat_cmp q) (map-id (entries w.lines)) ∙ sym (get-entries w.lines q))
+
+unflipped : (limit : ℕ) (w : World) → IsWorldKept limit w → IsWorldKept limit (flip_all [] w)
+unflipped limit w is = record {
+  same = is.same;
+  started = is.started;
+  ended = is.ended;
+  groups = is.groups;
+  each = is.each;
+  within = λ q. subst (λ ls. length ls ≤ limit) (sym (unflipped_at w q)) (is.within q);
+  printed = λ q. subst (All IsPrinted) (sym (unflipped_at w q)) (is.printed q);
+  none = λ q lacks. unflipped_at w q ∙ is.none q lacks;
+  lists = is.lists;
+  empty = is.empty;
+}
+
+-- a world in which the lines of one buffer were changed
+relined : (limit : ℕ) (w v : World) (k : ℕ) (ms : List Line) → IsWorldKept limit w → v.limit ≡ w.limit → 0 < v.next → v.next ≤ 2 ^ 62 + 1
+    → AreGroups (handles v.groups) → AllByRecursion (IsBufferKept v.next) (rows v.groups) → ((q : ℕ) → lines_at v q ≡ cond (eqb q k) ms (lines_at w q))
+    → length ms ≤ limit → All IsPrinted ms → ((q : ℕ) → has handle_of q v.groups ≡ false → cond (eqb q k) ms (lines_at w q) ≡ []) → AreListed v → HasNoRows v → IsWorldKept limit v
+relined limit w v k ms is same started ended groups each lines few printed none lists empty = record {
+  same = same ∙ is.same;
+  started = started;
+  ended = ended;
+  groups = groups;
+  each = each;
+  within = λ q. subst (λ ls. length ls ≤ limit) (sym (lines q)) (short q (eqb q k));
+  printed = λ q. subst (All IsPrinted) (sym (lines q)) (all q (eqb q k));
+  none = λ q lacks. lines q ∙ none q lacks;
+  lists = lists;
+  empty = empty;
+}
+  where
+    short : (q : ℕ) (b : Bool) → length (cond b ms (lines_at w q)) ≤ limit
+    short q true = few
+    short q false = is.within q
+
+    all : (q : ℕ) (b : Bool) → All IsPrinted (cond b ms (lines_at w q))
+    all q true = printed
+    all q false = is.printed q
+
+grown : (n m : ℕ) → n ≤ m → (e : BufferEntry) → IsBufferKept n e → IsBufferKept m e
+grown n m le e is = record { fit = is.fit; names = is.names; some = is.some; below = (let b = is.below in omega arith); own = (let b = is.own in omega arith) }
+
+all_grown : (n m : ℕ) → n ≤ m → (gs : EntryGroups) → AllByRecursion (IsBufferKept n) (rows gs) → AllByRecursion (IsBufferKept m) (rows gs)
+all_grown n m le gs a = all_more (IsBufferKept n) (IsBufferKept m) (rows gs) (grown n m le) a
+
+-- other lines of a buffer that is there
+there_or_none : (w : World) (limit k : ℕ) (ms : List Line) → IsWorldKept limit w → has handle_of k w.groups ≡ true → (q : ℕ) → has handle_of q w.groups ≡ false → cond (eqb q k) ms (lines_at w q) ≡ []
+there_or_none w limit k ms is there q lacks = by (eqb q k) refl where
+  by : (b : Bool) → eqb q k ≡ b → cond b ms (lines_at w q) ≡ []
+  by true t = absurd (false≢true (sym lacks ∙ ap (λ n. has handle_of n w.groups) (eqb-true q k t) ∙ there))
+  by false t = is.none q lacks
+
+-- ---- a printed line
+
+last_within : {X : Type 0} (n : ℕ) (xs : List X) → length (last_of n xs) ≤ n
+last_within n xs = omega (arith, length-drop (length xs - n) xs)
+
+print_kept : (limit : ℕ) (w : World) (h : Handle) (spec : LineSpec) → IsWorldKept limit w → is_there h w.groups ≡ true → w.next + 2 ≤ 2 ^ 62 + 1 → All IsUtf8 spec.tags → spec.notify ≡ pos 0
+    → IsWorldKept limit (record (with_lines w h (last_of w.limit (lines_at w h.0 ++ line_of w.next spec ∷ []))) { next = w.next + 2 })
+print_kept limit w h spec is there room tags level =
+    let all = lines_at w h.0 ++ line_of w.next spec ∷ [] in
+    let ms = last_of w.limit all in
+    relined limit w (record (with_lines w h ms) { next = w.next + 2 }) h.0 ms is refl (omega arith) room is.groups
+    (all_grown w.next (w.next + 2) (omega arith) w.groups is.each)
+    (put_at w h.0 ms)
+    (subst (λ n. length ms ≤ n) is.same (last_within w.limit all))
+    (All-drop IsPrinted (length all - w.limit) all (All-push IsPrinted (lines_at w h.0) (line_of w.next spec) (is.printed h.0) (line_printed w.next spec (omega arith) tags level)))
+    (there_or_none w limit h.0 ms is there) is.lists is.empty
+
+-- ---- a new buffer
+
+never_next : (next : ℕ) (xs : List BufferEntry) → AllByRecursion (IsBufferKept next) xs → in_group handle_of next xs ≡ false
+never_next next [] a = refl
+never_next next (x ∷ xs) a = let e : eqb (handle_of x) next ≡ false = (let b = a.0.below in grind (arith, nat_tests)) in rw e (never_next next xs a.1)
+
+pub is_new : (limit : ℕ) (w : World) → IsWorldKept limit w → has handle_of w.next w.groups ≡ false
+is_new limit w is = sym (in_rows handle_of w.next w.groups) ∙ never_next w.next (rows w.groups) is.each
+
+add_kept : (limit : ℕ) (w : World) (spec : BufferSpec) → IsWorldKept limit w → add_refusal (new_row w.next spec) spec.vars w.groups ≡ None → w.next + 4 ≤ 2 ^ 62 + 1
+    → IsTold (Add spec) → IsWorldKept limit (record w { groups = with_buffer (new_row w.next spec) spec.vars w.groups; lines = insert w.lines w.next []; nicks = insert w.nicks w.next []; next = w.next + 4 })
+unfolding add_refusal
+add_kept limit w spec is good room told =
+    let row = new_row w.next spec in
+    let e = new_entry row spec.vars in
+    let parts = or_none (add_refusal_so_far row spec.vars w.groups) (too_many_vars row.full_name spec.vars) good in
+    let names = add_good row spec.vars w.groups parts.0 in
+    let absent = has_handles w.next w.groups ∙ is_new limit w is in
+    let fits = opened_fits row spec.vars (record { full_name = told.0; short_name = told.1; title = told.2 }) told.3 names.0 parts.1 in
+    let new : IsBufferKept (w.next + 4) e = record { fit = fits; names = opened_short row spec.vars names.0; some = is.started; below = omega arith; own = omega arith } in
+    relined limit w (record w { groups = with_buffer row spec.vars w.groups; lines = insert w.lines w.next []; nicks = insert w.nicks w.next []; next = w.next + 4 }) w.next [] is refl (omega arith) room
+    (subst AreGroups (sym (map-append (map (λ (e : BufferEntry). e.row.handle)) w.groups ((e ∷ []) ∷ []))) (added_are row.handle (handles w.groups) is.groups absent (subst (λ n. n < 256) (sym (rows_handles w.groups)) names.2)))
+    (added_rows (IsBufferKept (w.next + 4)) handle_of e w.groups new (all_grown w.next (w.next + 4) (omega arith) w.groups is.each))
+    (put_at w w.next []) (omega arith) (All-nil IsPrinted)
+    (λ q lacks. by q (eqb q w.next) (or_parts (has handle_of q w.groups) (has handle_of q ((e ∷ []) ∷ [])) (sym (list_any-append (in_group handle_of q) w.groups ((e ∷ []) ∷ [])) ∙ lacks)).0)
+    (λ q. listed_added w.nicks w.next q w.groups e refl (is.lists q)) (λ q. rows_inserted w.nicks w.next q (is.empty q))
+  where
+    by : (q : ℕ) (b : Bool) → has handle_of q w.groups ≡ false → cond b [] (lines_at w q) ≡ []
+    by q true lacks = refl
+    by q false lacks = is.none q lacks
+
+close_kept : (limit : ℕ) (w : World) (h : Handle) → IsWorldKept limit w → IsWorldKept limit (record w { groups = without_buffer h w.groups; lines = remove w.lines h.0; nicks = remove w.nicks h.0 })
+close_kept limit w h is =
+    relined limit w (record w { groups = without_buffer h w.groups; lines = remove w.lines h.0; nicks = remove w.nicks h.0 }) h.0 [] is refl is.started is.ended
+    (groups_taken h.0 w.groups is.groups) (taken_rows (IsBufferKept w.next) handle_of h.0 w.groups is.each)
+    (removed_at w h.0) (omega arith) (All-nil IsPrinted) gone
+    (λ q. listed_closed w.nicks h q w.groups (is.lists q)) (λ q. rows_removed w.nicks h.0 q (is.empty q))
+  where
+    by : (q : ℕ) (b : Bool) → eqb h.0 q ≡ b → has handle_of q (without_buffer h w.groups) ≡ false → cond b [] (lines_at w q) ≡ []
+    by q true t lacks = refl
+    by q false t lacks = is.none q (sym (has-take_out handle_of h.0 q w.groups ∙ ap (λ b. cond b false (has handle_of q w.groups)) t) ∙ lacks)
+
+    gone : (q : ℕ) → has handle_of q (without_buffer h w.groups) ≡ false → cond (eqb q h.0) [] (lines_at w q) ≡ []
+    gone q lacks = let turned : eqb q h.0 ≡ eqb h.0 q = turn q h.0 in rw turned (by q (eqb h.0 q) refl lacks)
+
+-- ---- any change
+
+pub after_kept : (limit : ℕ) (w : World) (h : Handle) (a : What) → IsWorldKept limit w → IsTold a → refusal_of w h a ≡ None → IsWorldKept limit (after_of w h a)
+unfolding refusal_of after_of
+after_kept limit w h (Add spec) is told good =
+    let both = both_accepted _ _ good in
+    add_kept limit w spec is (accepted _ both.0) (unspent 4 w both.1) told
+after_kept limit w h Close is told good = close_kept limit w h is
+after_kept limit w h (MoveTo n) is told good =
+    let there = (move_good h n w.groups (accepted _ good)).0 in
+    regrouped limit w (move_group_to h n w.groups) is (groups_moved h.0 (n - 1) w.groups there is.groups) (moved_rows (IsBufferKept w.next) handle_of h.0 (n - 1) w.groups is.each) (λ q. has-move handle_of h.0 (n - 1) q w.groups)
+after_kept limit w h (MergeInto into) is told good =
+    let g = merge_good h into w.groups (accepted _ good) in
+    let apart = merged_apart handle_of h.0 into.0 w.groups g.0 g.2 in
+    regrouped limit w (merge_groups h into w.groups) is (groups_merged h into w.groups g.0 g.1 apart is.groups) (merged_rows (IsBufferKept w.next) handle_of h.0 into.0 w.groups is.each) (λ q. has-merge handle_of h.0 into.0 q w.groups g.1 apart)
+after_kept limit w h Unmerge is told good =
+    let g = unmerge_good h w.groups (accepted _ good) in
+    regrouped limit w (unmerge_group h w.groups) is (groups_unmerged h w.groups g.0 g.1 is.groups) (unmerged_rows (IsBufferKept w.next) handle_of h.0 w.groups is.each) (λ q. has-unmerge handle_of h.0 q w.groups)
+after_kept limit w h Hide is told good = rewritten limit w h (with_hidden true) is (there_good h w.groups (accepted _ good)) (λ x. refl) (λ x. refl) (λ e at fit. hidden_fits true e fit) (λ e short. short)
+after_kept limit w h Unhide is told good = rewritten limit w h (with_hidden false) is (there_good h w.groups (accepted _ good)) (λ x. refl) (λ x. refl) (λ e at fit. hidden_fits false e fit) (λ e short. short)
+after_kept limit w h (Rename name flips) is told good =
+    let g = rename_good h name w.groups (accepted _ (both_accepted _ _ good).0) in
+    let v = with_groups w (with_entry h (with_full_name name) w.groups) in
+    subst (λ flips. IsWorldKept limit (flip_all flips v)) (sym told.1) (unflipped limit v (rewritten limit w h (with_full_name name) is g.0 (λ x. refl) (λ x. refl) (λ e at fit. full_name_fits name e g.1 told.0 fit) (λ e short. short_fixed name e.vars short)))
+after_kept limit w h (ShortName name) is told good =
+    let g = short_name_good h name w.groups (accepted _ good) in
+    rewritten limit w h (with_short_name name) is g.0 (λ x. refl) (λ x. refl) (λ e at fit. short_name_fits name e g.1 told fit) (λ e short. short)
+after_kept limit w h (Title title) is told good =
+    rewritten limit w h (with_title (cut_to 1024 title)) is (there_good h w.groups (accepted _ good)) (λ x. refl) (λ x. refl) (λ e at fit. title_fits (cut_to 1024 title) e (cut_short title) (cut_is_utf8 title) fit) (λ e short. short)
+after_kept limit w h (SetVar var) is told good =
+    let g = set_var_good h var.name w.groups (accepted _ good) in
+    rewritten limit w h (with_var var.name var.value) is g.0 (λ x. refl) (λ x. refl)
+    (λ e at fit. var_fits var.name var.value e g.1 (subst (λ o. (lacks_var var.name o && is_full o) ≡ false) at g.2) told fit)
+    (λ e short. short_set (cut_var var.name var.value) e.vars (set_name_short h var.name w.groups (accepted _ good)) short)
+after_kept limit w h (RemoveVar name) is told good =
+    let g = remove_var_good h name w.groups (accepted _ good) in
+    rewritten limit w h (without_var name) is g.0 (λ x. refl) (λ x. refl) (λ e at fit. removed_fits name e g.1 fit) (λ e short. short_removed name e.vars short)
+after_kept limit w h (Print line) is told good =
+    let both = both_accepted _ _ good in
+    print_kept limit w h line is (there_good h w.groups (accepted _ both.0)) (unspent 2 w both.1) told.0 told.1
+after_kept limit w h Clear is told good =
+    relined limit w (with_lines w h []) h.0 [] is refl is.started is.ended is.groups is.each (put_at w h.0 []) (omega arith) (All-nil IsPrinted)
+    (there_or_none w limit h.0 [] is (there_good h w.groups (accepted _ good))) is.lists is.empty
+after_kept limit w h (Flips flips) is told good = absurd told
+after_kept limit w h (AddGroup parent item) is told good = absurd told
+after_kept limit w h (AddNick group item) is told good = absurd told
+after_kept limit w h (RemoveGroup name) is told good = absurd told
+after_kept limit w h (RemoveNick name) is told good = absurd told
+after_kept limit w h (ChangeGroup item) is told good = absurd told
+after_kept limit w h (ChangeNick item) is told good = absurd told
+
+-- ---- the start
+
+abbrev no_line_list : List Line
+no_line_list = []
+
+no_lines : (limit q : ℕ) → lines_at (first_world limit) q ≡ []
+no_lines limit q = ap (λ o. unwrap_or o []) (get-insert nat_cmp_total empty 1 [] q ∙ ap (cond (eq_by_cmp nat_cmp q 1) (Some [])) (get-empty nat_cmp q)) ∙ by (eq_by_cmp nat_cmp q 1) where
+  by : (b : Bool) → unwrap_or (cond b (Some []) None) [] ≡ no_line_list
+  by true = refl
+  by false = refl
+
+core_names : bad_names core_row [] ≡ None
+unfolding bad_names
+core_names = refl
+
+core_vars : too_many_vars core_row.full_name [] ≡ None
+unfolding too_many_vars vars_of
+core_vars = refl
+
+pub first_kept : (limit : ℕ) → IsWorldKept limit (first_world limit)
+first_kept limit =
+    let nobody : AreGroups [] = record { once = λ h. omega arith; filled = tt; few = omega arith } in
+    let fits = opened_fits core_row [] core_text (All-nil IsText) core_names core_vars in
+    record {
+      same = refl;
+      started = omega arith;
+      ended = omega arith;
+      groups = added_are core_row.handle [] nobody refl (omega arith);
+      each = (record { fit = fits; names = opened_short core_row [] core_names; some = omega arith; below = omega arith; own = omega arith }, tt);
+      within = λ q. subst (λ ls. length ls ≤ limit) (sym (no_lines limit q)) (omega arith);
+      printed = λ q. subst (All IsPrinted) (sym (no_lines limit q)) (All-nil IsPrinted);
+      none = λ q lacks. no_lines limit q;
+      lists = λ q. listed_added empty 1 q [] (new_entry core_row []) refl (ap is_some (get-empty nat_cmp q));
+      empty = λ q. rows_inserted empty 1 q (ap (λ o. unwrap_or o []) (get-empty nat_cmp q));
+    }

@@ -1,0 +1,5 @@
+use Rattle.wc_mirror_laws.proofs.BytesLemmas.{nicks_show}
+use Rattle.wc_mirror_laws.proofs.laws.sent_bytes_show_nicks.Goals as goal
+
+pub returns : goal.returns
+returns c = λ password limit events link id most short settled. nicks_show password limit events link id most short settled

@@ -1,0 +1,70 @@
+-- What a client makes of all bytes that it was sent.
+use Rattle.std.specs.Prelude.{◌≡◌, ℕ, ◌≤◌, List}
+use Rattle.std.specs.List.{AllByRecursion, flat_map}
+use Rattle.wc_model.specs.World.{World}
+use Rattle.wc_objects.specs.declared.object.WireMessage.{WireMessage}
+use Rattle.wc_objects.specs.Spells.{Spells}
+use Rattle.wc_objects.specs.Within.{IsWithin}
+use Rattle.wc_session.specs.Sending.{spelling}
+use Rattle.wc_core.specs.Events.{Event}
+use Rattle.wc_core.specs.State.{first_state}
+use Rattle.wc_core.specs.Step.{run}
+use Rattle.wc_core.specs.Served.{messages_to, sent_to}
+use Rattle.wc_mirror_laws.specs.Held.{HeldPart, Lines, Buffers, Nicks, nothing, Has}
+use Rattle.wc_mirror_laws.specs.Settled.{SettledBy}
+use Rattle.wc_mirror_laws.specs.Mirrors.{fold_all, IsShortLine}
+
+-- a message that keeps the rules, whose numbers are of their types
+pub record IsSpelt (message : WireMessage) : Type 0 where
+  pub spells : Spells message (spelling message)
+  pub within : IsWithin message
+
+-- the bytes spell these messages, one after another
+pub record Spell (bytes : List ℕ) (messages : List WireMessage) : Type 0 where
+  pub each : AllByRecursion IsSpelt messages
+  pub whole : bytes ≡ flat_map (λ m. spelling m) messages
+
+-- The bytes spell messages, and a client that takes them has this part of this world.
+pub record ShowsPart (which : HeldPart) (limit : ℕ) (id bytes : List ℕ) (world : World) : Type 0 where
+  pub messages : List WireMessage
+  pub spell : Spell bytes messages
+  pub has : Has which (fold_all which limit id (nothing which) messages) world
+
+-- it has the lines of each buffer
+abbrev pub Shows : ℕ → List ℕ → List ℕ → World → Type 0
+Shows limit id bytes world = ShowsPart Lines limit id bytes world
+
+-- it has the buffers in their groups
+abbrev pub ShowsBuffers : ℕ → List ℕ → List ℕ → World → Type 0
+ShowsBuffers limit id bytes world = ShowsPart Buffers limit id bytes world
+
+-- it has the nicklists of all buffers
+abbrev pub ShowsNicks : ℕ → List ℕ → List ℕ → World → Type 0
+ShowsNicks limit id bytes world = ShowsPart Nicks limit id bytes world
+
+-- Bytes spell messages in one way at most.
+abbrev pub SpellOnce : Type 0
+SpellOnce = (bytes : List ℕ) (a b : List WireMessage) → Spell bytes a → Spell bytes b → a ≡ b
+
+-- What is sent to a link spells the messages for it.
+abbrev pub RunSpells : Type 0
+RunSpells = (password : List ℕ) (limit : ℕ) (events : List Event) (link : ℕ) → limit ≤ 4096
+    → Spell (sent_to link (run (first_state password limit) events).acts) (messages_to link (run (first_state password limit) events).acts)
+
+-- Whoever settled by the dump of a part has exactly this part of the world, by all bytes that it was sent.
+abbrev pub PartShows : HeldPart → Type 0
+PartShows which = (password : List ℕ) (limit : ℕ) (events : List Event) (link : ℕ) (id : List ℕ)
+    → limit ≤ 4096 → AllByRecursion IsShortLine events → SettledBy which link id (first_state password limit) events
+    → ShowsPart which limit id (sent_to link (run (first_state password limit) events).acts) (run (first_state password limit) events).state.world
+
+-- the lines that each buffer holds
+abbrev pub BytesShow : Type 0
+BytesShow = PartShows Lines
+
+-- the buffers in their groups
+abbrev pub BuffersShow : Type 0
+BuffersShow = PartShows Buffers
+
+-- the nicklists of all buffers
+abbrev pub NicksShow : Type 0
+NicksShow = PartShows Nicks

@@ -1,0 +1,36 @@
+-- What always holds of the core, as far as its lines are told.
+use Rattle.std.specs.Prelude.{◌≡◌, ℕ, ◌≤◌, Bool, true, false, not, ◌&&◌, ◌||◌, ◌==◌, if◌then◌else◌, List, [], ◌∷◌}
+use Rattle.wc_session.specs.declared.client.Client.{Client}
+use Rattle.wc_session.specs.declared.sync_set.BufferSet.{BufferSet}
+use Rattle.wc_session.specs.declared.sync_set.SyncSet.{SyncSet}
+use Rattle.wc_core.specs.State.{State}
+use Rattle.wc_core.specs.Step.{client_link}
+use Rattle.wc_mirror_laws.specs.Worlds.{IsWorldKept}
+
+abbrev pub asks_some : SyncSet → Bool
+asks_some set = set.buffers || (set.upgrade || (set.buffer || set.nicklist))
+
+abbrev pub has_sets : List BufferSet → Bool
+has_sets [] = false
+has_sets (s ∷ sets) = true
+
+-- whether a client asked for any events
+abbrev pub asks_events : Client → Bool
+asks_events client = asks_some client.everywhere || has_sets client.sets
+
+-- no client of a link asked for an event
+abbrev pub is_quiet : ℕ → List Client → Bool
+is_quiet link [] = true
+is_quiet link (client ∷ clients) = not (client_link client == link && asks_events client) && is_quiet link clients
+
+-- nor did one after the first that has this link
+abbrev pub is_first_alone : ℕ → List Client → Bool
+is_first_alone link [] = true
+is_first_alone link (client ∷ clients) = if client_link client == link then is_quiet link clients else is_first_alone link clients
+
+pub record IsStateKept (limit link : ℕ) (state : State) : Type 0 where
+  pub most : limit ≤ 4096
+  pub world : IsWorldKept limit state.world
+  -- nothing is ever left to be pushed
+  pub told : state.told ≡ state.world.nicks
+  pub first : is_first_alone link state.clients ≡ true

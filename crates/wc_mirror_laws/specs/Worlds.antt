@@ -1,0 +1,39 @@
+-- What always holds of the world of the core.
+use Rattle.std.specs.Prelude.{◌≡◌, ℕ, ◌+◌, ◌<◌, ◌≤◌, ◌^◌, false, [], length, All, is_some}
+use Rattle.std.specs.FinMap.{get}
+use Rattle.std.specs.List.{AllByRecursion}
+use Rattle.wc_text.specs.declared.names.Pair.{Pair}
+use Rattle.wc_buffers.specs.declared.entry.BufferEntry.{BufferEntry}
+use Rattle.wc_buffers.specs.Calls.{handle_of}
+use Rattle.wc_buffers.specs.Groups.{rows, has}
+use Rattle.wc_buffers.specs.Kept.{IsBuffer, handles}
+use Rattle.wc_buffers.specs.Table.{AreGroups}
+use Rattle.wc_model.specs.World.{World, lines_at, rows_at}
+use Rattle.wc_mirror_laws.specs.Printed.{IsPrinted}
+
+-- a variable with a short name
+abbrev pub HasShortName : Pair → Type 0
+HasShortName var = length var.name ≤ 64
+
+-- a buffer within its limits, whose handles were drawn before the next one
+pub record IsBufferKept (next : ℕ) (e : BufferEntry) : Type 0 where
+  pub fit : IsBuffer e
+  pub names : AllByRecursion HasShortName e.vars
+  pub some : 0 < e.row.handle.0
+  pub below : e.row.handle.0 < next
+  pub own : e.row.own_lines.0 < next
+
+pub record IsWorldKept (limit : ℕ) (world : World) : Type 0 where
+  pub same : world.limit ≡ limit
+  pub started : 0 < world.next
+  pub ended : world.next ≤ 2 ^ 62 + 1
+  -- at most 256 buffers, each once, in groups that are not empty
+  pub groups : AreGroups (handles world.groups)
+  pub each : AllByRecursion (IsBufferKept world.next) (rows world.groups)
+  pub within : (h : ℕ) → length (lines_at world h) ≤ limit
+  pub printed : (h : ℕ) → All IsPrinted (lines_at world h)
+  -- a buffer that is not there has no lines
+  pub none : (h : ℕ) → has handle_of h world.groups ≡ false → lines_at world h ≡ []
+  -- each buffer that is there has a nicklist, nothing else has, and no command puts a row in
+  pub lists : (h : ℕ) → is_some (get world.nicks h) ≡ has handle_of h world.groups
+  pub empty : (h : ℕ) → rows_at world h ≡ []

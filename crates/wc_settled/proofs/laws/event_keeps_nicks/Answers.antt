@@ -1,9 +1,0 @@
-use Rattle.wc_settled.specs.Held.{Nicks}
-use Rattle.wc_settled.proofs.EventLemmas.{step_mirrors, dump_mirrors}
-use Rattle.wc_settled.proofs.laws.event_keeps_nicks.Goals as goal
-
-pub returns-clause-kept : goal.returns-clause-kept
-returns-clause-kept c = λ limit link id state event part kept free within fair after had. step_mirrors Nicks limit link id state event part kept free within fair after had
-
-pub returns-clause-dump : goal.returns-clause-dump
-returns-clause-dump c = λ limit link id state event part dump kept within asks takes after. dump_mirrors Nicks limit link id state event part dump kept within asks takes after

@@ -1,5 +1,0 @@
-use Rattle.wc_settled.proofs.BytesLemmas.{buffers_show}
-use Rattle.wc_settled.proofs.laws.sent_bytes_show_buffers.Goals as goal
-
-pub returns : goal.returns
-returns c = λ password limit events link id most short settled. buffers_show password limit events link id most short settled

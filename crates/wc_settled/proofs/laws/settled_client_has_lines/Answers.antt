@@ -1,6 +1,0 @@
-use Rattle.wc_settled.specs.Held.{Lines}
-use Rattle.wc_settled.proofs.RunLemmas.{mirrors}
-use Rattle.wc_settled.proofs.laws.settled_client_has_lines.Goals as goal
-
-pub returns : goal.returns
-returns c = λ password limit events link id most within settled. mirrors Lines password limit events link id most within settled

@@ -1,7 +1,0 @@
-use Rattle.std.proofs.Common.{◌≡◌, ◌+◌, length, take}
-use Rattle.std.specs.List.{flat_map}
-use Rattle.wc_told.specs.DumpBytes.{tag_bytes}
-use Rattle.wc_told.proofs.dump_writer.behind_tags.Given as goal
-
-abbrev pub invariant-loop-tag : goal.invariant-loop-tag
-invariant-loop-tag l = l.left + length (flat_map tag_bytes (take l.tag-index l.tags)) ≡ l.room

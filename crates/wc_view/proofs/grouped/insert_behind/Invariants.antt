@@ -1,6 +1,0 @@
-use Rattle.std.proofs.Common.{◌≡◌, take}
-use Rattle.wc_view.specs.Grouped.{insert_behind}
-use Rattle.wc_view.proofs.grouped.insert_behind.Given as goal
-
-abbrev pub invariant-loop-buffer : goal.invariant-loop-buffer
-invariant-loop-buffer l = l.placed ≡ insert_behind l.h l.new (take l.buffer-index l.group)

@@ -1,6 +1,0 @@
-use Rattle.std.proofs.Common.{◌≡◌, take}
-use Rattle.wc_view.specs.Grouped.{put_behind}
-use Rattle.wc_view.proofs.grouped.put_behind.Given as goal
-
-abbrev pub invariant-loop-group : goal.invariant-loop-group
-invariant-loop-group l = l.placed ≡ put_behind l.h l.new (take l.group-index l.groups)
