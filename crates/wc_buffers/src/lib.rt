@@ -6,8 +6,6 @@ mod calls;
 mod edits;
 mod entries;
 mod entry;
-#[cfg(test)]
-mod flat_tests;
 mod group;
 mod iter;
 mod names;
@@ -15,8 +13,6 @@ mod refusals;
 mod refused;
 mod row;
 mod table;
-#[cfg(test)]
-mod tests;
 mod vars;
 
 pub use buffers::Buffers;

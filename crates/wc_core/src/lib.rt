@@ -19,7 +19,3 @@ mod typed_print;
 pub use connection::{Connection, Departure};
 pub use core_state::Core;
 
-#[cfg(test)]
-mod push_tests;
-#[cfg(test)]
-mod tests;

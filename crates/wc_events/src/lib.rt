@@ -20,7 +20,3 @@ pub use ids::event_id;
 pub use line_objects::{LINE_ADDED, line_added};
 pub use nick_objects::{nick_dump, nick_list, push_kind, push_objects};
 
-#[cfg(test)]
-mod nick_tests;
-#[cfg(test)]
-mod tests;

@@ -23,12 +23,8 @@ mod reached;
 mod refused;
 mod size;
 mod starts;
-#[cfg(test)]
-mod tests;
 mod values;
 mod variable;
-#[cfg(test)]
-mod walk_tests;
 
 pub use answer::walk;
 pub use count::Count;

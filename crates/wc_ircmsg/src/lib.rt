@@ -10,8 +10,6 @@ mod params;
 mod prefixes;
 mod read;
 mod source;
-#[cfg(test)]
-mod tests;
 mod write;
 
 pub use case_map::{CaseMap, same_name};

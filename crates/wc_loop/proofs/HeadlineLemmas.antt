@@ -13,14 +13,14 @@ use Rattle.wc_core.specs.Events.{Event}
 use Rattle.wc_core.specs.State.{State}
 use Rattle.wc_core.specs.Step.{client_link, run}
 use Rattle.wc_core.specs.Served.{connection_link, clients_of, state_of, unsent_on, sent_to, has_end}
-use Rattle.wc_loop.specs.declared.headless.Headless.{Headless}
-use Rattle.wc_loop.specs.declared.link_state.Closed.{Closed}
+use Rattle.wc_turns.specs.declared.headless.Headless.{Headless}
+use Rattle.wc_turns.specs.declared.link_state.Closed.{Closed}
 use Rattle.wc_loop.specs.Endings.{kept_of}
-use Rattle.wc_loop.specs.Events.{events_from}
-use Rattle.wc_loop.specs.Hands.{IsFrontOf}
+use Rattle.wc_turns.specs.Events.{events_from}
+use Rattle.wc_turns.specs.Hands.{IsFrontOf}
 use Rattle.wc_loop.specs.Headline.{HandsOut, Headline, IsConfigured, IsFirst, NothingTaken}
-use Rattle.wc_loop.specs.Served.{ReachesEvents, NobodyLeaving, closed_by, leaving_closes}
-use Rattle.wc_loop.specs.Turns.{AgreesWithSockets, LoopStep, moment, point}
+use Rattle.wc_turns.specs.Served.{ReachesEvents, NobodyLeaving, closed_by, leaving_closes}
+use Rattle.wc_turns.specs.Turns.{AgreesWithSockets, LoopStep, moment, point}
 
 pub AgreesWithSockets-first : (first : Headless) (seen : Seen) → IsFirst first → NothingTaken seen → AgreesWithSockets first seen
 AgreesWithSockets-first first seen f new = record {

@@ -19,12 +19,12 @@ use Rattle.wc_mirror_laws.specs.Mirrors.{IsShortLine}
 use Rattle.wc_mirror_laws.specs.Settled.{SettledBy, is_following}
 use Rattle.wc_mirror_laws.proofs.BytesLemmas.{part_shows}
 use Rattle.wc_loop.specs.declared.configuration.Settings.{Settings}
-use Rattle.wc_loop.specs.declared.headless.Headless.{Headless}
+use Rattle.wc_turns.specs.declared.headless.Headless.{Headless}
 use Rattle.wc_loop.proofs.ConfigurationLemmas.{settings-most}
 use Rattle.wc_loop.specs.Configuration.{settings_in}
-use Rattle.wc_loop.specs.Events.{events_of, events_from, wake_events, line_events, is_tick, tail_on, clock}
+use Rattle.wc_turns.specs.Events.{events_of, events_from, wake_events, line_events, is_tick, tail_on, clock}
 use Rattle.wc_loop.specs.Headline.{HandsOut, ClientsHoldDumps}
-use Rattle.wc_loop.specs.Lines.{ended_lines, without_cr, line_limit}
+use Rattle.wc_turns.specs.Lines.{ended_lines, without_cr, line_limit}
 
 -- ---- lines are no longer than one may be
 

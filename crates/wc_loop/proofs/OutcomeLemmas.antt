@@ -3,13 +3,13 @@ use Rattle.std.proofs.Common.{◌≡◌, ◌≢◌, ℕ, Bool, true, false, not,
 use Rattle.std.proofs.lemmas.Bool.{false≢true}
 use Rattle.std.specs.Io.KnownBytes.{append_known}
 use Rattle.wc_outside.specs.Seen.{Seen, IsNew}
-use Rattle.wc_loop.specs.declared.headless.Headless.{Headless}
+use Rattle.wc_turns.specs.declared.headless.Headless.{Headless}
 use Rattle.wc_loop.specs.declared.ending.Ending.{Ending}
 use Rattle.wc_loop.specs.declared.words.Wish.{Wish}
 use Rattle.wc_loop.specs.Headline.{Headline}
-use Rattle.wc_loop.specs.Sources.{AllServed, AllSent}
-use Rattle.wc_loop.specs.Served.{NobodyLeaving}
-use Rattle.wc_loop.specs.Turns.{wake_count, AgreesWithSockets, IsCaused}
+use Rattle.wc_turns.specs.Sources.{AllServed, AllSent}
+use Rattle.wc_turns.specs.Served.{NobodyLeaving}
+use Rattle.wc_turns.specs.Turns.{wake_count, AgreesWithSockets, IsCaused}
 use Rattle.wc_loop.specs.Endings.{LastOf, StatusOf, StatusFor, IsNumber, IsLastState, HasCause, WaitsAtMost, AsksNothing, RunsBy, RunsFor, asks_turns, asks_version, asked_by, printed_text, status_of, number_of, tells_version}
 
 status_for : (b : Bool) (turns : ℕ) (contents : Option (List ℕ)) (k k' : ℕ) (before after : Seen) (ending : Ending) (last : Option Headless) → RunsFor b turns contents k k' before after ending last → StatusFor b turns contents after (status_of ending) last

@@ -2,11 +2,11 @@
 use Rattle.std.proofs.Common.{◌≡◌, ◌≢◌, ◌⊎◌, inl, inr, ℕ, ◌+◌, ◌^◌, ◌<◌, ◌≤◌, false, refl, ap, arith}
 use Rattle.wc_outside.specs.Faults.{Rose}
 use Rattle.wc_outside.specs.Seen.{Seen}
-use Rattle.wc_loop.specs.declared.turn_end.TurnEnd.{TurnEnd}
-use Rattle.wc_loop.specs.declared.turn_end.TurnEnd.TheVariants.{GoOn, Quit, WaitFault, ListenFault, KeeperFault}
-use Rattle.wc_loop.specs.declared.headless.Headless.{Headless}
-use Rattle.wc_loop.specs.Turns.{LoopStep, faults_then, waits_then}
-use Rattle.wc_loop.proofs.TurnLemmas.{LoopStep-sum}
+use Rattle.wc_turns.specs.declared.turn_end.TurnEnd.{TurnEnd}
+use Rattle.wc_turns.specs.declared.turn_end.TurnEnd.TheVariants.{GoOn, Quit, WaitFault, ListenFault, KeeperFault}
+use Rattle.wc_turns.specs.declared.headless.Headless.{Headless}
+use Rattle.wc_turns.specs.Turns.{LoopStep, faults_then, waits_then}
+use Rattle.wc_turns.proofs.TurnLemmas.{LoopStep-sum}
 
 pub Rose-before : (p q n : ℕ) → p ≤ q → Rose q n → Rose p n
 Rose-before p q n below h = omega arith

@@ -7,16 +7,16 @@ use Rattle.wc_outside.specs.declared.asked.Asked.{Asked}
 use Rattle.wc_outside.specs.declared.asked.Asked.TheVariants.{Listen}
 use Rattle.wc_loop.specs.declared.ending.Ending.{Ending}
 use Rattle.wc_loop.specs.declared.ending.Ending.TheVariants.{Version, BadWord, WaitFailed, NoConfiguration, BadLine, NoMemory, ListenFailed, TurnsTaken, Quit}
-use Rattle.wc_loop.specs.declared.headless.Headless.{Headless}
-use Rattle.wc_loop.specs.declared.turn_end.TurnEnd.{TurnEnd}
-use Rattle.wc_loop.specs.declared.turn_end.TurnEnd.TheVariants.{GoOn, Quit as ThenQuit, WaitFault, ListenFault, KeeperFault}
+use Rattle.wc_turns.specs.declared.headless.Headless.{Headless}
+use Rattle.wc_turns.specs.declared.turn_end.TurnEnd.{TurnEnd}
+use Rattle.wc_turns.specs.declared.turn_end.TurnEnd.TheVariants.{GoOn, Quit as ThenQuit, WaitFault, ListenFault, KeeperFault}
 use Rattle.wc_loop.specs.declared.words.Wish.{Wish}
 use Rattle.wc_loop.specs.declared.configuration.Settings.{Settings}
 use Rattle.wc_loop.specs.Configuration.{settings_in}
 use Rattle.wc_loop.specs.Headline.{Headline}
-use Rattle.wc_loop.specs.Served.{NobodyLeaving}
-use Rattle.wc_loop.specs.Sources.{AllServed, AllSent}
-use Rattle.wc_loop.specs.Turns.{AgreesWithSockets, IsCaused, wake_count, listen_faults}
+use Rattle.wc_turns.specs.Served.{NobodyLeaving}
+use Rattle.wc_turns.specs.Sources.{AllServed, AllSent}
+use Rattle.wc_turns.specs.Turns.{AgreesWithSockets, IsCaused, wake_count, listen_faults}
 
 -- the state at the end is there where a wait returned
 abbrev pub kept_of : Headless → Option Headless

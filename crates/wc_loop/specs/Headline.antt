@@ -1,12 +1,12 @@
 -- What a whole run hands to its clients.
 use Rattle.std.specs.Prelude.{ℕ, ◌≡◌, ◌≤◌, false, List, [], ◌++◌, Option, Some, None, IfSome, IsTrue, is_some, IfOk, Ok}
 use Rattle.wc_outside.specs.Seen.{Seen}
-use Rattle.wc_loop.specs.declared.headless.Headless.{Headless}
+use Rattle.wc_turns.specs.declared.headless.Headless.{Headless}
 use Rattle.wc_outside.specs.Keyed.{at_key}
 use Rattle.wc_loop.specs.declared.configuration.Settings.{Settings}
 use Rattle.wc_loop.specs.Configuration.{settings_in}
-use Rattle.wc_loop.specs.Hands.{IsFrontOf}
-use Rattle.wc_loop.specs.Links.{link_number}
+use Rattle.wc_turns.specs.Hands.{IsFrontOf}
+use Rattle.wc_turns.specs.Links.{link_number}
 use Rattle.wc_core.specs.Events.{Event}
 use Rattle.wc_core.specs.State.{State, first_state}
 use Rattle.wc_core.specs.Step.{client_link, run}
@@ -15,9 +15,9 @@ use Rattle.wc_session.specs.declared.client.Client.{Client}
 use Rattle.wc_mirror_laws.specs.Held.{HeldPart}
 use Rattle.wc_mirror_laws.specs.Bytes.{ShowsPart}
 use Rattle.wc_mirror_laws.specs.Settled.{SettledBy}
-use Rattle.wc_loop.specs.Events.{whole}
-use Rattle.wc_loop.specs.Served.{ReachesEvents}
-use Rattle.wc_loop.specs.Turns.{moment, point}
+use Rattle.wc_turns.specs.Events.{whole}
+use Rattle.wc_turns.specs.Served.{ReachesEvents}
+use Rattle.wc_turns.specs.Turns.{moment, point}
 
 -- The state is that of the run over the events that were reached, from this one on; what is sent and then unsent on each open link is what the run owes; and what was sent on a closed link is a front of that, all of it unless there was no room as it was closed, or it failed.
 pub record HandsOut (first : State) (seen : Seen) (last : Headless) : Type 0 where

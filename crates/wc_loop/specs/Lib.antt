@@ -1,17 +1,4 @@
 pub mod Configuration
-pub mod Contained
 pub mod Endings
-pub mod Events
-pub mod Hands
 pub mod Headline
-pub mod Lines
-pub mod Links
-pub mod Parts
-pub mod Run
-pub mod Served
-pub mod Sources
-pub mod Steps
-pub mod Tails
-pub mod Turns
-pub mod Waits
 pub mod Words

@@ -11,5 +11,3 @@ pub use laws::{
     settled_client_has_lines, settled_client_has_nicks, three_lines_settle,
 };
 
-#[cfg(test)]
-mod tests;

@@ -17,10 +17,6 @@ mod pending;
 mod push;
 mod refused;
 mod row;
-#[cfg(test)]
-mod table_tests;
-#[cfg(test)]
-mod tests;
 mod told;
 mod writer;
 

@@ -4,8 +4,6 @@
 mod by_name;
 mod digest;
 mod entry;
-#[cfg(test)]
-mod flat_tests;
 mod index;
 mod item;
 mod iter;
@@ -18,8 +16,6 @@ mod refused;
 mod room;
 mod row_tree;
 mod store;
-#[cfg(test)]
-mod tests;
 mod touch;
 
 pub use item::{Item, Key, Row};

@@ -21,5 +21,3 @@ pub use number::number_in;
 pub use options::{Changed, MOST_SERVERS, Options};
 pub use refusal::{ConfigRefused, SetRefused};
 
-#[cfg(test)]
-mod tests;

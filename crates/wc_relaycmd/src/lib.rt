@@ -10,8 +10,6 @@ mod lists;
 mod login;
 mod request;
 mod secrets;
-#[cfg(test)]
-mod tests;
 mod word;
 
 pub use algorithm::{Algorithm, choose_algorithm};

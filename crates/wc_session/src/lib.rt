@@ -25,7 +25,3 @@ pub use outcome::Outcome;
 pub use session::Session;
 pub use sync_set::{BufferSet, SyncSet};
 
-#[cfg(test)]
-mod nick_tests;
-#[cfg(test)]
-mod tests;

@@ -24,5 +24,3 @@ pub use text::Text;
 pub use utf8::lossy;
 pub use word_iter::{WordIter, words};
 
-#[cfg(test)]
-mod tests;

@@ -32,13 +32,3 @@ pub use mirror_buffer::{MirrorBuffer, SharedBuffer};
 pub use mirror_line::MirrorLine;
 pub use nick_laws::{dump_shows_nicks, notice_shows_nicks, push_shows_nicks};
 
-#[cfg(test)]
-mod buffer_messages;
-#[cfg(test)]
-mod buffer_tests;
-#[cfg(test)]
-mod nick_messages;
-#[cfg(test)]
-mod nick_tests;
-#[cfg(test)]
-mod tests;

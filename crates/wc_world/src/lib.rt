@@ -18,7 +18,3 @@ mod world;
 
 pub use world::World;
 
-#[cfg(test)]
-mod nick_tests;
-#[cfg(test)]
-mod tests;

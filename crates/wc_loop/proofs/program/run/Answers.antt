@@ -1,12 +1,12 @@
 use Rattle.std.proofs.Common.{◌≡◌, ◌++◌, [], ◌∷◌, ap, ◌∙◌, arith}
 use Rattle.wc_outside.specs.declared.asked.Asked.TheVariants.{Listen}
-use Rattle.wc_loop.specs.Turns.{wake_count, listen_faults}
-use Rattle.wc_loop.proofs.CauseLemmas.{caused-following}
+use Rattle.wc_turns.specs.Turns.{wake_count, listen_faults}
+use Rattle.wc_turns.proofs.CauseLemmas.{caused-following}
 use Rattle.wc_loop.proofs.EndingLemmas.{Runs-following, known-readable}
 use Rattle.wc_loop.proofs.HeadlineLemmas.{Fresh-listening, HandsOut-run, Headline-known}
 use Rattle.wc_loop.proofs.ProgramLemmas.{Rose-before}
-use Rattle.wc_loop.proofs.ServeLemmas.{AllServed-following, AllSent-following}
-use Rattle.wc_loop.proofs.SourceLemmas.{later-of}
+use Rattle.wc_turns.proofs.ServeLemmas.{AllServed-following, AllSent-following}
+use Rattle.wc_turns.proofs.SourceLemmas.{later-of}
 use Rattle.wc_loop.proofs.program.run.Goals as goal
 
 pub returns-clause-runs : goal.returns-clause-runs

@@ -1,13 +1,13 @@
 use Rattle.std.proofs.Common.{◌≡◌, ◌+◌, ap, refl, ◌∙◌, subst, false, arith}
-use Rattle.wc_loop.specs.declared.turn_end.TurnEnd.TheVariants.{GoOn}
-use Rattle.wc_loop.specs.Served.{leaving_closes}
-use Rattle.wc_loop.specs.Turns.{LoopStep, waits_then}
-use Rattle.wc_loop.proofs.CauseLemmas.{caused-following}
-use Rattle.wc_loop.proofs.CloseLemmas.{LoopStep-refl}
-use Rattle.wc_loop.proofs.TurnLemmas.{LoopStep-wider}
+use Rattle.wc_turns.specs.declared.turn_end.TurnEnd.TheVariants.{GoOn}
+use Rattle.wc_turns.specs.Served.{leaving_closes}
+use Rattle.wc_turns.specs.Turns.{LoopStep, waits_then}
+use Rattle.wc_turns.proofs.CauseLemmas.{caused-following}
+use Rattle.wc_turns.proofs.CloseLemmas.{LoopStep-refl}
+use Rattle.wc_turns.proofs.TurnLemmas.{LoopStep-wider}
 use Rattle.wc_loop.proofs.ProgramLemmas.{LoopStep-turn, Rose-before, waits-few, unwoken-by, woke-once}
-use Rattle.wc_loop.proofs.ServeLemmas.{AllServed-following, AllSent-following}
-use Rattle.wc_loop.proofs.SourceLemmas.{later-of}
+use Rattle.wc_turns.proofs.ServeLemmas.{AllServed-following, AllSent-following}
+use Rattle.wc_turns.proofs.SourceLemmas.{later-of}
 use Rattle.wc_loop.proofs.program.take_turns.Goals as goal
 
 pub loop-init : goal.loop-init

@@ -1,7 +1,7 @@
 use Rattle.std.proofs.Common.{◌≡◌, false, All, ◌≤◌}
-use Rattle.wc_loop.specs.Served.{NobodyLeaving}
-use Rattle.wc_loop.specs.Sources.{AllServed}
-use Rattle.wc_loop.specs.Turns.{LoopStep, AgreesWithSockets, IsCaused}
+use Rattle.wc_turns.specs.Served.{NobodyLeaving}
+use Rattle.wc_turns.specs.Sources.{AllServed}
+use Rattle.wc_turns.specs.Turns.{LoopStep, AgreesWithSockets, IsCaused}
 use Rattle.wc_loop.proofs.program.take_turns.Given as goal
 
 abbrev pub invariant-loop : goal.invariant-loop

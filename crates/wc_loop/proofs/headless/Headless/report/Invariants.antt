@@ -1,7 +1,0 @@
-use Rattle.std.proofs.Common.{take}
-use Rattle.wc_loop.specs.Steps.{ReportsSources}
-use Rattle.wc_loop.proofs.headless.Headless.report.Given as goal
-
--- the first sources are kept
-abbrev pub invariant-loop-place : goal.invariant-loop-place
-invariant-loop-place l = ReportsSources l.fn.self l.self (take l.place l.ready.tokens)

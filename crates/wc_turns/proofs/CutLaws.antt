@@ -1,0 +1,90 @@
+-- Runs whose happenings spell the same events owe the same, and bytes spell the same events however they are cut.
+use Rattle.std.proofs.Common.{◌≡◌, ℕ, Bool, true, false, eqb, List, [], ◌∷◌, ◌++◌, Option, Some, None, refl, sym, ap, ◌∙◌, append_assoc, arith}
+use Rattle.std.specs.List.{flat_map}
+use Rattle.std.proofs.lemmas.Grind.{flat_map-append}
+use Rattle.std.proofs.lemmas.List.{append-nil}
+use Rattle.std.proofs.lemmas.Bool.Decides.{nat_tests}
+use Rattle.wc_text.specs.declared.names.LinkId.{LinkId}
+use Rattle.wc_outside.specs.declared.happening.Happening.{Happening}
+use Rattle.wc_outside.specs.declared.happening.Happening.TheVariants.{Woke, Accepted, Read, Ended, Failed, ListenFailed}
+use Rattle.wc_turns.specs.Events.{bytes_on, tail_on, clock_from, clock, wake_events, read_events, events_of, events_from, whole}
+use Rattle.wc_turns.specs.Lines.{rest}
+use Rattle.wc_core.specs.Events.{Event}
+use Rattle.wc_core.specs.State.{State}
+use Rattle.wc_core.specs.Step.{run}
+use Rattle.wc_core.specs.Served.{sent_to}
+use Rattle.wc_turns.specs.Served.{ReachesEvents}
+use Rattle.wc_turns.proofs.LineLemmas.{rest-append, read_events-append}
+use Rattle.wc_turns.proofs.RunLemmas.{events_from-append}
+
+-- equal events: the same state, and the same bytes owed to each link
+pub same_events : (state : State) (taken others : List Happening) → whole taken ≡ whole others
+    → (run state (whole taken)).state ≡ (run state (whole others)).state × ((link : ℕ) → sent_to link (run state (whole taken)).acts ≡ sent_to link (run state (whole others)).acts)
+same_events state taken others e = (ap (λ events. (run state events).state) e, λ link. ap (λ events. sent_to link (run state events).acts) e)
+
+-- without `/quit` all of them are reached
+pub reached_all : (q : Bool) (n m : ℕ) (all events : List Event) → ReachesEvents q false n m all events → events ≡ all
+reached_all q n m all events h = sym (append-nil events) ∙ ap (λ rest. events ++ rest) (sym (h.whole refl)) ∙ sym h.front
+
+clock_from-append : (last : Option ℕ) (hs gs : List Happening) → clock_from last (hs ++ gs) ≡ clock_from (clock_from last hs) gs
+clock_from-append last [] gs = refl
+clock_from-append None (Woke moment ∷ hs) gs = clock_from-append (Some moment) hs gs
+clock_from-append (Some last) (Woke moment ∷ hs) gs = clock_from-append _ hs gs
+clock_from-append last (Accepted link nonce ∷ hs) gs = clock_from-append last hs gs
+clock_from-append last (Read link bytes ∷ hs) gs = clock_from-append last hs gs
+clock_from-append last (Ended link ∷ hs) gs = clock_from-append last hs gs
+clock_from-append last (Failed link ∷ hs) gs = clock_from-append last hs gs
+clock_from-append last (ListenFailed ∷ hs) gs = clock_from-append last hs gs
+
+tail_on-push : (link : ℕ) (hs : List Happening) (h : Happening) → tail_on link (hs ++ h ∷ []) ≡ rest (tail_on link hs) (bytes_on link h)
+tail_on-push link hs h = ap (λ bytes. rest [] bytes) (flat_map-append (bytes_on link) hs (h ∷ []) ∙ ap (λ bytes. flat_map (bytes_on link) hs ++ bytes) (append-nil (bytes_on link h))) ∙ rest-append [] (flat_map (bytes_on link) hs) (bytes_on link h)
+
+-- what matters of the happenings before
+record Alike (hs gs : List Happening) : Type 0 where
+  clocks : clock hs ≡ clock gs
+  tails : (link : ℕ) → tail_on link hs ≡ tail_on link gs
+
+alike-push : (hs gs : List Happening) (h : Happening) → Alike hs gs → Alike (hs ++ h ∷ []) (gs ++ h ∷ [])
+alike-push hs gs h a = record {
+  clocks = clock_from-append None hs (h ∷ []) ∙ ap (λ last. clock_from last (h ∷ [])) a.clocks ∙ sym (clock_from-append None gs (h ∷ []));
+  tails = λ link. tail_on-push link hs h ∙ ap (λ tail. rest tail (bytes_on link h)) (a.tails link) ∙ sym (tail_on-push link gs h);
+}
+
+alike-events_of : (hs gs : List Happening) (h : Happening) → Alike hs gs → events_of hs h ≡ events_of gs h
+alike-events_of hs gs (Woke moment) a = ap (λ last. wake_events last moment) a.clocks
+alike-events_of hs gs (Accepted link nonce) a = refl
+alike-events_of hs gs (Read link bytes) a = ap (λ tail. read_events link.0 tail bytes) (a.tails link.0)
+alike-events_of hs gs (Ended link) a = refl
+alike-events_of hs gs (Failed link) a = refl
+alike-events_of hs gs ListenFailed a = refl
+
+alike-events_from : (hs gs more : List Happening) → Alike hs gs → events_from hs more ≡ events_from gs more
+alike-events_from hs gs [] a = refl
+alike-events_from hs gs (h ∷ more) a = ap (λ events. events ++ events_from (hs ++ h ∷ []) more) (alike-events_of hs gs h a)
+    ∙ ap (λ events. events_of gs h ++ events) (alike-events_from (hs ++ h ∷ []) (gs ++ h ∷ []) more (alike-push hs gs h a))
+
+-- bytes that are read at once, or in two pieces
+cut-alike : (before : List Happening) (link : LinkId) (xs ys : List ℕ) → Alike (before ++ Read link (xs ++ ys) ∷ []) ((before ++ Read link xs ∷ []) ++ Read link ys ∷ [])
+cut-alike before link xs ys = record {
+  clocks = clock_from-append None before _ ∙ sym (clock_from-append None (before ++ Read link xs ∷ []) _ ∙ clock_from-append None before _);
+  tails = λ other. tail_on-push other before _ ∙ parts other (eqb link.0 other) refl ∙ sym (tail_on-push other (before ++ Read link xs ∷ []) _ ∙ ap (λ tail. rest tail (bytes_on other (Read link ys))) (tail_on-push other before _));
+}
+  where
+    parts : (other : ℕ) (b : Bool) → eqb link.0 other ≡ b → rest (tail_on other before) (bytes_on other (Read link (xs ++ ys))) ≡ rest (rest (tail_on other before) (bytes_on other (Read link xs))) (bytes_on other (Read link ys))
+    parts other true e = rw e (rest-append (tail_on other before) xs ys)
+    parts other false e = rw e refl
+
+-- a read can be cut anywhere
+pub cut_anywhere : (before after : List Happening) (link : LinkId) (xs ys : List ℕ)
+    → whole (before ++ Read link (xs ++ ys) ∷ after) ≡ whole (before ++ Read link xs ∷ Read link ys ∷ after)
+cut_anywhere before after link xs ys =
+    let tail = tail_on link.0 before in
+    let front = before ++ Read link xs ∷ [] in
+    let here : eqb link.0 link.0 ≡ true = grind (arith, nat_tests) in
+    let following : tail_on link.0 front ≡ rest tail xs = tail_on-push link.0 before (Read link xs) ∙ rw here refl in
+    events_from-append [] before (Read link (xs ++ ys) ∷ after)
+    ∙ ap (λ events. whole before ++ events)
+    (ap (λ events. events ++ events_from (before ++ Read link (xs ++ ys) ∷ []) after) (read_events-append link.0 tail xs ys ∙ ap (λ line. read_events link.0 tail xs ++ read_events link.0 line ys) (sym following))
+    ∙ append_assoc (read_events link.0 tail xs) (read_events link.0 (tail_on link.0 front) ys) _
+    ∙ ap (λ events. read_events link.0 tail xs ++ (read_events link.0 (tail_on link.0 front) ys ++ events)) (alike-events_from _ _ after (cut-alike before link xs ys)))
+    ∙ sym (events_from-append [] before (Read link xs ∷ Read link ys ∷ after))

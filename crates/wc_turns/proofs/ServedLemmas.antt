@@ -1,0 +1,96 @@
+-- The core takes one event after another.
+use Rattle.std.proofs.Common.{◌≡◌, ℕ, inl, inr, Bool, true, false, ◌||◌, eqb, List, [], ◌∷◌, ◌++◌, Option, Some, None, IsSome, refl, sym, ap, ◌∙◌, subst, arith}
+use Rattle.std.proofs.lemmas.Bool.Decides.{nat_tests}
+use Rattle.std.proofs.lemmas.List.{append-nil}
+use Rattle.wc_text.specs.declared.names.Cause.{Cause}
+use Rattle.wc_core.specs.Events.{Event, Line}
+use Rattle.wc_core.specs.CoreView.{CoreView}
+use Rattle.wc_core.specs.State.{State, Act}
+use Rattle.wc_core.specs.Step.{step, run}
+use Rattle.wc_core.specs.Served.{state_of, leaving_in, leaving_on, unsent_on, sent_to, close_of, or_else, has_end, Distinct, Follows, FollowsUnlessStarved, LeavesBy}
+use Rattle.wc_core.proofs.DidLemmas.{Follows-stays, Follows-then, KeepsClients-refl, KeepsClients-trans}
+use Rattle.wc_turns.specs.Served.{MayRun, LeavesFor, LeavesAtLine}
+use Rattle.wc_turns.proofs.RunLemmas.{run-append-state, run-append-acts}
+use Rattle.wc_turns.proofs.ClosingLemmas.{LineCause, line-cause, line-others}
+
+Follows-acts : (a b : CoreView) (state : State) (acts acts' : List Act) → acts ≡ acts' → Follows a b (record { state = state; acts = acts }) → Follows a b (record { state = state; acts = acts' })
+Follows-acts a b state acts acts' e did = subst (λ xs. Follows a b (record { state = state; acts = xs })) e did
+
+Follows-append : (a b c : CoreView) (es fs : List Event) → Follows a b (run (state_of a) es) → Follows b c (run (state_of b) fs) → Follows a c (run (state_of a) (es ++ fs))
+Follows-append a b c es fs h g =
+    let did = Follows-then a b c (run (state_of a) es) (λ next. run next fs) h g in
+    let acts = sym (run-append-acts (state_of a) es fs) in
+    record {
+      state = did.state ∙ sym (run-append-state (state_of a) es fs);
+      bytes = λ k. did.bytes k ∙ ap (λ xs. unsent_on k a.connections ++ sent_to k xs) acts;
+      leaving = λ k. did.leaving k ∙ ap (λ xs. or_else (leaving_on k a.connections) (close_of k xs)) acts;
+      quits = did.quits ∙ ap (λ xs. a.quits || has_end xs) acts;
+    }
+
+pub MayRun-none : (a : CoreView) → MayRun a a []
+MayRun-none a = record { keeps = KeepsClients-refl a; does = λ same below distinct. Follows-stays a }
+
+pub MayRun-one : (a b : CoreView) (event : Event) → FollowsUnlessStarved a b (step (state_of a) event) → MayRun a b (event ∷ [])
+MayRun-one a b event h = record {
+  keeps = h.keeps;
+  does = λ same below distinct. (let s = step (state_of a) event in Follows-acts a b s.state s.acts (s.acts ++ []) (sym (append-nil s.acts)) (h.does same below distinct));
+}
+
+pub MayRun-trans : (a b c : CoreView) (es fs : List Event) → MayRun a b es → MayRun b c fs → MayRun a c (es ++ fs)
+MayRun-trans a b c es fs h g = record {
+  keeps = KeepsClients-trans a b c h.keeps g.keeps;
+  does = λ same below distinct.
+      let p = h.keeps.rises in
+      let q = g.keeps.rises in
+      Follows-append a b c es fs (h.does (omega arith) below distinct) (g.does (omega arith) (omega arith) (subst Distinct (sym h.keeps.links) distinct));
+}
+
+-- ---- who leaves at a line
+
+some_here : {X : Type 0} (o : Option X) (x : X) → o ≡ Some x → IsSome o
+some_here (Some y) x e = refl
+some_here None x e = absurd (let q : None ≡ Some x = e in cc)
+
+for-same : (link other : ℕ) (o : Option Cause) → LeavesFor link other o o
+for-same link other None = tt
+for-same link other (Some why) = refl
+
+pub LeavesAtLine-refl : (link : ℕ) (core : CoreView) → LeavesAtLine link core core
+LeavesAtLine-refl link core = record { rises = omega arith; links = refl; leaving = λ distinct other. for-same link other (leaving_on other core.connections) }
+
+for-then : (link other : ℕ) (a b c : Option Cause) → LeavesFor link other a b → LeavesFor link other b c → LeavesFor link other a c
+for-then link other (Some why) b c h g = subst (λ o. LeavesFor link other o c) h g
+for-then link other None None c h g = g
+for-then link other None (Some why) c h g = rw g h
+
+pub LeavesAtLine-trans : (link : ℕ) (a b c : CoreView) → LeavesAtLine link a b → LeavesAtLine link b c → LeavesAtLine link a c
+LeavesAtLine-trans link a b c h g = record {
+  rises = (let p = h.rises in let q = g.rises in omega arith);
+  links = g.links ∙ h.links;
+  leaving = λ distinct other. for-then link other (leaving_on other a.connections) (leaving_on other b.connections) (leaving_on other c.connections) (h.leaving distinct other) (g.leaving (subst Distinct (sym h.links) distinct) other);
+}
+
+for-line : (link : ℕ) (closes : Option Cause) → LineCause closes → LeavesFor link link None closes
+for-line link None h = tt
+for-line link (Some why) (inl e) = rw e refl
+for-line link (Some why) (inr e) = rw e refl
+
+for-closed : (link other : ℕ) (state : State) (line : List ℕ) (t : Bool) → eqb other link ≡ t → LeavesFor link other None (close_of other (step state (Line link line)).acts)
+for-closed link other state line true e =
+    let same : link ≡ other = grind (arith, nat_tests) in
+    subst (λ k. LeavesFor link k None (close_of k (step state (Line link line)).acts)) same (for-line link _ (line-cause link state line))
+for-closed link other state line false e = rw (line-others link state line other (λ q. grind (arith, nat_tests))) tt
+
+for-step : (link other : ℕ) (before closes after : Option Cause) → (IsSome before → after ≡ before) → LeavesBy before closes after → LeavesFor link other None closes → LeavesFor link other before after
+for-step link other (Some why) closes after kept h g = kept refl
+for-step link other None closes after kept (inl e) g = rw e g
+for-step link other None closes after kept (inr (inl e)) g = rw e tt
+for-step link other None closes after kept (inr (inr e)) g = rw e tt
+
+pub LeavesAtLine-one : (link : ℕ) (a b : CoreView) (line : List ℕ) → FollowsUnlessStarved a b (step (state_of a) (Line link line)) → LeavesAtLine link a b
+LeavesAtLine-one link a b line h = record {
+  rises = h.keeps.rises;
+  links = h.keeps.links;
+  leaving = λ distinct other. for-step link other (leaving_on other a.connections) (close_of other (step (state_of a) (Line link line)).acts) (leaving_on other b.connections) (λ s. ap leaving_in (h.keeps.kept other s)) (h.causes distinct other)
+      (for-closed link other (state_of a) line (eqb other link) refl);
+}

@@ -1,0 +1,213 @@
+-- How a loop goes on.
+use Rattle.std.proofs.Common.{◌≡◌, ℕ, ◌+◌, ◌^◌, ◌<◌, ◌≤◌, Bool, true, false, ◌||◌, IsTrue, List, [], ◌∷◌, ◌++◌, All, Result, Ok, Err, OnErr, is_ok, refl, sym, ap, ◌∙◌, subst, arith, append_assoc}
+use Rattle.std.proofs.lemmas.Bool.{false≢true}
+use Rattle.std.proofs.lemmas.List.{append-nil}
+use Rattle.std.proofs.lemmas.List.Elements.{All-nil, All-append}
+use Rattle.wc_outside.specs.Seen.{Seen}
+use Rattle.wc_outside.specs.Faults.{Faults, NeverFall, Rose}
+use Rattle.wc_outside.specs.declared.happening.Happening.{Happening}
+use Rattle.wc_outside.specs.declared.failed.Failed.{Failed as Fault}
+use Rattle.wc_core.specs.Events.{Event}
+use Rattle.wc_core.specs.Step.{run}
+use Rattle.wc_core.specs.Served.{state_of, sent_to, has_end}
+use Rattle.wc_core.proofs.DidLemmas.{sent_to-append, has_end-append}
+use Rattle.wc_turns.specs.declared.link_state.Closed.{Closed}
+use Rattle.wc_turns.specs.declared.headless.Headless.{Headless}
+use Rattle.wc_turns.specs.Events.{events_from}
+use Rattle.wc_turns.specs.Run.{closings}
+use Rattle.wc_turns.specs.Served.{leaving_closes, NobodyLeaving, ReachesEvents}
+use Rattle.wc_turns.specs.Turns.{AgreesWithHappenings, AgreesOnLinks, AgreesWithSockets, Moment, moment, point, MomentAdvances, CoreTakes, IsCaused, wake_count, listen_faults, faults_of, closed_so_far, LoopStep, ClosesExactly}
+use Rattle.wc_turns.proofs.RunLemmas.{run-append-state, run-append-acts, closings-append, events_from-append, ReachesEvents-trans, ReachesEvents-none}
+use Rattle.wc_turns.proofs.HandsLemmas.{Delivers-trans}
+use Rattle.wc_turns.proofs.CauseLemmas.{caused-later, caused-following}
+
+pub NeverFall-refl : (a : Faults) → NeverFall a a
+NeverFall-refl a = record { waits = omega arith; listens = omega arith; links = omega arith }
+
+pub NeverFall-trans : (a b c : Faults) → NeverFall a b → NeverFall b c → NeverFall a c
+NeverFall-trans a b c h g = record {
+  waits = (let p = h.waits in let q = g.waits in omega arith);
+  listens = (let p = h.listens in let q = g.listens in omega arith);
+  links = (let p = h.links in let q = g.links in omega arith);
+}
+
+or-assoc : (a b c : Bool) → ((a || b) || c) ≡ (a || (b || c))
+or-assoc true b c = refl
+or-assoc false b c = refl
+
+MomentAdvances-trans : (a b c : Moment) (closed closed' : List Closed) (es fs : List Event) → MomentAdvances a b closed es → MomentAdvances b c closed' fs → MomentAdvances a c (closed ++ closed') (es ++ fs)
+MomentAdvances-trans a b c closed closed' es fs h g =
+    let first = (run (state_of a.core) es).acts in
+    let second = (run (run (state_of a.core) es).state fs).acts in
+    let acts = run-append-acts (state_of a.core) es fs in
+    let same : (run (state_of b.core) fs).acts ≡ second = ap (λ s. (run s fs).acts) h.state in
+    record {
+      state = g.state ∙ ap (λ s. (run s fs).state) h.state ∙ sym (run-append-state (state_of a.core) es fs);
+      hands = λ k. rw (acts, sent_to-append k first second) (Delivers-trans (point k a) (point k b) (point k c) (sent_to k first) (sent_to k second) (h.hands k) (rw same at (g.hands k)));
+      closes = rw acts (closings-append first second ∙ ap (λ cs. cs ++ closings second) h.closes ∙ ap (λ cs. closed ++ cs) (rw same at g.closes));
+      quits = g.quits ∙ ap (λ q. q || has_end (run (state_of b.core) fs).acts) h.quits ∙ or-assoc a.core.quits (has_end first) _
+          ∙ ap (λ acts'. a.core.quits || (has_end first || has_end acts')) same ∙ ap (λ q. a.core.quits || q) (sym (has_end-append first second)) ∙ ap (λ done. a.core.quits || has_end done) (sym acts);
+    }
+
+pub CoreTakes-trans : (a b c : Moment) (n m o : ℕ) (closed closed' : List Closed) (more more' : List Happening) → b.taken ≡ a.taken ++ more → (a.core.quits ≡ true → b.core.quits ≡ true) → (b.core.quits ≡ true → c.core.quits ≡ true)
+    → CoreTakes a b n m closed more → CoreTakes b c m o closed' more' → CoreTakes a c n o (closed ++ closed') (more ++ more')
+CoreTakes-trans a b c n m o closed closed' more more' grows first second h g = record {
+  events = h.events ++ g.events;
+  reaches = rw (events_from-append a.taken more more')
+      (ReachesEvents-trans a.core.quits b.core.quits c.core.quits n m o (events_from a.taken more) (events_from (a.taken ++ more) more') h.events g.events first second h.reaches
+      (subst (λ taken. ReachesEvents b.core.quits c.core.quits m o (events_from taken more') g.events) grows g.reaches));
+  rises = (let p = h.rises in let q = g.rises in omega arith);
+  advances = λ same below.
+      let p = h.rises in
+      let q = g.rises in
+      MomentAdvances-trans a b c closed closed' h.events g.events (h.advances (omega arith) below) (g.advances (omega arith) (omega arith));
+}
+
+pub wakes-append : (xs ys : List Happening) → wake_count (xs ++ ys) ≡ wake_count xs + wake_count ys
+wakes-append [] ys = omega arith
+wakes-append (x ∷ xs) ys = let h = wakes-append xs ys in omega arith
+
+pub listen_faults-append : (xs ys : List Happening) → listen_faults (xs ++ ys) ≡ listen_faults xs + listen_faults ys
+listen_faults-append [] ys = omega arith
+listen_faults-append (x ∷ xs) ys = let h = listen_faults-append xs ys in omega arith
+
+-- what a call of the sockets gave
+pub record Call (before after : Seen) (given : List Happening) : Type 0 where
+  pub told : IsTrue after.tells → IsTrue before.tells
+  pub taken : IsTrue after.tells → after.taken ≡ before.taken ++ given
+  pub asked : IsTrue after.tells → after.asked ≡ before.asked
+  pub counts : NeverFall before.faults after.faults
+
+-- a step of the loop: a call of the sockets, and what the loop does at it
+unfoldable pub LoopStep-step : (w : Bool) (n f : ℕ) (x y : Headless) (a b : Seen) (given : List Happening) (closed : List Closed)
+    → Call a b given → (x.turns + n < 2 ^ 64 → y.turns ≡ x.turns + n) → wake_count given ≡ n → listen_faults given ≡ f
+    → (w ≡ true → AgreesWithSockets x a → closed_so_far y ≡ closed_so_far x ++ closed) → (AgreesWithSockets x a → All (IsCaused a b) closed) → (x.core.quits ≡ true → y.core.quits ≡ true)
+    → (AgreesOnLinks x.links.opened.items x.core.connections x.used x.listening a → AgreesOnLinks y.links.opened.items y.core.connections y.used y.listening b)
+    → (IsTrue b.tells → AgreesWithSockets x a → y.core.quits ≡ false → AgreesWithHappenings y.clock y.links.opened.items y.used y.ran (a.taken ++ given))
+    → (IsTrue b.tells → AgreesWithSockets x a → CoreTakes (moment x a) (moment y b) x.ran y.ran closed given)
+    → LoopStep w n f x y a b
+LoopStep-step w n f x y a b given closed call turns wake listen grows causes quits among told goes = record {
+  turns = turns;
+  counts = call.counts;
+  told = call.told;
+  asked = call.asked;
+  wakes = λ t. (let e = ap wake_count (call.taken t) in let q = wakes-append a.taken given in omega arith);
+  listens = λ t. (let e = ap listen_faults (call.taken t) in let q = listen_faults-append a.taken given in omega arith);
+  gained = given;
+  taken = call.taken;
+  closed = closed;
+  grows = grows;
+  causes = causes;
+  quits = quits;
+  agrees = λ s. record { among = among s.among; told = λ t on. rw (call.taken t) (told t s on) };
+  goes = goes;
+}
+
+grown-by : (x y z : Headless) (c d : List Closed) → closed_so_far y ≡ closed_so_far x ++ c → closed_so_far z ≡ closed_so_far y ++ d → closed_so_far z ≡ closed_so_far x ++ (c ++ d)
+grown-by x y z c d e f = f ∙ ap (λ xs. xs ++ d) e ∙ append_assoc (closed_so_far x) c d
+
+pub LoopStep-sum : {w : Bool} {n m k f g e : ℕ} → n + m ≡ k → f + g ≡ e → (x y z : Headless) (a b c : Seen) → LoopStep w n f x y a b → LoopStep w m g y z b c → LoopStep w k e x z a c
+LoopStep-sum {w} {n} {m} {k} {f} {g} {e} nm fg x y z a b c h q = record {
+  turns = λ below. (let first = h.turns (omega arith) in let second = q.turns (omega arith) in omega arith);
+  counts = NeverFall-trans _ _ _ h.counts q.counts;
+  told = λ t. h.told (q.told t);
+  asked = λ t. q.asked t ∙ h.asked (q.told t);
+  wakes = λ t. (let first = h.wakes (q.told t) in let second = q.wakes t in omega arith);
+  listens = λ t. (let first = h.listens (q.told t) in let second = q.listens t in omega arith);
+  closed = h.closed ++ q.closed;
+  grows = λ t s. grown-by x y z h.closed q.closed (h.grows t s) (q.grows t (h.agrees s));
+  gained = h.gained ++ q.gained;
+  taken = λ t. q.taken t ∙ ap (λ xs. xs ++ q.gained) (h.taken (q.told t)) ∙ append_assoc a.taken h.gained q.gained;
+  causes = λ s. All-append (IsCaused a c) h.closed q.closed (caused-later a b c h.closed q.gained q.told q.taken q.counts (h.causes s)) (caused-following a b c q.closed h.gained q.told h.taken h.counts (q.causes (h.agrees s)));
+  quits = λ over. q.quits (h.quits over);
+  agrees = λ s. q.agrees (h.agrees s);
+  goes = λ t s. CoreTakes-trans (moment x a) (moment y b) (moment z c) x.ran y.ran z.ran h.closed q.closed h.gained q.gained (h.taken (q.told t)) h.quits q.quits (h.goes (q.told t) s) (q.goes t (h.agrees s));
+}
+
+pub LoopStep-trans : {w : Bool} {n f : ℕ} (x y z : Headless) (a b c : Seen) → LoopStep w n f x y a b → LoopStep w 0 0 y z b c → LoopStep w n f x z a c
+LoopStep-trans {w} {n} {f} x y z a b c h q = LoopStep-sum (omega arith) (omega arith) x y z a b c h q
+
+-- nothing had failed before
+pub LoopStep-following : {w : Bool} {n f : ℕ} (x y z : Headless) (a b c : Seen) → LoopStep w 0 0 x y a b → LoopStep w n f y z b c → LoopStep w n f x z a c
+LoopStep-following {w} {n} {f} x y z a b c h q = LoopStep-sum (omega arith) (omega arith) x y z a b c h q
+
+-- a call did not fail
+pub LoopStep-ok : {A : Type 0} {w : Bool} {n : ℕ} (r : Result A Fault) (v : A) (x y : Headless) (a b : Seen) → r ≡ Ok v → LoopStep w n (faults_of r) x y a b → LoopStep w n 0 x y a b
+LoopStep-ok r v x y a b e h = rw e at h
+
+-- nothing failed so far
+pub LoopStep-good : {A : Type 0} {w : Bool} {n : ℕ} (r : Result A Fault) (x y : Headless) (a b : Seen) → is_ok r ≡ true → LoopStep w n (faults_of r) x y a b → LoopStep w n 0 x y a b
+LoopStep-good (Ok v) x y a b e h = h
+LoopStep-good (Err f) x y a b e h = absurd (false≢true e)
+
+-- what is seen of more than one turn
+pub LoopStep-wider : {n f : ℕ} (x y : Headless) (a b : Seen) → LoopStep true n f x y a b → LoopStep false n f x y a b
+LoopStep-wider x y a b h = record {
+  turns = h.turns;
+  counts = h.counts;
+  told = h.told;
+  asked = h.asked;
+  wakes = h.wakes;
+  listens = h.listens;
+  gained = h.gained;
+  taken = h.taken;
+  closed = h.closed;
+  grows = λ t. absurd (false≢true t);
+  causes = h.causes;
+  quits = h.quits;
+  agrees = h.agrees;
+  goes = h.goes;
+}
+
+-- nothing is taken, and the loop changes nothing that its clients or the happenings see
+pub LoopStep-still : (x y : Headless) (a b : Seen) → Call a b [] → y.turns ≡ x.turns → y.core.starved ≡ x.core.starved → y.core.quits ≡ x.core.quits → y.ran ≡ x.ran
+    → (AgreesWithSockets x a → closed_so_far y ≡ closed_so_far x)
+    → (AgreesOnLinks x.links.opened.items x.core.connections x.used x.listening a → AgreesOnLinks y.links.opened.items y.core.connections y.used y.listening b)
+    → (IsTrue b.tells → AgreesWithHappenings x.clock x.links.opened.items x.used x.ran a.taken → AgreesWithHappenings y.clock y.links.opened.items y.used y.ran a.taken)
+    → (IsTrue b.tells → AgreesWithSockets x a → MomentAdvances (moment x a) (moment y b) [] [])
+    → LoopStep true 0 0 x y a b
+LoopStep-still x y a b call turns starved quits ran closed among told advances =
+    LoopStep-step true 0 0 x y a b [] [] call (λ below. omega arith) refl refl
+    (λ t s. closed s ∙ sym (append-nil _)) (λ s. All-nil _) (λ over. quits ∙ over) among
+    (λ t s on. rw (append-nil a.taken) (told t (s.told (call.told t) (sym quits ∙ on))))
+    (λ t s. record { events = []; reaches = rw ran (ReachesEvents-none x.core.quits y.core.quits x.ran); rises = omega arith; advances = λ same below. advances t s })
+
+pub Rose-following : {A : Type 0} (r : Result A Fault) (p q n : ℕ) → p ≤ q → OnErr r (Rose q n) → OnErr r (Rose p n)
+Rose-following (Ok v) p q n below h = tt
+Rose-following (Err f) p q n below h = omega arith
+
+pub Rose-later : {A : Type 0} (r : Result A Fault) (p q n : ℕ) → q ≤ n → OnErr r (Rose p q) → OnErr r (Rose p n)
+Rose-later (Ok v) p q n below h = tt
+Rose-later (Err f) p q n below h = omega arith
+
+-- the links that a turn closes
+pub turn-closes : {f : ℕ} (x z w : Headless) (a b c : Seen) → AgreesWithSockets x a → z.links.closed.items ≡ [] → NobodyLeaving z.core.connections → NobodyLeaving w.core.connections → (h : LoopStep false 1 0 x z a b) → (q : LoopStep true 0 f z w b c) → w.links.closed.items ≡ q.closed
+turn-closes x z w a b c s empty calm calm' h q =
+    sym (ap (λ cs. w.links.closed.items ++ cs) calm' ∙ append-nil _) ∙ q.grows refl (h.agrees s) ∙ ap (λ cs. (cs ++ leaving_closes z.core.connections) ++ q.closed) empty ∙ ap (λ cs. cs ++ q.closed) calm
+
+pub turn-causes : {f : ℕ} (x z w : Headless) (a b c : Seen) → AgreesWithSockets x a → z.links.closed.items ≡ [] → NobodyLeaving z.core.connections → NobodyLeaving w.core.connections → (h : LoopStep false 1 0 x z a b) → (q : LoopStep true 0 f z w b c) → All (IsCaused a c) w.links.closed.items
+turn-causes x z w a b c s empty calm calm' h q = rw (turn-closes x z w a b c s empty calm calm' h q) (caused-following a b c q.closed h.gained q.told h.taken h.counts (q.causes (h.agrees s)))
+
+pub turn-continues : {f : ℕ} (x z w : Headless) (a b c : Seen) → LoopStep false 1 0 x z a b → LoopStep true 0 f z w b c → LoopStep false 1 f x w a c
+turn-continues {f} x z w a b c h q = LoopStep-sum (omega arith) (omega arith) x z w a b c h (LoopStep-wider z w b c q)
+
+exactly-by : {f : ℕ} (x z w : Headless) (a b c : Seen) → AgreesWithSockets x a → z.links.closed.items ≡ [] → NobodyLeaving z.core.connections → NobodyLeaving w.core.connections → (h : LoopStep false 1 0 x z a b) → h.closed ≡ [] → (q : LoopStep true 0 f z w b c) → (t : Bool) → c.tells ≡ t → ClosesExactly x w a c
+exactly-by x z w a b c s empty calm calm' h none q true t' =
+    let done = CoreTakes-trans (moment x a) (moment z b) (moment w c) x.ran z.ran w.ran h.closed q.closed h.gained q.gained (h.taken (q.told t')) h.quits q.quits (h.goes (q.told t') s) (q.goes t' (h.agrees s)) in
+    record {
+      gained = h.gained ++ q.gained;
+      taken = λ t. q.taken t ∙ ap (λ ts. ts ++ q.gained) (h.taken (q.told t)) ∙ append_assoc a.taken h.gained q.gained;
+      events = done.events;
+      reaches = λ t. done.reaches;
+      closed = λ t same below. turn-closes x z w a b c s empty calm calm' h q ∙ ap (λ cs. cs ++ q.closed) (sym none) ∙ sym (done.advances same below).closes;
+    }
+exactly-by x z w a b c s empty calm calm' h none q false t' = record {
+  gained = h.gained ++ q.gained;
+  taken = λ t. q.taken t ∙ ap (λ ts. ts ++ q.gained) (h.taken (q.told t)) ∙ append_assoc a.taken h.gained q.gained;
+  events = [];
+  reaches = λ t. absurd (false≢true (sym t' ∙ t));
+  closed = λ t. absurd (false≢true (sym t' ∙ t));
+}
+
+pub turn-closes-exactly : {f : ℕ} (x z w : Headless) (a b c : Seen) → AgreesWithSockets x a → z.links.closed.items ≡ [] → NobodyLeaving z.core.connections → NobodyLeaving w.core.connections → (h : LoopStep false 1 0 x z a b) → h.closed ≡ [] → (q : LoopStep true 0 f z w b c) → ClosesExactly x w a c
+turn-closes-exactly x z w a b c s empty calm calm' h none q = exactly-by x z w a b c s empty calm calm' h none q c.tells refl

@@ -1,0 +1,19 @@
+use Rattle.std.proofs.Common.{◌≡◌, ◌≤◌, ◌-◌, ◌^◌, ℕ, true}
+use Rattle.wc_turns.specs.Contained.{KeepsLinks}
+use Rattle.wc_turns.specs.Served.{NobodyLeaving}
+use Rattle.wc_turns.specs.Sources.{IsSent, TakesNothing}
+use Rattle.wc_turns.specs.Turns.{LoopStep}
+use Rattle.wc_turns.proofs.serve.send_all.Given as goal
+
+abbrev pub invariant-loop-link : goal.invariant-loop-link
+invariant-loop-link g l = record {
+  continues : LoopStep true 0 0 l.fn.headless l.headless (g.S.Sockets.seen l.fn.sockets) (g.S.Sockets.seen l.sockets);
+  calm : NobodyLeaving l.headless.core.connections;
+  contained : KeepsLinks l.fn.headless l.headless;
+  quits : l.headless.core.quits ≡ true;
+  sent : (link : ℕ) → 1 ≤ link → link ≤ l.last → IsSent link l.headless.core.connections (g.S.Sockets.seen l.fn.sockets) (g.S.Sockets.seen l.sockets);
+  nothing : TakesNothing (g.S.Sockets.seen l.fn.sockets) (g.S.Sockets.seen l.sockets);
+}
+
+abbrev pub decreases-loop-link : goal.decreases-loop-link
+decreases-loop-link g l = 2 ^ 64 - l.last

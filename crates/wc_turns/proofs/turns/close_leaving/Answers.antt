@@ -1,0 +1,31 @@
+use Rattle.std.proofs.Common.{refl, sym, ap, ◌∙◌, not, eqb, []}
+use Rattle.std.proofs.lemmas.List.{append-nil}
+use Rattle.wc_turns.proofs.TurnLemmas.{LoopStep-trans}
+use Rattle.wc_turns.proofs.CloseLemmas.{LoopStep-close}
+use Rattle.wc_turns.proofs.ContainedLemmas.{KeepsLinks-close}
+use Rattle.wc_turns.proofs.SourceLemmas.{NothingBecameReady-drained, TakesNothing-call, kept-other}
+use Rattle.wc_turns.proofs.PartLemmas.{ClosesLeaving-first, fewer-parted, departure-same}
+use Rattle.wc_turns.proofs.turns.close_leaving.Goals as goal
+
+pub returns : goal.returns
+returns g c =
+    let s = c.flush_leaving.ensures in
+    let e = c.close.ensures in
+    let d = c.args.departure in
+    let x = c.args.headless.now in
+    let y = c.flush_leaving.new.headless in
+    let a = g.S.Sockets.seen c.args.sockets.now in
+    let b = g.S.Sockets.seen c.flush_leaving.new.sockets in
+    let last = g.S.Sockets.seen c.close.new.self in
+    let first = departure-same x.core.connections y.core.connections d s.sends.leaving c.requires.first in
+    let whole = LoopStep-trans x y _ a b last s.continues
+    (LoopStep-close y _ d b last first
+    (record { core = c.forget.ensures; clock = refl; used = refl; listening = refl; turns = refl; ran = refl; opened = c.close-2.ensures.opened; closed = c.close-2.ensures.closed })
+    (record { told = e.told; taken = λ t. e.taken t ∙ sym (append-nil _); asked = e.asked; counts = e.counts })
+    e.sent e.choked e.used e.there e.undrained e.listening s.done) in
+    record {
+      continues = whole;
+      parts = ClosesLeaving-first x y _ a b last d c.requires.first e.told s.sends c.forget.ensures (KeepsLinks-close y _ d.link d.cause refl (ap (λ o. o.starved) c.forget.ensures) c.close-2.ensures.opened c.close-2.ensures.closed)
+          (NothingBecameReady-drained b last (λ k. not (eqb k d.link.0)) e.undrained e.listening) (TakesNothing-call b last [] (λ t. e.taken t ∙ sym (append-nil _)) (λ k. refl) refl) (λ k n. e.blocked k ∙ kept-other k d.link.0 _ n);
+      fewer = fewer-parted x.core y.core c.forget.new.self d first s.sends.links c.forget.ensures;
+    }

@@ -1,0 +1,44 @@
+use Rattle.std.proofs.Common.{refl}
+use Rattle.wc_turns.proofs.TurnLemmas.{LoopStep-trans}
+use Rattle.wc_turns.proofs.CloseLemmas.{LoopStep-refl}
+use Rattle.wc_turns.proofs.SourceLemmas.{later-of, TakesNothing-trans}
+use Rattle.wc_turns.proofs.PartLemmas.{SendsOn-refl, SendsOn-trans, FailureIgnored-later, IsSent-following}
+use Rattle.wc_turns.proofs.PartLemmas.{KeepsLinks-sends}
+use Rattle.wc_turns.proofs.turns.send_link.Goals as goal
+
+pub loop-link-init : goal.loop-link-init
+loop-link-init g c = record { continues = LoopStep-refl _ _; missed = c.requires.missed; sends = SendsOn-refl _ _ _ }
+
+pub returns-then-not-send_once-clause-continues : goal.returns-then-not-send_once-clause-continues
+returns-then-not-send_once-clause-continues g c = LoopStep-trans _ c.loop-link.headless _ _ (g.S.Sockets.seen c.loop-link.sockets) _ c.loop-link.invariant.continues c.send_once.ensures.continues
+
+pub returns-then-not-send_once-clause-sends : goal.returns-then-not-send_once-clause-sends
+returns-then-not-send_once-clause-sends g c =
+    let e = c.send_once.ensures in
+    SendsOn-trans c.args.link.0 _ c.loop-link.headless _ _ (g.S.Sockets.seen c.loop-link.sockets) _ e.continues.told c.loop-link.invariant.sends e.sends
+
+pub returns-then-not-send_once-clause-done : goal.returns-then-not-send_once-clause-done
+returns-then-not-send_once-clause-done g c =
+    let i = c.loop-link.invariant in
+    let e = c.send_once.ensures in
+    IsSent-following c.args.link.0 c.send_once.new.headless.core.connections (g.S.Sockets.seen c.args.sockets.now) (g.S.Sockets.seen c.loop-link.sockets) (g.S.Sockets.seen c.send_once.new.sockets) (later-of _ _ i.continues) i.continues.counts e.continues.told (c.if-not-send_once.ensures.done refl)
+
+pub returns-then-not-send_once-clause-nothing : goal.returns-then-not-send_once-clause-nothing
+returns-then-not-send_once-clause-nothing g c =
+    let e = c.send_once.ensures in
+    TakesNothing-trans _ (g.S.Sockets.seen c.loop-link.sockets) _ e.continues.told c.loop-link.invariant.sends.nothing e.sends.nothing
+
+pub loop-link-preserved : goal.loop-link-preserved
+loop-link-preserved g c =
+    let i = c.loop-link.invariant in
+    let e = c.send_once.ensures in
+    record {
+      continues = LoopStep-trans _ c.loop-link.headless _ _ (g.S.Sockets.seen c.loop-link.sockets) _ i.continues e.continues;
+      missed = FailureIgnored-later c.args.link.0 c.loop-link.headless c.send_once.new.headless (g.S.Sockets.seen c.loop-link.sockets) (g.S.Sockets.seen c.send_once.new.sockets) e.sends i.missed;
+      sends = SendsOn-trans c.args.link.0 _ c.loop-link.headless _ _ (g.S.Sockets.seen c.loop-link.sockets) _ e.continues.told i.sends e.sends;
+    }
+
+pub returns-then-not-send_once-clause-contained : goal.returns-then-not-send_once-clause-contained
+returns-then-not-send_once-clause-contained g c =
+    let e = c.send_once.ensures in
+    KeepsLinks-sends c.args.link.0 _ _ _ _ (SendsOn-trans c.args.link.0 c.args.headless.now c.loop-link.headless c.send_once.new.headless (g.S.Sockets.seen c.args.sockets.now) (g.S.Sockets.seen c.loop-link.sockets) (g.S.Sockets.seen c.send_once.new.sockets) e.continues.told c.loop-link.invariant.sends e.sends)

@@ -1,0 +1,73 @@
+-- The events that the happenings of the sockets spell.
+use Rattle.std.specs.Prelude.{ℕ, ◌+◌, Bool, true, List, [], ◌∷◌, ◌++◌, length, if◌then◌else◌, ◌==◌, nat_lt, nat_le, ◌||◌, Option, Some, None}
+use Rattle.std.specs.List.{flat_map}
+use Rattle.wc_outside.specs.declared.happening.Happening.{Happening}
+use Rattle.wc_outside.specs.declared.happening.Happening.TheVariants.{Woke, Accepted, Read, Ended, Failed, ListenFailed}
+use Rattle.wc_core.specs.Events.{Event, Start, Tick, Arrives, Line, Ends, Fails, ListenFails}
+use Rattle.wc_turns.specs.Lines.{ended_lines, rest, without_cr, line_limit}
+
+-- the bytes of a happening that came on a link
+abbrev pub bytes_on : ℕ → Happening → List ℕ
+bytes_on link (Read other bytes) = if other.0 == link then bytes else []
+bytes_on link (Woke moment) = []
+bytes_on link (Accepted other nonce) = []
+bytes_on link (Ended other) = []
+bytes_on link (Failed other) = []
+bytes_on link ListenFailed = []
+
+-- what comes after the last LF of all bytes that came on a link
+abbrev pub tail_on : ℕ → List Happening → List ℕ
+tail_on link happenings = rest [] (flat_map (bytes_on link) happenings)
+
+-- a wake is the start, or a tick where it comes 100 milliseconds after the last one, or before it
+abbrev pub is_tick : ℕ → ℕ → Bool
+is_tick last moment = nat_lt moment last || nat_le (last + 100) moment
+
+-- whether the return of a wait is the start or a tick
+abbrev pub is_event : Option ℕ → ℕ → Bool
+is_event None moment = true
+is_event (Some last) moment = is_tick last moment
+
+abbrev pub clock_from : Option ℕ → List Happening → Option ℕ
+clock_from last [] = last
+clock_from None (Woke moment ∷ happenings) = clock_from (Some moment) happenings
+clock_from (Some last) (Woke moment ∷ happenings) = clock_from (Some (if is_tick last moment then moment else last)) happenings
+clock_from last (Accepted link nonce ∷ happenings) = clock_from last happenings
+clock_from last (Read link bytes ∷ happenings) = clock_from last happenings
+clock_from last (Ended link ∷ happenings) = clock_from last happenings
+clock_from last (Failed link ∷ happenings) = clock_from last happenings
+clock_from last (ListenFailed ∷ happenings) = clock_from last happenings
+
+-- the moment of the last tick, or of the start
+abbrev pub clock : List Happening → Option ℕ
+clock happenings = clock_from None happenings
+
+abbrev pub wake_events : Option ℕ → ℕ → List Event
+wake_events None moment = Start moment ∷ []
+wake_events (Some last) moment = if is_tick last moment then Tick moment ∷ [] else []
+
+-- a line of a link, unless it is too long
+abbrev pub line_events : ℕ → List ℕ → List Event
+line_events link line = if nat_le (length line) line_limit then Line link (without_cr line) ∷ [] else []
+
+-- the events that bytes spell on a link, on which `line` is already
+abbrev pub read_events : ℕ → List ℕ → List ℕ → List Event
+read_events link line bytes = flat_map (line_events link) (ended_lines line bytes)
+
+-- the events of a happening, after those that came before
+abbrev pub events_of : List Happening → Happening → List Event
+events_of before (Woke moment) = wake_events (clock before) moment
+events_of before (Accepted link nonce) = Arrives link.0 nonce ∷ []
+events_of before (Read link bytes) = read_events link.0 (tail_on link.0 before) bytes
+events_of before (Ended link) = Ends link.0 ∷ []
+events_of before (Failed link) = Fails link.0 ∷ []
+events_of before ListenFailed = ListenFails ∷ []
+
+-- the events of happenings, after those that came before
+abbrev pub events_from : List Happening → List Happening → List Event
+events_from before [] = []
+events_from before (happening ∷ happenings) = events_of before happening ++ events_from (before ++ happening ∷ []) happenings
+
+-- all events
+abbrev pub whole : List Happening → List Event
+whole happenings = events_from [] happenings

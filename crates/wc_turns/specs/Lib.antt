@@ -1,0 +1,13 @@
+pub mod Contained
+pub mod Events
+pub mod Hands
+pub mod Lines
+pub mod Links
+pub mod Parts
+pub mod Run
+pub mod Served
+pub mod Sources
+pub mod Steps
+pub mod Tails
+pub mod Turns
+pub mod Waits

@@ -1,0 +1,230 @@
+ghost use Rattle.std.specs.Prelude.{◌≡◌, ◌≢◌, ◌⊎◌, ◌+◌, ◌-◌, ◌^◌, ◌<◌, ◌≤◌, ◌++◌, ◌∷◌, [], None, false, IfOk, IfSome, min, take};
+ghost use Rattle.std.specs.Option.{option_copied};
+ghost use Rattle.wc_outside.specs.declared.happening.Happening.TheVariants.{Read, Ended, Failed};
+ghost use Rattle.wc_outside.specs.Keyed.{at_key, IsKeyPlace};
+ghost use Rattle.wc_core.specs.State.{first_state};
+ghost use Rattle.wc_core.specs.Served.{connection_link, state_of, links_of, left_at, unsent_at, is_open_at, Absent};
+ghost use Rattle.wc_turns.specs.Events.{is_tick};
+ghost use Rattle.wc_turns.specs.Links.{link_number};
+ghost use Rattle.wc_turns.specs.Served.{NobodyLeaving, LeavesAtLine};
+
+use crate::feed::feed;
+use crate::link_state::{Closed, LinkState};
+use crate::links::Links;
+use std::alloc::Global;
+use wc_core::Core;
+use wc_outside::{Ready, Token};
+use wc_text::{Arrival, Cause, LinkId, NoMemory, Text};
+use wc_world::World;
+
+/// The state of a run, as it comes after its last turn.
+#[derive(Drop)]
+pub struct Headless {
+    pub(crate) alloc: Global,
+    pub(crate) core: Core,
+    pub(crate) links: Links,
+    /// The moment of the last tick, or of the start.
+    pub(crate) clock: Option<u64>,
+    /// How many link numbers are used.
+    pub(crate) used: u64,
+    /// Whether the listener was reported ready and is not drained.
+    pub(crate) listening: bool,
+    pub(crate) turns: u64,
+    pub(crate) ran: u64,
+}
+
+/// Whether the return of a wait is a tick, where the last one was at this moment.
+fn is_tick(last: u64, moment: u64) -> bool
+    ensures { result ≡ is_tick last moment }
+{
+    moment < last || moment - last >= 100
+}
+
+impl Headless {
+    ghost use Rattle.wc_turns.specs.Contained.{HasStarved};
+    ghost use Rattle.wc_turns.specs.Turns.{TakesHappening};
+    ghost use Rattle.wc_turns.specs.Steps.{LinkComes, ServesArrival, MarksLink, ReportsSources, BeginsTurn, reached_after_miss};
+
+    /// The state before the first turn, for clients that log in by this password, and with buffers of at most so many lines.
+    pub fn new(alloc: Global, password: Text, limit: u32) -> Result<Headless, NoMemory>
+        requires some { 1 ≤ limit }
+        requires most { limit ≤ 4096 }
+        ensures state { IfOk result (λ headless. state_of headless.core ≡ first_state password limit) }
+        ensures core { IfOk result (λ headless. (headless.core.connections ≡ []) × (headless.core.starved ≡ 0) × (headless.core.quits ≡ false)) }
+        ensures links { IfOk result (λ headless. (headless.links.opened.items ≡ []) × (headless.links.closed.items ≡ [])) }
+        ensures rest { IfOk result (λ headless. (headless.clock ≡ None) × (headless.used ≡ 0) × (headless.listening ≡ false) × (headless.turns ≡ 0) × (headless.ran ≡ 0)) }
+    {
+        let links = Links::new(alloc)?;
+        let core = Core::new(alloc, password, limit)?;
+        Ok(Headless {
+            alloc,
+            core,
+            links,
+            clock: None,
+            used: 0,
+            listening: false,
+            turns: 0,
+            ran: 0,
+        })
+    }
+
+    /// Serves bytes of a link. Clients may begin to leave.
+    pub(crate) fn bytes_came(&mut self, place: usize, link: LinkId, bytes: &[u8])
+        requires place { IsKeyPlace link_number link.0 self.old.links.opened.items place }
+        requires going { self.old.core.quits ≡ false }
+        ensures takes { TakesHappening self.old self.new (Read link bytes.now) }
+        ensures causes { LeavesAtLine link.0 self.old.core self.new.core }
+    {
+        feed(
+            &mut self.core,
+            link,
+            &mut self.links.opened[place].tail,
+            bytes,
+            &mut self.ran,
+        );
+    }
+
+    /// Serves the end of a link, or its failure. Its client begins to leave.
+    pub(crate) fn link_gone(&mut self, link: LinkId, cause: Cause)
+        requires going { self.old.core.quits ≡ false }
+        requires cause { cause ≢ Cause.NoMemory }
+        ensures ended { cause ≡ Cause.Ended → TakesHappening self.old self.new (Ended link) }
+        ensures failed { cause ≡ Cause.Failed → TakesHappening self.old self.new (Failed link) }
+        ensures core { self.new.core ≡ record self.old.core { connections = left_at link.0 cause self.old.core.connections (at_key connection_link link.0 self.old.core.connections) } }
+        ensures gone { is_open_at (at_key connection_link link.0 self.new.core.connections) ≡ false }
+    {
+        self.ran = self.ran.saturating_add(1);
+        self.core.link_gone(link, cause);
+    }
+
+    /// Counts an event that changes nothing, as the failure of a link whose client is leaving, or that of the listener.
+    /// After `/quit` no event is reached.
+    pub(crate) fn link_missed(&mut self)
+        ensures { self.new ≡ record self.old { ran = reached_after_miss self.old.core.quits self.old.ran } }
+    {
+        if self.core.quits() {
+            return;
+        }
+        self.ran = self.ran.saturating_add(1);
+    }
+
+    /// Serves an arrival. Whether its link is to be closed at once: its client is one too many, and the link is listed as
+    /// closed; or there is no memory for a client or for a line of the link, and then it may not be listed.
+    pub(crate) fn link_came(&mut self, arrival: Arrival) -> bool
+        ensures comes { LinkComes self.old self.new arrival.link }
+        ensures serves { ServesArrival result self.old self.new arrival.link arrival.nonce }
+    {
+        self.used = arrival.link.0;
+        self.ran = self.ran.saturating_add(1);
+        if self.links.admit(self.alloc, arrival.link).is_err() {
+            self.starve(arrival);
+            return true;
+        }
+        match self.core.accepted(arrival) {
+            Some(cause) => {
+                self.links.close(arrival.link, cause);
+                true
+            }
+            None => false,
+        }
+    }
+
+    /// Serves an arrival for whose link there is no memory.
+    fn starve(&mut self, arrival: Arrival)
+        ensures core { self.new ≡ record self.old { core = record self.old.core { connections = self.new.core.connections; starved = self.new.core.starved } } }
+        ensures starved { HasStarved self.old.core.starved self.new.core.starved }
+        ensures rises { self.old.core.starved ≤ self.new.core.starved }
+        ensures connections { Absent arrival.link.0 (links_of self.old.core) → self.new.core.connections ≡ self.old.core.connections }
+        ensures calm { NobodyLeaving self.old.core.connections → NobodyLeaving self.new.core.connections }
+    {
+        let _refused = self.core.accepted(arrival);
+        self.core.link_gone(arrival.link, Cause::NoMemory);
+        self.core.forget(arrival.link);
+    }
+
+    /// Keeps a source as one that was reported and is not drained.
+    fn mark(&mut self, token: Token)
+        ensures { MarksLink self.old self.new token }
+    {
+        match token {
+            Token::Listener => self.listening = true,
+            Token::Link(link) => self.links.mark(link, true),
+        }
+    }
+
+    /// Keeps the sources that a wait reported.
+    pub(crate) fn report(&mut self, ready: &Ready)
+        ensures { ReportsSources self.old self.new (take ready.now.count ready.now.tokens) }
+    {
+        for place in 0..ready.count {
+            self.mark(ready.tokens[place]);
+        }
+    }
+
+    /// Begins a turn at the moment at which a wait returned.
+    pub(crate) fn begin_turn(&mut self, moment: u64)
+        ensures begins { BeginsTurn self.old self.new moment }
+        ensures closed { self.new.links.closed.items ≡ [] }
+    {
+        let reached = self.ran.saturating_add(1);
+        self.turns = self.turns.saturating_add(1);
+        self.links.begin_turn();
+        match self.clock {
+            None => self.core.start(moment),
+            Some(last) if is_tick(last, moment) => self.core.tick(moment),
+            Some(_) => return,
+        }
+        self.clock = Some(moment);
+        self.ran = reached;
+    }
+
+    /// The links that are open, in the order of their numbers.
+    pub fn links(&self) -> &[LinkState]
+        ensures { result.now ≡ self.now.links.opened.items }
+    {
+        self.links.opened.as_slice()
+    }
+
+    /// The links that were closed in the last turn, in order, each with its cause.
+    pub fn closed(&self) -> &[Closed]
+        ensures { result.now ≡ self.now.links.closed.items }
+    {
+        self.links.closed.as_slice()
+    }
+
+    /// The bytes that a client is owed and that are not sent yet. There are none exactly where the
+    /// link has no client.
+    pub fn unsent(&self, link: LinkId) -> Option<&[u8]>
+        ensures { option_copied result ≡ unsent_at (at_key connection_link link.0 self.now.core.connections) }
+    {
+        self.core.unsent(link)
+    }
+
+    /// How often want of memory cut something short or took a client out.
+    pub fn starved(&self) -> u64
+        ensures { result ≡ self.now.core.starved }
+    {
+        self.core.starved()
+    }
+
+    /// The buffers, with their lines.
+    pub fn world(&self) -> &World
+        ensures { result.now ≡ self.now.core.world }
+    {
+        self.core.world()
+    }
+
+    /// How many waits returned.
+    pub fn turns(&self) -> u64
+        ensures { result ≡ self.now.turns }
+    {
+        self.turns
+    }
+
+    /// How many events were reached.
+    pub fn ran(&self) -> u64
+        ensures { result ≡ self.now.ran }
+    {
+        self.ran
+    }
+}

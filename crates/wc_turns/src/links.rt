@@ -1,0 +1,94 @@
+ghost use Rattle.std.specs.Prelude.{◌≡◌, ◌+◌, ◌≤◌, ◌++◌, ◌∷◌, [], ◌==◌, OnOk, OnErr, IfOk, position, vec_len, vec_capacity};
+ghost use Rattle.wc_outside.specs.Keyed.{at_key, without, PlaceOf};
+
+use crate::link_state::{Closed, LinkState};
+use crate::tail::Tail;
+use std::alloc::Global;
+use wc_text::{Cause, LinkId, NoMemory};
+
+/// How many links there is room for from the start.
+const ROOM: usize = 192;
+
+/// The links that are open, in the order of their numbers, and those that were closed since the
+/// turn began. Each open link has its place among the closed ones, so that a close takes no memory.
+#[derive(Drop)]
+pub struct Links {
+    pub opened: Vec<LinkState>,
+    pub closed: Vec<Closed>,
+    ghost room: { vec_len opened + vec_len closed ≤ vec_capacity closed },
+}
+
+fn position_of(opened: &[LinkState], link: LinkId) -> Option<usize>
+    ensures { result ≡ position (λ state. state.link.0 == link.0) opened.now }
+{
+    opened.iter().position(|state| state.link == link)
+}
+
+impl Links {
+    ghost use Rattle.wc_turns.specs.Links.{link_number, new_state, with_closed, marked_at};
+
+    /// No link, with room for the first ones.
+    pub fn new(alloc: Global) -> Result<Links, NoMemory>
+        ensures opened { IfOk result (λ links. links.opened.items ≡ []) }
+        ensures closed { IfOk result (λ links. links.closed.items ≡ []) }
+    {
+        let opened = Vec::with_capacity(alloc, ROOM)?;
+        let closed = Vec::with_capacity(alloc, ROOM)?;
+        Ok(Links { opened, closed })
+    }
+
+    /// The place of an open link.
+    pub fn place(&self, link: LinkId) -> Option<usize>
+        ensures { PlaceOf link_number link.0 self.now.opened.items result }
+    {
+        position_of(&self.opened, link)
+    }
+
+    /// Takes a link in, with room for a line of it and for its close.
+    pub fn admit(&mut self, alloc: Global, link: LinkId) -> Result<(), NoMemory>
+        ensures ok { OnOk result (self.new.opened.items ≡ self.old.opened.items ++ new_state link ∷ []) }
+        ensures err { OnErr result (self.new.opened.items ≡ self.old.opened.items) }
+        ensures closed { self.new.closed.items ≡ self.old.closed.items }
+    {
+        let tail = Tail::new(alloc)?;
+        self.opened.reserve(1)?;
+        self.closed.reserve(self.opened.len() + 1)?;
+        self.opened.push_reserved(LinkState {
+            link,
+            server: None,
+            tail,
+            undrained: false,
+        });
+        Ok(())
+    }
+
+    /// Takes a link out, and lists it as closed, where it is there. It takes no memory.
+    pub fn close(&mut self, link: LinkId, cause: Cause)
+        ensures opened { self.new.opened.items ≡ without link_number link.0 self.old.opened.items }
+        ensures closed { self.new.closed.items ≡ with_closed (at_key link_number link.0 self.old.opened.items) self.old.closed.items (record { link = link; cause = cause }) }
+    {
+        if self.place(link).is_none() {
+            return;
+        }
+        self.opened.retain(|state| state.link != link);
+        self.closed.push_reserved(Closed { link, cause });
+    }
+
+    /// Marks a link as one that was reported ready, or as one that is drained.
+    pub fn mark(&mut self, link: LinkId, undrained: bool)
+        ensures opened { self.new.opened.items ≡ marked_at link.0 undrained self.old.opened.items (at_key link_number link.0 self.old.opened.items) }
+        ensures closed { self.new.closed ≡ self.old.closed }
+    {
+        if let Some(place) = self.place(link) {
+            self.opened[place].undrained = undrained;
+        }
+    }
+
+    /// Begins a turn, in which no link is closed yet.
+    pub fn begin_turn(&mut self)
+        ensures closed { self.new.closed.items ≡ [] }
+        ensures opened { self.new.opened ≡ self.old.opened }
+    {
+        self.closed.clear();
+    }
+}

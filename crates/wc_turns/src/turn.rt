@@ -1,0 +1,113 @@
+ghost use Rattle.std.specs.Prelude.{◌≡◌, ◌≢◌, All};
+ghost use Rattle.std.specs.List.{list_any};
+ghost use Rattle.wc_outside.specs.Faults.{Rose};
+
+use crate::headless::Headless;
+use crate::link_state::LinkState;
+use crate::serve::serve_ready;
+use crate::turn_end::TurnEnd;
+use wc_outside::{Failed, Keeper, Ready, Sockets};
+
+/// Whether one of the links is not drained.
+fn any_undrained(states: &[LinkState]) -> bool
+    ensures { result ≡ list_any (λ state. state.undrained) states.now }
+{
+    states.iter().any(|state| state.undrained)
+}
+
+impl Headless {
+    ghost use Rattle.std.specs.Prelude.{true, false, OnOk, OnErr};
+    ghost use Rattle.wc_turns.specs.Served.{NobodyLeaving};
+    ghost use Rattle.wc_turns.specs.Sources.{AllServed, AllSent, TakesWithin};
+    ghost use Rattle.wc_turns.specs.Turns.{AgreesWithSockets, LoopStep, IsCaused, ClosesExactly, waits_then, faults_then};
+    ghost use Rattle.wc_turns.specs.Waits.{has_undrained, timeout_of, then_of, WakesCore, LosesNone};
+
+    /// Whether a source was reported ready and is not drained.
+    fn has_undrained(&self) -> bool
+        ensures { result ≡ has_undrained self.now }
+    {
+        self.listening || any_undrained(self.links())
+    }
+
+    /// How long the next wait may take, in milliseconds.
+    fn timeout(&self) -> u64
+        ensures { result ≡ timeout_of self.now }
+    {
+        if self.turns == 0 || self.has_undrained() {
+            return 0;
+        }
+        100
+    }
+
+    /// One turn: a wait, and what follows from it. Sources that are ready are read, each link up to
+    /// 1,048,576 bytes, at most 1,024 arrivals are taken, and then unsent bytes are written. The
+    /// wait does not block where a source was left undrained, and else for 100 ms at most. Where
+    /// `/quit` is run, nothing more is read, and what is unsent is written once.
+    ///
+    /// The sockets are those that this state was made with, and `/quit` was not run. The keeper is
+    /// not used yet.
+    pub fn turn<S: Sockets, K: Keeper>(&mut self, sockets: &mut S, keeper: &mut K) -> TurnEnd
+        requires agrees { AgreesWithSockets self.old (S.seen sockets.old) }
+        requires calm { NobodyLeaving self.old.core.connections }
+        requires going { self.old.core.quits ≡ false }
+        ensures continues { LoopStep false (waits_then result) (faults_then result) self.old self.new (S.seen sockets.old) (S.seen sockets.new) }
+        ensures agrees { AgreesWithSockets self.new (S.seen sockets.new) }
+        ensures calm { NobodyLeaving self.new.core.connections }
+        ensures causes { All (IsCaused (S.seen sockets.old) (S.seen sockets.new)) self.new.links.closed.items }
+        ensures served { result ≡ TurnEnd.GoOn → AllServed self.new.core.connections (S.seen sockets.old) (S.seen sockets.new) }
+        ensures sent { result ≡ TurnEnd.Quit → AllSent self.new.core.connections (S.seen sockets.old) (S.seen sockets.new) }
+        ensures within { TakesWithin (S.seen sockets.old) (S.seen sockets.new) }
+        ensures contained { LosesNone self.old self.new }
+        ensures closes { ClosesExactly self.old self.new (S.seen sockets.old) (S.seen sockets.new) }
+        ensures never { result ≢ TurnEnd.KeeperFault }
+        ensures quit { result ≡ TurnEnd.Quit → self.new.core.quits ≡ true }
+        ensures goes_on { result ≡ TurnEnd.GoOn → self.new.core.quits ≡ false }
+        ensures wait_fault { result ≡ TurnEnd.WaitFault → Rose (S.seen sockets.old).faults.waits (S.seen sockets.new).faults.waits }
+        ensures unwoken { result ≡ TurnEnd.WaitFault → self.new.core.quits ≡ false }
+        ensures listen_fault { result ≡ TurnEnd.ListenFault → Rose (S.seen sockets.old).faults.listens (S.seen sockets.new).faults.listens }
+        ensures kept { keeper.new ≡ keeper.old }
+    {
+        let mut ready = Ready::new();
+        if self.wake(sockets, &mut ready).is_err() {
+            return TurnEnd::WaitFault;
+        }
+        let listened = serve_ready(self, sockets, &ready);
+        self.turn_end(listened)
+    }
+
+    /// Waits, and begins a turn where the wait returns.
+    fn wake<S: Sockets>(&mut self, sockets: &mut S, ready: &mut Ready) -> Result<(), Failed>
+        requires agrees { AgreesWithSockets self.old (S.seen sockets.old) }
+        requires calm { NobodyLeaving self.old.core.connections }
+        requires going { self.old.core.quits ≡ false }
+        ensures woken { OnOk result (WakesCore 1 self.old self.new (S.seen sockets.old) (S.seen sockets.new)) }
+        ensures failed { OnErr result (WakesCore 0 self.old self.new (S.seen sockets.old) (S.seen sockets.new)) }
+        ensures fault { OnErr result (Rose (S.seen sockets.old).faults.waits (S.seen sockets.new).faults.waits) }
+    {
+        let _idle = self.core.world();
+        match sockets.wait(self.timeout(), ready) {
+            Ok(moment) => {
+                self.begin_turn(moment);
+                self.report(ready);
+                Ok(())
+            }
+            Err(Failed) => {
+                self.links.begin_turn();
+                Err(Failed)
+            }
+        }
+    }
+
+    /// How a turn ended whose wait returned.
+    fn turn_end(&self, listened: Result<(), Failed>) -> TurnEnd
+        ensures { result ≡ then_of listened self.now.core.quits }
+    {
+        if listened.is_err() {
+            return TurnEnd::ListenFault;
+        }
+        if self.core.quits() {
+            return TurnEnd::Quit;
+        }
+        TurnEnd::GoOn
+    }
+}
