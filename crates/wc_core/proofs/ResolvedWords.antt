@@ -11,7 +11,7 @@ use Rattle.std.proofs.lemmas.Bool.Decides.{nat_tests}
 use Rattle.wc_buffers.specs.Groups.{rows, AllFilled}
 use Rattle.wc_buffers.specs.Kept.{handles, AreBuffers}
 use Rattle.wc_core.specs.Resolved.{first_in, first_in_group, first_of_number}
-use Rattle.wc_relaycmd.specs.Cuts.{before, following}
+use Rattle.wc_text.specs.Splits.{before, text_after}
 use Rattle.wc_core.specs.Typed.{tags_of}
 
 -- what is before the first dot
@@ -86,11 +86,11 @@ abbrev parts_after : Option (List ℕ) → List (List ℕ)
 parts_after None = []
 parts_after (Some text) = slice_split (λ b. eqb b 44) text
 
-parts_front : (text : List ℕ) → slice_split (λ b. eqb b 44) text ≡ before 44 text ∷ parts_after (following 44 text)
+parts_front : (text : List ℕ) → slice_split (λ b. eqb b 44) text ≡ before 44 text ∷ parts_after (text_after 44 text)
 parts_front [] = refl
 parts_front (b ∷ text) = by (eqb b 44) (parts_front text) where
-  by : (t : Bool) → slice_split (λ b. eqb b 44) text ≡ before 44 text ∷ parts_after (following 44 text)
-      → cond t ([] ∷ slice_split (λ b. eqb b 44) text) (onto_first b (slice_split (λ b. eqb b 44) text)) ≡ cond t [] (b ∷ before 44 text) ∷ parts_after (cond t (Some text) (following 44 text))
+  by : (t : Bool) → slice_split (λ b. eqb b 44) text ≡ before 44 text ∷ parts_after (text_after 44 text)
+      → cond t ([] ∷ slice_split (λ b. eqb b 44) text) (onto_first b (slice_split (λ b. eqb b 44) text)) ≡ cond t [] (b ∷ before 44 text) ∷ parts_after (cond t (Some text) (text_after 44 text))
   by true more = refl
   by false more = ap (onto_first b) more
 
@@ -102,16 +102,16 @@ tags_left (Some text) = tags_of text.now
 abbrev tags_after : Option (List ℕ) → List (List ℕ)
 tags_after o = filter is_filled (parts_after o)
 
-tags_left-following : (left : Option (Bor (List ℕ))) → tags_left left ≡ tags_after (option_copied left)
-tags_left-following None = refl
-tags_left-following (Some text) = refl
+tags_left-text_after : (left : Option (Bor (List ℕ))) → tags_left left ≡ tags_after (option_copied left)
+tags_left-text_after None = refl
+tags_left-text_after (Some text) = refl
 
 one_more : (b : Bool) (tag : List ℕ) (tags : List (List ℕ)) → cond b (tag ∷ tags) tags ≡ cond b (tag ∷ []) [] ++ tags
 one_more true tag tags = refl
 one_more false tag tags = refl
 
 -- the first tag, and the others
-pub tags_split : (text : List ℕ) (left : Option (Bor (List ℕ))) → option_copied left ≡ following 44 text → tags_of text ≡ filter is_filled (before 44 text ∷ []) ++ tags_left left
+pub tags_split : (text : List ℕ) (left : Option (Bor (List ℕ))) → option_copied left ≡ text_after 44 text → tags_of text ≡ filter is_filled (before 44 text ∷ []) ++ tags_left left
 tags_split text left e =
-    ap (filter is_filled) (parts_front text) ∙ one_more (is_filled (before 44 text)) (before 44 text) (tags_after (following 44 text))
-    ∙ ap (λ tags. filter is_filled (before 44 text ∷ []) ++ tags) (sym (tags_left-following left ∙ ap tags_after e))
+    ap (filter is_filled) (parts_front text) ∙ one_more (is_filled (before 44 text)) (before 44 text) (tags_after (text_after 44 text))
+    ∙ ap (λ tags. filter is_filled (before 44 text ∷ []) ++ tags) (sym (tags_left-text_after left ∙ ap tags_after e))

@@ -3,7 +3,7 @@ use Rattle.std.proofs.Common.{◌≡◌, ◌≢◌, ℕ, ◌≤◌, Bool, true, 
 use Rattle.std.specs.Prelude.{map}
 use Rattle.std.specs.List.{flat_map}
 use Rattle.std.specs.Option.{is_none, option_copied}
-use Rattle.wc_relaycmd.specs.Cuts.{before, following}
+use Rattle.wc_text.specs.Splits.{before, text_after}
 use Rattle.wc_core.proofs.TypedLemmas.{lines_left-split}
 use Rattle.std.specs.Borrow.{Bor}
 use Rattle.std.proofs.lemmas.Bool.{false≢true}
@@ -187,11 +187,11 @@ pub stops-starved : (a b : CoreView) (buffer : Handle) (line : List ℕ) → b.s
 stops-starved a b buffer line starved f = λ lines there.
     FollowsUnlessStarved-cut a b (typed_step (state_of a) buffer (typed_line line)) (lines_step (state_of a) buffer (line ∷ lines)) (λ j. does-closes j (state_of a) buffer (typed_line line)) starved f
 
-left_lines : (left : Option (Bor (List ℕ))) (rest : Bor (List ℕ)) (line : List ℕ) (others : Option (Bor (List ℕ))) → left ≡ Some rest → line ≡ before 10 rest.now → option_copied others ≡ following 10 rest.now → line ∷ lines_left others ≡ lines_left left
+left_lines : (left : Option (Bor (List ℕ))) (rest : Bor (List ℕ)) (line : List ℕ) (others : Option (Bor (List ℕ))) → left ≡ Some rest → line ≡ before 10 rest.now → option_copied others ≡ text_after 10 rest.now → line ∷ lines_left others ≡ lines_left left
 left_lines left rest line others e front back = ap (λ l. l ∷ lines_left others) front ∙ lines_left-split rest.now others back ∙ sym (ap lines_left e)
 
 -- a buffer that is not there, before the lines that are left
-pub gone_left : (a : CoreView) (buffer : Handle) (left : Option (Bor (List ℕ))) (rest : Bor (List ℕ)) (line : List ℕ) (others : Option (Bor (List ℕ))) → left ≡ Some rest → line ≡ before 10 rest.now → option_copied others ≡ following 10 rest.now
+pub gone_left : (a : CoreView) (buffer : Handle) (left : Option (Bor (List ℕ))) (rest : Bor (List ℕ)) (line : List ℕ) (others : Option (Bor (List ℕ))) → left ≡ Some rest → line ≡ before 10 rest.now → option_copied others ≡ text_after 10 rest.now
     → is_there buffer a.world.groups ≡ false → FollowsUnlessStarved a a (lines_step (state_of a) buffer (lines_left left))
 gone_left a buffer left rest line others e front back there =
     let P : List (List ℕ) → Type 0 = λ lines. FollowsUnlessStarved a a (lines_step (state_of a) buffer lines) in
@@ -200,14 +200,14 @@ gone_left a buffer left rest line others e front back there =
     subst P (left_lines left rest line others e front back) (subst Q (sym there) (FollowsUnlessStarved-stays a))
 
 -- a line after which the lines that are left are skipped
-pub quit_left : (a b : CoreView) (buffer : Handle) (left : Option (Bor (List ℕ))) (rest : Bor (List ℕ)) (line : List ℕ) (others : Option (Bor (List ℕ))) → left ≡ Some rest → line ≡ before 10 rest.now → option_copied others ≡ following 10 rest.now
+pub quit_left : (a b : CoreView) (buffer : Handle) (left : Option (Bor (List ℕ))) (rest : Bor (List ℕ)) (line : List ℕ) (others : Option (Bor (List ℕ))) → left ≡ Some rest → line ≡ before 10 rest.now → option_copied others ≡ text_after 10 rest.now
     → is_there buffer a.world.groups ≡ true → Stops a b buffer line → FollowsUnlessStarved a b (lines_step (state_of a) buffer (lines_left left))
 quit_left a b buffer left rest line others e front back there stops =
     let P : List (List ℕ) → Type 0 = λ lines. FollowsUnlessStarved a b (lines_step (state_of a) buffer lines) in
     subst P (left_lines left rest line others e front back) (stops (lines_left others) there)
 
 -- another line, before the lines that are left
-pub more_left : (a b c : CoreView) (buffer : Handle) (left : Option (Bor (List ℕ))) (rest : Bor (List ℕ)) (line : List ℕ) (others : Option (Bor (List ℕ))) → left ≡ Some rest → line ≡ before 10 rest.now → option_copied others ≡ following 10 rest.now
+pub more_left : (a b c : CoreView) (buffer : Handle) (left : Option (Bor (List ℕ))) (rest : Bor (List ℕ)) (line : List ℕ) (others : Option (Bor (List ℕ))) → left ≡ Some rest → line ≡ before 10 rest.now → option_copied others ≡ text_after 10 rest.now
     → is_there buffer a.world.groups ≡ true → GoesOn a b buffer line → FollowsUnlessStarved b c (lines_step (state_of b) buffer (lines_left others)) → FollowsUnlessStarved a c (lines_step (state_of a) buffer (lines_left left))
 more_left a b c buffer left rest line others e front back there f g =
     let P : List (List ℕ) → Type 0 = λ lines. FollowsUnlessStarved a c (lines_step (state_of a) buffer lines) in

@@ -6,9 +6,8 @@ use Rattle.std.proofs.lemmas.Str.{IsUtf8-nil, IsUtf8-append}
 use Rattle.std.specs.Str.{IsUtf8, bytes_eq}
 use Rattle.std.specs.Borrow.{Bor}
 use Rattle.std.specs.Option.{option_copied}
-use Rattle.wc_relaycmd.specs.Cuts.{before, following}
-use Rattle.wc_relaycmd.specs.Words.{word_of, rest_of}
-use Rattle.wc_relaycmd.proofs.WordLemmas.{Parts-made}
+use Rattle.wc_text.specs.Splits.{before, text_after, word_of, rest_of}
+use Rattle.wc_text.proofs.WordLemmas.{WordAndRest-made}
 use Rattle.wc_relaycmd.specs.Lists.{pieces_of}
 use Rattle.wc_relaycmd.specs.Utf8.{AreUtf8Words}
 use Rattle.wc_relaycmd.proofs.Utf8Lemmas.{cut_text, before_text, after_text, parts_text, put_byte, all_pieces_text}
@@ -58,7 +57,7 @@ typed_if false x y p q = q
 
 -- the first word of a text, and what comes after it
 word_text : (text : List ℕ) → IsUtf8 text → IsUtf8 (word_of text) × IsUtf8 (rest_of text)
-word_text text utf8 = parts_text text (word_of text) (rest_of text) (Parts-made text) utf8
+word_text text utf8 = parts_text text (word_of text) (rest_of text) (WordAndRest-made text) utf8
 
 second_text : (text : List ℕ) → IsUtf8 text → IsUtf8 (second_of text) × IsUtf8 (after_second text)
 second_text text utf8 = word_text (rest_of text) (word_text text utf8).1
@@ -86,8 +85,8 @@ tags_text word utf8 = filled_texts (pieces_of word) (all_pieces_text word utf8)
 
 printed_text : (buffer : Option (List ℕ)) (tags : List (List ℕ)) (text : List ℕ) → All IsUtf8 tags → IsUtf8 text → TypedUtf8 (print_words buffer tags text)
 printed_text buffer tags [] all utf8 = wrong_text (codes "print") (ascii_text (codes "print") refl)
-printed_text buffer tags (b ∷ text) all utf8 = by (following 9 (b ∷ text)) refl where
-  by : (o : Option (List ℕ)) → following 9 (b ∷ text) ≡ o → TypedUtf8 (print_unless_empty buffer tags (b ∷ text) o)
+printed_text buffer tags (b ∷ text) all utf8 = by (text_after 9 (b ∷ text)) refl where
+  by : (o : Option (List ℕ)) → text_after 9 (b ∷ text) ≡ o → TypedUtf8 (print_unless_empty buffer tags (b ∷ text) o)
   by None e = record { tags = all; prefix = IsUtf8-nil; message = utf8 }
   by (Some message) e = record { tags = all; prefix = before_text 9 (b ∷ text) (lit< tt) utf8; message = after_text 9 (b ∷ text) message (lit< tt) utf8 e }
 
@@ -209,30 +208,30 @@ abbrev pub lines_after : Option (List ℕ) → List (List ℕ)
 lines_after None = []
 lines_after (Some text) = lines_of_text text
 
-parted_front : (line text : List ℕ) → lines_parted line text ≡ (line ++ before 10 text) ∷ lines_after (following 10 text)
+parted_front : (line text : List ℕ) → lines_parted line text ≡ (line ++ before 10 text) ∷ lines_after (text_after 10 text)
 parted_front line [] = ap (λ l. l ∷ []) (sym (append-nil line))
 parted_front line (b ∷ text) = by (eqb b 10) (parted_front (line ++ b ∷ []) text) where
-  by : (t : Bool) → lines_parted (line ++ b ∷ []) text ≡ ((line ++ b ∷ []) ++ before 10 text) ∷ lines_after (following 10 text)
-      → cond t (line ∷ lines_parted [] text) (lines_parted (line ++ b ∷ []) text) ≡ (line ++ cond t [] (b ∷ before 10 text)) ∷ lines_after (cond t (Some text) (following 10 text))
+  by : (t : Bool) → lines_parted (line ++ b ∷ []) text ≡ ((line ++ b ∷ []) ++ before 10 text) ∷ lines_after (text_after 10 text)
+      → cond t (line ∷ lines_parted [] text) (lines_parted (line ++ b ∷ []) text) ≡ (line ++ cond t [] (b ∷ before 10 text)) ∷ lines_after (cond t (Some text) (text_after 10 text))
   by true more = ap (λ l. l ∷ lines_of_text text) (sym (append-nil line))
-  by false more = more ∙ ap (λ l. l ∷ lines_after (following 10 text)) (append_assoc line (b ∷ []) (before 10 text))
+  by false more = more ∙ ap (λ l. l ∷ lines_after (text_after 10 text)) (append_assoc line (b ∷ []) (before 10 text))
 
 -- the first line of a text, and the others
-pub parted_split : (text : List ℕ) → lines_of_text text ≡ before 10 text ∷ lines_after (following 10 text)
+pub parted_split : (text : List ℕ) → lines_of_text text ≡ before 10 text ∷ lines_after (text_after 10 text)
 parted_split text = parted_front [] text
 
-pub lines_left-following : (left : Option (Bor (List ℕ))) → lines_left left ≡ lines_after (option_copied left)
-lines_left-following None = refl
-lines_left-following (Some text) = refl
+pub lines_left-text_after : (left : Option (Bor (List ℕ))) → lines_left left ≡ lines_after (option_copied left)
+lines_left-text_after None = refl
+lines_left-text_after (Some text) = refl
 
 -- the first line is text, and so are the others
 pub first_utf8 : (text : List ℕ) → IsUtf8 text → IsUtf8 (before 10 text)
 first_utf8 text utf8 = before_text 10 text (lit< tt) utf8
 
-pub others_utf8 : (text : List ℕ) (left : Option (Bor (List ℕ))) → IsUtf8 text → option_copied left ≡ following 10 text → LeftUtf8 left
+pub others_utf8 : (text : List ℕ) (left : Option (Bor (List ℕ))) → IsUtf8 text → option_copied left ≡ text_after 10 text → LeftUtf8 left
 others_utf8 text None utf8 e = tt
 others_utf8 text (Some rest) utf8 e = after_text 10 text rest.now (lit< tt) utf8 (sym e)
 
 -- the lines that are left are those of the text
-pub lines_left-split : (text : List ℕ) (left : Option (Bor (List ℕ))) → option_copied left ≡ following 10 text → before 10 text ∷ lines_left left ≡ lines_of_text text
-lines_left-split text left e = ap (λ lines. before 10 text ∷ lines) (lines_left-following left ∙ ap lines_after e) ∙ sym (parted_split text)
+pub lines_left-split : (text : List ℕ) (left : Option (Bor (List ℕ))) → option_copied left ≡ text_after 10 text → before 10 text ∷ lines_left left ≡ lines_of_text text
+lines_left-split text left e = ap (λ lines. before 10 text ∷ lines) (lines_left-text_after left ∙ ap lines_after e) ∙ sym (parted_split text)

@@ -7,7 +7,7 @@ use Rattle.std.specs.Str.Parse.{digits_value}
 use Rattle.std.proofs.lemmas.Bool.{false≢true}
 use Rattle.std.proofs.lemmas.Bool.Decides.{nat_tests}
 use Rattle.wc_text.proofs.IntegerLemmas.{list_all_fails}
-use Rattle.wc_relaycmd.specs.Words.{word_of, rest_of}
+use Rattle.wc_text.specs.Splits.{word_of, rest_of}
 use Rattle.wc_model.specs.declared.change.What.TheVariants as what
 use Rattle.wc_core.specs.declared.buffer_word.BufferWord.{BufferWord}
 use Rattle.wc_core.specs.declared.buffer_word.BufferWord.TheVariants as words

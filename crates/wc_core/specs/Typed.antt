@@ -5,8 +5,7 @@ use Rattle.std.specs.Str.{bytes_eq}
 use Rattle.std.specs.Str.Parse.{digits_value}
 use Rattle.wc_text.specs.Integer.{is_numeral}
 use Rattle.wc_text.specs.Words.{is_filled}
-use Rattle.wc_relaycmd.specs.Cuts.{before, following}
-use Rattle.wc_relaycmd.specs.Words.{word_of, rest_of}
+use Rattle.wc_text.specs.Splits.{before, text_after, word_of, rest_of}
 use Rattle.wc_model.specs.declared.change.What.{What}
 use Rattle.wc_model.specs.declared.change.What.TheVariants as what
 
@@ -55,7 +54,7 @@ print_unless_empty buffer tags text (Some message) = Prints buffer tags (before 
 -- the text of a line is not empty
 abbrev pub print_words : Option (List ℕ) → List (List ℕ) → List ℕ → TypedCommand
 print_words buffer tags [] = wrong_arguments (codes "print")
-print_words buffer tags (b ∷ text) = print_unless_empty buffer tags (b ∷ text) (following 9 (b ∷ text))
+print_words buffer tags (b ∷ text) = print_unless_empty buffer tags (b ∷ text) (text_after 9 (b ∷ text))
 
 -- the tags of a word, which commas part
 abbrev pub tags_of : List ℕ → List (List ℕ)

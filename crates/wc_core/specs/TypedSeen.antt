@@ -4,7 +4,7 @@ use Rattle.std.specs.Str.{IsUtf8, bytes_eq}
 use Rattle.std.specs.Str.Parse.{digits_value}
 use Rattle.std.specs.Borrow.{Bor}
 use Rattle.wc_text.specs.Integer.{is_numeral}
-use Rattle.wc_relaycmd.specs.Words.{word_of, rest_of}
+use Rattle.wc_text.specs.Splits.{word_of, rest_of}
 use Rattle.wc_model.specs.declared.change.What.TheVariants as what
 use Rattle.wc_core.specs.declared.buffer_word.BufferWord.{BufferWord}
 use Rattle.wc_core.specs.declared.buffer_word.BufferWord.TheVariants as words

@@ -9,7 +9,7 @@ use crate::tags::read_tags;
 use std::alloc::Global;
 use wc_buffers::{BufferRow, BufferSpec, Buffers};
 use wc_model::{Change, LineSpec, What};
-use wc_relaycmd::split_once;
+use wc_text::split_once;
 use wc_text::{Handle, Items, NoMemory, Text};
 
 /// The handle of the core buffer.

@@ -30,9 +30,9 @@ use std::alloc::Global;
 use std::marker::Model;
 use wc_model::{Change, ChangeRefused, Notice};
 use wc_nickdiff::Pending;
-use wc_relaycmd::{Command, Request, read_request, split_once};
+use wc_relaycmd::{Command, Request, read_request};
 use wc_session::{Outcome, Session};
-use wc_text::{Arrival, Cause, Handle, LinkId, NoMemory, Text};
+use wc_text::{Arrival, Cause, Handle, LinkId, NoMemory, Text, split_once};
 use wc_world::World;
 
 /// How many clients are open at most.

@@ -18,4 +18,3 @@ mod typed_print;
 
 pub use connection::{Connection, Departure};
 pub use core_state::Core;
-

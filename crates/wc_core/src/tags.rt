@@ -3,8 +3,7 @@ ghost use Rattle.wc_text.specs.Words.{is_filled};
 ghost use Rattle.wc_core.specs.Typed.{tags_of};
 
 use std::alloc::Global;
-use wc_relaycmd::split_once;
-use wc_text::{Items, NoMemory, Text};
+use wc_text::{Items, NoMemory, Text, split_once};
 
 /// Puts a tag after the others, where it is not empty.
 fn push_filled(tags: &mut Items<Text>, alloc: Global, tag: &[u8]) -> Result<(), NoMemory>

@@ -4,7 +4,7 @@ ghost use Rattle.wc_core.specs.TypedSeen.{meaning};
 
 use crate::typed_buffer::buffer_command;
 use crate::typed_print::print_command;
-use wc_relaycmd::cut_word;
+use wc_text::cut_word;
 
 const UNKNOWN: &[u8] = b"unknown command: /";
 

@@ -1,13 +1,13 @@
 ghost use Rattle.std.specs.Prelude.{◌≡◌};
 ghost use Rattle.std.specs.Option.{option_copied};
-ghost use Rattle.wc_relaycmd.specs.Words.{word_of, rest_of};
+ghost use Rattle.wc_text.specs.Splits.{word_of, rest_of};
 ghost use Rattle.wc_core.specs.Typed.{Adds, Merges, wrong_buffer, one_word, without_words, some_text, moves_to, close_command, set_property, buffer_command};
 ghost use Rattle.wc_core.specs.TypedSeen.{meaning, only_word, property_set};
 
 use crate::buffer_word::{BufferWord, Property, read_property};
 use crate::number::read_number;
 use crate::typed::{CommandText, wrong_arguments};
-use wc_relaycmd::cut_word;
+use wc_text::cut_word;
 
 fn wrong_buffer<'a>() -> CommandText<'a>
     ensures { meaning result ≡ wrong_buffer }

@@ -3,7 +3,7 @@ ghost use Rattle.wc_core.specs.Typed.{print_words, print_tagged, print_on, print
 ghost use Rattle.wc_core.specs.TypedSeen.{meaning, word_in};
 
 use crate::typed::{CommandText, wrong_arguments};
-use wc_relaycmd::{cut_word, split_once};
+use wc_text::{cut_word, split_once};
 
 const BUFFER: &[u8] = b"-buffer";
 

@@ -3,13 +3,14 @@ use Rattle.std.proofs.Common.{◌≡◌, ℕ, ◌+◌, List, [], ◌∷◌, ◌+
 use Rattle.std.specs.List.{slice_split, onto_first, list_all}
 use Rattle.std.proofs.lemmas.Bool.{false≢true, eqb-true, eq-eqb, and_parts, and_from}
 use Rattle.std.proofs.lemmas.List.Folds.{list_all-append}
-use Rattle.wc_hdata.specs.Cuts.{before, following, pieces_at}
+use Rattle.wc_text.specs.Splits.{before, text_after}
+use Rattle.wc_hdata.specs.Pieces.{pieces_at}
 
 before-same : (c b : ℕ) (text : List ℕ) → b ≡ c → before c (b ∷ text) ≡ []
 before-same c b text e = ap (λ (t : Bool). cond t [] (b ∷ before c text)) (eq-eqb b c e)
 
-following-same : (c b : ℕ) (text : List ℕ) → b ≡ c → following c (b ∷ text) ≡ Some text
-following-same c b text e = ap (λ (t : Bool). cond t (Some text) (following c text)) (eq-eqb b c e)
+text_after-same : (c b : ℕ) (text : List ℕ) → b ≡ c → text_after c (b ∷ text) ≡ Some text
+text_after-same c b text e = ap (λ (t : Bool). cond t (Some text) (text_after c text)) (eq-eqb b c e)
 
 -- ---- texts without a byte
 abbrev pub lacks : ℕ → List ℕ → Bool
@@ -44,11 +45,11 @@ before-front c (b ∷ front) rest h = by (eqb b c) h (before-front c front rest)
   by true h more = absurd (false≢true h)
   by false h more = ap (λ (t : List ℕ). b ∷ t) (more h)
 
-following-front : (c : ℕ) (front rest : List ℕ) → lacks c front ≡ true → following c (front ++ rest) ≡ following c rest
-following-front c [] rest h = refl
-following-front c (b ∷ front) rest h = by (eqb b c) h (following-front c front rest) where
-  by : (t : Bool) → not t && lacks c front ≡ true → (lacks c front ≡ true → following c (front ++ rest) ≡ following c rest)
-      → cond t (Some (front ++ rest)) (following c (front ++ rest)) ≡ following c rest
+text_after-front : (c : ℕ) (front rest : List ℕ) → lacks c front ≡ true → text_after c (front ++ rest) ≡ text_after c rest
+text_after-front c [] rest h = refl
+text_after-front c (b ∷ front) rest h = by (eqb b c) h (text_after-front c front rest) where
+  by : (t : Bool) → not t && lacks c front ≡ true → (lacks c front ≡ true → text_after c (front ++ rest) ≡ text_after c rest)
+      → cond t (Some (front ++ rest)) (text_after c (front ++ rest)) ≡ text_after c rest
   by true h more = absurd (false≢true h)
   by false h more = more h
 
@@ -56,39 +57,39 @@ before-mark : (c : ℕ) (rest : Option (List ℕ)) → before c (from_mark c res
 before-mark c None = refl
 before-mark c (Some text) = before-same c c text refl
 
-following-mark : (c : ℕ) (rest : Option (List ℕ)) → following c (from_mark c rest) ≡ rest
-following-mark c None = refl
-following-mark c (Some text) = following-same c c text refl
+text_after-mark : (c : ℕ) (rest : Option (List ℕ)) → text_after c (from_mark c rest) ≡ rest
+text_after-mark c None = refl
+text_after-mark c (Some text) = text_after-same c c text refl
 
 pub before-joined : (c : ℕ) (front : List ℕ) (rest : Option (List ℕ)) → lacks c front ≡ true → before c (front ++ from_mark c rest) ≡ front
 before-joined c front rest h = before-front c front (from_mark c rest) h ∙ ap (λ (t : List ℕ). front ++ t) (before-mark c rest) ∙ append-nil front
 
-pub following-joined : (c : ℕ) (front : List ℕ) (rest : Option (List ℕ)) → lacks c front ≡ true → following c (front ++ from_mark c rest) ≡ rest
-following-joined c front rest h = following-front c front (from_mark c rest) h ∙ following-mark c rest
+pub text_after-joined : (c : ℕ) (front : List ℕ) (rest : Option (List ℕ)) → lacks c front ≡ true → text_after c (front ++ from_mark c rest) ≡ rest
+text_after-joined c front rest h = text_after-front c front (from_mark c rest) h ∙ text_after-mark c rest
 
-pub cut_joins : (c : ℕ) (text : List ℕ) → text ≡ before c text ++ from_mark c (following c text)
+pub cut_joins : (c : ℕ) (text : List ℕ) → text ≡ before c text ++ from_mark c (text_after c text)
 cut_joins c [] = refl
 cut_joins c (b ∷ text) = by (eqb b c) refl (cut_joins c text) where
-  by : (t : Bool) → eqb b c ≡ t → text ≡ before c text ++ from_mark c (following c text)
-      → b ∷ text ≡ cond t [] (b ∷ before c text) ++ from_mark c (cond t (Some text) (following c text))
+  by : (t : Bool) → eqb b c ≡ t → text ≡ before c text ++ from_mark c (text_after c text)
+      → b ∷ text ≡ cond t [] (b ∷ before c text) ++ from_mark c (cond t (Some text) (text_after c text))
   by true e more = ap (λ n. n ∷ text) (eqb-true b c e)
   by false e more = ap (λ (t : List ℕ). b ∷ t) more
 
 -- ---- pieces
 -- the first piece, and those after it
-pub pieces_cut : (c : ℕ) (text : List ℕ) → slice_split (λ b. eqb b c) text ≡ before c text ∷ pieces_at c (following c text)
+pub pieces_cut : (c : ℕ) (text : List ℕ) → slice_split (λ b. eqb b c) text ≡ before c text ∷ pieces_at c (text_after c text)
 pieces_cut c [] = refl
 pieces_cut c (b ∷ text) = by (eqb b c) (pieces_cut c text) where
-  by : (t : Bool) → slice_split (λ b. eqb b c) text ≡ before c text ∷ pieces_at c (following c text)
+  by : (t : Bool) → slice_split (λ b. eqb b c) text ≡ before c text ∷ pieces_at c (text_after c text)
       → cond t ([] ∷ slice_split (λ b. eqb b c) text) (onto_first b (slice_split (λ b. eqb b c) text))
-      ≡ cond t [] (b ∷ before c text) ∷ pieces_at c (cond t (Some text) (following c text))
+      ≡ cond t [] (b ∷ before c text) ∷ pieces_at c (cond t (Some text) (text_after c text))
   by true more = refl
   by false more = ap (onto_first b) more
 
 pub pieces_joined : (c : ℕ) (front : List ℕ) (rest : Option (List ℕ)) → lacks c front ≡ true → slice_split (λ b. eqb b c) (front ++ from_mark c rest) ≡ front ∷ pieces_at c rest
 pieces_joined c front rest h =
-    pieces_cut c (front ++ from_mark c rest) ∙ ap (λ (t : List ℕ). t ∷ pieces_at c (following c (front ++ from_mark c rest))) (before-joined c front rest h)
-    ∙ ap (λ (o : Option (List ℕ)). front ∷ pieces_at c o) (following-joined c front rest h)
+    pieces_cut c (front ++ from_mark c rest) ∙ ap (λ (t : List ℕ). t ∷ pieces_at c (text_after c (front ++ from_mark c rest))) (before-joined c front rest h)
+    ∙ ap (λ (o : Option (List ℕ)). front ∷ pieces_at c o) (text_after-joined c front rest h)
 
 -- each piece after its mark
 abbrev pub marked : ℕ → List (List ℕ) → List ℕ

@@ -4,7 +4,8 @@ use Rattle.std.specs.List.{filter, filter_map, list_any, cons_option}
 use Rattle.std.proofs.lemmas.Bool.{eqb-true}
 use Rattle.wc_hdata.specs.declared.element.Element.{Element}
 use Rattle.wc_hdata.specs.declared.key.Key.{Key}
-use Rattle.wc_hdata.specs.Cuts.{before, following, pieces_at}
+use Rattle.wc_text.specs.Splits.{before, text_after}
+use Rattle.wc_hdata.specs.Pieces.{pieces_at}
 use Rattle.wc_hdata.specs.Keys.{index, same_key, has_key, key_named, firsts, named_keys, with_key, keys_of}
 use Rattle.wc_hdata.proofs.CutLemmas.{pieces_cut}
 
@@ -89,12 +90,12 @@ add_first keys more None = refl
 add_first keys more (Some key) = refl
 
 pub keys_more : (element : Element) (keys new all : List Key) (key : Option Key) (names name : List ℕ) (rest : Option (List ℕ))
-    → adds keys (keys_left element (Some names)) ≡ all → name ≡ before 44 names → rest ≡ following 44 names → key ≡ key_named element name → new ≡ with_key keys key
+    → adds keys (keys_left element (Some names)) ≡ all → name ≡ before 44 names → rest ≡ text_after 44 names → key ≡ key_named element name → new ≡ with_key keys key
     → adds new (keys_left element rest) ≡ all
 keys_more element keys new all key names name rest so_far cut after_it found pushed =
     ap (λ (ks : List Key). adds ks (keys_left element rest)) (pushed ∙ ap (with_key keys) (found ∙ ap (key_named element) cut))
     ∙ ap (λ (o : Option (List ℕ)). adds (with_key keys (key_named element (before 44 names))) (keys_left element o)) after_it
-    ∙ sym (add_first keys (keys_left element (following 44 names)) (key_named element (before 44 names)))
+    ∙ sym (add_first keys (keys_left element (text_after 44 names)) (key_named element (before 44 names)))
     ∙ ap (λ (ps : List (List ℕ)). adds keys (filter_map (key_named element) ps)) (sym (pieces_cut 44 names)) ∙ so_far
 
 pub keys_end : (element : Element) (keys : List Key) (text : List ℕ) (rest : Option (List ℕ)) → (text ≡ [] → ⊥) → rest ≡ None

@@ -13,11 +13,11 @@ use Rattle.wc_hdata.specs.declared.variable.Variable.{Variable}
 use Rattle.wc_hdata.specs.declared.variable.Variable.TheVariants as Variables
 use Rattle.wc_hdata.specs.declared.path.Start.{Start}
 use Rattle.wc_hdata.specs.declared.path.Start.TheVariants as Starts
-use Rattle.wc_hdata.specs.Cuts.{before, following}
+use Rattle.wc_text.specs.Splits.{before, text_after}
 use Rattle.wc_hdata.specs.Names.{element_name, variable_name}
 use Rattle.wc_hdata.specs.Paths.{element_of, IsPointer, IsStartPlace, SpellsStart}
 use Rattle.wc_hdata.specs.Answers.{all_elements, element_named, all_variables, variable_named, hex_of, pointer_of, place_of, start_of}
-use Rattle.wc_hdata.proofs.CutLemmas.{lacks, lacks-append, passing_lacks, from_mark, before-joined, following-joined, cut_joins}
+use Rattle.wc_hdata.proofs.CutLemmas.{lacks, lacks-append, passing_lacks, from_mark, before-joined, text_after-joined, cut_joins}
 use Rattle.wc_hdata.proofs.PointerLemmas.{is_hex}
 
 -- ---- names
@@ -151,24 +151,24 @@ start_made text start w =
     let whole = name ++ 58 ∷ w.place in
     let plain = element_plain (element_of start) in
     ap start_of w.spelled
-    ∙ ap (λ (n : List ℕ). option_and_then (λ (e : Element). option_and_then (place_of e) (following 58 whole)) (element_named n)) (before-joined 58 name (Some w.place) plain.no_colon)
-    ∙ ap (option_and_then (λ (e : Element). option_and_then (place_of e) (following 58 whole))) (element_found (element_of start))
-    ∙ ap (option_and_then (place_of (element_of start))) (following-joined 58 name (Some w.place) plain.no_colon)
+    ∙ ap (λ (n : List ℕ). option_and_then (λ (e : Element). option_and_then (place_of e) (text_after 58 whole)) (element_named n)) (before-joined 58 name (Some w.place) plain.no_colon)
+    ∙ ap (option_and_then (λ (e : Element). option_and_then (place_of e) (text_after 58 whole))) (element_found (element_of start))
+    ∙ ap (option_and_then (place_of (element_of start))) (text_after-joined 58 name (Some w.place) plain.no_colon)
     ∙ place_made w.place start w.placed
 
-begins_at : (text : List ℕ) (start : Start) (element : Element) (place : List ℕ) → element_named (before 58 text) ≡ Some element → following 58 text ≡ Some place → Placed element place start → SpellsStart text start
+begins_at : (text : List ℕ) (start : Start) (element : Element) (place : List ℕ) → element_named (before 58 text) ≡ Some element → text_after 58 text ≡ Some place → Placed element place start → SpellsStart text start
 begins_at text start element place named found placed = record {
   place = place;
   spelled =
-      cut_joins 58 text ∙ ap (λ (n : List ℕ). n ++ from_mark 58 (following 58 text)) (element_is (before 58 text) element named)
+      cut_joins 58 text ∙ ap (λ (n : List ℕ). n ++ from_mark 58 (text_after 58 text)) (element_is (before 58 text) element named)
       ∙ ap (λ (o : Option (List ℕ)). element_name element ++ from_mark 58 o) found ∙ ap (λ (e : Element). element_name e ++ 58 ∷ place) (sym placed.element_is);
   placed = placed.place;
 }
 
 pub start_is : (text : List ℕ) (start : Start) → start_of text ≡ Some start → SpellsStart text start
 start_is text start is =
-    option_and_then_some (λ (e : Element). option_and_then (place_of e) (following 58 text)) (element_named (before 58 text)) start is
-    (λ element named here. option_and_then_some (place_of element) (following 58 text) start here
+    option_and_then_some (λ (e : Element). option_and_then (place_of e) (text_after 58 text)) (element_named (before 58 text)) start is
+    (λ element named here. option_and_then_some (place_of element) (text_after 58 text) start here
     (λ place found made. begins_at text start element place named found (place_is element place start made)))
 
 -- a start has neither a parenthesis nor a slash

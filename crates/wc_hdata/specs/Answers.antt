@@ -15,7 +15,8 @@ use Rattle.wc_hdata.specs.declared.path.Start.{Start}
 use Rattle.wc_hdata.specs.declared.path.Start.TheVariants as Starts
 use Rattle.wc_hdata.specs.declared.path.Step.{Step}
 use Rattle.wc_hdata.specs.declared.path.Path.{Path}
-use Rattle.wc_hdata.specs.Cuts.{before, following, pieces_at}
+use Rattle.wc_text.specs.Splits.{before, text_after}
+use Rattle.wc_hdata.specs.Pieces.{pieces_at}
 use Rattle.wc_hdata.specs.Names.{element_name, variable_name}
 use Rattle.wc_hdata.specs.Paths.{leads, element_of}
 
@@ -67,17 +68,17 @@ count_of None = Some Counts.One
 count_of (Some text) = option_and_then count_inside (inside text)
 
 abbrev pub start_of : List ℕ → Option Start
-start_of text = option_and_then (λ element. option_and_then (place_of element) (following 58 text)) (element_named (before 58 text))
+start_of text = option_and_then (λ element. option_and_then (place_of element) (text_after 58 text)) (element_named (before 58 text))
 
 -- what is before the steps
 unfoldable pub head_of : List ℕ → Option (Start × Count)
 head_of text =
-    option_and_then (λ start. option_map (λ count. (start, count)) (count_of (following 40 text))) (start_of (before 40 text))
+    option_and_then (λ start. option_map (λ count. (start, count)) (count_of (text_after 40 text))) (start_of (before 40 text))
 
 -- a step, without its slash
 unfoldable pub step_of : List ℕ → Option Step
 step_of text =
-    option_and_then (λ variable. option_map (λ count. record { variable = variable; count = count }) (count_of (following 40 text))) (variable_named (before 40 text))
+    option_and_then (λ variable. option_map (λ count. record { variable = variable; count = count }) (count_of (text_after 40 text))) (variable_named (before 40 text))
 
 -- the steps from an element on
 abbrev pub steps_of : Element → List (List ℕ) → Option (List Step)
@@ -94,4 +95,4 @@ path_after text head = option_map (λ steps. record { start = head.0; count = he
 
 -- the path of a text, where it has one
 unfoldable pub path_of : List ℕ → Option Path
-path_of text = option_and_then (path_after (following 47 text)) (head_of (before 47 text))
+path_of text = option_and_then (path_after (text_after 47 text)) (head_of (before 47 text))

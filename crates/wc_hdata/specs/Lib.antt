@@ -1,6 +1,6 @@
 pub mod Along
 pub mod Answers
-pub mod Cuts
+pub mod Pieces
 pub mod Dumps
 pub mod Hdata
 pub mod Infos

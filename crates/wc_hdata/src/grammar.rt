@@ -5,13 +5,12 @@ ghost use Rattle.wc_hdata.specs.Answers.{path_of, head_of, place_of, step_of, st
 ghost use Rattle.std.specs.Option.{option_copied};
 
 use crate::count::{Count, read_count};
-use crate::cuts::split_once;
 use crate::element::Element;
 use crate::path::{Path, Start, Step};
 use crate::pointer::read_pointer;
 use crate::variable::Variable;
 use std::alloc::Global;
-use wc_text::{Items, NoMemory};
+use wc_text::{Items, NoMemory, split_once};
 
 /// The path that a text writes. None exactly where the text is outside the grammar of data paths.
 ///

@@ -1,11 +1,10 @@
 ghost use Rattle.std.specs.Prelude.{◌≡◌, ◌++◌, IfOk, OnOk, Option};
 ghost use Rattle.wc_hdata.specs.Keys.{keys_of, keys_text, has_key, with_key, key_text};
 
-use crate::cuts::split_once;
 use crate::element::Element;
 use crate::key::Key;
 use std::alloc::Global;
-use wc_text::{Items, NoMemory, Text};
+use wc_text::{Items, NoMemory, Text, split_once};
 
 /// The keys of an element that a request asks for: those that the text names between commas, in its order, or all where
 /// it is empty. A repeated key is where it came first, and a name that is no key of the element is passed over.

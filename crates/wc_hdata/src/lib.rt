@@ -5,7 +5,6 @@ mod along;
 mod answer;
 mod buffer_values;
 mod count;
-mod cuts;
 mod element;
 mod follow;
 mod grammar;

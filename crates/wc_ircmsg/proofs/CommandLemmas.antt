@@ -7,7 +7,7 @@ use Rattle.std.specs.List.{list_all}
 use Rattle.std.specs.Char.{is_ascii_alphabetic, is_ascii_digit}
 use Rattle.std.specs.Str.{IsUtf8}
 use Rattle.wc_text.proofs.Utf8Lemmas.{utf8_cons}
-use Rattle.wc_ircmsg.specs.Cuts.{Lacks, BeginsWithout}
+use Rattle.wc_text.specs.Splits.{Lacks, BeginsWithout}
 use Rattle.wc_ircmsg.specs.Commands.{is_filled, is_name, is_numeric, is_command}
 use Rattle.wc_ircmsg.specs.Written.{ends_lines, is_one_line}
 

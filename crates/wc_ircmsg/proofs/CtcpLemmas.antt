@@ -1,9 +1,10 @@
 -- What is between two bytes 01.
 use Rattle.std.proofs.Common.{◌≡◌, ◌≢◌, ℕ, ◌⊎◌, inl, inr, List, [], ◌∷◌, ◌++◌, length, refl, ap, sym, ◌∙◌, arith, eqb, true, false, Option, Some, None, subst}
-use Rattle.wc_ircmsg.specs.Cuts.{before, following, Lacks}
+use Rattle.wc_text.specs.Splits.{before, text_after, Lacks}
 use Rattle.wc_ircmsg.specs.Sources.{or_empty}
 use Rattle.wc_ircmsg.specs.Ctcp.{IsCtcp}
-use Rattle.wc_ircmsg.proofs.WordLemmas.{before-at, following-at, before-none, following-none, Lacks-before, before-whole, cut_after}
+use Rattle.wc_text.proofs.WordLemmas.{before-at, text_after-at, before-none, Lacks-before, cut_after}
+use Rattle.wc_ircmsg.proofs.WordLemmas.{text_after-none, before-whole}
 
 -- lists that end alike
 same_ends : (a b : List ℕ) (x y : ℕ) → a ++ x ∷ [] ≡ b ++ y ∷ [] → (a ≡ b) × (x ≡ y)
@@ -19,40 +20,40 @@ same_ends (h ∷ a) (k ∷ b) x y e =
     ((λ i. heads i ∷ more.0 i), more.1)
 
 -- a quoted text is quoted in one way
-pub quoted_same : (text following inner other : List ℕ) (first last : ℕ) → text ≡ first ∷ following → following ≡ inner ++ last ∷ [] → text ≡ 1 ∷ (other ++ 1 ∷ []) → (first ≡ 1) × (last ≡ 1) × (inner ≡ other)
-quoted_same text following inner other first last front back quoted =
+pub quoted_same : (text text_after inner other : List ℕ) (first last : ℕ) → text ≡ first ∷ text_after → text_after ≡ inner ++ last ∷ [] → text ≡ 1 ∷ (other ++ 1 ∷ []) → (first ≡ 1) × (last ≡ 1) × (inner ≡ other)
+quoted_same text text_after inner other first last front back quoted =
     let head : first ≡ 1 = cc in
     let tail : inner ++ last ∷ [] ≡ other ++ 1 ∷ [] = cc in
     let ends = same_ends inner other last 1 tail in
     (head, ends.1, ends.0)
 
 -- the word and the arguments are those that are computed
-pub IsCtcp-same : (text inner word arguments : List ℕ) → text ≡ 1 ∷ (inner ++ 1 ∷ []) → IsCtcp text word arguments → (before 32 inner ≡ word) × (or_empty (following 32 inner) ≡ arguments)
+pub IsCtcp-same : (text inner word arguments : List ℕ) → text ≡ 1 ∷ (inner ++ 1 ∷ []) → IsCtcp text word arguments → (before 32 inner ≡ word) × (or_empty (text_after 32 inner) ≡ arguments)
 IsCtcp-same text inner word arguments quoted ctcp =
     let same : inner ≡ ctcp.inner = (quoted_same text (inner ++ 1 ∷ []) inner ctcp.inner 1 1 quoted refl ctcp.spelled).2 in
     by ctcp.called same
   where
-    by : ((ctcp.inner ≡ word) × (arguments ≡ [])) ⊎ (ctcp.inner ≡ word ++ 32 ∷ arguments) → inner ≡ ctcp.inner → (before 32 inner ≡ word) × (or_empty (following 32 inner) ≡ arguments)
+    by : ((ctcp.inner ≡ word) × (arguments ≡ [])) ⊎ (ctcp.inner ≡ word ++ 32 ∷ arguments) → inner ≡ ctcp.inner → (before 32 inner ≡ word) × (or_empty (text_after 32 inner) ≡ arguments)
     by (inl alone) same =
         let is : inner ≡ word = same ∙ alone.0 in
-        (ap (before 32) is ∙ before-none 32 word ctcp.solid, ap (λ t. or_empty (following 32 t)) is ∙ ap or_empty (following-none 32 word ctcp.solid) ∙ sym alone.1)
+        (ap (before 32) is ∙ before-none 32 word ctcp.solid, ap (λ t. or_empty (text_after 32 t)) is ∙ ap or_empty (text_after-none 32 word ctcp.solid) ∙ sym alone.1)
     by (inr parted) same =
         let is : inner ≡ word ++ 32 ∷ arguments = same ∙ parted in
-        (ap (before 32) is ∙ before-at 32 word arguments ctcp.solid, ap (λ t. or_empty (following 32 t)) is ∙ ap or_empty (following-at 32 word arguments ctcp.solid))
+        (ap (before 32) is ∙ before-at 32 word arguments ctcp.solid, ap (λ t. or_empty (text_after 32 t)) is ∙ ap or_empty (text_after-at 32 word arguments ctcp.solid))
 
-pub IsCtcp-made : (text inner word arguments : List ℕ) → text ≡ 1 ∷ (inner ++ 1 ∷ []) → word ≡ before 32 inner → arguments ≡ or_empty (following 32 inner) → eqb (length word) 0 ≡ false → IsCtcp text word arguments
+pub IsCtcp-made : (text inner word arguments : List ℕ) → text ≡ 1 ∷ (inner ++ 1 ∷ []) → word ≡ before 32 inner → arguments ≡ or_empty (text_after 32 inner) → eqb (length word) 0 ≡ false → IsCtcp text word arguments
 IsCtcp-made text inner word arguments quoted front back some = record {
   inner = inner;
   spelled = quoted;
   filled = filled word some;
   solid = subst (Lacks 32) (sym front) (Lacks-before 32 inner);
-  called = by (following 32 inner) refl;
+  called = by (text_after 32 inner) refl;
 } where
   filled : (t : List ℕ) → eqb (length t) 0 ≡ false → t ≢ []
   filled [] e = λ none. cc
   filled (b ∷ t) e = λ none. cc
 
-  by : (o : Option (List ℕ)) → following 32 inner ≡ o → ((inner ≡ word) × (arguments ≡ [])) ⊎ (inner ≡ word ++ 32 ∷ arguments)
+  by : (o : Option (List ℕ)) → text_after 32 inner ≡ o → ((inner ≡ word) × (arguments ≡ [])) ⊎ (inner ≡ word ++ 32 ∷ arguments)
   by None e = inl (sym (front ∙ before-whole 32 inner e), back ∙ ap or_empty e)
   by (Some rest) e = inr (cut_after 32 inner rest e ∙ (λ i. sym front i ++ 32 ∷ sym (back ∙ ap or_empty e) i))
 

@@ -1,13 +1,13 @@
 -- What is before a command.
 use Rattle.std.proofs.Common.{◌≡◌, ◌≢◌, ℕ, ◌≤◌, List, [], ◌∷◌, length, drop, refl, ap, sym, ◌∙◌, arith, eqb, Bool, true, false, cond, Option, Some, None, subst}
 use Rattle.std.proofs.lemmas.Bool.Decides.{Decides-eqb}
-use Rattle.wc_ircmsg.specs.Cuts.{before, onward, past, begins_with, BeginsWithout}
-use Rattle.wc_ircmsg.specs.Words.{WordAndRest, Marked, word_of, rest_of}
+use Rattle.wc_text.specs.Splits.{before, onward, past, begins_with, BeginsWithout, WordAndRest, word_of, rest_of}
+use Rattle.wc_ircmsg.specs.Words.{Marked}
 use Rattle.wc_ircmsg.specs.Sources.{or_empty}
 use Rattle.wc_ircmsg.specs.Answers.{after_marked, marked_word, untagged_of, source_of, call_of}
 use Rattle.wc_ircmsg.specs.Grammar.{Front}
-use Rattle.wc_ircmsg.proofs.CutLemmas.{length-onward}
-use Rattle.wc_ircmsg.proofs.WordLemmas.{other_byte, same_byte, byte_differs, past-blanks, past-bare, BeginsWithout-past, margin, WordAndRest-same, WordAndRest-made}
+use Rattle.wc_text.proofs.SplitLemmas.{length-onward}
+use Rattle.wc_text.proofs.WordLemmas.{other_byte, same_byte, byte_differs, past-blanks, past-bare, BeginsWithout-past, margin, WordAndRest-same, WordAndRest-made}
 
 -- a text that does not begin with the byte
 without : (mark : ℕ) (text : List ℕ) → BeginsWithout mark text → begins_with mark text ≡ false

@@ -1,4 +1,3 @@
-pub mod CutLemmas
 pub mod WordLemmas
 pub mod FrontLemmas
 pub mod SourceLemmas

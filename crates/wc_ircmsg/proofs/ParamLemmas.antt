@@ -2,9 +2,9 @@
 use Rattle.std.proofs.Common.{◌≡◌, ℕ, zero, suc, ◌-◌, ◌<◌, ◌⊎◌, inl, inr, List, [], ◌∷◌, ◌++◌, length, append_assoc, append-nil, refl, ap, sym, ◌∙◌, arith, eqb, Bool, true, false, cond, subst}
 use Rattle.std.proofs.lemmas.Bool.Decides.{nat_tests, Decides-eqb}
 use Rattle.std.proofs.lemmas.Bool.{false≢true}
-use Rattle.wc_ircmsg.specs.Words.{WordAndRest, word_of, rest_of}
+use Rattle.wc_text.specs.Splits.{WordAndRest, word_of, rest_of}
 use Rattle.wc_ircmsg.specs.Params.{Unmarked, FirstParam, SpellsParams, first_of, after_first, params_of}
-use Rattle.wc_ircmsg.proofs.WordLemmas.{other_byte, byte_differs, WordAndRest-same, WordAndRest-made}
+use Rattle.wc_text.proofs.WordLemmas.{other_byte, byte_differs, WordAndRest-same, WordAndRest-made}
 
 -- a parameter that no `:` marks is the one that is computed
 Unmarked-same : (more : ℕ) (text param rest : List ℕ) → Unmarked more text param rest → (param ≡ cond (eqb more 0) text (word_of text)) × (rest ≡ cond (eqb more 0) [] (rest_of text))
@@ -68,15 +68,15 @@ SpellsParams-made (suc more) (b ∷ text) =
     (after_first (suc more) (b ∷ text), FirstParam-made (suc more) b text, SpellsParams-made more (after_first (suc more) (b ∷ text)))
 
 -- the parameters so far, and one more
-pub params_more : (front new all : List (List ℕ)) (text param rest following : List ℕ) (places : ℕ) → 0 < places → eqb (length rest) 0 ≡ false → front ++ params_of places rest ≡ all
-    → text ≡ param → param ≡ first_of (places - 1) rest → following ≡ after_first (places - 1) rest → new ≡ front ++ text ∷ [] → new ++ params_of (places - 1) following ≡ all
+pub params_more : (front new all : List (List ℕ)) (text param rest text_after : List ℕ) (places : ℕ) → 0 < places → eqb (length rest) 0 ≡ false → front ++ params_of places rest ≡ all
+    → text ≡ param → param ≡ first_of (places - 1) rest → text_after ≡ after_first (places - 1) rest → new ≡ front ++ text ∷ [] → new ++ params_of (places - 1) text_after ≡ all
 unfolding params_of
-params_more front new all text param [] following places some filled so_far copied first left pushed = absurd (false≢true (sym filled))
-params_more front new all text param (b ∷ rest) following zero some filled so_far copied first left pushed = absurd (omega arith)
-params_more front new all text param (b ∷ rest) following (suc more) some filled so_far copied first left pushed =
+params_more front new all text param [] text_after places some filled so_far copied first left pushed = absurd (false≢true (sym filled))
+params_more front new all text param (b ∷ rest) text_after zero some filled so_far copied first left pushed = absurd (omega arith)
+params_more front new all text param (b ∷ rest) text_after (suc more) some filled so_far copied first left pushed =
     let less : suc more - 1 ≡ more = omega arith in
     let is : text ≡ first_of more (b ∷ rest) = copied ∙ first ∙ ap (λ n. first_of n (b ∷ rest)) less in
-    let rest_is : params_of (suc more - 1) following ≡ params_of more (after_first more (b ∷ rest)) = (λ i. params_of (less i) (left i)) ∙ ap (λ n. params_of more (after_first n (b ∷ rest))) less in
+    let rest_is : params_of (suc more - 1) text_after ≡ params_of more (after_first more (b ∷ rest)) = (λ i. params_of (less i) (left i)) ∙ ap (λ n. params_of more (after_first n (b ∷ rest))) less in
     (λ i. pushed i ++ rest_is i)
     ∙ append_assoc front (text ∷ []) (params_of more (after_first more (b ∷ rest)))
     ∙ ap (λ t. front ++ t ∷ params_of more (after_first more (b ∷ rest))) is

@@ -4,15 +4,14 @@ use Rattle.std.proofs.lemmas.Bool.{false≢true}
 use Rattle.wc_ircmsg.specs.declared.message.Message.{Message}
 use Rattle.wc_ircmsg.specs.declared.message.LineRefused.{LineRefused}
 use Rattle.wc_ircmsg.specs.declared.message.LineRefused.TheVariants as Refusals
-use Rattle.wc_ircmsg.specs.Cuts.{past}
-use Rattle.wc_ircmsg.specs.Words.{blanks, word_of, rest_of}
+use Rattle.wc_text.specs.Splits.{past, blanks, word_of, rest_of}
 use Rattle.wc_ircmsg.specs.Commands.{is_command, is_filled}
 use Rattle.wc_ircmsg.specs.Sources.{Names}
 use Rattle.wc_ircmsg.specs.Params.{SpellsParams}
 use Rattle.wc_ircmsg.specs.Grammar.{SpellsLine, IsBlank, RefusesLine, ReadsLine}
 use Rattle.wc_text.specs.Lossy.{lossy_of}
 use Rattle.wc_ircmsg.specs.Answers.{source_of, call_of, message_from, refusal_of, reading_of, untagged_of, after_marked}
-use Rattle.wc_ircmsg.proofs.WordLemmas.{past-blanks, margin, WordAndRest-same, WordAndRest-made}
+use Rattle.wc_text.proofs.WordLemmas.{past-blanks, margin, WordAndRest-same, WordAndRest-made}
 use Rattle.wc_ircmsg.proofs.FrontLemmas.{Front-same, Front-made, length-call_of}
 use Rattle.wc_ircmsg.proofs.SourceLemmas.{Names-same, Names-made}
 use Rattle.wc_ircmsg.proofs.ParamLemmas.{SpellsParams-same, SpellsParams-made}
@@ -146,15 +145,15 @@ reading-RefusesLine text refused is = by (is_command (word_of (call_of text))) r
   by false e here = let same : refusal_of text ≡ refused = cc in subst (λ r. RefusesLine text r) same (refuses text e)
 
 -- ---- for the code
-pub refusal_empty : (text following : List ℕ) → following ≡ past 32 text → eqb (length following) 0 ≡ true → Refusals.Empty ≡ refusal_of text
+pub refusal_empty : (text text_after : List ℕ) → text_after ≡ past 32 text → eqb (length text_after) 0 ≡ true → Refusals.Empty ≡ refusal_of text
 refusal_empty text [] is none = sym (refusal_of-blank text (sym is))
-refusal_empty text (b ∷ following) is none = absurd (false≢true (sym longer ∙ none)) where
-  longer : eqb (length (b ∷ following)) 0 ≡ false
+refusal_empty text (b ∷ text_after) is none = absurd (false≢true (sym longer ∙ none)) where
+  longer : eqb (length (b ∷ text_after)) 0 ≡ false
   longer = grind arith
 
-pub refusal_filled : (text following call : List ℕ) → following ≡ past 32 text → eqb (length following) 0 ≡ false → call ≡ call_of text → Refusals.BadCommand (length text - length call) ≡ refusal_of text
+pub refusal_filled : (text text_after call : List ℕ) → text_after ≡ past 32 text → eqb (length text_after) 0 ≡ false → call ≡ call_of text → Refusals.BadCommand (length text - length call) ≡ refusal_of text
 refusal_filled text [] call is some called = absurd (false≢true (sym some))
-refusal_filled text (b ∷ following) call is some called =
+refusal_filled text (b ∷ text_after) call is some called =
     ap (λ t. Refusals.BadCommand (length text - length t)) called ∙ sym (refusal_of-filled text (λ none. cc))
 
 pub ruleset refusals = (refusal_empty, refusal_filled, length-call_of)

@@ -7,7 +7,8 @@ use Rattle.wc_text.proofs.LossyLemmas.{lossy_of_is_utf8}
 use Rattle.wc_text.proofs.Utf8Lemmas.{utf8_parts}
 use Rattle.wc_ircmsg.specs.declared.message.Message.{Message}
 use Rattle.wc_ircmsg.specs.declared.message.LineRefused.{LineRefused}
-use Rattle.wc_ircmsg.specs.Words.{blanks, WordAndRest, Marked}
+use Rattle.wc_text.specs.Splits.{blanks, WordAndRest}
+use Rattle.wc_ircmsg.specs.Words.{Marked}
 use Rattle.wc_ircmsg.specs.Sources.{text_with_mark, or_empty, Names}
 use Rattle.wc_ircmsg.specs.Params.{FirstParam, SpellsParams}
 use Rattle.wc_ircmsg.specs.Grammar.{Front, SpellsLine, ReadsLine}

@@ -8,9 +8,9 @@ use Rattle.std.specs.Char.{is_ascii_alphabetic}
 use Rattle.std.specs.Str.{IsUtf8, is_utf8, chars}
 use Rattle.wc_ircmsg.specs.declared.prefixes.Prefixes.{Prefixes}
 use Rattle.wc_ircmsg.specs.Commands.{is_filled, is_name}
-use Rattle.wc_ircmsg.specs.Cuts.{before, following, Lacks}
+use Rattle.wc_text.specs.Splits.{before, text_after, Lacks}
 use Rattle.wc_ircmsg.specs.Tokens.{each_once, parts_of, are_modes, are_chars, SpellsPrefixes}
-use Rattle.wc_ircmsg.proofs.WordLemmas.{before-at, following-at, cut_after}
+use Rattle.wc_text.proofs.WordLemmas.{before-at, text_after-at, cut_after}
 
 -- whether bytes are UTF-8
 pub utf8_true : (text : List ℕ) → IsUtf8 text → is_utf8 text ≡ true
@@ -45,7 +45,7 @@ pub SpellsPrefixes-parts : (value : List ℕ) (prefixes : Prefixes) → SpellsPr
 SpellsPrefixes-parts value prefixes spells =
     let lacks = letters_lack prefixes.modes (and_parts (is_filled prefixes.modes) (list_all is_ascii_alphabetic prefixes.modes) spells.letters).1 in
     ap parts_of spells.spelled
-    ∙ ap (option_map (λ text. (before 41 (prefixes.modes ++ 41 ∷ prefixes.chars), text))) (following-at 41 prefixes.modes prefixes.chars lacks)
+    ∙ ap (option_map (λ text. (before 41 (prefixes.modes ++ 41 ∷ prefixes.chars), text))) (text_after-at 41 prefixes.modes prefixes.chars lacks)
     ∙ ap (λ modes. Some (modes, prefixes.chars)) (before-at 41 prefixes.modes prefixes.chars lacks)
 
 pub SpellsPrefixes-modes : (value : List ℕ) (prefixes : Prefixes) → SpellsPrefixes value prefixes → are_modes prefixes.modes ≡ true
@@ -71,7 +71,7 @@ SpellsPrefixes-made value modes text parted modes_pass chars_pass =
       chars_once = many.1;
     }
   where
-    cut : (b : ℕ) (rest : List ℕ) (o : Option (List ℕ)) → b ≡ 40 → following 41 rest ≡ o → option_map {U = List ℕ × List ℕ} (λ t. (before 41 rest, t)) o ≡ Some (modes, text) → b ∷ rest ≡ 40 ∷ (modes ++ 41 ∷ text)
+    cut : (b : ℕ) (rest : List ℕ) (o : Option (List ℕ)) → b ≡ 40 → text_after 41 rest ≡ o → option_map {U = List ℕ × List ℕ} (λ t. (before 41 rest, t)) o ≡ Some (modes, text) → b ∷ rest ≡ 40 ∷ (modes ++ 41 ∷ text)
     cut b rest None begins found e = absurd (cc)
     cut b rest (Some left) begins found e =
         let front : before 41 rest ≡ modes = ap firsts e in
@@ -79,8 +79,8 @@ SpellsPrefixes-made value modes text parted modes_pass chars_pass =
         let whole : rest ≡ before 41 rest ++ 41 ∷ left = cut_after 41 rest left found in
         (λ i. begins i ∷ whole i) ∙ (λ i. 40 ∷ (front i ++ 41 ∷ back i))
 
-    opened : (b : ℕ) (rest : List ℕ) (t : Bool) → eqb b 40 ≡ t → cond t (option_map {U = List ℕ × List ℕ} (λ u. (before 41 rest, u)) (following 41 rest)) None ≡ Some (modes, text) → b ∷ rest ≡ 40 ∷ (modes ++ 41 ∷ text)
-    opened b rest true e here = cut b rest (following 41 rest) ((Decides-eqb b 40).0 e) refl here
+    opened : (b : ℕ) (rest : List ℕ) (t : Bool) → eqb b 40 ≡ t → cond t (option_map {U = List ℕ × List ℕ} (λ u. (before 41 rest, u)) (text_after 41 rest)) None ≡ Some (modes, text) → b ∷ rest ≡ 40 ∷ (modes ++ 41 ∷ text)
+    opened b rest true e here = cut b rest (text_after 41 rest) ((Decides-eqb b 40).0 e) refl here
     opened b rest false e here = absurd (cc)
 
     spelled : (value : List ℕ) → parts_of value ≡ Some (modes, text) → value ≡ 40 ∷ (modes ++ 41 ∷ text)

@@ -8,13 +8,12 @@ use Rattle.std.specs.Str.{IsUtf8}
 use Rattle.wc_text.proofs.LossyLemmas.{lossy_of_utf8}
 use Rattle.wc_text.proofs.Utf8Lemmas.{utf8_cons}
 use Rattle.wc_ircmsg.specs.declared.message.Message.{Message}
-use Rattle.wc_ircmsg.specs.Cuts.{Lacks, BeginsWithout}
-use Rattle.wc_ircmsg.specs.Words.{WordAndRest}
+use Rattle.wc_text.specs.Splits.{Lacks, BeginsWithout, WordAndRest}
 use Rattle.wc_ircmsg.specs.Params.{Unmarked, FirstParam, SpellsParams}
 use Rattle.wc_ircmsg.specs.Grammar.{SpellsLine, ReadsLine}
 use Rattle.wc_ircmsg.specs.Utf8.{AreUtf8Texts}
 use Rattle.wc_ircmsg.specs.Written.{needs_colon, are_words, ends_lines, is_one_line, IsWritable, last_text, params_text, line_of, without_prefix}
-use Rattle.wc_ircmsg.proofs.WordLemmas.{byte_differs}
+use Rattle.wc_text.proofs.WordLemmas.{byte_differs}
 use Rattle.wc_ircmsg.proofs.CommandLemmas.{command_signs, command_filled, Lacks-signs, BeginsWithout-signs, signs_in_line, signs_text}
 
 -- parameters as they are written, without the blank in front

@@ -3,8 +3,7 @@ use Rattle.std.specs.Prelude.{ℕ, ◌-◌, List, [], if◌then◌else◌, lengt
 use Rattle.wc_ircmsg.specs.declared.message.Message.{Message}
 use Rattle.wc_ircmsg.specs.declared.message.LineRefused.{LineRefused}
 use Rattle.wc_ircmsg.specs.declared.message.LineRefused.TheVariants as Refusals
-use Rattle.wc_ircmsg.specs.Cuts.{past, begins_with}
-use Rattle.wc_ircmsg.specs.Words.{word_of, rest_of}
+use Rattle.wc_text.specs.Splits.{past, begins_with, word_of, rest_of}
 use Rattle.wc_ircmsg.specs.Commands.{is_command, is_filled}
 use Rattle.wc_ircmsg.specs.Sources.{nick_of, user_of, host_of}
 use Rattle.wc_ircmsg.specs.Params.{params_of}

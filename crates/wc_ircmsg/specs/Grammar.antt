@@ -4,8 +4,8 @@ use Rattle.wc_text.specs.Lossy.{lossy_of}
 use Rattle.wc_ircmsg.specs.declared.message.Message.{Message}
 use Rattle.wc_ircmsg.specs.declared.message.LineRefused.{LineRefused}
 use Rattle.wc_ircmsg.specs.declared.message.LineRefused.TheVariants as Refusals
-use Rattle.wc_ircmsg.specs.Cuts.{BeginsWithout}
-use Rattle.wc_ircmsg.specs.Words.{blanks, WordAndRest, Marked}
+use Rattle.wc_text.specs.Splits.{BeginsWithout, blanks, WordAndRest}
+use Rattle.wc_ircmsg.specs.Words.{Marked}
 use Rattle.wc_ircmsg.specs.Commands.{is_command}
 use Rattle.wc_ircmsg.specs.Sources.{or_empty, Names}
 use Rattle.wc_ircmsg.specs.Params.{SpellsParams}

@@ -1,4 +1,3 @@
-pub mod Cuts
 pub mod Words
 pub mod Commands
 pub mod Sources

@@ -1,6 +1,6 @@
 -- The parameters of a message.
 use Rattle.std.specs.Prelude.{◌≡◌, ◌≢◌, ℕ, zero, suc, ◌⊎◌, List, [], ◌∷◌, if◌then◌else◌, ◌==◌}
-use Rattle.wc_ircmsg.specs.Words.{WordAndRest, word_of, rest_of}
+use Rattle.wc_text.specs.Splits.{WordAndRest, word_of, rest_of}
 
 -- A parameter that no `:` marks is a word; where no more may come it is all that is left.
 abbrev pub Unmarked : ℕ → List ℕ → List ℕ → List ℕ → Type 0

@@ -1,6 +1,6 @@
 -- The prefix of a message, which names its source.
 use Rattle.std.specs.Prelude.{◌≡◌, ℕ, List, [], ◌∷◌, ◌++◌, Option, Some, None, unwrap_or}
-use Rattle.wc_ircmsg.specs.Cuts.{before, following, Lacks}
+use Rattle.wc_text.specs.Splits.{before, text_after, Lacks}
 
 -- a text after its mark, or nothing
 abbrev pub text_with_mark : ℕ → Option (List ℕ) → List ℕ
@@ -26,7 +26,7 @@ abbrev pub nick_of : List ℕ → List ℕ
 nick_of source = before 33 (before 64 source)
 
 abbrev pub user_of : List ℕ → List ℕ
-user_of source = or_empty (following 33 (before 64 source))
+user_of source = or_empty (text_after 33 (before 64 source))
 
 abbrev pub host_of : List ℕ → List ℕ
-host_of source = or_empty (following 64 source)
+host_of source = or_empty (text_after 64 source)

@@ -4,7 +4,7 @@ use Rattle.std.specs.List.{list_any}
 use Rattle.std.specs.Str.{IsUtf8, is_utf8, chars}
 use Rattle.wc_ircmsg.specs.declared.prefixes.Prefixes.{Prefixes}
 use Rattle.wc_ircmsg.specs.Commands.{is_name}
-use Rattle.wc_ircmsg.specs.Cuts.{before, following}
+use Rattle.wc_text.specs.Splits.{before, text_after}
 
 -- nothing is twice in the list
 abbrev pub each_once : {A : Type 0} → (A → A → Bool) → List A → Bool
@@ -24,7 +24,7 @@ pub record SpellsPrefixes (value : List ℕ) (prefixes : Prefixes) : Type 0 wher
 -- what is between `(` and the first `)`, and after that
 abbrev pub parts_of : List ℕ → Option (List ℕ × List ℕ)
 parts_of [] = None
-parts_of (b ∷ value) = if b == 40 then option_map (λ text. (before 41 value, text)) (following 41 value) else None
+parts_of (b ∷ value) = if b == 40 then option_map (λ text. (before 41 value, text)) (text_after 41 value) else None
 
 abbrev pub are_modes : List ℕ → Bool
 are_modes modes = is_name modes && each_once nat_eq modes

@@ -1,15 +1,15 @@
 ghost use Rattle.std.specs.Prelude.{◌≡◌, ◌≢◌, ◌∷◌, ◌++◌, [], ℕ, List, IfSome, IsSomeAnd, MatchOption};
 ghost use Rattle.wc_ircmsg.specs.Ctcp.{IsCtcp};
 
-use crate::cuts::split_once;
 use crate::source::or_empty;
+use wc_text::split_once;
 
 /// What is between a first and a last byte 01.
 fn quoted(text: &[u8]) -> Option<&[u8]>
     ensures { MatchOption result ((inner : List ℕ) → text.now ≢ 1 ∷ (inner ++ 1 ∷ [])) (λ inner. text.now ≡ 1 ∷ (inner.now ++ 1 ∷ [])) }
 {
-    let (first, following) = text.split_first()?;
-    let (last, inner) = following.split_last()?;
+    let (first, text_after) = text.split_first()?;
+    let (last, inner) = text_after.split_last()?;
     if *first != 0x01 || *last != 0x01 {
         return None;
     }

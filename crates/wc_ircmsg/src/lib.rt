@@ -4,7 +4,7 @@
 mod case_map;
 mod command;
 mod ctcp;
-mod cuts;
+mod marked;
 mod message;
 mod params;
 mod prefixes;

@@ -1,9 +1,8 @@
 ghost use Rattle.std.specs.Prelude.{◌≡◌, IfOk};
 ghost use Rattle.wc_ircmsg.specs.Params.{first_of, after_first, params_of};
 
-use crate::cuts::cut_word;
 use std::alloc::Global;
-use wc_text::{Items, NoMemory, Text};
+use wc_text::{Items, NoMemory, Text, cut_word};
 
 /// The most parameters that a line has.
 pub const MOST_PARAMS: usize = 15;
@@ -32,9 +31,9 @@ pub(crate) fn read_params(alloc: Global, text: &[u8]) -> Result<Items<Text>, NoM
     let mut places = MOST_PARAMS;
     while places > 0 && !rest.is_empty() {
         places -= 1;
-        let (param, following) = cut_param(rest, places);
+        let (param, text_after) = cut_param(rest, places);
         params.push(Text::from_slice(alloc, param)?)?;
-        rest = following;
+        rest = text_after;
     }
     Ok(params)
 }

@@ -4,9 +4,8 @@ ghost use Rattle.wc_ircmsg.specs.Tokens.{each_once, parts_of, are_modes, are_cha
 ghost use Rattle.wc_ircmsg.specs.declared.prefixes.Prefixes.{Prefixes};
 
 use crate::command::is_name;
-use crate::cuts::split_once;
 use std::alloc::{AllocError, Global};
-use wc_text::{NoMemory, Text};
+use wc_text::{NoMemory, Text, split_once};
 
 /// The modes that a member of a channel may have, and the character that shows each, from the highest on. There are
 /// as many characters as modes.
@@ -34,10 +33,10 @@ fn each_once<T: PartialEq>(list: &[T]) -> bool
 fn cut_token(value: &[u8]) -> Option<(&[u8], &[u8])>
     ensures { option_map (λ parts. (parts.0.now, parts.1.now)) result ≡ parts_of value.now }
 {
-    let [b'(', following @ ..] = value else {
+    let [b'(', text_after @ ..] = value else {
         return None;
     };
-    let (modes, chars) = split_once(following, b')');
+    let (modes, chars) = split_once(text_after, b')');
     Some((modes, chars?))
 }
 

@@ -8,12 +8,12 @@ ghost use Rattle.wc_ircmsg.specs.declared.message.Message.{Message};
 ghost use Rattle.wc_ircmsg.specs.declared.message.LineRefused.{LineRefused};
 
 use crate::command::is_command;
-use crate::cuts::{cut_marked, cut_word, past_blanks};
+use crate::marked::cut_marked;
 use crate::message::{LineRefused, Message};
 use crate::params::read_params;
 use crate::source::cut_source;
 use std::alloc::Global;
-use wc_text::{NoMemory, Text, lossy};
+use wc_text::{NoMemory, Text, cut_word, lossy, past_blanks};
 
 /// The prefix at the front of a text, without its `:`, and from the command on. Tags are passed over.
 #[tactic(auto, unfolding(crate::specs::Answers::source_of, crate::specs::Answers::call_of, crate::specs::Answers::untagged_of))]

@@ -2,7 +2,7 @@ ghost use Rattle.std.specs.Prelude.{◌≡◌};
 ghost use Rattle.std.specs.Option.{option_copied};
 ghost use Rattle.wc_ircmsg.specs.Sources.{nick_of, user_of, host_of, or_empty};
 
-use crate::cuts::split_once;
+use wc_text::split_once;
 
 /// What the prefix of a message names. A part that is not there is empty.
 #[derive(Clone, Copy)]

@@ -13,7 +13,7 @@ use Rattle.wc_model.specs.Apply.{refusal, after}
 use Rattle.wc_model.specs.Notices.{notice}
 use Rattle.wc_model.specs.Touches.{told_after}
 use Rattle.wc_objects.specs.declared.object.WireMessage.{WireMessage}
-use Rattle.wc_relaycmd.specs.Cuts.{FirstByteIsNot}
+use Rattle.wc_text.specs.Splits.{BeginsWithout}
 use Rattle.wc_session.specs.declared.client.Client.{Client}
 use Rattle.wc_session.specs.Event.{event_messages, notice_told}
 use Rattle.wc_session.specs.Sync.{follows}
@@ -28,7 +28,7 @@ use Rattle.wc_mirror_laws.specs.Held.{HeldPart, HeldOf, fold_one, Has}
 use Rattle.wc_mirror_laws.specs.Settled.{client_on, is_following}
 use Rattle.wc_mirror_laws.specs.Kept.{IsStateKept}
 use Rattle.wc_mirror_laws.specs.Mirrors.{fold_all, mirror_after}
-use Rattle.wc_mirror_laws.proofs.ClientLemmas.{following-heard, first-heard, told-first, told_each, messages-sends}
+use Rattle.wc_mirror_laws.proofs.ClientLemmas.{text_after-heard, first-heard, told-first, told_each, messages-sends}
 use Rattle.wc_mirror_laws.proofs.IdLemmas.{id_free}
 use Rattle.wc_mirror_laws.proofs.HeldLemmas.{change_right, told_follows}
 use Rattle.wc_mirror_laws.proofs.NoticeLemmas.{telling}
@@ -77,18 +77,18 @@ clients_spelt link world n (client ∷ clients) all =
 -- What is done to the world: what always holds does so still, each message keeps the rules, and a client that follows has
 -- the lines after it.
 pub record Tells (which : HeldPart) (limit link : ℕ) (id : List ℕ) (state : State) (stepped : Stepped) : Type 0 where
-  pub following : is_following (client_on link stepped.state) ≡ is_following (client_on link state)
+  pub text_after : is_following (client_on link stepped.state) ≡ is_following (client_on link state)
   pub kept : IsStateKept limit link stepped.state
   pub spelt : AllSpelt (messages_to link stepped.acts)
   pub right : is_following (client_on link state) ≡ true → (part : HeldOf which) → Has which part state.world → Has which (mirror_after which limit link id part stepped.acts) stepped.state.world
 
 Tells-stays : (which : HeldPart) (limit link : ℕ) (id : List ℕ) (state : State) → IsStateKept limit link state → Tells which limit link id state (no_step state)
-Tells-stays which limit link id state kept = record { following = refl; kept = kept; spelt = tt; right = λ follows part had. had }
+Tells-stays which limit link id state kept = record { text_after = refl; kept = kept; spelt = tt; right = λ follows part had. had }
 
 Tells-then : (which : HeldPart) (limit link : ℕ) (id : List ℕ) (state : State) (first : Stepped) (others : State → Stepped) → Tells which limit link id state first → Tells which limit link id first.state (others first.state)
     → Tells which limit link id state (then_does first others)
 Tells-then which limit link id state first others a b = record {
-  following = b.following ∙ a.following;
+  text_after = b.following ∙ a.following;
   kept = b.kept;
   spelt = acts_spelt link first.acts (others first.state).acts a.spelt b.spelt;
   right = λ follows part had.
@@ -107,7 +107,7 @@ told_event limit link state told world n kept follows = by (client_on link state
   by None at e = absurd (false≢true e)
   by (Some client) at e = told-first link world n state.clients client kept.first at ∙ told_each link world n client e
 
-Tells-changes : (which : HeldPart) (limit link : ℕ) (id : List ℕ) (state : State) (change : Change) → FirstByteIsNot 95 id → IsStateKept limit link state → IsTold change.what
+Tells-changes : (which : HeldPart) (limit link : ℕ) (id : List ℕ) (state : State) (change : Change) → BeginsWithout 95 id → IsStateKept limit link state → IsTold change.what
     → refusal state.world change ≡ None → Tells which limit link id state (change_step state change)
 Tells-changes which limit link id state change free kept told good =
     let w = state.world in
@@ -116,7 +116,7 @@ Tells-changes which limit link id state change free kept told good =
     let is = after_kept limit w change.buffer change.what kept.world told good in
     let refusal_step = telling limit w change.buffer change.what kept.world told good in
     record {
-      following = following-heard n.kind n.buffer.0 link state.clients;
+      text_after = text_after-heard n.kind n.buffer.0 link state.clients;
       kept = record { most = kept.most; world = is; told = ap (told_after w change.buffer change.what) kept.told ∙ told_follows w change.buffer change.what told; first = first-heard n.kind n.buffer.0 link state.clients kept.first };
       spelt = clients_spelt link v n state.clients (event_spelt limit v n is refusal_step);
       right = λ follows part had.
@@ -125,7 +125,7 @@ Tells-changes which limit link id state change free kept told good =
     }
 
 -- a refusal that is told
-Tells-tells : (which : HeldPart) (limit link : ℕ) (id : List ℕ) (state : State) (text : List ℕ) → FirstByteIsNot 95 id → IsStateKept limit link state → Tells which limit link id state (refusal_step state text)
+Tells-tells : (which : HeldPart) (limit link : ℕ) (id : List ℕ) (state : State) (text : List ℕ) → BeginsWithout 95 id → IsStateKept limit link state → Tells which limit link id state (refusal_step state text)
 Tells-tells which limit link id state text free kept = by (refusal state.world (told_refusal state.moment text)) refl where
   by : (o : Option ChangeRefused) → refusal state.world (told_refusal state.moment text) ≡ o → Tells which limit link id state (change_step_if state (told_refusal state.moment text) o)
   by None good = Tells-changes which limit link id state (told_refusal state.moment text) free kept (All-nil IsUtf8, refl) good
@@ -133,25 +133,25 @@ Tells-tells which limit link id state text free kept = by (refusal state.world (
 
 -- ---- what is typed
 
-Tells-asks : (which : HeldPart) (limit link : ℕ) (id : List ℕ) (state : State) (change : Change) → FirstByteIsNot 95 id → IsStateKept limit link state → IsTold change.what → Tells which limit link id state (ask_step state change)
+Tells-asks : (which : HeldPart) (limit link : ℕ) (id : List ℕ) (state : State) (change : Change) → BeginsWithout 95 id → IsStateKept limit link state → IsTold change.what → Tells which limit link id state (ask_step state change)
 Tells-asks which limit link id state change free kept told = by (refusal state.world change) refl where
   by : (o : Option ChangeRefused) → refusal state.world change ≡ o → Tells which limit link id state (ask_step_if state change o)
   by None good = Tells-changes which limit link id state change free kept told good
   by (Some reason) good = Tells-tells which limit link id state (refusal_text reason) free kept
 
-Tells-resolved : (which : HeldPart) (limit link : ℕ) (id : List ℕ) (state : State) (r : Effect) → FirstByteIsNot 95 id → IsStateKept limit link state → OnAsks r → Tells which limit link id state (effect_step state r)
+Tells-resolved : (which : HeldPart) (limit link : ℕ) (id : List ℕ) (state : State) (r : Effect) → BeginsWithout 95 id → IsStateKept limit link state → OnAsks r → Tells which limit link id state (effect_step state r)
 Tells-resolved which limit link id state Stays free kept told = Tells-stays which limit link id state kept
-Tells-resolved which limit link id state ResolvedEnds free kept told = record { following = refl; kept = kept; spelt = tt; right = λ follows part had. had }
+Tells-resolved which limit link id state ResolvedEnds free kept told = record { text_after = refl; kept = kept; spelt = tt; right = λ follows part had. had }
 Tells-resolved which limit link id state (TellsRefusal text) free kept told = Tells-tells which limit link id state text free kept
 Tells-resolved which limit link id state (Asks change) free kept told = Tells-asks which limit link id state change free kept told
 
-Tells-does : (which : HeldPart) (limit link : ℕ) (id : List ℕ) (state : State) (buffer : Handle) (line : List ℕ) → FirstByteIsNot 95 id → IsStateKept limit link state → IsUtf8 line
+Tells-does : (which : HeldPart) (limit link : ℕ) (id : List ℕ) (state : State) (buffer : Handle) (line : List ℕ) → BeginsWithout 95 id → IsStateKept limit link state → IsUtf8 line
     → Tells which limit link id state (typed_step state buffer (typed_line line))
 Tells-does which limit link id state buffer line free kept utf8 =
     Tells-resolved which limit link id state (effect_of state.world state.moment buffer (typed_line line)) free kept
     (resolved_told limit state.world state.moment buffer (typed_line line) kept.world (typed_text line utf8))
 
-pub Tells-runs : (which : HeldPart) (limit link : ℕ) (id : List ℕ) (state : State) (buffer : Handle) (lines : List (List ℕ)) → FirstByteIsNot 95 id → IsStateKept limit link state → AllByRecursion IsUtf8 lines
+pub Tells-runs : (which : HeldPart) (limit link : ℕ) (id : List ℕ) (state : State) (buffer : Handle) (lines : List (List ℕ)) → BeginsWithout 95 id → IsStateKept limit link state → AllByRecursion IsUtf8 lines
     → Tells which limit link id state (lines_step state buffer lines)
 Tells-runs which limit link id state buffer [] free kept utf8 = Tells-stays which limit link id state kept
 Tells-runs which limit link id state buffer (line ∷ lines) free kept utf8 =

@@ -7,7 +7,7 @@ use Rattle.wc_outside.specs.Keyed.{at_key}
 use Rattle.wc_outside.proofs.KeyedLemmas.{at_key-key}
 use Rattle.wc_relaycmd.specs.declared.request.Request.{Request}
 use Rattle.wc_relaycmd.specs.Answers.{request_of}
-use Rattle.wc_relaycmd.specs.Cuts.{FirstByteIsNot}
+use Rattle.wc_text.specs.Splits.{BeginsWithout}
 use Rattle.wc_session.specs.declared.client.Client.{Client}
 use Rattle.wc_session.specs.Known.{new_client}
 use Rattle.wc_session.specs.Reply.{reply_of}
@@ -29,7 +29,7 @@ use Rattle.wc_mirror_laws.proofs.StepLemmas.{asked_here, reply_link, reply_text,
 pub record IsOne (link : ℕ) (state : State) (first : AskedFor) (others : List AskedFor) : Type 0 where
   pub client : client_on link state ≡ Some first.client
   pub none : others ≡ []
-  pub free : FirstByteIsNot 95 first.request.id
+  pub free : BeginsWithout 95 first.request.id
 
 pub asked_one : (link : ℕ) (state : State) (event : Event) (first : AskedFor) (others : List AskedFor) → asked_in link state event ≡ first ∷ others → IsOne link state first others
 asked_one link state (Start moment) first others e = absurd (let h = e in cc)
@@ -43,7 +43,7 @@ asked_one link state (LineCame k line) first others e = by (eqb k link) e where
       record {
         client = at ∙ ap (λ (a : AskedFor). Some a.client) whole;
         none = cc;
-        free = subst (λ (a : AskedFor). FirstByteIsNot 95 a.request.id) whole (request_free line client.escaped request read);
+        free = subst (λ (a : AskedFor). BeginsWithout 95 a.request.id) whole (request_free line client.escaped request read);
       }
 
   came : (o : Option Client) → client_on link state ≡ o → asked_by line o ≡ first ∷ others → IsOne link state first others
@@ -70,7 +70,7 @@ asked_now link state k line client request at read here =
 abbrev HasAfter : (which : HeldPart) → ℕ → ℕ → List ℕ → HeldOf which → Stepped → Type 0
 HasAfter which limit link id part stepped = Has which (mirror_after which limit link id part stepped.acts) stepped.state.world
 
-line_right : (which : HeldPart) (limit link : ℕ) (id : List ℕ) (state : State) (k : ℕ) (line : List ℕ) (part : HeldOf which) → IsStateKept limit link state → FirstByteIsNot 95 id → length line ≤ 65536
+line_right : (which : HeldPart) (limit link : ℕ) (id : List ℕ) (state : State) (k : ℕ) (line : List ℕ) (part : HeldOf which) → IsStateKept limit link state → BeginsWithout 95 id → length line ≤ 65536
     → AllByRecursion (IsFair which id) (asked_in link state (LineCame k line)) → is_following (client_on link (step state (LineCame k line)).state) ≡ true → Has which part state.world
     → Has which (mirror_after which limit link id part (step state (LineCame k line)).acts) (step state (LineCame k line)).state.world
 line_right which limit link id state k line part kept free within fair after had = came (at_key client_link k state.clients) refl after where
@@ -81,9 +81,9 @@ line_right which limit link id state k line part kept free within fair after had
       let answer = reply_of state.world state.password client request in
       let own = λ (here : eqb (client_link client) link ≡ true). (subst (AllByRecursion (IsFair which id)) (asked_now link state k line client request at read here) fair).0 in
       let alone = asked_replies state kept.told kept.world.empty client request in
-      let following = subst (λ (s : Stepped). is_following (client_on link s.state) ≡ true) alone after in
+      let text_after = subst (λ (s : Stepped). is_following (client_on link s.state) ≡ true) alone after in
       subst (HasAfter which limit link id part) (sym alone)
-      (right-answers which limit link id state (client_link client) answer part (reply_link state client line request read) (reply_text state client line request read) kept free following
+      (right-answers which limit link id state (client_link client) answer part (reply_link state client line request read) (reply_text state client line request read) kept free text_after
       (sends_right which limit link id state (client_link client) answer.messages part
       (λ here. reply_right which limit link id state client line request part kept free within read (own here) had) (λ else. had)))
 
@@ -124,8 +124,8 @@ line_dumps which limit link id state k line part dump kept within e takes after 
   none : List AskedFor
   none = []
 
-  free : FirstByteIsNot 95 id
-  free = subst (FirstByteIsNot 95) takes.under (asked_one link state (LineCame k line) dump none e).free
+  free : BeginsWithout 95 id
+  free = subst (BeginsWithout 95) takes.under (asked_one link state (LineCame k line) dump none e).free
 
   served : (client : Client) (o : Option Request) → at_key client_link k state.clients ≡ Some client → request_of client.escaped line ≡ o → eqb k link ≡ true → asked_with client o ≡ dump ∷ []
       → is_following (client_on link (request_step state client o).state) ≡ true → Has which (mirror_after which limit link id part (request_step state client o).acts) (request_step state client o).state.world
@@ -135,9 +135,9 @@ line_dumps which limit link id state k line part dump kept within e takes after 
       let whole : record { client = client; request = request } ≡ dump = cc in
       let key : eqb (client_link client) link ≡ true = ap (λ n. eqb n link) (at_key-key client_link k state.clients client at) ∙ here in
       let alone = asked_replies state kept.told kept.world.empty client request in
-      let following = subst (λ (s : Stepped). is_following (client_on link s.state) ≡ true) alone after in
+      let text_after = subst (λ (s : Stepped). is_following (client_on link s.state) ≡ true) alone after in
       subst (HasAfter which limit link id part) (sym alone)
-      (right-answers which limit link id state (client_link client) answer part (reply_link state client line request read) (reply_text state client line request read) kept free following
+      (right-answers which limit link id state (client_link client) answer part (reply_link state client line request read) (reply_text state client line request read) kept free text_after
       (sends_right which limit link id state (client_link client) answer.messages part
       (λ here. dump_right which limit link id state client line request part kept within read (subst (TakesDump which id) (sym whole) takes))
       (λ else. absurd (let h : false ≡ true = sym else ∙ key in cc))))

@@ -11,7 +11,7 @@ use Rattle.wc_relaycmd.specs.declared.request.Command.{Command}
 use Rattle.wc_relaycmd.specs.declared.request.Command.TheVariants as ask
 use Rattle.wc_relaycmd.specs.declared.request.Request.{Request}
 use Rattle.wc_relaycmd.specs.Answers.{request_of}
-use Rattle.wc_relaycmd.specs.Cuts.{FirstByteIsNot}
+use Rattle.wc_text.specs.Splits.{BeginsWithout}
 use Rattle.wc_events.specs.NickObjects.{nick_dump}
 use Rattle.wc_session.specs.declared.client.Client.{Client}
 use Rattle.wc_session.specs.OneReply.{AtMostOne, id_of_reply}
@@ -61,7 +61,7 @@ reply_other : (id other : List ℕ) (command : Command) → IsOther id other →
 reply_other id other (ask.Ping text) is pong = record { dump = pong; added = refl; closing = refl; cleared = refl; flags = refl; opened = refl; nicklist = refl; diff = refl; buffers = refl }
 reply_other id other _ is pong = is
 
-no_kind : (other : List ℕ) → FirstByteIsNot 95 other → kind_named other ≡ None
+no_kind : (other : List ℕ) → BeginsWithout 95 other → kind_named other ≡ None
 no_kind other free =
     rw (
       apart_event (codes "buffer_opened") other free,
@@ -78,7 +78,7 @@ no_kind other free =
       apart_event (codes "buffer_closing") other free,
     ) refl
 
-free_other : (id other : List ℕ) → FirstByteIsNot 95 other → bytes_eq other id ≡ false → IsOther id other
+free_other : (id other : List ℕ) → BeginsWithout 95 other → bytes_eq other id ≡ false → IsOther id other
 free_other id other free apart = record {
   dump = apart;
   added = apart_event (codes "buffer_line_added") other free;
@@ -91,7 +91,7 @@ free_other id other free apart = record {
   buffers = no_kind other free;
 }
 
-other_reply : (which : HeldPart) (limit : ℕ) (id : List ℕ) (state : State) (client : Client) (line : List ℕ) (request : Request) (part : HeldOf which) → FirstByteIsNot 95 id
+other_reply : (which : HeldPart) (limit : ℕ) (id : List ℕ) (state : State) (client : Client) (line : List ℕ) (request : Request) (part : HeldOf which) → BeginsWithout 95 id
     → request_of client.escaped line ≡ Some request → bytes_eq request.id id ≡ false → fold_all which limit id part (reply_of state.world state.password client request).messages ≡ part
 other_reply which limit id state client line request part free read other =
     unmoved which limit id (id_of_reply request.id request.command) part (reply_of state.world state.password client request).messages (one_reply state.world state.password client request)
@@ -170,7 +170,7 @@ dump_right which limit link id state client line request part kept within read t
 -- ---- any reply
 
 -- a reply leaves a client that has a part with it
-pub reply_right : (which : HeldPart) (limit link : ℕ) (id : List ℕ) (state : State) (client : Client) (line : List ℕ) (request : Request) (part : HeldOf which) → IsStateKept limit link state → FirstByteIsNot 95 id → length line ≤ 65536
+pub reply_right : (which : HeldPart) (limit link : ℕ) (id : List ℕ) (state : State) (client : Client) (line : List ℕ) (request : Request) (part : HeldOf which) → IsStateKept limit link state → BeginsWithout 95 id → length line ≤ 65536
     → request_of client.escaped line ≡ Some request → IsFair which id (record { client = client; request = request }) → Has which part state.world
     → Has which (fold_all which limit id part (reply_of state.world state.password client request).messages) state.world
 reply_right which limit link id state client line request part kept free within read fair had = by (bytes_eq request.id id) client.logged_in refl refl where

@@ -18,8 +18,7 @@ use Rattle.wc_model.specs.declared.change.Change.{Change}
 use Rattle.wc_model.specs.declared.change.What.{What}
 use Rattle.wc_model.specs.declared.change.What.TheVariants as what
 use Rattle.wc_model.specs.World.{World}
-use Rattle.wc_relaycmd.specs.Cuts.{onward, following}
-use Rattle.wc_relaycmd.specs.Words.{word_of, rest_of}
+use Rattle.wc_text.specs.Splits.{onward, text_after, word_of, rest_of}
 use Rattle.wc_relaycmd.proofs.Utf8Lemmas.{cut_text, put_byte, before_text, past_text}
 use Rattle.wc_core.specs.Resolved.{Effect, Stays, Ends, Tells, Asks, buffer_meant, of_meant, of_named, change_of, line_spec, plugin_in, effect_of}
 use Rattle.wc_core.specs.Typed.{TypedCommand, Nothing, Quits, Refused, Prints, Adds, Closes, Merges, Names, Changes, lines_parted, lines_of_text, print_unless_empty, print_words, tags_of, is_first, second_of, after_second, print_tagged, print_on, print_command, wrong_buffer, one_word, without_words, some_text, moves_to, close_command, starts, set_property, buffer_word, buffer_command, quit_command, command, slash_command, typed_line}
@@ -112,7 +111,7 @@ if_text false x y p q = q
 
 printed_text : (buffer : Option (List ℕ)) (tags : List (List ℕ)) (text : List ℕ) → AllByRecursion IsUtf8 tags → IsTypedText (print_words buffer tags text)
 printed_text buffer tags [] all = tt
-printed_text buffer tags (b ∷ text) all = by (following 9 (b ∷ text)) where
+printed_text buffer tags (b ∷ text) all = by (text_after 9 (b ∷ text)) where
   by : (o : Option (List ℕ)) → IsTypedText (print_unless_empty buffer tags (b ∷ text) o)
   by None = all
   by (Some message) = all

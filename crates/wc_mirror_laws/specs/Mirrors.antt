@@ -2,7 +2,7 @@
 use Rattle.std.specs.Prelude.{◌≡◌, ℕ, ◌≤◌, true, List, [], ◌∷◌, length}
 use Rattle.std.specs.List.{AllByRecursion}
 use Rattle.wc_objects.specs.declared.object.WireMessage.{WireMessage}
-use Rattle.wc_relaycmd.specs.Cuts.{FirstByteIsNot}
+use Rattle.wc_text.specs.Splits.{BeginsWithout}
 use Rattle.wc_core.specs.Events.{Event, Line}
 use Rattle.wc_core.specs.State.{State, Act, first_state}
 use Rattle.wc_core.specs.Step.{step, run}
@@ -38,7 +38,7 @@ IsFair which id asked = has_id id asked ≡ true → asks_dump which asked.reque
 -- One event: a client that had the part, and that is open and follows all events afterwards, has it still.
 abbrev pub StepMirrors : HeldPart → Type 0
 StepMirrors which = (limit link : ℕ) (id : List ℕ) (state : State) (event : Event) (part : HeldOf which)
-    → IsStateKept limit link state → FirstByteIsNot 95 id → IsShortLine event → AllByRecursion (IsFair which id) (asked_in link state event)
+    → IsStateKept limit link state → BeginsWithout 95 id → IsShortLine event → AllByRecursion (IsFair which id) (asked_in link state event)
     → is_following (client_on link (step state event).state) ≡ true → Has which part state.world
     → Has which (mirror_after which limit link id part (step state event).acts) (step state event).state.world
 

@@ -2,8 +2,8 @@
 use Rattle.std.proofs.Common.{◌≡◌, ℕ, List, [], ◌∷◌, ◌++◌, refl, ap, sym, ◌∙◌, arith, eqb, Bool, true, false, cond, append_assoc, length, ◌<◌, ◌≤◌, ◌&&◌}
 use Rattle.std.proofs.lemmas.Bool.{false≢true}
 use Rattle.std.proofs.lemmas.Bool.Decides.{nat_tests}
-use Rattle.wc_relaycmd.specs.Cuts.{before, onward}
-use Rattle.wc_relaycmd.proofs.CutLemmas.{before-onward}
+use Rattle.wc_text.specs.Splits.{before, onward}
+use Rattle.wc_text.proofs.SplitLemmas.{before-onward}
 use Rattle.wc_relaycmd.specs.Escapes.{without_escapes}
 
 -- up to its first `\` a text means itself
@@ -20,9 +20,9 @@ unescaped_cut (b ∷ c ∷ text) = by (eqb b 92) refl (unescaped_cut (c ∷ text
 -- what is read so far, and a run and what is at the front after it
 pub unescaped_more : (plain with_run new run rest back front more text : List ℕ) → plain ++ without_escapes rest ≡ without_escapes text → run ≡ before 92 rest → back ≡ onward 92 rest →
     without_escapes back ≡ front ++ without_escapes more → with_run ≡ plain ++ run → new ≡ with_run ++ front → new ++ without_escapes more ≡ without_escapes text
-unescaped_more plain with_run new run rest back front more text so_far cut following read first second =
+unescaped_more plain with_run new run rest back front more text so_far cut text_after read first second =
     ap (λ t. t ++ without_escapes more) (second ∙ ap (λ t. t ++ front) (first ∙ ap (λ r. plain ++ r) cut)) ∙
-    append_assoc (plain ++ before 92 rest) front (without_escapes more) ∙ ap (λ t. (plain ++ before 92 rest) ++ t) (sym read ∙ ap without_escapes following) ∙
+    append_assoc (plain ++ before 92 rest) front (without_escapes more) ∙ ap (λ t. (plain ++ before 92 rest) ++ t) (sym read ∙ ap without_escapes text_after) ∙
     append_assoc plain (before 92 rest) (without_escapes (onward 92 rest)) ∙ ap (λ t. plain ++ t) (unescaped_cut rest) ∙ so_far
 
 -- each turn leaves less

@@ -1,11 +1,9 @@
-pub mod CutLemmas
 pub mod SplitLemmas
 pub mod ListLemmas
 pub mod LoginLemmas
 pub mod EscapeLemmas
 pub mod SecretLemmas
 pub mod SaltLemmas
-pub mod WordLemmas
 pub mod TagLemmas
 pub mod AskLemmas
 pub mod ReadLemmas

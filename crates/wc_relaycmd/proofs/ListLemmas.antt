@@ -3,7 +3,7 @@ use Rattle.std.proofs.Common.{◌≡◌, ◌≢◌, ℕ, List, [], ◌∷◌, �
 use Rattle.std.specs.List.{onto_first, filter_map, cons_option}
 use Rattle.wc_text.specs.declared.names.Pair.{Pair}
 use Rattle.std.specs.Option.{option_to_list}
-use Rattle.wc_relaycmd.specs.Cuts.{before, following}
+use Rattle.wc_text.specs.Splits.{before, text_after}
 use Rattle.wc_relaycmd.specs.Lists.{pieces_of, items_of, pair_in, pairs_of}
 use Rattle.wc_relaycmd.proofs.SplitLemmas.{slice_split_last, slice_split_more}
 
@@ -17,12 +17,12 @@ items_after-onto_first front b [] = refl
 items_after-onto_first front b (item ∷ items) = ap (λ first. first ∷ items) (sym (append_assoc front (b ∷ []) item))
 
 -- the pieces so far, and the last one
-pub pieces_end : (front new all : List (List ℕ)) (piece rest : List ℕ) → front ++ pieces_of rest ≡ all → piece ≡ before 44 rest → None ≡ following 44 rest → new ≡ front ++ piece ∷ [] → new ≡ all
+pub pieces_end : (front new all : List (List ℕ)) (piece rest : List ℕ) → front ++ pieces_of rest ≡ all → piece ≡ before 44 rest → None ≡ text_after 44 rest → new ≡ front ++ piece ∷ [] → new ≡ all
 pieces_end front new all piece rest so_far cut none pushed =
     pushed ∙ ap (λ p. front ++ p ∷ []) cut ∙ ap (λ ps. front ++ ps) (sym (slice_split_last 44 rest (sym none))) ∙ so_far
 
 -- the pieces so far, and one more
-pub pieces_more : (front new all : List (List ℕ)) (piece rest more : List ℕ) → front ++ pieces_of rest ≡ all → piece ≡ before 44 rest → Some more ≡ following 44 rest → new ≡ front ++ piece ∷ [] → new ++ pieces_of more ≡ all
+pub pieces_more : (front new all : List (List ℕ)) (piece rest more : List ℕ) → front ++ pieces_of rest ≡ all → piece ≡ before 44 rest → Some more ≡ text_after 44 rest → new ≡ front ++ piece ∷ [] → new ++ pieces_of more ≡ all
 pieces_more front new all piece rest more so_far cut some pushed =
     ap (λ ps. ps ++ pieces_of more) (pushed ∙ ap (λ p. front ++ p ∷ []) cut) ∙
     append_assoc front (before 44 rest ∷ []) (pieces_of more) ∙ ap (λ ps. front ++ ps) (sym (slice_split_more 44 rest more (sym some))) ∙ so_far

@@ -7,26 +7,26 @@ use Rattle.wc_text.specs.declared.no_memory.NoMemory.{NoMemory}
 use Rattle.wc_relaycmd.specs.declared.request.Command.{Command}
 use Rattle.wc_relaycmd.specs.declared.request.Request.{Request}
 use Rattle.wc_relaycmd.specs.declared.word.Word.{Word}
-use Rattle.wc_relaycmd.specs.Cuts.{FirstByteIsNot, onward}
+use Rattle.wc_text.specs.Splits.{BeginsWithout, onward}
 use Rattle.wc_relaycmd.specs.Escapes.{without_escapes, arguments_meant}
 use Rattle.wc_relaycmd.specs.Grammar.{Calls, HasCommand, ReadsRequest}
 use Rattle.wc_relaycmd.specs.Answers.{Called, call_of, command_of, asked_by, request_of}
 use Rattle.wc_relaycmd.proofs.EscapeLemmas.{unescaped-plain}
-use Rattle.wc_relaycmd.proofs.WordLemmas.{byte_differs}
+use Rattle.wc_text.proofs.WordLemmas.{byte_differs}
 use Rattle.wc_relaycmd.proofs.TagLemmas.{call_of-calls, calls-call_of}
 use Rattle.wc_relaycmd.proofs.AskLemmas.{command_of-asks, asks-command_of}
 
 -- reading escapes puts no blank at the front
-unescaped-bare : (text : List ℕ) → FirstByteIsNot 32 text → FirstByteIsNot 32 (without_escapes text)
+unescaped-bare : (text : List ℕ) → BeginsWithout 32 text → BeginsWithout 32 (without_escapes text)
 unescaped-bare [] bare = tt
 unescaped-bare (b ∷ []) bare = bare
 unescaped-bare (b ∷ c ∷ text) bare = by (eqb b 92 && eqb c 92) (eqb b 92 && eqb c 110) where
-  by : (s t : Bool) → FirstByteIsNot 32 (cond s (92 ∷ without_escapes text) (cond t (10 ∷ without_escapes text) (b ∷ without_escapes (c ∷ text))))
+  by : (s t : Bool) → BeginsWithout 32 (cond s (92 ∷ without_escapes text) (cond t (10 ∷ without_escapes text) (b ∷ without_escapes (c ∷ text))))
   by true t = byte_differs 92 32 refl
   by false true = byte_differs 10 32 refl
   by false false = bare
 
-meant-bare : (escaped : Bool) (text : List ℕ) → FirstByteIsNot 32 text → FirstByteIsNot 32 (arguments_meant escaped text)
+meant-bare : (escaped : Bool) (text : List ℕ) → BeginsWithout 32 text → BeginsWithout 32 (arguments_meant escaped text)
 meant-bare true text bare = unescaped-bare text bare
 meant-bare false text bare = bare
 
@@ -119,10 +119,10 @@ refused_by (Ok asked) line call utf8 is = tt
 refused_by (Err e) line call utf8 is = called-HasCommand line call utf8 (sym is)
 
 -- a command of a text without a `\`
-pub command_plain : (result : Result (Option Command) NoMemory) (word : Word) (text following : List ℕ) (empty : Bool) → empty ≡ true → empty ≡ eqb (length following) 0 → following ≡ onward 92 text →
+pub command_plain : (result : Result (Option Command) NoMemory) (word : Word) (text text_after : List ℕ) (empty : Bool) → empty ≡ true → empty ≡ eqb (length text_after) 0 → text_after ≡ onward 92 text →
     IfOk result (λ asked. asked ≡ command_of word text) → IfOk result (λ asked. asked ≡ command_of word (without_escapes text))
 command_plain result word text [] empty is test cut computed =
     subst (λ t. IfOk result (λ asked. asked ≡ command_of word t)) (sym (unescaped-plain text (sym cut))) computed
-command_plain result word text (b ∷ following) empty is test cut computed = absurd (false≢true (sym longer ∙ (sym test ∙ is))) where
-  longer : eqb (length (b ∷ following)) 0 ≡ false
+command_plain result word text (b ∷ text_after) empty is test cut computed = absurd (false≢true (sym longer ∙ (sym test ∙ is))) where
+  longer : eqb (length (b ∷ text_after)) 0 ≡ false
   longer = grind arith

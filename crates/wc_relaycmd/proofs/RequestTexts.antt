@@ -7,7 +7,7 @@ use Rattle.wc_relaycmd.specs.declared.word.Word.{Word}
 use Rattle.wc_relaycmd.specs.declared.word.Word.TheVariants as Words
 use Rattle.wc_relaycmd.specs.declared.request.Command.{Command}
 use Rattle.wc_relaycmd.specs.declared.request.Request.{Request}
-use Rattle.wc_relaycmd.specs.Words.{blanks}
+use Rattle.wc_text.specs.Splits.{blanks}
 use Rattle.wc_relaycmd.specs.Escapes.{arguments_meant}
 use Rattle.wc_relaycmd.specs.Grammar.{name_of, IsTag, Calls, TwoParts, AreOptions, Selects, AsksNicks, Asks, ReadsRequest}
 use Rattle.wc_relaycmd.specs.Utf8.{AreUtf8Words, OptionsUtf8, CommandUtf8, RequestIsUtf8}

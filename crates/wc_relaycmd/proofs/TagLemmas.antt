@@ -8,11 +8,10 @@ use Rattle.std.specs.List.{find}
 use Rattle.std.specs.Str.{bytes_eq}
 use Rattle.wc_relaycmd.specs.declared.word.Word.{Word}
 use Rattle.wc_relaycmd.specs.declared.word.Word.TheVariants as Words
-use Rattle.wc_relaycmd.specs.Cuts.{before, following, past, FirstByteIsNot}
-use Rattle.wc_relaycmd.specs.Words.{blanks, WordAndBlanks, word_of, rest_of}
+use Rattle.wc_text.specs.Splits.{before, text_after, past, BeginsWithout, blanks, WordAndRest, word_of, rest_of}
 use Rattle.wc_relaycmd.specs.Grammar.{name_of, word_named, all_words, IsId, IsTag, Calls}
 use Rattle.wc_relaycmd.specs.Answers.{Called, tag_of, named_tag, called_by, call_of}
-use Rattle.wc_relaycmd.proofs.WordLemmas.{other_byte, byte_differs, before-at, following-at, LacksByte-before, cut_after, past-blanks, past-bare, margin, WordAndBlanks-same, WordAndBlanks-made}
+use Rattle.wc_text.proofs.WordLemmas.{other_byte, byte_differs, before-at, text_after-at, Lacks-before, cut_after, past-blanks, past-bare, margin, WordAndRest-same, WordAndRest-made}
 
 -- each command is found by its name
 pub word_named-name_of : (word : Word) → word_named (name_of word) ≡ Some word
@@ -63,7 +62,7 @@ name_of_named text word found = (bytes_eq-Decides text (name_of word)).0 (find_p
 
 -- a call begins with its command's name, so with neither a blank nor a parenthesis
 pub record BeginsWell (call : List ℕ) : Type 0 where
-  pub no_blank : FirstByteIsNot 32 call
+  pub no_blank : BeginsWithout 32 call
   pub no_tag : tag_of call ≡ Some ([], call)
 
 begins_from : (b : ℕ) (text : List ℕ) → not (eqb b 32) && not (eqb b 40) ≡ true → BeginsWell (b ∷ text)
@@ -80,7 +79,7 @@ named_begins : (name rest : List ℕ) → begins_well name ≡ true → BeginsWe
 named_begins [] rest well = absurd (false≢true well)
 named_begins (b ∷ name) rest well = begins_from b (name ++ rest) well
 
-call_begins : (call : List ℕ) (word : Word) (arguments : List ℕ) → WordAndBlanks call (name_of word) arguments → BeginsWell call
+call_begins : (call : List ℕ) (word : Word) (arguments : List ℕ) → WordAndRest call (name_of word) arguments → BeginsWell call
 call_begins call word arguments parts =
     subst BeginsWell (sym parts.spelled) (named_begins (name_of word) (blanks parts.gap ++ arguments) (name_begins_well word))
 
@@ -88,8 +87,8 @@ call_begins call word arguments parts =
 named_found : (id rest : List ℕ) → IsId id → named_tag (id ++ 41 ∷ rest) ≡ Some (id, rest)
 named_found [] rest is_id = refl
 named_found (c ∷ id) rest is_id =
-    ap (λ t. cond t None (option_map (λ after. (before 41 (c ∷ (id ++ 41 ∷ rest)), after)) (following 41 (c ∷ (id ++ 41 ∷ rest))))) (other_byte c 95 is_id.0) ∙
-    ap (λ o. option_map (λ after. (before 41 (c ∷ (id ++ 41 ∷ rest)), after)) o) (following-at 41 (c ∷ id) rest is_id.1) ∙
+    ap (λ t. cond t None (option_map (λ after. (before 41 (c ∷ (id ++ 41 ∷ rest)), after)) (text_after 41 (c ∷ (id ++ 41 ∷ rest))))) (other_byte c 95 is_id.0) ∙
+    ap (λ o. option_map (λ after. (before 41 (c ∷ (id ++ 41 ∷ rest)), after)) o) (text_after-at 41 (c ∷ id) rest is_id.1) ∙
     ap (λ i. Some (i, rest)) (before-at 41 (c ∷ id) rest is_id.1)
 
 tag_found : (b : ℕ) (tag id rest : List ℕ) → IsTag (b ∷ tag) id → tag_of (past 32 (b ∷ (tag ++ rest))) ≡ Some (id, rest)
@@ -120,7 +119,7 @@ pub call_of-calls : (line id : List ℕ) (word : Word) (arguments : List ℕ) �
 unfolding call_of
 call_of-calls line id word arguments calls =
     let finds = after_tag calls.tag id calls.call calls.gap calls.tagged (call_begins calls.call word arguments calls.called) in
-    let parts = WordAndBlanks-same calls.call (name_of word) arguments calls.called in
+    let parts = WordAndRest-same calls.call (name_of word) arguments calls.called in
     ap (λ t. option_and_then (λ (tag : List ℕ × List ℕ). called_by tag.0 (past 32 tag.1)) t) (ap (λ l. tag_of (past 32 l)) calls.spelled ∙ ap tag_of (past-blanks calls.margin _) ∙ finds.tagged) ∙
     ap (called_by id) finds.called ∙
     ap (λ w. option_map (λ word. record { id = id; word = word; arguments = rest_of calls.call }) (word_named w)) (sym parts.0) ∙
@@ -138,9 +137,9 @@ named_reads [] tag found = absurd (cc)
 named_reads (b ∷ text) tag found = by (eqb b 95) refl found where
   id_of : (t : Bool) → eqb b 41 ≡ t → b ≢ 95 → IsId (cond t [] (b ∷ before 41 text))
   id_of true e other = tt
-  id_of false e other = (other, (byte_differs b 41 e, LacksByte-before 41 text))
+  id_of false e other = (other, (byte_differs b 41 e, Lacks-before 41 text))
 
-  opened : (o : Option (List ℕ)) → following 41 (b ∷ text) ≡ o → b ≢ 95 → option_map (λ rest. (before 41 (b ∷ text), rest)) o ≡ Some tag → (b ∷ text ≡ tag.0 ++ 41 ∷ tag.1) × IsId tag.0
+  opened : (o : Option (List ℕ)) → text_after 41 (b ∷ text) ≡ o → b ≢ 95 → option_map (λ rest. (before 41 (b ∷ text), rest)) o ≡ Some tag → (b ∷ text ≡ tag.0 ++ 41 ∷ tag.1) × IsId tag.0
   opened None e other here = absurd (cc)
   opened (Some rest) e other here =
       let same : (before 41 (b ∷ text), rest) ≡ tag = cc in
@@ -148,9 +147,9 @@ named_reads (b ∷ text) tag found = by (eqb b 95) refl found where
       let rest_is : rest ≡ tag.1 = ap (λ (p : List ℕ × List ℕ). p.1) same in
       (cut_after 41 (b ∷ text) rest e ∙ ap (λ i. i ++ 41 ∷ rest) id_is ∙ ap (λ r. tag.0 ++ 41 ∷ r) rest_is, subst IsId id_is (id_of (eqb b 41) refl other))
 
-  by : (t : Bool) → eqb b 95 ≡ t → cond t None (option_map (λ rest. (before 41 (b ∷ text), rest)) (following 41 (b ∷ text))) ≡ Some tag → (b ∷ text ≡ tag.0 ++ 41 ∷ tag.1) × IsId tag.0
+  by : (t : Bool) → eqb b 95 ≡ t → cond t None (option_map (λ rest. (before 41 (b ∷ text), rest)) (text_after 41 (b ∷ text))) ≡ Some tag → (b ∷ text ≡ tag.0 ++ 41 ∷ tag.1) × IsId tag.0
   by true e here = absurd (cc)
-  by false e here = opened (following 41 (b ∷ text)) refl (byte_differs b 95 e) here
+  by false e here = opened (text_after 41 (b ∷ text)) refl (byte_differs b 95 e) here
 
 pub tag_reads : (text : List ℕ) (tag : List ℕ × List ℕ) → tag_of text ≡ Some tag → HasTag text tag
 tag_reads [] tag found =
@@ -182,8 +181,8 @@ calls-call_of line call found =
           let same : record { id = tag.0; word = word; arguments = rest_of (past 32 tag.1) } ≡ call = cc in
           let before_tag = margin line in
           let after_tag = margin tag.1 in
-          let parts : WordAndBlanks (past 32 tag.1) (name_of word) (rest_of (past 32 tag.1)) =
-          subst (λ w. WordAndBlanks (past 32 tag.1) w (rest_of (past 32 tag.1))) (name_of_named (word_of (past 32 tag.1)) word e) (WordAndBlanks-made (past 32 tag.1)) in
+          let parts : WordAndRest (past 32 tag.1) (name_of word) (rest_of (past 32 tag.1)) =
+          subst (λ w. WordAndRest (past 32 tag.1) w (rest_of (past 32 tag.1))) (name_of_named (word_of (past 32 tag.1)) word e) (WordAndRest-made (past 32 tag.1)) in
           subst (λ (c : Called). Calls line c.id c.word c.arguments) same (record {
             margin = before_tag.0;
             tag = has.written;

@@ -7,13 +7,12 @@ use Rattle.std.proofs.lemmas.Str.{IsUtf8-append, IsUtf8-nil, IsUtf8-take, IsUtf8
 use Rattle.std.specs.List.{onto_first, filter_map, cons_option}
 use Rattle.std.specs.Str.{IsUtf8}
 use Rattle.wc_text.specs.declared.names.Pair.{Pair}
-use Rattle.wc_relaycmd.specs.Cuts.{before, following, past}
-use Rattle.wc_relaycmd.specs.Words.{blanks, WordAndBlanks}
+use Rattle.wc_text.specs.Splits.{before, text_after, past, blanks, WordAndRest}
 use Rattle.wc_relaycmd.specs.Lists.{items_of, pieces_of, pair_in, pairs_of}
 use Rattle.wc_relaycmd.specs.Escapes.{without_escapes, arguments_meant}
 use Rattle.wc_relaycmd.specs.Utf8.{AreUtf8Words, PairsUtf8}
 use Rattle.wc_relaycmd.proofs.ListLemmas.{items_after, items_after-onto_first, items_of-filled}
-use Rattle.wc_relaycmd.proofs.WordLemmas.{margin, cut_after}
+use Rattle.wc_text.proofs.WordLemmas.{margin, cut_after}
 
 get_or-seam : (front rest : List ℕ) (b : ℕ) → get_or (front ++ b ∷ rest) (length front) 0 ≡ b
 get_or-seam [] rest b = refl
@@ -36,20 +35,20 @@ one_byte b ascii = IsUtf8-from_ascii (b ∷ []) (λ i. grind arith)
 pub put_byte : (b : ℕ) (text : List ℕ) → b < 128 → IsUtf8 text → IsUtf8 (b ∷ text)
 put_byte b text ascii utf8 = IsUtf8-append (b ∷ []) text (one_byte b ascii) utf8
 
-pub before-whole : (c : ℕ) (text : List ℕ) → following c text ≡ None → before c text ≡ text
+pub before-whole : (c : ℕ) (text : List ℕ) → text_after c text ≡ None → before c text ≡ text
 before-whole c [] none = refl
 before-whole c (b ∷ text) none = by (eqb b c) none (before-whole c text) where
-  by : (t : Bool) → cond t (Some text) (following c text) ≡ None → (following c text ≡ None → before c text ≡ text) → cond t [] (b ∷ before c text) ≡ b ∷ text
+  by : (t : Bool) → cond t (Some text) (text_after c text) ≡ None → (text_after c text ≡ None → before c text ≡ text) → cond t [] (b ∷ before c text) ≡ b ∷ text
   by true here more = absurd (cc)
   by false here more = ap (λ t. b ∷ t) (more here)
 
 pub before_text : (c : ℕ) (text : List ℕ) → c < 128 → IsUtf8 text → IsUtf8 (before c text)
-before_text c text ascii utf8 = by (following c text) refl where
-  by : (o : Option (List ℕ)) → following c text ≡ o → IsUtf8 (before c text)
+before_text c text ascii utf8 = by (text_after c text) refl where
+  by : (o : Option (List ℕ)) → text_after c text ≡ o → IsUtf8 (before c text)
   by None e = subst IsUtf8 (sym (before-whole c text e)) utf8
   by (Some rest) e = (cut_text (before c text) c rest ascii (subst IsUtf8 (cut_after c text rest e) utf8)).0
 
-pub after_text : (c : ℕ) (text rest : List ℕ) → c < 128 → IsUtf8 text → following c text ≡ Some rest → IsUtf8 rest
+pub after_text : (c : ℕ) (text rest : List ℕ) → c < 128 → IsUtf8 text → text_after c text ≡ Some rest → IsUtf8 rest
 after_text c text rest ascii utf8 e = (cut_text (before c text) c rest ascii (subst IsUtf8 (cut_after c text rest e) utf8)).1
 
 pub after_blanks_text : (n : ℕ) (rest : List ℕ) → IsUtf8 (blanks n ++ rest) → IsUtf8 rest
@@ -60,7 +59,7 @@ pub past_text : (text : List ℕ) → IsUtf8 text → IsUtf8 (past 32 text)
 past_text text utf8 = let gap = margin text in after_blanks_text gap.0 (past 32 text) (subst IsUtf8 gap.1 utf8)
 
 -- a word, and what follows it
-pub parts_text : (text word rest : List ℕ) → WordAndBlanks text word rest → IsUtf8 text → IsUtf8 word × IsUtf8 rest
+pub parts_text : (text word rest : List ℕ) → WordAndRest text word rest → IsUtf8 text → IsUtf8 word × IsUtf8 rest
 parts_text text word rest parts utf8 = by parts.gap rest parts.parted (subst IsUtf8 parts.spelled utf8) where
   by : (gap : ℕ) (rest : List ℕ) → (rest ≢ [] → 0 < gap) → IsUtf8 (word ++ (blanks gap ++ rest)) → IsUtf8 word × IsUtf8 rest
   by zero [] parted here = (subst IsUtf8 (append-nil word) here, IsUtf8-nil)
@@ -129,8 +128,8 @@ items_text front (b ∷ c ∷ text) utf8 =
       by false t u e f g more next other = ends u g next other
 
 pair_text : (item : List ℕ) (pair : Pair) → IsUtf8 item → pair_in item ≡ Some pair → IsUtf8 pair.name × IsUtf8 pair.value
-pair_text item pair utf8 is = by (following 61 item) refl is where
-  by : (o : Option (List ℕ)) → following 61 item ≡ o → option_map (λ value. record { name = past 32 (before 61 item); value = value }) o ≡ Some pair → IsUtf8 pair.name × IsUtf8 pair.value
+pair_text item pair utf8 is = by (text_after 61 item) refl is where
+  by : (o : Option (List ℕ)) → text_after 61 item ≡ o → option_map (λ value. record { name = past 32 (before 61 item); value = value }) o ≡ Some pair → IsUtf8 pair.name × IsUtf8 pair.value
   by None e here = absurd (cc)
   by (Some value) e here =
       let same : record { name = past 32 (before 61 item); value = value } ≡ pair = cc in

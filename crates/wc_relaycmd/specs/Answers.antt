@@ -9,8 +9,7 @@ use Rattle.wc_relaycmd.specs.declared.request.Command.{Command}
 use Rattle.wc_relaycmd.specs.declared.request.Command.TheVariants as Commands
 use Rattle.wc_relaycmd.specs.declared.request.Request.{Request}
 use Rattle.wc_text.specs.Integer.{integer_of}
-use Rattle.wc_relaycmd.specs.Cuts.{before, following, past}
-use Rattle.wc_relaycmd.specs.Words.{word_of, rest_of}
+use Rattle.wc_text.specs.Splits.{before, text_after, past, word_of, rest_of}
 use Rattle.wc_relaycmd.specs.Lists.{pieces_of, pairs_of}
 use Rattle.wc_relaycmd.specs.Escapes.{arguments_meant}
 use Rattle.wc_relaycmd.specs.Grammar.{word_named}
@@ -34,7 +33,7 @@ abbrev pub hdata_of : List ℕ → Option Command
 hdata_of text = if_filled text (Commands.Hdata (word_of text) (second_of text))
 
 abbrev pub input_of : List ℕ → Option Command
-input_of text = option_and_then (λ typed. if_filled typed (Commands.Input (word_of text) typed)) (following 32 text)
+input_of text = option_and_then (λ typed. if_filled typed (Commands.Input (word_of text) typed)) (text_after 32 text)
 
 unfoldable pub completion_of : List ℕ → Option Command
 completion_of [] = None
@@ -67,7 +66,7 @@ command_of Words.Quit text = Some Commands.Quit
 -- an id up to its `)`, and what follows it
 abbrev pub named_tag : List ℕ → Option (List ℕ × List ℕ)
 named_tag [] = None
-named_tag (b ∷ text) = if b == 95 then None else option_map (λ rest. (before 41 (b ∷ text), rest)) (following 41 (b ∷ text))
+named_tag (b ∷ text) = if b == 95 then None else option_map (λ rest. (before 41 (b ∷ text), rest)) (text_after 41 (b ∷ text))
 
 -- the id of a text, empty where it has none, and what follows it
 abbrev pub tag_of : List ℕ → Option (List ℕ × List ℕ)

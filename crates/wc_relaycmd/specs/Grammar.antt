@@ -8,8 +8,7 @@ use Rattle.wc_relaycmd.specs.declared.request.Command.{Command}
 use Rattle.wc_relaycmd.specs.declared.request.Command.TheVariants as Commands
 use Rattle.wc_relaycmd.specs.declared.request.Request.{Request}
 use Rattle.wc_text.specs.Integer.{integer_of}
-use Rattle.wc_relaycmd.specs.Cuts.{LacksByte}
-use Rattle.wc_relaycmd.specs.Words.{blanks, WordAndBlanks}
+use Rattle.wc_text.specs.Splits.{Lacks, blanks, WordAndRest}
 use Rattle.wc_relaycmd.specs.Lists.{pieces_of, pairs_of}
 use Rattle.wc_relaycmd.specs.Escapes.{arguments_meant}
 
@@ -41,7 +40,7 @@ word_named text = find (λ word. bytes_eq text (name_of word)) all_words
 -- an id has no `)` and does not begin with `_`
 abbrev pub IsId : List ℕ → Type 0
 IsId [] = Unit {0}
-IsId (b ∷ id) = (b ≢ 95) × LacksByte 41 (b ∷ id)
+IsId (b ∷ id) = (b ≢ 95) × Lacks 41 (b ∷ id)
 
 -- An id is in parentheses; where there is nothing, the id is empty.
 abbrev pub IsTag : List ℕ → List ℕ → Type 0
@@ -56,7 +55,7 @@ pub record Calls (line id : List ℕ) (word : Word) (arguments : List ℕ) : Typ
   pub call : List ℕ
   pub spelled : line ≡ blanks margin ++ (tag ++ (blanks gap ++ call))
   pub tagged : IsTag tag id
-  pub called : WordAndBlanks call (name_of word) arguments
+  pub called : WordAndRest call (name_of word) arguments
 
 -- a line that is text and calls a command
 pub record HasCommand (line : List ℕ) : Type 0 where
@@ -69,9 +68,9 @@ pub record HasCommand (line : List ℕ) : Type 0 where
 -- A text is two words, of which the second may be empty, and what follows them.
 pub record TwoParts (text first second rest : List ℕ) : Type 0 where
   pub filled : first ≢ []
-  pub following : List ℕ
-  pub front : WordAndBlanks text first following
-  pub back : WordAndBlanks following second rest
+  pub text_after : List ℕ
+  pub front : WordAndRest text first text_after
+  pub back : WordAndRest text_after second rest
 
 -- what follows the buffers of `sync` and `desync`: one word of options, or none
 abbrev pub AreOptions : List ℕ → Option (List (List ℕ)) → Type 0
@@ -87,18 +86,18 @@ Selects (b ∷ text) buffers options = (first second rest : List ℕ) ×
 -- `nicklist` alone, or with a buffer
 abbrev pub AsksNicks : List ℕ → Command → Type 0
 AsksNicks [] command = command ≡ Commands.Nicklist None
-AsksNicks (b ∷ text) command = (buffer rest : List ℕ) × WordAndBlanks (b ∷ text) buffer rest × (command ≡ Commands.Nicklist (Some buffer))
+AsksNicks (b ∷ text) command = (buffer rest : List ℕ) × WordAndRest (b ∷ text) buffer rest × (command ≡ Commands.Nicklist (Some buffer))
 
 -- what a command's arguments ask
 unfoldable pub Asks : Word → List ℕ → Command → Type 0
 Asks Words.Handshake text command = command ≡ Commands.Handshake (pairs_of text)
 Asks Words.Init text command = (text ≢ []) × (command ≡ Commands.Init (pairs_of text))
 Asks Words.Hdata text command = (path keys rest : List ℕ) × TwoParts text path keys rest × (command ≡ Commands.Hdata path keys)
-Asks Words.Info text command = (name rest : List ℕ) × (name ≢ []) × WordAndBlanks text name rest × (command ≡ Commands.Info name)
-Asks Words.Infolist text command = (name rest : List ℕ) × (name ≢ []) × WordAndBlanks text name rest × (command ≡ Commands.Infolist name)
+Asks Words.Info text command = (name rest : List ℕ) × (name ≢ []) × WordAndRest text name rest × (command ≡ Commands.Info name)
+Asks Words.Infolist text command = (name rest : List ℕ) × (name ≢ []) × WordAndRest text name rest × (command ≡ Commands.Infolist name)
 Asks Words.Nicklist text command = AsksNicks text command
 Asks Words.Input text command = (buffer typed : List ℕ) × (buffer ≢ []) × (typed ≢ []) ×
-    LacksByte 32 buffer × (text ≡ buffer ++ 32 ∷ typed) × (command ≡ Commands.Input buffer typed)
+    Lacks 32 buffer × (text ≡ buffer ++ 32 ∷ typed) × (command ≡ Commands.Input buffer typed)
 Asks Words.Completion text command = (buffer number typed : List ℕ) × (position : ℤ) ×
     TwoParts text buffer number typed × (integer_of number ≡ Some position) × (command ≡ Commands.Completion buffer position typed)
 Asks Words.Sync text command = (buffers : List (List ℕ)) × (options : Option (List (List ℕ))) ×

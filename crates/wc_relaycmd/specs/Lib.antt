@@ -1,5 +1,3 @@
-pub mod Cuts
-pub mod Words
 pub mod Lists
 pub mod Fronts
 pub mod Escapes

@@ -3,7 +3,7 @@ use Rattle.std.specs.Prelude.{ℕ, ◌&&◌, List, [], ◌∷◌, reverse, find,
 use Rattle.std.specs.List.{slice_split, onto_first, filter_map}
 use Rattle.std.specs.Str.{bytes_eq}
 use Rattle.wc_text.specs.declared.names.Pair.{Pair}
-use Rattle.wc_relaycmd.specs.Cuts.{before, following, past}
+use Rattle.wc_text.specs.Splits.{before, text_after, past}
 
 -- the pieces of a text between commas
 abbrev pub pieces_of : List ℕ → List (List ℕ)
@@ -20,7 +20,7 @@ items_of (b ∷ c ∷ text) =
 -- the pair that an item writes: a name, without the blanks at its front, and the value after the `=`; an item
 -- without a `=` writes none
 abbrev pub pair_in : List ℕ → Option Pair
-pair_in item = option_map (λ value. record { name = past 32 (before 61 item); value = value }) (following 61 item)
+pair_in item = option_map (λ value. record { name = past 32 (before 61 item); value = value }) (text_after 61 item)
 
 -- the pairs of a list of `name=value`
 unfoldable pub pairs_of : List ℕ → List Pair

@@ -2,12 +2,11 @@ ghost use Rattle.std.specs.Prelude.{◌≡◌, IfOk, option_map};
 ghost use Rattle.wc_relaycmd.specs.Answers.{leading_of, init_of, hdata_of, input_of, completion_of, buffers_of, options_of, command_of, if_filled};
 ghost use Rattle.wc_relaycmd.specs.Lists.{pieces_of};
 
-use crate::cuts::{cut_word, split_once};
 use crate::lists::{pairs, pieces};
 use crate::request::Command;
 use crate::word::Word;
 use std::alloc::Global;
-use wc_text::{Items, NoMemory, Text, read_i64};
+use wc_text::{Items, NoMemory, Text, cut_word, read_i64, split_once};
 
 /// The word at the front of a text. None where the text is empty.
 fn leading(alloc: Global, text: &[u8]) -> Result<Option<Text>, NoMemory>
@@ -35,8 +34,8 @@ fn hdata(alloc: Global, text: &[u8]) -> Result<Option<Command>, NoMemory>
     if text.is_empty() {
         return Ok(None);
     }
-    let (path, following) = cut_word(text);
-    let (keys, _) = cut_word(following);
+    let (path, text_after) = cut_word(text);
+    let (keys, _) = cut_word(text_after);
     let path = Text::from_slice(alloc, path)?;
     let keys = Text::from_slice(alloc, keys)?;
     Ok(Some(Command::Hdata { path, keys }))
@@ -46,8 +45,8 @@ fn hdata(alloc: Global, text: &[u8]) -> Result<Option<Command>, NoMemory>
 fn input(alloc: Global, text: &[u8]) -> Result<Option<Command>, NoMemory>
     ensures { IfOk result (λ command. command ≡ input_of text.now) }
 {
-    let (buffer, following) = split_once(text, b' ');
-    let Some(typed) = following else {
+    let (buffer, text_after) = split_once(text, b' ');
+    let Some(typed) = text_after else {
         return Ok(None);
     };
     if typed.is_empty() {
@@ -66,8 +65,8 @@ fn completion(alloc: Global, text: &[u8]) -> Result<Option<Command>, NoMemory>
     if text.is_empty() {
         return Ok(None);
     }
-    let (buffer, following) = cut_word(text);
-    let (number, typed) = cut_word(following);
+    let (buffer, text_after) = cut_word(text);
+    let (number, typed) = cut_word(text_after);
     let Some(position) = read_i64(number) else {
         return Ok(None);
     };
@@ -97,8 +96,8 @@ fn buffers(alloc: Global, text: &[u8]) -> Result<Items<Text>, NoMemory>
 fn options(alloc: Global, text: &[u8]) -> Result<Option<Items<Text>>, NoMemory>
     ensures { IfOk result (λ options. options ≡ options_of text.now) }
 {
-    let (_, following) = cut_word(text);
-    let (word, _) = cut_word(following);
+    let (_, text_after) = cut_word(text);
+    let (word, _) = cut_word(text_after);
     if word.is_empty() {
         return Ok(None);
     }

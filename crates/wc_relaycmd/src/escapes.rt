@@ -1,9 +1,8 @@
 ghost use Rattle.std.specs.Prelude.{◌≡◌, ◌++◌, ◌<◌, ◌≤◌, length, IfOk};
 ghost use Rattle.wc_relaycmd.specs.Escapes.{without_escapes};
 
-use crate::cuts::cut_at;
 use std::alloc::Global;
-use wc_text::{NoMemory, Text};
+use wc_text::{NoMemory, Text, cut_at};
 
 /// What the bytes at the front of a text mean, and what follows them.
 fn read_front(text: &[u8]) -> (&[u8], &[u8])
@@ -12,9 +11,9 @@ fn read_front(text: &[u8]) -> (&[u8], &[u8])
     ensures moves { 0 < length text.now → length result.1.now < length text.now }
 {
     match text {
-        [b'\\', b'\\', following @ ..] => (b"\\", following),
-        [b'\\', b'n', following @ ..] => (b"\n", following),
-        [_, following @ ..] => (&text[..1], following),
+        [b'\\', b'\\', text_after @ ..] => (b"\\", text_after),
+        [b'\\', b'n', text_after @ ..] => (b"\n", text_after),
+        [_, text_after @ ..] => (&text[..1], text_after),
         [] => (text, text),
     }
 }
@@ -26,8 +25,8 @@ pub fn unescape(alloc: Global, text: &[u8]) -> Result<Text, NoMemory>
     let mut plain = Text::new(alloc);
     let mut rest = text;
     while !rest.is_empty() {
-        let (run, following) = cut_at(rest, b'\\');
-        let (front, more) = read_front(following);
+        let (run, text_after) = cut_at(rest, b'\\');
+        let (front, more) = read_front(text_after);
         plain.append(run)?;
         plain.append(front)?;
         rest = more;

@@ -3,7 +3,6 @@
 
 mod algorithm;
 mod arguments;
-mod cuts;
 mod escapes;
 mod line;
 mod lists;
@@ -13,7 +12,6 @@ mod secrets;
 mod word;
 
 pub use algorithm::{Algorithm, choose_algorithm};
-pub use cuts::{cut_word, split_once};
 pub use line::{one_request, read_request};
 pub use lists::last_value;
 pub use login::{HashLogin, Login, check_login, read_login};

@@ -7,12 +7,11 @@ ghost use Rattle.wc_relaycmd.specs.Utf8.{RequestIsUtf8};
 ghost use Rattle.wc_relaycmd.specs.declared.request.Request.{Request};
 
 use crate::arguments::command;
-use crate::cuts::{cut_at, cut_word, past_blanks, split_once};
 use crate::escapes::unescape;
 use crate::request::{Command, Request};
 use crate::word::Word;
 use std::alloc::Global;
-use wc_text::{NoMemory, Text};
+use wc_text::{NoMemory, Text, cut_at, cut_word, past_blanks, split_once};
 
 /// What a line calls.
 #[derive(Clone, Copy)]
@@ -33,8 +32,8 @@ fn cut_tag(text: &[u8]) -> Option<(&[u8], &[u8])>
     if let [b'_', ..] = named {
         return None;
     }
-    let (id, following) = split_once(named, b')');
-    Some((id, following?))
+    let (id, text_after) = split_once(named, b')');
+    Some((id, text_after?))
 }
 
 /// What a line calls. It takes no memory.
@@ -42,8 +41,8 @@ fn cut_tag(text: &[u8]) -> Option<(&[u8], &[u8])>
 fn read_call(line: &[u8]) -> Option<Call<'_>>
     ensures { option_map call_named result ≡ call_of line.now }
 {
-    let (id, following) = cut_tag(past_blanks(line))?;
-    let (name, arguments) = cut_word(past_blanks(following));
+    let (id, text_after) = cut_tag(past_blanks(line))?;
+    let (name, arguments) = cut_word(past_blanks(text_after));
     let word = Word::named(name)?;
     Some(Call {
         id,
@@ -58,8 +57,8 @@ fn read_call(line: &[u8]) -> Option<Call<'_>>
 fn escaped_command(alloc: Global, word: Word, arguments: &[u8]) -> Result<Option<Command>, NoMemory>
     ensures { IfOk result (λ asked. asked ≡ command_of word (without_escapes arguments.now)) }
 {
-    let (_, following) = cut_at(arguments, b'\\');
-    if following.is_empty() {
+    let (_, text_after) = cut_at(arguments, b'\\');
+    if text_after.is_empty() {
         return command(alloc, word, arguments);
     }
     let text = unescape(alloc, arguments)?;

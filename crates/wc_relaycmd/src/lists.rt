@@ -3,9 +3,8 @@ ghost use Rattle.std.specs.Option.{option_copied};
 ghost use Rattle.wc_relaycmd.specs.Lists.{pieces_of, items_of, items_after, pair_in, pairs_of, last_value};
 ghost use Rattle.wc_relaycmd.specs.Fronts.{IsListFront};
 
-use crate::cuts::{past_blanks, split_once};
 use std::alloc::Global;
-use wc_text::{Items, NoMemory, Pair, Text};
+use wc_text::{Items, NoMemory, Pair, Text, past_blanks, split_once};
 
 /// The pieces of a text between commas.
 pub fn pieces(alloc: Global, text: &[u8]) -> Result<Items<Text>, NoMemory>
@@ -14,9 +13,9 @@ pub fn pieces(alloc: Global, text: &[u8]) -> Result<Items<Text>, NoMemory>
     let mut pieces = Items::new(alloc);
     let mut rest = text;
     loop {
-        let (piece, following) = split_once(rest, b',');
+        let (piece, text_after) = split_once(rest, b',');
         pieces.push(Text::from_slice(alloc, piece)?)?;
-        let Some(more) = following else {
+        let Some(more) = text_after else {
             return Ok(pieces);
         };
         rest = more;
@@ -51,10 +50,10 @@ fn take_item(alloc: Global, list: &[u8]) -> Result<(Text, Option<&[u8]>), NoMemo
     let mut rest = list;
     loop {
         match read_front(rest) {
-            Front::Ends(following) => return Ok((item, following)),
-            Front::Goes(byte, following) => {
+            Front::Ends(text_after) => return Ok((item, text_after)),
+            Front::Goes(byte, text_after) => {
                 item.append(&[byte])?;
-                rest = following;
+                rest = text_after;
             }
         }
     }
@@ -64,8 +63,8 @@ fn take_item(alloc: Global, list: &[u8]) -> Result<(Text, Option<&[u8]>), NoMemo
 fn pair(alloc: Global, item: &[u8]) -> Result<Option<Pair>, NoMemory>
     ensures { IfOk result (λ pair. pair ≡ pair_in item.now) }
 {
-    let (name, following) = split_once(item, b'=');
-    let Some(value) = following else {
+    let (name, text_after) = split_once(item, b'=');
+    let Some(value) = text_after else {
         return Ok(None);
     };
     let name = Text::from_slice(alloc, past_blanks(name))?;
@@ -89,10 +88,10 @@ pub fn pairs(alloc: Global, list: &[u8]) -> Result<Items<Pair>, NoMemory>
     let mut pairs = Items::new(alloc);
     let mut rest = list;
     loop {
-        let (item, following) = take_item(alloc, rest)?;
+        let (item, text_after) = take_item(alloc, rest)?;
         let pair = pair(alloc, item.as_slice())?;
         push_pair(&mut pairs, pair)?;
-        let Some(more) = following else {
+        let Some(more) = text_after else {
             return Ok(pairs);
         };
         rest = more;

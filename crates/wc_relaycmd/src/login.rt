@@ -4,13 +4,12 @@ ghost use Rattle.wc_relaycmd.specs.Logins.{hash_named, bytes_in, hash_from, hash
 ghost use Rattle.wc_relaycmd.specs.Choices.{algorithm_name};
 
 use crate::algorithm::Algorithm;
-use crate::cuts::split_once;
 use crate::lists::last_value;
 use crate::secrets::is_same_secret;
 use hex::FromHexError;
 use sha2::{Digest, Sha256, Sha512};
 use std::alloc::Global;
-use wc_text::{Items, NoMemory, Pair, Text};
+use wc_text::{Items, NoMemory, Pair, Text, split_once};
 
 /// What a client gives to be let in.
 #[derive(Drop)]
@@ -80,15 +79,15 @@ fn hash_from(
 fn read_hash(alloc: Global, text: &[u8]) -> Result<Option<HashLogin>, NoMemory>
     ensures { IfOk result (λ login. login ≡ hash_of text.now) }
 {
-    let (name, following) = split_once(text, b':');
-    let Some(following) = following else {
+    let (name, text_after) = split_once(text, b':');
+    let Some(text_after) = text_after else {
         return Ok(None);
     };
-    let (salt, following) = split_once(following, b':');
-    let Some(following) = following else {
+    let (salt, text_after) = split_once(text_after, b':');
+    let Some(text_after) = text_after else {
         return Ok(None);
     };
-    let (hash, more) = split_once(following, b':');
+    let (hash, more) = split_once(text_after, b':');
     if let Some(_) = more {
         return Ok(None);
     }

@@ -6,3 +6,5 @@ pub mod OrderLemmas
 pub mod Utf8Lemmas
 pub mod WordsLaws
 pub mod WordsLemmas
+pub mod SplitLemmas
+pub mod WordLemmas

@@ -1,7 +1,7 @@
 use Rattle.std.proofs.Common.{ap, sym, ◌∙◌, Option}
 use Rattle.std.specs.Borrow.{Bor}
 use Rattle.std.specs.Option.{option_copied}
-use Rattle.wc_relaycmd.specs.Cuts.{before}
+use Rattle.wc_text.specs.Splits.{before}
 use Rattle.wc_buffers.specs.declared.row.BufferRow.{BufferRow}
 use Rattle.wc_core.specs.Resolved.{plugin_in}
 use Rattle.wc_core.proofs.ResolvedWords.{plugin_before}

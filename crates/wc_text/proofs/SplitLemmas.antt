@@ -2,7 +2,7 @@
 use Rattle.std.proofs.Common.{◌≡◌, ℕ, ◌+◌, ◌-◌, ◌≤◌, ◌<◌, List, [], ◌∷◌, ◌++◌, length, take, refl, ap, sym, ◌∙◌, arith, length-append, subst, Some}
 use Rattle.std.proofs.lemmas.Bool.Decides.{nat_tests}
 use Rattle.std.proofs.lemmas.List.{take_at}
-use Rattle.wc_relaycmd.specs.Cuts.{before, onward, following}
+use Rattle.wc_text.specs.Splits.{before, onward, text_after}
 
 -- the two parts are the text
 pub before-onward : (c : ℕ) (text : List ℕ) → before c text ++ onward c text ≡ text
@@ -23,8 +23,8 @@ before_by_length c text =
     subst P (before-onward c text) (take_at (before c text) (onward c text) _ n)
 
 -- what comes after the first c is shorter than the text
-pub length-following : (c : ℕ) (text rest : List ℕ) → following c text ≡ Some rest → length rest < length text
-length-following c [] rest some = absurd (cc)
-length-following c (b ∷ text) rest some = grind (arith, nat_tests, length-following c text rest)
+pub length-text_after : (c : ℕ) (text rest : List ℕ) → text_after c text ≡ Some rest → length rest < length text
+length-text_after c [] rest some = absurd (cc)
+length-text_after c (b ∷ text) rest some = grind (arith, nat_tests, length-text_after c text rest)
 
-pub ruleset cuts = (length-onward, before_by_length, length-before-onward, length-following)
+pub ruleset cuts = (length-onward, before_by_length, length-before-onward, length-text_after)

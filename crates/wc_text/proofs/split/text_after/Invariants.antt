@@ -1,9 +1,9 @@
 use Rattle.std.proofs.Common.{◌≡◌, length}
-use Rattle.wc_relaycmd.specs.Cuts.{onward}
-use Rattle.wc_relaycmd.proofs.cuts.onward.Given as goal
+use Rattle.wc_text.specs.Splits.{text_after}
+use Rattle.wc_text.proofs.split.text_after.Given as goal
 
 abbrev pub invariant-loop-rest : goal.invariant-loop-rest
-invariant-loop-rest l = onward l.byte l.rest ≡ onward l.byte l.text
+invariant-loop-rest l = text_after l.byte l.rest ≡ text_after l.byte l.text
 
 abbrev pub decreases-loop-rest : goal.decreases-loop-rest
 decreases-loop-rest l = length l.rest

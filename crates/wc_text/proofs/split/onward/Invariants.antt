@@ -1,9 +1,9 @@
 use Rattle.std.proofs.Common.{◌≡◌, length}
-use Rattle.wc_relaycmd.specs.Cuts.{past}
-use Rattle.wc_relaycmd.proofs.cuts.past_blanks.Given as goal
+use Rattle.wc_text.specs.Splits.{onward}
+use Rattle.wc_text.proofs.split.onward.Given as goal
 
 abbrev pub invariant-loop-rest : goal.invariant-loop-rest
-invariant-loop-rest l = past 32 l.rest ≡ past 32 l.text
+invariant-loop-rest l = onward l.byte l.rest ≡ onward l.byte l.text
 
 abbrev pub decreases-loop-rest : goal.decreases-loop-rest
 decreases-loop-rest l = length l.rest

@@ -1,5 +1,5 @@
--- Where texts are cut at a byte.
-use Rattle.std.specs.Prelude.{◌≢◌, ℕ, Bool, false, List, [], ◌∷◌, if◌then◌else◌, ◌==◌, Option, Some, None}
+-- Where texts are split: at a byte, and after a word.
+use Rattle.std.specs.Prelude.{◌≡◌, ◌≢◌, ℕ, ◌<◌, Bool, false, List, [], ◌∷◌, ◌++◌, replicate, if◌then◌else◌, ◌==◌, Option, Some, None}
 
 -- the bytes before the first c, or all where there is none
 abbrev pub before : ℕ → List ℕ → List ℕ
@@ -12,9 +12,9 @@ onward c [] = []
 onward c (b ∷ text) = if b == c then b ∷ text else onward c text
 
 -- the bytes after the first c, where there is one
-abbrev pub following : ℕ → List ℕ → Option (List ℕ)
-following c [] = None
-following c (b ∷ text) = if b == c then Some text else following c text
+abbrev pub text_after : ℕ → List ℕ → Option (List ℕ)
+text_after c [] = None
+text_after c (b ∷ text) = if b == c then Some text else text_after c text
 
 -- the text without each c at its front
 abbrev pub past : ℕ → List ℕ → List ℕ
@@ -35,3 +35,25 @@ Lacks c (b ∷ text) = (b ≢ c) × Lacks c text
 abbrev pub BeginsWithout : ℕ → List ℕ → Type 0
 BeginsWithout c [] = Unit {0}
 BeginsWithout c (b ∷ text) = b ≢ c
+
+-- ---- words
+
+-- so many spaces
+abbrev pub blanks : ℕ → List ℕ
+blanks n = replicate n 32
+
+-- A text is a word, which may be empty, and what follows it after blanks.
+pub record WordAndRest (text word rest : List ℕ) : Type 0 where
+  pub solid : Lacks 32 word
+  pub gap : ℕ
+  pub spelled : text ≡ word ++ (blanks gap ++ rest)
+  pub parted : rest ≢ [] → 0 < gap
+  pub bare : BeginsWithout 32 rest
+
+-- the word at the front of a text
+abbrev pub word_of : List ℕ → List ℕ
+word_of text = before 32 text
+
+-- what follows the word at the front, after blanks
+abbrev pub rest_of : List ℕ → List ℕ
+rest_of text = past 32 (onward 32 text)

@@ -1,7 +1,6 @@
 ghost use Rattle.std.specs.Prelude.{◌≡◌, ◌<◌, ◌≤◌, length, IfSome};
 ghost use Rattle.std.specs.Option.{option_copied};
-ghost use Rattle.wc_relaycmd.specs.Cuts.{before, onward, following, past};
-ghost use Rattle.wc_relaycmd.specs.Words.{word_of, rest_of};
+ghost use Rattle.wc_text.specs.Splits.{before, onward, text_after, past, word_of, rest_of};
 
 fn onward(text: &[u8], byte: u8) -> &[u8]
     ensures { result.now ≡ onward byte text.now }
@@ -16,7 +15,7 @@ fn onward(text: &[u8], byte: u8) -> &[u8]
     rest
 }
 
-#[tactic(auto, using(crate::proofs::CutLemmas::cuts))]
+#[tactic(auto, using(crate::proofs::SplitLemmas::cuts))]
 /// The text before the first such byte, and from it on. Where there is none the second part is empty.
 pub fn cut_at(text: &[u8], byte: u8) -> (&[u8], &[u8])
     ensures front { result.0.now ≡ before byte text.now }
@@ -27,8 +26,8 @@ pub fn cut_at(text: &[u8], byte: u8) -> (&[u8], &[u8])
     (&text[..text.len() - back.len()], back)
 }
 
-fn following(text: &[u8], byte: u8) -> Option<&[u8]>
-    ensures { option_copied result ≡ following byte text.now }
+fn text_after(text: &[u8], byte: u8) -> Option<&[u8]>
+    ensures { option_copied result ≡ text_after byte text.now }
 {
     let mut rest = text;
     while let [first, others @ ..] = rest {
@@ -41,13 +40,13 @@ fn following(text: &[u8], byte: u8) -> Option<&[u8]>
 }
 
 /// The text before the first such byte, and what comes after it, where there is one.
-#[tactic(auto, using(crate::proofs::CutLemmas::cuts))]
+#[tactic(auto, using(crate::proofs::SplitLemmas::cuts))]
 pub fn split_once(text: &[u8], byte: u8) -> (&[u8], Option<&[u8]>)
     ensures front { result.0.now ≡ before byte text.now }
-    ensures back { option_copied result.1 ≡ following byte text.now }
+    ensures back { option_copied result.1 ≡ text_after byte text.now }
     ensures shorter { IfSome result.1 (λ rest. length rest.now < length text.now) }
 {
-    (cut_at(text, byte).0, following(text, byte))
+    (cut_at(text, byte).0, text_after(text, byte))
 }
 
 /// The text without the blanks at its front.
@@ -66,6 +65,6 @@ pub fn cut_word(text: &[u8]) -> (&[u8], &[u8])
     ensures word { result.0.now ≡ word_of text.now }
     ensures rest { result.1.now ≡ rest_of text.now }
 {
-    let (word, following) = cut_at(text, b' ');
-    (word, past_blanks(following))
+    let (word, text_after) = cut_at(text, b' ');
+    (word, past_blanks(text_after))
 }
