@@ -1,13 +1,20 @@
 -- The calls of the buffers: the refusal of each, where there is one, and the groups after it.
-use Rattle.std.specs.Prelude.{◌≡◌, ◌≢◌, ℕ, ◌+◌, ◌-◌, ◌==◌, Bool, true, not, ◌&&◌, ◌||◌, nat_lt, nat_le, Option, Some, None, List, [], ◌∷◌, ◌++◌, length, find, option_map, is_none, if◌then◌else◌, bytes_eq, codes}
+use Rattle.std.specs.Prelude.{◌≡◌, ◌≢◌, ℕ, ◌+◌, ◌-◌, ◌==◌, Bool, true, not, ◌&&◌}
+use Rattle.std.specs.Prelude.{◌||◌, nat_lt, nat_le, Option, Some, None, List, [], ◌∷◌, ◌++◌, length}
+use Rattle.std.specs.Prelude.{find, option_map, is_none, if◌then◌else◌, bytes_eq, codes}
 use Rattle.std.specs.List.{list_any}
 use Rattle.wc_text.specs.declared.names.Handle.{Handle}
 use Rattle.wc_text.specs.declared.names.Pair.{Pair}
 use Rattle.wc_buffers.specs.declared.row.BufferRow.{BufferRow}
 use Rattle.wc_buffers.specs.declared.entry.BufferEntry.{BufferEntry}
 use Rattle.wc_buffers.specs.declared.refused.BufferRefused.{BufferRefused}
-use Rattle.wc_buffers.specs.declared.refused.BufferRefused.TheVariants.{NoBuffer, IsCore, BadName, FixedVar, NameTaken, NoVar, SameGroup, NotMerged, BadNumber, TooMany, NoMemory}
-use Rattle.wc_buffers.specs.Groups.{rows, has, place, row_of, update, take_out, merge, move_group, unmerge, in_group}
+use Rattle.wc_buffers.specs.declared.refused.BufferRefused.TheVariants.{NoBuffer, IsCore, BadName}
+use Rattle.wc_buffers.specs.declared.refused.BufferRefused.TheVariants.{FixedVar, NameTaken, NoVar}
+use Rattle.wc_buffers.specs.declared.refused.BufferRefused.TheVariants.{SameGroup, NotMerged}
+use Rattle.wc_buffers.specs.declared.refused.BufferRefused.TheVariants.{BadNumber, TooMany}
+use Rattle.wc_buffers.specs.declared.refused.BufferRefused.TheVariants.{NoMemory}
+use Rattle.wc_buffers.specs.Groups.{rows, has, place, row_of, update, take_out, merge, move_group}
+use Rattle.wc_buffers.specs.Groups.{unmerge, in_group}
 use Rattle.wc_buffers.specs.Vars.{cut_to, var, var_of, set_var, remove_var, set_fixed, vars_of}
 
 abbrev pub EntryGroups : Type 0
@@ -38,7 +45,8 @@ abbrev pub is_named : List ℕ → BufferEntry → Bool
 is_named name e = bytes_eq name e.row.full_name
 
 abbrev pub handle_of_name : List ℕ → EntryGroups → Option Handle
-handle_of_name name gs = option_map (λ (e : BufferEntry). e.row.handle) (find (is_named name) (rows gs))
+handle_of_name name gs = option_map (λ (e : BufferEntry). e.row.handle)
+    (find (is_named name) (rows gs))
 
 -- whether a buffer other than this one has the full name
 abbrev pub other_named : List ℕ → Handle → BufferEntry → Bool
@@ -76,10 +84,12 @@ fixed_var name = when (is_fixed name) (FixedVar name)
 
 -- the first variable with a bad name, and the first of the two that a buffer has by itself
 abbrev pub bad_var_names : List Pair → Option BufferRefused
-bad_var_names vars = option_map (λ (v : Pair). BadName (length v.name)) (find (λ (v : Pair). is_bad_name 64 v.name) vars)
+bad_var_names vars = option_map (λ (v : Pair). BadName (length v.name))
+    (find (λ (v : Pair). is_bad_name 64 v.name) vars)
 
 abbrev pub fixed_vars : List Pair → Option BufferRefused
-fixed_vars vars = option_map (λ (v : Pair). FixedVar v.name) (find (λ (v : Pair). is_fixed v.name) vars)
+fixed_vars vars = option_map (λ (v : Pair). FixedVar v.name)
+    (find (λ (v : Pair). is_fixed v.name) vars)
 
 abbrev pub refusal_of_name : List ℕ → Handle → EntryGroups → Option BufferRefused
 refusal_of_name name h gs = when (list_any (other_named name h) (rows gs)) (NameTaken name)
@@ -100,16 +110,19 @@ too_many_vars full_name vars = when (nat_lt 64 (length (vars_of full_name vars))
 
 -- all but the number of its variables
 unfoldable pub add_refusal_so_far : BufferRow → List Pair → EntryGroups → Option BufferRefused
-add_refusal_so_far row vars gs = or_else (bad_names row vars) (or_else (refusal_of_name row.full_name row.handle gs) (no_room gs))
+add_refusal_so_far row vars gs = or_else (bad_names row vars)
+    (or_else (refusal_of_name row.full_name row.handle gs) (no_room gs))
 
 unfoldable pub add_refusal : BufferRow → List Pair → EntryGroups → Option BufferRefused
-add_refusal row vars gs = or_else (add_refusal_so_far row vars gs) (too_many_vars row.full_name vars)
+add_refusal row vars gs = or_else (add_refusal_so_far row vars gs)
+    (too_many_vars row.full_name vars)
 
 unfoldable pub close_refusal : Handle → EntryGroups → Option BufferRefused
 close_refusal h gs = or_else (no_buffer h gs) (when (h.0 == 1) IsCore)
 
 unfoldable pub move_refusal : Handle → ℕ → EntryGroups → Option BufferRefused
-move_refusal h n gs = or_else (no_buffer h gs) (when ((n == 0) || nat_lt (length gs) n) (BadNumber n))
+move_refusal h n gs = or_else (no_buffer h gs) (when ((n == 0) || nat_lt (length gs) n)
+    (BadNumber n))
 
 -- whether the two are in one group
 abbrev pub are_together : Handle → Handle → EntryGroups → Bool
@@ -133,7 +146,8 @@ unfoldable pub unmerge_refusal : Handle → EntryGroups → Option BufferRefused
 unmerge_refusal h gs = or_else (no_buffer h gs) (when (is_alone h gs) NotMerged)
 
 unfoldable pub rename_refusal : Handle → List ℕ → EntryGroups → Option BufferRefused
-rename_refusal h name gs = or_else (no_buffer h gs) (or_else (bad_name 256 name) (refusal_of_name name h gs))
+rename_refusal h name gs = or_else (no_buffer h gs)
+    (or_else (bad_name 256 name) (refusal_of_name name h gs))
 
 unfoldable pub short_name_refusal : Handle → List ℕ → EntryGroups → Option BufferRefused
 short_name_refusal h name gs = or_else (no_buffer h gs) (bad_name 128 name)
@@ -152,10 +166,12 @@ unfoldable pub var_refusal : Handle → List ℕ → EntryGroups → Option Buff
 var_refusal h name gs = or_else (no_buffer h gs) (or_else (bad_name 64 name) (fixed_var name))
 
 unfoldable pub set_var_refusal : Handle → List ℕ → EntryGroups → Option BufferRefused
-set_var_refusal h name gs = or_else (var_refusal h name gs) (when (lacks_var name (entry_of h gs) && is_full (entry_of h gs)) (TooMany 64))
+set_var_refusal h name gs = or_else (var_refusal h name gs)
+    (when (lacks_var name (entry_of h gs) && is_full (entry_of h gs)) (TooMany 64))
 
 unfoldable pub remove_var_refusal : Handle → List ℕ → EntryGroups → Option BufferRefused
-remove_var_refusal h name gs = or_else (var_refusal h name gs) (when (lacks_var name (entry_of h gs)) (NoVar name))
+remove_var_refusal h name gs = or_else (var_refusal h name gs)
+    (when (lacks_var name (entry_of h gs)) (NoVar name))
 
 -- ---- the groups after each call
 
@@ -194,7 +210,10 @@ abbrev pub with_hidden : Bool → BufferEntry → BufferEntry
 with_hidden hidden e = record { row = record e.row { hidden = hidden }; vars = e.vars }
 
 abbrev pub with_full_name : List ℕ → BufferEntry → BufferEntry
-with_full_name name e = record { row = record e.row { full_name = name }; vars = set_fixed name e.vars }
+with_full_name name e = record {
+  row = record e.row { full_name = name };
+  vars = set_fixed name e.vars;
+}
 
 abbrev pub with_short_name : List ℕ → BufferEntry → BufferEntry
 with_short_name name e = record { row = record e.row { short_name = name }; vars = e.vars }

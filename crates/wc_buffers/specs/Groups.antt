@@ -1,5 +1,6 @@
 -- Lists of groups, each a list of rows that their keys tell apart, and the edits of such lists.
-use Rattle.std.specs.Prelude.{ℕ, ◌+◌, Bool, not, ◌==◌, nat_lt, Option, List, [], ◌∷◌, ◌++◌, map, filter, take, drop, length, find, position, if◌then◌else◌}
+use Rattle.std.specs.Prelude.{ℕ, ◌+◌, Bool, not, ◌==◌, nat_lt, Option, List, [], ◌∷◌, ◌++◌, map}
+use Rattle.std.specs.Prelude.{filter, take, drop, length, find, position, if◌then◌else◌}
 use Rattle.std.specs.List.{list_any, flat_map}
 
 -- the groups that have rows

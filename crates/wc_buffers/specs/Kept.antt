@@ -1,5 +1,7 @@
 -- What holds of all buffers at every time, and of what is kept of them.
-use Rattle.std.specs.Prelude.{◌≡◌, ℕ, ◌<◌, ◌≤◌, false, nat_eq, Option, Some, None, List, [], ◌∷◌, map, length, take, is_some, option_map, unwrap_or, if◌then◌else◌, bytes_eq}
+use Rattle.std.specs.Prelude.{◌≡◌, ℕ, ◌<◌, ◌≤◌, false, nat_eq, Option, Some, None, List, []}
+use Rattle.std.specs.Prelude.{◌∷◌, map, length, take, is_some, option_map, unwrap_or, if◌then◌else◌}
+use Rattle.std.specs.Prelude.{bytes_eq}
 use Rattle.std.specs.HashMap.{HashMap, get_by}
 use Rattle.std.specs.Str.{IsUtf8}
 use Rattle.std.specs.declared.alloc.Global.{Global}
@@ -48,7 +50,15 @@ at_name m name = get_by (λ k. bytes_eq name k.items) m
 -- a buffer without texts, which stands for one that is not there
 abbrev pub blank : Handle → BufferEntry
 blank h = record {
-  row = record { handle = h; own_lines = h; mixed_lines = h; full_name = []; short_name = []; title = []; hidden = false };
+  row = record {
+    handle = h;
+    own_lines = h;
+    mixed_lines = h;
+    full_name = [];
+    short_name = [];
+    title = [];
+    hidden = false;
+  };
   vars = [];
 }
 
@@ -56,18 +66,22 @@ abbrev pub entry_at : {S : Type 0} → HashMap ℕ BufferEntry S → Handle → 
 entry_at entries h = unwrap_or (at_handle entries h.0) (blank h)
 
 -- the groups of buffers that these groups of handles stand for
-abbrev pub groups_of_handles : {S : Type 0} → HashMap ℕ BufferEntry S → List (List Handle) → List (List BufferEntry)
+abbrev pub groups_of_handles : {S : Type 0} → HashMap ℕ BufferEntry S → List (List Handle) →
+    List (List BufferEntry)
 groups_of_handles entries gs = map (map (entry_at entries)) gs
 
-pub record AreBuffersKept {S T : Type 0} (gs : List (List Handle)) (entries : HashMap ℕ BufferEntry S) (names : HashMap (Vec ℕ Global) Handle T) : Type 0 where
+pub record AreBuffersKept {S T : Type 0} (gs : List (List Handle))
+    (entries : HashMap ℕ BufferEntry S) (names : HashMap (Vec ℕ Global) Handle T) : Type 0 where
   -- each handle of the groups has a buffer, and no other
   pub stored : (h : ℕ) → is_some (at_handle entries h) ≡ has key h gs
   pub keyed : (h : ℕ) (e : BufferEntry) → at_handle entries h ≡ Some e → e.row.handle.0 ≡ h
   pub fit : (h : ℕ) (e : BufferEntry) → at_handle entries h ≡ Some e → IsBuffer e
   pub never_null : at_handle entries 0 ≡ None
   -- the full name of each buffer leads to it, and no other name to one
-  pub leads : (h : ℕ) (e : BufferEntry) → at_handle entries h ≡ Some e → at_name names e.row.full_name ≡ Some e.row.handle
-  pub led : (name : List ℕ) (h : Handle) → at_name names name ≡ Some h → (e : BufferEntry) × (at_handle entries h.0 ≡ Some e) × (e.row.full_name ≡ name)
+  pub leads : (h : ℕ) (e : BufferEntry) → at_handle entries h ≡ Some e →
+      at_name names e.row.full_name ≡ Some e.row.handle
+  pub led : (name : List ℕ) (h : Handle) → at_name names name ≡ Some h → (e : BufferEntry)
+      × (at_handle entries h.0 ≡ Some e) × (e.row.full_name ≡ name)
 
 -- what callers know of all buffers
 pub record AreBuffers (gs : List (List BufferEntry)) : Type 0 where
@@ -76,11 +90,14 @@ pub record AreBuffers (gs : List (List BufferEntry)) : Type 0 where
   pub few : length (rows gs) ≤ 256
   pub never_null : has handle_of 0 gs ≡ false
   pub fit : (h : Handle) (e : BufferEntry) → entry_of h gs ≡ Some e → IsBuffer e
-  pub names : (h : Handle) (e : BufferEntry) → entry_of h gs ≡ Some e → handle_of_name e.row.full_name gs ≡ Some h
+  pub names : (h : Handle) (e : BufferEntry) → entry_of h gs ≡ Some e →
+      handle_of_name e.row.full_name gs ≡ Some h
 
 -- the buffer of a handle changed by f, and the others as they were
-abbrev pub IsEntryChanged : {S T : Type 0} → ℕ → (BufferEntry → BufferEntry) → HashMap ℕ BufferEntry S → HashMap ℕ BufferEntry T → Type 0
-IsEntryChanged h f old new = (q : ℕ) → at_handle new q ≡ (if nat_eq h q then option_map f (at_handle old q) else at_handle old q)
+abbrev pub IsEntryChanged : {S T : Type 0} → ℕ → (BufferEntry → BufferEntry) →
+    HashMap ℕ BufferEntry S → HashMap ℕ BufferEntry T → Type 0
+IsEntryChanged h f old new = (q : ℕ) →
+    at_handle new q ≡ (if nat_eq h q then option_map f (at_handle old q) else at_handle old q)
 
 -- the handles of the buffers
 abbrev pub handles : List (List BufferEntry) → List (List Handle)

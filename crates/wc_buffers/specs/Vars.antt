@@ -1,5 +1,6 @@
 -- The variables of a buffer: a list of names and values, each name once.
-use Rattle.std.specs.Prelude.{ℕ, ◌==◌, Option, List, [], ◌∷◌, find, fold, take, option_map, bytes_eq, codes, if◌then◌else◌}
+use Rattle.std.specs.Prelude.{ℕ, ◌==◌, Option, List, [], ◌∷◌, find, fold, take, option_map}
+use Rattle.std.specs.Prelude.{bytes_eq, codes, if◌then◌else◌}
 use Rattle.std.specs.List.{before_first, after_first}
 use Rattle.std.specs.Borrow.{Bor}
 use Rattle.wc_text.specs.Cut.{cut_of}

@@ -1,5 +1,6 @@
 ghost use Rattle.std.specs.Prelude.{◌≡◌, [], map, length, IfOk, option_copied};
-ghost use Rattle.wc_buffers.specs.Calls.{is_there, buffer_of, vars_at, entry_of, number, handle_of_name};
+ghost use Rattle.wc_buffers.specs.Calls.{is_there, buffer_of, vars_at, entry_of, number};
+ghost use Rattle.wc_buffers.specs.Calls.{handle_of_name};
 ghost use Rattle.wc_buffers.specs.Groups.{rows};
 ghost use Rattle.wc_buffers.specs.Kept.{AreBuffers, handles};
 

@@ -1,6 +1,14 @@
-ghost use Rattle.std.specs.Prelude.{◌≡◌, ◌≢◌, ◌<◌, None, Some, OnOk, OnErr, IfOk, IfErr, All, false, true};
+ghost use Rattle.std.specs.Prelude.{◌≡◌, ◌≢◌, ◌<◌, None, Some, OnOk, OnErr, IfOk, IfErr, All};
+ghost use Rattle.std.specs.Prelude.{false, true};
 ghost use Rattle.std.specs.Str.{IsUtf8};
-ghost use Rattle.wc_buffers.specs.Calls.{is_there, buffer_of, entry_of, new_entry, with_buffer, without_buffer, move_group_to, merge_groups, unmerge_group, with_entry, with_hidden, with_full_name, with_short_name, with_title, with_var, without_var, lacks_var, no_buffer, add_refusal, close_refusal, move_refusal, merge_refusal, unmerge_refusal, rename_refusal, short_name_refusal, set_var_refusal, remove_var_refusal};
+ghost use Rattle.wc_buffers.specs.Calls.{is_there, buffer_of, entry_of, new_entry, with_buffer};
+ghost use Rattle.wc_buffers.specs.Calls.{without_buffer, move_group_to, merge_groups};
+ghost use Rattle.wc_buffers.specs.Calls.{unmerge_group, with_entry, with_hidden, with_full_name};
+ghost use Rattle.wc_buffers.specs.Calls.{with_short_name, with_title, with_var, without_var};
+ghost use Rattle.wc_buffers.specs.Calls.{lacks_var, no_buffer, add_refusal, close_refusal};
+ghost use Rattle.wc_buffers.specs.Calls.{move_refusal, merge_refusal, unmerge_refusal};
+ghost use Rattle.wc_buffers.specs.Calls.{rename_refusal, short_name_refusal, set_var_refusal};
+ghost use Rattle.wc_buffers.specs.Calls.{remove_var_refusal};
 ghost use Rattle.wc_buffers.specs.Entries.{IsText};
 ghost use Rattle.wc_buffers.specs.Kept.{HasUtf8Row};
 ghost use Rattle.wc_buffers.specs.Vars.{cut_to};
@@ -54,7 +62,8 @@ impl Buffers {
         requires vars { All IsText vars.now }
         ensures accepted { OnOk result (add_refusal row vars.now self.old ≡ None) }
         ensures after { OnOk result (self.new ≡ with_buffer row vars.now self.old) }
-        ensures refused { IfErr result (λ e. e ≢ BufferRefused.NoMemory → add_refusal row vars.now self.old ≡ Some e) }
+        ensures refused { IfErr result (λ e. e ≢ BufferRefused.NoMemory →
+            add_refusal row vars.now self.old ≡ Some e) }
         ensures err { OnErr result (self.new ≡ self.old) }
     {
         if let Some(refused) = self.add_refusal(alloc, &row, vars.as_slice()) {
@@ -177,8 +186,10 @@ impl Buffers {
     ) -> Result<(), BufferRefused>
         requires { IsUtf8 full_name.now }
         ensures accepted { OnOk result (rename_refusal h full_name.now self.old ≡ None) }
-        ensures after { OnOk result (self.new ≡ with_entry h (with_full_name full_name.now) self.old) }
-        ensures refused { IfErr result (λ e. e ≢ BufferRefused.NoMemory → rename_refusal h full_name.now self.old ≡ Some e) }
+        ensures after { OnOk result
+            (self.new ≡ with_entry h (with_full_name full_name.now) self.old) }
+        ensures refused { IfErr result (λ e. e ≢ BufferRefused.NoMemory →
+            rename_refusal h full_name.now self.old ≡ Some e) }
         ensures err { OnErr result (self.new ≡ self.old) }
     {
         if let Some(refused) = self.rename_refusal(alloc, h, full_name) {
@@ -199,7 +210,8 @@ impl Buffers {
         requires { IsUtf8 name.now }
         ensures accepted { OnOk result (short_name_refusal h name.now self.old ≡ None) }
         ensures after { OnOk result (self.new ≡ with_entry h (with_short_name name.now) self.old) }
-        ensures refused { IfErr result (λ e. e ≢ BufferRefused.NoMemory → short_name_refusal h name.now self.old ≡ Some e) }
+        ensures refused { IfErr result (λ e. e ≢ BufferRefused.NoMemory →
+            short_name_refusal h name.now self.old ≡ Some e) }
         ensures err { OnErr result (self.new ≡ self.old) }
     {
         if let Some(refused) = self.short_name_refusal(h, name.as_slice()) {
@@ -215,8 +227,10 @@ impl Buffers {
     pub fn set_title(&mut self, alloc: Global, h: Handle, title: &Text) -> Result<(), BufferRefused>
         requires { IsUtf8 title.now }
         ensures accepted { OnOk result (no_buffer h self.old ≡ None) }
-        ensures after { OnOk result (self.new ≡ with_entry h (with_title (cut_to 1024 title.now)) self.old) }
-        ensures refused { IfErr result (λ e. e ≢ BufferRefused.NoMemory → no_buffer h self.old ≡ Some e) }
+        ensures after { OnOk result (self.new ≡ with_entry h (with_title (cut_to 1024 title.now))
+            self.old) }
+        ensures refused { IfErr result (λ e. e ≢ BufferRefused.NoMemory → no_buffer h self.old
+            ≡ Some e) }
         ensures err { OnErr result (self.new ≡ self.old) }
     {
         if let Some(refused) = self.no_buffer(h) {
@@ -241,9 +255,11 @@ impl Buffers {
         requires name { IsUtf8 name.now }
         requires value { IsUtf8 value.now }
         ensures accepted { OnOk result (set_var_refusal h name.now self.old ≡ None) }
-        ensures after { OnOk result (self.new ≡ with_entry h (with_var name.now value.now) self.old) }
+        ensures after { OnOk result
+            (self.new ≡ with_entry h (with_var name.now value.now) self.old) }
         ensures new { IfOk result (λ new. new ≡ lacks_var name.now (entry_of h self.old)) }
-        ensures refused { IfErr result (λ e. e ≢ BufferRefused.NoMemory → set_var_refusal h name.now self.old ≡ Some e) }
+        ensures refused { IfErr result (λ e. e ≢ BufferRefused.NoMemory →
+            set_var_refusal h name.now self.old ≡ Some e) }
         ensures err { OnErr result (self.new ≡ self.old) }
     {
         if let Some(refused) = self.set_var_refusal(alloc, h, name) {
@@ -258,7 +274,8 @@ impl Buffers {
     pub fn remove_var(&mut self, alloc: Global, h: Handle, name: &Text) -> Result<(), BufferRefused>
         ensures accepted { OnOk result (remove_var_refusal h name.now self.old ≡ None) }
         ensures after { OnOk result (self.new ≡ with_entry h (without_var name.now) self.old) }
-        ensures refused { IfErr result (λ e. e ≢ BufferRefused.NoMemory → remove_var_refusal h name.now self.old ≡ Some e) }
+        ensures refused { IfErr result (λ e. e ≢ BufferRefused.NoMemory →
+            remove_var_refusal h name.now self.old ≡ Some e) }
         ensures err { OnErr result (self.new ≡ self.old) }
     {
         if let Some(refused) = self.remove_var_refusal(alloc, h, name) {

@@ -1,7 +1,12 @@
-ghost use Rattle.std.specs.Prelude.{◌≡◌, ◌==◌, ◌<◌, ◌≤◌, ◌-◌, ◌&&◌, ◌++◌, ◌∷◌, [], OnOk, OnErr, IfOk, Some, true, false, length};
+ghost use Rattle.std.specs.Prelude.{◌≡◌, ◌==◌, ◌<◌, ◌≤◌, ◌-◌, ◌&&◌, ◌++◌, ◌∷◌};
+ghost use Rattle.std.specs.Prelude.{[], OnOk, OnErr, IfOk, Some, true, false, length};
 ghost use Rattle.std.specs.List.{list_any};
 ghost use Rattle.std.specs.Str.{IsUtf8};
-ghost use Rattle.wc_buffers.specs.Calls.{is_there, buffer_of, entry_of, without_buffer, move_group_to, merge_groups, unmerge_group, with_entry, with_hidden, with_full_name, with_short_name, with_title, with_var, without_var, lacks_var, other_named, are_together, is_alone, is_bad_name, is_fixed, is_full};
+ghost use Rattle.wc_buffers.specs.Calls.{is_there, buffer_of, entry_of, without_buffer};
+ghost use Rattle.wc_buffers.specs.Calls.{move_group_to, merge_groups, unmerge_group, with_entry};
+ghost use Rattle.wc_buffers.specs.Calls.{with_hidden, with_full_name, with_short_name, with_title};
+ghost use Rattle.wc_buffers.specs.Calls.{with_var, without_var, lacks_var, other_named};
+ghost use Rattle.wc_buffers.specs.Calls.{are_together, is_alone, is_bad_name, is_fixed, is_full};
 ghost use Rattle.wc_buffers.specs.Groups.{rows};
 ghost use Rattle.wc_buffers.specs.Kept.{IsBuffer};
 
@@ -19,7 +24,8 @@ impl Buffers {
         requires absent { is_there entry.row.handle self.old ≡ false }
         requires fits { IsBuffer entry }
         requires room { length (rows self.old) < 256 }
-        requires free { list_any (other_named entry.row.full_name entry.row.handle) (rows self.old) ≡ false }
+        requires free { list_any (other_named entry.row.full_name entry.row.handle)
+            (rows self.old) ≡ false }
         ensures ok { OnOk result (self.new ≡ self.old ++ (entry ∷ []) ∷ []) }
         ensures err { OnErr result (self.new ≡ self.old) }
     {
@@ -134,7 +140,8 @@ impl Buffers {
     ) -> Result<bool, NoMemory>
         requires there { is_there h self.old ≡ true }
         requires own { is_fixed name.now ≡ false }
-        requires room { (lacks_var name.now (entry_of h self.old) && is_full (entry_of h self.old)) ≡ false }
+        requires room { (lacks_var name.now (entry_of h self.old)
+            && is_full (entry_of h self.old)) ≡ false }
         requires utf8 { IsUtf8 name.now }
         requires value { IsUtf8 value.now }
         ensures ok { OnOk result (self.new ≡ with_entry h (with_var name.now value.now) self.old) }

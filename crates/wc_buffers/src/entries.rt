@@ -1,7 +1,9 @@
-ghost use Rattle.std.specs.Prelude.{◌≡◌, ◌<◌, IsSome, IsSomeAnd, OnOk, OnErr, IfOk, Some, None, ℕ, List, if◌then◌else◌, nat_eq, bytes_eq};
+ghost use Rattle.std.specs.Prelude.{◌≡◌, ◌<◌, IsSome, IsSomeAnd, OnOk, OnErr, IfOk, Some, None, ℕ};
+ghost use Rattle.std.specs.Prelude.{List, if◌then◌else◌, nat_eq, bytes_eq};
 ghost use Rattle.std.specs.HashMap.{spare};
 ghost use Rattle.std.specs.Str.{IsUtf8};
-ghost use Rattle.wc_buffers.specs.Calls.{with_hidden, with_full_name, with_short_name, with_title, with_var, without_var, lacks_var};
+ghost use Rattle.wc_buffers.specs.Calls.{with_hidden, with_full_name, with_short_name, with_title};
+ghost use Rattle.wc_buffers.specs.Calls.{with_var, without_var, lacks_var};
 ghost use Rattle.wc_buffers.specs.Kept.{at_handle, IsEntryChanged};
 
 use crate::entry::BufferEntry;
@@ -25,7 +27,8 @@ pub(crate) fn reserve(entries: &mut Entries) -> Result<(), NoMemory>
 /// Puts a buffer in. It takes no memory.
 pub(crate) fn insert(entries: &mut Entries, entry: BufferEntry)
     requires { 0 < spare entries.old }
-    ensures { (q : ℕ) → at_handle entries.new q ≡ (if nat_eq entry.row.handle.0 q then Some entry else at_handle entries.old q) }
+    ensures { (q : ℕ) → at_handle entries.new q ≡ (if nat_eq entry.row.handle.0 q then Some entry
+        else at_handle entries.old q) }
 {
     let Ok(_) = entries.insert(entry.row.handle.0, entry) else {
         unreachable!()
@@ -36,7 +39,8 @@ pub(crate) fn insert(entries: &mut Entries, entry: BufferEntry)
 pub(crate) fn remove(entries: &mut Entries, h: Handle) -> BufferEntry
     requires { IsSome (at_handle entries.old h.0) }
     ensures entry { at_handle entries.old h.0 ≡ Some result }
-    ensures left { (q : ℕ) → at_handle entries.new q ≡ (if nat_eq h.0 q then None else at_handle entries.old q) }
+    ensures left { (q : ℕ) → at_handle entries.new q ≡ (if nat_eq h.0 q then None
+        else at_handle entries.old q) }
 {
     let Some(entry) = entries.remove(&h.0) else {
         unreachable!()
@@ -84,7 +88,8 @@ pub(crate) fn set_full_name(
 ) -> Result<Text, NoMemory>
     requires { IsSome (at_handle entries.old h.0) }
     ensures ok { OnOk result (IsEntryChanged h.0 (with_full_name name) entries.old entries.new) }
-    ensures old { IfOk result (λ old. IsSomeAnd (at_handle entries.old h.0) (λ e. e.row.full_name ≡ old)) }
+    ensures old { IfOk result (λ old. IsSomeAnd (at_handle entries.old h.0)
+        (λ e. e.row.full_name ≡ old)) }
     ensures err { OnErr result (IsEntryChanged h.0 (λ e. e) entries.old entries.new) }
 {
     let Some(entry) = entries.get_mut(&h.0) else {
@@ -104,7 +109,8 @@ pub(crate) fn set_var(
 ) -> Result<bool, NoMemory>
     requires there { IsSome (at_handle entries.old h.0) }
     requires utf8 { IsUtf8 value.now }
-    ensures ok { OnOk result (IsEntryChanged h.0 (with_var name.now value.now) entries.old entries.new) }
+    ensures ok { OnOk result (IsEntryChanged h.0 (with_var name.now value.now) entries.old
+        entries.new) }
     ensures new { IfOk result (λ new. new ≡ lacks_var name.now (at_handle entries.old h.0)) }
     ensures err { OnErr result (IsEntryChanged h.0 (λ e. e) entries.old entries.new) }
 {

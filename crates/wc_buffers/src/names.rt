@@ -1,4 +1,5 @@
-ghost use Rattle.std.specs.Prelude.{◌≡◌, ◌<◌, ◌≤◌, IfOk, OnOk, Some, None, List, ℕ, if◌then◌else◌, bytes_eq};
+ghost use Rattle.std.specs.Prelude.{◌≡◌, ◌<◌, ◌≤◌, IfOk, OnOk, Some, None, List, ℕ};
+ghost use Rattle.std.specs.Prelude.{if◌then◌else◌, bytes_eq};
 ghost use Rattle.std.specs.HashMap.{spare};
 ghost use Rattle.wc_buffers.specs.Kept.{at_name};
 
@@ -29,7 +30,8 @@ pub(crate) fn reserve(names: &mut Names) -> Result<(), NoMemory>
 /// Puts a name in. It takes no memory.
 pub(crate) fn insert(names: &mut Names, name: Vec<u8>, h: Handle)
     requires { 0 < spare names.old }
-    ensures { (q : List ℕ) → at_name names.new q ≡ (if bytes_eq name.items q then Some h else at_name names.old q) }
+    ensures { (q : List ℕ) → at_name names.new q ≡ (if bytes_eq name.items q then Some h
+        else at_name names.old q) }
 {
     let Ok(_) = names.insert(name, h) else {
         unreachable!()
@@ -38,7 +40,8 @@ pub(crate) fn insert(names: &mut Names, name: Vec<u8>, h: Handle)
 
 /// Takes a name out.
 pub(crate) fn remove(names: &mut Names, name: &[u8])
-    ensures left { (q : List ℕ) → at_name names.new q ≡ (if bytes_eq name.now q then None else at_name names.old q) }
+    ensures left { (q : List ℕ) → at_name names.new q ≡ (if bytes_eq name.now q then None
+        else at_name names.old q) }
     ensures room { spare names.old ≤ spare names.new }
 {
     let _ = names.remove(name);

@@ -2,7 +2,14 @@ ghost use Rattle.std.specs.Prelude.{◌≡◌, ◌≢◌, length, find, option_c
 ghost use Rattle.wc_text.specs.declared.names.Pair.{Pair};
 ghost use Rattle.std.specs.List.{list_any};
 ghost use Rattle.wc_buffers.specs.Groups.{rows};
-ghost use Rattle.wc_buffers.specs.Calls.{AnswersRefusal, no_buffer, is_bad_name, bad_name, bad_names, is_fixed, fixed_var, refusal_of_name, other_named, add_refusal_so_far, close_refusal, move_refusal, merge_refusal, unmerge_refusal, rename_refusal, short_name_refusal, var_refusal, set_var_refusal, remove_var_refusal, lacks_var, is_full, no_room, bad_var_names, fixed_vars, are_together, is_alone, entry_of};
+ghost use Rattle.wc_buffers.specs.Calls.{AnswersRefusal, no_buffer, is_bad_name, bad_name};
+ghost use Rattle.wc_buffers.specs.Calls.{bad_names, is_fixed, fixed_var, refusal_of_name};
+ghost use Rattle.wc_buffers.specs.Calls.{other_named, add_refusal_so_far, close_refusal};
+ghost use Rattle.wc_buffers.specs.Calls.{move_refusal, merge_refusal, unmerge_refusal};
+ghost use Rattle.wc_buffers.specs.Calls.{rename_refusal, short_name_refusal, var_refusal};
+ghost use Rattle.wc_buffers.specs.Calls.{set_var_refusal, remove_var_refusal, lacks_var, is_full};
+ghost use Rattle.wc_buffers.specs.Calls.{no_room, bad_var_names, fixed_vars, are_together};
+ghost use Rattle.wc_buffers.specs.Calls.{is_alone, entry_of};
 
 use crate::buffers::Buffers;
 use crate::group::MOST_BUFFERS;

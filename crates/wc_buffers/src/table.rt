@@ -1,6 +1,8 @@
-ghost use Rattle.std.specs.Prelude.{◌≡◌, ℕ, ◌<◌, ◌++◌, ◌∷◌, ◌&&◌, ◌==◌, [], length, true, false, IfOk, option_map, ◌+◌};
+ghost use Rattle.std.specs.Prelude.{◌≡◌, ℕ, ◌<◌, ◌++◌, ◌∷◌, ◌&&◌, ◌==◌, [], length};
+ghost use Rattle.std.specs.Prelude.{true, false, IfOk, option_map, ◌+◌};
 ghost use Rattle.std.specs.List.{list_any};
-ghost use Rattle.wc_buffers.specs.Groups.{rows, has, in_group, place, take_out, append_to, merge, move_group, unmerge};
+ghost use Rattle.wc_buffers.specs.Groups.{rows, has, in_group, place, take_out, append_to, merge};
+ghost use Rattle.wc_buffers.specs.Groups.{move_group, unmerge};
 ghost use Rattle.wc_buffers.specs.Table.{key, AreGroups, IsGroupsStored};
 
 use crate::group::{Group, MOST_BUFFERS};
@@ -229,7 +231,8 @@ fn append(groups: &mut Vec<Group>, spare: &mut Vec<Group>, into: Handle, h: Hand
 fn unmerge(groups: &mut Vec<Group>, spare: &mut Vec<Group>, h: Handle)
     requires stored { IsGroupsStored groups.old spare.old }
     requires there { has key h.0 groups.old.items ≡ true }
-    requires merged { list_any (λ g. in_group key h.0 g && (length g == 1)) groups.old.items ≡ false }
+    requires merged { list_any (λ g. in_group key h.0 g && (length g == 1))
+        groups.old.items ≡ false }
     ensures stored { IsGroupsStored groups.new spare.new }
     ensures unmerged { groups.new.items ≡ unmerge key h.0 groups.old.items }
 {

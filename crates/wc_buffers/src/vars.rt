@@ -1,11 +1,14 @@
-ghost use Rattle.std.specs.Prelude.{◌≡◌, ◌<◌, ◌≤◌, ◌+◌, ◌==◌, length, IfOk, OnOk, OnErr, is_none, position, All};
+ghost use Rattle.std.specs.Prelude.{◌≡◌, ◌<◌, ◌≤◌, ◌+◌, ◌==◌, length, IfOk, OnOk, OnErr};
+ghost use Rattle.std.specs.Prelude.{is_none, position, All};
 ghost use Rattle.std.specs.List.{before_first, after_first};
 ghost use Rattle.std.specs.Option.{option_copied};
 ghost use Rattle.std.specs.Iterator.{YieldsFirstBy, item_count};
 ghost use Rattle.std.specs.Str.{IsUtf8};
 ghost use Rattle.indexmap.specs.IndexMap.{IndexMap, values, spare};
 ghost use Rattle.wc_buffers.specs.Entries.{AreNamed, IsText};
-ghost use Rattle.wc_buffers.specs.Vars.{pair, plugin_var, name_var, set_fixed, set_all, set_var, remove_var, value_of, var_of, var, vars_of, cut_to, lent_pair};
+ghost use Rattle.wc_buffers.specs.Vars.{pair, plugin_var, name_var, set_fixed, set_all, set_var};
+ghost use Rattle.wc_buffers.specs.Vars.{remove_var, value_of, var_of, var, vars_of, cut_to};
+ghost use Rattle.wc_buffers.specs.Vars.{lent_pair};
 
 use indexmap::IndexMap;
 use indexmap::map::Values;

@@ -115,3 +115,6 @@ pub tags_split : (text : List ℕ) (left : Option (Bor (List ℕ))) → option_c
 tags_split text left e =
     ap (filter is_filled) (parts_front text) ∙ one_more (is_filled (before 44 text)) (before 44 text) (tags_after (text_after 44 text))
     ∙ ap (λ tags. filter is_filled (before 44 text ∷ []) ++ tags) (sym (tags_left-text_after left ∙ ap tags_after e))
+
+-- what `numbered` needs
+pub ruleset numbered_facts = (numbered_at, at_next, at_first, numbered_most)

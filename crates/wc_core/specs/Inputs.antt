@@ -1,5 +1,6 @@
 -- How the core runs what is typed.
-use Rattle.std.specs.Prelude.{◌≡◌, ℕ, ◌+◌, ◌-◌, ◌^◌, ◌≤◌, true, false, ◌⊎◌, List, ◌∷◌, map, min, None}
+use Rattle.std.specs.Prelude.{◌≡◌, ℕ, ◌+◌, ◌-◌, ◌^◌, ◌≤◌, true, false, ◌⊎◌, List}
+use Rattle.std.specs.Prelude.{◌∷◌, map, min, None}
 use Rattle.wc_text.specs.declared.names.Handle.{Handle}
 use Rattle.wc_buffers.specs.Calls.{is_there}
 use Rattle.wc_model.specs.declared.change.Change.{Change}
@@ -8,21 +9,30 @@ use Rattle.wc_model.specs.Apply.{refusal}
 use Rattle.wc_core.specs.CoreView.{CoreView}
 use Rattle.wc_core.specs.Typed.{typed_line}
 use Rattle.wc_core.specs.Step.{change_step, typed_step, is_quit, lines_step}
-use Rattle.wc_core.specs.Served.{state_of, told_connection, ConnectionsServed, FollowsUnlessStarved, RanOutOfMemory}
+use Rattle.wc_core.specs.Served.{state_of, told_connection, ConnectionsServed, FollowsUnlessStarved}
+use Rattle.wc_core.specs.Served.{RanOutOfMemory}
 
 -- a change is made and told, or memory was refused
 abbrev pub MakesChange : CoreView → Change → CoreView → Type 0
-MakesChange old change new = ((refusal old.world change ≡ None) × FollowsUnlessStarved old new (change_step (state_of old) change)) ⊎ RanOutOfMemory old new
+MakesChange old change new = ((refusal old.world change ≡ None)
+    × FollowsUnlessStarved old new (change_step (state_of old) change)) ⊎ RanOutOfMemory old new
 
 -- memory was refused to someone whom a notice is for
 pub record TellsSome (old new : CoreView) (notice : Notice) : Type 0 where
-  pub served : ConnectionsServed notice.kind notice.buffer.0 (told_connection old.world notice) old.connections new.connections
+  pub served : ConnectionsServed notice.kind notice.buffer.0 (told_connection old.world notice)
+      old.connections new.connections
   pub rises : old.starved ≤ new.starved
-  pub counts : new ≡ record old { connections = new.connections; starved = min (old.starved + 1) (2 ^ 64 - 1) }
+  pub counts : new ≡ record old {
+    connections = new.connections;
+    starved = min (old.starved + 1) (2 ^ 64 - 1);
+  }
 
 -- a notice of a change that led to this world is told, or memory was refused to someone
 abbrev pub MayTell : CoreView → CoreView → Notice → Type 0
-MayTell old new notice = (new ≡ record old { connections = map (told_connection old.world notice) old.connections }) ⊎ TellsSome old new notice
+MayTell old new notice = (new ≡ record old {
+  connections = map (told_connection old.world notice)
+      old.connections;
+}) ⊎ TellsSome old new notice
 
 -- after a line that is typed into a buffer the others are run
 pub record GoesOn (old new : CoreView) (buffer : Handle) (line : List ℕ) : Type 0 where
@@ -31,4 +41,5 @@ pub record GoesOn (old new : CoreView) (buffer : Handle) (line : List ℕ) : Typ
 
 -- the lines after it are skipped
 abbrev pub Stops : CoreView → CoreView → Handle → List ℕ → Type 0
-Stops old new buffer line = (lines : List (List ℕ)) → is_there buffer old.world.groups ≡ true → FollowsUnlessStarved old new (lines_step (state_of old) buffer (line ∷ lines))
+Stops old new buffer line = (lines : List (List ℕ)) → is_there buffer old.world.groups ≡ true →
+    FollowsUnlessStarved old new (lines_step (state_of old) buffer (line ∷ lines))

@@ -22,7 +22,8 @@ NothingTouched pending = (buffer : Handle) → touches_of buffer pending ≡ []
 
 -- these are the rows that were told of a buffer
 abbrev pub WasTold : World → List OfBuffer → Handle → List Row → Type 0
-WasTold world pending buffer told = IsTold (λ k. before_at k (touches_of buffer pending)) (rows_at world buffer.0) told
+WasTold world pending buffer told = IsTold (λ k. before_at k (touches_of buffer pending))
+    (rows_at world buffer.0) told
 
 -- these are the rows that were told of each buffer
 abbrev pub AreTold : World → List OfBuffer → (ℕ → List Row) → Type 0
@@ -34,20 +35,29 @@ push_of world buffer told = nick_push (root_at buffer) told (rows_at world buffe
 
 -- what a client is told of the pushes of these buffers, one after another
 abbrev pub pushes_told : World → (ℕ → List Row) → List ℕ → Client → List WireMessage
-pushes_told world told buffers client = flat_map (λ b. push_told (record { 0 = b }) (push_of world b (told b)) client) buffers
+pushes_told world told buffers client =
+    flat_map (λ b. push_told (record { 0 = b }) (push_of world b (told b)) client) buffers
 
 -- a connection with messages after its unsent bytes, where its client is open
 abbrev pub sent_connection : List WireMessage → Connection → Connection
 sent_connection messages connection =
-    if is_open connection then record connection { session = record connection.session { unsent = connection.session.unsent ++ flat_map (λ m. spelling m) messages } } else connection
+    if is_open connection then record connection {
+      session =
+          record connection.session {
+            unsent = connection.session.unsent
+                ++ flat_map (λ m. spelling m) messages;
+          };
+    } else connection
 
 -- a connection after the push of a buffer
 abbrev pub push_connection : Handle → Push → Connection → Connection
-push_connection buffer push connection = sent_connection (push_told buffer push connection.session.client) connection
+push_connection buffer push connection =
+    sent_connection (push_told buffer push connection.session.client) connection
 
 -- a connection after the pushes of these buffers
 abbrev pub pushed_connection : World → (ℕ → List Row) → List ℕ → Connection → Connection
-pushed_connection world told buffers connection = sent_connection (pushes_told world told buffers connection.session.client) connection
+pushed_connection world told buffers connection =
+    sent_connection (pushes_told world told buffers connection.session.client) connection
 
 -- these buffers are there
 abbrev pub AreThere : World → List Handle → Type 0

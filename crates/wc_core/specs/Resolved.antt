@@ -1,5 +1,6 @@
 -- What a text that is typed into a buffer comes to in a world.
-use Rattle.std.specs.Prelude.{ℕ, pos, ◌/◌, ◌++◌, ◌==◌, zero, suc, true, false, List, [], ◌∷◌, codes, if◌then◌else◌, Option, Some, None}
+use Rattle.std.specs.Prelude.{ℕ, pos, ◌/◌, ◌++◌, ◌==◌, zero, suc, true, false, List, [], ◌∷◌}
+use Rattle.std.specs.Prelude.{codes, if◌then◌else◌, Option, Some, None}
 use Rattle.std.specs.List.{slice_get, before_first}
 use Rattle.std.specs.Str.Parse.{digits_value}
 use Rattle.wc_text.specs.declared.names.Handle.{Handle}
@@ -18,7 +19,8 @@ use Rattle.wc_model.specs.declared.refused.ChangeRefused.{ChangeRefused}
 use Rattle.wc_model.specs.declared.refused.ChangeRefused.TheVariants as refused
 use Rattle.wc_model.specs.World.{World}
 use Rattle.wc_session.specs.Names.{buffer_named}
-use Rattle.wc_core.specs.Typed.{TypedCommand, Nothing, Quits, Refused, Prints, Adds, Closes, Merges, Names, Changes}
+use Rattle.wc_core.specs.Typed.{TypedCommand, Nothing, Quits, Refused, Prints, Adds, Closes, Merges}
+use Rattle.wc_core.specs.Typed.{Names, Changes}
 
 pub data Effect : Type 0 where
   Stays : Effect
@@ -45,7 +47,8 @@ first_of_number groups (suc n) = first_in_group (slice_get groups n)
 
 -- a buffer by the number of its group, its full name or its handle
 unfoldable pub buffer_meant : EntryGroups → List ℕ → Option Handle
-buffer_meant groups word = if is_numeral word then first_of_number groups (digits_value 10 word) else buffer_named groups word
+buffer_meant groups word = if is_numeral word then first_of_number groups (digits_value 10 word)
+    else buffer_named groups word
 
 abbrev pub no_such_buffer : List ℕ
 no_such_buffer = codes "buffer: no such buffer"
@@ -79,7 +82,12 @@ line_spec moment tags prefix message = record {
 
 -- a buffer of the core
 abbrev pub core_spec : List ℕ → BufferSpec
-core_spec name = record { full_name = codes "core." ++ name; short_name = name; title = []; vars = [] }
+core_spec name = record {
+  full_name = codes "core." ++ name;
+  short_name = name;
+  title = [];
+  vars = [];
+}
 
 abbrev pub null : Handle
 null = record { 0 = 0 }
@@ -90,18 +98,23 @@ plugin_in None = []
 plugin_in (Some row) = before_first (λ b. b == 46) row.full_name
 
 abbrev pub rename_of : EntryGroups → Handle → List ℕ → What
-rename_of groups buffer name = what.Rename (plugin_in (buffer_of buffer groups) ++ codes "." ++ name) []
+rename_of groups buffer name = what.Rename (plugin_in (buffer_of buffer groups) ++ codes "."
+    ++ name) []
 
 unfoldable pub effect_of : World → ℕ → Handle → TypedCommand → Effect
 effect_of world moment buffer Nothing = Stays
 effect_of world moment buffer Quits = Ends
 effect_of world moment buffer (Refused text) = Tells text
 effect_of world moment buffer (Prints name tags prefix message) =
-    of_named world.groups buffer (λ b. change_of b (what.Print (line_spec moment tags prefix message))) name
+    of_named world.groups buffer
+    (λ b. change_of b (what.Print (line_spec moment tags prefix message))) name
 effect_of world moment buffer (Adds name) = Asks (change_of null (what.Add (core_spec name)))
-effect_of world moment buffer (Closes name) = of_named world.groups buffer (λ b. change_of b what.Close) name
-effect_of world moment buffer (Merges name) = of_meant (λ into. change_of buffer (what.MergeInto into)) (buffer_meant world.groups name)
-effect_of world moment buffer (Names name) = Asks (change_of buffer (rename_of world.groups buffer name))
+effect_of world moment buffer (Closes name) = of_named world.groups buffer
+    (λ b. change_of b what.Close) name
+effect_of world moment buffer (Merges name) =
+    of_meant (λ into. change_of buffer (what.MergeInto into)) (buffer_meant world.groups name)
+effect_of world moment buffer (Names name) =
+    Asks (change_of buffer (rename_of world.groups buffer name))
 effect_of world moment buffer (Changes w) = Asks (change_of buffer w)
 
 -- ---- the texts of refusals
@@ -130,4 +143,5 @@ refusal_text refused.NoMemory = []
 
 -- the change that tells a refusal: a line of the core buffer
 abbrev pub told_refusal : ℕ → List ℕ → Change
-told_refusal moment text = change_of (record { 0 = 1 }) (what.Print (line_spec moment [] (codes "=!=") text))
+told_refusal moment text = change_of (record { 0 = 1 })
+    (what.Print (line_spec moment [] (codes "=!=") text))

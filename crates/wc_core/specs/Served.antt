@@ -1,5 +1,7 @@
 -- How the core follows what it is to do.
-use Rattle.std.specs.Prelude.{◌≡◌, ℕ, ◌+◌, ◌-◌, ◌^◌, ◌<◌, ◌≤◌, Bool, true, false, ◌||◌, ◌&&◌, ◌⊎◌, is_none, IfSome, if◌then◌else◌, ◌==◌, List, [], ◌∷◌, ◌++◌, map, min, drop, Option, Some, None, IsSome}
+use Rattle.std.specs.Prelude.{◌≡◌, ℕ, ◌+◌, ◌-◌, ◌^◌, ◌<◌, ◌≤◌, Bool, true, false}
+use Rattle.std.specs.Prelude.{◌||◌, ◌&&◌, ◌⊎◌, is_none, IfSome, if◌then◌else◌, ◌==◌, List, []}
+use Rattle.std.specs.Prelude.{◌∷◌, ◌++◌, map, min, drop, Option, Some, None, IsSome}
 use Rattle.wc_text.specs.declared.names.LinkId.{LinkId}
 use Rattle.wc_text.specs.declared.names.Cause.{Cause}
 use Rattle.wc_text.specs.declared.names.Cause.TheVariants.{NoMemory}
@@ -34,11 +36,18 @@ is_open connection = is_none connection.leaving
 -- the clients that are not leaving
 abbrev pub clients_of : List Connection → List Client
 clients_of [] = []
-clients_of (connection ∷ connections) = if is_open connection then connection.session.client ∷ clients_of connections else clients_of connections
+clients_of (connection ∷ connections) = if is_open connection
+    then connection.session.client ∷ clients_of connections else clients_of connections
 
 -- No change that is typed has nicks, so the rows that were last pushed are the rows.
 abbrev pub state_of : CoreView → State
-state_of core = record { password = core.password; clients = clients_of core.connections; world = core.world; told = core.world.nicks; moment = core.moment }
+state_of core = record {
+  password = core.password;
+  clients = clients_of core.connections;
+  world = core.world;
+  told = core.world.nicks;
+  moment = core.moment;
+}
 
 -- ---- what is seen of a link
 
@@ -69,16 +78,22 @@ is_open_at (Some connection) = is_open connection
 -- the connections after the first unsent bytes of a link are gone
 abbrev pub gone_at : ℕ → ℕ → List Connection → Option Connection → List Connection
 gone_at link count connections None = connections
-gone_at link count connections (Some connection) = put_at connection_link link (record connection { session = record connection.session { unsent = drop count connection.session.unsent } }) connections
+gone_at link count connections (Some connection) = put_at connection_link link
+    (record connection {
+      session =
+          record connection.session { unsent = drop count connection.session.unsent };
+    }) connections
 
 -- the connections after the client of a link began to leave, where it is open
 abbrev pub left_if : Bool → ℕ → Cause → List Connection → Connection → List Connection
-left_if true link cause connections connection = put_at connection_link link (record connection { leaving = Some cause }) connections
+left_if true link cause connections connection = put_at connection_link link
+    (record connection { leaving = Some cause }) connections
 left_if false link cause connections connection = connections
 
 abbrev pub left_at : ℕ → Cause → List Connection → Option Connection → List Connection
 left_at link cause connections None = connections
-left_at link cause connections (Some connection) = left_if (is_open connection) link cause connections connection
+left_at link cause connections (Some connection) = left_if (is_open connection) link cause
+    connections connection
 
 -- the connection of a client that came
 abbrev pub new_connection : LinkId → List ℕ → Connection
@@ -91,7 +106,8 @@ departure_by link (Some cause) others = Some (record { link = link; cause = caus
 
 abbrev pub departure_of : List Connection → Option Departure
 departure_of [] = None
-departure_of (connection ∷ connections) = departure_by connection.session.client.link connection.leaving (departure_of connections)
+departure_of (connection ∷ connections) = departure_by connection.session.client.link
+    connection.leaving (departure_of connections)
 
 -- ---- what the acts do to a link
 
@@ -149,12 +165,14 @@ abbrev pub Distinct : List ℕ → Type 0
 Distinct [] = Unit {0}
 Distinct (n ∷ ns) = Absent n ns × Distinct ns
 
--- The core after a step: what it holds is what the step says, the bytes for each link come after its unsent ones, and
--- the clients that the acts close are leaving.
+-- The core after a step: what it holds is what the step says, the bytes for each link come after
+-- its unsent ones, and the clients that the acts close are leaving.
 pub record Follows (old new : CoreView) (stepped : Stepped) : Type 0 where
   pub state : state_of new ≡ stepped.state
-  pub bytes : (link : ℕ) → unsent_on link new.connections ≡ unsent_on link old.connections ++ sent_to link stepped.acts
-  pub leaving : (link : ℕ) → leaving_on link new.connections ≡ or_else (leaving_on link old.connections) (close_of link stepped.acts)
+  pub bytes : (link : ℕ) → unsent_on link new.connections ≡ unsent_on link old.connections
+      ++ sent_to link stepped.acts
+  pub leaving : (link : ℕ) → leaving_on link new.connections
+      ≡ or_else (leaving_on link old.connections) (close_of link stepped.acts)
   pub quits : new.quits ≡ (old.quits || has_end stepped.acts)
 
 -- why a client is leaving: as before, or for want of memory
@@ -165,23 +183,28 @@ StaysOrStarves before after = (after ≡ before) ⊎ (after ≡ Some NoMemory)
 abbrev pub LeavesBy : Option Cause → Option Cause → Option Cause → Type 0
 LeavesBy before closes after = (after ≡ or_else before closes) ⊎ StaysOrStarves before after
 
--- what holds also where memory was refused: the same links have a client, and a client that is leaving stays as it is
+-- what holds also where memory was refused: the same links have a client, and a client that is
+-- leaving stays as it is
 pub record KeepsClients (old new : CoreView) : Type 0 where
   pub rises : old.starved ≤ new.starved
   pub links : links_of new ≡ links_of old
-  pub kept : (link : ℕ) → IsSome (leaving_on link old.connections) → at_key connection_link link new.connections ≡ at_key connection_link link old.connections
+  pub kept : (link : ℕ) → IsSome (leaving_on link old.connections) →
+      at_key connection_link link new.connections ≡ at_key connection_link link old.connections
 
--- The step is done, unless some growth was refused. Who begins to leave does so for the cause that the step's acts give,
--- or for want of memory.
+-- The step is done, unless some growth was refused. Who begins to leave does so for the cause that
+-- the step's acts give, or for want of memory.
 pub record FollowsUnlessStarved (old new : CoreView) (stepped : Stepped) : Type 0 where
   pub keeps : KeepsClients old new
-  pub causes : Distinct (links_of old) → (link : ℕ) → LeavesBy (leaving_on link old.connections) (close_of link stepped.acts) (leaving_on link new.connections)
-  pub does : new.starved ≡ old.starved → old.starved < 2 ^ 64 - 1 → Distinct (links_of old) → Follows old new stepped
+  pub causes : Distinct (links_of old) → (link : ℕ) → LeavesBy (leaving_on link old.connections)
+      (close_of link stepped.acts) (leaving_on link new.connections)
+  pub does : new.starved ≡ old.starved → old.starved < 2 ^ 64 - 1 → Distinct (links_of old) →
+      Follows old new stepped
 
 -- memory was refused
 pub record RanOutOfMemory (old new : CoreView) : Type 0 where
   pub keeps : KeepsClients old new
-  pub causes : Distinct (links_of old) → (link : ℕ) → StaysOrStarves (leaving_on link old.connections) (leaving_on link new.connections)
+  pub causes : Distinct (links_of old) → (link : ℕ) →
+      StaysOrStarves (leaving_on link old.connections) (leaving_on link new.connections)
   pub count : new.starved ≡ min (old.starved + 1) (2 ^ 64 - 1)
 
 -- a refused arrival has no connection
@@ -190,7 +213,8 @@ refusal link None = []
 refusal link (Some cause) = Closes link cause ∷ []
 
 -- the core after an arrival, which may be refused
-pub record AdmitsArrivalAt (link : ℕ) (old new : CoreView) (refused : Option Cause) (stepped : Stepped) : Type 0 where
+pub record AdmitsArrivalAt (link : ℕ) (old new : CoreView) (refused : Option Cause)
+    (stepped : Stepped) : Type 0 where
   pub state : state_of new ≡ stepped.state
   pub bytes : (other : ℕ) → unsent_on other new.connections ≡ unsent_on other old.connections
   pub leaving : (other : ℕ) → leaving_on other new.connections ≡ leaving_on other old.connections
@@ -201,13 +225,16 @@ abbrev pub connections_after : List Connection → List Connection → ℕ → O
 connections_after old new link None = map connection_link new ≡ map connection_link old ++ link ∷ []
 connections_after old new link (Some cause) = new ≡ old
 
-pub record AdmitsUnlessStarved (link : ℕ) (old new : CoreView) (refused : Option Cause) (stepped : Stepped) : Type 0 where
+pub record AdmitsUnlessStarved (link : ℕ) (old new : CoreView) (refused : Option Cause)
+    (stepped : Stepped) : Type 0 where
   pub rises : old.starved ≤ new.starved
   pub connections : connections_after old.connections new.connections link refused
-  pub kept : (other : ℕ) → IsSome (leaving_on other old.connections) → at_key connection_link other new.connections ≡ at_key connection_link other old.connections
+  pub kept : (other : ℕ) → IsSome (leaving_on other old.connections) →
+      at_key connection_link other new.connections ≡ at_key connection_link other old.connections
   -- it is refused for the cause that the step's acts give, or for want of memory
   pub cause : IfSome refused (λ why. (stepped.acts ≡ Closes link why ∷ []) ⊎ (why ≡ NoMemory))
-  pub comes : new.starved ≡ old.starved → old.starved < 2 ^ 64 - 1 → AdmitsArrivalAt link old new refused stepped
+  pub comes : new.starved ≡ old.starved → old.starved < 2 ^ 64 - 1 →
+      AdmitsArrivalAt link old new refused stepped
 
 -- ---- a notice that is told
 
@@ -218,16 +245,22 @@ listens kind buffer connection = is_open connection && follows kind buffer conne
 -- a connection after an event that is not told
 abbrev pub noted_connection : EventKind → ℕ → Connection → Connection
 noted_connection kind buffer connection =
-    if is_open connection then record connection { session = record connection.session { client = after_event kind buffer connection.session.client } } else connection
+    if is_open connection then record connection {
+      session =
+          record connection.session { client = after_event kind buffer connection.session.client };
+    }
+    else connection
 
 -- a connection after an event
 abbrev pub heard_connection : Spelled → Connection → Connection
-heard_connection event connection = if is_open connection then record connection { session = with_event event connection.session } else connection
+heard_connection event connection = if is_open connection
+    then record connection { session = with_event event connection.session } else connection
 
 -- a connection where no memory is found for an event: its client leaves, where the event is for it
 abbrev pub starved_connection : EventKind → ℕ → Connection → Connection
 starved_connection kind buffer connection =
-    if listens kind buffer connection then record connection { leaving = Some NoMemory } else noted_connection kind buffer connection
+    if listens kind buffer connection then record connection { leaving = Some NoMemory }
+    else noted_connection kind buffer connection
 
 -- a connection once a notice is told, in the world after the change
 abbrev pub told_connection : World → Notice → Connection → Connection
@@ -235,19 +268,25 @@ told_connection world notice connection =
     if is_open connection then record connection {
       session = record {
         client = after_event notice.kind notice.buffer.0 connection.session.client;
-        unsent = connection.session.unsent ++ flat_map (λ m. spelling m) (notice_told world notice connection.session.client);
+        unsent = connection.session.unsent ++ flat_map (λ m. spelling m)
+            (notice_told world notice connection.session.client);
       };
     } else connection
 
--- a connection after this service of it, or one whose client leaves for want of memory, where the service was for it
-abbrev pub ConnectionServed : EventKind → ℕ → (Connection → Connection) → Connection → Connection → Type 0
-ConnectionServed kind buffer service old new = (new ≡ service old) ⊎ (new ≡ starved_connection kind buffer old)
+-- a connection after this service of it, or one whose client leaves for want of memory, where the
+-- service was for it
+abbrev pub ConnectionServed : EventKind → ℕ → (Connection → Connection) → Connection →
+    Connection → Type 0
+ConnectionServed kind buffer service old new = (new ≡ service old)
+    ⊎ (new ≡ starved_connection kind buffer old)
 
-abbrev pub ConnectionsServed : EventKind → ℕ → (Connection → Connection) → List Connection → List Connection → Type 0
+abbrev pub ConnectionsServed : EventKind → ℕ → (Connection → Connection) → List Connection →
+    List Connection → Type 0
 ConnectionsServed kind buffer service [] [] = Unit {0}
 ConnectionsServed kind buffer service [] (b ∷ new) = ⊥
 ConnectionsServed kind buffer service (a ∷ old) [] = ⊥
-ConnectionsServed kind buffer service (a ∷ old) (b ∷ new) = ConnectionServed kind buffer service a b × ConnectionsServed kind buffer service old new
+ConnectionsServed kind buffer service (a ∷ old) (b ∷ new) = ConnectionServed kind buffer service a b
+    × ConnectionsServed kind buffer service old new
 
 -- a client that is leaving is left alone, and another one leaves for want of memory at most
 pub record ConnectionKept (old new : Connection) : Type 0 where

@@ -34,7 +34,13 @@ pub record Stepped : Type 0 where
 
 -- no client, and the core buffer alone
 abbrev pub first_state : List ℕ → ℕ → State
-first_state password limit = record { password = password; clients = []; world = first_world limit; told = (first_world limit).nicks; moment = 0 }
+first_state password limit = record {
+  password = password;
+  clients = [];
+  world = first_world limit;
+  told = (first_world limit).nicks;
+  moment = 0;
+}
 
 abbrev pub told_at : State → ℕ → List Row
 told_at state buffer = unwrap_or (get state.told buffer) []

@@ -1,5 +1,6 @@
 -- What the core does at each event.
-use Rattle.std.specs.Prelude.{ℕ, Bool, true, false, not, ◌&&◌, List, [], ◌∷◌, ◌++◌, map, length, nat_lt, if◌then◌else◌, Option, Some, None}
+use Rattle.std.specs.Prelude.{ℕ, Bool, true, false, not, ◌&&◌, List, [], ◌∷◌, ◌++◌, map, length}
+use Rattle.std.specs.Prelude.{nat_lt, if◌then◌else◌, Option, Some, None}
 use Rattle.std.specs.List.{flat_map}
 use Rattle.wc_text.specs.declared.names.Handle.{Handle}
 use Rattle.wc_text.specs.declared.names.Cause.{Cause}
@@ -31,8 +32,10 @@ use Rattle.wc_session.specs.Event.{notice_told, push_told}
 use Rattle.wc_session.specs.Known.{new_client}
 use Rattle.wc_session.specs.Reply.{Answer, reply_of}
 use Rattle.wc_session.specs.Sync.{after_event}
-use Rattle.wc_core.specs.Events.{Event, Start, Tick, Arrives, Line as LineCame, Ends, Fails, ListenFails}
-use Rattle.wc_core.specs.Resolved.{Effect, Stays, Ends as ResolvedEnds, Tells, Asks, effect_of, refusal_text, told_refusal}
+use Rattle.wc_core.specs.Events.{Event, Start, Tick, Arrives, Line as LineCame, Ends, Fails}
+use Rattle.wc_core.specs.Events.{ListenFails}
+use Rattle.wc_core.specs.Resolved.{Effect, Stays, Ends as ResolvedEnds, Tells, Asks, effect_of}
+use Rattle.wc_core.specs.Resolved.{refusal_text, told_refusal}
 use Rattle.wc_core.specs.State.{State, Act, Sends, Closes, Quits, Stepped, told_at}
 use Rattle.wc_core.specs.Typed.{TypedCommand, Quits as TypedQuits, typed_line, lines_of_text}
 
@@ -47,7 +50,11 @@ abbrev pub no_step : State → Stepped
 no_step state = record { state = state; acts = [] }
 
 abbrev pub then_does : Stepped → (State → Stepped) → Stepped
-then_does first others = record { state = (others first.state).state; acts = first.acts ++ (others first.state).acts }
+then_does first others = record {
+  state = (others first.state).state;
+  acts = first.acts
+      ++ (others first.state).acts;
+}
 
 -- messages for the client of a link
 abbrev pub sends : ℕ → List WireMessage → List Act
@@ -58,16 +65,23 @@ sends link messages = map (Sends link) messages
 abbrev pub told_to : World → Notice → Client → List Act
 told_to world notice client = sends (client_link client) (notice_told world notice client)
 
--- the world after a change of which this is noticed, the rows that then were last pushed, and what each client is told
+-- the world after a change of which this is noticed, the rows that then were last pushed, and what
+-- each client is told
 abbrev pub tell_all_step : State → FinMap nat_cmp (List Row) → World → Notice → Stepped
 tell_all_step state told world notice = record {
-  state = record state { world = world; told = told; clients = map (after_event notice.kind notice.buffer.0) state.clients };
+  state = record state {
+    world = world;
+    told = told;
+    clients = map (after_event notice.kind notice.buffer.0) state.clients;
+  };
   acts = flat_map (told_to world notice) state.clients;
 }
 
 -- an accepted change
 abbrev pub change_step : State → Change → Stepped
-change_step state change = tell_all_step state (told_after state.world change.buffer change.what state.told) (after state.world change) (notice state.world change)
+change_step state change = tell_all_step state
+    (told_after state.world change.buffer change.what state.told) (after state.world change)
+    (notice state.world change)
 
 abbrev pub change_step_if : State → Change → Option ChangeRefused → Stepped
 change_step_if state change None = change_step state change
@@ -75,7 +89,8 @@ change_step_if state change (Some reason) = no_step state
 
 -- a refusal is told by a line of the core buffer, where there are handles for it
 abbrev pub refusal_step : State → List ℕ → Stepped
-refusal_step state text = change_step_if state (told_refusal state.moment text) (refusal state.world (told_refusal state.moment text))
+refusal_step state text = change_step_if state (told_refusal state.moment text)
+    (refusal state.world (told_refusal state.moment text))
 
 -- a change, or why it is refused
 abbrev pub ask_step_if : State → Change → Option ChangeRefused → Stepped
@@ -92,14 +107,19 @@ pushed_to buffer push client = sends (client_link client) (push_told buffer push
 
 -- what became of the nicklist of a buffer since it was last pushed
 abbrev pub push_at : State → ℕ → Push
-push_at state buffer = nick_push (root_at buffer) (told_at state buffer) (rows_at state.world buffer)
+push_at state buffer = nick_push (root_at buffer) (told_at state buffer)
+    (rows_at state.world buffer)
 
 abbrev pub pushes_of : State → ℕ → List Act
-pushes_of state buffer = flat_map (pushed_to (record { 0 = buffer }) (push_at state buffer)) state.clients
+pushes_of state buffer = flat_map (pushed_to (record { 0 = buffer }) (push_at state buffer))
+    state.clients
 
 -- what became of each nicklist is pushed to each client that asked for it, in the order of buffers
 abbrev pub push_step : State → Stepped
-push_step state = record { state = record state { told = state.world.nicks }; acts = flat_map (pushes_of state) (order state.world.groups) }
+push_step state = record {
+  state = record state { told = state.world.nicks };
+  acts = flat_map (pushes_of state) (order state.world.groups);
+}
 
 -- ---- what is typed
 
@@ -117,19 +137,24 @@ abbrev pub is_quit : TypedCommand → Bool
 is_quit TypedQuits = true
 is_quit _ = false
 
--- The lines that are typed into a buffer, one after another. After a `/quit` nothing is done, and once the buffer is
--- closed neither.
+-- The lines that are typed into a buffer, one after another. After a `/quit` nothing is done, and
+-- once the buffer is closed neither.
 abbrev pub lines_step : State → Handle → List (List ℕ) → Stepped
 lines_step state buffer [] = no_step state
 lines_step state buffer (line ∷ lines) =
     let typed = typed_line line in
     if not (is_there buffer state.world.groups) then no_step state else (
-    if is_quit typed then typed_step state buffer typed else then_does (typed_step state buffer typed) (λ next. lines_step next buffer lines))
+    if is_quit typed then typed_step state buffer typed
+    else then_does (typed_step state buffer typed) (λ next. lines_step next buffer lines))
 
 -- ---- clients
 
 abbrev pub leave_step : State → ℕ → Cause → Stepped
-leave_step state link cause = record { state = record state { clients = without client_link link state.clients }; acts = Closes link cause ∷ [] }
+leave_step state link cause = record {
+  state =
+      record state { clients = without client_link link state.clients };
+  acts = Closes link cause ∷ [];
+}
 
 -- what an answer asks of the core, after its messages
 abbrev pub outcome_step : State → ℕ → Outcome → Stepped
@@ -141,7 +166,13 @@ outcome_step state link outcome.NoMemory = no_step state
 
 abbrev pub answer_step : State → ℕ → Answer → Stepped
 answer_step state link answer =
-    then_does (record { state = record state { clients = put_at client_link link answer.client state.clients }; acts = sends link answer.messages })
+    then_does (record {
+      state = record state {
+        clients = put_at client_link link answer.client
+            state.clients;
+      };
+      acts = sends link answer.messages;
+    })
     (λ next. outcome_step next link answer.outcome)
 
 abbrev pub is_nicklist : Command → Bool
@@ -149,13 +180,17 @@ is_nicklist (ask.Nicklist buffer) = true
 is_nicklist _ = false
 
 abbrev pub reply_step : State → Client → Request → Stepped
-reply_step state client request = answer_step state (client_link client) (reply_of state.world state.password client request)
+reply_step state client request = answer_step state (client_link client)
+    (reply_of state.world state.password client request)
 
--- a line of a client, where it is open and its line is a request; what is to be pushed comes before a nicklist
+-- a line of a client, where it is open and its line is a request; what is to be pushed comes before
+-- a nicklist
 abbrev pub request_step : State → Client → Option Request → Stepped
 request_step state client None = no_step state
 request_step state client (Some request) =
-    if client.logged_in && is_nicklist request.command then then_does (push_step state) (λ next. reply_step next client request) else reply_step state client request
+    if client.logged_in && is_nicklist request.command
+    then then_does (push_step state) (λ next. reply_step next client request)
+    else reply_step state client request
 
 abbrev pub line_step : State → List ℕ → Option Client → Stepped
 line_step state line None = no_step state
@@ -167,7 +202,11 @@ loss_step state link cause (Some client) = leave_step state link cause
 
 abbrev pub arrival_step : State → ℕ → List ℕ → Stepped
 arrival_step state link nonce =
-    if nat_lt (length state.clients) client_limit then no_step (record state { clients = state.clients ++ new_client (record { 0 = link }) nonce ∷ [] })
+    if nat_lt (length state.clients) client_limit
+    then no_step (record state {
+      clients = state.clients ++ new_client (record { 0 = link })
+          nonce ∷ [];
+    })
     else record { state = state; acts = Closes link Surplus ∷ [] }
 
 -- what the core does at an event

@@ -1,5 +1,6 @@
 -- What a text that is typed into a buffer asks for, by its bytes alone.
-use Rattle.std.specs.Prelude.{ℕ, ◌^◌, ◌-◌, min, Bool, List, [], ◌∷◌, ◌++◌, codes, drop, length, filter, nat_eq, nat_lt, if◌then◌else◌, ◌==◌, Option, Some, None}
+use Rattle.std.specs.Prelude.{ℕ, ◌^◌, ◌-◌, min, Bool, List, [], ◌∷◌, ◌++◌, codes, drop, length}
+use Rattle.std.specs.Prelude.{filter, nat_eq, nat_lt, if◌then◌else◌, ◌==◌, Option, Some, None}
 use Rattle.std.specs.List.{slice_split, starts_with}
 use Rattle.std.specs.Str.{bytes_eq}
 use Rattle.std.specs.Str.Parse.{digits_value}
@@ -14,7 +15,8 @@ pub data TypedCommand : Type 0 where
   Quits : TypedCommand
   -- a refusal, which is told on the core buffer
   Refused : List ℕ → TypedCommand
-  -- a line of the buffer that is named, or else of the one into which it was typed: its tags, prefix and message
+  -- a line of the buffer that is named, or else of the one into which it was typed: its tags,
+  -- prefix and message
   Prints : Option (List ℕ) → List (List ℕ) → List ℕ → List ℕ → TypedCommand
   -- a new buffer
   Adds : List ℕ → TypedCommand
@@ -30,7 +32,8 @@ pub data TypedCommand : Type 0 where
 -- the lines of a text, which LFs part, where `line` is before the text
 abbrev pub lines_parted : List ℕ → List ℕ → List (List ℕ)
 lines_parted line [] = line ∷ []
-lines_parted line (b ∷ text) = if b == 10 then line ∷ lines_parted [] text else lines_parted (line ++ b ∷ []) text
+lines_parted line (b ∷ text) = if b == 10 then line ∷ lines_parted [] text
+    else lines_parted (line ++ b ∷ []) text
 
 abbrev pub lines_of_text : List ℕ → List (List ℕ)
 lines_of_text text = lines_parted [] text
@@ -47,14 +50,16 @@ no_text_here = Refused (codes "no text here")
 -- ---- `/print`
 
 -- a tab parts the prefix of a line from its message
-abbrev pub print_unless_empty : Option (List ℕ) → List (List ℕ) → List ℕ → Option (List ℕ) → TypedCommand
+abbrev pub print_unless_empty : Option (List ℕ) → List (List ℕ) → List ℕ → Option (List ℕ) →
+    TypedCommand
 print_unless_empty buffer tags text None = Prints buffer tags [] text
 print_unless_empty buffer tags text (Some message) = Prints buffer tags (before 9 text) message
 
 -- the text of a line is not empty
 abbrev pub print_words : Option (List ℕ) → List (List ℕ) → List ℕ → TypedCommand
 print_words buffer tags [] = wrong_arguments (codes "print")
-print_words buffer tags (b ∷ text) = print_unless_empty buffer tags (b ∷ text) (text_after 9 (b ∷ text))
+print_words buffer tags (b ∷ text) = print_unless_empty buffer tags (b ∷ text)
+    (text_after 9 (b ∷ text))
 
 -- the tags of a word, which commas part
 abbrev pub tags_of : List ℕ → List (List ℕ)
@@ -70,19 +75,24 @@ second_of text = word_of (rest_of text)
 abbrev pub after_second : List ℕ → List ℕ
 after_second text = rest_of (rest_of text)
 
--- after the buffer there may be tags, and after the tags a buffer; another first word is the start of the text
+-- after the buffer there may be tags, and after the tags a buffer; another first word is the start
+-- of the text
 abbrev pub print_tagged : Option (List ℕ) → List ℕ → TypedCommand
 print_tagged buffer text =
-    if is_first (codes "-tags") text then print_words buffer (tags_of (second_of text)) (after_second text) else print_words buffer [] text
+    if is_first (codes "-tags") text then print_words buffer (tags_of (second_of text))
+    (after_second text) else print_words buffer [] text
 
 abbrev pub print_on : List (List ℕ) → List ℕ → TypedCommand
 print_on tags text =
-    if is_first (codes "-buffer") text then print_words (Some (second_of text)) tags (after_second text) else print_words None tags text
+    if is_first (codes "-buffer") text then print_words (Some (second_of text)) tags
+    (after_second text) else print_words None tags text
 
 abbrev pub print_command : List ℕ → TypedCommand
 print_command text =
-    if is_first (codes "-buffer") text then print_tagged (Some (second_of text)) (after_second text) else (
-    if is_first (codes "-tags") text then print_on (tags_of (second_of text)) (after_second text) else print_words None [] text)
+    if is_first (codes "-buffer") text then print_tagged (Some (second_of text))
+    (after_second text) else (
+    if is_first (codes "-tags") text then print_on (tags_of (second_of text)) (after_second text)
+    else print_words None [] text)
 
 -- ---- `/buffer`
 
@@ -92,7 +102,8 @@ wrong_buffer = wrong_arguments (codes "buffer")
 -- one word, and nothing after it
 abbrev pub one_word : (List ℕ → TypedCommand) → List ℕ → TypedCommand
 one_word typed [] = wrong_buffer
-one_word typed (b ∷ text) = if nat_lt 0 (length (rest_of (b ∷ text))) then wrong_buffer else typed (word_of (b ∷ text))
+one_word typed (b ∷ text) = if nat_lt 0 (length (rest_of (b ∷ text))) then wrong_buffer
+    else typed (word_of (b ∷ text))
 
 -- no word
 abbrev pub without_words : TypedCommand → List ℕ → TypedCommand
@@ -106,7 +117,8 @@ some_text typed (b ∷ text) = typed (b ∷ text)
 
 -- a number; one that is too large for a number of a buffer counts as the largest
 abbrev pub moves_to : List ℕ → TypedCommand
-moves_to word = if is_numeral word then Changes (what.MoveTo (min (digits_value 10 word) (2 ^ 32 - 1))) else wrong_buffer
+moves_to word = if is_numeral word
+    then Changes (what.MoveTo (min (digits_value 10 word) (2 ^ 32 - 1))) else wrong_buffer
 
 abbrev pub close_command : List ℕ → TypedCommand
 close_command [] = Closes None
@@ -115,14 +127,20 @@ close_command (b ∷ text) = one_word (λ name. Closes (Some name)) (b ∷ text)
 abbrev pub starts : List ℕ → List ℕ → Bool
 starts front word = starts_with nat_eq word front
 
--- a property of the buffer: `localvar_set_X` and `localvar_del_X` name a variable by what comes after
+-- a property of the buffer: `localvar_set_X` and `localvar_del_X` name a variable by what comes
+-- after
 abbrev pub set_property : List ℕ → List ℕ → TypedCommand
 set_property word text =
     if bytes_eq word (codes "name") then some_text (λ value. Names value) text else (
-    if bytes_eq word (codes "short_name") then some_text (λ value. Changes (what.ShortName value)) text else (
-    if bytes_eq word (codes "title") then some_text (λ value. Changes (what.Title value)) text else (
-    if starts (codes "localvar_set_") word then some_text (λ value. Changes (what.SetVar (record { name = drop 13 word; value = value }))) text else (
-    if starts (codes "localvar_del_") word then without_words (Changes (what.RemoveVar (drop 13 word))) text else wrong_buffer))))
+    if bytes_eq word (codes "short_name") then some_text (λ value. Changes (what.ShortName value))
+    text else (
+    if bytes_eq word (codes "title") then some_text (λ value. Changes (what.Title value))
+    text else (
+    if starts (codes "localvar_set_") word
+    then some_text (λ value. Changes
+    (what.SetVar (record { name = drop 13 word; value = value }))) text else (
+    if starts (codes "localvar_del_") word
+    then without_words (Changes (what.RemoveVar (drop 13 word))) text else wrong_buffer))))
 
 abbrev pub buffer_word : List ℕ → List ℕ → TypedCommand
 buffer_word word text =
@@ -134,7 +152,8 @@ buffer_word word text =
     if bytes_eq word (codes "hide") then without_words (Changes what.Hide) text else (
     if bytes_eq word (codes "unhide") then without_words (Changes what.Unhide) text else (
     if bytes_eq word (codes "clear") then without_words (Changes what.Clear) text else (
-    if bytes_eq word (codes "set") then set_property (word_of text) (rest_of text) else wrong_buffer))))))))
+    if bytes_eq word (codes "set") then set_property (word_of text) (rest_of text)
+    else wrong_buffer))))))))
 
 abbrev pub buffer_command : List ℕ → TypedCommand
 buffer_command text = buffer_word (word_of text) (rest_of text)
@@ -155,7 +174,8 @@ command name rest =
 -- what one line asks for after a `/`
 abbrev pub slash_command : List ℕ → TypedCommand
 slash_command [] = command [] []
-slash_command (b ∷ text) = if b == 47 then no_text_here else command (word_of (b ∷ text)) (rest_of (b ∷ text))
+slash_command (b ∷ text) = if b == 47 then no_text_here
+    else command (word_of (b ∷ text)) (rest_of (b ∷ text))
 
 -- what one line asks for: a command after a `/`, and else nothing that a buffer can take
 unfoldable pub typed_line : List ℕ → TypedCommand

@@ -1,5 +1,6 @@
 -- What a text that was read asks for.
-use Rattle.std.specs.Prelude.{ℕ, ◌+◌, ◌-◌, ◌^◌, nat_lt, min, List, [], ◌∷◌, ◌++◌, codes, drop, find, length, if◌then◌else◌, Option, Some, None}
+use Rattle.std.specs.Prelude.{ℕ, ◌+◌, ◌-◌, ◌^◌, nat_lt, min, List, [], ◌∷◌, ◌++◌, codes, drop}
+use Rattle.std.specs.Prelude.{find, length, if◌then◌else◌, Option, Some, None}
 use Rattle.std.specs.Str.{IsUtf8, bytes_eq}
 use Rattle.std.specs.Str.Parse.{digits_value}
 use Rattle.std.specs.Borrow.{Bor}
@@ -12,7 +13,9 @@ use Rattle.wc_core.specs.declared.buffer_word.Property.{Property}
 use Rattle.wc_core.specs.declared.buffer_word.Property.TheVariants as properties
 use Rattle.wc_core.specs.declared.typed.CommandText.{CommandText}
 use Rattle.wc_core.specs.declared.typed.CommandText.TheVariants as asked
-use Rattle.wc_core.specs.Typed.{TypedCommand, Nothing, Quits, Refused, Prints, Adds, Closes, Merges, Names, Changes, lines_of_text, tags_of, wrong_buffer, some_text, without_words, starts}
+use Rattle.wc_core.specs.Typed.{TypedCommand, Nothing, Quits, Refused, Prints, Adds, Closes, Merges}
+use Rattle.wc_core.specs.Typed.{Names, Changes, lines_of_text, tags_of, wrong_buffer, some_text}
+use Rattle.wc_core.specs.Typed.{without_words, starts}
 
 -- a word that was found
 abbrev pub word_in : Option (Bor (List ℕ)) → Option (List ℕ)
@@ -23,7 +26,8 @@ abbrev pub meaning : CommandText → TypedCommand
 meaning asked.Nothing = Nothing
 meaning asked.Quit = Quits
 meaning (asked.Refused front name) = Refused (front.now ++ name.now)
-meaning (asked.Print buffer tags prefix message) = Prints (word_in buffer) (tags_of tags.now) prefix.now message.now
+meaning (asked.Print buffer tags prefix message) = Prints (word_in buffer) (tags_of tags.now)
+    prefix.now message.now
 meaning (asked.Add name) = Adds name.now
 meaning (asked.Close name) = Closes (word_in name)
 meaning (asked.MoveTo number) = Changes (what.MoveTo number)
@@ -35,7 +39,8 @@ meaning asked.Clear = Changes what.Clear
 meaning (asked.Name name) = Names name.now
 meaning (asked.ShortName name) = Changes (what.ShortName name.now)
 meaning (asked.Title title) = Changes (what.Title title.now)
-meaning (asked.SetVar name value) = Changes (what.SetVar (record { name = name.now; value = value.now }))
+meaning (asked.SetVar name value) =
+    Changes (what.SetVar (record { name = name.now; value = value.now }))
 meaning (asked.RemoveVar name) = Changes (what.RemoveVar name.now)
 
 -- ---- the words of `/buffer`
@@ -52,7 +57,8 @@ name_of words.Clear = codes "clear"
 name_of words.Set = codes "set"
 
 abbrev pub all_words : List BufferWord
-all_words = words.Add ∷ words.Close ∷ words.Move ∷ words.Merge ∷ words.Unmerge ∷ words.Hide ∷ words.Unhide ∷ words.Clear ∷ words.Set ∷ []
+all_words = words.Add ∷ words.Close ∷ words.Move ∷ words.Merge ∷ words.Unmerge ∷ words.Hide ∷
+    words.Unhide ∷ words.Clear ∷ words.Set ∷ []
 
 abbrev pub word_named : List ℕ → Option BufferWord
 word_named text = find (λ word. bytes_eq text (name_of word)) all_words
@@ -60,15 +66,18 @@ word_named text = find (λ word. bytes_eq text (name_of word)) all_words
 -- the only word of a text
 abbrev pub only_word : List ℕ → Option (List ℕ)
 only_word [] = None
-only_word (b ∷ text) = if nat_lt 0 (length (rest_of (b ∷ text))) then None else Some (word_of (b ∷ text))
+only_word (b ∷ text) = if nat_lt 0 (length (rest_of (b ∷ text))) then None
+    else Some (word_of (b ∷ text))
 
 -- a property that is set to a text
 abbrev pub property_set : Property → List ℕ → TypedCommand
 property_set properties.Name text = some_text (λ value. Names value) text
 property_set properties.ShortName text = some_text (λ value. Changes (what.ShortName value)) text
 property_set properties.Title text = some_text (λ value. Changes (what.Title value)) text
-property_set (properties.SetVar name) text = some_text (λ value. Changes (what.SetVar (record { name = name.now; value = value }))) text
-property_set (properties.RemoveVar name) text = without_words (Changes (what.RemoveVar name.now)) text
+property_set (properties.SetVar name) text =
+    some_text (λ value. Changes (what.SetVar (record { name = name.now; value = value }))) text
+property_set (properties.RemoveVar name) text =
+    without_words (Changes (what.RemoveVar name.now)) text
 
 abbrev pub set_to : Option Property → List ℕ → TypedCommand
 set_to None text = wrong_buffer
@@ -77,8 +86,11 @@ set_to (Some property) text = property_set property text
 -- the variable that a word names is set or removed
 abbrev pub set_var_property : List ℕ → List ℕ → TypedCommand
 set_var_property word text =
-    if starts (codes "localvar_set_") word then some_text (λ value. Changes (what.SetVar (record { name = drop 13 word; value = value }))) text else (
-    if starts (codes "localvar_del_") word then without_words (Changes (what.RemoveVar (drop 13 word))) text else wrong_buffer)
+    if starts (codes "localvar_set_") word
+    then some_text (λ value. Changes
+    (what.SetVar (record { name = drop 13 word; value = value }))) text else (
+    if starts (codes "localvar_del_") word
+    then without_words (Changes (what.RemoveVar (drop 13 word))) text else wrong_buffer)
 
 -- the number that digits write, or the largest of 32 bits
 abbrev pub number_of : List ℕ → Option ℕ

@@ -9,8 +9,7 @@ use crate::tags::read_tags;
 use std::alloc::Global;
 use wc_buffers::{BufferRow, BufferSpec, Buffers};
 use wc_model::{Change, LineSpec, What};
-use wc_text::split_once;
-use wc_text::{Handle, Items, NoMemory, Text};
+use wc_text::{Handle, Items, NoMemory, Text, split_once};
 
 /// The handle of the core buffer.
 const CORE: Handle = Handle(1);
@@ -42,7 +41,8 @@ pub(crate) fn print(
     prefix: &[u8],
     message: &[u8],
 ) -> Result<What, NoMemory>
-    ensures { IfOk result (λ w. w ≡ what.Print (line_spec moment (tags_of tags.now) prefix.now message.now)) }
+    ensures { IfOk result (λ w. w
+        ≡ what.Print (line_spec moment (tags_of tags.now) prefix.now message.now)) }
 {
     let tags = read_tags(alloc, tags)?;
     let prefix = Text::from_slice(alloc, prefix)?;

@@ -2,7 +2,9 @@ ghost use Rattle.std.specs.Prelude.{◌≡◌, ◌==◌, true, false, length, fi
 ghost use Rattle.std.specs.List.{list_any};
 ghost use Rattle.std.specs.Str.{IsUtf8};
 ghost use Rattle.wc_outside.specs.Keyed.{PlaceOf, without};
-ghost use Rattle.wc_core.specs.Served.{connection_link, is_open, departure_of, listens, noted_connection, heard_connection, starved_connection, told_connection, ConnectionsServed};
+ghost use Rattle.wc_core.specs.Served.{connection_link, is_open, departure_of, listens};
+ghost use Rattle.wc_core.specs.Served.{noted_connection, heard_connection, starved_connection};
+ghost use Rattle.wc_core.specs.Served.{told_connection, ConnectionsServed};
 
 use std::alloc::Global;
 use wc_model::{EventKind, Notice};
@@ -47,10 +49,12 @@ impl Connection {
         }
     }
 
-    /// Tells an event, where it is for this client. False where memory is refused: the client leaves.
+    /// Tells an event, where it is for this client. False where memory is refused: the client
+    /// leaves.
     fn tell(&mut self, event: &BufferEvent) -> bool
         ensures told { result ≡ true → self.new ≡ heard_connection event.now self.old }
-        ensures starved { result ≡ false → self.new ≡ starved_connection event.now.kind event.now.buffer.0 self.old }
+        ensures starved { result ≡ false →
+            self.new ≡ starved_connection event.now.kind event.now.buffer.0 self.old }
     {
         if !self.is_open() {
             return true;
@@ -94,8 +98,10 @@ fn note_all(connections: &mut [Connection], kind: EventKind, buffer: Handle)
 
 /// Tells an event to each client that it is for. False where one finds no memory for it.
 pub fn tell_all(connections: &mut [Connection], event: &BufferEvent) -> bool
-    ensures told { result ≡ true → connections.new ≡ map (heard_connection event.now) connections.old }
-    ensures each { ConnectionsServed event.now.kind event.now.buffer.0 (heard_connection event.now) connections.old connections.new }
+    ensures told { result ≡ true →
+        connections.new ≡ map (heard_connection event.now) connections.old }
+    ensures each { ConnectionsServed event.now.kind event.now.buffer.0 (heard_connection event.now)
+        connections.old connections.new }
 {
     let mut told = true;
     for connection in connections.iter_mut() {
@@ -114,8 +120,9 @@ pub fn starve_all(connections: &mut [Connection], kind: EventKind, buffer: Handl
     }
 }
 
-/// Tells what was noticed of a change to each client that is open and asked for it, in the world after the change. Its
-/// event is spelled once, where it is for some client. False where memory is refused: who is not told leaves.
+/// Tells what was noticed of a change to each client that is open and asked for it, in the world
+/// after the change. Its event is spelled once, where it is for some client. False where memory is
+/// refused: who is not told leaves.
 pub fn tell_notice(
     connections: &mut [Connection],
     alloc: Global,
@@ -123,8 +130,10 @@ pub fn tell_notice(
     notice: &Notice,
 ) -> bool
     requires { IsUtf8 notice.now.full_name }
-    ensures told { result ≡ true → connections.new ≡ map (told_connection world.now notice.now) connections.old }
-    ensures each { ConnectionsServed notice.now.kind notice.now.buffer.0 (told_connection world.now notice.now) connections.old connections.new }
+    ensures told { result ≡ true → connections.new ≡ map (told_connection world.now notice.now)
+        connections.old }
+    ensures each { ConnectionsServed notice.now.kind notice.now.buffer.0
+        (told_connection world.now notice.now) connections.old connections.new }
 {
     if !some_listens(connections, notice.kind, notice.buffer) {
         note_all(connections, notice.kind, notice.buffer);
@@ -148,7 +157,8 @@ pub fn open_count(connections: &[Connection]) -> usize
 }
 
 fn position_of(connections: &[Connection], link: LinkId) -> Option<usize>
-    ensures { result ≡ position (λ connection. connection_link connection == link.0) connections.now }
+    ensures { result ≡ position (λ connection. connection_link connection == link.0)
+        connections.now }
 {
     connections
         .iter()

@@ -1,4 +1,6 @@
-ghost use Rattle.std.specs.Prelude.{◌≡◌, ◌≢◌, ◌⊎◌, ◌∷◌, ◌≤◌, ◌^◌, ◌-◌, ◌+◌, ◌<◌, ◌++◌, [], ℕ, min, List, length, true, false, Some, None, IfOk, IfSome};
+ghost use Rattle.std.specs.Prelude.{◌≡◌, ◌≢◌, ◌⊎◌, ◌∷◌, ◌≤◌, ◌^◌, ◌-◌, ◌+◌};
+ghost use Rattle.std.specs.Prelude.{◌<◌, ◌++◌, [], ℕ, min, List, length, true, false, Some, None};
+ghost use Rattle.std.specs.Prelude.{IfOk, IfSome};
 ghost use Rattle.std.specs.Option.{option_copied};
 ghost use Rattle.std.specs.Str.{IsUtf8};
 ghost use Rattle.wc_outside.specs.Keyed.{at_key, without, IsKeyPlace};
@@ -11,9 +13,14 @@ ghost use Rattle.wc_session.specs.Served.{OnServed, OnNoMemory};
 ghost use Rattle.wc_core.specs.Events.{Start, Tick, Arrives, Line as LineCame};
 ghost use Rattle.wc_core.specs.Typed.{typed_line, lines_of_text};
 ghost use Rattle.wc_core.specs.State.{first_state};
-ghost use Rattle.wc_core.specs.Step.{step, no_step, push_step, change_step, refusal_step, ask_step, typed_step, is_quit, lines_step, leave_step, loss_step, outcome_step, request_step, client_link};
+ghost use Rattle.wc_core.specs.Step.{step, no_step, push_step, change_step, refusal_step, ask_step};
+ghost use Rattle.wc_core.specs.Step.{typed_step, is_quit, lines_step, leave_step, loss_step};
+ghost use Rattle.wc_core.specs.Step.{outcome_step, request_step, client_link};
 ghost use Rattle.wc_core.specs.Texts.{WhatUtf8};
-ghost use Rattle.wc_core.specs.Served.{connection_link, state_of, unsent_at, gone_at, is_open_at, left_at, new_connection, departure_of, Absent, links_of, FollowsUnlessStarved, AdmitsUnlessStarved, RanOutOfMemory, OutcomeUtf8};
+ghost use Rattle.wc_core.specs.Served.{connection_link, state_of, unsent_at, gone_at, is_open_at};
+ghost use Rattle.wc_core.specs.Served.{left_at, new_connection, departure_of, Absent, links_of};
+ghost use Rattle.wc_core.specs.Served.{FollowsUnlessStarved, AdmitsUnlessStarved, RanOutOfMemory};
+ghost use Rattle.wc_core.specs.Served.{OutcomeUtf8};
 ghost use Rattle.wc_core.specs.Inputs.{MakesChange, MayTell, GoesOn, Stops};
 
 use crate::changes::told_refusal;
@@ -38,7 +45,8 @@ use wc_world::World;
 /// How many clients are open at most.
 const CLIENT_LIMIT: usize = 5;
 
-/// The engine between the loop and the sessions: the clients, and the buffers with their lines and nicklists.
+/// The engine between the loop and the sessions: the clients, and the buffers with their lines and
+/// nicklists.
 #[derive(Drop)]
 pub struct Core {
     alloc: Global,
@@ -61,19 +69,27 @@ impl Model for Core {
 
     ghost coded = { Prim.hlevel (codes, map.code) };
 
-    ghost view = { λ core. record { password = core.password; world = core.world; connections = core.connections.items; moment = core.moment; starved = core.starved; quits = core.quits } };
+    ghost view = { λ core. record {
+      password = core.password;
+      world = core.world;
+      connections = core.connections.items;
+      moment = core.moment;
+      starved = core.starved;
+      quits = core.quits;
+    } };
 
     ghost invariant = { λ core. HasNoRows core.world × NothingTouched core.pending };
 }
 
 impl Core {
-    /// A core without clients and with the core buffer alone, for clients that log in by this password. A buffer holds
-    /// at most so many lines.
+    /// A core without clients and with the core buffer alone, for clients that log in by this
+    /// password. A buffer holds at most so many lines.
     pub fn new(alloc: Global, password: Text, limit: u32) -> Result<Core, NoMemory>
         requires some { 1 ≤ limit }
         requires most { limit ≤ 4096 }
         ensures state { IfOk result (λ core. state_of core ≡ first_state password limit) }
-        ensures fresh { IfOk result (λ core. (core.connections ≡ []) × (core.starved ≡ 0) × (core.quits ≡ false)) }
+        ensures fresh { IfOk result (λ core. (core.connections ≡ []) × (core.starved ≡ 0)
+            × (core.quits ≡ false)) }
     {
         let world = World::new(alloc, limit)?;
         let pending = Pending::new(alloc)?;
@@ -91,7 +107,8 @@ impl Core {
 
     /// Sets the starting moment, in milliseconds since 1970.
     pub fn start(&mut self, moment: u64)
-        ensures does { FollowsUnlessStarved self.old self.new (step (state_of self.old) (Start moment)) }
+        ensures does { FollowsUnlessStarved self.old self.new
+            (step (state_of self.old) (Start moment)) }
         ensures moves { self.new ≡ record self.old { moment = moment } }
     {
         self.moment = moment;
@@ -99,14 +116,16 @@ impl Core {
 
     /// Sets the last moment, in milliseconds since 1970.
     pub fn tick(&mut self, moment: u64)
-        ensures does { FollowsUnlessStarved self.old self.new (step (state_of self.old) (Tick moment)) }
+        ensures does { FollowsUnlessStarved self.old self.new
+            (step (state_of self.old) (Tick moment)) }
         ensures moves { self.new ≡ record self.old { moment = moment } }
     {
         self.moment = moment;
         self.push_nicks();
     }
 
-    /// Pushes what became of each nicklist since it was last pushed. That is nothing, since no command changes a nicklist.
+    /// Pushes what became of each nicklist since it was last pushed. That is nothing, since no
+    /// command changes a nicklist.
     fn push_nicks(&mut self)
         ensures none { push_step (state_of self.old) ≡ no_step (state_of self.old) }
         ensures same { self.new ≡ self.old }
@@ -126,19 +145,29 @@ impl Core {
 
     /// Counts want of memory.
     fn starve(&mut self)
-        ensures counts { self.new ≡ record self.old { starved = min (self.old.starved + 1) (2 ^ 64 - 1) } }
+        ensures counts { self.new
+            ≡ record self.old { starved = min (self.old.starved + 1) (2 ^ 64 - 1) } }
         ensures rises { self.old.starved ≤ self.new.starved }
     {
         self.starved = self.starved.saturating_add(1);
     }
 
-    /// Admits an arrival. It answers why where that is refused: as many clients as are allowed are open, or there is no
-    /// memory. The link of a refused arrival is to be closed, and is no client.
+    /// Admits an arrival. It answers why where that is refused: as many clients as are allowed are
+    /// open, or there is no memory. The link of a refused arrival is to be closed, and is no
+    /// client.
     pub fn accepted(&mut self, arrival: Arrival) -> Option<Cause>
-        ensures comes { Absent arrival.link.0 (links_of self.old) → AdmitsUnlessStarved arrival.link.0 self.old self.new result (step (state_of self.old) (Arrives arrival.link.0 arrival.nonce)) }
-        ensures admitted { result ≡ None → self.new ≡ record self.old { connections = self.old.connections ++ new_connection arrival.link arrival.nonce ∷ [] } }
-        ensures refused { IfSome result (λ cause. self.new ≡ record self.old { starved = self.new.starved }) }
-        ensures cause { IfSome result (λ cause. (cause ≡ Cause.Surplus) ⊎ (cause ≡ Cause.NoMemory)) }
+        ensures comes { Absent arrival.link.0 (links_of self.old) →
+            AdmitsUnlessStarved arrival.link.0 self.old self.new result
+            (step (state_of self.old) (Arrives arrival.link.0 arrival.nonce)) }
+        ensures admitted { result ≡ None →
+            self.new ≡ record self.old {
+              connections = self.old.connections
+                  ++ new_connection arrival.link arrival.nonce ∷ [];
+            } }
+        ensures refused { IfSome result
+            (λ cause. self.new ≡ record self.old { starved = self.new.starved }) }
+        ensures cause { IfSome result (λ cause. (cause ≡ Cause.Surplus)
+            ⊎ (cause ≡ Cause.NoMemory)) }
         ensures rises { self.old.starved ≤ self.new.starved }
     {
         if open_count(&self.connections) >= CLIENT_LIMIT {
@@ -159,10 +188,11 @@ impl Core {
         None
     }
 
-    /// Serves a line of a client, where the client is open and the line is a request. A client that finds no memory for
-    /// its reply or an event leaves with that cause.
+    /// Serves a line of a client, where the client is open and the line is a request. A client that
+    /// finds no memory for its reply or an event leaves with that cause.
     pub fn relay_line(&mut self, link: LinkId, line: &[u8])
-        ensures { FollowsUnlessStarved self.old self.new (step (state_of self.old) (LineCame link.0 line.now)) }
+        ensures { FollowsUnlessStarved self.old self.new
+            (step (state_of self.old) (LineCame link.0 line.now)) }
     {
         let Some(place) = connection_place(&self.connections, link) else {
             return;
@@ -177,8 +207,8 @@ impl Core {
         }
     }
 
-    /// Pushes what is to be pushed before a request of a client that is open is answered: nicklists are asked for as they
-    /// then were told.
+    /// Pushes what is to be pushed before a request of a client that is open is answered: nicklists
+    /// are asked for as they then were told.
     fn push_before(&mut self, place: usize, request: &Request)
         requires { place < length self.old.connections }
         ensures none { push_step (state_of self.old) ≡ no_step (state_of self.old) }
@@ -196,7 +226,9 @@ impl Core {
         requires place { IsKeyPlace connection_link link.0 self.old.connections place }
         requires opened { is_open_at (at_key connection_link link.0 self.old.connections) ≡ true }
         requires text { RequestIsUtf8 request }
-        ensures { IfSome (at_key connection_link link.0 self.old.connections) (λ connection. FollowsUnlessStarved self.old self.new (request_step (state_of self.old) connection.session.client (Some request))) }
+        ensures { IfSome (at_key connection_link link.0 self.old.connections)
+            (λ connection. FollowsUnlessStarved self.old self.new
+            (request_step (state_of self.old) connection.session.client (Some request))) }
     {
         self.push_before(place, &request);
         let outcome = self.connections[place]
@@ -209,7 +241,9 @@ impl Core {
     fn follow(&mut self, link: LinkId, outcome: Outcome)
         requires opened { is_open_at (at_key connection_link link.0 self.old.connections) ≡ true }
         requires text { OutcomeUtf8 outcome }
-        ensures does { OnServed outcome (FollowsUnlessStarved self.old self.new (outcome_step (state_of self.old) link.0 outcome)) }
+        ensures does { OnServed outcome
+            (FollowsUnlessStarved self.old self.new
+            (outcome_step (state_of self.old) link.0 outcome)) }
         ensures refused { OnNoMemory outcome (RanOutOfMemory self.old self.new) }
     {
         match outcome {
@@ -224,10 +258,15 @@ impl Core {
     fn leave(&mut self, place: usize, link: LinkId, cause: Cause)
         requires place { IsKeyPlace connection_link link.0 self.old.connections place }
         requires opened { is_open_at (at_key connection_link link.0 self.old.connections) ≡ true }
-        ensures does { FollowsUnlessStarved self.old self.new (leave_step (state_of self.old) link.0 cause) }
+        ensures does { FollowsUnlessStarved self.old self.new
+            (leave_step (state_of self.old) link.0 cause) }
         ensures gone { is_open_at (at_key connection_link link.0 self.new.connections) ≡ false }
         ensures starved { self.new.starved ≡ self.old.starved }
-        ensures leaves { self.new ≡ record self.old { connections = left_at link.0 cause self.old.connections (at_key connection_link link.0 self.old.connections) } }
+        ensures leaves { self.new ≡ record self.old {
+          connections =
+              left_at link.0 cause self.old.connections
+              (at_key connection_link link.0 self.old.connections);
+        } }
     {
         self.connections[place].leaving = Some(cause);
     }
@@ -240,11 +279,12 @@ impl Core {
         self.starve();
     }
 
-    /// Runs a text that is typed into a buffer, line by line. After a `/quit` nothing is run, nor once the buffer is
-    /// closed, nor where memory was refused.
+    /// Runs a text that is typed into a buffer, line by line. After a `/quit` nothing is run, nor
+    /// once the buffer is closed, nor where memory was refused.
     fn run_lines(&mut self, buffer: Handle, text: &[u8])
         requires { IsUtf8 text.now }
-        ensures { FollowsUnlessStarved self.old self.new (lines_step (state_of self.old) buffer (lines_of_text text.now)) }
+        ensures { FollowsUnlessStarved self.old self.new
+            (lines_step (state_of self.old) buffer (lines_of_text text.now)) }
     {
         let mut left = Some(text);
         while let Some(rest) = left {
@@ -268,7 +308,8 @@ impl Core {
         }
     }
 
-    /// Runs a line that is typed into a buffer that is there. It answers whether what is after the line is skipped.
+    /// Runs a line that is typed into a buffer that is there. It answers whether what is after the
+    /// line is skipped.
     fn run_line(&mut self, buffer: Handle, line: &[u8]) -> bool
         requires { IsUtf8 line.now }
         ensures goes_on { result ≡ false → GoesOn self.old self.new buffer line.now }
@@ -284,7 +325,8 @@ impl Core {
     /// Does what a line asks for that is typed into a buffer. It answers whether the run is to end.
     fn do_line(&mut self, buffer: Handle, line: &[u8]) -> bool
         requires { IsUtf8 line.now }
-        ensures does { FollowsUnlessStarved self.old self.new (typed_step (state_of self.old) buffer (typed_line line.now)) }
+        ensures does { FollowsUnlessStarved self.old self.new
+            (typed_step (state_of self.old) buffer (typed_line line.now)) }
         ensures quits { result ≡ is_quit (typed_line line.now) }
     {
         let _texts = self.world.buffers().groups();
@@ -337,13 +379,14 @@ impl Core {
         }
     }
 
-    /// Makes a change, and tells it to each client that asked for its event. It answers why the change is refused, and
-    /// nothing where it is made or memory was refused.
+    /// Makes a change, and tells it to each client that asked for its event. It answers why the
+    /// change is refused, and nothing where it is made or memory was refused.
     fn change(&mut self, change: Change) -> Option<ChangeRefused>
         requires text { IsChangeText change.what }
         requires plain { touched_key change.what ≡ None }
         ensures made { result ≡ None → MakesChange self.old change self.new }
-        ensures refused { IfSome result (λ reason. (self.new ≡ self.old) × (refusal self.old.world change ≡ Some reason)) }
+        ensures refused { IfSome result (λ reason. (self.new ≡ self.old)
+            × (refusal self.old.world change ≡ Some reason)) }
     {
         let _texts = self.world.buffers().groups();
         match change_world(self.alloc, &mut self.world, &mut self.pending, change) {
@@ -372,14 +415,22 @@ impl Core {
         self.starve();
     }
 
-    /// Serves the loss of a link for this cause: its client, if it is open, is leaving. The cause NoMemory counts as
-    /// want of memory.
+    /// Serves the loss of a link for this cause: its client, if it is open, is leaving. The cause
+    /// NoMemory counts as want of memory.
     pub fn link_gone(&mut self, link: LinkId, cause: Cause)
-        ensures does { FollowsUnlessStarved self.old self.new (loss_step (state_of self.old) link.0 cause (at_key client_link link.0 (state_of self.old).clients)) }
+        ensures does { FollowsUnlessStarved self.old self.new
+            (loss_step (state_of self.old) link.0 cause
+            (at_key client_link link.0 (state_of self.old).clients)) }
         ensures gone { is_open_at (at_key connection_link link.0 self.new.connections) ≡ false }
-        ensures leaves { self.new ≡ record self.old { connections = left_at link.0 cause self.old.connections (at_key connection_link link.0 self.old.connections); starved = self.new.starved } }
+        ensures leaves { self.new ≡ record self.old {
+          connections =
+              left_at link.0 cause self.old.connections
+              (at_key connection_link link.0 self.old.connections);
+          starved = self.new.starved;
+        } }
         ensures starved { cause ≢ Cause.NoMemory → self.new.starved ≡ self.old.starved }
-        ensures starves { cause ≡ Cause.NoMemory → self.new.starved ≡ min (self.old.starved + 1) (2 ^ 64 - 1) }
+        ensures starves { cause ≡ Cause.NoMemory → self.new.starved ≡ min (self.old.starved + 1)
+            (2 ^ 64 - 1) }
     {
         self.lose(link, cause);
         if cause != Cause::NoMemory {
@@ -389,10 +440,16 @@ impl Core {
     }
 
     fn lose(&mut self, link: LinkId, cause: Cause)
-        ensures does { FollowsUnlessStarved self.old self.new (loss_step (state_of self.old) link.0 cause (at_key client_link link.0 (state_of self.old).clients)) }
+        ensures does { FollowsUnlessStarved self.old self.new
+            (loss_step (state_of self.old) link.0 cause
+            (at_key client_link link.0 (state_of self.old).clients)) }
         ensures gone { is_open_at (at_key connection_link link.0 self.new.connections) ≡ false }
         ensures starved { self.new.starved ≡ self.old.starved }
-        ensures leaves { self.new ≡ record self.old { connections = left_at link.0 cause self.old.connections (at_key connection_link link.0 self.old.connections) } }
+        ensures leaves { self.new ≡ record self.old {
+          connections =
+              left_at link.0 cause self.old.connections
+              (at_key connection_link link.0 self.old.connections);
+        } }
     {
         let Some(place) = connection_place(&self.connections, link) else {
             return;
@@ -412,14 +469,19 @@ impl Core {
 
     /// Forgets the client of a link, as the link is closed.
     pub fn forget(&mut self, link: LinkId)
-        ensures { self.new ≡ record self.old { connections = without connection_link link.0 self.old.connections } }
+        ensures { self.new ≡ record self.old {
+          connections =
+              without connection_link link.0 self.old.connections;
+        } }
     {
         drop_connection(&mut self.connections, link);
     }
 
-    /// The unsent bytes of the client of a link, also while it is leaving. None where there is no such client.
+    /// The unsent bytes of the client of a link, also while it is leaving. None where there is no
+    /// such client.
     pub fn unsent(&self, link: LinkId) -> Option<&[u8]>
-        ensures { option_copied result ≡ unsent_at (at_key connection_link link.0 self.now.connections) }
+        ensures { option_copied result
+            ≡ unsent_at (at_key connection_link link.0 self.now.connections) }
     {
         let place = connection_place(&self.connections, link)?;
         Some(self.connections[place].session.unsent())
@@ -427,8 +489,13 @@ impl Core {
 
     /// Takes the first unsent bytes of a client away.
     pub fn gone(&mut self, link: LinkId, count: usize)
-        requires { IfSome (unsent_at (at_key connection_link link.0 self.old.connections)) (λ unsent. count ≤ length unsent) }
-        ensures { self.new ≡ record self.old { connections = gone_at link.0 count self.old.connections (at_key connection_link link.0 self.old.connections) } }
+        requires { IfSome (unsent_at (at_key connection_link link.0 self.old.connections))
+            (λ unsent. count ≤ length unsent) }
+        ensures { self.new ≡ record self.old {
+          connections =
+              gone_at link.0 count self.old.connections
+              (at_key connection_link link.0 self.old.connections);
+        } }
     {
         if let Some(place) = connection_place(&self.connections, link) {
             self.connections[place].session.gone(count);
@@ -469,7 +536,8 @@ impl Core {
     /// The buffers, with their lines and nicklists, of which a tick pushes nothing.
     pub fn world(&self) -> &World
         ensures world { result.now ≡ self.now.world }
-        ensures idle { (moment : ℕ) → step (state_of self.now) (Tick moment) ≡ no_step (state_of (record self.now { moment = moment })) }
+        ensures idle { (moment : ℕ) → step (state_of self.now) (Tick moment)
+            ≡ no_step (state_of (record self.now { moment = moment })) }
     {
         &self.world
     }

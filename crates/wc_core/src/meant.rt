@@ -7,7 +7,7 @@ use wc_session::buffer_named;
 use wc_text::Handle;
 
 /// The first buffer of the group of a number, which may be larger than the largest of its type.
-#[tactic(auto, using(crate::proofs::ResolvedWords::numbered_at, crate::proofs::ResolvedWords::at_next, crate::proofs::ResolvedWords::at_first, crate::proofs::ResolvedWords::numbered_most))]
+#[tactic(auto, using(crate::proofs::ResolvedWords::numbered_facts))]
 fn numbered(buffers: &Buffers, number: u32) -> Option<Handle>
     ensures { (n : ℕ) → number ≡ min n (2 ^ 32 - 1) → result ≡ first_of_number buffers.now n }
 {
@@ -21,8 +21,8 @@ fn numbered(buffers: &Buffers, number: u32) -> Option<Handle>
     None
 }
 
-/// The buffer that a word of a command means: by the number of its group, of which the first one is meant, by its full
-/// name or by its handle. None exactly where there is no such buffer.
+/// The buffer that a word of a command means: by the number of its group, of which the first one is
+/// meant, by its full name or by its handle. None exactly where there is no such buffer.
 #[tactic(auto, unfolding(crate::specs::Resolved::buffer_meant))]
 pub(crate) fn buffer_meant(buffers: &Buffers, word: &[u8]) -> Option<Handle>
     ensures { result ≡ buffer_meant buffers.now word.now }

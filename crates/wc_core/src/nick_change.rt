@@ -10,8 +10,8 @@ use wc_model::{Change, ChangeRefused, Notice, What};
 use wc_nickdiff::Pending;
 use wc_world::World;
 
-/// Makes a change, and notes the rows that it touches. Of a buffer that is closed nothing is kept. A change that touches no
-/// row lets none come up.
+/// Makes a change, and notes the rows that it touches. Of a buffer that is closed nothing is kept.
+/// A change that touches no row lets none come up.
 pub fn change_world(
     alloc: Global,
     world: &mut World,

@@ -1,8 +1,8 @@
 ghost use Rattle.std.specs.Prelude.{◌≡◌};
 ghost use Rattle.wc_core.specs.TypedSeen.{number_of};
 
-/// The number that decimal digits write, or the largest of its type where that one is larger. None where the bytes are
-/// no digits.
+/// The number that decimal digits write, or the largest of its type where that one is larger. None
+/// where the bytes are no digits.
 pub(crate) fn read_number(bytes: &[u8]) -> Option<u32>
     ensures { result ≡ number_of bytes.now }
 {

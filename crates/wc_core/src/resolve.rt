@@ -1,7 +1,8 @@
 ghost use Rattle.std.specs.Prelude.{◌≡◌, IfOk, IfErr, false};
 ghost use Rattle.wc_model.specs.declared.change.What.TheVariants as what;
 ghost use Rattle.wc_core.specs.Typed.{Merges};
-ghost use Rattle.wc_core.specs.Resolved.{Asks, Tells, no_such_buffer, change_of, buffer_meant, of_meant, of_named, effect_of};
+ghost use Rattle.wc_core.specs.Resolved.{Asks, Tells, no_such_buffer, change_of, buffer_meant};
+ghost use Rattle.wc_core.specs.Resolved.{of_meant, of_named, effect_of};
 ghost use Rattle.wc_core.specs.Step.{is_quit};
 ghost use Rattle.wc_core.specs.TypedSeen.{meaning, word_in};
 ghost use Rattle.wc_core.specs.ResolvedSeen.{outcome_of};
@@ -50,7 +51,8 @@ fn of_named(
     name: Option<&[u8]>,
     what: What,
 ) -> Result<Resolution, NoMemory>
-    ensures { IfOk result (λ r. outcome_of r ≡ of_named buffers.now buffer (λ b. change_of b what) (word_in name.entry)) }
+    ensures { IfOk result (λ r. outcome_of r ≡ of_named buffers.now buffer (λ b. change_of b what)
+        (word_in name.entry)) }
 {
     let Some(word) = name else {
         return Ok(asks(buffer, what));
@@ -68,7 +70,9 @@ fn merge(
     buffer: Handle,
     name: &[u8],
 ) -> Result<Resolution, NoMemory>
-    ensures { IfOk result (λ r. outcome_of r ≡ of_meant (λ into. change_of buffer (what.MergeInto into)) (buffer_meant buffers.now name.now)) }
+    ensures { IfOk result (λ r. outcome_of r
+        ≡ of_meant (λ into. change_of buffer (what.MergeInto into))
+        (buffer_meant buffers.now name.now)) }
 {
     match buffer_meant(buffers, name) {
         Some(into) => Ok(asks(buffer, What::MergeInto(into))),
@@ -94,7 +98,8 @@ pub(crate) fn resolve(
     buffer: Handle,
     asked: CommandText<'_>,
 ) -> Result<Resolution, NoMemory>
-    ensures resolved { IfOk result (λ r. outcome_of r ≡ effect_of world.now moment buffer (meaning asked.entry)) }
+    ensures resolved { IfOk result (λ r. outcome_of r ≡ effect_of world.now moment buffer
+        (meaning asked.entry)) }
     ensures goes_on { IfErr result (λ e. is_quit (meaning asked.entry) ≡ false) }
 {
     let buffers = world.buffers();

@@ -1,5 +1,6 @@
 ghost use Rattle.std.specs.Prelude.{◌≡◌};
-ghost use Rattle.wc_core.specs.Typed.{no_text_here, unknown_command, wrong_arguments, quit_command, command, slash_command, typed_line};
+ghost use Rattle.wc_core.specs.Typed.{no_text_here, unknown_command, wrong_arguments, quit_command};
+ghost use Rattle.wc_core.specs.Typed.{command, slash_command, typed_line};
 ghost use Rattle.wc_core.specs.TypedSeen.{meaning};
 
 use crate::typed_buffer::buffer_command;
@@ -21,7 +22,8 @@ pub enum CommandText<'a> {
         front: &'a [u8],
         name: &'a [u8],
     },
-    /// A line of the buffer that is named, or else of the one into which it was typed. Commas part the tags.
+    /// A line of the buffer that is named, or else of the one into which it was typed. Commas part
+    /// the tags.
     Print {
         buffer: Option<&'a [u8]>,
         tags: &'a [u8],
@@ -109,7 +111,8 @@ fn slashed(text: &[u8]) -> CommandText<'_>
     command(name, rest)
 }
 
-/// Reads a line that is typed into a buffer. What does not begin with a `/` is a text, which no buffer takes.
+/// Reads a line that is typed into a buffer. What does not begin with a `/` is a text, which no
+/// buffer takes.
 #[tactic(auto, unfolding(crate::specs::Typed::typed_line))]
 pub fn read_typed(line: &[u8]) -> CommandText<'_>
     ensures { meaning result ≡ typed_line line.now }

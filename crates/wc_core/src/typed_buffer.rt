@@ -1,7 +1,9 @@
 ghost use Rattle.std.specs.Prelude.{◌≡◌};
 ghost use Rattle.std.specs.Option.{option_copied};
 ghost use Rattle.wc_text.specs.Splits.{word_of, rest_of};
-ghost use Rattle.wc_core.specs.Typed.{Adds, Merges, wrong_buffer, one_word, without_words, some_text, moves_to, close_command, set_property, buffer_command};
+ghost use Rattle.wc_core.specs.Typed.{Adds, Merges, wrong_buffer, one_word, without_words};
+ghost use Rattle.wc_core.specs.Typed.{some_text, moves_to, close_command, set_property};
+ghost use Rattle.wc_core.specs.Typed.{buffer_command};
 ghost use Rattle.wc_core.specs.TypedSeen.{meaning, only_word, property_set};
 
 use crate::buffer_word::{BufferWord, Property, read_property};

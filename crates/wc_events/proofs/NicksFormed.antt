@@ -134,3 +134,6 @@ list_formed items buffer root rows held are =
     let more : List HdaItem = map (nick_item buffer) (full_list (root_item root) rows) in
     let formed : are_nicks more ≡ true = each_nick buffer (full_list (root_item root) rows) (texts_of_full root rows held) in
     list_all-append (λ item. item_of 2 (Some nick_kinds) item) items more ∙ (λ i. are i && formed i)
+
+-- what `push_objects` needs
+pub ruleset push_objects_facts = (diff_formed, full_formed)

@@ -12,3 +12,6 @@ part_after parts part = flat_map-append part_items parts (part ∷ []) ∙ ap (�
 
 pub part_formed : (parts : List DumpPart) (part : DumpPart) → All HasUtf8Texts part.lines.now.lines → are_lines (items_of parts) ≡ true → are_lines (items_of (parts ++ part ∷ [])) ≡ true
 part_formed parts part text are = rw (part_after parts part) (more_lines (items_of parts) part.buffer part.own part.lines.now.lines text are)
+
+-- what `push_buffer` needs
+pub ruleset push_buffer_facts = (part_after, part_formed)

@@ -1,5 +1,7 @@
 -- What a client is told of buffers: the event of each notice, and the dump of all buffers.
-use Rattle.std.specs.Prelude.{ℕ, ◌+◌, ◌-◌, ◌^◌, ◌==◌, ℤ, pos, Bool, nat_le, List, [], ◌∷◌, ◌++◌, map, filter, Option, Some, None, codes, option_map, if◌then◌else◌}
+use Rattle.std.specs.Prelude.{ℕ, ◌+◌, ◌-◌, ◌^◌, ◌==◌, ℤ, pos, Bool, nat_le, List, [], ◌∷◌}
+use Rattle.std.specs.Prelude.{◌++◌, map, filter, Option, Some, None, codes, option_map}
+use Rattle.std.specs.Prelude.{if◌then◌else◌}
 use Rattle.std.specs.List.{list_any}
 use Rattle.wc_text.specs.declared.names.Handle.{Handle}
 use Rattle.wc_text.specs.declared.names.Pair.{Pair}
@@ -63,12 +65,19 @@ number_of notice = o.Int (count notice.number)
 -- one item of a buffer on the path `buffer`
 abbrev pub about : List ℕ → Handle → List Object → List Object
 about keys buffer values =
-    o.Hda (roll-Hda (record { path = Some (codes "buffer"); keys = Some keys; items = roll-HdaItem (record { pointers = buffer.0 ∷ []; values = values }) ∷ [] })) ∷ []
+    o.Hda (roll-Hda (record {
+      path = Some (codes "buffer");
+      keys = Some keys;
+      items = roll-HdaItem (record { pointers = buffer.0 ∷ []; values = values }) ∷ [];
+    })) ∷ []
 
 -- ---- the keys and the values of each event, by what is noticed and by what is of the buffer after the change
 
 abbrev pub opened_keys : List ℕ
-opened_keys = codes "number:int,full_name:str,short_name:str,hidden:int,title:str,local_variables:htb,prev_buffer:ptr,next_buffer:ptr"
+opened_keys
+    =
+    codes
+    "number:int,full_name:str,short_name:str,hidden:int,title:str,local_variables:htb,prev_buffer:ptr,next_buffer:ptr"
 
 abbrev pub placed_keys : List ℕ
 placed_keys = codes "number:int,full_name:str,prev_buffer:ptr,next_buffer:ptr"
@@ -87,14 +96,17 @@ named_keys = codes "number:int,full_name:str"
 
 unfoldable pub opened_values : Notice → BufferEntry → List Object
 opened_values notice e =
-    number_of notice ∷ text notice.full_name ∷ text e.row.short_name ∷ o.Int (truth e.row.hidden) ∷ text e.row.title ∷ table e.vars ∷
+    number_of notice ∷ text notice.full_name ∷ text e.row.short_name ∷ o.Int (truth e.row.hidden) ∷
+    text e.row.title ∷ table e.vars ∷
     o.Ptr notice.prev.0 ∷ o.Ptr notice.next.0 ∷ []
 
 unfoldable pub placed_values : Notice → List Object
-placed_values notice = number_of notice ∷ text notice.full_name ∷ o.Ptr notice.prev.0 ∷ o.Ptr notice.next.0 ∷ []
+placed_values notice = number_of notice ∷ text notice.full_name ∷ o.Ptr notice.prev.0 ∷ o.Ptr
+    notice.next.0 ∷ []
 
 unfoldable pub renamed_values : Notice → BufferEntry → List Object
-renamed_values notice e = number_of notice ∷ text notice.full_name ∷ text e.row.short_name ∷ table e.vars ∷ []
+renamed_values notice e = number_of notice ∷ text notice.full_name ∷ text e.row.short_name ∷ table
+    e.vars ∷ []
 
 unfoldable pub title_values : Notice → BufferEntry → List Object
 title_values notice e = number_of notice ∷ text notice.full_name ∷ text e.row.title ∷ []
@@ -123,23 +135,30 @@ vars_objects notice e = about vars_keys notice.buffer (vars_values notice e)
 abbrev pub named_objects : Notice → List Object
 named_objects notice = about named_keys notice.buffer (named_values notice)
 
--- The objects of the event of a notice, in the world after the change. Flags of lines are told of each buffer by
--- itself, nicklists are pushed, and nothing is told of a buffer that is not there.
+-- The objects of the event of a notice, in the world after the change. Flags of lines are told of
+-- each buffer by itself, nicklists are pushed, and nothing is told of a buffer that is not there.
 unfoldable pub objects_of : World → EventKind → Notice → Option (List Object)
-objects_of world kind.Opened notice = option_map (opened_objects notice) (entry_of notice.buffer world.groups)
+objects_of world kind.Opened notice = option_map (opened_objects notice)
+    (entry_of notice.buffer world.groups)
 objects_of world kind.Moved notice = Some (placed_objects notice)
 objects_of world kind.Merged notice = Some (placed_objects notice)
 objects_of world kind.Unmerged notice = Some (placed_objects notice)
 objects_of world kind.Hidden notice = Some (placed_objects notice)
 objects_of world kind.Unhidden notice = Some (placed_objects notice)
-objects_of world kind.Renamed notice = option_map (renamed_objects notice) (entry_of notice.buffer world.groups)
-objects_of world kind.TitleChanged notice = option_map (title_objects notice) (entry_of notice.buffer world.groups)
-objects_of world kind.VarAdded notice = option_map (vars_objects notice) (entry_of notice.buffer world.groups)
-objects_of world kind.VarChanged notice = option_map (vars_objects notice) (entry_of notice.buffer world.groups)
-objects_of world kind.VarRemoved notice = option_map (vars_objects notice) (entry_of notice.buffer world.groups)
+objects_of world kind.Renamed notice = option_map (renamed_objects notice)
+    (entry_of notice.buffer world.groups)
+objects_of world kind.TitleChanged notice = option_map (title_objects notice)
+    (entry_of notice.buffer world.groups)
+objects_of world kind.VarAdded notice = option_map (vars_objects notice)
+    (entry_of notice.buffer world.groups)
+objects_of world kind.VarChanged notice = option_map (vars_objects notice)
+    (entry_of notice.buffer world.groups)
+objects_of world kind.VarRemoved notice = option_map (vars_objects notice)
+    (entry_of notice.buffer world.groups)
 objects_of world kind.Cleared notice = Some (named_objects notice)
 objects_of world kind.Closing notice = Some (named_objects notice)
-objects_of world kind.LineAdded notice = option_map (added_objects notice.buffer) (newest (lines_at world notice.buffer.0))
+objects_of world kind.LineAdded notice = option_map (added_objects notice.buffer)
+    (newest (lines_at world notice.buffer.0))
 objects_of world kind.LineDataChanged notice = None
 objects_of world kind.Nicklist notice = None
 objects_of world kind.NicklistDiff notice = None
@@ -150,7 +169,8 @@ event_objects world notice = objects_of world notice.kind notice
 
 -- the message of a notice
 abbrev pub event_of : World → Notice → Option WireMessage
-event_of world notice = option_map (λ objects. record { id = id_of notice.kind; objects = objects }) (event_objects world notice)
+event_of world notice = option_map (λ objects. record { id = id_of notice.kind; objects = objects })
+    (event_objects world notice)
 
 -- ---- the lines of one buffer whose flags differ
 
@@ -161,14 +181,22 @@ abbrev pub is_flipped : List Handle → Line → Bool
 is_flipped flips line = list_any (λ (flip : Handle). flip.0 == line.content.0) flips
 
 abbrev pub flag_item : Handle → Line → HdaItem
-flag_item buffer line = roll-HdaItem (record { pointers = line.content.0 ∷ []; values = o.Ptr buffer.0 ∷ o.Chr (truth line.displayed) ∷ [] })
+flag_item buffer line = roll-HdaItem
+    (record {
+      pointers = line.content.0 ∷ [];
+      values = o.Ptr buffer.0 ∷ o.Chr (truth line.displayed) ∷ [];
+    })
 
 abbrev pub flag_items : Handle → List Handle → List Line → List HdaItem
 flag_items buffer flips lines = map (flag_item buffer) (filter (is_flipped flips) lines)
 
 abbrev pub flag_objects : Handle → List Handle → List Line → List Object
 flag_objects buffer flips lines =
-    o.Hda (roll-Hda (record { path = Some (codes "line_data"); keys = Some flag_keys; items = flag_items buffer flips lines })) ∷ []
+    o.Hda (roll-Hda (record {
+      path = Some (codes "line_data");
+      keys = Some flag_keys;
+      items = flag_items buffer flips lines;
+    })) ∷ []
 
 -- ---- the dump of all buffers
 
@@ -177,15 +205,22 @@ dump_keys = codes "number:int,full_name:str,short_name:str,hidden:int,title:str,
 
 unfoldable pub dumped_values : ℕ → BufferEntry → List Object
 dumped_values number e =
-    o.Int (pos number) ∷ text e.row.full_name ∷ text e.row.short_name ∷ o.Int (truth e.row.hidden) ∷ text e.row.title ∷ table e.vars ∷ []
+    o.Int (pos number) ∷ text e.row.full_name ∷ text e.row.short_name ∷ o.Int (truth e.row.hidden) ∷
+    text e.row.title ∷ table e.vars ∷ []
 
 abbrev pub dumped_buffer : ℕ → BufferEntry → HdaItem
-dumped_buffer number e = roll-HdaItem (record { pointers = e.row.handle.0 ∷ []; values = dumped_values number e })
+dumped_buffer number e = roll-HdaItem
+    (record { pointers = e.row.handle.0 ∷ []; values = dumped_values number e })
 
 -- the groups from this number on
 abbrev pub dumped_groups : ℕ → EntryGroups → List HdaItem
 dumped_groups number [] = []
-dumped_groups number (group ∷ groups) = map (dumped_buffer number) group ++ dumped_groups (number + 1) groups
+dumped_groups number (group ∷ groups) = map (dumped_buffer number) group
+    ++ dumped_groups (number + 1) groups
 
 abbrev pub buffer_dump : EntryGroups → List Object
-buffer_dump groups = o.Hda (roll-Hda (record { path = Some (codes "buffer"); keys = Some dump_keys; items = dumped_groups 1 groups })) ∷ []
+buffer_dump groups = o.Hda (roll-Hda (record {
+  path = Some (codes "buffer");
+  keys = Some dump_keys;
+  items = dumped_groups 1 groups;
+})) ∷ []

@@ -19,21 +19,27 @@ abbrev pub date_bytes : ℕ → List ℕ
 date_bytes date = short_bytes (signed_decimal (moment date))
 
 abbrev pub marks_bytes : Line → List ℕ
-marks_bytes line = cast_unsigned w8 (truth line.displayed) ∷ cast_unsigned w8 line.notify ∷ cast_unsigned w8 (truth line.highlight) ∷ []
+marks_bytes line = cast_unsigned w8 (truth line.displayed) ∷ cast_unsigned w8 line.notify ∷
+    cast_unsigned w8 (truth line.highlight) ∷ []
 
 abbrev pub texts_bytes : Line → List ℕ
-texts_bytes line = tags_bytes line.tags ++ (text_bytes (Some line.prefix) ++ text_bytes (Some line.message))
+texts_bytes line = tags_bytes line.tags
+    ++ (text_bytes (Some line.prefix) ++ text_bytes (Some line.message))
 
 abbrev pub dates_bytes : Line → List ℕ
 dates_bytes line = date_bytes line.date ++ date_bytes line.date_printed
 
 abbrev pub pointers_bytes : Handle → Handle → Line → List ℕ
-pointers_bytes buffer own line = pointer_bytes buffer.0 ++ (pointer_bytes own.0 ++ (pointer_bytes line.handle.0 ++ (pointer_bytes line.content.0 ++ pointer_bytes buffer.0)))
+pointers_bytes buffer own line = pointer_bytes buffer.0
+    ++ (pointer_bytes own.0 ++ (pointer_bytes line.handle.0
+    ++ (pointer_bytes line.content.0 ++ pointer_bytes buffer.0)))
 
 -- a line of the dump
 unfoldable pub line_bytes : Handle → Handle → Line → List ℕ
-line_bytes buffer own line = pointers_bytes buffer own line ++ (dates_bytes line ++ (marks_bytes line ++ texts_bytes line))
+line_bytes buffer own line = pointers_bytes buffer own line
+    ++ (dates_bytes line ++ (marks_bytes line ++ texts_bytes line))
 
 -- what is before the count of the lines, after the length of the message
 abbrev pub front_bytes : List ℕ → List ℕ → List ℕ → List ℕ
-front_bytes id path keys = 0 ∷ (text_bytes (Some id) ++ (letters k.Hda ++ (text_bytes (Some path) ++ text_bytes (Some keys))))
+front_bytes id path keys = 0 ∷ (text_bytes (Some id)
+    ++ (letters k.Hda ++ (text_bytes (Some path) ++ text_bytes (Some keys))))

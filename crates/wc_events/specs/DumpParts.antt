@@ -25,11 +25,13 @@ part_bytes part = flat_map (line_bytes part.buffer part.own) part.lines.now.line
 
 -- what comes after the length of the message
 abbrev pub body_of : List ℕ → List ℕ → List ℕ → List DumpPart → List ℕ
-body_of id path keys parts = front_bytes id path keys ++ (be32 (count_of parts) ++ flat_map part_bytes parts)
+body_of id path keys parts = front_bytes id path keys
+    ++ (be32 (count_of parts) ++ flat_map part_bytes parts)
 
 abbrev pub dump_path : List ℕ
 dump_path = codes "buffer/lines/line/line_data"
 
 -- the message
 abbrev pub bytes_of : List ℕ → List ℕ → List ℕ → List DumpPart → List ℕ
-bytes_of id path keys parts = be32 (4 + length (body_of id path keys parts)) ++ body_of id path keys parts
+bytes_of id path keys parts = be32 (4 + length (body_of id path keys parts))
+    ++ body_of id path keys parts

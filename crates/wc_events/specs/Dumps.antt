@@ -28,7 +28,8 @@ group_items groups number handles = each_told groups (λ e. dumped_buffer number
 -- the buffers of the groups from this number on
 abbrev pub all_items : EntryGroups → ℕ → List (List Handle) → List HdaItem
 all_items groups number [] = []
-all_items groups number (handles ∷ others) = group_items groups number handles ++ all_items groups (number + 1) others
+all_items groups number (handles ∷ others) = group_items groups number handles ++ all_items groups
+    (number + 1) others
 
 -- the lines of the buffers of a group
 abbrev pub line_items : World → List Handle → List HdaItem

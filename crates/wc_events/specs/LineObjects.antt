@@ -1,5 +1,6 @@
 -- What a client is told of lines: the event of a new line, and the dump of the lines that are held.
-use Rattle.std.specs.Prelude.{ℕ, ◌^◌, ◌-◌, ℤ, pos, Bool, nat_le, List, [], ◌∷◌, map, Some, codes, if◌then◌else◌}
+use Rattle.std.specs.Prelude.{ℕ, ◌^◌, ◌-◌, ℤ, pos, Bool, nat_le, List, [], ◌∷◌, map, Some, codes}
+use Rattle.std.specs.Prelude.{if◌then◌else◌}
 use Rattle.wc_text.specs.declared.names.Handle.{Handle}
 use Rattle.std.specs.List.{flat_map}
 use Rattle.wc_lines.specs.declared.line.Line.{Line}
@@ -26,7 +27,10 @@ texts tags = map (λ text. o.Str (Some text)) tags
 
 -- the keys of a line, in the event and in the dump
 abbrev pub line_keys : List ℕ
-line_keys = codes "buffer:ptr,date:tim,date_printed:tim,displayed:chr,notify_level:chr,highlight:chr,tags_array:arr,prefix:str,message:str"
+line_keys
+    =
+    codes
+    "buffer:ptr,date:tim,date_printed:tim,displayed:chr,notify_level:chr,highlight:chr,tags_array:arr,prefix:str,message:str"
 
 -- the values of a line of a buffer, in the order of the keys
 unfoldable pub line_values : Handle → Line → List Object
@@ -41,19 +45,26 @@ on_path path items = roll-Hda (record { path = Some path; keys = Some line_keys;
 
 -- a new line, named by its content
 unfoldable pub added_item : Handle → Line → HdaItem
-added_item buffer line = roll-HdaItem (record { pointers = line.content.0 ∷ []; values = line_values buffer line })
+added_item buffer line = roll-HdaItem
+    (record { pointers = line.content.0 ∷ []; values = line_values buffer line })
 
 abbrev pub added_objects : Handle → Line → List Object
 added_objects buffer line = o.Hda (on_path (codes "line_data") (added_item buffer line ∷ [])) ∷ []
 
 -- the event of a new line of a buffer
 abbrev pub line_added : Handle → Line → WireMessage
-line_added buffer line = record { id = codes "_buffer_line_added"; objects = added_objects buffer line }
+line_added buffer line = record {
+  id = codes "_buffer_line_added";
+  objects = added_objects buffer line;
+}
 
 -- a line in the dump, by its buffer, the buffer's own lines, itself and its content
 unfoldable pub dumped_item : Handle → Handle → Line → HdaItem
 dumped_item buffer own line =
-    roll-HdaItem (record { pointers = buffer.0 ∷ own.0 ∷ line.handle.0 ∷ line.content.0 ∷ []; values = line_values buffer line })
+    roll-HdaItem (record {
+      pointers = buffer.0 ∷ own.0 ∷ line.handle.0 ∷ line.content.0 ∷ [];
+      values = line_values buffer line;
+    })
 
 -- the dump of lines, of whichever buffers these items are
 abbrev pub dump_of : List HdaItem → List Object
@@ -61,7 +72,8 @@ dump_of items = o.Hda (on_path (codes "buffer/lines/line/line_data") items) ∷ 
 
 -- the lines of one buffer, from the oldest
 abbrev pub dumped_lines : World → BufferEntry → List HdaItem
-dumped_lines world e = map (dumped_item e.row.handle e.row.own_lines) (lines_at world e.row.handle.0)
+dumped_lines world e = map (dumped_item e.row.handle e.row.own_lines)
+    (lines_at world e.row.handle.0)
 
 -- the dump of the lines of all buffers, in their order
 abbrev pub line_dump : World → List Object

@@ -19,7 +19,8 @@ use Rattle.wc_events.specs.NickObjects.{root_and_rows, nick_path}
 
 -- items of nicklists under these keys
 abbrev pub on_nick_path : List ℕ → List HdaItem → List Object
-on_nick_path keys items = o.Hda (roll-Hda (record { path = Some nick_path; keys = Some keys; items = items })) ∷ []
+on_nick_path keys items = o.Hda
+    (roll-Hda (record { path = Some nick_path; keys = Some keys; items = items })) ∷ []
 
 -- the nicklists of the buffers of a group
 abbrev pub nick_group : World → List Handle → List HdaItem

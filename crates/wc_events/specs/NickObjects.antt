@@ -30,7 +30,9 @@ abbrev pub nick_keys : List ℕ
 nick_keys = codes "group:chr,visible:chr,level:int,name:str,color:str,prefix:str,prefix_color:str"
 
 abbrev pub diff_keys : List ℕ
-diff_keys = codes "_diff:chr,group:chr,visible:chr,level:int,name:str,color:str,prefix:str,prefix_color:str"
+diff_keys
+    =
+    codes "_diff:chr,group:chr,visible:chr,level:int,name:str,color:str,prefix:str,prefix_color:str"
 
 -- the values of a group or a nick, in the order of the keys
 unfoldable pub nick_values : Item → List Object
@@ -40,7 +42,10 @@ nick_values i =
 
 -- a group or a nick of a buffer's nicklist
 abbrev pub nick_item : Handle → Item → HdaItem
-nick_item buffer i = roll-HdaItem (record { pointers = buffer.0 ∷ i.handle.0 ∷ []; values = nick_values i })
+nick_item buffer i = roll-HdaItem (record {
+  pointers = buffer.0 ∷ i.handle.0 ∷ [];
+  values = nick_values i;
+})
 
 -- `^`, `+`, `-` and `*`
 abbrev pub mark_code : Mark → ℤ
@@ -50,13 +55,24 @@ mark_code Removed = pos 45
 mark_code Changed = pos 42
 
 abbrev pub diff_item : Handle → DiffItem → HdaItem
-diff_item buffer d = roll-HdaItem (record { pointers = buffer.0 ∷ d.item.handle.0 ∷ []; values = o.Chr (mark_code d.mark) ∷ nick_values d.item })
+diff_item buffer d = roll-HdaItem (record {
+  pointers = buffer.0 ∷ d.item.handle.0 ∷ [];
+  values = o.Chr (mark_code d.mark) ∷ nick_values d.item;
+})
 
 abbrev pub nick_objects : List HdaItem → List Object
-nick_objects items = o.Hda (roll-Hda (record { path = Some nick_path; keys = Some nick_keys; items = items })) ∷ []
+nick_objects items = o.Hda (roll-Hda (record {
+  path = Some nick_path;
+  keys = Some nick_keys;
+  items = items;
+})) ∷ []
 
 abbrev pub diff_objects : List HdaItem → List Object
-diff_objects items = o.Hda (roll-Hda (record { path = Some nick_path; keys = Some diff_keys; items = items })) ∷ []
+diff_objects items = o.Hda (roll-Hda (record {
+  path = Some nick_path;
+  keys = Some diff_keys;
+  items = items;
+})) ∷ []
 
 -- ---- pushes
 
@@ -73,13 +89,17 @@ push_objects buffer (Full items) = Some (nick_objects (map (nick_item buffer) it
 
 -- the message of a push
 abbrev pub push_message : Handle → Push → Option WireMessage
-push_message buffer push = option_map (λ objects. record { id = id_of (push_kind push); objects = objects }) (push_objects buffer push)
+push_message buffer push = option_map (λ objects. record {
+  id = id_of (push_kind push);
+  objects = objects;
+}) (push_objects buffer push)
 
 -- ---- lists
 
 -- the root of a buffer and its rows
 abbrev pub root_and_rows : World → BufferEntry → List HdaItem
-root_and_rows world e = map (nick_item e.row.handle) (full_list (root_item (root_at e.row.handle.0)) (rows_at world e.row.handle.0))
+root_and_rows world e = map (nick_item e.row.handle) (full_list (root_item (root_at e.row.handle.0))
+    (rows_at world e.row.handle.0))
 
 -- the nicklists of all buffers, in their order
 abbrev pub nick_dump : World → List Object
@@ -87,4 +107,5 @@ nick_dump world = nick_objects (flat_map (root_and_rows world) (rows world.group
 
 -- the nicklist of one buffer, where it is there
 abbrev pub nick_list : World → Handle → Option (List Object)
-nick_list world buffer = option_map (λ e. nick_objects (root_and_rows world e)) (entry_of buffer world.groups)
+nick_list world buffer = option_map (λ e. nick_objects (root_and_rows world e))
+    (entry_of buffer world.groups)

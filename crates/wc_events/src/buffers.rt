@@ -1,6 +1,8 @@
-ghost use Rattle.std.specs.Prelude.{◌≡◌, ◌+◌, ◌-◌, ◌++◌, ◌≤◌, ◌^◌, true, IfOk, OnOk, length, pos};
+ghost use Rattle.std.specs.Prelude.{◌≡◌, ◌+◌, ◌-◌, ◌++◌, ◌≤◌, ◌^◌, true, IfOk, OnOk};
+ghost use Rattle.std.specs.Prelude.{length, pos};
 ghost use Rattle.wc_objects.specs.Forms.{well_formed};
-ghost use Rattle.wc_events.specs.BufferObjects.{buffer_dump, dumped_buffer, dumped_values, dumped_groups};
+ghost use Rattle.wc_events.specs.BufferObjects.{buffer_dump, dumped_buffer, dumped_values};
+ghost use Rattle.wc_events.specs.BufferObjects.{dumped_groups};
 ghost use Rattle.wc_events.specs.Dumps.{group_items};
 
 use crate::standing::standing;
@@ -21,7 +23,8 @@ fn dumped_values(
     vars: &Vars,
 ) -> Result<Items<Object>, NoMemory>
     requires { number ≤ 256 }
-    ensures { IfOk result (λ values. values ≡ dumped_values number (record { row = row.now; vars = vars.now })) }
+    ensures { IfOk result (λ values. values ≡ dumped_values number
+        (record { row = row.now; vars = vars.now })) }
 {
     let mut values = Items::new(alloc);
     values.push(Object::Int(count(u64::from(number))))?;
@@ -40,7 +43,8 @@ fn dumped_buffer(
     vars: &Vars,
 ) -> Result<HdaItem, NoMemory>
     requires { number ≤ 256 }
-    ensures { IfOk result (λ item. item ≡ dumped_buffer number (record { row = row.now; vars = vars.now })) }
+    ensures { IfOk result (λ item. item ≡ dumped_buffer number
+        (record { row = row.now; vars = vars.now })) }
 {
     let mut pointers = Items::new(alloc);
     pointers.push(row.handle.0)?;
@@ -80,7 +84,8 @@ fn dumped_groups(alloc: Global, buffers: &Buffers) -> Result<Items<HdaItem>, NoM
     Ok(items)
 }
 
-/// The object that holds all buffers, in the order of groups, as WeeChat's relay protocol has them at the path
+/// The object that holds all buffers, in the order of groups, as WeeChat's relay protocol has them
+/// at the path
 /// `buffer:gui_buffers(*)`.
 pub fn buffer_dump(alloc: Global, buffers: &Buffers) -> Result<[Object; 1], NoMemory>
     ensures objects { IfOk result (λ objects. objects ≡ buffer_dump buffers.now) }

@@ -1,15 +1,20 @@
-//! The dump of all lines, which may be long, written without making its objects: its length is found first.
+//! The dump of all lines, which may be long, written without making its objects: its length is
+//! found first.
 
-ghost use Rattle.std.specs.Prelude.{◌≡◌, ◌+◌, ◌<◌, ◌≤◌, ◌∷◌, ◌++◌, ◌-◌, ◌^◌, [], true, map, length, MatchOption, IfOk, OnOk, OnErr, IsErrOf};
+ghost use Rattle.std.specs.Prelude.{◌≡◌, ◌+◌, ◌<◌, ◌≤◌, ◌∷◌, ◌++◌, ◌-◌, ◌^◌};
+ghost use Rattle.std.specs.Prelude.{[], true, map, length, MatchOption, IfOk, OnOk, OnErr, IsErrOf};
 ghost use Rattle.std.specs.List.{flat_map};
 ghost use Rattle.std.specs.Str.{IsUtf8};
 ghost use Rattle.wc_buffers.specs.Calls.{entry_of};
 ghost use Rattle.wc_objects.specs.Forms.{well_formed};
-ghost use Rattle.wc_objects.specs.Spelling.{FitsIn, HasRoomFor, Puts, be32, with_count, message_bytes};
-ghost use Rattle.wc_events.specs.DumpBytes.{tag_bytes, tags_bytes, dates_bytes, marks_bytes, texts_bytes, pointers_bytes, line_bytes, front_bytes};
+ghost use Rattle.wc_objects.specs.Spelling.{FitsIn, HasRoomFor, Puts, be32, with_count};
+ghost use Rattle.wc_objects.specs.Spelling.{message_bytes};
+ghost use Rattle.wc_events.specs.DumpBytes.{tag_bytes, tags_bytes, dates_bytes, marks_bytes};
+ghost use Rattle.wc_events.specs.DumpBytes.{texts_bytes, pointers_bytes, line_bytes, front_bytes};
 ghost use Rattle.wc_events.specs.DumpParts.{items_of, part_bytes, count_of, body_of, bytes_of};
 ghost use Rattle.wc_events.specs.Dumps.{if_there, line_items, are_lines};
-ghost use Rattle.wc_events.specs.LineObjects.{truth, moment, dumped_item, dumped_lines, dump_of, line_dump};
+ghost use Rattle.wc_events.specs.LineObjects.{truth, moment, dumped_item, dumped_lines, dump_of};
+ghost use Rattle.wc_events.specs.LineObjects.{line_dump};
 
 use crate::line_objects::{LINE_KEYS, moment, truth};
 use crate::standing::standing;
@@ -233,7 +238,8 @@ fn put_front(out: &mut BytesMut, id: &[u8], path: &[u8], keys: &[u8])
 /// How many bytes the message has, where a message may be that long.
 #[tactic(auto, unfolding(wc_objects::specs::Spelling::be32))]
 fn dump_length(id: &[u8], path: &[u8], keys: &[u8], parts: &[DumpPart<'_>]) -> Option<usize>
-    ensures { MatchOption result (2 ^ 31 - 1 < 4 + length (body_of id.now path.now keys.now parts.now))
+    ensures { MatchOption result
+        (2 ^ 31 - 1 < 4 + length (body_of id.now path.now keys.now parts.now))
         (λ n. (n ≡ 4 + length (body_of id.now path.now keys.now parts.now)) × (n ≤ 2 ^ 31 - 1)) }
 {
     let room = room_after_front(MAX_MESSAGE - 8, id, path, keys)?;
@@ -276,9 +282,11 @@ fn append_parts(
     keys: &[u8],
     parts: &[DumpPart<'_>],
 ) -> Result<(), WriteRefused>
-    ensures ok { OnOk result (out.new.items ≡ out.old.items ++ bytes_of id.now path.now keys.now parts.now) }
+    ensures ok { OnOk result (out.new.items ≡ out.old.items ++ bytes_of id.now path.now keys.now
+        parts.now) }
     ensures fits { OnOk result (length (bytes_of id.now path.now keys.now parts.now) ≤ 2 ^ 31 - 1) }
-    ensures too_long { IsErrOf result WriteRefused.TooLong → 2 ^ 31 - 1 < length (bytes_of id.now path.now keys.now parts.now) }
+    ensures too_long { IsErrOf result WriteRefused.TooLong →
+        2 ^ 31 - 1 < length (bytes_of id.now path.now keys.now parts.now) }
     ensures err { OnErr result (out.new.items ≡ out.old.items) }
 {
     let Some(size) = dump_length(id, path, keys, parts) else {
@@ -294,14 +302,16 @@ fn append_parts(
 // ---- the parts of a world
 
 /// Puts the lines of a buffer after the parts, where it is there.
-#[tactic(auto, using(crate::proofs::PartLemmas::part_after, crate::proofs::PartLemmas::part_formed))]
+#[tactic(auto, using(crate::proofs::PartLemmas::push_buffer_facts))]
 fn push_buffer<'a>(
     parts: &mut Items<DumpPart<'a>>,
     world: &'a World,
     buffer: Handle,
 ) -> Result<(), NoMemory>
-    ensures items { OnOk result (items_of parts.new ≡ items_of parts.old ++ if_there (dumped_lines world.now) (entry_of buffer world.now.groups)) }
-    ensures formed { OnOk result (are_lines (items_of parts.old) ≡ true → are_lines (items_of parts.new) ≡ true) }
+    ensures items { OnOk result (items_of parts.new ≡ items_of parts.old
+        ++ if_there (dumped_lines world.now) (entry_of buffer world.now.groups)) }
+    ensures formed { OnOk result (are_lines (items_of parts.old) ≡ true →
+        are_lines (items_of parts.new) ≡ true) }
 {
     let Some((row, _vars)) = standing(world.buffers(), buffer) else {
         return Ok(());
@@ -319,8 +329,10 @@ fn push_lines<'a>(
     own: Handle,
     lines: &'a Lines,
 ) -> Result<(), NoMemory>
-    ensures items { OnOk result (items_of parts.new ≡ items_of parts.old ++ map (dumped_item buffer own) lines.now.lines) }
-    ensures formed { OnOk result (are_lines (items_of parts.old) ≡ true → are_lines (items_of parts.new) ≡ true) }
+    ensures items { OnOk result (items_of parts.new ≡ items_of parts.old
+        ++ map (dumped_item buffer own) lines.now.lines) }
+    ensures formed { OnOk result (are_lines (items_of parts.old) ≡ true →
+        are_lines (items_of parts.new) ≡ true) }
 {
     let _ = lines.iter();
     parts.push(DumpPart { buffer, own, lines })
@@ -332,8 +344,10 @@ fn push_group<'a>(
     world: &'a World,
     group: &[Handle],
 ) -> Result<(), NoMemory>
-    ensures items { OnOk result (items_of parts.new ≡ items_of parts.old ++ line_items world.now group.now) }
-    ensures formed { OnOk result (are_lines (items_of parts.old) ≡ true → are_lines (items_of parts.new) ≡ true) }
+    ensures items { OnOk result (items_of parts.new ≡ items_of parts.old
+        ++ line_items world.now group.now) }
+    ensures formed { OnOk result (are_lines (items_of parts.old) ≡ true →
+        are_lines (items_of parts.new) ≡ true) }
 {
     for buffer in group {
         push_buffer(parts, world, *buffer)?;
@@ -354,12 +368,13 @@ fn all_parts(alloc: Global, world: &World) -> Result<Items<DumpPart<'_>>, NoMemo
     Ok(parts)
 }
 
-/// Puts the lines of all buffers, in the order of groups and from the oldest, as a message under this id after the bytes
-/// that are in a buffer: what WeeChat's relay protocol has at `buffer:gui_buffers(*)/own_lines/first_line(*)/data`.
-/// Memory is taken for a list of the buffers, and for the bytes of the message at once. Where it is refused the bytes
-/// stay as they were.
+/// Puts the lines of all buffers, in the order of groups and from the oldest, as a message under
+/// this id after the bytes that are in a buffer: what WeeChat's relay protocol has at
+/// `buffer:gui_buffers(*)/own_lines/first_line(*)/data`. Memory is taken for a list of the buffers,
+/// and for the bytes of the message at once. Where it is refused the bytes stay as they were.
 ///
-/// `TooLong` where the message would be longer than 2^31 - 1 bytes; `NoMemory` where memory is asked for and not found.
+/// `TooLong` where the message would be longer than 2^31 - 1 bytes; `NoMemory` where memory is
+/// asked for and not found.
 #[tactic(auto, using(crate::proofs::Formed::dump_formed))]
 pub fn append_line_dump(
     alloc: Global,
@@ -368,10 +383,12 @@ pub fn append_line_dump(
     world: &World,
 ) -> Result<(), WriteRefused>
     requires text { IsUtf8 id.now }
-    ensures ok { OnOk result (out.new.items ≡ out.old.items ++ message_bytes id.now (line_dump world.now)) }
+    ensures ok { OnOk result (out.new.items ≡ out.old.items ++ message_bytes id.now
+        (line_dump world.now)) }
     ensures formed { OnOk result (well_formed (line_dump world.now) ≡ true) }
     ensures fits { OnOk result (length (message_bytes id.now (line_dump world.now)) ≤ 2 ^ 31 - 1) }
-    ensures too_long { IsErrOf result WriteRefused.TooLong → 2 ^ 31 - 1 < length (message_bytes id.now (line_dump world.now)) }
+    ensures too_long { IsErrOf result WriteRefused.TooLong →
+        2 ^ 31 - 1 < length (message_bytes id.now (line_dump world.now)) }
     ensures err { OnErr result (out.new.items ≡ out.old.items) }
 {
     let Ok(parts) = all_parts(alloc, world) else {

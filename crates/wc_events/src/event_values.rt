@@ -1,7 +1,8 @@
 ghost use Rattle.std.specs.Prelude.{◌≡◌, IfOk, List};
 ghost use Rattle.wc_text.specs.declared.names.Pair.{Pair};
 ghost use Rattle.wc_buffers.specs.declared.row.BufferRow.{BufferRow};
-ghost use Rattle.wc_events.specs.BufferObjects.{named_values, opened_values, placed_values, renamed_values, title_values, vars_values};
+ghost use Rattle.wc_events.specs.BufferObjects.{named_values, opened_values, placed_values};
+ghost use Rattle.wc_events.specs.BufferObjects.{renamed_values, title_values, vars_values};
 
 use crate::values::{count, table, text, truth};
 use std::alloc::Global;
@@ -38,7 +39,8 @@ pub(crate) fn opened_values(
     row: &BufferRow,
     vars: &Vars,
 ) -> Result<Items<Object>, NoMemory>
-    ensures { IfOk result (λ values. values ≡ opened_values notice.now (record { row = row.now; vars = vars.now })) }
+    ensures { IfOk result (λ values. values ≡ opened_values notice.now
+        (record { row = row.now; vars = vars.now })) }
 {
     let mut values = named_values(alloc, notice)?;
     values.push(text(alloc, &row.short_name)?)?;
@@ -57,7 +59,8 @@ pub(crate) fn renamed_values(
     row: &BufferRow,
     vars: &Vars,
 ) -> Result<Items<Object>, NoMemory>
-    ensures { IfOk result (λ values. values ≡ renamed_values notice.now (record { row = row.now; vars = vars.now })) }
+    ensures { IfOk result (λ values. values ≡ renamed_values notice.now
+        (record { row = row.now; vars = vars.now })) }
 {
     let mut values = named_values(alloc, notice)?;
     values.push(text(alloc, &row.short_name)?)?;
@@ -71,7 +74,8 @@ pub(crate) fn title_values(
     notice: &Notice,
     row: &BufferRow,
 ) -> Result<Items<Object>, NoMemory>
-    ensures { IfOk result (λ values. (vars : List Pair) → values ≡ title_values notice.now (record { row = row.now; vars = vars })) }
+    ensures { IfOk result (λ values. (vars : List Pair) →
+        values ≡ title_values notice.now (record { row = row.now; vars = vars })) }
 {
     let mut values = named_values(alloc, notice)?;
     values.push(text(alloc, &row.title)?)?;
@@ -84,7 +88,8 @@ pub(crate) fn vars_values(
     notice: &Notice,
     vars: &Vars,
 ) -> Result<Items<Object>, NoMemory>
-    ensures { IfOk result (λ values. (row : BufferRow) → values ≡ vars_values notice.now (record { row = row; vars = vars.now })) }
+    ensures { IfOk result (λ values. (row : BufferRow) →
+        values ≡ vars_values notice.now (record { row = row; vars = vars.now })) }
 {
     let mut values = named_values(alloc, notice)?;
     values.push(table(alloc, vars)?)?;

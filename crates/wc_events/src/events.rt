@@ -5,7 +5,9 @@ ghost use Rattle.wc_buffers.specs.Calls.{entry_of};
 ghost use Rattle.wc_model.specs.World.{lines_at};
 ghost use Rattle.wc_objects.specs.Forms.{well_formed};
 ghost use Rattle.wc_events.specs.LineObjects.{added_objects};
-ghost use Rattle.wc_events.specs.BufferObjects.{named_objects, placed_objects, opened_objects, renamed_objects, title_objects, vars_objects, objects_of, event_objects};
+ghost use Rattle.wc_events.specs.BufferObjects.{named_objects, placed_objects, opened_objects};
+ghost use Rattle.wc_events.specs.BufferObjects.{renamed_objects, title_objects, vars_objects};
+ghost use Rattle.wc_events.specs.BufferObjects.{objects_of, event_objects};
 
 use crate::event_values::{
     named_values, opened_values, placed_values, renamed_values, title_values, vars_values,
@@ -59,7 +61,8 @@ fn opened(
     notice: &Notice,
 ) -> Result<Option<[Object; 1]>, NoMemory>
     requires text { IsUtf8 notice.now.full_name }
-    ensures objects { IfOk result (λ told. told ≡ option_map (opened_objects notice.now) (entry_of notice.now.buffer buffers.now)) }
+    ensures objects { IfOk result (λ told. told ≡ option_map (opened_objects notice.now)
+        (entry_of notice.now.buffer buffers.now)) }
     ensures formed { IfOk result (λ told. IfSome told (λ objects. well_formed objects ≡ true)) }
 {
     let Some((row, vars)) = standing(buffers, notice.buffer) else {
@@ -76,7 +79,8 @@ fn renamed(
     notice: &Notice,
 ) -> Result<Option<[Object; 1]>, NoMemory>
     requires text { IsUtf8 notice.now.full_name }
-    ensures objects { IfOk result (λ told. told ≡ option_map (renamed_objects notice.now) (entry_of notice.now.buffer buffers.now)) }
+    ensures objects { IfOk result (λ told. told ≡ option_map (renamed_objects notice.now)
+        (entry_of notice.now.buffer buffers.now)) }
     ensures formed { IfOk result (λ told. IfSome told (λ objects. well_formed objects ≡ true)) }
 {
     let Some((row, vars)) = standing(buffers, notice.buffer) else {
@@ -92,7 +96,8 @@ fn title_changed(
     notice: &Notice,
 ) -> Result<Option<[Object; 1]>, NoMemory>
     requires text { IsUtf8 notice.now.full_name }
-    ensures objects { IfOk result (λ told. told ≡ option_map (title_objects notice.now) (entry_of notice.now.buffer buffers.now)) }
+    ensures objects { IfOk result (λ told. told ≡ option_map (title_objects notice.now)
+        (entry_of notice.now.buffer buffers.now)) }
     ensures formed { IfOk result (λ told. IfSome told (λ objects. well_formed objects ≡ true)) }
 {
     let Some((row, _)) = standing(buffers, notice.buffer) else {
@@ -108,7 +113,8 @@ fn vars_changed(
     notice: &Notice,
 ) -> Result<Option<[Object; 1]>, NoMemory>
     requires text { IsUtf8 notice.now.full_name }
-    ensures objects { IfOk result (λ told. told ≡ option_map (vars_objects notice.now) (entry_of notice.now.buffer buffers.now)) }
+    ensures objects { IfOk result (λ told. told ≡ option_map (vars_objects notice.now)
+        (entry_of notice.now.buffer buffers.now)) }
     ensures formed { IfOk result (λ told. IfSome told (λ objects. well_formed objects ≡ true)) }
 {
     let Some((_, vars)) = standing(buffers, notice.buffer) else {
@@ -124,7 +130,8 @@ fn newest_told(
     world: &World,
     buffer: Handle,
 ) -> Result<Option<[Object; 1]>, NoMemory>
-    ensures objects { IfOk result (λ told. told ≡ option_map (added_objects buffer) (newest (lines_at world.now buffer.0))) }
+    ensures objects { IfOk result (λ told. told ≡ option_map (added_objects buffer)
+        (newest (lines_at world.now buffer.0))) }
     ensures formed { IfOk result (λ told. IfSome told (λ objects. well_formed objects ≡ true)) }
 {
     let Some(lines) = world.lines(buffer) else {
@@ -136,8 +143,9 @@ fn newest_told(
     Ok(Some(line_added(alloc, buffer, line)?))
 }
 
-/// The object of the event of a notice, in the world after the change. None where nothing is told in one event: of
-/// flags of lines, of nicklists, which are pushed, and of a buffer or a line that is not there.
+/// The object of the event of a notice, in the world after the change. None where nothing is told
+/// in one event: of flags of lines, of nicklists, which are pushed, and of a buffer or a line that
+/// is not there.
 #[tactic(auto, unfolding(crate::specs::BufferObjects::objects_of))]
 pub fn event_objects(
     alloc: Global,

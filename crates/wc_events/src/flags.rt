@@ -44,7 +44,8 @@ fn flag_items(
     Ok(items)
 }
 
-/// The object of the event of one buffer's lines whose flag differs, which are named by their contents.
+/// The object of the event of one buffer's lines whose flag differs, which are named by their
+/// contents.
 #[tactic(auto, using(crate::proofs::EventsFormed::flags_formed))]
 pub fn flag_objects(
     alloc: Global,
@@ -52,7 +53,8 @@ pub fn flag_objects(
     flips: &Items<Handle>,
     lines: &Lines,
 ) -> Result<[Object; 1], NoMemory>
-    ensures objects { IfOk result (λ objects. objects ≡ flag_objects buffer flips.now lines.now.lines) }
+    ensures objects { IfOk result
+        (λ objects. objects ≡ flag_objects buffer flips.now lines.now.lines) }
     ensures formed { IfOk result (λ objects. well_formed objects ≡ true) }
 {
     let items = flag_items(alloc, buffer, flips, lines)?;

@@ -19,4 +19,3 @@ pub use flags::flag_objects;
 pub use ids::event_id;
 pub use line_objects::{LINE_ADDED, line_added};
 pub use nick_objects::{nick_dump, nick_list, push_kind, push_objects};
-

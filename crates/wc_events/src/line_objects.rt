@@ -1,7 +1,8 @@
 ghost use Rattle.std.specs.Prelude.{◌≡◌, true, IfOk, codes, Some};
 ghost use Rattle.wc_lines.specs.LineText.{HasUtf8Texts};
 ghost use Rattle.wc_objects.specs.Forms.{well_formed};
-ghost use Rattle.wc_events.specs.LineObjects.{truth, moment, texts, line_keys, line_values, on_path, added_item, added_objects, dumped_item};
+ghost use Rattle.wc_events.specs.LineObjects.{truth, moment, texts, line_keys, line_values};
+ghost use Rattle.wc_events.specs.LineObjects.{on_path, added_item, added_objects, dumped_item};
 
 use std::alloc::Global;
 use wc_lines::Line;
@@ -82,7 +83,8 @@ fn added_item(alloc: Global, buffer: Handle, line: &Line) -> Result<HdaItem, NoM
     Ok(HdaItem { pointers, values })
 }
 
-/// The object of the event `_buffer_line_added` of WeeChat's relay protocol, for a new line of a buffer.
+/// The object of the event `_buffer_line_added` of WeeChat's relay protocol, for a new line of a
+/// buffer.
 pub fn line_added(alloc: Global, buffer: Handle, line: &Line) -> Result<[Object; 1], NoMemory>
     requires { HasUtf8Texts line.now }
     ensures objects { IfOk result (λ objects. objects ≡ added_objects buffer line.now) }

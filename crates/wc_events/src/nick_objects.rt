@@ -1,12 +1,15 @@
 //! What a client is told of nicklists: the pushes, and the lists of one buffer or of all.
 
-ghost use Rattle.std.specs.Prelude.{◌≡◌, ◌++◌, ◌∷◌, [], true, map, Some, IfOk, IfSome, OnOk, option_map};
+ghost use Rattle.std.specs.Prelude.{◌≡◌, ◌++◌, ◌∷◌, [], true, map, Some, IfOk, IfSome, OnOk};
+ghost use Rattle.std.specs.Prelude.{option_map};
 ghost use Rattle.wc_buffers.specs.Calls.{entry_of};
 ghost use Rattle.wc_nickdiff.specs.NickPush.{full_list, root_item};
 ghost use Rattle.wc_objects.specs.Forms.{well_formed};
 ghost use Rattle.wc_events.specs.Dumps.{if_there};
 ghost use Rattle.wc_events.specs.NickForms.{are_nicks, nick_group, on_nick_path, IsPushText};
-ghost use Rattle.wc_events.specs.NickObjects.{nick_values, nick_item, mark_code, diff_item, push_kind, push_objects, root_and_rows, nick_dump, nick_list};
+ghost use Rattle.wc_events.specs.NickObjects.{nick_values, nick_item, mark_code, diff_item};
+ghost use Rattle.wc_events.specs.NickObjects.{push_kind, push_objects, root_and_rows, nick_dump};
+ghost use Rattle.wc_events.specs.NickObjects.{nick_list};
 
 use crate::line_objects::truth;
 use crate::values::{count, text};
@@ -142,14 +145,15 @@ fn full_items(alloc: Global, buffer: Handle, full: &Items<Item>) -> Result<Items
 }
 
 /// The object of the event of a push of a buffer's nicklist, where there is something to push.
-#[tactic(auto, using(crate::proofs::NicksFormed::diff_formed, crate::proofs::NicksFormed::full_formed))]
+#[tactic(auto, using(crate::proofs::NicksFormed::push_objects_facts))]
 pub fn push_objects(
     alloc: Global,
     buffer: Handle,
     push: &Push,
 ) -> Result<Option<Items<Object>>, NoMemory>
     ensures objects { IfOk result (λ told. told ≡ push_objects buffer push.now) }
-    ensures formed { IfOk result (λ told. IsPushText push.now → IfSome told (λ objects. well_formed objects ≡ true)) }
+    ensures formed { IfOk result (λ told. IsPushText push.now →
+        IfSome told (λ objects. well_formed objects ≡ true)) }
 {
     match push {
         Push::Nothing => Ok(None),
@@ -189,7 +193,8 @@ fn push_list(
     buffer: Handle,
     list: &Nicklist,
 ) -> Result<(), NoMemory>
-    ensures items { OnOk result (items.new ≡ items.old ++ map (nick_item buffer) (full_list (root_item list.now.root) list.now.rows)) }
+    ensures items { OnOk result (items.new ≡ items.old ++ map (nick_item buffer)
+        (full_list (root_item list.now.root) list.now.rows)) }
     ensures formed { OnOk result (are_nicks items.old ≡ true → are_nicks items.new ≡ true) }
 {
     let root = root_item(alloc, list.root())?;
@@ -207,7 +212,8 @@ fn push_buffer(
     world: &World,
     buffer: Handle,
 ) -> Result<(), NoMemory>
-    ensures items { OnOk result (items.new ≡ items.old ++ if_there (root_and_rows world.now) (entry_of buffer world.now.groups)) }
+    ensures items { OnOk result (items.new ≡ items.old ++ if_there (root_and_rows world.now)
+        (entry_of buffer world.now.groups)) }
     ensures formed { OnOk result (are_nicks items.old ≡ true → are_nicks items.new ≡ true) }
 {
     match world.nicks(buffer) {
@@ -232,7 +238,8 @@ fn push_group(
     Ok(())
 }
 
-/// The object that holds the nicklists of all buffers, in the order of groups: of each the root and its rows.
+/// The object that holds the nicklists of all buffers, in the order of groups: of each the root and
+/// its rows.
 pub fn nick_dump(alloc: Global, world: &World) -> Result<Items<Object>, NoMemory>
     ensures objects { IfOk result (λ objects. objects ≡ nick_dump world.now) }
     ensures formed { IfOk result (λ objects. well_formed objects ≡ true) }
@@ -244,7 +251,8 @@ pub fn nick_dump(alloc: Global, world: &World) -> Result<Items<Object>, NoMemory
     on_nick_path(alloc, NICK_KEYS, items)
 }
 
-/// The object that holds the nicklist of a buffer, the root and its rows. None where the buffer is not there.
+/// The object that holds the nicklist of a buffer, the root and its rows. None where the buffer is
+/// not there.
 pub fn nick_list(
     alloc: Global,
     world: &World,

@@ -7,8 +7,11 @@ use wc_text::Handle;
 
 /// What there is of a buffer: its row and its variables. None exactly where it is not there.
 pub(crate) fn standing(buffers: &Buffers, buffer: Handle) -> Option<(&BufferRow, &Vars)>
-    ensures entry { MatchOption result (entry_of buffer buffers.now ≡ None) (λ parts. entry_of buffer buffers.now ≡ Some (record { row = parts.0.now; vars = parts.1.now })) }
-    ensures kept { IfSome result (λ parts. IsBuffer (record { row = parts.0.now; vars = parts.1.now })) }
+    ensures entry { MatchOption result (entry_of buffer buffers.now ≡ None)
+        (λ parts. entry_of buffer buffers.now
+        ≡ Some (record { row = parts.0.now; vars = parts.1.now })) }
+    ensures kept { IfSome result
+        (λ parts. IsBuffer (record { row = parts.0.now; vars = parts.1.now })) }
 {
     let _ = buffers.groups();
     let row = buffers.get(buffer)?;

@@ -46,3 +46,6 @@ unfolding walk_object
 object_is world path keys named nodes items text keys_named n k e t m =
     (λ i. o.Hda (roll-Hda (record { path = Some (t i); keys = Some (m i); items = e i })))
     ∙ (λ i. o.Hda (roll-Hda (record { path = Some (h_path_of path); keys = Some (keys_text (k i)); items = items_of world (k i) (n i) })))
+
+-- what `walk` needs
+pub ruleset walk_facts = (first_refusal, long_refusal, no_refusal, object_is)

@@ -23,8 +23,10 @@ abbrev pub lines_path : Path
 lines_path = record {
   start = FirstBuffer;
   count = All;
-  steps = record { variable = OwnLines; count = One } ∷ record { variable = FirstLine; count = All } ∷ record { variable = Data; count = One } ∷ [];
+  steps = record { variable = OwnLines; count = One } ∷ record { variable = FirstLine; count = All }
+      ∷ record { variable = Data; count = One } ∷ [];
 }
 
 abbrev pub lines_keys : List ℕ
-lines_keys = codes "buffer,date,date_printed,displayed,notify_level,highlight,tags_array,prefix,message"
+lines_keys
+    = codes "buffer,date,date_printed,displayed,notify_level,highlight,tags_array,prefix,message"

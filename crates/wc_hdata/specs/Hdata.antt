@@ -39,7 +39,8 @@ all_bytes world path keys = flat_map (bytes_of world (keys_asked path keys)) (re
 
 -- the first of the reasons: nothing lives there, too many pointers, too many bytes
 unfoldable pub refusal : World → Path → List ℕ → Option WalkRefused
-refusal world path keys = or_else (walk_refusal world path) (length_refusal (length (all_bytes world path keys)))
+refusal world path keys = or_else (walk_refusal world path)
+    (length_refusal (length (all_bytes world path keys)))
 
 -- what is answered else
 unfoldable pub walk_object : World → Path → List ℕ → Object

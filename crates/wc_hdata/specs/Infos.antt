@@ -1,5 +1,6 @@
 -- Informations, and lists of them.
-use Rattle.std.specs.Prelude.{ℕ, ℤ, List, [], ◌∷◌, ◌++◌, unwrap_or, Option, Some, None, codes, bytes_eq, if◌then◌else◌}
+use Rattle.std.specs.Prelude.{ℕ, ℤ, List, [], ◌∷◌, ◌++◌, unwrap_or, Option, Some, None, codes}
+use Rattle.std.specs.Prelude.{bytes_eq, if◌then◌else◌}
 use Rattle.wc_text.specs.declared.names.Handle.{Handle}
 use Rattle.wc_buffers.specs.declared.entry.BufferEntry.{BufferEntry}
 use Rattle.wc_buffers.specs.declared.row.BufferRow.{BufferRow}
@@ -14,7 +15,8 @@ use Rattle.wc_hdata.specs.Steps.{all_buffers}
 -- the informations that there are
 abbrev pub info_of : List ℕ → Option (List ℕ)
 info_of name =
-    if bytes_eq name (codes "version") then Some (codes "4.0.0") else (if bytes_eq name (codes "version_number") then Some (codes "67108864") else None)
+    if bytes_eq name (codes "version") then Some (codes "4.0.0")
+    else (if bytes_eq name (codes "version_number") then Some (codes "67108864") else None)
 
 -- a variable of a list
 unfoldable pub variable : List ℕ → Object → InlVar
@@ -32,12 +34,15 @@ variables_of number buffer row =
 
 abbrev pub buffer_item : EntryGroups → Handle → Option BufferEntry → List (List InlVar)
 buffer_item groups buffer None = []
-buffer_item groups buffer (Some e) = variables_of (count (unwrap_or (number buffer groups) 0)) buffer e.row ∷ []
+buffer_item groups buffer (Some e) = variables_of (count (unwrap_or (number buffer groups) 0))
+    buffer e.row ∷ []
 
 abbrev pub buffer_items : EntryGroups → List Handle → List (List InlVar)
 buffer_items groups [] = []
-buffer_items groups (buffer ∷ buffers) = buffer_item groups buffer (entry_of buffer groups) ++ buffer_items groups buffers
+buffer_items groups (buffer ∷ buffers) = buffer_item groups buffer (entry_of buffer groups)
+    ++ buffer_items groups buffers
 
 -- the list of all buffers in their order; one of another name is empty
 abbrev pub infolist_object : EntryGroups → List ℕ → Object
-infolist_object groups name = o.Inl name (if bytes_eq name (codes "buffer") then buffer_items groups (all_buffers groups) else [])
+infolist_object groups name = o.Inl name (if bytes_eq name (codes "buffer")
+    then buffer_items groups (all_buffers groups) else [])

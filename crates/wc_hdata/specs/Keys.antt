@@ -1,5 +1,6 @@
 -- The keys of elements.
-use Rattle.std.specs.Prelude.{ℕ, Bool, not, ◌==◌, List, [], ◌∷◌, ◌++◌, map, Option, Some, None, if◌then◌else◌}
+use Rattle.std.specs.Prelude.{ℕ, Bool, not, ◌==◌, List, [], ◌∷◌, ◌++◌, map, Option, Some, None}
+use Rattle.std.specs.Prelude.{if◌then◌else◌}
 use Rattle.std.specs.List.{slice_split, filter, filter_map, find, join_with_byte, list_any}
 use Rattle.std.specs.Str.{bytes_eq}
 use Rattle.wc_objects.specs.declared.kind.Kind.{Kind}
@@ -14,11 +15,13 @@ use Rattle.wc_hdata.specs.Names.{key_name}
 -- the keys of each element, in order
 abbrev pub keys_at : Element → List Key
 keys_at Elements.Buffer =
-    k.Number ∷ k.FullName ∷ k.ShortName ∷ k.Hidden ∷ k.Title ∷ k.LocalVariables ∷ k.PrevBuffer ∷ k.NextBuffer ∷ []
+    k.Number ∷ k.FullName ∷ k.ShortName ∷ k.Hidden ∷ k.Title ∷ k.LocalVariables ∷ k.PrevBuffer ∷
+    k.NextBuffer ∷ []
 keys_at Elements.Lines = k.FirstLine ∷ k.LastLine ∷ k.LinesCount ∷ []
 keys_at Elements.Line = k.Data ∷ []
 keys_at Elements.LineData =
-    k.Buffer ∷ k.Date ∷ k.DatePrinted ∷ k.Displayed ∷ k.NotifyLevel ∷ k.Highlight ∷ k.TagsArray ∷ k.Prefix ∷ k.Message ∷ []
+    k.Buffer ∷ k.Date ∷ k.DatePrinted ∷ k.Displayed ∷ k.NotifyLevel ∷ k.Highlight ∷ k.TagsArray ∷
+    k.Prefix ∷ k.Message ∷ []
 
 -- the type of a key's values
 abbrev pub kind_of_key : Key → Kind

@@ -24,7 +24,8 @@ lines_of_all world buffers = flat_map (own_lines world) buffers
 -- in the order of the lines' handles; of those that share one the first stays in front
 abbrev pub put_line : HeldLine → List HeldLine → List HeldLine
 put_line held [] = held ∷ []
-put_line held (other ∷ lines) = if nat_le held.line.handle.0 other.line.handle.0 then held ∷ (other ∷ lines) else other ∷ put_line held lines
+put_line held (other ∷ lines) = if nat_le held.line.handle.0 other.line.handle.0
+    then held ∷ (other ∷ lines) else other ∷ put_line held lines
 
 abbrev pub by_handle : List HeldLine → List HeldLine
 by_handle [] = []
@@ -46,7 +47,8 @@ abbrev pub lines_in : World → LineList → List HeldLine
 lines_in world (Own buffer) = own_lines world buffer
 lines_in world (Mixed buffer) = by_handle (lines_of_all world (group_of world.groups buffer.0))
 
--- the list of lines that a buffer shows: its own where it is alone in its group, and else the mixed one of the group
+-- the list of lines that a buffer shows: its own where it is alone in its group, and else the mixed
+-- one of the group
 abbrev pub list_of_group : Handle → List Handle → LineList
 list_of_group buffer [] = Own buffer
 list_of_group buffer (first ∷ []) = Own buffer

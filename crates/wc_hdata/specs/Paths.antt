@@ -1,5 +1,6 @@
 -- The grammar of data paths.
-use Rattle.std.specs.Prelude.{◌≡◌, ℕ, ◌<◌, ◌≤◌, ◌^◌, true, nat_lt, List, [], ◌∷◌, ◌++◌, length, map, Option, Some, None, codes}
+use Rattle.std.specs.Prelude.{◌≡◌, ℕ, ◌<◌, ◌≤◌, ◌^◌, true, nat_lt, List, [], ◌∷◌}
+use Rattle.std.specs.Prelude.{◌++◌, length, map, Option, Some, None, codes}
 use Rattle.std.specs.List.{list_all, join_with_byte}
 use Rattle.std.specs.Char.{digit_value}
 use Rattle.std.specs.Str.Parse.{digits_value}
@@ -73,11 +74,14 @@ pub record SpellsCount (digits : List ℕ) (n : ℕ) : Type 0 where
 abbrev pub IsCount : List ℕ → Count → Type 0
 IsCount text Counts.One = text ≡ []
 IsCount text Counts.All = text ≡ codes "(*)"
-IsCount text (Counts.Forward n) = (digits : List ℕ) × SpellsCount digits n × (text ≡ 40 ∷ (digits ++ 41 ∷ []))
-IsCount text (Counts.Backward n) = (digits : List ℕ) × SpellsCount digits n × (text ≡ 40 ∷ 45 ∷ (digits ++ 41 ∷ []))
+IsCount text (Counts.Forward n) = (digits : List ℕ) × SpellsCount digits n
+    × (text ≡ 40 ∷ (digits ++ 41 ∷ []))
+IsCount text (Counts.Backward n) = (digits : List ℕ) × SpellsCount digits n
+    × (text ≡ 40 ∷ 45 ∷ (digits ++ 41 ∷ []))
 
 -- A step is a slash, the name of a variable of the element before it, and a count.
-pub record SpellsStep (text : List ℕ) (element : Element) (step : Step) (next : Element) : Type 0 where
+pub record SpellsStep (text : List ℕ) (element : Element) (step : Step) (next : Element) :
+    Type 0 where
   pub count : List ℕ
   pub spelled : text ≡ 47 ∷ (variable_name step.variable ++ count)
   pub led : leads element step.variable ≡ Some next

@@ -24,11 +24,13 @@ start_pointer (Pointer element pointer) = pointer
 -- from where a path begins
 abbrev pub reached_from : World → Path → Option (List Place) → List Node
 reached_from world path None = []
-reached_from world path (Some places) = nodes_reached world path.steps (nodes_at world.groups [] places)
+reached_from world path (Some places) = nodes_reached world path.steps
+    (nodes_at world.groups [] places)
 
 abbrev pub refusal_from : World → Path → Option (List Place) → Option WalkRefused
 refusal_from world path None = Some (DeadPointer (start_pointer path.start))
-refusal_from world path (Some places) = if nat_lt most_visits (visits world path.steps (nodes_at world.groups [] places)) then Some too_many else None
+refusal_from world path (Some places) = if nat_lt most_visits
+    (visits world path.steps (nodes_at world.groups [] places)) then Some too_many else None
 
 -- what a path reaches
 unfoldable pub reached : World → Path → List Node

@@ -25,7 +25,8 @@ place_in buffer buffers = unwrap_or (position (λ (h : Handle). h.0 == buffer.0)
 
 -- the buffers to which a count goes from one
 abbrev pub buffers_from : EntryGroups → Count → Handle → List Place
-buffers_from groups count buffer = map Buffer (along count (place_in buffer (all_buffers groups)) (all_buffers groups))
+buffers_from groups count buffer = map Buffer (along count (place_in buffer (all_buffers groups))
+    (all_buffers groups))
 
 -- the lines to which a count goes from the first of a list, or from the last
 abbrev pub from_first : Count → List HeldLine → List Place

@@ -35,7 +35,8 @@ abbrev pub of_buffer : EntryGroups → Handle → Key → Option BufferEntry →
 of_buffer groups buffer key None = None
 of_buffer groups buffer key (Some e) = of_entry groups buffer key e
 
--- of a list of lines: the pointers of its first and its last line, where it has lines, and how many it has
+-- of a list of lines: the pointers of its first and its last line, where it has lines, and how many
+-- it has
 abbrev pub line_number : Option HeldLine → ℕ
 line_number None = 0
 line_number (Some held) = held.line.handle.0
@@ -74,7 +75,8 @@ of_data _ held = None
 
 -- of a place
 unfoldable pub value_of : World → Place → Key → Option Object
-value_of world (Buffer buffer) key = of_buffer world.groups buffer key (entry_of buffer world.groups)
+value_of world (Buffer buffer) key = of_buffer world.groups buffer key
+    (entry_of buffer world.groups)
 value_of world (Lines list) key = of_lines key (lines_in world list)
 value_of world (Line_at held) key = of_line key held.line
 value_of world (Data_at held) key = of_data key held
@@ -84,7 +86,8 @@ abbrev pub values_of : World → List Key → Place → List Object
 values_of world keys place = filter_map (value_of world place) keys
 
 abbrev pub item_of : World → List Key → Node → HdaItem
-item_of world keys node = roll-HdaItem (record { pointers = node.pointers; values = values_of world keys node.place })
+item_of world keys node = roll-HdaItem
+    (record { pointers = node.pointers; values = values_of world keys node.place })
 
 abbrev pub items_of : World → List Key → List Node → List HdaItem
 items_of world keys nodes = map (item_of world keys) nodes

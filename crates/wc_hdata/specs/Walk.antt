@@ -42,7 +42,10 @@ abbrev pub nodes_of : List LentNode → List Node
 nodes_of nodes = map node_of nodes
 
 abbrev pub node_at : EntryGroups → List ℕ → Place → Node
-node_at groups pointers place = record { pointers = pointers ++ pointer_of groups place ∷ []; place = place }
+node_at groups pointers place = record {
+  pointers = pointers ++ pointer_of groups place ∷ [];
+  place = place;
+}
 
 abbrev pub nodes_at : EntryGroups → List ℕ → List Place → List Node
 nodes_at groups pointers places = map (node_at groups pointers) places

@@ -35,7 +35,8 @@ fn forward<T: Copy>(out: &mut Vec<T>, most: usize, at: usize, list: &[T]) -> Res
 #[tactic(auto, using(crate::proofs::Backward::one_after))]
 /// Puts those up to a place after others, the last one first, so many at most.
 fn backward<T: Copy>(out: &mut Vec<T>, most: usize, at: usize, list: &[T]) -> Result<(), NoMemory>
-    ensures { OnOk result (out.new.items ≡ out.old.items ++ take most (reverse (take (at + 1) list.now))) }
+    ensures { OnOk result (out.new.items ≡ out.old.items
+        ++ take most (reverse (take (at + 1) list.now))) }
 {
     let front = &list[..at.saturating_add(1).min(list.len())];
     for following in 0..most.min(front.len()) {

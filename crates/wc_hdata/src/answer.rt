@@ -1,6 +1,7 @@
 //! The answer to the request `hdata`.
 
-ghost use Rattle.std.specs.Prelude.{◌≡◌, ◌≢◌, ◌++◌, ◌∷◌, [], ◌+◌, ◌<◌, ◌≤◌, None, Some, IfOk, OnOk, IfErr, length};
+ghost use Rattle.std.specs.Prelude.{◌≡◌, ◌≢◌, ◌++◌, ◌∷◌, [], ◌+◌, ◌<◌, ◌≤◌, None};
+ghost use Rattle.std.specs.Prelude.{Some, IfOk, OnOk, IfErr, length};
 ghost use Rattle.std.specs.List.{flat_map};
 ghost use Rattle.wc_hdata.specs.Hdata.{bytes_of, most_bytes, refusal, too_long, walk_object};
 ghost use Rattle.wc_hdata.specs.Reached.{place_of};
@@ -79,9 +80,12 @@ fn push_item(
     left: &mut usize,
 ) -> Result<(), WalkRefused>
     requires { buffers.now ≡ all_buffers world.now.groups }
-    ensures ok { OnOk result (items.new ≡ items.old ++ item_of world.now keys.now (node_of node.entry) ∷ []) }
-    ensures left { OnOk result (left.new + length (bytes_of world.now keys.now (node_of node.entry)) ≡ left.old) }
-    ensures err { IfErr result (λ e. e ≢ Refused.NoMemory → (e ≡ too_long) × (left.old < length (bytes_of world.now keys.now (node_of node.entry)))) }
+    ensures ok { OnOk result (items.new ≡ items.old ++ item_of world.now keys.now
+        (node_of node.entry) ∷ []) }
+    ensures left { OnOk result (left.new + length (bytes_of world.now keys.now (node_of node.entry))
+        ≡ left.old) }
+    ensures err { IfErr result (λ e. e ≢ Refused.NoMemory → (e ≡ too_long)
+        × (left.old < length (bytes_of world.now keys.now (node_of node.entry)))) }
 {
     let Node { pointers, place } = node;
     let values = values_of(alloc, world, buffers, keys, place)?;
@@ -102,9 +106,13 @@ fn items_of(
     keys: &[Key],
     nodes: Vec<Node<'_>>,
 ) -> Result<Items<HdaItem>, WalkRefused>
-    ensures ok { IfOk result (λ items. items ≡ items_of world.now keys.now (nodes_of nodes.entry.items)) }
-    ensures fits { OnOk result (length (flat_map (bytes_of world.now keys.now) (nodes_of nodes.entry.items)) ≤ most_bytes) }
-    ensures err { IfErr result (λ e. e ≢ Refused.NoMemory → (e ≡ too_long) × (most_bytes < length (flat_map (bytes_of world.now keys.now) (nodes_of nodes.entry.items)))) }
+    ensures ok { IfOk result (λ items. items ≡ items_of world.now keys.now
+        (nodes_of nodes.entry.items)) }
+    ensures fits { OnOk result (length
+        (flat_map (bytes_of world.now keys.now) (nodes_of nodes.entry.items)) ≤ most_bytes) }
+    ensures err { IfErr result (λ e. e ≢ Refused.NoMemory → (e ≡ too_long)
+        × (most_bytes < length
+        (flat_map (bytes_of world.now keys.now) (nodes_of nodes.entry.items)))) }
 {
     let buffers = all_buffers(alloc, world.buffers())?;
     let mut items = Items::new(alloc);
@@ -123,17 +131,20 @@ fn items_of(
     Ok(items)
 }
 
-#[tactic(auto, using(crate::proofs::Refuses::first_refusal, crate::proofs::Refuses::long_refusal, crate::proofs::Refuses::no_refusal, crate::proofs::Refuses::object_is))]
-/// What a path leads to, as WeeChat's relay protocol answers `hdata`: an item for each thing that is reached, with its pointer
-/// and those of the elements on the way, and the values that the keys name. Keys are named as `read_keys` has it.
+#[tactic(auto, using(crate::proofs::Refuses::walk_facts))]
+/// What a path leads to, as WeeChat's relay protocol answers `hdata`: an item for each thing that
+/// is reached, with its pointer and those of the elements on the way, and the values that the keys
+/// name. Keys are named as `read_keys` has it.
 ///
-/// Refused are, in this order, `DeadPointer` where nothing lives at the pointer that the path begins with, `TooManyVisits` where
-/// the elements of the path give more than 4,194,304 pointers together, and `TooLong` where the values have more than
-/// 2^31 - 64 bytes together. `NoMemory` where memory is asked for and not found.
+/// Refused are, in this order, `DeadPointer` where nothing lives at the pointer that the path
+/// begins with, `TooManyVisits` where the elements of the path give more than 4,194,304 pointers
+/// together, and `TooLong` where the values have more than 2^31 - 64 bytes together. `NoMemory`
+/// where memory is asked for and not found.
 pub fn walk(alloc: Global, world: &World, path: &Path, keys: &[u8]) -> Result<Object, WalkRefused>
     ensures object { IfOk result (λ object. object ≡ walk_object world.now path.now keys.now) }
     ensures accepted { OnOk result (refusal world.now path.now keys.now ≡ None) }
-    ensures refused { IfErr result (λ e. e ≢ Refused.NoMemory → refusal world.now path.now keys.now ≡ Some e) }
+    ensures refused { IfErr result (λ e. e ≢ Refused.NoMemory → refusal world.now path.now keys.now
+        ≡ Some e) }
 {
     let nodes = reached(alloc, world, path)?;
     let asked = read_keys(alloc, path.element(), keys)?;

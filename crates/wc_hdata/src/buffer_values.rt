@@ -54,14 +54,17 @@ fn first_of(handles: &[Handle]) -> u64
 
 /// What there is of a buffer: its row and its variables. None exactly where it is not there.
 pub(crate) fn standing(buffers: &Buffers, buffer: Handle) -> Option<(&BufferRow, &Vars)>
-    ensures { MatchOption result (entry_of buffer buffers.now ≡ None) (λ parts. entry_of buffer buffers.now ≡ Some (record { row = parts.0.now; vars = parts.1.now })) }
+    ensures { MatchOption result (entry_of buffer buffers.now ≡ None)
+        (λ parts. entry_of buffer buffers.now
+        ≡ Some (record { row = parts.0.now; vars = parts.1.now })) }
 {
     let row = buffers.get(buffer)?;
     let vars = buffers.vars(buffer)?;
     Some((row, vars))
 }
 
-/// The value of a buffer that a key names. None where it is not there, and for other keys than those of buffers.
+/// The value of a buffer that a key names. None where it is not there, and for other keys than
+/// those of buffers.
 /// `all` are all buffers in their order.
 #[tactic(auto, using(crate::proofs::Orders::prev_is, crate::proofs::Orders::next_is))]
 pub(crate) fn of_buffer(
@@ -72,7 +75,8 @@ pub(crate) fn of_buffer(
     key: Key,
 ) -> Result<Option<Object>, NoMemory>
     requires { all.now ≡ all_buffers buffers.now }
-    ensures { IfOk result (λ value. value ≡ of_buffer buffers.now buffer key (entry_of buffer buffers.now)) }
+    ensures { IfOk result (λ value. value ≡ of_buffer buffers.now buffer key
+        (entry_of buffer buffers.now)) }
 {
     let Some((row, vars)) = standing(buffers, buffer) else {
         return Ok(None);

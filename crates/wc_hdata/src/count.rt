@@ -20,7 +20,8 @@ pub enum Count {
 /// The greatest number that a count writes, that of a C `int`.
 const MOST: u32 = 0x7FFF_FFFF;
 
-/// The count that is in parentheses, given what follows the opening one. Where none opened the count is one.
+/// The count that is in parentheses, given what follows the opening one. Where none opened the
+/// count is one.
 ///
 /// Zeros in front of a number are read over, as the `strtol` of WeeChat does.
 pub fn read_count(written: Option<&[u8]>) -> Option<Count>

@@ -48,7 +48,8 @@ impl Element {
             .find(|element| text == element.name())
     }
 
-    /// The element to which a variable leads from this one. None where it is no variable of this element.
+    /// The element to which a variable leads from this one. None where it is no variable of this
+    /// element.
     pub fn leads(self, variable: Variable) -> Option<Element>
         ensures leads { result ≡ leads self variable }
         ensures target { IfSome result (λ next. next ≡ target variable) }

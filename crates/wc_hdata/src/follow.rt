@@ -1,8 +1,10 @@
 //! A path is gone through, step by step from all that was reached.
 
-ghost use Rattle.std.specs.Prelude.{◌≡◌, ◌≢◌, ◌+◌, ◌<◌, [], None, Some, IfOk, OnOk, IfErr, length, option_map};
+ghost use Rattle.std.specs.Prelude.{◌≡◌, ◌≢◌, ◌+◌, ◌<◌, [], None, Some, IfOk, OnOk, IfErr};
+ghost use Rattle.std.specs.Prelude.{length, option_map};
 ghost use Rattle.wc_hdata.specs.Reached.{begun_places, places_of};
-ghost use Rattle.wc_hdata.specs.Refusals.{reached, reached_from, refusal_from, start_pointer, too_many, walk_refusal};
+ghost use Rattle.wc_hdata.specs.Refusals.{reached, reached_from, refusal_from, start_pointer};
+ghost use Rattle.wc_hdata.specs.Refusals.{too_many, walk_refusal};
 ghost use Rattle.wc_hdata.specs.Starts.{starts};
 ghost use Rattle.wc_hdata.specs.Steps.{all_buffers};
 ghost use Rattle.wc_hdata.specs.Walk.{nodes_at, nodes_of, visits, nodes_reached};
@@ -28,9 +30,13 @@ fn follow<'a>(
     left: &mut usize,
 ) -> Result<Vec<Node<'a>>, WalkRefused>
     requires { buffers.now ≡ all_buffers world.now.groups }
-    ensures ok { IfOk result (λ end. nodes_of end.items ≡ nodes_reached world.now steps.now (nodes_of nodes.entry.items)) }
-    ensures left { OnOk result (left.new + visits world.now steps.now (nodes_of nodes.entry.items) ≡ left.old + length (nodes_of nodes.entry.items)) }
-    ensures err { IfErr result (λ e. e ≢ Refused.NoMemory → (e ≡ too_many) × (left.old + length (nodes_of nodes.entry.items) < visits world.now steps.now (nodes_of nodes.entry.items))) }
+    ensures ok { IfOk result (λ end. nodes_of end.items ≡ nodes_reached world.now steps.now
+        (nodes_of nodes.entry.items)) }
+    ensures left { OnOk result (left.new + visits world.now steps.now (nodes_of nodes.entry.items)
+        ≡ left.old + length (nodes_of nodes.entry.items)) }
+    ensures err { IfErr result (λ e. e ≢ Refused.NoMemory → (e ≡ too_many)
+        × (left.old + length (nodes_of nodes.entry.items) < visits world.now steps.now
+        (nodes_of nodes.entry.items))) }
 {
     for step in steps {
         match onward_all(alloc, world, buffers, *step, nodes, left) {
@@ -43,8 +49,9 @@ fn follow<'a>(
 
 /// What a path reaches: its last places, each with the pointers that led to it.
 ///
-/// `DeadPointer` where nothing lives at the pointer that it begins with; else `TooManyVisits` where its elements give more than
-/// 4,194,304 pointers together. `NoMemory` where memory is asked for and not found.
+/// `DeadPointer` where nothing lives at the pointer that it begins with; else `TooManyVisits` where
+/// its elements give more than 4,194,304 pointers together. `NoMemory` where memory is asked for
+/// and not found.
 #[tactic(auto, unfolding(crate::specs::Refusals::reached, crate::specs::Refusals::walk_refusal))]
 pub(crate) fn reached<'a>(
     alloc: Global,
@@ -53,7 +60,8 @@ pub(crate) fn reached<'a>(
 ) -> Result<Vec<Node<'a>>, WalkRefused>
     ensures nodes { IfOk result (λ nodes. nodes_of nodes.items ≡ reached world.now path.now) }
     ensures accepted { OnOk result (walk_refusal world.now path.now ≡ None) }
-    ensures refused { IfErr result (λ e. e ≢ Refused.NoMemory → walk_refusal world.now path.now ≡ Some e) }
+    ensures refused { IfErr result (λ e. e ≢ Refused.NoMemory → walk_refusal world.now path.now
+        ≡ Some e) }
 {
     let buffers = all_buffers(alloc, world.buffers())?;
     let Some(places) = starts(alloc, world, buffers.as_slice(), path.start, path.count)? else {
@@ -73,9 +81,12 @@ fn reached_from<'a>(
     places: &[Place<'a>],
 ) -> Result<Vec<Node<'a>>, WalkRefused>
     requires { buffers.now ≡ all_buffers world.now.groups }
-    ensures nodes { IfOk result (λ nodes. nodes_of nodes.items ≡ reached_from world.now path.now (Some (places_of places.now))) }
-    ensures accepted { OnOk result (refusal_from world.now path.now (Some (places_of places.now)) ≡ None) }
-    ensures refused { IfErr result (λ e. e ≢ Refused.NoMemory → refusal_from world.now path.now (Some (places_of places.now)) ≡ Some e) }
+    ensures nodes { IfOk result (λ nodes. nodes_of nodes.items ≡ reached_from world.now path.now
+        (Some (places_of places.now))) }
+    ensures accepted { OnOk result
+        (refusal_from world.now path.now (Some (places_of places.now)) ≡ None) }
+    ensures refused { IfErr result (λ e. e ≢ Refused.NoMemory →
+        refusal_from world.now path.now (Some (places_of places.now)) ≡ Some e) }
 {
     if places.len() > VISITS {
         return Err(WalkRefused::TooManyVisits {

@@ -61,8 +61,8 @@ fn read_place(element: Element, place: &[u8]) -> Option<Start>
     Some(Start::Pointer { element, pointer })
 }
 
-/// The steps from this element on, which slashes part, given what comes after the first slash, where there is one.
-/// None where a piece is no step of the element before it.
+/// The steps from this element on, which slashes part, given what comes after the first slash,
+/// where there is one. None where a piece is no step of the element before it.
 fn read_steps(
     alloc: Global,
     element: Element,

@@ -3,7 +3,8 @@
 ghost use Rattle.std.specs.Prelude.{◌≡◌, ◌++◌, ◌∷◌, [], IfOk, OnOk};
 ghost use Rattle.std.specs.Option.{option_copied};
 ghost use Rattle.wc_buffers.specs.Calls.{entry_of};
-ghost use Rattle.wc_hdata.specs.Infos.{info_of, infolist_object, buffer_item, buffer_items, variable, variables_of};
+ghost use Rattle.wc_hdata.specs.Infos.{info_of, infolist_object, buffer_item, buffer_items};
+ghost use Rattle.wc_hdata.specs.Infos.{variable, variables_of};
 ghost use Rattle.wc_hdata.specs.Steps.{all_buffers};
 
 use crate::buffer_values::{number, standing};
@@ -84,7 +85,8 @@ fn push_listed(
     buffers: &Buffers,
     buffer: Handle,
 ) -> Result<(), NoMemory>
-    ensures { OnOk result (items.new ≡ items.old ++ buffer_item buffers.now buffer (entry_of buffer buffers.now)) }
+    ensures { OnOk result (items.new ≡ items.old ++ buffer_item buffers.now buffer
+        (entry_of buffer buffers.now)) }
 {
     if let Some((row, _vars)) = standing(buffers, buffer) {
         items.push(variables_of(alloc, number(buffers, buffer), buffer, row)?)?;
@@ -103,8 +105,8 @@ fn listed_all(alloc: Global, buffers: &Buffers) -> Result<Items<Items<InlVar>>, 
     Ok(items)
 }
 
-/// The list of informations of this name, as WeeChat's relay protocol answers `infolist`: `buffer` lists all buffers in their
-/// order, and a list of another name is empty.
+/// The list of informations of this name, as WeeChat's relay protocol answers `infolist`: `buffer`
+/// lists all buffers in their order, and a list of another name is empty.
 pub fn infolist(alloc: Global, world: &World, name: &[u8]) -> Result<Object, NoMemory>
     ensures { IfOk result (λ object. object ≡ infolist_object world.now.groups name.now) }
 {

@@ -6,8 +6,9 @@ use crate::key::Key;
 use std::alloc::Global;
 use wc_text::{Items, NoMemory, Text, split_once};
 
-/// The keys of an element that a request asks for: those that the text names between commas, in its order, or all where
-/// it is empty. A repeated key is where it came first, and a name that is no key of the element is passed over.
+/// The keys of an element that a request asks for: those that the text names between commas, in its
+/// order, or all where it is empty. A repeated key is where it came first, and a name that is no
+/// key of the element is passed over.
 pub fn read_keys(alloc: Global, element: Element, text: &[u8]) -> Result<Items<Key>, NoMemory>
     ensures { IfOk result (λ keys. keys ≡ keys_of element text.now) }
 {
@@ -53,7 +54,8 @@ fn has_key(keys: &[Key], key: Key) -> bool
     keys.iter().any(|other| other.is(key))
 }
 
-/// The keys as a message names them: each name, a colon and the letters of its type, which commas join.
+/// The keys as a message names them: each name, a colon and the letters of its type, which commas
+/// join.
 #[tactic(auto, unfolding(crate::specs::Keys::keys_text))]
 pub fn keys_text(alloc: Global, keys: &[Key]) -> Result<Text, NoMemory>
     ensures { IfOk result (λ text. text ≡ keys_text keys.now) }

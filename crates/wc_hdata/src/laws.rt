@@ -6,7 +6,8 @@ ghost use Rattle.wc_events.specs.BufferObjects.{buffer_dump};
 ghost use Rattle.wc_events.specs.LineObjects.{line_dump};
 ghost use Rattle.wc_hdata.specs.declared.path.Path.{Path};
 ghost use Rattle.wc_hdata.specs.Answers.{path_of};
-ghost use Rattle.wc_hdata.specs.Dumps.{buffers_keys, buffers_path, buffers_text, lines_keys, lines_path, lines_text};
+ghost use Rattle.wc_hdata.specs.Dumps.{buffers_keys, buffers_path, buffers_text, lines_keys};
+ghost use Rattle.wc_hdata.specs.Dumps.{lines_path, lines_text};
 ghost use Rattle.wc_hdata.specs.Hdata.{walk_object};
 ghost use Rattle.wc_hdata.specs.Paths.{SpellsPath};
 
@@ -23,10 +24,12 @@ pub fn dump_paths()
 
 /// The walk of all buffers is their dump.
 pub fn buffer_dump_is_walk()
-    ensures { (world : World) → AreBuffers world.groups → walk_object world buffers_path buffers_keys ∷ [] ≡ buffer_dump world.groups }
+    ensures { (world : World) → AreBuffers world.groups →
+        walk_object world buffers_path buffers_keys ∷ [] ≡ buffer_dump world.groups }
 {}
 
 /// The walk of all lines is their dump.
 pub fn line_dump_is_walk()
-    ensures { (world : World) → AreBuffers world.groups → walk_object world lines_path lines_keys ∷ [] ≡ line_dump world }
+    ensures { (world : World) → AreBuffers world.groups →
+        walk_object world lines_path lines_keys ∷ [] ≡ line_dump world }
 {}

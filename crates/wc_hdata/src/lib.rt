@@ -1,4 +1,5 @@
-//! Data paths, which name what a relay client asks of the `hdata` of WeeChat, and what they lead to.
+//! Data paths, which name what a relay client asks of the `hdata` of WeeChat, and what they lead
+//! to.
 #![tactic(auto)]
 
 mod along;

@@ -1,7 +1,8 @@
 //! The lists of lines of a world.
 
 ghost use Rattle.std.specs.Prelude.{◌≡◌, ◌++◌, IfOk, OnOk};
-ghost use Rattle.wc_hdata.specs.Lists.{by_handle, group_of, is_in, lines_in, lines_of_all, own_lines, shown_list};
+ghost use Rattle.wc_hdata.specs.Lists.{by_handle, group_of, is_in, lines_in, lines_of_all};
+ghost use Rattle.wc_hdata.specs.Lists.{own_lines, shown_list};
 ghost use Rattle.wc_hdata.specs.Reached.{held_lines};
 
 use crate::reached::{HeldLine, LineList};
@@ -39,7 +40,8 @@ fn mixed<'a>(
     world: &'a World,
     buffers: &[Handle],
 ) -> Result<Vec<HeldLine<'a>>, NoMemory>
-    ensures { IfOk result (λ lines. held_lines lines.items ≡ by_handle (lines_of_all world.now buffers.now)) }
+    ensures { IfOk result (λ lines. held_lines lines.items
+        ≡ by_handle (lines_of_all world.now buffers.now)) }
 {
     let mut lines = Vec::new(alloc);
     push_all(&mut lines, world, buffers)?;
@@ -53,7 +55,8 @@ fn push_lines<'a>(
     world: &'a World,
     buffer: Handle,
 ) -> Result<(), NoMemory>
-    ensures { OnOk result (held_lines lines.new.items ≡ held_lines lines.old.items ++ own_lines world.now buffer) }
+    ensures { OnOk result (held_lines lines.new.items ≡ held_lines lines.old.items
+        ++ own_lines world.now buffer) }
 {
     let Some(held) = world.lines(buffer) else {
         return Ok(());
@@ -74,7 +77,8 @@ fn push_all<'a>(
     world: &'a World,
     buffers: &[Handle],
 ) -> Result<(), NoMemory>
-    ensures { OnOk result (held_lines lines.new.items ≡ held_lines lines.old.items ++ lines_of_all world.now buffers.now) }
+    ensures { OnOk result (held_lines lines.new.items ≡ held_lines lines.old.items
+        ++ lines_of_all world.now buffers.now) }
 {
     for buffer in buffers {
         push_lines(lines, world, *buffer)?;

@@ -1,9 +1,11 @@
 //! What the steps of a path reach.
 
-ghost use Rattle.std.specs.Prelude.{◌≡◌, ◌≢◌, ◌++◌, ◌∷◌, [], ◌+◌, ◌<◌, IfOk, OnOk, IfErr, length};
+ghost use Rattle.std.specs.Prelude.{◌≡◌, ◌≢◌, ◌++◌, ◌∷◌, [], ◌+◌, ◌<◌, IfOk, OnOk};
+ghost use Rattle.std.specs.Prelude.{IfErr, length};
 ghost use Rattle.wc_hdata.specs.Reached.{place_of, places_of};
 ghost use Rattle.wc_hdata.specs.Steps.{all_buffers, reach};
-ghost use Rattle.wc_hdata.specs.Walk.{nodes_at, node_at, list_pointer, node_of, nodes_of, onward, onward_all, pointer_of, visits, nodes_reached};
+ghost use Rattle.wc_hdata.specs.Walk.{nodes_at, node_at, list_pointer, node_of, nodes_of, onward};
+ghost use Rattle.wc_hdata.specs.Walk.{onward_all, pointer_of, visits, nodes_reached};
 ghost use Rattle.wc_hdata.specs.Refusals.{too_many};
 ghost use Rattle.wc_hdata.specs.declared.refused.WalkRefused.TheVariants as Refused;
 
@@ -71,7 +73,8 @@ fn push<'a>(
     mut pointers: Items<u64>,
     place: Place<'a>,
 ) -> Result<(), NoMemory>
-    ensures { OnOk result (nodes_of out.new.items ≡ nodes_of out.old.items ++ node_at buffers.now pointers (place_of place.entry) ∷ []) }
+    ensures { OnOk result (nodes_of out.new.items ≡ nodes_of out.old.items
+        ++ node_at buffers.now pointers (place_of place.entry) ∷ []) }
 {
     pointers.push(pointer_of(buffers, place))?;
     match out.push(Node { pointers, place }) {
@@ -80,8 +83,8 @@ fn push<'a>(
     }
 }
 
-/// Puts places after others, with the pointers that led to them. The last one takes these over, so that a long path that
-/// leads to few places copies no pointers.
+/// Puts places after others, with the pointers that led to them. The last one takes these over, so
+/// that a long path that leads to few places copies no pointers.
 fn push_all<'a>(
     alloc: Global,
     out: &mut Vec<Node<'a>>,
@@ -89,7 +92,8 @@ fn push_all<'a>(
     pointers: Items<u64>,
     places: &[Place<'a>],
 ) -> Result<(), NoMemory>
-    ensures { OnOk result (nodes_of out.new.items ≡ nodes_of out.old.items ++ nodes_at buffers.now pointers (places_of places.now)) }
+    ensures { OnOk result (nodes_of out.new.items ≡ nodes_of out.old.items
+        ++ nodes_at buffers.now pointers (places_of places.now)) }
 {
     let Some((last, front)) = places.split_last() else {
         return Ok(());
@@ -105,7 +109,8 @@ fn push_front<'a>(
     pointers: &Items<u64>,
     places: &[Place<'a>],
 ) -> Result<(), NoMemory>
-    ensures { OnOk result (nodes_of out.new.items ≡ nodes_of out.old.items ++ nodes_at buffers.now pointers.now (places_of places.now)) }
+    ensures { OnOk result (nodes_of out.new.items ≡ nodes_of out.old.items
+        ++ nodes_at buffers.now pointers.now (places_of places.now)) }
 {
     for place in places {
         push(out, buffers, copy(alloc, pointers)?, *place)?;
@@ -129,8 +134,8 @@ fn visit(left: &mut usize, places: usize) -> Result<(), WalkRefused>
     }
 }
 
-/// Puts what a step gives from one after others. `buffers` are all buffers in their order, and `places` is a list that is
-/// used in between.
+/// Puts what a step gives from one after others. `buffers` are all buffers in their order, and
+/// `places` is a list that is used in between.
 fn push_onward<'a>(
     alloc: Global,
     out: &mut Vec<Node<'a>>,
@@ -141,9 +146,12 @@ fn push_onward<'a>(
     left: &mut usize,
 ) -> Result<(), WalkRefused>
     requires { buffers.now ≡ all_buffers world.now.groups }
-    ensures ok { OnOk result (nodes_of out.new.items ≡ nodes_of out.old.items ++ onward world.now step (node_of node.entry)) }
-    ensures left { OnOk result (left.new + length (onward world.now step (node_of node.entry)) ≡ left.old) }
-    ensures err { IfErr result (λ e. e ≢ Refused.NoMemory → (e ≡ too_many) × (left.old < length (onward world.now step (node_of node.entry)))) }
+    ensures ok { OnOk result (nodes_of out.new.items ≡ nodes_of out.old.items
+        ++ onward world.now step (node_of node.entry)) }
+    ensures left { OnOk result (left.new + length (onward world.now step (node_of node.entry))
+        ≡ left.old) }
+    ensures err { IfErr result (λ e. e ≢ Refused.NoMemory → (e ≡ too_many)
+        × (left.old < length (onward world.now step (node_of node.entry)))) }
 {
     let Node { pointers, place } = node;
     let mut places = Vec::new(alloc);
@@ -163,9 +171,12 @@ pub(crate) fn onward_all<'a>(
     left: &mut usize,
 ) -> Result<Vec<Node<'a>>, WalkRefused>
     requires { buffers.now ≡ all_buffers world.now.groups }
-    ensures ok { IfOk result (λ further. nodes_of further.items ≡ onward_all world.now step (nodes_of nodes.entry.items)) }
-    ensures left { OnOk result (left.new + length (onward_all world.now step (nodes_of nodes.entry.items)) ≡ left.old) }
-    ensures err { IfErr result (λ e. e ≢ Refused.NoMemory → (e ≡ too_many) × (left.old < length (onward_all world.now step (nodes_of nodes.entry.items)))) }
+    ensures ok { IfOk result (λ further. nodes_of further.items ≡ onward_all world.now step
+        (nodes_of nodes.entry.items)) }
+    ensures left { OnOk result
+        (left.new + length (onward_all world.now step (nodes_of nodes.entry.items)) ≡ left.old) }
+    ensures err { IfErr result (λ e. e ≢ Refused.NoMemory → (e ≡ too_many)
+        × (left.old < length (onward_all world.now step (nodes_of nodes.entry.items)))) }
 {
     let mut further = Vec::new(alloc);
     for node in nodes {
@@ -180,7 +191,8 @@ pub(crate) fn first_nodes<'a>(
     buffers: &Buffers,
     places: &[Place<'a>],
 ) -> Result<Vec<Node<'a>>, NoMemory>
-    ensures { IfOk result (λ nodes. nodes_of nodes.items ≡ nodes_at buffers.now [] (places_of places.now)) }
+    ensures { IfOk result (λ nodes. nodes_of nodes.items ≡ nodes_at buffers.now []
+        (places_of places.now)) }
 {
     let mut nodes = Vec::new(alloc);
     push_front(alloc, &mut nodes, buffers, &Items::new(alloc), places)?;

@@ -3,8 +3,10 @@
 ghost use Rattle.std.specs.Prelude.{◌≡◌, ◌++◌, ◌∷◌, [], map, position, ◌==◌, IfOk, OnOk};
 ghost use Rattle.wc_hdata.specs.Along.{along};
 ghost use Rattle.wc_hdata.specs.Lists.{shown_list};
-ghost use Rattle.wc_hdata.specs.Reached.{held_line, held_lines, place_of, places_of, Buffer as At_buffer, Line_at};
-ghost use Rattle.wc_hdata.specs.Steps.{all_buffers, buffers_from, from_buffer, from_data, from_line, from_lines, place_in, reach};
+ghost use Rattle.wc_hdata.specs.Reached.{held_line, held_lines, place_of, places_of};
+ghost use Rattle.wc_hdata.specs.Reached.{Buffer as At_buffer, Line_at};
+ghost use Rattle.wc_hdata.specs.Steps.{all_buffers, buffers_from, from_buffer, from_data};
+ghost use Rattle.wc_hdata.specs.Steps.{from_line, from_lines, place_in, reach};
 ghost use Rattle.wc_text.specs.declared.names.Handle.{Handle as HandleValue};
 
 use crate::along::along;
@@ -29,7 +31,8 @@ pub(crate) fn all_buffers(alloc: Global, buffers: &Buffers) -> Result<Vec<Handle
     Ok(all)
 }
 
-/// Puts the places to which a step leads from one after others. `buffers` are all buffers in their order.
+/// Puts the places to which a step leads from one after others. `buffers` are all buffers in their
+/// order.
 #[tactic(auto, unfolding(crate::specs::Steps::reach))]
 pub(crate) fn reach<'a>(
     alloc: Global,
@@ -40,7 +43,8 @@ pub(crate) fn reach<'a>(
     out: &mut Vec<Place<'a>>,
 ) -> Result<(), NoMemory>
     requires { buffers.now ≡ all_buffers world.now.groups }
-    ensures { OnOk result (places_of out.new.items ≡ places_of out.old.items ++ reach world.now step (place_of place.entry)) }
+    ensures { OnOk result (places_of out.new.items ≡ places_of out.old.items ++ reach world.now step
+        (place_of place.entry)) }
 {
     match place {
         Place::Buffer(buffer) => from_buffer(world, step.variable, buffer, out),
@@ -51,7 +55,8 @@ pub(crate) fn reach<'a>(
 }
 
 pub(crate) fn push<'a>(out: &mut Vec<Place<'a>>, place: Place<'a>) -> Result<(), NoMemory>
-    ensures { OnOk result (places_of out.new.items ≡ places_of out.old.items ++ place_of place.entry ∷ []) }
+    ensures { OnOk result (places_of out.new.items ≡ places_of out.old.items
+        ++ place_of place.entry ∷ []) }
 {
     match out.push(place) {
         Ok(()) => Ok(()),
@@ -65,7 +70,8 @@ fn from_buffer<'a>(
     buffer: Handle,
     out: &mut Vec<Place<'a>>,
 ) -> Result<(), NoMemory>
-    ensures { OnOk result (places_of out.new.items ≡ places_of out.old.items ++ from_buffer world.now variable buffer) }
+    ensures { OnOk result (places_of out.new.items ≡ places_of out.old.items
+        ++ from_buffer world.now variable buffer) }
 {
     match variable {
         Variable::OwnLines => push(out, Place::Lines(LineList::Own(buffer))),
@@ -74,7 +80,8 @@ fn from_buffer<'a>(
     }
 }
 
-/// The list of lines that a buffer shows: its own where it is alone in its group, and else the mixed one of the group.
+/// The list of lines that a buffer shows: its own where it is alone in its group, and else the
+/// mixed one of the group.
 fn shown_list(buffers: &Buffers, buffer: Handle) -> LineList
     ensures { result ≡ shown_list buffers.now buffer }
 {
@@ -91,7 +98,8 @@ fn from_lines<'a>(
     list: LineList,
     out: &mut Vec<Place<'a>>,
 ) -> Result<(), NoMemory>
-    ensures { OnOk result (places_of out.new.items ≡ places_of out.old.items ++ from_lines world.now step.variable step.count list) }
+    ensures { OnOk result (places_of out.new.items ≡ places_of out.old.items
+        ++ from_lines world.now step.variable step.count list) }
 {
     let is_last = match step.variable {
         Variable::FirstLine => false,
@@ -116,7 +124,8 @@ pub(crate) fn push_lines<'a>(
     lines: &[HeldLine<'a>],
     out: &mut Vec<Place<'a>>,
 ) -> Result<(), NoMemory>
-    ensures { OnOk result (places_of out.new.items ≡ places_of out.old.items ++ map Line_at (along count at (held_lines lines.now))) }
+    ensures { OnOk result (places_of out.new.items ≡ places_of out.old.items
+        ++ map Line_at (along count at (held_lines lines.now))) }
 {
     let mut some = Vec::new(alloc);
     along(&mut some, count, at, lines)?;
@@ -124,7 +133,8 @@ pub(crate) fn push_lines<'a>(
 }
 
 fn push_held<'a>(lines: &[HeldLine<'a>], out: &mut Vec<Place<'a>>) -> Result<(), NoMemory>
-    ensures { OnOk result (places_of out.new.items ≡ places_of out.old.items ++ map Line_at (held_lines lines.now)) }
+    ensures { OnOk result (places_of out.new.items ≡ places_of out.old.items
+        ++ map Line_at (held_lines lines.now)) }
 {
     for held in lines {
         push(out, Place::Line(*held))?;
@@ -137,7 +147,8 @@ fn from_line<'a>(
     held: HeldLine<'a>,
     out: &mut Vec<Place<'a>>,
 ) -> Result<(), NoMemory>
-    ensures { OnOk result (places_of out.new.items ≡ places_of out.old.items ++ from_line variable (held_line held.entry)) }
+    ensures { OnOk result (places_of out.new.items ≡ places_of out.old.items ++ from_line variable
+        (held_line held.entry)) }
 {
     match variable {
         Variable::Data => push(out, Place::LineData(held)),
@@ -154,7 +165,8 @@ fn from_data<'a>(
     out: &mut Vec<Place<'a>>,
 ) -> Result<(), NoMemory>
     requires { buffers.now ≡ all_buffers world.now.groups }
-    ensures { OnOk result (places_of out.new.items ≡ places_of out.old.items ++ from_data world.now step.variable step.count (held_line held.entry)) }
+    ensures { OnOk result (places_of out.new.items ≡ places_of out.old.items
+        ++ from_data world.now step.variable step.count (held_line held.entry)) }
 {
     match step.variable {
         Variable::Buffer => push_buffers(
@@ -192,7 +204,8 @@ pub(crate) fn push_buffers<'a>(
     buffers: &[Handle],
     out: &mut Vec<Place<'a>>,
 ) -> Result<(), NoMemory>
-    ensures { OnOk result (places_of out.new.items ≡ places_of out.old.items ++ map At_buffer (along count at buffers.now)) }
+    ensures { OnOk result (places_of out.new.items ≡ places_of out.old.items
+        ++ map At_buffer (along count at buffers.now)) }
 {
     let mut some = Vec::new(alloc);
     along(&mut some, count, at, buffers)?;

@@ -2,7 +2,8 @@
 
 ghost use Rattle.std.specs.Prelude.{◌≡◌, Some};
 ghost use Rattle.std.specs.List.{flat_map};
-ghost use Rattle.wc_objects.specs.Spelling.{FitsIn, pair_bytes, simple_bytes, text_bytes, value_bytes};
+ghost use Rattle.wc_objects.specs.Spelling.{FitsIn, pair_bytes, simple_bytes, text_bytes};
+ghost use Rattle.wc_objects.specs.Spelling.{value_bytes};
 
 use wc_objects::Object;
 use wc_objects::parts::{room_after_bytes, room_after_decimal, room_after_pointer};

@@ -5,8 +5,11 @@ ghost use Rattle.wc_buffers.specs.Calls.{is_there};
 ghost use Rattle.wc_buffers.specs.Kept.{handles};
 ghost use Rattle.wc_hdata.specs.Along.{along};
 ghost use Rattle.wc_hdata.specs.Lists.{held_by, own_lines};
-ghost use Rattle.wc_hdata.specs.Reached.{held_line, held_lines, place_of, places_of, begun_places, Buffer as At_buffer};
-ghost use Rattle.wc_hdata.specs.Starts.{at_buffer, at_data, at_line, at_list, at_pointer, has_own, is_named, line_among, lines_from, list_at, mixed_among, mixed_of, named_in, own_at, place_of_line, starts};
+ghost use Rattle.wc_hdata.specs.Reached.{held_line, held_lines, place_of, places_of, begun_places};
+ghost use Rattle.wc_hdata.specs.Reached.{Buffer as At_buffer};
+ghost use Rattle.wc_hdata.specs.Starts.{at_buffer, at_data, at_line, at_list, at_pointer, has_own};
+ghost use Rattle.wc_hdata.specs.Starts.{is_named, line_among, lines_from, list_at, mixed_among};
+ghost use Rattle.wc_hdata.specs.Starts.{mixed_of, named_in, own_at, place_of_line, starts};
 ghost use Rattle.wc_hdata.specs.Steps.{all_buffers};
 
 use crate::count::Count;
@@ -95,7 +98,8 @@ fn is_named(element: Element, pointer: u64, line: &Line) -> bool
 
 /// The first line of a buffer that a pointer names.
 fn line_in(lines: &Lines, buffer: Handle, element: Element, pointer: u64) -> Option<HeldLine<'_>>
-    ensures { option_map held_line result ≡ named_in element pointer (map (held_by buffer) lines.now.lines) }
+    ensures { option_map held_line result ≡ named_in element pointer
+        (map (held_by buffer) lines.now.lines) }
 {
     for line in lines.iter() {
         if is_named(element, pointer, line) {
@@ -150,7 +154,8 @@ fn push_from_line<'a>(
     held: HeldLine<'a>,
     out: &mut Vec<Place<'a>>,
 ) -> Result<(), NoMemory>
-    ensures { OnOk result (places_of out.new.items ≡ places_of out.old.items ++ lines_from world.now count (held_line held.entry)) }
+    ensures { OnOk result (places_of out.new.items ≡ places_of out.old.items
+        ++ lines_from world.now count (held_line held.entry)) }
 {
     let lines = lines_in(alloc, world, LineList::Own(held.buffer))?;
     let at = place_of_line(lines.as_slice(), held.line.handle.0);
@@ -186,7 +191,8 @@ fn buffers_from<'a>(
     count: Count,
     at: usize,
 ) -> Result<Option<Vec<Place<'a>>>, NoMemory>
-    ensures { IfOk result (λ begun. option_map begun_places begun ≡ Some (map At_buffer (along count at buffers.now))) }
+    ensures { IfOk result (λ begun. option_map begun_places begun
+        ≡ Some (map At_buffer (along count at buffers.now))) }
 {
     let mut places = Vec::new(alloc);
     push_buffers(alloc, count, at, buffers, &mut places)?;
@@ -203,7 +209,8 @@ fn at_pointer<'a>(
     pointer: u64,
 ) -> Result<Option<Vec<Place<'a>>>, NoMemory>
     requires { buffers.now ≡ all_buffers world.now.groups }
-    ensures { IfOk result (λ begun. option_map begun_places begun ≡ at_pointer world.now count element pointer) }
+    ensures { IfOk result (λ begun. option_map begun_places begun
+        ≡ at_pointer world.now count element pointer) }
 {
     match element {
         Element::Buffer => at_buffer(alloc, world, buffers, count, pointer),
@@ -221,7 +228,8 @@ fn at_buffer<'a>(
     pointer: u64,
 ) -> Result<Option<Vec<Place<'a>>>, NoMemory>
     requires { buffers.now ≡ all_buffers world.now.groups }
-    ensures { IfOk result (λ begun. option_map begun_places begun ≡ at_buffer world.now.groups count pointer) }
+    ensures { IfOk result (λ begun. option_map begun_places begun
+        ≡ at_buffer world.now.groups count pointer) }
 {
     let buffer = Handle(pointer);
     if !is_there(world.buffers(), buffer) {
@@ -246,7 +254,8 @@ fn at_list<'a>(
     pointer: u64,
 ) -> Result<Option<Vec<Place<'a>>>, NoMemory>
     requires { buffers.now ≡ all_buffers world.now.groups }
-    ensures { IfOk result (λ begun. option_map begun_places begun ≡ at_list world.now.groups pointer) }
+    ensures { IfOk result (λ begun. option_map begun_places begun
+        ≡ at_list world.now.groups pointer) }
 {
     match list_at(world.buffers(), buffers, pointer) {
         Some(list) => only(alloc, Place::Lines(list)),
@@ -262,7 +271,8 @@ fn at_line<'a>(
     pointer: u64,
 ) -> Result<Option<Vec<Place<'a>>>, NoMemory>
     requires { buffers.now ≡ all_buffers world.now.groups }
-    ensures { IfOk result (λ begun. option_map begun_places begun ≡ at_line world.now count pointer) }
+    ensures { IfOk result (λ begun. option_map begun_places begun
+        ≡ at_line world.now count pointer) }
 {
     let Some(held) = line_among(world, buffers, Element::Line, pointer) else {
         return Ok(None);
@@ -288,7 +298,8 @@ fn at_data<'a>(
 }
 
 fn only<'a>(alloc: Global, place: Place<'a>) -> Result<Option<Vec<Place<'a>>>, NoMemory>
-    ensures { IfOk result (λ begun. option_map begun_places begun ≡ Some (place_of place.entry ∷ [])) }
+    ensures { IfOk result (λ begun. option_map begun_places begun
+        ≡ Some (place_of place.entry ∷ [])) }
 {
     let mut places = Vec::new(alloc);
     push(&mut places, place)?;

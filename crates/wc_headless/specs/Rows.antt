@@ -1,5 +1,6 @@
 -- The rows of the links that are there, which ascend by number.
-use Rattle.std.specs.Prelude.{ℕ, ◌≡◌, ◌<◌, ◌||◌, Bool, true, false, List, length, map, All, Option, Some, None, slice_index}
+use Rattle.std.specs.Prelude.{ℕ, ◌≡◌, ◌<◌, ◌||◌, Bool, true, false, List, length, map, All, Option}
+use Rattle.std.specs.Prelude.{Some, None, slice_index}
 use Rattle.std.specs.List.{list_any}
 use Rattle.wc_outside.specs.declared.sockets.Token.{Token}
 use Rattle.wc_outside.specs.Happenings.{is_link, is_listener, IsThere}
@@ -45,9 +46,11 @@ abbrev pub freed_link_row : Row → Row
 freed_link_row row = record row { blocked = false }
 
 -- a wait has reported these sources so far, and nothing else changed
-pub record SourcesReported (old new : List Row) (listening_old listening_new : Bool) (tokens : List Token) : Type 0 where
+pub record SourcesReported (old new : List Row) (listening_old listening_new : Bool)
+    (tokens : List Token) : Type 0 where
   pub sources : All (IsThere (is_there old)) tokens
-  pub undrained : (link : ℕ) → is_undrained new link ≡ is_undrained old link || list_any (is_link link) tokens
+  pub undrained : (link : ℕ) → is_undrained new link ≡ is_undrained old link
+      || list_any (is_link link) tokens
   pub listening : listening_new ≡ listening_old || list_any is_listener tokens
   pub there : (link : ℕ) → is_there new link ≡ is_there old link
   pub blocked : (link : ℕ) → is_blocked new link ≡ is_blocked old link

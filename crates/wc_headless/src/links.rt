@@ -1,6 +1,9 @@
-ghost use Rattle.std.specs.Prelude.{◌≡◌, false, ◌+◌, ◌^◌, ◌<◌, ◌≤◌, ◌&&◌, ◌||◌, ◌==◌, not, map, length, ℕ, All, vec_len, vec_capacity, IfOk, IfSome, IsTrue, take, if◌then◌else◌};
+ghost use Rattle.std.specs.Prelude.{◌≡◌, false, ◌+◌, ◌^◌, ◌<◌, ◌≤◌, ◌&&◌, ◌||◌};
+ghost use Rattle.std.specs.Prelude.{◌==◌, not, map, length, ℕ, All, vec_len, vec_capacity, IfOk};
+ghost use Rattle.std.specs.Prelude.{IfSome, IsTrue, take, if◌then◌else◌};
 ghost use Rattle.wc_outside.specs.Keyed.{IsKeyPlace, PlaceOf};
-ghost use Rattle.wc_headless.specs.Rows.{number_of, is_there, is_undrained, is_blocked, freed_link_row, IsAscending, SourcesReported};
+ghost use Rattle.wc_headless.specs.Rows.{number_of, is_there, is_undrained, is_blocked};
+ghost use Rattle.wc_headless.specs.Rows.{freed_link_row, IsAscending, SourcesReported};
 
 use crate::report::report;
 use crate::row::Row;
@@ -32,8 +35,10 @@ impl Links {
     pub(crate) fn new(alloc: Global) -> Result<Links, AllocError>
         ensures used { IfOk result (λ links. links.used ≡ 0) }
         ensures there { IfOk result (λ links. (link : ℕ) → is_there links.rows.items link ≡ false) }
-        ensures undrained { IfOk result (λ links. (link : ℕ) → is_undrained links.rows.items link ≡ false) }
-        ensures blocked { IfOk result (λ links. (link : ℕ) → is_blocked links.rows.items link ≡ false) }
+        ensures undrained { IfOk result (λ links. (link : ℕ) →
+            is_undrained links.rows.items link ≡ false) }
+        ensures blocked { IfOk result (λ links. (link : ℕ) →
+            is_blocked links.rows.items link ≡ false) }
     {
         Ok(Links {
             rows: Vec::with_capacity(alloc, SLOTS)?,
@@ -47,9 +52,12 @@ impl Links {
         requires number { self.old.used < 2 ^ 62 }
         ensures next { result.0 ≡ self.old.used + 1 }
         ensures used { self.new.used ≡ self.old.used + 1 }
-        ensures there { (link : ℕ) → is_there self.new.rows.items link ≡ is_there self.old.rows.items link || (result.0 == link) }
-        ensures undrained { (link : ℕ) → is_undrained self.new.rows.items link ≡ is_undrained self.old.rows.items link }
-        ensures blocked { (link : ℕ) → is_blocked self.new.rows.items link ≡ is_blocked self.old.rows.items link }
+        ensures there { (link : ℕ) → is_there self.new.rows.items link
+            ≡ is_there self.old.rows.items link || (result.0 == link) }
+        ensures undrained { (link : ℕ) → is_undrained self.new.rows.items link
+            ≡ is_undrained self.old.rows.items link }
+        ensures blocked { (link : ℕ) → is_blocked self.new.rows.items link
+            ≡ is_blocked self.old.rows.items link }
     {
         let link = LinkId(self.used + 1);
         self.used += 1;
@@ -65,9 +73,12 @@ impl Links {
     pub(crate) fn remove(&mut self, place: usize, link: LinkId)
         requires { IsKeyPlace number_of link.0 self.old.rows.items place }
         ensures used { self.new.used ≡ self.old.used }
-        ensures there { (other : ℕ) → is_there self.new.rows.items other ≡ is_there self.old.rows.items other && not (other == link.0) }
-        ensures undrained { (other : ℕ) → is_undrained self.new.rows.items other ≡ is_undrained self.old.rows.items other && not (other == link.0) }
-        ensures blocked { (other : ℕ) → is_blocked self.new.rows.items other ≡ is_blocked self.old.rows.items other && not (other == link.0) }
+        ensures there { (other : ℕ) → is_there self.new.rows.items other
+            ≡ is_there self.old.rows.items other && not (other == link.0) }
+        ensures undrained { (other : ℕ) → is_undrained self.new.rows.items other
+            ≡ is_undrained self.old.rows.items other && not (other == link.0) }
+        ensures blocked { (other : ℕ) → is_blocked self.new.rows.items other
+            ≡ is_blocked self.old.rows.items other && not (other == link.0) }
     {
         self.rows.remove(place);
     }
@@ -86,9 +97,12 @@ impl Links {
     pub(crate) fn drain(&mut self, place: usize, link: LinkId)
         requires { IsKeyPlace number_of link.0 self.old.rows.items place }
         ensures used { self.new.used ≡ self.old.used }
-        ensures undrained { (other : ℕ) → is_undrained self.new.rows.items other ≡ is_undrained self.old.rows.items other && not (other == link.0) }
-        ensures there { (other : ℕ) → is_there self.new.rows.items other ≡ is_there self.old.rows.items other }
-        ensures blocked { (other : ℕ) → is_blocked self.new.rows.items other ≡ is_blocked self.old.rows.items other }
+        ensures undrained { (other : ℕ) → is_undrained self.new.rows.items other
+            ≡ is_undrained self.old.rows.items other && not (other == link.0) }
+        ensures there { (other : ℕ) → is_there self.new.rows.items other
+            ≡ is_there self.old.rows.items other }
+        ensures blocked { (other : ℕ) → is_blocked self.new.rows.items other
+            ≡ is_blocked self.old.rows.items other }
     {
         set_undrained(&mut self.rows, place, link, false);
     }
@@ -97,9 +111,12 @@ impl Links {
     pub(crate) fn set_blocked(&mut self, place: usize, link: LinkId, blocked: bool)
         requires { IsKeyPlace number_of link.0 self.old.rows.items place }
         ensures used { self.new.used ≡ self.old.used }
-        ensures undrained { (other : ℕ) → is_undrained self.new.rows.items other ≡ is_undrained self.old.rows.items other }
-        ensures there { (other : ℕ) → is_there self.new.rows.items other ≡ is_there self.old.rows.items other }
-        ensures blocked { (other : ℕ) → is_blocked self.new.rows.items other ≡ (if other == link.0 then blocked else is_blocked self.old.rows.items other) }
+        ensures undrained { (other : ℕ) → is_undrained self.new.rows.items other
+            ≡ is_undrained self.old.rows.items other }
+        ensures there { (other : ℕ) → is_there self.new.rows.items other
+            ≡ is_there self.old.rows.items other }
+        ensures blocked { (other : ℕ) → is_blocked self.new.rows.items other
+            ≡ (if other == link.0 then blocked else is_blocked self.old.rows.items other) }
     {
         set_blocked(&mut self.rows, place, link, blocked);
     }
@@ -112,7 +129,9 @@ impl Links {
         ready: &mut Ready,
     )
         ensures used { self.new.used ≡ self.old.used }
-        ensures reported { SourcesReported (map freed_link_row self.old.rows.items) self.new.rows.items listening.old listening.new (take ready.new.count ready.new.tokens) }
+        ensures reported { SourcesReported (map freed_link_row self.old.rows.items)
+            self.new.rows.items listening.old listening.new
+            (take ready.new.count ready.new.tokens) }
     {
         report(streams, &mut self.rows, listening, ready);
     }

@@ -1,6 +1,7 @@
 ghost use Rattle.std.specs.Prelude.{◌≡◌, ◌+◌, ◌<◌, ◌++◌, ◌∷◌, [], map, take};
 ghost use Rattle.wc_outside.specs.Happenings.{IsThere};
-ghost use Rattle.wc_headless.specs.Rows.{number_of, is_there, freed_link_row, IsAscending, SourcesReported};
+ghost use Rattle.wc_headless.specs.Rows.{number_of, is_there, freed_link_row, IsAscending};
+ghost use Rattle.wc_headless.specs.Rows.{SourcesReported};
 
 use crate::row::Row;
 use crate::rows::{free_all, place_of, set_undrained};
@@ -14,7 +15,8 @@ use wc_outside::{READY_LIMIT, Ready, Token};
 fn add(ready: &mut Ready, source: Token)
     requires { ready.old.count < 64 }
     ensures count { ready.new.count ≡ ready.old.count + 1 }
-    ensures tokens { take ready.new.count ready.new.tokens ≡ take ready.old.count ready.old.tokens ++ source ∷ [] }
+    ensures tokens { take ready.new.count ready.new.tokens ≡ take ready.old.count ready.old.tokens
+        ++ source ∷ [] }
 {
     ready.tokens[ready.count] = source;
     ready.count += 1;
@@ -53,7 +55,8 @@ fn report_pending<R: Net + Clock + RandomSource>(
     ready: &mut Ready,
 )
     requires { IsAscending (map number_of rows.old) }
-    ensures { SourcesReported rows.old rows.new listening.old listening.new (take ready.new.count ready.new.tokens) }
+    ensures { SourcesReported rows.old rows.new listening.old listening.new
+        (take ready.new.count ready.new.tokens) }
 {
     ready.count = 0;
     while ready.count < READY_LIMIT {
@@ -74,7 +77,8 @@ pub(crate) fn report<R: Net + Clock + RandomSource>(
 )
     requires { IsAscending (map number_of rows.old) }
     ensures numbers { map number_of rows.new ≡ map number_of rows.old }
-    ensures reported { SourcesReported (map freed_link_row rows.old) rows.new listening.old listening.new (take ready.new.count ready.new.tokens) }
+    ensures reported { SourcesReported (map freed_link_row rows.old) rows.new listening.old
+        listening.new (take ready.new.count ready.new.tokens) }
 {
     free_all(rows);
     report_pending(streams, rows, listening, ready);

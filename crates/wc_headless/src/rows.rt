@@ -1,6 +1,8 @@
-ghost use Rattle.std.specs.Prelude.{◌≡◌, ◌+◌, ◌<◌, ◌≤◌, ◌&&◌, ◌||◌, ◌==◌, not, map, length, ℕ, if◌then◌else◌};
+ghost use Rattle.std.specs.Prelude.{◌≡◌, ◌+◌, ◌<◌, ◌≤◌, ◌&&◌, ◌||◌, ◌==◌, not, map};
+ghost use Rattle.std.specs.Prelude.{length, ℕ, if◌then◌else◌};
 ghost use Rattle.wc_outside.specs.Keyed.{IsKeyPlace, PlaceOf};
-ghost use Rattle.wc_headless.specs.Rows.{number_of, is_there, is_undrained, is_blocked, IsAscending, freed_link_row};
+ghost use Rattle.wc_headless.specs.Rows.{number_of, is_there, is_undrained, is_blocked};
+ghost use Rattle.wc_headless.specs.Rows.{IsAscending, freed_link_row};
 
 use crate::row::Row;
 use wc_text::LinkId;
@@ -30,7 +32,8 @@ pub(crate) fn place_of(rows: &[Row], link: LinkId) -> Option<usize>
 /// Notes whether a link, which is at this place, is reported and not drained.
 pub(crate) fn set_undrained(rows: &mut [Row], place: usize, link: LinkId, undrained: bool)
     requires { IsKeyPlace number_of link.0 rows.old place }
-    ensures undrained { (other : ℕ) → is_undrained rows.new other ≡ (if other == link.0 then undrained else is_undrained rows.old other) }
+    ensures undrained { (other : ℕ) → is_undrained rows.new other
+        ≡ (if other == link.0 then undrained else is_undrained rows.old other) }
     ensures there { (other : ℕ) → is_there rows.new other ≡ is_there rows.old other }
     ensures blocked { (other : ℕ) → is_blocked rows.new other ≡ is_blocked rows.old other }
     ensures numbers { map number_of rows.new ≡ map number_of rows.old }
@@ -41,7 +44,8 @@ pub(crate) fn set_undrained(rows: &mut [Row], place: usize, link: LinkId, undrai
 /// Notes whether the last write to a link, which is at this place, found no room.
 pub(crate) fn set_blocked(rows: &mut [Row], place: usize, link: LinkId, blocked: bool)
     requires { IsKeyPlace number_of link.0 rows.old place }
-    ensures blocked { (other : ℕ) → is_blocked rows.new other ≡ (if other == link.0 then blocked else is_blocked rows.old other) }
+    ensures blocked { (other : ℕ) → is_blocked rows.new other ≡ (if other == link.0 then blocked
+        else is_blocked rows.old other) }
     ensures there { (other : ℕ) → is_there rows.new other ≡ is_there rows.old other }
     ensures undrained { (other : ℕ) → is_undrained rows.new other ≡ is_undrained rows.old other }
     ensures numbers { map number_of rows.new ≡ map number_of rows.old }

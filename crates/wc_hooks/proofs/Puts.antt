@@ -130,3 +130,6 @@ pub put_last : (a : Slot) (xs : List Slot) (i : ℕ) → length xs ≤ i → put
 put_last a xs i le e =
     let n : length xs ≤ length xs = omega arith in
     sym (e ∙ (λ j. (take_all i xs le ∙ sym (take_all (length xs) xs n)) j ++ put_by slot_rank a (drop_all i xs le j)) ∙ ap (λ l. take (length xs) xs ++ a ∷ l) (sym (drop_all (length xs) xs n)))
+
+-- what `place_of` needs
+pub ruleset place_of_facts = (put_front, put_here, put_last)

@@ -231,3 +231,6 @@ gives_due hooked xs marks place c apart known = find_both (may_run (live_rows xs
 
 pub leaves_after : (hooked : ℕ) (xs : List Slot) (marks : List Entry) (place : ℕ) (c : Cursor) → are_apart xs ≡ true → list_all (is_known hooked) xs ≡ true → following (may_run (live_rows xs) marks) (map slot_entry (ahead place c xs)) ≡ map slot_entry (following (may_go marks) (ahead place c xs))
 leaves_after hooked xs marks place c apart known = after_both (may_run (live_rows xs) marks) (may_go marks) (ahead place c xs) (ahead_tests hooked xs marks place c apart known)
+
+-- what `next` needs
+pub ruleset next_facts = (on_way, way_past, way_found, way_end)

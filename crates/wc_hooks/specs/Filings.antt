@@ -1,4 +1,5 @@
--- The entries that are filed: those that live, and those that were unhooked while a pass was open, until the last is closed.
+-- The entries that are filed: those that live, and those that were unhooked while a pass was open,
+-- until the last is closed.
 use Rattle.std.specs.Prelude.{ℕ, not, ◌&&◌, ◌==◌, List, filter, bytes_eq}
 use Rattle.wc_hooks.specs.declared.entry.HookId.{HookId}
 use Rattle.wc_hooks.specs.declared.kind.HookKind.{HookKind}
@@ -27,4 +28,5 @@ without_filing id filings = filter (λ filing. not (filing.id.0 == id.0)) filing
 
 -- those of a kind and a key
 abbrev pub filed_under : HookKind → List ℕ → List Filing → List Filing
-filed_under kind key filings = filter (λ filing. same_kind filing.kind kind && bytes_eq filing.key key) filings
+filed_under kind key filings = filter (λ filing. same_kind filing.kind kind
+    && bytes_eq filing.key key) filings

@@ -1,11 +1,13 @@
 -- Sequences of calls, and what one open pass gives over them.
-use Rattle.std.specs.Prelude.{◌≡◌, ℕ, ◌+◌, Bool, true, not, ◌==◌, Some, List, [], ◌∷◌, ◌++◌, map, filter, option_to_list, if◌then◌else◌}
+use Rattle.std.specs.Prelude.{◌≡◌, ℕ, ◌+◌, Bool, true, not, ◌==◌, Some, List, [], ◌∷◌, ◌++◌}
+use Rattle.std.specs.Prelude.{map, filter, option_to_list, if◌then◌else◌}
 use Rattle.wc_hooks.specs.declared.entry.Entry.{Entry}
 use Rattle.wc_hooks.specs.declared.entry.HookId.{HookId}
 use Rattle.wc_hooks.specs.declared.kind.HookKind.{HookKind}
 use Rattle.wc_hooks.specs.Rows.{HookRow, rows_switched}
 use Rattle.wc_hooks.specs.Passes.{may_run, without_mark}
-use Rattle.wc_hooks.specs.Table.{Table, with_row, without_row, with_rows, with_marks, with_pass, without_pass, opening, left_at, next_of, after_next}
+use Rattle.wc_hooks.specs.Table.{Table, with_row, without_row, with_rows, with_marks, with_pass}
+use Rattle.wc_hooks.specs.Table.{without_pass, opening, left_at, next_of, after_next}
 
 -- a call of `next` with the steps that it took
 pub data TableCall : Type 0 where
@@ -53,7 +55,8 @@ turn place (unhooks id) table = []
 turn place (switches id on) table = []
 turn place (opens other kind key) table = []
 turn place (gives other steps) table =
-    if other == place then map (λ entry. (entry, may_run table.rows table.marks entry)) (front (may_run table.rows table.marks) (left_at table place)) else []
+    if other == place then map (λ entry. (entry, may_run table.rows table.marks entry))
+    (front (may_run table.rows table.marks) (left_at table place)) else []
 turn place (ends id) table = []
 turn place (closes other) table = []
 
@@ -67,7 +70,8 @@ gift place (hooks row) table = []
 gift place (unhooks id) table = []
 gift place (switches id on) table = []
 gift place (opens other kind key) table = []
-gift place (gives other steps) table = if other == place then option_to_list (next_of table place) else []
+gift place (gives other steps) table = if other == place
+    then option_to_list (next_of table place) else []
 gift place (ends id) table = []
 gift place (closes other) table = []
 
@@ -89,7 +93,10 @@ abbrev pub all_steps : ℕ → List TableCall → ℕ
 all_steps place [] = 0
 all_steps place (act ∷ acts) = steps_of place act + all_steps place acts
 
--- each entry that was left is looked at once and in order, or still left, and those are given that may run at their turn
+-- each entry that was left is looked at once and in order, or still left, and those are given that
+-- may run at their turn
 pub record IsWalk (place : ℕ) (acts : List TableCall) (table : Table) : Type 0 where
-  pub order : map (λ seen. seen.0) (turns place acts table) ++ left_at (after_all acts table) place ≡ left_at table place
-  pub given : map (λ seen. seen.0) (filter (λ seen. seen.1) (turns place acts table)) ≡ gifts place acts table
+  pub order : map (λ seen. seen.0) (turns place acts table) ++ left_at (after_all acts table) place
+      ≡ left_at table place
+  pub given : map (λ seen. seen.0) (filter (λ seen. seen.1) (turns place acts table))
+      ≡ gifts place acts table

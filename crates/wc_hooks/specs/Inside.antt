@@ -1,5 +1,6 @@
 -- What the fields of the table mean, and what always holds of them.
-use Rattle.std.specs.Prelude.{◌≡◌, ℕ, ◌≤◌, Bool, true, false, not, ◌&&◌, Option, List, [], ◌∷◌, length, map, is_some}
+use Rattle.std.specs.Prelude.{◌≡◌, ℕ, ◌≤◌, Bool, true, false, not, ◌&&◌, Option, List, []}
+use Rattle.std.specs.Prelude.{◌∷◌, length, map, is_some}
 use Rattle.std.specs.List.{list_all, list_any}
 use Rattle.std.specs.Vec.{vec_capacity}
 use Rattle.wc_hooks.specs.declared.cursor.Cursor.{Cursor}
@@ -13,7 +14,13 @@ use Rattle.wc_hooks.specs.Slots.{live_rows, slot_filing, goings, is_live, IsOrde
 use Rattle.wc_hooks.specs.Table.{Table}
 
 abbrev pub seen_as : List Slot → List (Option Cursor) → List Entry → ℕ → Table
-seen_as slots cursors marks hooked = record { rows = live_rows slots; marks = marks; hooked = hooked; filed = map slot_filing slots; passes = goings 0 slots cursors }
+seen_as slots cursors marks hooked = record {
+  rows = live_rows slots;
+  marks = marks;
+  hooked = hooked;
+  filed = map slot_filing slots;
+  passes = goings 0 slots cursors;
+}
 
 abbrev pub table_of : Inside → Table
 table_of a = seen_as a.slots a.cursors.items a.marks.items a.hooked
@@ -39,12 +46,14 @@ pub record IsCounted (rows : List HookRow) (relay_count other_count : ℕ) : Typ
   pub most_others : other_count ≤ 960
 
 -- where no slot is said to be gone none is, and none is where no pass is open
-pub record IsPurged (slots : List Slot) (cursors : List (Option Cursor)) (has_gone : Bool) : Type 0 where
+pub record IsPurged (slots : List Slot) (cursors : List (Option Cursor)) (has_gone : Bool) :
+    Type 0 where
   pub live : has_gone ≡ false → list_all is_live slots ≡ true
   pub closed : list_any is_some cursors ≡ false → has_gone ≡ false
 
 -- what always holds beside the room for marks
-pub record IsTableKept (slots : List Slot) (cursors : List (Option Cursor)) (marks : List Entry) (hooked relay_count other_count : ℕ) (has_gone : Bool) : Type 0 where
+pub record IsTableKept (slots : List Slot) (cursors : List (Option Cursor)) (marks : List Entry)
+    (hooked relay_count other_count : ℕ) (has_gone : Bool) : Type 0 where
   pub ordered : IsOrdered hooked slots
   pub standing : AllCursorsFit hooked slots cursors
   pub places : length cursors ≡ 17

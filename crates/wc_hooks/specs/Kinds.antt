@@ -1,7 +1,8 @@
 -- Kinds of hooks and their owners, compared.
 use Rattle.std.specs.Prelude.{ℕ, Bool, false, ◌==◌}
 use Rattle.wc_hooks.specs.declared.kind.HookKind.{HookKind}
-use Rattle.wc_hooks.specs.declared.kind.HookKind.TheVariants.{Relay, Signal, Print, Modifier, Command, CommandRun, Timer}
+use Rattle.wc_hooks.specs.declared.kind.HookKind.TheVariants.{Relay, Signal, Print, Modifier}
+use Rattle.wc_hooks.specs.declared.kind.HookKind.TheVariants.{Command, CommandRun, Timer}
 use Rattle.wc_hooks.specs.declared.entry.Owner.{Owner}
 use Rattle.wc_hooks.specs.declared.entry.Owner.TheVariants.{Session, Trigger}
 

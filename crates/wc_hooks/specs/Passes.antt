@@ -1,5 +1,6 @@
 -- What a pass takes at its opening, and what it gives of that at each turn.
-use Rattle.std.specs.Prelude.{ℕ, Bool, not, ◌&&◌, ◌==◌, Option, List, [], ◌∷◌, ◌++◌, map, filter, find, option_to_list, if◌then◌else◌}
+use Rattle.std.specs.Prelude.{ℕ, Bool, not, ◌&&◌, ◌==◌, Option, List, [], ◌∷◌, ◌++◌, map, filter}
+use Rattle.std.specs.Prelude.{find, option_to_list, if◌then◌else◌}
 use Rattle.std.specs.List.{list_any}
 use Rattle.wc_hooks.specs.declared.entry.Entry.{Entry}
 use Rattle.wc_hooks.specs.declared.entry.HookId.{HookId}

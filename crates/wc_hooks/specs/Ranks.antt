@@ -14,10 +14,13 @@ pub record Rank : Type 0 where
 
 -- the order of kinds and keys
 unfoldable pub topic_order : HookKind → List ℕ → HookKind → List ℕ → Ordering
-topic_order kind key other_kind other_key = ordering_then (nat_cmp (kind_number kind) (kind_number other_kind)) (slice_cmp nat_cmp key other_key)
+topic_order kind key other_kind other_key =
+    ordering_then (nat_cmp (kind_number kind) (kind_number other_kind))
+    (slice_cmp nat_cmp key other_key)
 
 unfoldable pub rank_order : Rank → Rank → Ordering
-rank_order a b = ordering_then (topic_order a.kind a.key b.kind b.key) (nat_cmp b.priority a.priority)
+rank_order a b = ordering_then (topic_order a.kind a.key b.kind b.key)
+    (nat_cmp b.priority a.priority)
 
 abbrev pub precedes : Rank → Rank → Bool
 precedes a b = is_lt (rank_order a b)
@@ -25,9 +28,11 @@ precedes a b = is_lt (rank_order a b)
 -- after all but those that it precedes
 abbrev pub put_by : {A : Type 0} → (A → Rank) → A → List A → List A
 put_by rank new [] = new ∷ []
-put_by rank new (other ∷ others) = if precedes (rank new) (rank other) then new ∷ (other ∷ others) else other ∷ put_by rank new others
+put_by rank new (other ∷ others) = if precedes (rank new) (rank other) then new ∷ (other ∷ others)
+    else other ∷ put_by rank new others
 
 -- none precedes one in front of it
 abbrev pub falls_by : {A : Type 0} → (A → Rank) → List A → Bool
 falls_by rank [] = true
-falls_by rank (first ∷ others) = list_all (λ other. not (precedes (rank other) (rank first))) others && falls_by rank others
+falls_by rank (first ∷ others) = list_all (λ other. not (precedes (rank other) (rank first))) others
+    && falls_by rank others

@@ -1,5 +1,6 @@
 -- The entries that live, in one list: by kind and key, then by priority downward, ties by creation.
-use Rattle.std.specs.Prelude.{ℕ, Bool, true, not, ◌&&◌, ◌==◌, List, length, map, filter, if◌then◌else◌, bytes_eq}
+use Rattle.std.specs.Prelude.{ℕ, Bool, true, not, ◌&&◌, ◌==◌, List, length, map, filter}
+use Rattle.std.specs.Prelude.{if◌then◌else◌, bytes_eq}
 use Rattle.std.specs.List.{list_any}
 use Rattle.wc_hooks.specs.declared.entry.Entry.{Entry}
 use Rattle.wc_hooks.specs.declared.entry.HookId.{HookId}
@@ -66,4 +67,11 @@ entry_of row = record { id = row.id; owner = row.owner }
 
 -- an entry that was just hooked
 abbrev pub new_row : HookId → HookKind → List ℕ → ℕ → Owner → HookRow
-new_row id kind key priority owner = record { id = id; kind = kind; key = key; priority = priority; owner = owner; enabled = true }
+new_row id kind key priority owner = record {
+  id = id;
+  kind = kind;
+  key = key;
+  priority = priority;
+  owner = owner;
+  enabled = true;
+}

@@ -1,5 +1,7 @@
 -- The slots in which entries are filed, and what an open pass sees of them.
-use Rattle.std.specs.Prelude.{◌≡◌, ℕ, ◌+◌, ◌≤◌, Bool, true, false, not, ◌&&◌, ◌||◌, ◌==◌, nat_lt, nat_le, Option, Some, None, List, [], ◌∷◌, map, filter, find, length, take, drop, bytes_eq, if◌then◌else◌}
+use Rattle.std.specs.Prelude.{◌≡◌, ℕ, ◌+◌, ◌≤◌, Bool, true, false, not, ◌&&◌, ◌||◌}
+use Rattle.std.specs.Prelude.{◌==◌, nat_lt, nat_le, Option, Some, None, List, [], ◌∷◌, map, filter}
+use Rattle.std.specs.Prelude.{find, length, take, drop, bytes_eq, if◌then◌else◌}
 use Rattle.std.specs.List.{list_all, list_any}
 use Rattle.wc_hooks.specs.declared.cursor.Cursor.{Cursor}
 use Rattle.wc_hooks.specs.declared.entry.Entry.{Entry}
@@ -27,13 +29,25 @@ abbrev pub is_slot_for : HookKind → List ℕ → Slot → Bool
 is_slot_for kind key slot = same_kind slot.kind kind && bytes_eq slot.key key
 
 abbrev pub row_of : Slot → HookRow
-row_of slot = record { id = slot.id; kind = slot.kind; key = slot.key; priority = slot.priority; owner = slot.owner; enabled = slot.enabled }
+row_of slot = record {
+  id = slot.id;
+  kind = slot.kind;
+  key = slot.key;
+  priority = slot.priority;
+  owner = slot.owner;
+  enabled = slot.enabled;
+}
 
 abbrev pub slot_entry : Slot → Entry
 slot_entry slot = record { id = slot.id; owner = slot.owner }
 
 abbrev pub slot_filing : Slot → Filing
-slot_filing slot = record { id = slot.id; kind = slot.kind; key = slot.key; priority = slot.priority }
+slot_filing slot = record {
+  id = slot.id;
+  kind = slot.kind;
+  key = slot.key;
+  priority = slot.priority;
+}
 
 abbrev pub live_rows : List Slot → List HookRow
 live_rows slots = map row_of (filter is_live slots)
@@ -70,13 +84,15 @@ abbrev pub with_leave : HookId → Slot → Slot
 with_leave id slot = if is_slot id slot then gone_from slot else slot
 
 abbrev pub left_slots : HookId → Bool → List Slot → List Slot
-left_slots id stays slots = if stays then map (with_leave id) slots else filter (λ slot. not (is_slot id slot)) slots
+left_slots id stays slots = if stays then map (with_leave id) slots
+    else filter (λ slot. not (is_slot id slot)) slots
 
 abbrev pub seen_opening : ℕ → Slot → Slot
 seen_opening place slot = record slot { past = opened_at place slot.past }
 
 abbrev pub with_opening : ℕ → HookKind → List ℕ → Slot → Slot
-with_opening place kind key slot = if is_slot_for kind key slot then seen_opening place slot else slot
+with_opening place kind key slot = if is_slot_for kind key slot
+    then seen_opening place slot else slot
 
 -- the slots that a pass goes through
 abbrev pub window : Cursor → List Slot → List Slot
@@ -84,26 +100,35 @@ window cursor slots = take cursor.count (drop cursor.start slots)
 
 -- those of them that it has not looked at
 abbrev pub ahead : ℕ → Cursor → List Slot → List Slot
-ahead place cursor slots = filter (in_snapshot place cursor.hooked) (drop cursor.seen (window cursor slots))
+ahead place cursor slots = filter (in_snapshot place cursor.hooked)
+    (drop cursor.seen (window cursor slots))
 
 abbrev pub first_topic : List Slot → Option Topic
 first_topic [] = None
 first_topic (slot ∷ slots) = Some (record { kind = slot.kind; key = slot.key })
 
 abbrev pub going_at : ℕ → Cursor → List Slot → Going
-going_at place cursor slots = record { left = map slot_entry (ahead place cursor slots); looked = cursor.looked; over = first_topic (window cursor slots) }
+going_at place cursor slots = record {
+  left = map slot_entry (ahead place cursor slots);
+  looked = cursor.looked;
+  over = first_topic (window cursor slots);
+}
 
 -- the passes, place by place
 abbrev pub goings : ℕ → List Slot → List (Option Cursor) → List (Option Going)
 goings place slots [] = []
 goings place slots (None ∷ cursors) = None ∷ goings (place + 1) slots cursors
-goings place slots (Some cursor ∷ cursors) = Some (going_at place cursor slots) ∷ goings (place + 1) slots cursors
+goings place slots (Some cursor ∷ cursors) = Some (going_at place cursor slots) ∷ goings
+    (place + 1) slots cursors
 
 -- a slot was put in at this place
 abbrev pub moved_cursor : ℕ → Cursor → Cursor
 moved_cursor at cursor =
     if nat_le at cursor.start then record cursor { start = cursor.start + 1 } else
-    if nat_lt at (cursor.start + cursor.count) then record cursor { count = cursor.count + 1; seen = if nat_lt at (cursor.start + cursor.seen) then cursor.seen + 1 else cursor.seen }
+    if nat_lt at (cursor.start + cursor.count) then record cursor {
+      count = cursor.count + 1;
+      seen = if nat_lt at (cursor.start + cursor.seen) then cursor.seen + 1 else cursor.seen;
+    }
     else cursor
 
 abbrev pub moved_place : ℕ → Option Cursor → Option Cursor
@@ -130,7 +155,8 @@ pub record IsOrdered (hooked : ℕ) (slots : List Slot) : Type 0 where
   pub known : list_all (is_known hooked) slots ≡ true
 
 -- the slots of a kind and a key come after one another
-pub record IsRange (kind : HookKind) (key : List ℕ) (slots : List Slot) (start count : ℕ) : Type 0 where
+pub record IsRange (kind : HookKind) (key : List ℕ) (slots : List Slot) (start count : ℕ) :
+    Type 0 where
   pub inside : start + count ≤ length slots
   pub front : list_all (λ slot. not (is_slot_for kind key slot)) (take start slots) ≡ true
   pub here : list_all (is_slot_for kind key) (take count (drop start slots)) ≡ true
@@ -147,19 +173,22 @@ pub record CursorFits (hooked : ℕ) (slots : List Slot) (cursor : Cursor) : Typ
 abbrev pub AllCursorsFit : ℕ → List Slot → List (Option Cursor) → Type 0
 AllCursorsFit hooked slots [] = Unit {0}
 AllCursorsFit hooked slots (None ∷ cursors) = AllCursorsFit hooked slots cursors
-AllCursorsFit hooked slots (Some cursor ∷ cursors) = CursorFits hooked slots cursor × AllCursorsFit hooked slots cursors
+AllCursorsFit hooked slots (Some cursor ∷ cursors) = CursorFits hooked slots cursor
+    × AllCursorsFit hooked slots cursors
 
 -- a cursor whose ends can be moved by one
 abbrev pub is_low : Option Cursor → Bool
 is_low None = true
-is_low (Some cursor) = nat_lt (cursor.start + cursor.count) 18446744073709551615 && nat_le cursor.seen cursor.count
+is_low (Some cursor) = nat_lt (cursor.start + cursor.count) 18446744073709551615
+    && nat_le cursor.seen cursor.count
 
 abbrev pub found_entry : Option Slot → Option Entry
 found_entry None = None
 found_entry (Some slot) = Some (slot_entry slot)
 
 -- a pass goes on over the slots
-pub record Walked (slots : List Slot) (marks : List Entry) (place : ℕ) (old new : Cursor) (result : Option Entry) : Type 0 where
+pub record Walked (slots : List Slot) (marks : List Entry) (place : ℕ) (old new : Cursor)
+    (result : Option Entry) : Type 0 where
   pub given : result ≡ found_entry (find (may_go marks) (ahead place old slots))
   pub left : ahead place new slots ≡ following (may_go marks) (ahead place old slots)
   pub start : new.start ≡ old.start

@@ -1,11 +1,14 @@
 -- What contracts see of the table, and what each call makes of it.
-use Rattle.std.specs.Prelude.{◌≡◌, ℕ, ◌+◌, ◌≤◌, Bool, true, false, not, ◌&&◌, ◌==◌, nat_le, Option, Some, None, List, [], length, map, take, filter, is_some, replicate, if◌then◌else◌}
+use Rattle.std.specs.Prelude.{◌≡◌, ℕ, ◌+◌, ◌≤◌, Bool, true, false, not, ◌&&◌, ◌==◌, nat_le}
+use Rattle.std.specs.Prelude.{Option, Some, None, List, [], length, map, take, filter, is_some}
+use Rattle.std.specs.Prelude.{replicate, if◌then◌else◌}
 use Rattle.std.specs.List.{list_all, list_any, slice_set, slice_index_or}
 use Rattle.wc_hooks.specs.declared.entry.Entry.{Entry}
 use Rattle.wc_hooks.specs.declared.entry.HookId.{HookId}
 use Rattle.wc_hooks.specs.declared.kind.HookKind.{HookKind}
 use Rattle.wc_hooks.specs.Kinds.{is_relay}
-use Rattle.wc_hooks.specs.Rows.{HookRow, put_in, rows_filed, without, is_for, falls, is_id, lives, relays, others}
+use Rattle.wc_hooks.specs.Rows.{HookRow, put_in, rows_filed, without, is_for, falls, is_id, lives}
+use Rattle.wc_hooks.specs.Rows.{relays, others}
 use Rattle.wc_hooks.specs.Filings.{Filing, filing_of, with_filing, without_filing, filed_under}
 use Rattle.wc_hooks.specs.Passes.{hooks_on, due, entries_left, with_given, without_mark}
 
@@ -14,15 +17,16 @@ pub record Topic : Type 0 where
   pub kind : HookKind
   pub key : List ℕ
 
--- an open pass: the entries of its snapshot that were not looked at yet, how many entries it looked at, and the kind and
--- key that it goes through, if an entry was filed there at its opening
+-- an open pass: the entries of its snapshot that were not looked at yet, how many entries it looked
+-- at, and the kind and key that it goes through, if an entry was filed there at its opening
 pub record Going : Type 0 where
   pub left : List Entry
   pub looked : ℕ
   pub over : Option Topic
 
--- the entries that live, those that are marked as running, how many were ever hooked, what is filed, and at each place for
--- a pass the one that is open there; the last place is the one for relay sessions
+-- the entries that live, those that are marked as running, how many were ever hooked, what is
+-- filed, and at each place for a pass the one that is open there; the last place is the one for
+-- relay sessions
 pub record Table : Type 0 where
   pub rows : List HookRow
   pub marks : List Entry
@@ -82,16 +86,27 @@ is_full_for kind table = not (is_relay kind) && (others table.rows == 960)
 
 -- one more entry, with the next number
 abbrev pub with_row : HookRow → Table → Table
-with_row row table = record table { rows = put_in row table.rows; filed = with_filing (filing_of row) table.filed; hooked = table.hooked + 1 }
+with_row row table = record table {
+  rows = put_in row table.rows;
+  filed = with_filing (filing_of row) table.filed;
+  hooked = table.hooked + 1;
+}
 
--- under each kind and key are those that were there, and this one at its place where it is filed there
+-- under each kind and key are those that were there, and this one at its place where it is filed
+-- there
 abbrev pub IsFiled : HookRow → Table → Table → Type 0
 IsFiled row old new =
-    (kind : HookKind) (key : List ℕ) → rows_filed kind key new.rows ≡ (if is_for kind key row then put_in row (rows_filed kind key old.rows) else rows_filed kind key old.rows)
+    (kind : HookKind) (key : List ℕ) → rows_filed kind key new.rows ≡ (if is_for kind key row
+    then put_in row (rows_filed kind key old.rows) else rows_filed kind key old.rows)
 
 -- without the entry and its mark; it stays filed while a pass is open
 abbrev pub without_row : HookId → Table → Table
-without_row id table = record table { rows = without id table.rows; marks = without_mark id table.marks; filed = if any_open table.passes then table.filed else without_filing id table.filed }
+without_row id table = record table {
+  rows = without id table.rows;
+  marks = without_mark id table.marks;
+  filed = if any_open table.passes then table.filed
+      else without_filing id table.filed;
+}
 
 abbrev pub with_rows : List HookRow → Table → Table
 with_rows rows table = record table { rows = rows }
@@ -104,11 +119,16 @@ with_pass place pass table = record table { passes = slice_set table.passes plac
 
 -- the kind and key, if an entry is filed there
 abbrev pub topic_in : HookKind → List ℕ → List Filing → Option Topic
-topic_in kind key filings = if length (filed_under kind key filings) == 0 then None else Some (record { kind = kind; key = key })
+topic_in kind key filings = if length (filed_under kind key filings) == 0 then None
+    else Some (record { kind = kind; key = key })
 
 -- a pass of this kind and key that opens now
 abbrev pub opening : HookKind → List ℕ → Table → Going
-opening kind key table = record { left = hooks_on kind key table.rows; looked = 0; over = topic_in kind key table.filed }
+opening kind key table = record {
+  left = hooks_on kind key table.rows;
+  looked = 0;
+  over = topic_in kind key table.filed;
+}
 
 -- what the pass at this place gives next
 abbrev pub next_of : Table → ℕ → Option Entry
@@ -117,17 +137,27 @@ next_of table place = due table.rows table.marks (left_at table place)
 -- that is marked as running, what comes after it is left, and so many entries more were looked at
 abbrev pub after_next : Table → ℕ → ℕ → Table
 after_next table place steps =
-    with_pass place (Some (record { left = entries_left table.rows table.marks (left_at table place); looked = looked_at table place + steps; over = over_at table place }))
+    with_pass place (Some (record {
+      left = entries_left table.rows table.marks
+          (left_at table place);
+      looked = looked_at table place + steps;
+      over = over_at table place;
+    }))
     (with_marks (with_given (next_of table place) table.marks) table)
 
 -- no pass is open at this place; where none is open at all, only those that live are filed
 abbrev pub without_pass : ℕ → Table → Table
-without_pass place table = record table { passes = slice_set table.passes place None; filed = if any_open (slice_set table.passes place None) then table.filed else map filing_of table.rows }
+without_pass place table = record table {
+  passes = slice_set table.passes place None;
+  filed = if any_open (slice_set table.passes place None) then table.filed
+      else map filing_of table.rows;
+}
 
 -- the pass looked at no more entries than are filed under its kind and key
 abbrev pub is_within : List Filing → Option Topic → ℕ → Bool
 is_within filings None looked = looked == 0
-is_within filings (Some topic) looked = nat_le looked (length (filed_under topic.kind topic.key filings))
+is_within filings (Some topic) looked =
+    nat_le looked (length (filed_under topic.kind topic.key filings))
 
 abbrev pub is_bounded : Table → ℕ → Bool
 is_bounded table place = is_within table.filed (over_at table place) (looked_at table place)

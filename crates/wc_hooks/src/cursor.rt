@@ -2,8 +2,8 @@ ghost use Rattle.std.specs.Prelude.{◌≡◌, map, true};
 ghost use Rattle.std.specs.List.{list_all};
 ghost use Rattle.wc_hooks.specs.Slots.{moved_place, is_low};
 
-/// Where an open pass is: the slots of its kind and key, how many of them lie after it, how many entries had been
-/// hooked as it opened, and how many it looked at.
+/// Where an open pass is: the slots of its kind and key, how many of them lie after it, how many
+/// entries had been hooked as it opened, and how many it looked at.
 #[derive(Clone, Copy, Debug, Drop)]
 pub struct Cursor {
     pub start: usize,
@@ -13,8 +13,8 @@ pub struct Cursor {
     pub looked: usize,
 }
 
-/// The cursor after a slot was put in at this place. One that is put in among the slots of the pass is no part of it, but
-/// is among them.
+/// The cursor after a slot was put in at this place. One that is put in among the slots of the pass
+/// is no part of it, but is among them.
 fn moved(place: Option<Cursor>, at: usize) -> Option<Cursor>
     requires { is_low place ≡ true }
     ensures { result ≡ moved_place at place }

@@ -1,4 +1,5 @@
-//! The table of hooks: who wants to run for which kind of happening, and the passes that go through them.
+//! The table of hooks: who wants to run for which kind of happening, and the passes that go through
+//! them.
 #![tactic(auto)]
 
 mod cursor;

@@ -3,8 +3,9 @@ ghost use Rattle.wc_hooks.specs.Past.{was_at, opened_at, noted};
 
 const ALL_PLACES: u32 = u32::MAX;
 
-/// Two words with a bit for each place of a pass. The first tells whether the entry was enabled or disabled since the pass
-/// of that place opened, and where it was, the second tells whether it was enabled then.
+/// Two words with a bit for each place of a pass. The first tells whether the entry was enabled or
+/// disabled since the pass of that place opened, and where it was, the second tells whether it was
+/// enabled then.
 #[derive(Clone, Copy, Debug, Drop)]
 pub struct Past {
     pub changed: u32,

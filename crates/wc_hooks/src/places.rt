@@ -1,4 +1,5 @@
-ghost use Rattle.std.specs.Prelude.{◌≡◌, ◌<◌, ◌≤◌, None, Some, position, is_none, replicate, is_some, length, take, if◌then◌else◌, true, IfOk};
+ghost use Rattle.std.specs.Prelude.{◌≡◌, ◌<◌, ◌≤◌, None, Some, position, is_none, replicate};
+ghost use Rattle.std.specs.Prelude.{is_some, length, take, if◌then◌else◌, true, IfOk};
 ghost use Rattle.std.specs.List.{list_any, slice_index_or, slice_set};
 ghost use Rattle.wc_hooks.specs.declared.cursor.Cursor.{Cursor};
 ghost use Rattle.wc_hooks.specs.Kinds.{is_relay};

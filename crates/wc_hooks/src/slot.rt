@@ -1,7 +1,9 @@
 ghost use Rattle.std.specs.Prelude.{◌≡◌, ◌<◌, ◌&&◌};
 ghost use Rattle.std.specs.Ordering.{is_lt};
 ghost use Rattle.wc_hooks.specs.Ranks.{precedes, topic_order};
-ghost use Rattle.wc_hooks.specs.Slots.{slot_rank, is_slot, is_live, is_slot_for, slot_entry, in_snapshot, may_go, with_slot_switch, with_leave, with_opening};
+ghost use Rattle.wc_hooks.specs.Slots.{slot_rank, is_slot, is_live, is_slot_for, slot_entry};
+ghost use Rattle.wc_hooks.specs.Slots.{in_snapshot, may_go, with_slot_switch, with_leave};
+ghost use Rattle.wc_hooks.specs.Slots.{with_opening};
 
 use crate::entry::{Entry, HookId, Owner};
 use crate::kind::HookKind;
@@ -72,7 +74,8 @@ impl Slot {
         }
     }
 
-    /// Whether the snapshot of the pass of this place has it, which opened when so many entries had been hooked.
+    /// Whether the snapshot of the pass of this place has it, which opened when so many entries had
+    /// been hooked.
     pub fn is_in_snapshot(&self, place: usize, hooked: u64) -> bool
         requires { place < 32 }
         ensures { result ≡ in_snapshot place hooked self.now }
@@ -81,7 +84,8 @@ impl Slot {
         self.id.0 <= hooked && was
     }
 
-    /// Whether it is enabled, and none of its owner is marked as running. One that is gone is not enabled.
+    /// Whether it is enabled, and none of its owner is marked as running. One that is gone is not
+    /// enabled.
     pub fn may_go(&self, marks: &[Entry]) -> bool
         ensures { result ≡ may_go marks.now self.now }
     {
@@ -98,7 +102,8 @@ impl Slot {
         }
     }
 
-    /// It is gone where it is the one with this number. No pass that opens later has it, so it is disabled.
+    /// It is gone where it is the one with this number. No pass that opens later has it, so it is
+    /// disabled.
     pub fn leave(&mut self, id: HookId)
         ensures { self.new ≡ with_leave id self.old }
     {

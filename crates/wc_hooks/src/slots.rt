@@ -1,8 +1,10 @@
 //! The entries that are filed, in the order of kinds, keys and priorities.
-ghost use Rattle.std.specs.Prelude.{◌≡◌, ◌≤◌, ◌<◌, ◌+◌, ◌^◌, ◌&&◌, length, map, filter, insert, IfOk, OnErr, true, []};
+ghost use Rattle.std.specs.Prelude.{◌≡◌, ◌≤◌, ◌<◌, ◌+◌, ◌^◌, ◌&&◌, length, map, filter};
+ghost use Rattle.std.specs.Prelude.{insert, IfOk, OnErr, true, []};
 ghost use Rattle.std.specs.List.{slice_index_or, list_any};
 ghost use Rattle.wc_hooks.specs.Ranks.{put_by, falls_by};
-ghost use Rattle.wc_hooks.specs.Slots.{slot_rank, is_slot, is_live, live_relays, live_others, with_slot_switch, left_slots, with_opening, Walked, IsRange};
+ghost use Rattle.wc_hooks.specs.Slots.{slot_rank, is_slot, is_live, live_relays, live_others};
+ghost use Rattle.wc_hooks.specs.Slots.{with_slot_switch, left_slots, with_opening, Walked, IsRange};
 
 use crate::cursor::Cursor;
 use crate::entry::{Entry, HookId};
@@ -42,7 +44,8 @@ impl Slots {
     pub fn put(&mut self, slot: Slot) -> Result<usize, NoMemory>
         ensures within { IfOk result (λ at. at ≤ length self.old) }
         ensures there { IfOk result (λ at. self.new ≡ insert self.old at slot) }
-        ensures order { IfOk result (λ at. insert self.old at slot ≡ put_by slot_rank slot self.old) }
+        ensures order { IfOk result (λ at. insert self.old at slot
+            ≡ put_by slot_rank slot self.old) }
         ensures short { IfOk result (λ at. length self.old + 1 < 2 ^ 64) }
         ensures err { OnErr result (self.new ≡ self.old) }
     {
@@ -105,8 +108,8 @@ impl Slots {
         self.items.retain(|slot| !slot.gone);
     }
 
-    /// A pass over this kind and key opens at this place. Gives where its slots begin, and how many they are; no other is
-    /// changed.
+    /// A pass over this kind and key opens at this place. Gives where its slots begin, and how many
+    /// they are; no other is changed.
     pub fn open(&mut self, place: usize, kind: HookKind, key: &Text) -> (usize, usize)
         requires place { place < 32 }
         requires falls { falls_by slot_rank self.old ≡ true }
@@ -123,8 +126,12 @@ impl Slots {
         requires there { cursor.old.seen < cursor.old.count }
         requires inside { cursor.old.start + cursor.old.count ≤ length self.now }
         requires counted { cursor.old.looked ≤ cursor.old.seen }
-        ensures slot { result.now ≡ slice_index_or self.now (cursor.old.start + cursor.old.seen) result.now }
-        ensures cursor { cursor.new ≡ record cursor.old { seen = cursor.old.seen + 1; looked = cursor.old.looked + 1 } }
+        ensures slot { result.now ≡ slice_index_or self.now (cursor.old.start + cursor.old.seen)
+            result.now }
+        ensures cursor { cursor.new ≡ record cursor.old {
+          seen = cursor.old.seen + 1;
+          looked = cursor.old.looked + 1;
+        } }
         ensures step { steps.new ≡ steps.old + 1 }
     {
         let slot = &self.items[cursor.start + cursor.seen];
@@ -135,7 +142,7 @@ impl Slots {
     }
 
     /// The next entry of the pass of this place that may run.
-    #[tactic(auto, using(crate::proofs::Walks::on_way, crate::proofs::Walks::way_past, crate::proofs::Walks::way_found, crate::proofs::Walks::way_end))]
+    #[tactic(auto, using(crate::proofs::Walks::next_facts))]
     pub fn next<L: Ledger>(
         &self,
         marks: &[Entry],
@@ -161,7 +168,7 @@ impl Slots {
 }
 
 /// Where a slot goes: after all but those that it precedes.
-#[tactic(auto, using(crate::proofs::Puts::put_front, crate::proofs::Puts::put_here, crate::proofs::Puts::put_last))]
+#[tactic(auto, using(crate::proofs::Puts::place_of_facts))]
 fn place_of(slots: &[Slot], slot: &Slot) -> usize
     ensures within { result ≤ length slots.now }
     ensures place { insert slots.now result slot.now ≡ put_by slot_rank slot.now slots.now }

@@ -3,7 +3,8 @@ ghost use Rattle.std.specs.Prelude.{◌≡◌, ◌+◌, ◌<◌};
 use std::marker::Model;
 use std::sync::ledger::{Blank, Book, Ledger, Share};
 
-/// How many entries were looked at for passes. It takes no bytes, and only a look at an entry adds to it.
+/// How many entries were looked at for passes. It takes no bytes, and only a look at an entry adds
+/// to it.
 #[derive(Drop)]
 pub struct Steps<L: Ledger> {
     book: Book<L>,

@@ -1,10 +1,17 @@
-ghost use Rattle.std.specs.Prelude.{◌≤◌, is_some, ◌≡◌, ◌≢◌, ◌+◌, ◌-◌, ◌^◌, ◌<◌, ◌==◌, ℕ, List, true, false, None, Some, IsTrue, IfOk, IfSome, IfNone, OnErr, is_none, IsOkUnless, Ok, Err, if◌then◌else◌};
+ghost use Rattle.std.specs.Prelude.{◌≤◌, is_some, ◌≡◌, ◌≢◌, ◌+◌, ◌-◌, ◌^◌, ◌<◌};
+ghost use Rattle.std.specs.Prelude.{◌==◌, ℕ, List, true, false, None, Some, IsTrue, IfOk, IfSome};
+ghost use Rattle.std.specs.Prelude.{IfNone, OnErr, is_none, IsOkUnless, Ok, Err, if◌then◌else◌};
 ghost use Rattle.wc_hooks.specs.declared.kind.HookKind.{HookKind};
 ghost use Rattle.wc_hooks.specs.declared.refused.HookRefused.{HookRefused};
 ghost use Rattle.wc_hooks.specs.Kinds.{is_relay};
-ghost use Rattle.wc_hooks.specs.Rows.{new_row, without, rows_switched, lives, relays, others, rows_filed};
+ghost use Rattle.wc_hooks.specs.Rows.{new_row, without, rows_switched, lives, relays, others};
+ghost use Rattle.wc_hooks.specs.Rows.{rows_filed};
 ghost use Rattle.wc_hooks.specs.Passes.{without_mark};
-ghost use Rattle.wc_hooks.specs.Table.{new_table, with_row, without_row, with_rows, with_marks, with_pass, without_pass, opening, pass_at, looked_at, IsOpen, has_no_place, is_place_for, is_full_for, is_bounded, next_of, after_next, IsHookTable, IsFiled, IsUnusedId, other_passes};
+ghost use Rattle.wc_hooks.specs.Table.{new_table, with_row, without_row, with_rows, with_marks};
+ghost use Rattle.wc_hooks.specs.Table.{with_pass, without_pass, opening, pass_at, looked_at};
+ghost use Rattle.wc_hooks.specs.Table.{IsOpen, has_no_place, is_place_for, is_full_for, is_bounded};
+ghost use Rattle.wc_hooks.specs.Table.{next_of, after_next, IsHookTable, IsFiled, IsUnusedId};
+ghost use Rattle.wc_hooks.specs.Table.{other_passes};
 
 use crate::cursor::{Cursor, move_all};
 use crate::entry::{Entry, HookId, Owner};
@@ -44,12 +51,14 @@ impl Model for Pass {
 
 /// The entries that are hooked, and the passes that go through them.
 ///
-/// A pass takes the enabled entries of its kind and key as they are at its opening, by priority downward, ties by creation.
-/// At each turn it gives the first of those left that lives, is enabled, and of whose owner no entry is marked as running.
-/// Entries may be hooked, unhooked and switched, and further passes opened, while passes are open.
+/// A pass takes the enabled entries of its kind and key as they are at its opening, by priority
+/// downward, ties by creation. At each turn it gives the first of those left that lives, is
+/// enabled, and of whose owner no entry is marked as running. Entries may be hooked, unhooked and
+/// switched, and further passes opened, while passes are open.
 ///
-/// A pass copies nothing: it is a place in the entries of its kind and key. So an entry that is unhooked while a pass is open
-/// stays filed until the last pass is closed, and each entry notes what it was as each open pass opened.
+/// A pass copies nothing: it is a place in the entries of its kind and key. So an entry that is
+/// unhooked while a pass is open stays filed until the last pass is closed, and each entry notes
+/// what it was as each open pass opened.
 #[derive(Drop)]
 pub struct HookTable {
     slots: Slots,
@@ -91,9 +100,10 @@ impl HookTable {
         })
     }
 
-    /// Hooks an entry under a kind and a key, after those of its priority or a higher one. It is enabled, is not running,
-    /// and has a number that no entry had. `TooMany` exactly where the kind is not `Relay` and 960 entries of other kinds
-    /// than `Relay` live. After a refusal nothing changed.
+    /// Hooks an entry under a kind and a key, after those of its priority or a higher one. It is
+    /// enabled, is not running, and has a number that no entry had. `TooMany` exactly where the
+    /// kind is not `Relay` and 960 entries of other kinds than `Relay` live. After a refusal
+    /// nothing changed.
     pub fn hook(
         &mut self,
         alloc: Global,
@@ -105,10 +115,13 @@ impl HookTable {
         requires relays { IsTrue (is_relay kind) → relays self.old.rows < 64 }
         requires numbers { self.old.hooked < 2 ^ 64 - 1 }
         ensures number { IfOk result (λ id. id.0 ≡ self.old.hooked + 1) }
-        ensures filed { IfOk result (λ id. self.new ≡ with_row (new_row id kind key.now priority owner) self.old) }
-        ensures by_key { IfOk result (λ id. IsFiled (new_row id kind key.now priority owner) self.old self.new) }
+        ensures filed { IfOk result
+            (λ id. self.new ≡ with_row (new_row id kind key.now priority owner) self.old) }
+        ensures by_key { IfOk result
+            (λ id. IsFiled (new_row id kind key.now priority owner) self.old self.new) }
         ensures fresh { IfOk result (λ id. IsUnusedId id self.old) }
-        ensures too_many { IsTrue (is_full_for kind self.old) → result ≡ Err (HookRefused.TooMany 960) }
+        ensures too_many { IsTrue (is_full_for kind self.old) →
+            result ≡ Err (HookRefused.TooMany 960) }
         ensures room { is_full_for kind self.old ≡ false → IsOkUnless result HookRefused.NoMemory }
         ensures err { OnErr result (self.new ≡ self.old) }
     {
@@ -134,8 +147,10 @@ impl HookTable {
         requires others { is_full_for kind self.old ≡ false }
         requires numbers { self.old.hooked < 2 ^ 64 - 1 }
         ensures number { IfOk result (λ id. id.0 ≡ self.old.hooked + 1) }
-        ensures filed { IfOk result (λ id. self.new ≡ with_row (new_row id kind key.now priority owner) self.old) }
-        ensures by_key { IfOk result (λ id. IsFiled (new_row id kind key.now priority owner) self.old self.new) }
+        ensures filed { IfOk result
+            (λ id. self.new ≡ with_row (new_row id kind key.now priority owner) self.old) }
+        ensures by_key { IfOk result
+            (λ id. IsFiled (new_row id kind key.now priority owner) self.old self.new) }
         ensures fresh { IfOk result (λ id. IsUnusedId id self.old) }
         ensures err { OnErr result (self.new ≡ self.old) }
     {
@@ -159,12 +174,14 @@ impl HookTable {
         Ok(id)
     }
 
-    /// Takes the entry out, with its mark of running. False exactly where no entry with this number lives; then nothing changes.
+    /// Takes the entry out, with its mark of running. False exactly where no entry with this number
+    /// lives; then nothing changes.
     pub fn unhook(&mut self, id: HookId) -> bool
         ensures found { result ≡ lives id self.old.rows }
         ensures after { self.new ≡ without_row id self.old }
         ensures missing { result ≡ false → self.new ≡ self.old }
-        ensures by_key { (kind : HookKind) (key : List ℕ) → rows_filed kind key self.new.rows ≡ without id (rows_filed kind key self.old.rows) }
+        ensures by_key { (kind : HookKind) (key : List ℕ) → rows_filed kind key self.new.rows
+            ≡ without id (rows_filed kind key self.old.rows) }
     {
         if !self.slots.lives(id) {
             return false;
@@ -178,31 +195,37 @@ impl HookTable {
         true
     }
 
-    /// Enables or disables the entry. False exactly where no entry with this number lives; then nothing changes.
+    /// Enables or disables the entry. False exactly where no entry with this number lives; then
+    /// nothing changes.
     pub fn set_enabled(&mut self, id: HookId, on: bool) -> bool
         ensures found { result ≡ lives id self.old.rows }
         ensures after { self.new ≡ with_rows (rows_switched id on self.old.rows) self.old }
         ensures missing { result ≡ false → self.new ≡ self.old }
-        ensures by_key { (kind : HookKind) (key : List ℕ) → rows_filed kind key self.new.rows ≡ rows_switched id on (rows_filed kind key self.old.rows) }
+        ensures by_key { (kind : HookKind) (key : List ℕ) → rows_filed kind key self.new.rows
+            ≡ rows_switched id on (rows_filed kind key self.old.rows) }
     {
         let found = self.slots.lives(id);
         self.slots.switch(id, on);
         found
     }
 
-    /// Opens a pass over the entries of a kind and a key. None exactly where the kind is not `Relay` and 16 passes of other
-    /// kinds than `Relay` are open; then nothing changes. It takes no memory.
+    /// Opens a pass over the entries of a kind and a key. None exactly where the kind is not
+    /// `Relay` and 16 passes of other kinds than `Relay` are open; then nothing changes. It takes
+    /// no memory.
     pub fn open_pass(&mut self, kind: HookKind, key: &Text) -> Option<Pass>
         requires { IsTrue (is_relay kind) → pass_at self.old 16 ≡ None }
         ensures none { is_none result ≡ has_no_place kind self.old }
         ensures refused { IfNone result (self.new ≡ self.old) }
         ensures place { IfSome result (λ pass. is_place_for kind pass ≡ true) }
         ensures free { IfSome result (λ pass. pass_at self.old pass ≡ None) }
-        ensures opened { IfSome result (λ pass. self.new ≡ with_pass pass (Some (opening kind key.now self.old)) self.old) }
+        ensures opened { IfSome result
+            (λ pass. self.new ≡ with_pass pass (Some (opening kind key.now self.old)) self.old) }
         ensures is_open { IfSome result (λ pass. IsOpen self.new pass) }
         ensures apart { IfSome result (λ pass. (place : ℕ) → IsOpen self.old place → place ≢ pass) }
-        ensures others { (place : ℕ) → IsOpen self.old place → pass_at self.new place ≡ pass_at self.old place }
-        ensures count { IfSome result (λ pass. other_passes self.new ≡ (if is_relay kind then other_passes self.old else other_passes self.old + 1)) }
+        ensures others { (place : ℕ) → IsOpen self.old place → pass_at self.new place
+            ≡ pass_at self.old place }
+        ensures count { IfSome result (λ pass. other_passes self.new
+            ≡ (if is_relay kind then other_passes self.old else other_passes self.old + 1)) }
     {
         let place = place_for(self.cursors.as_slice(), kind)?;
         let (start, count) = self.slots.open(place, kind, key);
@@ -217,20 +240,23 @@ impl HookTable {
         Some(Pass { place })
     }
 
-    /// The next entry of the pass that lives, is enabled, and of whose owner no entry is marked as running. It is marked as
-    /// running. None exactly where no entry that is left may run. It takes no memory.
+    /// The next entry of the pass that lives, is enabled, and of whose owner no entry is marked as
+    /// running. It is marked as running. None exactly where no entry that is left may run. It takes
+    /// no memory.
     ///
-    /// A step is one entry looked at. Over all calls of one pass the steps are at most the entries that are filed under its
-    /// kind and key, and none where none was filed there as it opened.
+    /// A step is one entry looked at. Over all calls of one pass the steps are at most the entries
+    /// that are filed under its kind and key, and none where none was filed there as it opened.
     pub fn next<L: Ledger>(&mut self, pass: &mut Pass, steps: &mut Steps<L>) -> Option<Entry>
         requires { IsOpen self.old pass.old }
         ensures given { result ≡ next_of self.old pass.old }
         ensures after { self.new ≡ after_next self.old pass.old (steps.new - steps.old) }
-        ensures steps { steps.new + looked_at self.old pass.old ≡ steps.old + looked_at self.new pass.old }
+        ensures steps { steps.new + looked_at self.old pass.old
+            ≡ steps.old + looked_at self.new pass.old }
         ensures bound { is_bounded self.new pass.old ≡ true }
         ensures pass { pass.new ≡ pass.old }
         ensures is_open { IsOpen self.new pass.new }
-        ensures others { (place : ℕ) → place ≢ pass.old → pass_at self.new place ≡ pass_at self.old place }
+        ensures others { (place : ℕ) → place ≢ pass.old → pass_at self.new place
+            ≡ pass_at self.old place }
         ensures count { other_passes self.new ≡ other_passes self.old }
     {
         let mut cursor = cursor_at(&self.cursors, pass.place);
@@ -254,7 +280,8 @@ impl HookTable {
         requires { IsOpen self.old pass }
         ensures after { self.new ≡ without_pass pass self.old }
         ensures closed { pass_at self.new pass ≡ None }
-        ensures others { (place : ℕ) → place ≢ pass → pass_at self.new place ≡ pass_at self.old place }
+        ensures others { (place : ℕ) → place ≢ pass → pass_at self.new place
+            ≡ pass_at self.old place }
         ensures count { pass < 16 → other_passes self.new + 1 ≡ other_passes self.old }
     {
         let Pass { place } = pass;

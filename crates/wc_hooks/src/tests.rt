@@ -53,7 +53,8 @@ fn next_trigger<L: Ledger>(table: &mut HookTable, pass: &mut Pass, steps: &mut S
     ensures pass { pass.new ≡ pass.old }
     ensures is_open { IsOpen table.new pass.old }
     ensures hooked { table.new.hooked ≡ table.old.hooked }
-    ensures others { (place : ℕ) → place ≢ pass.old → pass_at table.new place ≡ pass_at table.old place }
+    ensures others { (place : ℕ) → place ≢ pass.old → pass_at table.new place
+        ≡ pass_at table.old place }
 {
     match table.next(pass, steps) {
         Some(entry) => match entry.owner {
@@ -70,7 +71,8 @@ fn next_five<L: Ledger>(table: &mut HookTable, pass: &mut Pass, steps: &mut Step
     ensures pass { pass.new ≡ pass.old }
     ensures is_open { IsOpen table.new pass.old }
     ensures hooked { table.new.hooked ≡ table.old.hooked }
-    ensures others { (place : ℕ) → place ≢ pass.old → pass_at table.new place ≡ pass_at table.old place }
+    ensures others { (place : ℕ) → place ≢ pass.old → pass_at table.new place
+        ≡ pass_at table.old place }
 {
     let first = next_trigger(table, pass, steps);
     let second = next_trigger(table, pass, steps);
@@ -112,8 +114,8 @@ fn entries_come_by_priority_and_then_by_creation(rt: HostRuntime) -> Result<(), 
     Ok(())
 }
 
-/// Hooks an entry of this priority after the first entry ran. Gives the first, how many were looked at in the end, and the
-/// others.
+/// Hooks an entry of this priority after the first entry ran. Gives the first, how many were looked
+/// at in the end, and the others.
 fn with_late_entry<L: Ledger>(
     table: &mut HookTable,
     alloc: Global,
@@ -186,8 +188,8 @@ fn an_entry_unhooked_or_disabled_earlier_in_the_pass_does_not_run(
     Ok(())
 }
 
-/// After the first entry ran, the second is enabled, which was disabled at the opening, and the third is disabled and
-/// enabled again.
+/// After the first entry ran, the second is enabled, which was disabled at the opening, and the
+/// third is disabled and enabled again.
 fn with_switched_entries<L: Ledger>(
     table: &mut HookTable,
     key: &Text,
@@ -263,7 +265,8 @@ fn an_inner_pass_passes_over_an_owner_that_runs_and_leaves_the_outer_pass_its_ne
     Ok(())
 }
 
-/// Unhooks the second entry in an inner pass. Gives what the outer pass gives then, and a pass after its closing.
+/// Unhooks the second entry in an inner pass. Gives what the outer pass gives then, and a pass
+/// after its closing.
 fn with_unhooked_entry<L: Ledger>(
     table: &mut HookTable,
     key: &Text,
@@ -326,8 +329,9 @@ fn crowded_table(alloc: Global, key: &Text) -> Result<HookTable, HookRefused>
     Ok(table)
 }
 
-/// While the first entry runs, the second is unhooked, a fourth is hooked, and an inner pass is opened. Gives the first,
-/// what the inner pass gives, what the outer pass gives then, and how many entries that looked at.
+/// While the first entry runs, the second is unhooked, a fourth is hooked, and an inner pass is
+/// opened. Gives the first, what the inner pass gives, what the outer pass gives then, and how many
+/// entries that looked at.
 fn reentrant<L: Ledger>(
     table: &mut HookTable,
     alloc: Global,
@@ -375,7 +379,8 @@ fn a_pass_looks_at_the_entries_of_its_own_kind_and_key_alone(rt: HostRuntime) ->
     Ok(())
 }
 
-/// How many passes can be opened inside one another, and whether a Relay pass can be opened in the innermost.
+/// How many passes can be opened inside one another, and whether a Relay pass can be opened in the
+/// innermost.
 fn nested(table: &mut HookTable, key: &Text, most: u32) -> (u32, bool)
     ensures within { result.0 ≤ most }
     ensures open { (place : ℕ) → IsOpen table.old place → IsOpen table.new place }

@@ -36,10 +36,12 @@ message_from source command rest = record {
 }
 
 unfoldable pub refusal_of : List ℕ → LineRefused
-refusal_of text = if is_filled (past 32 text) then Refusals.BadCommand (length text - length (call_of text)) else Refusals.Empty
+refusal_of text = if is_filled (past 32 text)
+    then Refusals.BadCommand (length text - length (call_of text)) else Refusals.Empty
 
 -- the message that a text spells, or why it spells none
 unfoldable pub reading_of : List ℕ → Result Message LineRefused
 reading_of text =
-    if is_command (word_of (call_of text)) then Ok (message_from (source_of text) (word_of (call_of text)) (rest_of (call_of text)))
+    if is_command (word_of (call_of text))
+    then Ok (message_from (source_of text) (word_of (call_of text)) (rest_of (call_of text)))
     else Err (refusal_of text)

@@ -4,7 +4,8 @@ use Rattle.std.specs.Char.{to_ascii_lowercase}
 use Rattle.wc_ircmsg.specs.declared.case_map.CaseMap.{CaseMap}
 use Rattle.wc_ircmsg.specs.declared.case_map.CaseMap.TheVariants.{Ascii, Rfc1459, StrictRfc1459}
 
--- the signs that a map folds beside the letters, each with the sign that it counts as: `[`, `\`, `]` and `~`
+-- the signs that a map folds beside the letters, each with the sign that it counts as: `[`, `\`,
+-- `]` and `~`
 abbrev pub folded_signs : CaseMap → List (ℕ × ℕ)
 folded_signs Ascii = []
 folded_signs StrictRfc1459 = (91, 123) ∷ (92, 124) ∷ (93, 125) ∷ []

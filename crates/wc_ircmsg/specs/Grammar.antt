@@ -10,7 +10,8 @@ use Rattle.wc_ircmsg.specs.Commands.{is_command}
 use Rattle.wc_ircmsg.specs.Sources.{or_empty, Names}
 use Rattle.wc_ircmsg.specs.Params.{SpellsParams}
 
--- What is before the command: blanks, a first word of tags or none, which `@` marks, and a prefix or none, which
+-- What is before the command: blanks, a first word of tags or none, which `@` marks, and a prefix
+-- or none, which
 -- `:` marks and which names the source. The call is what follows.
 pub record Front (text source call : List ℕ) : Type 0 where
   pub margin : ℕ

@@ -11,8 +11,8 @@ text_with_mark mark (Some text) = mark ∷ text
 abbrev pub or_empty : Option (List ℕ) → List ℕ
 or_empty text = unwrap_or text []
 
--- A source is a nick or the name of a server, after `!` a user or none, and after `@` a host or none. The nick has
--- neither mark, and the user has no `@`.
+-- A source is a nick or the name of a server, after `!` a user or none, and after `@` a host or
+-- none. The nick has neither mark, and the user has no `@`.
 pub record Names (source nick user host : List ℕ) : Type 0 where
   pub user_part : Option (List ℕ)
   pub host_part : Option (List ℕ)

@@ -1,5 +1,6 @@
 -- How messages are written.
-use Rattle.std.specs.Prelude.{ℕ, ◌≤◌, Bool, true, not, ◌&&◌, ◌||◌, ◌==◌, List, [], ◌∷◌, ◌++◌, if◌then◌else◌, length, IsTrue}
+use Rattle.std.specs.Prelude.{ℕ, ◌≤◌, Bool, true, not, ◌&&◌, ◌||◌, ◌==◌, List, [], ◌∷◌}
+use Rattle.std.specs.Prelude.{◌++◌, if◌then◌else◌, length, IsTrue}
 use Rattle.std.specs.List.{list_all, list_any}
 use Rattle.wc_ircmsg.specs.declared.message.Message.{Message}
 use Rattle.wc_ircmsg.specs.Commands.{is_command}
@@ -45,4 +46,10 @@ abbrev pub line_of : Message → List ℕ
 line_of message = message.command ++ params_text message.params
 
 abbrev pub without_prefix : Message → Message
-without_prefix message = record { nick = []; user = []; host = []; command = message.command; params = message.params }
+without_prefix message = record {
+  nick = [];
+  user = [];
+  host = [];
+  command = message.command;
+  params = message.params;
+}

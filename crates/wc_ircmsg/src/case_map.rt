@@ -27,7 +27,8 @@ impl CaseMap {
 }
 
 fn are_same(map: CaseMap, a: &[u8], b: &[u8]) -> bool
-    ensures { result ≡ list_all (λ p. fold_by (folded_signs map) p.0 == fold_by (folded_signs map) p.1) (zip a.now b.now) }
+    ensures { result ≡ list_all (λ p. fold_by (folded_signs map) p.0 ==
+        fold_by (folded_signs map) p.1) (zip a.now b.now) }
 {
     a.iter().zip(b).all(|(x, y)| map.fold(*x) == map.fold(*y))
 }

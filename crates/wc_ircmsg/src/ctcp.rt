@@ -1,4 +1,5 @@
-ghost use Rattle.std.specs.Prelude.{◌≡◌, ◌≢◌, ◌∷◌, ◌++◌, [], ℕ, List, IfSome, IsSomeAnd, MatchOption};
+ghost use Rattle.std.specs.Prelude.{◌≡◌, ◌≢◌, ◌∷◌, ◌++◌, [], ℕ, List, IfSome, IsSomeAnd};
+ghost use Rattle.std.specs.Prelude.{MatchOption};
 ghost use Rattle.wc_ircmsg.specs.Ctcp.{IsCtcp};
 
 use crate::source::or_empty;
@@ -6,7 +7,8 @@ use wc_text::split_once;
 
 /// What is between a first and a last byte 01.
 fn quoted(text: &[u8]) -> Option<&[u8]>
-    ensures { MatchOption result ((inner : List ℕ) → text.now ≢ 1 ∷ (inner ++ 1 ∷ [])) (λ inner. text.now ≡ 1 ∷ (inner.now ++ 1 ∷ [])) }
+    ensures { MatchOption result ((inner : List ℕ) → text.now ≢ 1 ∷ (inner ++ 1 ∷ []))
+        (λ inner. text.now ≡ 1 ∷ (inner.now ++ 1 ∷ [])) }
 {
     let (first, text_after) = text.split_first()?;
     let (last, inner) = text_after.split_last()?;
@@ -16,12 +18,14 @@ fn quoted(text: &[u8]) -> Option<&[u8]>
     Some(inner)
 }
 
-/// The word and the arguments of a CTCP message: what is between a first and a last byte 01, parted at the first
-/// blank. Without a blank the arguments are empty. None exactly where the text does not begin and end with such a
-/// byte of its own, or no word comes after the first. It takes no memory.
+/// The word and the arguments of a CTCP message: what is between a first and a last byte 01, parted
+/// at the first blank. Without a blank the arguments are empty. None exactly where the text does
+/// not begin and end with such a byte of its own, or no word comes after the first. It takes no
+/// memory.
 pub fn read_ctcp(text: &[u8]) -> Option<(&[u8], &[u8])>
     ensures found { IfSome result (λ parts. IsCtcp text.now parts.0.now parts.1.now) }
-    ensures only { (word arguments : List ℕ) → IsCtcp text.now word arguments → IsSomeAnd result (λ parts. (parts.0.now ≡ word) × (parts.1.now ≡ arguments)) }
+    ensures only { (word arguments : List ℕ) → IsCtcp text.now word arguments →
+        IsSomeAnd result (λ parts. (parts.0.now ≡ word) × (parts.1.now ≡ arguments)) }
 {
     let inner = quoted(text)?;
     let (word, arguments) = split_once(inner, b' ');

@@ -12,8 +12,8 @@ fn without_first(text: &[u8]) -> &[u8]
     }
 }
 
-/// A first word that the byte marks, without the byte, and what follows it after blanks. Where the text does not
-/// begin with the byte these are nothing and the text.
+/// A first word that the byte marks, without the byte, and what follows it after blanks. Where the
+/// text does not begin with the byte these are nothing and the text.
 pub(crate) fn cut_marked(text: &[u8], mark: u8) -> (&[u8], &[u8])
     ensures word { result.0.now ≡ marked_word mark text.now }
     ensures rest { result.1.now ≡ after_marked mark text.now }

@@ -7,8 +7,8 @@ use wc_text::{Items, NoMemory, Text, cut_word};
 /// The most parameters that a line has.
 pub const MOST_PARAMS: usize = 15;
 
-/// The parameter at the front of a text, and what is left after it, where so many more may come. After a `:` it is
-/// all that is left, and so it is where no more may come.
+/// The parameter at the front of a text, and what is left after it, where so many more may come.
+/// After a `:` it is all that is left, and so it is where no more may come.
 fn cut_param(text: &[u8], more: usize) -> (&[u8], &[u8])
     ensures param { result.0.now ≡ first_of more text.now }
     ensures rest { result.1.now ≡ after_first more text.now }

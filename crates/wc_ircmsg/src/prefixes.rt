@@ -1,4 +1,5 @@
-ghost use Rattle.std.specs.Prelude.{◌≡◌, ◌==◌, ◌&&◌, nat_eq, length, Some, IfOk, IfSome, option_map};
+ghost use Rattle.std.specs.Prelude.{◌≡◌, ◌==◌, ◌&&◌, nat_eq, length, Some, IfOk, IfSome};
+ghost use Rattle.std.specs.Prelude.{option_map};
 ghost use Rattle.std.specs.Str.{chars};
 ghost use Rattle.wc_ircmsg.specs.Tokens.{each_once, parts_of, are_modes, are_chars, SpellsPrefixes};
 ghost use Rattle.wc_ircmsg.specs.declared.prefixes.Prefixes.{Prefixes};
@@ -7,8 +8,8 @@ use crate::command::is_name;
 use std::alloc::{AllocError, Global};
 use wc_text::{NoMemory, Text, split_once};
 
-/// The modes that a member of a channel may have, and the character that shows each, from the highest on. There are
-/// as many characters as modes.
+/// The modes that a member of a channel may have, and the character that shows each, from the
+/// highest on. There are as many characters as modes.
 #[derive(Drop)]
 pub struct Prefixes {
     pub modes: Text,
@@ -53,7 +54,8 @@ fn characters(alloc: Global, text: &str) -> Result<Vec<char>, AllocError>
 }
 
 fn each_char_once(alloc: Global, text: &str, count: usize) -> Result<bool, NoMemory>
-    ensures { IfOk result (λ once. once ≡ ((length (chars text.now) == count) && each_once nat_eq (chars text.now))) }
+    ensures { IfOk result (λ once. once ≡ ((length (chars text.now) == count) && each_once nat_eq
+        (chars text.now))) }
 {
     let characters = characters(alloc, text)?;
     Ok(characters.len() == count && each_once(characters.as_slice()))
@@ -70,11 +72,14 @@ fn are_chars(alloc: Global, chars: &[u8], count: usize) -> Result<bool, NoMemory
     }
 }
 
-/// The modes and characters of a server's token PREFIX, whose value is `(`, letters, `)` and as many characters, as in
-/// `(ov)@+`. None exactly where the value has another form, has no mode, or has a letter or a character twice.
+/// The modes and characters of a server's token PREFIX, whose value is `(`, letters, `)` and as
+/// many characters, as in
+/// `(ov)@+`. None exactly where the value has another form, has no mode, or has a letter or a
+/// character twice.
 pub fn read_prefix_token(alloc: Global, value: &[u8]) -> Result<Option<Prefixes>, NoMemory>
     ensures found { IfOk result (λ read. IfSome read (SpellsPrefixes value.now)) }
-    ensures only { IfOk result (λ read. (prefixes : Prefixes) → SpellsPrefixes value.now prefixes → read ≡ Some prefixes) }
+    ensures only { IfOk result (λ read. (prefixes : Prefixes) → SpellsPrefixes value.now prefixes →
+        read ≡ Some prefixes) }
 {
     let Some((modes, chars)) = cut_token(value) else {
         return Ok(None);

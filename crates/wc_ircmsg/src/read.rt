@@ -1,4 +1,5 @@
-ghost use Rattle.std.specs.Prelude.{◌≡◌, ◌≢◌, ◌↔◌, ◌⊎◌, ℕ, List, Ok, Err, IfOk, IfErr, length};
+ghost use Rattle.std.specs.Prelude.{◌≡◌, ◌≢◌, ◌↔◌, ◌⊎◌, ℕ, List, Ok, Err, IfOk, IfErr};
+ghost use Rattle.std.specs.Prelude.{length};
 ghost use Rattle.wc_text.specs.Lossy.{lossy_of};
 ghost use Rattle.wc_ircmsg.specs.Answers.{source_of, call_of, message_from, refusal_of, reading_of};
 ghost use Rattle.wc_ircmsg.specs.Grammar.{SpellsLine, RefusesLine, ReadsLine};
@@ -15,7 +16,8 @@ use crate::source::cut_source;
 use std::alloc::Global;
 use wc_text::{NoMemory, Text, cut_word, lossy, past_blanks};
 
-/// The prefix at the front of a text, without its `:`, and from the command on. Tags are passed over.
+/// The prefix at the front of a text, without its `:`, and from the command on. Tags are passed
+/// over.
 #[tactic(auto, unfolding(crate::specs::Answers::source_of, crate::specs::Answers::call_of, crate::specs::Answers::untagged_of))]
 fn cut_front(text: &[u8]) -> (&[u8], &[u8])
     ensures source { result.0.now ≡ source_of text.now }
@@ -62,7 +64,8 @@ fn refusal(text: &[u8], call: &[u8]) -> LineRefused
 #[tactic(auto, unfolding(crate::specs::Answers::reading_of))]
 fn read_text(alloc: Global, text: &[u8]) -> Result<Message, LineRefused>
     ensures read { IfOk result (λ message. reading_of text.now ≡ Ok message) }
-    ensures refused { IfErr result (λ refused. refused ≢ LineRefused.NoMemory → reading_of text.now ≡ Err refused) }
+    ensures refused { IfErr result (λ refused. refused ≢ LineRefused.NoMemory → reading_of text.now
+        ≡ Err refused) }
 {
     let (prefix, call) = cut_front(text);
     let (command, rest) = cut_word(call);
@@ -72,24 +75,29 @@ fn read_text(alloc: Global, text: &[u8]) -> Result<Message, LineRefused>
     Ok(message(alloc, prefix, command, rest)?)
 }
 
-/// The message that a line spells in the grammar of RFC 1459 and RFC 2812. The line comes without its CR LF, and its
-/// bytes are made UTF-8 by `lossy` first.
+/// The message that a line spells in the grammar of RFC 1459 and RFC 2812. The line comes without
+/// its CR LF, and its bytes are made UTF-8 by `lossy` first.
 ///
-/// Blanks may are in front, and where one has to are there may be more. A first word that begins with `@`, the
-/// tags, is passed over. Of a prefix the nick goes up to the first `!` or `@`, the user up to the first `@`.
-/// A parameter after a `:` takes the rest of the line, and so does the fifteenth without one.
+/// Blanks may are in front, and where one has to are there may be more. A first word that begins
+/// with `@`, the tags, is passed over. Of a prefix the nick goes up to the first `!` or `@`, the
+/// user up to the first `@`. A parameter after a `:` takes the rest of the line, and so does the
+/// fifteenth without one.
 ///
-/// Refused as `Empty` exactly where the line has no word, and as `BadCommand` exactly where no command of letters or
-/// of three digits comes after tags and prefix.
+/// Refused as `Empty` exactly where the line has no word, and as `BadCommand` exactly where no
+/// command of letters or of three digits comes after tags and prefix.
 pub fn read_line(alloc: Global, line: &[u8]) -> Result<Message, LineRefused>
-    // What is read is spelled so, what is spelled so is read, and a line is refused only for its reason.
+    // What is read is spelled so, what is spelled so is read, and a line is refused only for its
+    // reason.
     ensures read { IfOk result (ReadsLine line.now) }
-    ensures only { (message : Message) → ReadsLine line.now message → (result ≡ Ok message) ⊎ (result ≡ Err LineRefused.NoMemory) }
-    ensures refused { IfErr result (λ refused. refused ≢ LineRefused.NoMemory → RefusesLine (lossy_of line.now) refused) }
+    ensures only { (message : Message) → ReadsLine line.now message → (result ≡ Ok message)
+        ⊎ (result ≡ Err LineRefused.NoMemory) }
+    ensures refused { IfErr result (λ refused. refused ≢ LineRefused.NoMemory →
+        RefusesLine (lossy_of line.now) refused) }
 
     // Which answer it is, if memory is found.
     ensures computed { IfOk result (λ message. reading_of (lossy_of line.now) ≡ Ok message) }
-    ensures refusal { IfErr result (λ refused. refused ≢ LineRefused.NoMemory → reading_of (lossy_of line.now) ≡ Err refused) }
+    ensures refusal { IfErr result (λ refused. refused ≢ LineRefused.NoMemory →
+        reading_of (lossy_of line.now) ≡ Err refused) }
 
     // Each text of the message is UTF-8.
     ensures texts { IfOk result MessageIsUtf8 }
@@ -98,11 +106,14 @@ pub fn read_line(alloc: Global, line: &[u8]) -> Result<Message, LineRefused>
     read_text(alloc, text.as_slice())
 }
 
-/// A text spells one message or is refused for one reason, which are those that are computed; and the line that is
-/// written of a message spells it without its prefix.
+/// A text spells one message or is refused for one reason, which are those that are computed; and
+/// the line that is written of a message spells it without its prefix.
 pub fn one_message()
     ensures one { (text : List ℕ) (a b : Message) → SpellsLine text a → SpellsLine text b → a ≡ b }
-    ensures spells { (text : List ℕ) (message : Message) → SpellsLine text message ↔ (reading_of text ≡ Ok message) }
-    ensures refuses { (text : List ℕ) (refused : LineRefused) → RefusesLine text refused ↔ (reading_of text ≡ Err refused) }
-    ensures written { (message : Message) → IsWritable message → SpellsLine (line_of message) (without_prefix message) }
+    ensures spells { (text : List ℕ) (message : Message) →
+        SpellsLine text message ↔ (reading_of text ≡ Ok message) }
+    ensures refuses { (text : List ℕ) (refused : LineRefused) →
+        RefusesLine text refused ↔ (reading_of text ≡ Err refused) }
+    ensures written { (message : Message) → IsWritable message →
+        SpellsLine (line_of message) (without_prefix message) }
 {}

@@ -2,7 +2,8 @@ ghost use Rattle.std.specs.Prelude.{◌≡◌, ◌↔◌, ◌++◌, ◌∷◌, [
 ghost use Rattle.std.specs.List.{list_all};
 ghost use Rattle.wc_ircmsg.specs.Grammar.{SpellsLine, ReadsLine};
 ghost use Rattle.wc_ircmsg.specs.Utf8.{AreUtf8Texts};
-ghost use Rattle.wc_ircmsg.specs.Written.{needs_colon, are_words, ends_lines, is_one_line, params_text, line_of, without_prefix, IsWritable};
+ghost use Rattle.wc_ircmsg.specs.Written.{needs_colon, are_words, ends_lines, is_one_line};
+ghost use Rattle.wc_ircmsg.specs.Written.{params_text, line_of, without_prefix, IsWritable};
 
 use crate::command::is_command;
 use crate::message::Message;
@@ -48,8 +49,9 @@ fn are_in_one_line(params: &[Text]) -> bool
     params.iter().all(|param| is_one_line(param.as_slice()))
 }
 
-/// Whether a line can spell the message: its command is letters or three digits, it has at most 15 parameters, only
-/// the last of them is empty, has a blank or begins with `:`, and none has CR, LF or NUL.
+/// Whether a line can spell the message: its command is letters or three digits, it has at most 15
+/// parameters, only the last of them is empty, has a blank or begins with `:`, and none has CR, LF
+/// or NUL.
 pub fn is_writable(message: &Message) -> bool
     ensures { IsTrue result ↔ IsWritable message.now }
 {
@@ -87,8 +89,9 @@ fn put_params(text: &mut Text, params: &[Text]) -> Result<(), NoMemory>
     Ok(())
 }
 
-/// The line of a message, without its prefix and without CR LF: its command and its parameters, each after a blank.
-/// A `:` is before the last one exactly where that is empty, has a blank or begins with `:`.
+/// The line of a message, without its prefix and without CR LF: its command and its parameters,
+/// each after a blank. A `:` is before the last one exactly where that is empty, has a blank or
+/// begins with `:`.
 pub fn write_line(alloc: Global, message: &Message) -> Result<Text, NoMemory>
     requires { IsWritable message.now }
     ensures written { IfOk result (λ text. text ≡ line_of message.now) }
@@ -98,7 +101,8 @@ pub fn write_line(alloc: Global, message: &Message) -> Result<Text, NoMemory>
 
     // It spells the message without its prefix, and is read so where the parameters are UTF-8.
     ensures spells { IfOk result (λ text. SpellsLine text (without_prefix message.now)) }
-    ensures reads_back { AreUtf8Texts message.now.params → IfOk result (λ text. ReadsLine text (without_prefix message.now)) }
+    ensures reads_back { AreUtf8Texts message.now.params →
+        IfOk result (λ text. ReadsLine text (without_prefix message.now)) }
 {
     let mut text = message.command.copy(alloc)?;
     put_params(&mut text, message.params.as_slice())?;

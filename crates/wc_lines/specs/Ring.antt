@@ -1,5 +1,6 @@
 -- What the calls do to the lines.
-use Rattle.std.specs.Prelude.{ℕ, ◌-◌, Bool, ◌==◌, List, [], ◌∷◌, ◌++◌, length, drop, Option, Some, None, if◌then◌else◌}
+use Rattle.std.specs.Prelude.{ℕ, ◌-◌, Bool, ◌==◌, List, [], ◌∷◌, ◌++◌, length, drop, Option, Some}
+use Rattle.std.specs.Prelude.{None, if◌then◌else◌}
 use Rattle.std.specs.List.{list_any, position, slice_get}
 use Rattle.wc_text.specs.declared.names.Handle.{Handle}
 use Rattle.wc_lines.specs.declared.line.Line.{Line}
@@ -38,7 +39,8 @@ has_content content lines = list_any (λ line. line.content.0 == content.0) line
 abbrev pub set_displayed : Handle → Bool → List Line → List Line
 set_displayed content on [] = []
 set_displayed content on (line ∷ lines) =
-    if line.content.0 == content.0 then record line { displayed = on } ∷ lines else line ∷ set_displayed content on lines
+    if line.content.0 == content.0 then record line { displayed = on } ∷ lines
+    else line ∷ set_displayed content on lines
 
 abbrev pub with_displayed : Handle → Bool → RingView → RingView
 with_displayed content on held = record held { lines = set_displayed content on held.lines }

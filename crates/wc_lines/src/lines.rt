@@ -1,8 +1,10 @@
-ghost use Rattle.std.specs.Prelude.{◌≡◌, ◌≤◌, ◌++◌, ◌∷◌, [], length, map, IfOk, IfSome, All, IsTrue, ◌↔◌, option_copied};
+ghost use Rattle.std.specs.Prelude.{◌≡◌, ◌≤◌, ◌++◌, ◌∷◌, [], length, map, IfOk, IfSome, All};
+ghost use Rattle.std.specs.Prelude.{IsTrue, ◌↔◌, option_copied};
 ghost use Rattle.std.specs.Iterator.{YieldsFirstRef, item_count};
 ghost use Rattle.wc_lines.specs.Flags.{flag_at, with_own_flag, with_flags};
 ghost use Rattle.wc_lines.specs.Held.{no_lines};
-ghost use Rattle.wc_lines.specs.Ring.{with_line, pushed_out, without_lines, with_displayed, has_content, place_of, newest};
+ghost use Rattle.wc_lines.specs.Ring.{with_line, pushed_out, without_lines, with_displayed};
+ghost use Rattle.wc_lines.specs.Ring.{has_content, place_of, newest};
 ghost use Rattle.wc_lines.specs.LinesLeft.{lines_left};
 ghost use Rattle.wc_lines.specs.LineText.{HasUtf8Texts};
 
@@ -15,7 +17,8 @@ use wc_text::{Handle, NoMemory};
 /// Whether lines are displayed, by their content handles.
 pub type Flags = HashMap<u64, bool>;
 
-/// The newest lines of a buffer, up to a limit. Contracts see the limit and the list, from the oldest.
+/// The newest lines of a buffer, up to a limit. Contracts see the limit and the list, from the
+/// oldest.
 ///
 /// The room for all of them is taken at the making, so that no later call takes memory.
 #[derive(Drop)]
@@ -47,7 +50,8 @@ impl Lines {
         Ok(Lines { limit, queue })
     }
 
-    /// Puts a line after the others. Where as many as the limit are held, the oldest is first taken out and given back.
+    /// Puts a line after the others. Where as many as the limit are held, the oldest is first taken
+    /// out and given back.
     pub fn push(&mut self, line: Line) -> Option<Line>
         requires { HasUtf8Texts line }
         ensures held { self.new ≡ with_line self.old line }
@@ -105,8 +109,8 @@ impl Lines {
         self.queue.back()
     }
 
-    /// Sets whether the line with this content handle is displayed, the oldest such line where there are several.
-    /// False where there is none; then nothing changes.
+    /// Sets whether the line with this content handle is displayed, the oldest such line where
+    /// there are several. False where there is none; then nothing changes.
     pub fn set_displayed(&mut self, content: Handle, on: bool) -> bool
         ensures lines { self.new ≡ with_displayed content on self.old }
         ensures found { result ≡ has_content content self.old.lines }
@@ -118,7 +122,8 @@ impl Lines {
         true
     }
 
-    /// Gives each line the flag that is at its content handle. A line that has none is left as it is.
+    /// Gives each line the flag that is at its content handle. A line that has none is left as it
+    /// is.
     pub fn set_flags(&mut self, flags: &Flags)
         ensures { self.new ≡ with_flags (flag_at flags.now) self.old }
     {

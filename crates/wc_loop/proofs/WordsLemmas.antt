@@ -31,3 +31,6 @@ names_none folder word value rest others following e q f t = rw (e, q, f, t) ref
 
 pub names_last : (folder : Option (List ℕ)) (word : List ℕ) (rest others : List (List ℕ)) → rest ≡ word ∷ others → others ≡ [] → folder_from folder rest ≡ folder
 names_last folder word rest others e q = rw (e, q) refl
+
+-- what `read_words` needs
+pub ruleset read_words_facts = (version_step, lone_step)

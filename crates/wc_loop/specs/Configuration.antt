@@ -1,5 +1,6 @@
 -- The configuration: what its lines set.
-use Rattle.std.specs.Prelude.{ℕ, ◌+◌, Bool, ◌&&◌, ◌||◌, List, [], ◌∷◌, if◌then◌else◌, ◌==◌, bytes_eq, Option, Some, None, Result, Ok, Err, codes}
+use Rattle.std.specs.Prelude.{ℕ, ◌+◌, Bool, ◌&&◌, ◌||◌, List, [], ◌∷◌, if◌then◌else◌}
+use Rattle.std.specs.Prelude.{◌==◌, bytes_eq, Option, Some, None, Result, Ok, Err, codes}
 use Rattle.std.specs.Option.{option_map_or}
 use Rattle.std.specs.Str.{is_utf8}
 use Rattle.wc_options.specs.Config.{is_passed_over, version_line}
@@ -18,7 +19,8 @@ abbrev pub seen_settings : Given → Settings
 seen_settings given = record { password = given.password.now; limit = given.limit }
 
 abbrev pub with_password : Settings → List ℕ → Option Settings
-with_password settings value = if value_fits Text value then Some (record settings { password = value }) else None
+with_password settings value = if value_fits Text value
+    then Some (record settings { password = value }) else None
 
 abbrev pub with_limit : Settings → Option ℕ → Option Settings
 with_limit settings None = None
@@ -28,7 +30,8 @@ with_limit settings (Some limit) = Some (record settings { limit = limit })
 abbrev pub with_value : Settings → List ℕ → List ℕ → Option Settings
 with_value settings name value =
     if bytes_eq name (codes "relay.network.password") then with_password settings value else (
-    if bytes_eq name (codes "weechat.history.max_buffer_lines_number") then with_limit settings (number_in 1 4096 value) else None)
+    if bytes_eq name (codes "weechat.history.max_buffer_lines_number")
+    then with_limit settings (number_in 1 4096 value) else None)
 
 abbrev pub with_parts : Settings → Option (List ℕ × List ℕ) → Option Settings
 with_parts settings None = None
@@ -43,12 +46,16 @@ is_version_line number line = number == 1 && bytes_eq line version_line
 
 -- what is set after a line with a number, where it is readable
 abbrev pub after_line : ℕ → Settings → List ℕ → Option Settings
-after_line number settings line = if is_passed_over line || is_version_line number line then Some settings else with_line settings line
+after_line number settings line = if is_passed_over line || is_version_line number line
+    then Some settings else with_line settings line
 
--- what is set after lines, the first of which has this number, or the number of the first unreadable one
+-- what is set after lines, the first of which has this number, or the number of the first
+-- unreadable one
 abbrev pub after_lines : ℕ → Settings → List (List ℕ) → Result Settings ℕ
 after_lines number settings [] = Ok settings
-after_lines number settings (line ∷ lines) = option_map_or (λ following. after_lines (number + 1) following lines) (after_line number settings line) (Err number)
+after_lines number settings (line ∷ lines) =
+    option_map_or (λ following. after_lines (number + 1) following lines)
+    (after_line number settings line) (Err number)
 
 -- what a configuration sets, or the number of its first unreadable line
 unfoldable pub settings_in : List ℕ → Result Settings ℕ

@@ -1,15 +1,20 @@
 -- How a run ends, and what it prints.
-use Rattle.std.specs.Prelude.{ℕ, ◌≡◌, ◌≢◌, ◌≤◌, ◌⊎◌, Bool, true, false, not, List, [], ◌∷◌, ◌++◌, All, ◌&&◌, nat_le, Option, Some, None, Result, Ok, Err, IfSome, IsTrue, IsSomeAnd, if◌then◌else◌, ◌==◌, codes, decimal}
+use Rattle.std.specs.Prelude.{ℕ, ◌≡◌, ◌≢◌, ◌≤◌, ◌⊎◌, Bool, true, false, not, List, []}
+use Rattle.std.specs.Prelude.{◌∷◌, ◌++◌, All, ◌&&◌, nat_le, Option, Some, None, Result, Ok, Err}
+use Rattle.std.specs.Prelude.{IfSome, IsTrue, IsSomeAnd, if◌then◌else◌, ◌==◌, codes, decimal}
 use Rattle.std.specs.Io.KnownBytes.{append_known}
 use Rattle.wc_outside.specs.Faults.{Faults, Rose}
 use Rattle.wc_outside.specs.Seen.{Seen}
 use Rattle.wc_outside.specs.declared.asked.Asked.{Asked}
 use Rattle.wc_outside.specs.declared.asked.Asked.TheVariants.{Listen}
 use Rattle.wc_loop.specs.declared.ending.Ending.{Ending}
-use Rattle.wc_loop.specs.declared.ending.Ending.TheVariants.{Version, BadWord, WaitFailed, NoConfiguration, BadLine, NoMemory, ListenFailed, TurnsTaken, Quit}
+use Rattle.wc_loop.specs.declared.ending.Ending.TheVariants.{Version, BadWord, WaitFailed}
+use Rattle.wc_loop.specs.declared.ending.Ending.TheVariants.{NoConfiguration, BadLine, NoMemory}
+use Rattle.wc_loop.specs.declared.ending.Ending.TheVariants.{ListenFailed, TurnsTaken, Quit}
 use Rattle.wc_turns.specs.declared.headless.Headless.{Headless}
 use Rattle.wc_turns.specs.declared.turn_end.TurnEnd.{TurnEnd}
-use Rattle.wc_turns.specs.declared.turn_end.TurnEnd.TheVariants.{GoOn, Quit as ThenQuit, WaitFault, ListenFault, KeeperFault}
+use Rattle.wc_turns.specs.declared.turn_end.TurnEnd.TheVariants.{GoOn, Quit as ThenQuit, WaitFault}
+use Rattle.wc_turns.specs.declared.turn_end.TurnEnd.TheVariants.{ListenFault, KeeperFault}
 use Rattle.wc_loop.specs.declared.words.Wish.{Wish}
 use Rattle.wc_loop.specs.declared.configuration.Settings.{Settings}
 use Rattle.wc_loop.specs.Configuration.{settings_in}
@@ -25,7 +30,8 @@ kept_of headless = if headless.turns == 0 then None else Some headless
 -- the last state is there exactly where a wait returned, and tells how many did
 abbrev pub LastOf : Seen → Option Headless → Type 0
 LastOf seen None = IsTrue seen.tells → wake_count seen.taken ≡ 0
-LastOf seen (Some last) = (1 ≤ last.turns) × (IsTrue seen.tells → wake_count seen.taken ≡ last.turns)
+LastOf seen (Some last) = (1 ≤ last.turns)
+    × (IsTrue seen.tells → wake_count seen.taken ≡ last.turns)
 
 -- at most so many waits returned
 pub record WaitsAtMost (turns : ℕ) (seen : Seen) (last : Option Headless) : Type 0 where
@@ -37,21 +43,26 @@ abbrev pub HasQuit : Bool → Headless → Type 0
 HasQuit quits last = last.core.quits ≡ quits
 
 -- the status of a run with readable words that ask for this number of waits
-pub record Ends (turns : ℕ) (contents : Option (List ℕ)) (seen : Seen) (status : ℕ) (last : Option Headless) : Type 0 where
+pub record Ends (turns : ℕ) (contents : Option (List ℕ)) (seen : Seen) (status : ℕ)
+    (last : Option Headless) : Type 0 where
   -- no word decided it
   pub later : status ≢ 1
   pub known : status ≤ 8
   -- a line of the configuration is unreadable, and where one is, it was read
-  pub line : status ≡ 4 → IfSome contents (λ configuration. (settings : Settings) → settings_in configuration ≢ Ok settings)
-  pub unreadable : IfSome contents (λ configuration. (n : ℕ) → settings_in configuration ≡ Err n → status ≢ 3 → status ≢ 5 → status ≡ 4)
+  pub line : status ≡ 4 → IfSome contents (λ configuration. (settings : Settings) →
+      settings_in configuration ≢ Ok settings)
+  pub unreadable : IfSome contents (λ configuration. (n : ℕ) → settings_in configuration ≡ Err n →
+      status ≢ 3 → status ≢ 5 → status ≡ 4)
   -- `/quit` was run, and the listener did not fail
   pub quit : status ≡ 0 → IsSomeAnd last (HasQuit true)
   pub quit_told : status ≡ 0 → IsTrue seen.tells → listen_faults seen.taken ≡ 0
   pub quit_due : IsSomeAnd last (HasQuit true) → status ≢ 6 → status ≡ 0
   -- all waits returned, `/quit` was not run, and the listener did not fail
   pub all : status ≡ 8 → IsSomeAnd last (λ last. (last.turns ≡ turns) × HasQuit false last)
-  pub told : status ≡ 8 → IsTrue seen.tells → (wake_count seen.taken ≡ turns) × (listen_faults seen.taken ≡ 0)
-  pub due : IsTrue seen.tells → wake_count seen.taken ≡ turns → IfSome last (HasQuit false) → listen_faults seen.taken ≡ 0 → status ≡ 8
+  pub told : status ≡ 8 → IsTrue seen.tells → (wake_count seen.taken ≡ turns)
+      × (listen_faults seen.taken ≡ 0)
+  pub due : IsTrue seen.tells → wake_count seen.taken ≡ turns → IfSome last (HasQuit false) →
+      listen_faults seen.taken ≡ 0 → status ≡ 8
   pub failed : status ≡ 2 → IsTrue seen.tells → listen_faults seen.taken ≡ 0
   pub listened : status ≡ 6 → IsTrue seen.tells → 1 ≤ listen_faults seen.taken
   -- what comes before the first wait
@@ -65,7 +76,8 @@ StatusFor false turns contents seen status last = Ends turns contents seen statu
 -- the status of a run
 abbrev pub StatusOf : Result Wish ℕ → Option (List ℕ) → Seen → ℕ → Option Headless → Type 0
 StatusOf (Err n) contents seen status last = (status ≡ 1) × (last ≡ None)
-StatusOf (Ok wish) contents seen status last = StatusFor wish.version wish.turns contents seen status last
+StatusOf (Ok wish) contents seen status last = StatusFor wish.version wish.turns contents seen
+    status last
 
 -- a text and an LF
 abbrev pub line_of : List ℕ → List ℕ
@@ -80,7 +92,8 @@ abbrev pub asks_turns : Result Wish ℕ → Bool
 asks_turns (Err n) = false
 asks_turns (Ok wish) = not wish.version
 
--- what is printed for a status, with the number of a word or a line; the version where it was asked for
+-- what is printed for a status, with the number of a word or a line; the version where it was asked
+-- for
 abbrev pub printed_text : Bool → ℕ → ℕ → List ℕ
 printed_text version status number =
     if version then line_of (codes "wc-headless 1") else (
@@ -92,17 +105,20 @@ printed_text version status number =
     if status == 6 then line_of (codes "listen failed") else []))))))
 
 -- the number that is printed is that of the word with a fault, or of the unreadable line
-pub record IsNumber (wish : Result Wish ℕ) (contents : Option (List ℕ)) (status number : ℕ) : Type 0 where
+pub record IsNumber (wish : Result Wish ℕ) (contents : Option (List ℕ)) (status number : ℕ) :
+    Type 0 where
   pub word : status ≡ 1 → wish ≡ Err number
   pub line : status ≡ 4 → IfSome contents (λ configuration. settings_in configuration ≡ Err number)
 
 -- what the sink holds is what it held, and what is printed after it
-pub record Prints (wish : Result Wish ℕ) (contents : Option (List ℕ)) (status : ℕ) (before after : Option (List ℕ)) : Type 0 where
+pub record Prints (wish : Result Wish ℕ) (contents : Option (List ℕ)) (status : ℕ)
+    (before after : Option (List ℕ)) : Type 0 where
   pub number : ℕ
   pub is : IsNumber wish contents status number
   pub holds : after ≡ append_known before (printed_text (asks_version wish) status number)
 
--- what the sockets are asked for where words ask for turns: the listener, unless the run ended before
+-- what the sockets are asked for where words ask for turns: the listener, unless the run ended
+-- before
 abbrev pub asked_in : ℕ → List Asked
 asked_in status = if nat_le 3 status && nat_le status 5 then [] else Listen 9000 ∷ []
 
@@ -162,7 +178,8 @@ EndsAt KeeperFault ending = ⊥
 -- an end before the listener is asked for
 abbrev pub IsEarly : Option (List ℕ) → ℕ → ℕ → Ending → Type 0
 IsEarly contents kept kept' NoConfiguration = Rose kept kept'
-IsEarly contents kept kept' (BadLine n) = IfSome contents (λ configuration. settings_in configuration ≡ Err n)
+IsEarly contents kept kept' (BadLine n) =
+    IfSome contents (λ configuration. settings_in configuration ≡ Err n)
 IsEarly contents kept kept' NoMemory = Unit {0}
 IsEarly contents kept kept' Version = ⊥
 IsEarly contents kept kept' (BadWord n) = ⊥
@@ -172,39 +189,50 @@ IsEarly contents kept kept' TurnsTaken = ⊥
 IsEarly contents kept kept' Quit = ⊥
 
 -- the state after the last turn
-pub record IsLastState (contents : Option (List ℕ)) (before after : Seen) (last : Headless) : Type 0 where
+pub record IsLastState (contents : Option (List ℕ)) (before after : Seen) (last : Headless) :
+    Type 0 where
   pub headline : Headline contents after last
   pub agrees : AgreesWithSockets last after
   pub calm : NobodyLeaving last.core.connections
   pub causes : All (IsCaused before after) last.links.closed.items
 
 -- a run that was asked for this number of waits ends
-pub record Runs (turns : ℕ) (contents : Option (List ℕ)) (kept kept' : ℕ) (before after : Seen) (ending : Ending) (last : Option Headless) : Type 0 where
+pub record Runs (turns : ℕ) (contents : Option (List ℕ)) (kept kept' : ℕ) (before after : Seen)
+    (ending : Ending) (last : Option Headless) : Type 0 where
   pub ends : Ends turns contents after (status_of ending) last
-  pub line : status_of ending ≡ 4 → IfSome contents (λ configuration. settings_in configuration ≡ Err (number_of ending))
+  pub line : status_of ending ≡ 4 → IfSome contents (λ configuration. settings_in configuration
+      ≡ Err (number_of ending))
   pub version : tells_version ending ≡ false
   pub counted : LastOf after last
   pub most : WaitsAtMost turns after last
   pub left : IfSome last (IsLastState contents before after)
   -- after the last turn each source is served, and each link is written
-  pub served : status_of ending ≡ 8 → IfSome last (λ last. AllServed last.core.connections before after)
+  pub served : status_of ending ≡ 8 →
+      IfSome last (λ last. AllServed last.core.connections before after)
   -- after `/quit` each link is written once
   pub sent : status_of ending ≡ 0 → IfSome last (λ last. AllSent last.core.connections before after)
   pub faults : HasCause before.faults after.faults kept kept' (status_of ending)
   pub asked : IsTrue after.tells → after.asked ≡ asked_in (status_of ending)
 
 -- nothing is asked of the outside
-pub record AsksNothing (kept kept' : ℕ) (before after : Seen) (wanted ending : Ending) (last : Option Headless) : Type 0 where
+pub record AsksNothing (kept kept' : ℕ) (before after : Seen) (wanted ending : Ending)
+    (last : Option Headless) : Type 0 where
   pub ends : ending ≡ wanted
   pub none : last ≡ None
   pub seen : after ≡ before
   pub faults : kept' ≡ kept
 
-abbrev pub RunsFor : Bool → ℕ → Option (List ℕ) → ℕ → ℕ → Seen → Seen → Ending → Option Headless → Type 0
-RunsFor true turns contents kept kept' before after ending last = AsksNothing kept kept' before after Version ending last
-RunsFor false turns contents kept kept' before after ending last = Runs turns contents kept kept' before after ending last
+abbrev pub RunsFor : Bool → ℕ → Option (List ℕ) → ℕ → ℕ → Seen → Seen → Ending →
+    Option Headless → Type 0
+RunsFor true turns contents kept kept' before after ending last =
+    AsksNothing kept kept' before after Version ending last
+RunsFor false turns contents kept kept' before after ending last =
+    Runs turns contents kept kept' before after ending last
 
 -- the program ends, by its words
-abbrev pub RunsBy : Result Wish ℕ → Option (List ℕ) → ℕ → ℕ → Seen → Seen → Ending → Option Headless → Type 0
-RunsBy (Err n) contents kept kept' before after ending last = AsksNothing kept kept' before after (BadWord n) ending last
-RunsBy (Ok wish) contents kept kept' before after ending last = RunsFor wish.version wish.turns contents kept kept' before after ending last
+abbrev pub RunsBy : Result Wish ℕ → Option (List ℕ) → ℕ → ℕ → Seen → Seen → Ending →
+    Option Headless → Type 0
+RunsBy (Err n) contents kept kept' before after ending last = AsksNothing kept kept' before after
+    (BadWord n) ending last
+RunsBy (Ok wish) contents kept kept' before after ending last =
+    RunsFor wish.version wish.turns contents kept kept' before after ending last

@@ -1,5 +1,6 @@
 -- What a whole run hands to its clients.
-use Rattle.std.specs.Prelude.{ℕ, ◌≡◌, ◌≤◌, false, List, [], ◌++◌, Option, Some, None, IfSome, IsTrue, is_some, IfOk, Ok}
+use Rattle.std.specs.Prelude.{ℕ, ◌≡◌, ◌≤◌, false, List, [], ◌++◌, Option, Some, None, IfSome}
+use Rattle.std.specs.Prelude.{IsTrue, is_some, IfOk, Ok}
 use Rattle.wc_outside.specs.Seen.{Seen}
 use Rattle.wc_turns.specs.declared.headless.Headless.{Headless}
 use Rattle.wc_outside.specs.Keyed.{at_key}
@@ -19,29 +20,42 @@ use Rattle.wc_turns.specs.Events.{whole}
 use Rattle.wc_turns.specs.Served.{ReachesEvents}
 use Rattle.wc_turns.specs.Turns.{moment, point}
 
--- The state is that of the run over the events that were reached, from this one on; what is sent and then unsent on each open link is what the run owes; and what was sent on a closed link is a front of that, all of it unless there was no room as it was closed, or it failed.
+-- The state is that of the run over the events that were reached, from this one on; what is sent
+-- and then unsent on each open link is what the run owes; and what was sent on a closed link is a
+-- front of that, all of it unless there was no room as it was closed, or it failed.
 pub record HandsOut (first : State) (seen : Seen) (last : Headless) : Type 0 where
   pub events : List Event
   pub reaches : ReachesEvents false last.core.quits 0 last.ran (whole seen.taken) events
   pub state : state_of last.core ≡ (run first events).state
   pub quits : last.core.quits ≡ has_end (run first events).acts
-  pub links : (link : ℕ) → is_some (at_key link_number link last.links.opened.items) ≡ is_some (at_key client_link link (run first events).state.clients)
-  pub opened : (link : ℕ) (client : Client) → 1 ≤ link → at_key client_link link (run first events).state.clients ≡ Some client
-      → seen.sent link ++ unsent_on link last.core.connections ≡ sent_to link (run first events).acts
-  pub closed : (link : ℕ) → 1 ≤ link → link ≤ seen.used → at_key client_link link (run first events).state.clients ≡ None
+  pub links : (link : ℕ) → is_some (at_key link_number link last.links.opened.items)
+      ≡ is_some (at_key client_link link (run first events).state.clients)
+  pub opened : (link : ℕ) (client : Client) → 1 ≤ link →
+      at_key client_link link (run first events).state.clients ≡ Some client
+      → seen.sent link ++ unsent_on link last.core.connections
+      ≡ sent_to link (run first events).acts
+  pub closed : (link : ℕ) → 1 ≤ link → link ≤ seen.used →
+      at_key client_link link (run first events).state.clients ≡ None
       → IsFrontOf (sent_to link (run first events).acts) (point link (moment last seen))
 
 -- the same, where the sockets and the keeper tell what they hold and no growth was refused
 abbrev pub Headline : Option (List ℕ) → Seen → Headless → Type 0
 Headline contents seen last =
-    IfSome contents (λ configuration. IfOk (settings_in configuration) (λ settings. IsTrue seen.tells → last.core.starved ≡ 0 → HandsOut (first_state settings.password settings.limit) seen last))
+    IfSome contents (λ configuration. IfOk (settings_in configuration)
+    (λ settings. IsTrue seen.tells → last.core.starved ≡ 0 →
+    HandsOut (first_state settings.password settings.limit) seen last))
 
--- Where that is so, each client that settled by the dump of a part, the lines of all buffers, the buffers in their groups or the nicklists, has exactly this part of the world, by the bytes that were sent to it and those that are unsent.
+-- Where that is so, each client that settled by the dump of a part, the lines of all buffers, the
+-- buffers in their groups or the nicklists, has exactly this part of the world, by the bytes that
+-- were sent to it and those that are unsent.
 abbrev pub ClientsHoldDumps : Option (List ℕ) → Seen → Headless → Type 0
 ClientsHoldDumps contents seen last =
     IfSome contents (λ configuration. IfOk (settings_in configuration) (λ settings.
-    (handed : HandsOut (first_state settings.password settings.limit) seen last) (which : HeldPart) (link : ℕ) (id : List ℕ) → 1 ≤ link → SettledBy which link id (first_state settings.password settings.limit) handed.events
-    → ShowsPart which settings.limit id (seen.sent link ++ unsent_on link last.core.connections) last.core.world))
+    (handed : HandsOut (first_state settings.password settings.limit) seen last) (which : HeldPart)
+    (link : ℕ) (id : List ℕ) → 1 ≤ link →
+    SettledBy which link id (first_state settings.password settings.limit) handed.events
+    → ShowsPart which settings.limit id (seen.sent link ++ unsent_on link last.core.connections)
+    last.core.world))
 
 -- a state that a configuration sets
 pub record IsConfigured (headless : Headless) (configuration : List ℕ) : Type 0 where

@@ -1,5 +1,7 @@
 -- What the words of a call ask.
-use Rattle.std.specs.Prelude.{ℕ, ◌+◌, ◌^◌, Bool, true, false, ◌&&◌, List, [], ◌∷◌, if◌then◌else◌, nat_le, Option, Some, None, Result, Ok, Err, codes, ℤ, pos, negsuc}
+use Rattle.std.specs.Prelude.{ℕ, ◌+◌, ◌^◌, Bool, true, false, ◌&&◌, List, [], ◌∷◌}
+use Rattle.std.specs.Prelude.{if◌then◌else◌, nat_le, Option, Some, None, Result, Ok, Err, codes, ℤ}
+use Rattle.std.specs.Prelude.{pos, negsuc}
 use Rattle.std.specs.Str.{bytes_eq}
 use Rattle.wc_text.specs.Integer.{integer_of}
 use Rattle.wc_loop.specs.declared.words.Wish.{Wish}
@@ -26,14 +28,18 @@ abbrev pub with_number : Option ℕ → ℕ → (ℕ → Result Wish ℕ) → Re
 with_number (Some n) place others = others n
 with_number None place others = Err place
 
--- what words ask after the first `place` of them, which asked `wish`; or the number of the first one with a fault
+-- what words ask after the first `place` of them, which asked `wish`; or the number of the first
+-- one with a fault
 abbrev pub wish_from : ℕ → Wish → List (List ℕ) → Result Wish ℕ
 wish_from place wish [] = Ok wish
-wish_from place wish (word ∷ []) = if is_version word then Ok (record wish { version = true }) else Err (place + 1)
+wish_from place wish (word ∷ []) = if is_version word then Ok (record wish { version = true })
+    else Err (place + 1)
 wish_from place wish (word ∷ value ∷ words) =
-    if is_version word then wish_from (place + 1) (record wish { version = true }) (value ∷ words) else (
+    if is_version word then wish_from (place + 1) (record wish { version = true })
+    (value ∷ words) else (
     if is_folder word then wish_from (place + 2) wish words else (
-    if is_turns word then with_number (turns_of value) (place + 2) (λ n. wish_from (place + 2) (record wish { turns = n }) words) else Err (place + 1)))
+    if is_turns word then with_number (turns_of value) (place + 2)
+    (λ n. wish_from (place + 2) (record wish { turns = n }) words) else Err (place + 1)))
 
 -- what the words ask, or the number of the first one with a fault, counted from 1
 abbrev pub wish_of : List (List ℕ) → Result Wish ℕ

@@ -1,6 +1,7 @@
 ghost use Rattle.std.specs.Prelude.{◌≡◌, ◌≤◌, ℕ, Ok, Err, IfOk, IfSome, IsErrOf, OnErr, option_map};
 ghost use Rattle.std.specs.Str.{is_utf8};
-ghost use Rattle.wc_loop.specs.Configuration.{seen_settings, with_value, with_parts, with_line, after_line, is_version_line, settings_in};
+ghost use Rattle.wc_loop.specs.Configuration.{seen_settings, with_value, with_parts, with_line};
+ghost use Rattle.wc_loop.specs.Configuration.{after_line, is_version_line, settings_in};
 
 use std::alloc::Global;
 use wc_options::{
@@ -36,8 +37,10 @@ pub struct Given<'a> {
 /// What is set after an option and its value. None for an option that is not read, and for a value
 /// that is none of it.
 fn with_value<'a>(given: Given<'a>, name: &[u8], value: &'a [u8]) -> Option<Given<'a>>
-    ensures value { option_map seen_settings result ≡ with_value (seen_settings given.entry) name.now value.now }
-    ensures range { 1 ≤ given.entry.limit → given.entry.limit ≤ 4096 → IfSome result (λ next. (1 ≤ next.limit) × (next.limit ≤ 4096)) }
+    ensures value { option_map seen_settings result ≡ with_value (seen_settings given.entry)
+        name.now value.now }
+    ensures range { 1 ≤ given.entry.limit → given.entry.limit ≤ 4096 →
+        IfSome result (λ next. (1 ≤ next.limit) × (next.limit ≤ 4096)) }
 {
     if name == PASSWORD {
         if !Kind::Text.fits(value) {
@@ -68,8 +71,10 @@ fn is_utf8(line: &[u8]) -> bool
 
 /// What is set after a line with a name and a value.
 fn with_line<'a>(given: Given<'a>, line: &'a [u8]) -> Option<Given<'a>>
-    ensures value { option_map seen_settings result ≡ with_line (seen_settings given.entry) line.now }
-    ensures range { 1 ≤ given.entry.limit → given.entry.limit ≤ 4096 → IfSome result (λ next. (1 ≤ next.limit) × (next.limit ≤ 4096)) }
+    ensures value { option_map seen_settings result
+        ≡ with_line (seen_settings given.entry) line.now }
+    ensures range { 1 ≤ given.entry.limit → given.entry.limit ≤ 4096 →
+        IfSome result (λ next. (1 ≤ next.limit) × (next.limit ≤ 4096)) }
 {
     if !is_utf8(line) {
         return None;
@@ -89,8 +94,10 @@ fn is_version_line(number: u64, line: &[u8]) -> bool
 
 /// What is set after a line with a number.
 fn after_line<'a>(number: u64, given: Given<'a>, line: &'a [u8]) -> Option<Given<'a>>
-    ensures value { option_map seen_settings result ≡ after_line number (seen_settings given.entry) line.now }
-    ensures range { 1 ≤ given.entry.limit → given.entry.limit ≤ 4096 → IfSome result (λ next. (1 ≤ next.limit) × (next.limit ≤ 4096)) }
+    ensures value { option_map seen_settings result ≡ after_line number
+        (seen_settings given.entry) line.now }
+    ensures range { 1 ≤ given.entry.limit → given.entry.limit ≤ 4096 →
+        IfSome result (λ next. (1 ≤ next.limit) × (next.limit ≤ 4096)) }
 {
     if is_passed_over(line) || is_version_line(number, line) {
         return Some(given);
@@ -100,14 +107,15 @@ fn after_line<'a>(number: u64, given: Given<'a>, line: &'a [u8]) -> Option<Given
 
 /// What a configuration sets: its lines are empty, comments after `#`, or an option, ` = ` and its
 /// value, and the first may be `config_version = 1`. The options are `relay.network.password`, a
-/// text, and `weechat.history.max_buffer_lines_number`, a number from 1 to 4,096, without which it is
-/// 4,096. Of a repeated option the last line counts.
+/// text, and `weechat.history.max_buffer_lines_number`, a number from 1 to 4,096, without which it
+/// is 4,096. Of a repeated option the last line counts.
 ///
 /// `BadLine` has the number of the first unreadable line, counted from 1.
 pub fn read_settings(alloc: Global, text: &[u8]) -> Result<Settings, ConfigRefused>
     ensures ok { IfOk result (λ settings. settings_in text.now ≡ Ok settings) }
     ensures range { IfOk result (λ settings. (1 ≤ settings.limit) × (settings.limit ≤ 4096)) }
-    ensures bad_line { (n : ℕ) → IsErrOf result (ConfigRefused.BadLine n) → settings_in text.now ≡ Err n }
+    ensures bad_line { (n : ℕ) → IsErrOf result (ConfigRefused.BadLine n) →
+        settings_in text.now ≡ Err n }
 {
     let mut given = Given {
         password: b"".as_slice(),

@@ -42,7 +42,8 @@ impl Ending {
 
     /// What is printed.
     pub fn text(self) -> ArrayVec<u8, 64>
-        ensures { result.items ≡ printed_text (tells_version self) (status_of self) (number_of self) }
+        ensures { result.items ≡ printed_text (tells_version self) (status_of self)
+            (number_of self) }
     {
         match self {
             Ending::Version => line(b"wc-headless 1"),

@@ -1,8 +1,12 @@
-ghost use Rattle.std.specs.Prelude.{◌≡◌, ◌≢◌, ◌≤◌, ◌⊎◌, ◌∷◌, [], Bool, true, false, None, Some, Ok, IfOk, IfErr, IfSome, IsSome, IsTrue, All, map, string_bytes};
+ghost use Rattle.std.specs.Prelude.{◌≡◌, ◌≢◌, ◌≤◌, ◌⊎◌, ◌∷◌, [], Bool, true, false};
+ghost use Rattle.std.specs.Prelude.{None, Some, Ok, IfOk, IfErr, IfSome, IsSome, IsTrue, All, map};
+ghost use Rattle.std.specs.Prelude.{string_bytes};
 ghost use Rattle.std.specs.Io.KnownBytes.{append_known};
 ghost use Rattle.wc_outside.specs.Faults.{Rose};
 ghost use Rattle.wc_outside.specs.Seen.{IsNew};
-ghost use Rattle.wc_loop.specs.Endings.{LastOf, StatusOf, WaitsAtMost, Prints, IsEarly, HasCause, Runs, RunsBy, asks_turns, asked_by, EndsAt, kept_of, number_of, printed_text, status_of, tells_version};
+ghost use Rattle.wc_loop.specs.Endings.{LastOf, StatusOf, WaitsAtMost, Prints, IsEarly, HasCause};
+ghost use Rattle.wc_loop.specs.Endings.{Runs, RunsBy, asks_turns, asked_by, EndsAt, kept_of};
+ghost use Rattle.wc_loop.specs.Endings.{number_of, printed_text, status_of, tells_version};
 ghost use Rattle.wc_loop.specs.Headline.{Headline, ClientsHoldDumps, IsFirst, IsConfigured};
 ghost use Rattle.wc_turns.specs.Served.{NobodyLeaving};
 ghost use Rattle.wc_turns.specs.Sources.{AllServed, AllSent};
@@ -11,13 +15,12 @@ ghost use Rattle.wc_turns.specs.Turns.{LoopStep, AgreesWithSockets, IsCaused, fa
 
 use crate::configuration::read_settings;
 use crate::ending::Ending;
-use wc_turns::Headless;
 use crate::print::print;
-use wc_turns::TurnEnd;
 use crate::words::read_words;
 use std::alloc::Global;
 use wc_options::ConfigRefused;
 use wc_outside::{KeepFault, Keeper, Sink, Sockets};
+use wc_turns::{Headless, TurnEnd};
 
 /// Where clients are listened for.
 const PORT: u16 = 9000;
@@ -37,9 +40,11 @@ pub struct Ended {
 /// Makes the state of a run, by the configuration.
 fn configured<K: Keeper>(alloc: Global, keeper: &mut K) -> Result<Headless, Ending>
     ensures first { IfOk result IsFirst }
-    ensures known { IfOk result (λ headless. IfSome (K.contents keeper.old) (IsConfigured headless)) }
+    ensures known { IfOk result (λ headless. IfSome (K.contents keeper.old)
+        (IsConfigured headless)) }
     ensures calm { IfOk result (λ headless. NobodyLeaving headless.core.connections) }
-    ensures early { IfErr result (IsEarly (K.contents keeper.old) (K.faults keeper.old) (K.faults keeper.new)) }
+    ensures early { IfErr result (IsEarly (K.contents keeper.old) (K.faults keeper.old)
+        (K.faults keeper.new)) }
     ensures kept { K.contents keeper.new ≡ K.contents keeper.old }
 {
     let text = match keeper.read_all(alloc) {
@@ -58,8 +63,8 @@ fn configured<K: Keeper>(alloc: Global, keeper: &mut K) -> Result<Headless, Endi
     }
 }
 
-/// Takes so many turns, unless a wait or the listener fails or `/quit` is run before. `headless` is a
-/// state that took no turn yet, and the sockets are those that it was made with.
+/// Takes so many turns, unless a wait or the listener fails or `/quit` is run before. `headless` is
+/// a state that took no turn yet, and the sockets are those that it was made with.
 fn take_turns<S: Sockets, K: Keeper>(
     headless: &mut Headless,
     sockets: &mut S,
@@ -68,21 +73,29 @@ fn take_turns<S: Sockets, K: Keeper>(
 ) -> TurnEnd
     requires first { IsFirst headless.old }
     requires agrees { AgreesWithSockets headless.old (S.seen sockets.old) }
-    ensures continues { LoopStep false headless.new.turns (faults_then result) headless.old headless.new (S.seen sockets.old) (S.seen sockets.new) }
+    ensures continues { LoopStep false headless.new.turns (faults_then result) headless.old
+        headless.new (S.seen sockets.old) (S.seen sockets.new) }
     ensures agrees { AgreesWithSockets headless.new (S.seen sockets.new) }
     ensures calm { NobodyLeaving headless.new.core.connections }
-    ensures causes { All (IsCaused (S.seen sockets.old) (S.seen sockets.new)) headless.new.links.closed.items }
-    ensures served { result ≡ TurnEnd.GoOn → 1 ≤ turns → AllServed headless.new.core.connections (S.seen sockets.old) (S.seen sockets.new) }
-    ensures sent { result ≡ TurnEnd.Quit → AllSent headless.new.core.connections (S.seen sockets.old) (S.seen sockets.new) }
+    ensures causes { All (IsCaused (S.seen sockets.old) (S.seen sockets.new))
+        headless.new.links.closed.items }
+    ensures served { result ≡ TurnEnd.GoOn → 1 ≤ turns → AllServed headless.new.core.connections
+        (S.seen sockets.old) (S.seen sockets.new) }
+    ensures sent { result ≡ TurnEnd.Quit → AllSent headless.new.core.connections
+        (S.seen sockets.old) (S.seen sockets.new) }
     ensures never { result ≢ TurnEnd.KeeperFault }
     ensures quit { result ≡ TurnEnd.Quit → headless.new.core.quits ≡ true }
-    ensures going { result ≢ TurnEnd.Quit → result ≢ TurnEnd.ListenFault → headless.new.core.quits ≡ false }
+    ensures going { result ≢ TurnEnd.Quit → result ≢ TurnEnd.ListenFault →
+        headless.new.core.quits ≡ false }
     ensures all { result ≡ TurnEnd.GoOn → headless.new.turns ≡ turns }
     ensures fewer { result ≡ TurnEnd.WaitFault → headless.new.turns ≢ turns }
-    ensures some { (result ≡ TurnEnd.ListenFault) ⊎ (result ≡ TurnEnd.Quit) → 1 ≤ headless.new.turns }
+    ensures some { (result ≡ TurnEnd.ListenFault) ⊎ (result ≡ TurnEnd.Quit) →
+        1 ≤ headless.new.turns }
     ensures most { headless.new.turns ≤ turns }
-    ensures wait_fault { result ≡ TurnEnd.WaitFault → Rose (S.seen sockets.old).faults.waits (S.seen sockets.new).faults.waits }
-    ensures listen_fault { result ≡ TurnEnd.ListenFault → Rose (S.seen sockets.old).faults.listens (S.seen sockets.new).faults.listens }
+    ensures wait_fault { result ≡ TurnEnd.WaitFault → Rose (S.seen sockets.old).faults.waits
+        (S.seen sockets.new).faults.waits }
+    ensures listen_fault { result ≡ TurnEnd.ListenFault → Rose (S.seen sockets.old).faults.listens
+        (S.seen sockets.new).faults.listens }
     ensures kept { K.contents keeper.new ≡ K.contents keeper.old }
 {
     for _ in 0..turns {
@@ -129,7 +142,8 @@ struct Outcome {
 fn run<S: Sockets, K: Keeper>(alloc: Global, turns: u64, sockets: &mut S, keeper: &mut K) -> Outcome
     requires above { 1 ≤ turns }
     requires new { IsNew (S.seen sockets.old) }
-    ensures runs { Runs turns (K.contents keeper.old) (K.faults keeper.old) (K.faults keeper.new) (S.seen sockets.old) (S.seen sockets.new) result.ending result.last }
+    ensures runs { Runs turns (K.contents keeper.old) (K.faults keeper.old) (K.faults keeper.new)
+        (S.seen sockets.old) (S.seen sockets.new) result.ending result.last }
     ensures kept { K.contents keeper.new ≡ K.contents keeper.old }
 {
     let mut headless = match configured(alloc, keeper) {
@@ -157,7 +171,9 @@ fn run_words<S: Sockets, K: Keeper>(
     keeper: &mut K,
 ) -> Outcome
     requires { IsNew (S.seen sockets.old) }
-    ensures runs { RunsBy (wish_of (map string_bytes words.now)) (K.contents keeper.old) (K.faults keeper.old) (K.faults keeper.new) (S.seen sockets.old) (S.seen sockets.new) result.ending result.last }
+    ensures runs { RunsBy (wish_of (map string_bytes words.now)) (K.contents keeper.old)
+        (K.faults keeper.old) (K.faults keeper.new) (S.seen sockets.old) (S.seen sockets.new)
+        result.ending result.last }
     ensures kept { K.contents keeper.new ≡ K.contents keeper.old }
 {
     let wish = match read_words(words) {
@@ -182,7 +198,9 @@ fn run_words<S: Sockets, K: Keeper>(
 fn end<O: Sink>(out: &mut O, outcome: Outcome) -> Ended
     ensures last { result.last ≡ outcome.last }
     ensures status { result.status ≢ 7 → result.status ≡ status_of outcome.ending }
-    ensures printed { result.status ≢ 7 → O.contents out.new ≡ append_known (O.contents out.old) (printed_text (tells_version outcome.ending) (status_of outcome.ending) (number_of outcome.ending)) }
+    ensures printed { result.status ≢ 7 → O.contents out.new ≡ append_known (O.contents out.old)
+        (printed_text (tells_version outcome.ending) (status_of outcome.ending)
+        (number_of outcome.ending)) }
     ensures count { result.status ≢ 7 → O.faults out.new ≡ O.faults out.old }
     ensures sink { result.status ≡ 7 → Rose (O.faults out.old) (O.faults out.new) }
 {
@@ -196,8 +214,9 @@ fn end<O: Sink>(out: &mut O, outcome: Outcome) -> Ended
     }
 }
 
-/// Runs the program for these words: it reads the configuration, listens at 127.0.0.1:9000, and serves
-/// clients of the relay protocol `weechat` until as many waits returned as `--turns` asks for, or
+/// Runs the program for these words: it reads the configuration, listens at 127.0.0.1:9000, and
+/// serves clients of the relay protocol `weechat` until as many waits returned as `--turns` asks
+/// for, or
 /// `/quit` is run. The sockets are new. At its end it prints what is to be told.
 ///
 /// A sink that fails gives the status 7 in place of the one that was to come.
@@ -210,21 +229,34 @@ pub fn run_program<S: Sockets, K: Keeper, O: Sink>(
 ) -> Ended
     requires { IsNew (S.seen sockets.old) }
     ensures headline { IfSome result.last (Headline (K.contents keeper.old) (S.seen sockets.new)) }
-    ensures mirrored { IfSome result.last (ClientsHoldDumps (K.contents keeper.old) (S.seen sockets.new)) }
-    ensures status { result.status ≢ 7 → StatusOf (wish_of (map string_bytes words.now.items)) (K.contents keeper.old) (S.seen sockets.new) result.status result.last }
-    ensures printed { result.status ≢ 7 → Prints (wish_of (map string_bytes words.now.items)) (K.contents keeper.old) result.status (O.contents out.old) (O.contents out.new) }
+    ensures mirrored { IfSome result.last (ClientsHoldDumps (K.contents keeper.old)
+        (S.seen sockets.new)) }
+    ensures status { result.status ≢ 7 → StatusOf (wish_of (map string_bytes words.now.items))
+        (K.contents keeper.old) (S.seen sockets.new) result.status result.last }
+    ensures printed { result.status ≢ 7 → Prints (wish_of (map string_bytes words.now.items))
+        (K.contents keeper.old) result.status (O.contents out.old) (O.contents out.new) }
     ensures last { LastOf (S.seen sockets.new) result.last }
-    ensures waits { IfOk (wish_of (map string_bytes words.now.items)) (λ wish. WaitsAtMost wish.turns (S.seen sockets.new) result.last) }
+    ensures waits { IfOk (wish_of (map string_bytes words.now.items))
+        (λ wish. WaitsAtMost wish.turns (S.seen sockets.new) result.last) }
     ensures agrees { IfSome result.last (λ last. AgreesWithSockets last (S.seen sockets.new)) }
     ensures calm { IfSome result.last (λ last. NobodyLeaving last.core.connections) }
-    ensures causes { IfSome result.last (λ last. All (IsCaused (S.seen sockets.old) (S.seen sockets.new)) last.links.closed.items) }
-    ensures served { result.status ≡ 8 → IfSome result.last (λ last. AllServed last.core.connections (S.seen sockets.old) (S.seen sockets.new)) }
-    ensures sent { result.status ≡ 0 → IfSome result.last (λ last. AllSent last.core.connections (S.seen sockets.old) (S.seen sockets.new)) }
-    ensures faults { HasCause (S.seen sockets.old).faults (S.seen sockets.new).faults (K.faults keeper.old) (K.faults keeper.new) result.status }
+    ensures causes { IfSome result.last
+        (λ last. All (IsCaused (S.seen sockets.old) (S.seen sockets.new)) last.links.closed.items) }
+    ensures served { result.status ≡ 8 →
+        IfSome result.last (λ last. AllServed last.core.connections (S.seen sockets.old)
+        (S.seen sockets.new)) }
+    ensures sent { result.status ≡ 0 →
+        IfSome result.last (λ last. AllSent last.core.connections (S.seen sockets.old)
+        (S.seen sockets.new)) }
+    ensures faults { HasCause (S.seen sockets.old).faults (S.seen sockets.new).faults
+        (K.faults keeper.old) (K.faults keeper.new) result.status }
     ensures sink { result.status ≡ 7 → Rose (O.faults out.old) (O.faults out.new) }
     ensures sink_count { result.status ≢ 7 → O.faults out.new ≡ O.faults out.old }
-    ensures asked { result.status ≢ 7 → IsTrue (S.seen sockets.new).tells → (S.seen sockets.new).asked ≡ asked_by (wish_of (map string_bytes words.now.items)) result.status }
-    ensures untouched { asks_turns (wish_of (map string_bytes words.now.items)) ≡ false → S.seen sockets.new ≡ S.seen sockets.old }
+    ensures asked { result.status ≢ 7 → IsTrue (S.seen sockets.new).tells →
+        (S.seen sockets.new).asked ≡ asked_by (wish_of (map string_bytes words.now.items))
+        result.status }
+    ensures untouched { asks_turns (wish_of (map string_bytes words.now.items)) ≡ false →
+        S.seen sockets.new ≡ S.seen sockets.old }
     ensures kept { K.contents keeper.new ≡ K.contents keeper.old }
 {
     let outcome = run_words(alloc, words.as_slice(), sockets, keeper);

@@ -1,6 +1,8 @@
-ghost use Rattle.std.specs.Prelude.{◌≡◌, ◌^◌, ◌≤◌, ◌+◌, Option, Some, None, IfOk, IfSome, [], ◌∷◌, length, map, string_bytes};
+ghost use Rattle.std.specs.Prelude.{◌≡◌, ◌^◌, ◌≤◌, ◌+◌, Option, Some, None, IfOk, IfSome, []};
+ghost use Rattle.std.specs.Prelude.{◌∷◌, length, map, string_bytes};
 ghost use Rattle.std.specs.Option.{option_copied};
-ghost use Rattle.wc_loop.specs.Words.{turns_of, is_version, is_folder, is_turns, wish_of, folder_of};
+ghost use Rattle.wc_loop.specs.Words.{turns_of, is_version, is_folder, is_turns, wish_of};
+ghost use Rattle.wc_loop.specs.Words.{folder_of};
 
 use wc_text::read_i64;
 
@@ -49,7 +51,8 @@ fn is_turns(word: &str) -> bool
 
 /// The first word, and the words after it.
 fn first(words: &[String]) -> Option<(&str, &[String])>
-    ensures some { IfSome result (λ found. map string_bytes words.now ≡ found.0.now ∷ map string_bytes found.1.now) }
+    ensures some { IfSome result (λ found. map string_bytes words.now
+        ≡ found.0.now ∷ map string_bytes found.1.now) }
     ensures within { IfSome result (λ found. length found.1.now + 1 ≡ length words.now) }
     ensures none { result ≡ None → words.now ≡ [] }
 {
@@ -62,7 +65,7 @@ fn first(words: &[String]) -> Option<(&str, &[String])>
 /// Reads the words: `-v`, `--turns` and a number, `-d` and a folder. Of a repeated one the last
 /// counts. The number is that of the first fault, counted from 1: the unknown word, the word whose
 /// value is missing, or the unreadable value.
-#[tactic(auto, using(crate::proofs::WordsLemmas::version_step, crate::proofs::WordsLemmas::lone_step))]
+#[tactic(auto, using(crate::proofs::WordsLemmas::read_words_facts))]
 pub fn read_words(words: &[String]) -> Result<Wish, u64>
     ensures wish { result ≡ wish_of (map string_bytes words.now) }
     ensures above { IfOk result (λ wish. 1 ≤ wish.turns) }

@@ -25,7 +25,8 @@ pub record Spell (bytes : List ℕ) (messages : List WireMessage) : Type 0 where
   pub whole : bytes ≡ flat_map (λ m. spelling m) messages
 
 -- The bytes spell messages, and a client that takes them has this part of this world.
-pub record ShowsPart (which : HeldPart) (limit : ℕ) (id bytes : List ℕ) (world : World) : Type 0 where
+pub record ShowsPart (which : HeldPart) (limit : ℕ) (id bytes : List ℕ) (world : World) :
+    Type 0 where
   pub messages : List WireMessage
   pub spell : Spell bytes messages
   pub has : Has which (fold_all which limit id (nothing which) messages) world
@@ -49,13 +50,17 @@ SpellOnce = (bytes : List ℕ) (a b : List WireMessage) → Spell bytes a → Sp
 -- What is sent to a link spells the messages for it.
 abbrev pub RunSpells : Type 0
 RunSpells = (password : List ℕ) (limit : ℕ) (events : List Event) (link : ℕ) → limit ≤ 4096
-    → Spell (sent_to link (run (first_state password limit) events).acts) (messages_to link (run (first_state password limit) events).acts)
+    → Spell (sent_to link (run (first_state password limit) events).acts)
+    (messages_to link (run (first_state password limit) events).acts)
 
--- Whoever settled by the dump of a part has exactly this part of the world, by all bytes that it was sent.
+-- Whoever settled by the dump of a part has exactly this part of the world, by all bytes that it
+-- was sent.
 abbrev pub PartShows : HeldPart → Type 0
 PartShows which = (password : List ℕ) (limit : ℕ) (events : List Event) (link : ℕ) (id : List ℕ)
-    → limit ≤ 4096 → AllByRecursion IsShortLine events → SettledBy which link id (first_state password limit) events
-    → ShowsPart which limit id (sent_to link (run (first_state password limit) events).acts) (run (first_state password limit) events).state.world
+    → limit ≤ 4096 → AllByRecursion IsShortLine events →
+    SettledBy which link id (first_state password limit) events
+    → ShowsPart which limit id (sent_to link (run (first_state password limit) events).acts)
+    (run (first_state password limit) events).state.world
 
 -- the lines that each buffer holds
 abbrev pub BytesShow : Type 0

@@ -11,10 +11,15 @@ abbrev pub sync_line : List ℕ
 sync_line = codes "sync"
 
 abbrev pub dump_line : List ℕ
-dump_line = codes "(l) hdata buffer:gui_buffers(*)/own_lines/first_line(*)/data buffer,date,date_printed,displayed,notify_level,highlight,tags_array,prefix,message"
+dump_line
+    =
+    codes
+    "(l) hdata buffer:gui_buffers(*)/own_lines/first_line(*)/data buffer,date,date_printed,displayed,notify_level,highlight,tags_array,prefix,message"
 
 abbrev pub buffers_line : List ℕ
-buffers_line = codes "(b) hdata buffer:gui_buffers(*) number,full_name,short_name,hidden,title,local_variables"
+buffers_line
+    =
+    codes "(b) hdata buffer:gui_buffers(*) number,full_name,short_name,hidden,title,local_variables"
 
 abbrev pub nicks_line : List ℕ
 nicks_line = codes "(n) nicklist"
@@ -25,12 +30,15 @@ three_lines line = Arrives 1 [] ∷ Line 1 init_line ∷ Line 1 sync_line ∷ Li
 
 -- whoever takes the line dump by it has settled
 abbrev pub ThreeLinesSettle : Type 0
-ThreeLinesSettle = (limit : ℕ) → Settled 1 (codes "l") (first_state (codes "x") limit) (three_lines dump_line)
+ThreeLinesSettle = (limit : ℕ) → Settled 1 (codes "l") (first_state (codes "x") limit)
+    (three_lines dump_line)
 
 -- and so has whoever takes the buffer dump
 abbrev pub ThreeLinesSettleBuffers : Type 0
-ThreeLinesSettleBuffers = (limit : ℕ) → SettledBuffers 1 (codes "b") (first_state (codes "x") limit) (three_lines buffers_line)
+ThreeLinesSettleBuffers = (limit : ℕ) → SettledBuffers 1 (codes "b") (first_state (codes "x") limit)
+    (three_lines buffers_line)
 
 -- and whoever takes the nicklists of all buffers
 abbrev pub ThreeLinesSettleNicks : Type 0
-ThreeLinesSettleNicks = (limit : ℕ) → SettledNicks 1 (codes "n") (first_state (codes "x") limit) (three_lines nicks_line)
+ThreeLinesSettleNicks = (limit : ℕ) → SettledNicks 1 (codes "n") (first_state (codes "x") limit)
+    (three_lines nicks_line)

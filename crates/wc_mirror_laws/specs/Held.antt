@@ -1,6 +1,7 @@
--- The three parts of the state that a client may hold: the lines of all buffers, the buffers in their groups, and the
--- nicklists of all buffers.
-use Rattle.std.specs.Prelude.{ℕ, Bool, false, List, Option, None, Result, Ok, Err, is_none, if◌then◌else◌, bytes_eq}
+-- The three parts of the state that a client may hold: the lines of all buffers, the buffers in
+-- their groups, and the nicklists of all buffers.
+use Rattle.std.specs.Prelude.{ℕ, Bool, false, List, Option, None, Result, Ok, Err, is_none}
+use Rattle.std.specs.Prelude.{if◌then◌else◌, bytes_eq}
 use Rattle.wc_model.specs.World.{World}
 use Rattle.wc_objects.specs.declared.object.WireMessage.{WireMessage}
 use Rattle.wc_relaycmd.specs.declared.request.Command.{Command}
@@ -42,9 +43,11 @@ nothing Buffers = None
 nothing Nicks = Ok None
 
 -- after a diff that was refused nothing but the dump is taken
-abbrev pub fold_unrefused : List ℕ → Result (Option NickPart) ℕ → WireMessage → Result (Option NickPart) ℕ
+abbrev pub fold_unrefused : List ℕ → Result (Option NickPart) ℕ → WireMessage →
+    Result (Option NickPart) ℕ
 fold_unrefused id (Ok part) message = fold_nicks id part message
-fold_unrefused id (Err place) message = if bytes_eq message.id id then fold_nicks id None message else Err place
+fold_unrefused id (Err place) message = if bytes_eq message.id id then fold_nicks id None message
+    else Err place
 
 -- what it has after a message, where it keeps at most so many lines of a buffer
 abbrev pub fold_one : (which : HeldPart) → ℕ → List ℕ → HeldOf which → WireMessage → HeldOf which

@@ -1,5 +1,6 @@
 -- What always holds of the core, as far as its lines are told.
-use Rattle.std.specs.Prelude.{◌≡◌, ℕ, ◌≤◌, Bool, true, false, not, ◌&&◌, ◌||◌, ◌==◌, if◌then◌else◌, List, [], ◌∷◌}
+use Rattle.std.specs.Prelude.{◌≡◌, ℕ, ◌≤◌, Bool, true, false, not, ◌&&◌, ◌||◌, ◌==◌}
+use Rattle.std.specs.Prelude.{if◌then◌else◌, List, [], ◌∷◌}
 use Rattle.wc_session.specs.declared.client.Client.{Client}
 use Rattle.wc_session.specs.declared.sync_set.BufferSet.{BufferSet}
 use Rattle.wc_session.specs.declared.sync_set.SyncSet.{SyncSet}
@@ -21,12 +22,14 @@ asks_events client = asks_some client.everywhere || has_sets client.sets
 -- no client of a link asked for an event
 abbrev pub is_quiet : ℕ → List Client → Bool
 is_quiet link [] = true
-is_quiet link (client ∷ clients) = not (client_link client == link && asks_events client) && is_quiet link clients
+is_quiet link (client ∷ clients) = not (client_link client == link && asks_events client)
+    && is_quiet link clients
 
 -- nor did one after the first that has this link
 abbrev pub is_first_alone : ℕ → List Client → Bool
 is_first_alone link [] = true
-is_first_alone link (client ∷ clients) = if client_link client == link then is_quiet link clients else is_first_alone link clients
+is_first_alone link (client ∷ clients) = if client_link client == link then is_quiet link clients
+    else is_first_alone link clients
 
 pub record IsStateKept (limit link : ℕ) (state : State) : Type 0 where
   pub most : limit ≤ 4096

@@ -3,7 +3,8 @@ use Rattle.std.specs.Prelude.{◌≡◌, ◌<◌, ◌≤◌, ◌^◌, length, su
 use Rattle.wc_lines.specs.declared.line.Line.{Line}
 use Rattle.wc_lines.specs.LineText.{HasUtf8Texts}
 
--- a line without a level, with tags, a prefix and a message that were cut, and with handles of 64 bits
+-- a line without a level, with tags, a prefix and a message that were cut, and with handles of 64
+-- bits
 pub record IsPrinted (line : Line) : Type 0 where
   pub handle : line.handle.0 < 2 ^ 64
   pub content : line.content.0 < 2 ^ 64

@@ -1,5 +1,7 @@
--- Which clients hold the lines of all buffers, the buffers, or the nicklists: those that settled by the dump of them.
-use Rattle.std.specs.Prelude.{◌≡◌, ℕ, Bool, true, false, ◌&&◌, ◌==◌, if◌then◌else◌, List, [], ◌∷◌, ◌++◌, Option, Some, None, bytes_eq}
+-- Which clients hold the lines of all buffers, the buffers, or the nicklists: those that settled by
+-- the dump of them.
+use Rattle.std.specs.Prelude.{◌≡◌, ℕ, Bool, true, false, ◌&&◌, ◌==◌, if◌then◌else◌, List, []}
+use Rattle.std.specs.Prelude.{◌∷◌, ◌++◌, Option, Some, None, bytes_eq}
 use Rattle.std.specs.List.{AllByRecursion}
 use Rattle.wc_outside.specs.Keyed.{at_key}
 use Rattle.wc_relaycmd.specs.declared.request.Request.{Request}
@@ -29,17 +31,20 @@ client_on link state = at_key client_link link state.clients
 
 -- what the client of a link asks at an event
 abbrev pub asked_in : ℕ → State → Event → List AskedFor
-asked_in link state (Line other line) = if other == link then asked_by line (client_on link state) else []
+asked_in link state (Line other line) = if other == link
+    then asked_by line (client_on link state) else []
 asked_in link state _ = []
 
 -- what it asks at one event after another
 abbrev pub asked_on : ℕ → State → List Event → List AskedFor
 asked_on link state [] = []
-asked_on link state (event ∷ events) = asked_in link state event ++ asked_on link (step state event).state events
+asked_on link state (event ∷ events) = asked_in link state event
+    ++ asked_on link (step state event).state events
 
 -- of all buffers it asked for each event that a mirror needs
 abbrev pub follows_all : Client → Bool
-follows_all client = client.everywhere.buffers && (client.everywhere.buffer && client.everywhere.nicklist)
+follows_all client = client.everywhere.buffers
+    && (client.everywhere.buffer && client.everywhere.nicklist)
 
 -- the same, of a client that is open
 abbrev pub is_following : Option Client → Bool
@@ -55,9 +60,11 @@ pub record TakesDump (which : HeldPart) (id : List ℕ) (asked : AskedFor) : Typ
   pub dump : asks_dump which asked.request.command ≡ true
   pub under : asked.request.id ≡ id
 
--- A client that follows all events took the dump of a part under an id that no other of its requests has. It followed them
--- at each request from then on, and it follows them still and is open at the end.
-pub record SettledBy (which : HeldPart) (link : ℕ) (id : List ℕ) (state : State) (events : List Event) : Type 0 where
+-- A client that follows all events took the dump of a part under an id that no other of its
+-- requests has. It followed them at each request from then on, and it follows them still and is
+-- open at the end.
+pub record SettledBy (which : HeldPart) (link : ℕ) (id : List ℕ) (state : State)
+    (events : List Event) : Type 0 where
   pub before : List AskedFor
   pub dump : AskedFor
   pub following : List AskedFor

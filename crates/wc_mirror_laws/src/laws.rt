@@ -1,30 +1,33 @@
 //! What each client that settled holds.
 
-ghost use Rattle.wc_mirror_laws.specs.Bytes.{BuffersShow, BytesShow, NicksShow, RunSpells, SpellOnce};
-ghost use Rattle.wc_mirror_laws.specs.Example.{ThreeLinesSettle, ThreeLinesSettleBuffers, ThreeLinesSettleNicks};
+ghost use Rattle.wc_mirror_laws.specs.Bytes.{BuffersShow, BytesShow, NicksShow, RunSpells};
+ghost use Rattle.wc_mirror_laws.specs.Bytes.{SpellOnce};
+ghost use Rattle.wc_mirror_laws.specs.Example.{ThreeLinesSettle, ThreeLinesSettleBuffers};
+ghost use Rattle.wc_mirror_laws.specs.Example.{ThreeLinesSettleNicks};
 ghost use Rattle.wc_mirror_laws.specs.Held.{Lines, Buffers, Nicks};
-ghost use Rattle.wc_mirror_laws.specs.Mirrors.{Mirrors, StepMirrors, DumpMirrors, StepKeeps, RunKeeps};
+ghost use Rattle.wc_mirror_laws.specs.Mirrors.{Mirrors, StepMirrors, DumpMirrors, StepKeeps};
+ghost use Rattle.wc_mirror_laws.specs.Mirrors.{RunKeeps};
 
-/// A client that settled has exactly the lines of each buffer after any events, and none of a buffer that is not there,
-/// by the messages that it was sent.
+/// A client that settled has exactly the lines of each buffer after any events, and none of a
+/// buffer that is not there, by the messages that it was sent.
 pub fn settled_client_has_lines()
     ensures { Mirrors Lines }
 {}
 
-/// A client that settled by the buffer dump has exactly the buffers in their groups after any events, by the messages
-/// that it was sent.
+/// A client that settled by the buffer dump has exactly the buffers in their groups after any
+/// events, by the messages that it was sent.
 pub fn settled_client_has_buffers()
     ensures { Mirrors Buffers }
 {}
 
-/// A client that settled by the nicklists has exactly the nicklist of each buffer after any events, by the messages that
-/// it was sent, and no diff that it was sent is refused.
+/// A client that settled by the nicklists has exactly the nicklist of each buffer after any events,
+/// by the messages that it was sent, and no diff that it was sent is refused.
 pub fn settled_client_has_nicks()
     ensures { Mirrors Nicks }
 {}
 
-/// A client that settled by the line dump has the lines by the bytes that it was sent, which spell these messages and no
-/// others.
+/// A client that settled by the line dump has the lines by the bytes that it was sent, which spell
+/// these messages and no others.
 pub fn sent_bytes_show_lines()
     ensures shows { BytesShow }
     ensures spells { RunSpells }
@@ -41,21 +44,22 @@ pub fn sent_bytes_show_nicks()
     ensures { NicksShow }
 {}
 
-/// A client that has the lines of all buffers has them still after one event, and one that takes the dump has them
-/// after it.
+/// A client that has the lines of all buffers has them still after one event, and one that takes
+/// the dump has them after it.
 pub fn event_keeps_lines()
     ensures kept { StepMirrors Lines }
     ensures dump { DumpMirrors Lines }
 {}
 
-/// A client that has the buffers has them still after one event, and one that takes the buffer dump has them after it.
+/// A client that has the buffers has them still after one event, and one that takes the buffer dump
+/// has them after it.
 pub fn event_keeps_buffers()
     ensures kept { StepMirrors Buffers }
     ensures dump { DumpMirrors Buffers }
 {}
 
-/// A client that has the nicklists has them still after one event, and one that takes those of all buffers has them after
-/// it.
+/// A client that has the nicklists has them still after one event, and one that takes those of all
+/// buffers has them after it.
 pub fn event_keeps_nicks()
     ensures kept { StepMirrors Nicks }
     ensures dump { DumpMirrors Nicks }

@@ -1,6 +1,6 @@
-//! A client that settled holds the lines of all buffers, the buffers in their groups, or the nicklists: it logged in,
-//! asked for all events by `sync`, and then took the line dump, the buffer dump, or the nicklists of all buffers, under
-//! an id of its own.
+//! A client that settled holds the lines of all buffers, the buffers in their groups, or the
+//! nicklists: it logged in, asked for all events by `sync`, and then took the line dump, the buffer
+//! dump, or the nicklists of all buffers, under an id of its own.
 #![tactic(auto)]
 
 mod laws;
@@ -10,4 +10,3 @@ pub use laws::{
     sent_bytes_show_lines, sent_bytes_show_nicks, settled_client_has_buffers,
     settled_client_has_lines, settled_client_has_nicks, three_lines_settle,
 };
-

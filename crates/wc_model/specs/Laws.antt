@@ -9,8 +9,11 @@ use Rattle.wc_model.specs.Apply.{after_of}
 use Rattle.wc_model.specs.Notices.{notice}
 
 pub record LinesLeaveBuffers : Type 0 where
-  pub print : (world : World) (buffer : Handle) (line : LineSpec) → (after_of world buffer (Print line)).groups ≡ world.groups
-  pub clear : (world : World) (buffer : Handle) → (after_of world buffer Clear).groups ≡ world.groups
+  pub print : (world : World) (buffer : Handle) (line : LineSpec) →
+      (after_of world buffer (Print line)).groups ≡ world.groups
+  pub clear : (world : World) (buffer : Handle) → (after_of world buffer Clear).groups
+      ≡ world.groups
 
 abbrev pub NoticeOfNewBuffer : Type 0
-NoticeOfNewBuffer = (world : World) (buffer : Handle) (spec : BufferSpec) → (notice world (record { buffer = buffer; what = Add spec })).buffer ≡ record { 0 = world.next }
+NoticeOfNewBuffer = (world : World) (buffer : Handle) (spec : BufferSpec) →
+    (notice world (record { buffer = buffer; what = Add spec })).buffer ≡ record { 0 = world.next }

@@ -8,7 +8,8 @@ use Rattle.wc_model.specs.declared.change.LineSpec.{LineSpec}
 abbrev pub tags_from : ℕ → ℕ → List (List ℕ) → List (List ℕ)
 tags_from count size [] = []
 tags_from count size (tag ∷ tags) =
-    if nat_lt 32 (count + 1) || nat_lt 256 (size + length tag) then [] else tag ∷ tags_from (count + 1) (size + length tag) tags
+    if nat_lt 32 (count + 1) || nat_lt 256 (size + length tag) then []
+    else tag ∷ tags_from (count + 1) (size + length tag) tags
 
 abbrev pub cut_tags : List (List ℕ) → List (List ℕ)
 cut_tags tags = tags_from 0 0 tags

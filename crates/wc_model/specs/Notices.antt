@@ -1,5 +1,6 @@
 -- What is noticed of a change.
-use Rattle.std.specs.Prelude.{◌≡◌, ℕ, Bool, true, false, not, ◌==◌, Option, Some, None, List, [], ◌∷◌, map, filter, unwrap_or, Result, Ok, Err}
+use Rattle.std.specs.Prelude.{◌≡◌, ℕ, Bool, true, false, not, ◌==◌, Option, Some, None, List, []}
+use Rattle.std.specs.Prelude.{◌∷◌, map, filter, unwrap_or, Result, Ok, Err}
 use Rattle.std.specs.List.{flat_map, find as find_first}
 use Rattle.wc_text.specs.declared.names.Handle.{Handle}
 use Rattle.wc_lines.specs.declared.line.Line.{Line}
@@ -7,7 +8,11 @@ use Rattle.wc_buffers.specs.declared.row.BufferRow.{BufferRow}
 use Rattle.wc_buffers.specs.Calls.{EntryGroups, buffer_of, entry_of, number, lacks_var}
 use Rattle.wc_model.specs.declared.change.Change.{Change}
 use Rattle.wc_model.specs.declared.change.What.{What}
-use Rattle.wc_model.specs.declared.change.What.TheVariants.{Add, Close, MoveTo, MergeInto, Unmerge, Hide, Unhide, Rename, ShortName, Title, SetVar, RemoveVar, Print, Clear, Flips, AddGroup, AddNick, RemoveGroup, RemoveNick, ChangeGroup, ChangeNick}
+use Rattle.wc_model.specs.declared.change.What.TheVariants.{Add, Close, MoveTo, MergeInto, Unmerge}
+use Rattle.wc_model.specs.declared.change.What.TheVariants.{Hide, Unhide, Rename, ShortName, Title}
+use Rattle.wc_model.specs.declared.change.What.TheVariants.{SetVar, RemoveVar, Print, Clear, Flips}
+use Rattle.wc_model.specs.declared.change.What.TheVariants.{AddGroup, AddNick, RemoveGroup}
+use Rattle.wc_model.specs.declared.change.What.TheVariants.{RemoveNick, ChangeGroup, ChangeNick}
 use Rattle.wc_model.specs.declared.notice.EventKind.{EventKind}
 use Rattle.wc_model.specs.declared.notice.EventKind.TheVariants as kind
 use Rattle.wc_model.specs.declared.notice.Notice.{Notice}
@@ -45,7 +50,8 @@ kind_of world buffer (RemoveNick name) = kind.NickTouched
 kind_of world buffer (ChangeGroup item) = kind.NickTouched
 kind_of world buffer (ChangeNick item) = kind.NickTouched
 
--- the buffer that is told of, and the groups in which it is told: those after the change, and before it for a close
+-- the buffer that is told of, and the groups in which it is told: those after the change, and
+-- before it for a close
 abbrev pub about : World → Handle → What → Handle
 about world buffer (Add spec) = record { 0 = world.next }
 about world buffer (Flips flips) = record { 0 = 0 }
@@ -72,13 +78,16 @@ same_flag line (Some other) = bool_eq line.displayed other.displayed
 
 -- whether a line is in both and its flag differs
 abbrev pub is_flipped : List Line → Line → Bool
-is_flipped before line = not (same_flag line (find_first (λ other. other.content.0 == line.content.0) before))
+is_flipped before line = not
+    (same_flag line (find_first (λ other. other.content.0 == line.content.0) before))
 
 abbrev pub flips_in : List Line → List Line → List Handle
-flips_in before following = map (λ (line : Line). line.content) (filter (is_flipped before) following)
+flips_in before following = map (λ (line : Line). line.content)
+    (filter (is_flipped before) following)
 
 abbrev pub flips_between : World → World → List Handle
-flips_between before following = flat_map (λ buffer. flips_in (lines_at before buffer) (lines_at following buffer)) (order following.groups)
+flips_between before following = flat_map (λ buffer. flips_in (lines_at before buffer)
+    (lines_at following buffer)) (order following.groups)
 
 -- ---- the notice
 
@@ -101,13 +110,16 @@ notice_at kind buffer groups lines flips = record {
 
 abbrev pub notice_of : World → World → Handle → What → Notice
 notice_of before following buffer what =
-    notice_at (kind_of before buffer what) (about before buffer what) (told_groups before following what) (printed_handle before what) (flips_between before following)
+    notice_at (kind_of before buffer what) (about before buffer what)
+    (told_groups before following what) (printed_handle before what)
+    (flips_between before following)
 
 abbrev pub notice : World → Change → Notice
 notice world change = notice_of world (after world change) change.buffer change.what
 
 -- what a change comes to: it is refused, and the world is as it was, or it is made
-pub record Accepted (before : World) (change : Change) (following : World) (told : Notice) : Type 0 where
+pub record Accepted (before : World) (change : Change) (following : World) (told : Notice) :
+    Type 0 where
   pub accepted : refusal before change ≡ None
   pub after : following ≡ after before change
   pub notice : told ≡ notice before change
@@ -115,4 +127,5 @@ pub record Accepted (before : World) (change : Change) (following : World) (told
 abbrev pub Outcome : World → Change → World → Result Notice ChangeRefused → Type 0
 Outcome before change following (Ok told) = Accepted before change following told
 Outcome before change following (Err NoMemory) = following ≡ before
-Outcome before change following (Err reason) = (following ≡ before) × (refusal before change ≡ Some reason)
+Outcome before change following (Err reason) = (following ≡ before)
+    × (refusal before change ≡ Some reason)

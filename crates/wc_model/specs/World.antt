@@ -52,7 +52,13 @@ core_row = record {
 
 -- the core buffer alone, which has the handles 1 to 4
 abbrev pub first_world : ℕ → World
-first_world limit = record { groups = with_buffer core_row [] []; lines = insert empty 1 []; nicks = insert empty 1 []; limit = limit; next = 5 }
+first_world limit = record {
+  groups = with_buffer core_row [] [];
+  lines = insert empty 1 [];
+  nicks = insert empty 1 [];
+  limit = limit;
+  next = 5;
+}
 
 -- handles are numbers up to this one
 abbrev pub last_handle : ℕ

@@ -33,8 +33,8 @@ pub enum What {
     /// The buffer's lines go.
     Clear,
     Flips(Items<Flip>),
-    /// A group below another one, which is named; `root` names the root. It draws its handle, and its level is one more
-    /// than that of the group above.
+    /// A group below another one, which is named; `root` names the root. It draws its handle, and
+    /// its level is one more than that of the group above.
     AddGroup { parent: Text, item: Item },
     /// A nick in a group, which is named; `root` names the root. It draws its handle.
     AddNick { group: Text, item: Item },

@@ -26,8 +26,8 @@ pub enum EventKind {
     NickTouched,
 }
 
-/// What is noticed of an accepted change. But for a close the values are those after it; for a close they are those
-/// before it.
+/// What is noticed of an accepted change. But for a close the values are those after it; for a
+/// close they are those before it.
 #[derive(Drop)]
 pub struct Notice {
     pub kind: EventKind,

@@ -1,5 +1,6 @@
 -- The comparison of the rows of one key.
-use Rattle.std.specs.Prelude.{Bool, true, false, not, Option, Some, None, List, [], ◌∷◌, ◌++◌, map, if◌then◌else◌}
+use Rattle.std.specs.Prelude.{Bool, true, false, not, Option, Some, None, List, [], ◌∷◌, ◌++◌, map}
+use Rattle.std.specs.Prelude.{if◌then◌else◌}
 use Rattle.std.specs.List.{flat_map}
 use Rattle.wc_nicklist.specs.declared.item.Item.{Item}
 use Rattle.wc_nicklist.specs.declared.item.Key.{Key}
@@ -30,7 +31,8 @@ listed_row None = []
 listed_row (Some r) = r ∷ []
 
 -- what a comparison picks of each key that was touched
-abbrev pub picked_rows : (Option Row → Option Row → Option Row) → List Row → List FirstTouch → List Row
+abbrev pub picked_rows : (Option Row → Option Row → Option Row) → List Row →
+    List FirstTouch → List Row
 picked_rows pick now ts = flat_map (λ t. listed_row (pick t.before (find_row t.key now))) ts
 
 abbrev pub is_out : Mark → Bool
@@ -44,7 +46,8 @@ abbrev pub found_by : Mark → (Key → Option Row) → (Key → Option Row) →
 found_by m told now = if is_out m then told else now
 
 -- the items of five lists of rows, one list after the other
-abbrev pub items_written : Item → (Key → Option Row) → (Key → Option Row) → List Row → List Row → List Row → List Row → List Row → List DiffItem
+abbrev pub items_written : Item → (Key → Option Row) → (Key → Option Row) → List Row → List Row →
+    List Row → List Row → List Row → List DiffItem
 items_written root told now out_nicks out_groups in_groups in_nicks changed =
     with_parents None
     (map (op Removed root told) out_nicks

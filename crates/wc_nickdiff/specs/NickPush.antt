@@ -1,5 +1,8 @@
--- What is pushed of a nicklist: the comparison of the rows that were told with the rows now, key by key.
-use Rattle.std.specs.Prelude.{ℕ, ◌+◌, Bool, true, false, not, ◌&&◌, ◌==◌, nat_lt, Option, Some, None, List, [], ◌∷◌, ◌++◌, map, filter, reverse, length, if◌then◌else◌, bytes_eq}
+-- What is pushed of a nicklist: the comparison of the rows that were told with the rows now, key by
+-- key.
+use Rattle.std.specs.Prelude.{ℕ, ◌+◌, Bool, true, false, not, ◌&&◌, ◌==◌, nat_lt, Option, Some}
+use Rattle.std.specs.Prelude.{None, List, [], ◌∷◌, ◌++◌, map, filter, reverse, length}
+use Rattle.std.specs.Prelude.{if◌then◌else◌, bytes_eq}
 use Rattle.wc_text.specs.declared.names.Handle.{Handle}
 use Rattle.wc_nicklist.specs.declared.item.Item.{Item}
 use Rattle.wc_nicklist.specs.declared.item.Key.{Key}
@@ -14,8 +17,10 @@ use Rattle.wc_nickdiff.specs.declared.push.Push.TheVariants.{Nothing, Diff, Full
 
 unfoldable pub item_eq : Item → Item → Bool
 item_eq a b =
-    (a.handle.0 == b.handle.0) && bool_eq a.is_group b.is_group && bool_eq a.visible b.visible && (a.level == b.level)
-    && bytes_eq a.name b.name && bytes_eq a.color b.color && bytes_eq a.prefix b.prefix && bytes_eq a.prefix_color b.prefix_color
+    (a.handle.0 == b.handle.0) && bool_eq a.is_group b.is_group && bool_eq a.visible b.visible
+    && (a.level == b.level)
+    && bytes_eq a.name b.name && bytes_eq a.color b.color && bytes_eq a.prefix b.prefix
+    && bytes_eq a.prefix_color b.prefix_color
 
 -- whether the row of a key, as it was told, is now under the same groups, and has got other fields
 abbrev pub stays : Option Row → Option Row → Bool
@@ -49,7 +54,16 @@ changed_rows told now = filter (λ r. change_list (find_row (key r) told) (Some 
 
 -- The root's item, which is in no row.
 abbrev pub root_item : Handle → Item
-root_item root = record { handle = root; is_group = true; visible = false; level = 0; name = root_name; color = []; prefix = []; prefix_color = [] }
+root_item root = record {
+  handle = root;
+  is_group = true;
+  visible = false;
+  level = 0;
+  name = root_name;
+  color = [];
+  prefix = [];
+  prefix_color = [];
+}
 
 abbrev pub item_or : Item → Option Row → Item
 item_or d None = d
@@ -67,7 +81,12 @@ pub record Op : Type 0 where
   pub item : Item
 
 abbrev pub op : Mark → Item → (Key → Option Row) → Row → Op
-op mark root found r = record { mark = mark; under = parent_of r; parent = group_item root found (parent_of r); item = r.item }
+op mark root found r = record {
+  mark = mark;
+  under = parent_of r;
+  parent = group_item root found (parent_of r);
+  item = r.item;
+}
 
 -- the parent of an out is as it was told, and that of another as it is now
 abbrev pub ops : Item → List Row → List Row → List Op
@@ -88,7 +107,8 @@ with_parents p [] = []
 with_parents p (o ∷ os) =
     if same_name p o.under
     then record { mark = o.mark; item = o.item } ∷ with_parents p os
-    else record { mark = Parent; item = o.parent } ∷ record { mark = o.mark; item = o.item } ∷ with_parents (Some o.under) os
+    else record { mark = Parent; item = o.parent } ∷ record { mark = o.mark; item = o.item } ∷
+    with_parents (Some o.under) os
 
 -- the parent that was named last
 abbrev pub last_under : Option (List ℕ) → List Row → Option (List ℕ)
@@ -104,7 +124,8 @@ full_list root rows = root ∷ map (λ r. r.item) rows
 -- a diff is sent where it is shorter than the full list, in which the root counts
 abbrev pub push_of : Item → List DiffItem → List Row → Push
 push_of root [] now = Nothing
-push_of root (d ∷ ds) now = if nat_lt (length (d ∷ ds)) (length now + 1) then Diff (d ∷ ds) else Full (full_list root now)
+push_of root (d ∷ ds) now = if nat_lt (length (d ∷ ds)) (length now + 1) then Diff (d ∷ ds)
+    else Full (full_list root now)
 
 abbrev pub nick_push : Handle → List Row → List Row → Push
 nick_push root told now = push_of (root_item root) (diff (root_item root) told now) now

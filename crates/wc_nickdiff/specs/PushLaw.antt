@@ -6,12 +6,14 @@ use Rattle.wc_nickdiff.specs.declared.push.Push.{Push}
 use Rattle.wc_nickdiff.specs.declared.push.Push.TheVariants.{Nothing, Diff, Full}
 use Rattle.wc_nickdiff.specs.Apply.{applied_all}
 
--- a nick belongs to the group before it; a group of level n is below the group of level n - 1 before it
+-- a nick belongs to the group before it; a group of level n is below the group of level n - 1
+-- before it
 abbrev pub rows_from : List (List ℕ) → List Item → List Row
 rows_from path [] = []
 rows_from path (x ∷ xs) =
     if x.is_group
-    then record { path = take (x.level - 1) path; item = x } ∷ rows_from (take (x.level - 1) path ++ x.name ∷ []) xs
+    then record { path = take (x.level - 1) path; item = x } ∷ rows_from (take (x.level - 1) path
+    ++ x.name ∷ []) xs
     else record { path = path; item = x } ∷ rows_from path xs
 
 -- the rows of a full list, whose first item is the root

@@ -26,7 +26,10 @@ impl Model for BufferTouches {
 
     ghost view = { λ a. record { buffer = a.buffer; touches = a.touches.items } };
 
-    ghost invariant = { λ a. record { once : EachOnce a.touches.items; indexed : IndexesTouches a.touches.items a.index } };
+    ghost invariant = { λ a. record {
+      once : EachOnce a.touches.items;
+      indexed : IndexesTouches a.touches.items a.index;
+    } };
 }
 
 impl BufferTouches {
@@ -75,7 +78,10 @@ impl BufferTouches {
         key: &Key,
         before: Option<Row>,
     ) -> Result<(), NoMemory>
-        ensures ok { OnOk result (self.new ≡ record { buffer = self.old.buffer; touches = with_touch key.now before self.old.touches }) }
+        ensures ok { OnOk result (self.new ≡ record {
+          buffer = self.old.buffer;
+          touches = with_touch key.now before self.old.touches;
+        }) }
         ensures err { OnErr result (self.new ≡ self.old) }
     {
         let name = key.name.as_slice();

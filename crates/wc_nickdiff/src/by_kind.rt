@@ -15,10 +15,13 @@ pub(crate) fn add(
     item: Item,
 ) -> Result<(), NickRefused>
     requires { TextsAreUtf8 item }
-    ensures accepted { OnOk result (add_refusal item.is_group parent.now item.name list.old.rows ≡ None) }
-    ensures after { OnOk result (list.new.rows ≡ add_row item.is_group parent.now item list.old.rows) }
+    ensures accepted { OnOk result
+        (add_refusal item.is_group parent.now item.name list.old.rows ≡ None) }
+    ensures after { OnOk result
+        (list.new.rows ≡ add_row item.is_group parent.now item list.old.rows) }
     ensures root { OnOk result (list.new.root ≡ list.old.root) }
-    ensures refused { IfErr result (λ e. e ≢ NickRefused.NoMemory → add_refusal item.is_group parent.now item.name list.old.rows ≡ Some e) }
+    ensures refused { IfErr result (λ e. e ≢ NickRefused.NoMemory →
+        add_refusal item.is_group parent.now item.name list.old.rows ≡ Some e) }
 {
     if item.is_group {
         list.add_group(alloc, parent, item)
@@ -30,7 +33,8 @@ pub(crate) fn add(
 /// Removes the group or the nick of a name.
 pub(crate) fn remove(list: &mut Nicklist, is_group: bool, name: &Text) -> Result<(), NickRefused>
     ensures accepted { OnOk result (remove_refusal is_group name.now list.old.rows ≡ None) }
-    ensures after { OnOk result (list.new.rows ≡ remove_row (key_at is_group name.now) list.old.rows) }
+    ensures after { OnOk result
+        (list.new.rows ≡ remove_row (key_at is_group name.now) list.old.rows) }
     ensures root { OnOk result (list.new.root ≡ list.old.root) }
     ensures refused { IfErr result (λ e. remove_refusal is_group name.now list.old.rows ≡ Some e) }
 {
@@ -49,7 +53,8 @@ pub(crate) fn change(list: &mut Nicklist, item: Item) -> Result<(), NickRefused>
     ensures accepted { OnOk result (change_refusal item.is_group item.name list.old.rows ≡ None) }
     ensures after { OnOk result (list.new.rows ≡ change_row (key_of item) item list.old.rows) }
     ensures root { OnOk result (list.new.root ≡ list.old.root) }
-    ensures refused { IfErr result (λ e. change_refusal item.is_group item.name list.old.rows ≡ Some e) }
+    ensures refused { IfErr result (λ e. change_refusal item.is_group item.name list.old.rows
+        ≡ Some e) }
 {
     if item.is_group {
         list.change_group(item)

@@ -1,7 +1,9 @@
-ghost use Rattle.std.specs.Prelude.{◌≡◌, ◌≢◌, OnOk, OnErr, IfOk, IfErr, ℕ, Ok, Err, IsTrue, not, is_some, option_copied};
+ghost use Rattle.std.specs.Prelude.{◌≡◌, ◌≢◌, OnOk, OnErr, IfOk, IfErr, ℕ, Ok, Err, IsTrue, not};
+ghost use Rattle.std.specs.Prelude.{is_some, option_copied};
 ghost use Rattle.wc_nicklist.specs.Order.{key_of};
 ghost use Rattle.wc_nicklist.specs.Rows.{find_row, path_below, TextsAreUtf8};
-ghost use Rattle.wc_nickdiff.specs.Apply.{lies_under, is_refused_under, is_refused, applied_under, item_applied, applied_from, applied_all, AreUtf8};
+ghost use Rattle.wc_nickdiff.specs.Apply.{lies_under, is_refused_under, is_refused, applied_under};
+ghost use Rattle.wc_nickdiff.specs.Apply.{item_applied, applied_from, applied_all, AreUtf8};
 
 use crate::by_kind::{add, change, remove};
 use crate::copy::copy_of;
@@ -12,10 +14,10 @@ use std::alloc::Global;
 use wc_nicklist::{Item, Key, NickRefused, Nicklist};
 use wc_text::{Items, NoMemory, Text};
 
-/// What a diff makes of a nicklist, which stays as it is. `BadItem` with the place of the first item
-/// that can't be applied, which is one that removes or changes what does not are under the group that
-/// was named last, adds what is, has a name that no row may have, removes a group that has something
-/// below it, names a group that does not are, or is before any that names one.
+/// What a diff makes of a nicklist, which stays as it is. `BadItem` with the place of the first
+/// item that can't be applied, which is one that removes or changes what does not are under the
+/// group that was named last, adds what is, has a name that no row may have, removes a group that
+/// has something below it, names a group that does not are, or is before any that names one.
 pub fn applied(
     alloc: Global,
     list: &Nicklist,
@@ -24,7 +26,8 @@ pub fn applied(
     requires { AreUtf8 items.now }
     ensures root { IfOk result (λ next. next.root ≡ list.now.root) }
     ensures after { IfOk result (λ next. applied_all items.now list.now.rows ≡ Ok next.rows) }
-    ensures refused { IfErr result (λ e. e ≢ DiffRefused.NoMemory → (place : ℕ) × (e ≡ DiffRefused.BadItem place) × (applied_all items.now list.now.rows ≡ Err place)) }
+    ensures refused { IfErr result (λ e. e ≢ DiffRefused.NoMemory → (place : ℕ)
+        × (e ≡ DiffRefused.BadItem place) × (applied_all items.now list.now.rows ≡ Err place)) }
 {
     let mut next = copy_of(alloc, list)?;
     apply_each(alloc, &mut next, items.as_slice())?;
@@ -36,7 +39,8 @@ pub fn apply(alloc: Global, list: &mut Nicklist, items: &Items<DiffItem>) -> Res
     requires { AreUtf8 items.now }
     ensures root { list.new.root ≡ list.old.root }
     ensures after { OnOk result (applied_all items.now list.old.rows ≡ Ok list.new.rows) }
-    ensures refused { IfErr result (λ e. e ≢ DiffRefused.NoMemory → (place : ℕ) × (e ≡ DiffRefused.BadItem place) × (applied_all items.now list.old.rows ≡ Err place)) }
+    ensures refused { IfErr result (λ e. e ≢ DiffRefused.NoMemory → (place : ℕ)
+        × (e ≡ DiffRefused.BadItem place) × (applied_all items.now list.old.rows ≡ Err place)) }
     ensures err { OnErr result (list.new ≡ list.old) }
 {
     let next = applied(alloc, list, items)?;
@@ -49,7 +53,8 @@ fn apply_each(alloc: Global, list: &mut Nicklist, items: &[DiffItem]) -> Result<
     requires { AreUtf8 items.now }
     ensures root { OnOk result (list.new.root ≡ list.old.root) }
     ensures after { OnOk result (applied_all items.now list.old.rows ≡ Ok list.new.rows) }
-    ensures refused { IfErr result (λ e. e ≢ DiffRefused.NoMemory → (place : ℕ) × (e ≡ DiffRefused.BadItem place) × (applied_all items.now list.old.rows ≡ Err place)) }
+    ensures refused { IfErr result (λ e. e ≢ DiffRefused.NoMemory → (place : ℕ)
+        × (e ≡ DiffRefused.BadItem place) × (applied_all items.now list.old.rows ≡ Err place)) }
 {
     let mut parent = None;
     for (place, item) in items.iter().enumerate() {
@@ -74,8 +79,10 @@ fn apply_item(
 ) -> Result<bool, NoMemory>
     requires { TextsAreUtf8 item.now.item }
     ensures root { IfOk result (λ done. IsTrue done → list.new.root ≡ list.old.root) }
-    ensures fits { IfOk result (λ done. done ≡ not (is_refused item.now (option_copied parent.entry) list.old.rows)) }
-    ensures after { IfOk result (λ done. IsTrue done → list.new.rows ≡ item_applied item.now (option_copied parent.entry) list.old.rows) }
+    ensures fits { IfOk result
+        (λ done. done ≡ not (is_refused item.now (option_copied parent.entry) list.old.rows)) }
+    ensures after { IfOk result (λ done. IsTrue done → list.new.rows ≡ item_applied item.now
+        (option_copied parent.entry) list.old.rows) }
 {
     let Some(parent) = parent else {
         if !item.mark.names_parent() {
@@ -94,8 +101,10 @@ fn apply_under(
 ) -> Result<bool, NoMemory>
     requires { TextsAreUtf8 item.now.item }
     ensures root { IfOk result (λ done. IsTrue done → list.new.root ≡ list.old.root) }
-    ensures fits { IfOk result (λ done. done ≡ not (is_refused_under item.now.mark parent.now item.now.item list.old.rows)) }
-    ensures after { IfOk result (λ done. IsTrue done → list.new.rows ≡ applied_under item.now.mark parent.now item.now.item list.old.rows) }
+    ensures fits { IfOk result (λ done. done
+        ≡ not (is_refused_under item.now.mark parent.now item.now.item list.old.rows)) }
+    ensures after { IfOk result (λ done. IsTrue done →
+        list.new.rows ≡ applied_under item.now.mark parent.now item.now.item list.old.rows) }
 {
     match item.mark {
         Mark::Parent => has_group(alloc, list, &item.item.name),
@@ -129,8 +138,10 @@ fn add_under(
 ) -> Result<bool, NoMemory>
     requires { TextsAreUtf8 item.now }
     ensures root { IfOk result (λ done. IsTrue done → list.new.root ≡ list.old.root) }
-    ensures fits { IfOk result (λ done. done ≡ not (is_refused_under Mark.Added parent.now item.now list.old.rows)) }
-    ensures after { IfOk result (λ done. IsTrue done → list.new.rows ≡ applied_under Mark.Added parent.now item.now list.old.rows) }
+    ensures fits { IfOk result
+        (λ done. done ≡ not (is_refused_under Mark.Added parent.now item.now list.old.rows)) }
+    ensures after { IfOk result (λ done. IsTrue done →
+        list.new.rows ≡ applied_under Mark.Added parent.now item.now list.old.rows) }
 {
     let item = item.copy(alloc)?;
     match add(alloc, list, parent, item) {
@@ -148,8 +159,10 @@ fn remove_under(
     item: &Item,
 ) -> Result<bool, NoMemory>
     ensures root { IfOk result (λ done. IsTrue done → list.new.root ≡ list.old.root) }
-    ensures fits { IfOk result (λ done. done ≡ not (is_refused_under Mark.Removed parent.now item.now list.old.rows)) }
-    ensures after { IfOk result (λ done. IsTrue done → list.new.rows ≡ applied_under Mark.Removed parent.now item.now list.old.rows) }
+    ensures fits { IfOk result
+        (λ done. done ≡ not (is_refused_under Mark.Removed parent.now item.now list.old.rows)) }
+    ensures after { IfOk result (λ done. IsTrue done →
+        list.new.rows ≡ applied_under Mark.Removed parent.now item.now list.old.rows) }
 {
     if !lies_under(alloc, list, parent, item)? {
         return Ok(false);
@@ -169,8 +182,10 @@ fn change_under(
 ) -> Result<bool, NoMemory>
     requires { TextsAreUtf8 item.now }
     ensures root { IfOk result (λ done. IsTrue done → list.new.root ≡ list.old.root) }
-    ensures fits { IfOk result (λ done. done ≡ not (is_refused_under Mark.Changed parent.now item.now list.old.rows)) }
-    ensures after { IfOk result (λ done. IsTrue done → list.new.rows ≡ applied_under Mark.Changed parent.now item.now list.old.rows) }
+    ensures fits { IfOk result
+        (λ done. done ≡ not (is_refused_under Mark.Changed parent.now item.now list.old.rows)) }
+    ensures after { IfOk result (λ done. IsTrue done →
+        list.new.rows ≡ applied_under Mark.Changed parent.now item.now list.old.rows) }
 {
     if !lies_under(alloc, list, parent, item)? {
         return Ok(false);
@@ -183,7 +198,8 @@ fn change_under(
 
 /// Whether the group or the nick of an item's name is right below that group or the root.
 fn lies_under(alloc: Global, list: &Nicklist, parent: &Text, item: &Item) -> Result<bool, NoMemory>
-    ensures { IfOk result (λ stands. stands ≡ lies_under parent.now (find_row (key_of item.now) list.now.rows)) }
+    ensures { IfOk result (λ stands. stands ≡ lies_under parent.now
+        (find_row (key_of item.now) list.now.rows)) }
 {
     let key = key_of(alloc, item)?;
     match list.row_of(alloc, &key)? {

@@ -1,6 +1,7 @@
 ghost use Rattle.std.specs.Prelude.{◌≡◌, ◌++◌, true, Some, IfOk, OnOk};
 ghost use Rattle.wc_nicklist.specs.Rows.{path_eq};
-ghost use Rattle.wc_nickdiff.specs.Compared.{keep, leaving_row, coming_row, changed_pair, listed_row, picked_rows};
+ghost use Rattle.wc_nickdiff.specs.Compared.{keep, leaving_row, coming_row, changed_pair};
+ghost use Rattle.wc_nickdiff.specs.Compared.{listed_row, picked_rows};
 ghost use Rattle.wc_nickdiff.specs.NickPush.{item_eq, is_group, is_nick, stays};
 
 use crate::first_touch::FirstTouch;
@@ -48,11 +49,16 @@ impl Differences {
         touches: &[FirstTouch],
         now: &Nicklist,
     ) -> Result<Differences, NoMemory>
-        ensures out_nicks { IfOk result (λ d. d.out_nicks.items ≡ picked_rows (λ t n. keep is_nick (leaving_row t n)) now.now.rows touches.now) }
-        ensures out_groups { IfOk result (λ d. d.out_groups.items ≡ picked_rows (λ t n. keep is_group (leaving_row t n)) now.now.rows touches.now) }
-        ensures in_groups { IfOk result (λ d. d.in_groups.items ≡ picked_rows (λ t n. keep is_group (coming_row t n)) now.now.rows touches.now) }
-        ensures in_nicks { IfOk result (λ d. d.in_nicks.items ≡ picked_rows (λ t n. keep is_nick (coming_row t n)) now.now.rows touches.now) }
-        ensures changed { IfOk result (λ d. d.changed.items ≡ picked_rows changed_pair now.now.rows touches.now) }
+        ensures out_nicks { IfOk result (λ d. d.out_nicks.items
+            ≡ picked_rows (λ t n. keep is_nick (leaving_row t n)) now.now.rows touches.now) }
+        ensures out_groups { IfOk result (λ d. d.out_groups.items
+            ≡ picked_rows (λ t n. keep is_group (leaving_row t n)) now.now.rows touches.now) }
+        ensures in_groups { IfOk result (λ d. d.in_groups.items
+            ≡ picked_rows (λ t n. keep is_group (coming_row t n)) now.now.rows touches.now) }
+        ensures in_nicks { IfOk result (λ d. d.in_nicks.items
+            ≡ picked_rows (λ t n. keep is_nick (coming_row t n)) now.now.rows touches.now) }
+        ensures changed { IfOk result (λ d. d.changed.items ≡ picked_rows changed_pair now.now.rows
+            touches.now) }
     {
         let mut differences = Differences::new(alloc);
         for touch in touches {
@@ -69,11 +75,16 @@ impl Differences {
         told: &Option<Row>,
         now: Option<Row>,
     ) -> Result<(), NoMemory>
-        ensures out_nicks { OnOk result (self.new.out_nicks.items ≡ self.old.out_nicks.items ++ listed_row (keep is_nick (leaving_row told.now now))) }
-        ensures out_groups { OnOk result (self.new.out_groups.items ≡ self.old.out_groups.items ++ listed_row (keep is_group (leaving_row told.now now))) }
-        ensures in_groups { OnOk result (self.new.in_groups.items ≡ self.old.in_groups.items ++ listed_row (keep is_group (coming_row told.now now))) }
-        ensures in_nicks { OnOk result (self.new.in_nicks.items ≡ self.old.in_nicks.items ++ listed_row (keep is_nick (coming_row told.now now))) }
-        ensures changed { OnOk result (self.new.changed.items ≡ self.old.changed.items ++ listed_row (changed_pair told.now now)) }
+        ensures out_nicks { OnOk result (self.new.out_nicks.items ≡ self.old.out_nicks.items
+            ++ listed_row (keep is_nick (leaving_row told.now now))) }
+        ensures out_groups { OnOk result (self.new.out_groups.items ≡ self.old.out_groups.items
+            ++ listed_row (keep is_group (leaving_row told.now now))) }
+        ensures in_groups { OnOk result (self.new.in_groups.items ≡ self.old.in_groups.items
+            ++ listed_row (keep is_group (coming_row told.now now))) }
+        ensures in_nicks { OnOk result (self.new.in_nicks.items ≡ self.old.in_nicks.items
+            ++ listed_row (keep is_nick (coming_row told.now now))) }
+        ensures changed { OnOk result (self.new.changed.items ≡ self.old.changed.items
+            ++ listed_row (changed_pair told.now now)) }
     {
         if stays(told, &now) {
             return put_changed(&mut self.changed, told, now);
@@ -89,11 +100,16 @@ impl Differences {
 
     /// Puts each list in canonical order.
     pub(crate) fn sort(&mut self)
-        ensures out_nicks { IsPermutation self.old.out_nicks.items self.new.out_nicks.items × IsSortedBy before self.new.out_nicks.items }
-        ensures out_groups { IsPermutation self.old.out_groups.items self.new.out_groups.items × IsSortedBy before self.new.out_groups.items }
-        ensures in_groups { IsPermutation self.old.in_groups.items self.new.in_groups.items × IsSortedBy before self.new.in_groups.items }
-        ensures in_nicks { IsPermutation self.old.in_nicks.items self.new.in_nicks.items × IsSortedBy before self.new.in_nicks.items }
-        ensures changed { IsPermutation self.old.changed.items self.new.changed.items × IsSortedBy before self.new.changed.items }
+        ensures out_nicks { IsPermutation self.old.out_nicks.items self.new.out_nicks.items
+            × IsSortedBy before self.new.out_nicks.items }
+        ensures out_groups { IsPermutation self.old.out_groups.items self.new.out_groups.items
+            × IsSortedBy before self.new.out_groups.items }
+        ensures in_groups { IsPermutation self.old.in_groups.items self.new.in_groups.items
+            × IsSortedBy before self.new.in_groups.items }
+        ensures in_nicks { IsPermutation self.old.in_nicks.items self.new.in_nicks.items
+            × IsSortedBy before self.new.in_nicks.items }
+        ensures changed { IsPermutation self.old.changed.items self.new.changed.items
+            × IsSortedBy before self.new.changed.items }
     {
         sort(&mut self.out_nicks);
         sort(&mut self.out_groups);
@@ -105,8 +121,10 @@ impl Differences {
 
 /// Puts a row after the others of its kind.
 fn put_by_kind(groups: &mut Vec<Row>, nicks: &mut Vec<Row>, row: Row) -> Result<(), NoMemory>
-    ensures groups { OnOk result (groups.new.items ≡ groups.old.items ++ listed_row (keep is_group (Some row))) }
-    ensures nicks { OnOk result (nicks.new.items ≡ nicks.old.items ++ listed_row (keep is_nick (Some row))) }
+    ensures groups { OnOk result (groups.new.items ≡ groups.old.items
+        ++ listed_row (keep is_group (Some row))) }
+    ensures nicks { OnOk result (nicks.new.items ≡ nicks.old.items
+        ++ listed_row (keep is_nick (Some row))) }
 {
     if row.item.is_group {
         push(groups, row)
@@ -118,7 +136,8 @@ fn put_by_kind(groups: &mut Vec<Row>, nicks: &mut Vec<Row>, row: Row) -> Result<
 /// Puts a row after the others, where it has got other fields than those that were told.
 fn put_changed(changed: &mut Vec<Row>, told: &Option<Row>, now: Option<Row>) -> Result<(), NoMemory>
     requires { stays told.now now ≡ true }
-    ensures { OnOk result (changed.new.items ≡ changed.old.items ++ listed_row (changed_pair told.now now)) }
+    ensures { OnOk result (changed.new.items ≡ changed.old.items
+        ++ listed_row (changed_pair told.now now)) }
 {
     let (Some(told), Some(now)) = (told, now) else {
         return Ok(());

@@ -1,4 +1,5 @@
-ghost use Rattle.std.specs.Prelude.{◌≡◌, ◌≤◌, ◌<◌, ℕ, List, Some, IfOk, OnOk, bytes_eq, if◌then◌else◌};
+ghost use Rattle.std.specs.Prelude.{◌≡◌, ◌≤◌, ◌<◌, ℕ, List, Some, IfOk, OnOk, bytes_eq};
+ghost use Rattle.std.specs.Prelude.{if◌then◌else◌};
 ghost use Rattle.std.specs.HashMap.{spare};
 ghost use Rattle.wc_nicklist.specs.Index.{at_long};
 
@@ -56,7 +57,8 @@ impl Index {
     /// Notes the place of a key. It takes no memory.
     pub(crate) fn insert(&mut self, is_group: bool, name: Vec<u8>, place: usize)
         requires { HasTouchRoom self.old }
-        ensures { (k : Key) → place_in self.new k ≡ (if key_eq (key_at is_group name.items) k then Some place else place_in self.old k) }
+        ensures { (k : Key) → place_in self.new k ≡ (if key_eq (key_at is_group name.items) k
+            then Some place else place_in self.old k) }
     {
         if is_group {
             insert(&mut self.groups, name, place);
@@ -83,7 +85,8 @@ fn reserve(places: &mut Places) -> Result<(), NoMemory>
 
 fn insert(places: &mut Places, name: Vec<u8>, place: usize)
     requires { 0 < spare places.old }
-    ensures { (q : List ℕ) → at_long places.new q ≡ (if bytes_eq name.items q then Some place else at_long places.old q) }
+    ensures { (q : List ℕ) → at_long places.new q ≡ (if bytes_eq name.items q then Some place
+        else at_long places.old q) }
 {
     let Ok(_) = places.insert(name, place) else {
         unreachable!()

@@ -22,7 +22,9 @@ pub(crate) fn message(
     touches: &BufferTouches,
     now: &Nicklist,
 ) -> Result<Push, NoMemory>
-    ensures { IfOk result (λ push. (told : List RowValue) → IsTold (λ k. before_at k touches.now.touches) now.now.rows told → push ≡ nick_push now.now.root told now.now.rows) }
+    ensures { IfOk result (λ push. (told : List RowValue) →
+        IsTold (λ k. before_at k touches.now.touches) now.now.rows told →
+        push ≡ nick_push now.now.root told now.now.rows) }
 {
     let count = now.count();
     let items = diff(alloc, touches, now)?;
@@ -40,7 +42,9 @@ pub(crate) fn message(
 /// The items of the diff.
 fn diff(alloc: Global, touches: &BufferTouches, now: &Nicklist) -> Result<Items<DiffItem>, NoMemory>
     requires { IsRows now.now.rows }
-    ensures { IfOk result (λ items. (told : List RowValue) → IsTold (λ k. before_at k touches.now.touches) now.now.rows told → items ≡ diff (root_item now.now.root) told now.now.rows) }
+    ensures { IfOk result (λ items. (told : List RowValue) →
+        IsTold (λ k. before_at k touches.now.touches) now.now.rows told →
+        items ≡ diff (root_item now.now.root) told now.now.rows) }
 {
     let touched = touches.as_slice();
     let mut differences = Differences::of(alloc, touched, now)?;
@@ -56,7 +60,11 @@ fn write(
     touches: &BufferTouches,
     now: &Nicklist,
 ) -> Result<Items<DiffItem>, NoMemory>
-    ensures { IfOk result (λ items. items ≡ items_written (root_item now.now.root) (told_at (λ k. before_at k touches.now.touches) now.now.rows) (λ k. find_row k now.now.rows) differences.now.out_nicks.items differences.now.out_groups.items differences.now.in_groups.items differences.now.in_nicks.items differences.now.changed.items) }
+    ensures { IfOk result (λ items. items ≡ items_written (root_item now.now.root)
+        (told_at (λ k. before_at k touches.now.touches) now.now.rows) (λ k. find_row k now.now.rows)
+        differences.now.out_nicks.items differences.now.out_groups.items
+        differences.now.in_groups.items differences.now.in_nicks.items
+        differences.now.changed.items) }
 {
     let d = differences;
     let mut writer = Writer::new(alloc);

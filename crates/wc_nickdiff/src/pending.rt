@@ -1,4 +1,5 @@
-ghost use Rattle.std.specs.Prelude.{◌≡◌, ◌==◌, ◌≤◌, ℕ, List, [], IfOk, OnOk, OnErr, length, if◌then◌else◌, position, MatchOption};
+ghost use Rattle.std.specs.Prelude.{◌≡◌, ◌==◌, ◌≤◌, ℕ, List, [], IfOk, OnOk, OnErr, length};
+ghost use Rattle.std.specs.Prelude.{if◌then◌else◌, position, MatchOption};
 ghost use Rattle.wc_nicklist.specs.declared.item.Key.{Key as KeyValue};
 ghost use Rattle.wc_nicklist.specs.declared.item.Row.{Row as RowValue};
 ghost use Rattle.wc_text.specs.declared.names.Handle.{Handle as HandleValue};
@@ -54,7 +55,8 @@ impl Pending {
 
     /// The touches of a buffer, where there are some.
     fn of(&self, buffer: Handle) -> Option<&BufferTouches>
-        ensures touches { MatchOption result (touches_of buffer self.now ≡ []) (λ touches. touches.now.touches ≡ touches_of buffer self.now) }
+        ensures touches { MatchOption result (touches_of buffer self.now ≡ [])
+            (λ touches. touches.now.touches ≡ touches_of buffer self.now) }
     {
         match self.place(buffer) {
             Some(place) => Some(&self.buffers[place]),
@@ -64,7 +66,9 @@ impl Pending {
 
     /// Notes the row that is under a key, where it is the key's first touch.
     fn note(&mut self, buffer: Handle, key: &Key, before: Option<Row>) -> Result<(), NoMemory>
-        ensures ok { OnOk result ((b : HandleValue) → touches_of b self.new ≡ (if buffer.0 == b.0 then with_touch key.now before (touches_of b self.old) else touches_of b self.old)) }
+        ensures ok { OnOk result ((b : HandleValue) → touches_of b self.new
+            ≡ (if buffer.0 == b.0 then with_touch key.now before (touches_of b self.old)
+            else touches_of b self.old)) }
         ensures err { OnErr result (self.new ≡ self.old) }
     {
         let alloc = self.alloc;
@@ -80,7 +84,8 @@ impl Pending {
     /// The number of keys of a buffer that were touched since its last push.
     pub fn held(&self, buffer: Handle) -> u64
         ensures exact { result ≡ length (touches_of buffer self.now) }
-        ensures bound { (keys : List KeyValue) → AreAmong (touches_of buffer self.now) keys → result ≤ length keys }
+        ensures bound { (keys : List KeyValue) → AreAmong (touches_of buffer self.now) keys →
+            result ≤ length keys }
     {
         match self.of(buffer) {
             Some(touches) => touches.as_slice().len() as u64,
@@ -90,7 +95,8 @@ impl Pending {
 
     /// Drops what is kept of a buffer, whose rows now were told, or which was closed.
     pub fn forget(&mut self, buffer: Handle)
-        ensures { (b : HandleValue) → touches_of b self.new ≡ (if buffer.0 == b.0 then [] else touches_of b self.old) }
+        ensures { (b : HandleValue) → touches_of b self.new ≡ (if buffer.0 == b.0 then []
+            else touches_of b self.old) }
     {
         self.buffers.retain(|touches| !touches.is_of(buffer));
     }
@@ -102,7 +108,9 @@ impl Pending {
         buffer: Handle,
         now: &Nicklist,
     ) -> Result<Items<Row>, NoMemory>
-        ensures { IfOk result (λ rows. (told : List RowValue) → IsTold (λ k. before_at k (touches_of buffer self.now)) now.now.rows told → rows ≡ told) }
+        ensures { IfOk result (λ rows. (told : List RowValue) →
+            IsTold (λ k. before_at k (touches_of buffer self.now)) now.now.rows told →
+            rows ≡ told) }
     {
         match self.of(buffer) {
             Some(touches) => told_rows(alloc, touches, now),
@@ -117,7 +125,9 @@ impl Pending {
         buffer: Handle,
         now: &Nicklist,
     ) -> Result<Push, NoMemory>
-        ensures { IfOk result (λ push. (told : List RowValue) → IsTold (λ k. before_at k (touches_of buffer self.now)) now.now.rows told → push ≡ nick_push now.now.root told now.now.rows) }
+        ensures { IfOk result (λ push. (told : List RowValue) →
+            IsTold (λ k. before_at k (touches_of buffer self.now)) now.now.rows told →
+            push ≡ nick_push now.now.root told now.now.rows) }
     {
         match self.of(buffer) {
             Some(touches) => message(alloc, touches, now),

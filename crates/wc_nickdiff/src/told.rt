@@ -19,7 +19,8 @@ pub(crate) fn told_rows(
     touches: &BufferTouches,
     now: &Nicklist,
 ) -> Result<Items<Row>, NoMemory>
-    ensures { IfOk result (λ rows. (told : List RowValue) → IsTold (λ k. before_at k touches.now.touches) now.now.rows told → rows ≡ told) }
+    ensures { IfOk result (λ rows. (told : List RowValue) →
+        IsTold (λ k. before_at k touches.now.touches) now.now.rows told → rows ≡ told) }
 {
     let mut rows = untouched(alloc, touches, now)?;
     for touch in touches.as_slice() {
@@ -33,7 +34,8 @@ pub(crate) fn told_rows(
 
 /// The rows now whose keys were not touched.
 fn untouched(alloc: Global, touches: &BufferTouches, now: &Nicklist) -> Result<Vec<Row>, NoMemory>
-    ensures rows { IfOk result (λ rows. rows.items ≡ filter (is_untouched touches.now.touches) now.now.rows) }
+    ensures rows { IfOk result (λ rows. rows.items ≡ filter (is_untouched touches.now.touches)
+        now.now.rows) }
     ensures held { IfOk result (λ _. IsRows now.now.rows) }
 {
     let mut rows = Vec::new(alloc);

@@ -2,7 +2,8 @@ ghost use Rattle.std.specs.Prelude.{◌≡◌, ◌++◌, ◌∷◌, [], Some, No
 ghost use Rattle.wc_nicklist.specs.Rows.{find_row, parent_of};
 ghost use Rattle.wc_nickdiff.specs.Compared.{found_by};
 ghost use Rattle.wc_nickdiff.specs.Held.{before_at};
-ghost use Rattle.wc_nickdiff.specs.NickPush.{group_item, last_under, op, root_item, same_name, with_parents};
+ghost use Rattle.wc_nickdiff.specs.NickPush.{group_item, last_under, op, root_item, same_name};
+ghost use Rattle.wc_nickdiff.specs.NickPush.{with_parents};
 ghost use Rattle.wc_nickdiff.specs.Told.{told_at};
 
 use crate::buffer_touches::BufferTouches;
@@ -47,7 +48,11 @@ impl Writer {
         touches: &BufferTouches,
         now: &Nicklist,
     ) -> Result<(), NoMemory>
-        ensures items { OnOk result (let ops = map (op mark (root_item now.now.root) (found_by mark (told_at (λ k. before_at k touches.now.touches) now.now.rows) (λ k. find_row k now.now.rows))) rows.now in self.new.items ≡ self.old.items ++ with_parents self.old.parent ops) }
+        ensures items { OnOk result (let ops =
+            map (op mark (root_item now.now.root)
+            (found_by mark (told_at (λ k. before_at k touches.now.touches) now.now.rows)
+            (λ k. find_row k now.now.rows))) rows.now in self.new.items ≡ self.old.items
+            ++ with_parents self.old.parent ops) }
         ensures parent { OnOk result (self.new.parent ≡ last_under self.old.parent rows.now) }
     {
         for row in rows {
@@ -64,7 +69,10 @@ impl Writer {
         touches: &BufferTouches,
         now: &Nicklist,
     ) -> Result<(), NoMemory>
-        ensures items { OnOk result (let o = op mark (root_item now.now.root) (found_by mark (told_at (λ k. before_at k touches.now.touches) now.now.rows) (λ k. find_row k now.now.rows)) row.now in self.new.items ≡ self.old.items ++ with_parents self.old.parent (o ∷ [])) }
+        ensures items { OnOk result (let o = op mark (root_item now.now.root)
+            (found_by mark (told_at (λ k. before_at k touches.now.touches) now.now.rows)
+            (λ k. find_row k now.now.rows)) row.now in self.new.items ≡ self.old.items
+            ++ with_parents self.old.parent (o ∷ [])) }
         ensures parent { OnOk result (self.new.parent ≡ Some (parent_of row.now)) }
     {
         let name = parent_of(row);
@@ -87,15 +95,18 @@ impl Writer {
     }
 
     fn push(&mut self, mark: Mark, item: Item) -> Result<(), NoMemory>
-        ensures items { OnOk result (self.new.items ≡ self.old.items ++ record { mark = mark; item = item } ∷ []) }
+        ensures items { OnOk result (self.new.items ≡ self.old.items ++ record {
+          mark = mark;
+          item = item;
+        } ∷ []) }
         ensures parent { OnOk result (self.new.parent ≡ self.old.parent) }
     {
         self.items.push(DiffItem { mark, item })
     }
 }
 
-/// The item of the group of a name or of the root, as it was told for what is out, and otherwise as it
-/// is now. Where no such group is, it is the root's.
+/// The item of the group of a name or of the root, as it was told for what is out, and otherwise as
+/// it is now. Where no such group is, it is the root's.
 fn group_item(
     alloc: Global,
     mark: Mark,
@@ -103,7 +114,9 @@ fn group_item(
     touches: &BufferTouches,
     now: &Nicklist,
 ) -> Result<Item, NoMemory>
-    ensures { IfOk result (λ item. item ≡ group_item (root_item now.now.root) (found_by mark (told_at (λ k. before_at k touches.now.touches) now.now.rows) (λ k. find_row k now.now.rows)) name.now) }
+    ensures { IfOk result (λ item. item ≡ group_item (root_item now.now.root)
+        (found_by mark (told_at (λ k. before_at k touches.now.touches) now.now.rows)
+        (λ k. find_row k now.now.rows)) name.now) }
 {
     if name == ROOT_NAME.as_slice() {
         return root_item(alloc, now.root());

@@ -1,11 +1,14 @@
 -- The calls of a nicklist, each on the flat list of its rows.
-use Rattle.std.specs.Prelude.{ℕ, ◌==◌, Bool, false, ◌&&◌, ◌||◌, nat_lt, Option, Some, None, List, length, if◌then◌else◌, is_none, is_some}
+use Rattle.std.specs.Prelude.{ℕ, ◌==◌, Bool, false, ◌&&◌, ◌||◌, nat_lt, Option, Some, None, List}
+use Rattle.std.specs.Prelude.{length, if◌then◌else◌, is_none, is_some}
 use Rattle.wc_nicklist.specs.declared.item.Item.{Item}
 use Rattle.wc_nicklist.specs.declared.item.Row.{Row}
 use Rattle.wc_nicklist.specs.declared.refused.NickRefused.{NickRefused}
-use Rattle.wc_nicklist.specs.declared.refused.NickRefused.TheVariants.{IsRoot, BadName, NoParent, NameTaken, NoSuch, NotEmpty}
+use Rattle.wc_nicklist.specs.declared.refused.NickRefused.TheVariants.{IsRoot, BadName, NoParent}
+use Rattle.wc_nicklist.specs.declared.refused.NickRefused.TheVariants.{NameTaken, NoSuch, NotEmpty}
 use Rattle.wc_nicklist.specs.Order.{key_at}
-use Rattle.wc_nicklist.specs.Rows.{find_row, is_root, insert_row, level_at, path_below, has_child, below, Nicks}
+use Rattle.wc_nicklist.specs.Rows.{find_row, is_root, insert_row, level_at, path_below, has_child}
+use Rattle.wc_nicklist.specs.Rows.{below, Nicks}
 
 -- empty or above 64 bytes
 abbrev pub is_bad_name : List ℕ → Bool
@@ -21,7 +24,8 @@ or_else (Some a) b = Some a
 
 -- what the name of an item that is added, removed or changed must not be
 unfoldable pub name_refusal : Bool → List ℕ → Option NickRefused
-name_refusal is_group name = or_else (when (is_group && is_root name) IsRoot) (when (is_bad_name name) (BadName (length name)))
+name_refusal is_group name = or_else (when (is_group && is_root name) IsRoot)
+    (when (is_bad_name name) (BadName (length name)))
 
 -- The refusal of each call, where there is one.
 unfoldable pub add_refusal : Bool → List ℕ → List ℕ → List Row → Option NickRefused

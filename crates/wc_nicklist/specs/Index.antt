@@ -1,5 +1,6 @@
 -- The index from keys to the numbers of rows.
-use Rattle.std.specs.Prelude.{ℕ, ◌+◌, ◌*◌, ◌<◌, Bool, ◌&&◌, Option, List, length, if◌then◌else◌, bytes_eq, nat_eq, nat_le, nat_lt}
+use Rattle.std.specs.Prelude.{ℕ, ◌+◌, ◌*◌, ◌<◌, Bool, ◌&&◌, Option, List, length}
+use Rattle.std.specs.Prelude.{if◌then◌else◌, bytes_eq, nat_eq, nat_le, nat_lt}
 use Rattle.std.specs.List.{list_all}
 use Rattle.std.specs.HashMap.{HashMap, get_by, spare}
 use Rattle.std.specs.declared.alloc.Global.{Global}

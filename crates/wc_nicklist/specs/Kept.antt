@@ -1,5 +1,6 @@
 -- What a nicklist keeps of its parts.
-use Rattle.std.specs.Prelude.{◌≡◌, ℕ, ◌≤◌, Option, Some, None, List, [], IsTrue, is_some, vec_capacity}
+use Rattle.std.specs.Prelude.{◌≡◌, ℕ, ◌≤◌, Option, Some, None, List, [], IsTrue, is_some}
+use Rattle.std.specs.Prelude.{vec_capacity}
 use Rattle.wc_nicklist.specs.declared.index.Index.{Index}
 use Rattle.wc_nicklist.specs.declared.item.Key.{Key}
 use Rattle.wc_nicklist.specs.declared.item.Row.{Row}

@@ -1,5 +1,7 @@
 -- Nicklists as flat lists of rows in canonical order, and the edits of such lists.
-use Rattle.std.specs.Prelude.{◌≡◌, ℕ, ◌+◌, ◌≤◌, ◌<◌, Bool, true, false, not, ◌&&◌, Option, Some, None, List, [], ◌∷◌, ◌++◌, length, if◌then◌else◌, bytes_eq, codes}
+use Rattle.std.specs.Prelude.{◌≡◌, ℕ, ◌+◌, ◌≤◌, ◌<◌, Bool, true, false, not, ◌&&◌, Option}
+use Rattle.std.specs.Prelude.{Some, None, List, [], ◌∷◌, ◌++◌, length, if◌then◌else◌, bytes_eq}
+use Rattle.std.specs.Prelude.{codes}
 use Rattle.std.specs.List.{list_any}
 use Rattle.std.specs.Cmp.Lexicographic.{pointwise}
 use Rattle.std.specs.Str.{IsUtf8}
@@ -24,7 +26,8 @@ abbrev pub find_row : Key → List Row → Option Row
 find_row k [] = None
 find_row k (x ∷ xs) = if key_eq (key x) k then Some x else find_row k xs
 
--- The edits: a row comes in at its canonical place, the row of a key goes, the item of a key gets other fields.
+-- The edits: a row comes in at its canonical place, the row of a key goes, the item of a key gets
+-- other fields.
 abbrev pub insert_row : Row → List Row → List Row
 insert_row r [] = r ∷ []
 insert_row r (x ∷ xs) = if before r x then r ∷ x ∷ xs else x ∷ insert_row r xs
@@ -35,7 +38,8 @@ remove_row k (x ∷ xs) = if key_eq (key x) k then remove_row k xs else x ∷ re
 
 abbrev pub replace_row : Row → List Row → List Row
 replace_row r [] = []
-replace_row r (x ∷ xs) = if key_eq (key x) (key r) then r ∷ replace_row r xs else x ∷ replace_row r xs
+replace_row r (x ∷ xs) = if key_eq (key x) (key r) then r ∷ replace_row r xs
+    else x ∷ replace_row r xs
 
 -- the kind, the name and the level stay
 abbrev pub changed_item : Item → Item → Item
@@ -129,7 +133,8 @@ pub record IsRows (rows : List Row) : Type 0 where
   pub keyed : Keyed rows
   pub held : (k : Key) (r : Row) → find_row k rows ≡ Some r → IsListedRow rows r
 
--- What contracts see of a nicklist: the handle of the root, the rows, and the parent for which there is room.
+-- What contracts see of a nicklist: the handle of the root, the rows, and the parent for which
+-- there is room.
 pub record Nicks : Type 0 where
   pub root : Handle
   pub rows : List Row

@@ -1,5 +1,7 @@
 -- The rows as they are stored, and where an address belongs in them.
-use Rattle.std.specs.Prelude.{◌≡◌, ℕ, suc, ◌≤◌, ◌<◌, ◌⊎◌, Bool, true, false, Option, Some, None, List, [], ◌∷◌, ◌++◌, length, take, drop, slice_get, slice_index_or, slice_set, nat_lt}
+use Rattle.std.specs.Prelude.{◌≡◌, ℕ, suc, ◌≤◌, ◌<◌, ◌⊎◌, Bool, true, false, Option, Some}
+use Rattle.std.specs.Prelude.{None, List, [], ◌∷◌, ◌++◌, length, take, drop, slice_get}
+use Rattle.std.specs.Prelude.{slice_index_or, slice_set, nat_lt}
 use Rattle.std.specs.declared.alloc.Global.{Global}
 use Rattle.std.specs.declared.boxed.Box.{Box}
 use Rattle.slab.specs.Slab.{get, slab_len}
@@ -27,7 +29,16 @@ store_has_room s = nat_lt (slab_len s.rows) s.rows.capacity
 abbrev pub no_row : Row
 no_row = record {
   path = [];
-  item = record { handle = record { 0 = 0 }; is_group = false; visible = false; level = 0; name = []; color = []; prefix = []; prefix_color = [] };
+  item = record {
+    handle = record { 0 = 0 };
+    is_group = false;
+    visible = false;
+    level = 0;
+    name = [];
+    color = [];
+    prefix = [];
+    prefix_color = [];
+  };
 }
 
 abbrev pub row_or : Option Row → Row

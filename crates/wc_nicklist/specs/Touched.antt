@@ -11,5 +11,7 @@ earlier_or None before = Some before
 earlier_or (Some row) before = Some row
 
 -- only the first touch of a key of a buffer counts
-abbrev pub first_touch : Handle → Key → Option Row → (Handle → Key → Option (Option Row)) → Handle → Key → Option (Option Row)
-first_touch buffer key before first b k = if (buffer.0 == b.0) && key_eq key k then earlier_or (first b k) before else first b k
+abbrev pub first_touch : Handle → Key → Option Row → (Handle → Key → Option (Option Row)) → Handle →
+    Key → Option (Option Row)
+first_touch buffer key before first b k = if (buffer.0 == b.0) && key_eq key k
+    then earlier_or (first b k) before else first b k

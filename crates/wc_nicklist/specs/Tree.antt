@@ -1,5 +1,6 @@
 -- The rows as a tree of two levels: leaves of some entries each, one after the other.
-use Rattle.std.specs.Prelude.{◌≡◌, ℕ, suc, ◌+◌, ◌<◌, ◌≤◌, slice_get, List, [], ◌∷◌, ◌++◌, length, take, drop, map, vec_len, vec_capacity, Some}
+use Rattle.std.specs.Prelude.{◌≡◌, ℕ, suc, ◌+◌, ◌<◌, ◌≤◌, slice_get, List, [], ◌∷◌}
+use Rattle.std.specs.Prelude.{◌++◌, length, take, drop, map, vec_len, vec_capacity, Some}
 use Rattle.std.specs.List.{flat_map}
 use Rattle.std.specs.declared.alloc.Global.{Global}
 use Rattle.std.specs.declared.vec.Vec.{Vec}
@@ -9,7 +10,8 @@ use Rattle.wc_nicklist.specs.declared.item.Key.{Key}
 use Rattle.wc_nicklist.specs.declared.item.Row.{Row}
 use Rattle.wc_nicklist.specs.declared.store.Store.{Store}
 use Rattle.wc_nicklist.specs.Rows.{find_row}
-use Rattle.wc_nicklist.specs.Stored.{row_at, entry_row, AllEntriesLead, IdIn, AllBefore, FirstNotBefore, IsSplitAt}
+use Rattle.wc_nicklist.specs.Stored.{row_at, entry_row, AllEntriesLead, IdIn, AllBefore}
+use Rattle.wc_nicklist.specs.Stored.{FirstNotBefore, IsSplitAt}
 
 abbrev pub Leaf : Type 0
 Leaf = Vec Entry Global
@@ -49,8 +51,8 @@ pub record IsTree (s : Store) (leaves : List Leaf) (spare : Leaf) (count : ℕ) 
   pub counted : count ≡ length (entries_in leaves)
   pub owned : (n : ℕ) (r : Row) → row_at s n ≡ Some r → IdIn n (entries_in leaves)
 
--- an address belongs into this leaf: the rows of the leaves before are before it, and where those of
--- this leaf do too, it is the last
+-- an address belongs into this leaf: the rows of the leaves before are before it, and where those
+-- of this leaf do too, it is the last
 pub record IsLeafPlace (s : Store) (leaves : List Leaf) (a : List Key) (c : ℕ) : Type 0 where
   pub leaf : Leaf
   pub split : IsSplitAt leaves c leaf (drop (suc c) leaves)

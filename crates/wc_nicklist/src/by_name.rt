@@ -1,6 +1,8 @@
-ghost use Rattle.std.specs.Prelude.{◌≡◌, ◌≤◌, ◌<◌, ℕ, List, true, false, None, Some, OnOk, IfSome, IfNone, bytes_eq, nat_eq, if◌then◌else◌};
+ghost use Rattle.std.specs.Prelude.{◌≡◌, ◌≤◌, ◌<◌, ℕ, List, true, false, None, Some, OnOk, IfSome};
+ghost use Rattle.std.specs.Prelude.{IfNone, bytes_eq, nat_eq, if◌then◌else◌};
 ghost use Rattle.std.specs.HashMap.{spare};
-ghost use Rattle.wc_nicklist.specs.Index.{at_name, at_long, at_short, is_short, number, HasNameRoom};
+ghost use Rattle.wc_nicklist.specs.Index.{at_name, at_long, at_short, is_short, number};
+ghost use Rattle.wc_nicklist.specs.Index.{HasNameRoom};
 
 use crate::digest::front;
 use crate::store::RowId;
@@ -57,7 +59,8 @@ impl IdsByName {
     /// Notes the number of a name. It takes no memory.
     pub(crate) fn insert(&mut self, name: Vec<u8>, id: RowId)
         requires { HasNameRoom self.old }
-        ensures { (q : List ℕ) → at_name self.new q ≡ (if bytes_eq name.items q then Some id else at_name self.old q) }
+        ensures { (q : List ℕ) → at_name self.new q ≡ (if bytes_eq name.items q then Some id
+            else at_name self.old q) }
     {
         match number(name.as_slice()) {
             Some(number) => insert_short(&mut self.short, number, id),
@@ -67,7 +70,8 @@ impl IdsByName {
 
     /// Forgets the number of a name.
     pub(crate) fn remove(&mut self, name: &[u8])
-        ensures { (q : List ℕ) → at_name self.new q ≡ (if bytes_eq name.now q then None else at_name self.old q) }
+        ensures { (q : List ℕ) → at_name self.new q ≡ (if bytes_eq name.now q then None
+            else at_name self.old q) }
     {
         match number(name) {
             Some(number) => remove_short(&mut self.short, number),
@@ -99,7 +103,8 @@ fn reserve_short(ids: &mut ShortIds) -> Result<(), NoMemory>
 
 fn insert_short(ids: &mut ShortIds, number: u128, id: RowId)
     requires { 0 < spare ids.old }
-    ensures { (n : ℕ) → at_short ids.new n ≡ (if nat_eq number n then Some id else at_short ids.old n) }
+    ensures { (n : ℕ) → at_short ids.new n ≡ (if nat_eq number n then Some id
+        else at_short ids.old n) }
 {
     let Ok(_) = ids.insert(number, id) else {
         unreachable!()
@@ -107,7 +112,8 @@ fn insert_short(ids: &mut ShortIds, number: u128, id: RowId)
 }
 
 fn remove_short(ids: &mut ShortIds, number: u128)
-    ensures { (n : ℕ) → at_short ids.new n ≡ (if nat_eq number n then None else at_short ids.old n) }
+    ensures { (n : ℕ) → at_short ids.new n ≡ (if nat_eq number n then None
+        else at_short ids.old n) }
 {
     let _ = ids.remove(&number);
 }
@@ -123,7 +129,8 @@ fn reserve_long(ids: &mut LongIds) -> Result<(), NoMemory>
 
 fn insert_long(ids: &mut LongIds, name: Vec<u8>, id: RowId)
     requires { 0 < spare ids.old }
-    ensures { (q : List ℕ) → at_long ids.new q ≡ (if bytes_eq name.items q then Some id else at_long ids.old q) }
+    ensures { (q : List ℕ) → at_long ids.new q ≡ (if bytes_eq name.items q then Some id
+        else at_long ids.old q) }
 {
     let Ok(_) = ids.insert(name, id) else {
         unreachable!()
@@ -131,7 +138,8 @@ fn insert_long(ids: &mut LongIds, name: Vec<u8>, id: RowId)
 }
 
 fn remove_long(ids: &mut LongIds, name: &[u8])
-    ensures { (q : List ℕ) → at_long ids.new q ≡ (if bytes_eq name.now q then None else at_long ids.old q) }
+    ensures { (q : List ℕ) → at_long ids.new q ≡ (if bytes_eq name.now q then None
+        else at_long ids.old q) }
 {
     let _ = ids.remove(name);
 }

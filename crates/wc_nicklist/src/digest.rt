@@ -1,5 +1,6 @@
 ghost use Rattle.std.specs.Prelude.{◌≡◌, ◌≤◌, ◌<◌, ◌^◌, ◌∷◌, [], List, ℕ, get_or, IsTrue};
-ghost use Rattle.wc_nicklist.specs.Digest.{front, bytes_compared, place_of, IsBytes, IsPathDigest, Tells};
+ghost use Rattle.wc_nicklist.specs.Digest.{front, bytes_compared, place_of, IsBytes, IsPathDigest};
+ghost use Rattle.wc_nicklist.specs.Digest.{Tells};
 ghost use Rattle.wc_nicklist.specs.Order.{kind};
 
 use wc_text::Text;

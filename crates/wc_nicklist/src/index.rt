@@ -52,7 +52,8 @@ impl Index {
     /// Notes the number of a key. It takes no memory.
     pub(crate) fn insert(&mut self, is_group: bool, name: Vec<u8>, id: RowId)
         requires { IndexHasRoom self.old }
-        ensures { (k : Key) → id_in self.new k ≡ (if key_eq (key_at is_group name.items) k then Some id else id_in self.old k) }
+        ensures { (k : Key) → id_in self.new k ≡ (if key_eq (key_at is_group name.items) k
+            then Some id else id_in self.old k) }
     {
         if is_group {
             self.groups.insert(name, id);
@@ -63,7 +64,8 @@ impl Index {
 
     /// Forgets the number of a key.
     pub(crate) fn remove(&mut self, is_group: bool, name: &[u8])
-        ensures { (k : Key) → id_in self.new k ≡ (if key_eq (key_at is_group name.now) k then None else id_in self.old k) }
+        ensures { (k : Key) → id_in self.new k ≡ (if key_eq (key_at is_group name.now) k then None
+            else id_in self.old k) }
     {
         if is_group {
             self.groups.remove(name);

@@ -50,7 +50,8 @@ impl<'a> RowView<'a> {
     }
 }
 
-/// The rows of a nicklist in canonical order, which contracts see as the list of those that are left.
+/// The rows of a nicklist in canonical order, which contracts see as the list of those that are
+/// left.
 #[derive(Drop)]
 pub struct RowIter<'a> {
     store: &'a Store,

@@ -1,4 +1,6 @@
-ghost use Rattle.std.specs.Prelude.{◌≡◌, ◌≤◌, ◌<◌, ◌==◌, ◌++◌, ◌+◌, ◌∷◌, [], ℕ, OnOk, IsTrue, length, insert, map, remove, slice_index_or, take, vec_len, vec_capacity};
+ghost use Rattle.std.specs.Prelude.{◌≡◌, ◌≤◌, ◌<◌, ◌==◌, ◌++◌, ◌+◌, ◌∷◌, [], ℕ};
+ghost use Rattle.std.specs.Prelude.{OnOk, IsTrue, length, insert, map, remove, slice_index_or};
+ghost use Rattle.std.specs.Prelude.{take, vec_len, vec_capacity};
 ghost use Rattle.wc_nicklist.specs.Order.{key_at, address_of};
 ghost use Rattle.wc_nicklist.specs.Rows.{below, path_eq, Ascending};
 ghost use Rattle.wc_nicklist.specs.Stored.{entry_row, AllBefore, AllEntriesLead, IsRowPlace};
@@ -85,8 +87,11 @@ impl Leaf {
         requires filled { 0 < vec_len self.now }
         requires stand { AllEntriesLead store.now self.now.items }
         requires order { Ascending (leaf_rows store.now self.now) }
-        ensures all { IsTrue result → AllBefore (leaf_rows store.now self.now) (address_of address.now.path.now (key_at address.now.is_group address.now.name.now)) }
-        ensures not_all { AllBefore (leaf_rows store.now self.now) (address_of address.now.path.now (key_at address.now.is_group address.now.name.now)) → IsTrue result }
+        ensures all { IsTrue result → AllBefore (leaf_rows store.now self.now)
+            (address_of address.now.path.now (key_at address.now.is_group address.now.name.now)) }
+        ensures not_all { AllBefore (leaf_rows store.now self.now)
+            (address_of address.now.path.now (key_at address.now.is_group address.now.name.now)) →
+            IsTrue result }
     {
         if self.last.tells(&address.digest) {
             return self.last.name < address.digest.name;
@@ -112,7 +117,9 @@ impl Leaf {
     pub(crate) fn place(&self, store: &Store, address: &Address<'_>) -> usize
         requires stand { AllEntriesLead store.now self.now.items }
         requires order { Ascending (leaf_rows store.now self.now) }
-        ensures { IsRowPlace (leaf_rows store.now self.now) (address_of address.now.path.now (key_at address.now.is_group address.now.name.now)) result }
+        ensures { IsRowPlace (leaf_rows store.now self.now)
+            (address_of address.now.path.now
+            (key_at address.now.is_group address.now.name.now)) result }
     {
         place(store, self.entries.as_slice(), address)
     }
@@ -122,7 +129,9 @@ impl Leaf {
         requires stand { AllEntriesLead store.now self.old.items }
         requires order { Ascending (leaf_rows store.now self.old) }
         requires room { vec_len self.old < vec_capacity self.old }
-        ensures place { (n : ℕ) × IsRowPlace (leaf_rows store.now self.old) (address_of address.now.path.now (key_at address.now.is_group address.now.name.now)) n × (self.new.items ≡ insert self.old.items n entry) }
+        ensures place { (n : ℕ) × IsRowPlace (leaf_rows store.now self.old)
+            (address_of address.now.path.now (key_at address.now.is_group address.now.name.now)) n
+            × (self.new.items ≡ insert self.old.items n entry) }
         ensures len { vec_len self.new ≡ vec_len self.old + 1 }
         ensures capacity { vec_capacity self.old ≤ vec_capacity self.new }
     {
@@ -197,7 +206,9 @@ fn last_digest(entries: &[Entry]) -> Digest
 fn place(store: &Store, entries: &[Entry], address: &Address<'_>) -> usize
     requires stand { AllEntriesLead store.now entries.now }
     requires order { Ascending (map (entry_row store.now) entries.now) }
-    ensures { IsRowPlace (map (entry_row store.now) entries.now) (address_of address.now.path.now (key_at address.now.is_group address.now.name.now)) result }
+    ensures { IsRowPlace (map (entry_row store.now) entries.now)
+        (address_of address.now.path.now
+        (key_at address.now.is_group address.now.name.now)) result }
 {
     let mut at = place_by_strides(store, entries, address);
     while at < entries.len() && comes_before(store, &entries[at], address) {
@@ -211,7 +222,8 @@ fn place_by_strides(store: &Store, entries: &[Entry], address: &Address<'_>) -> 
     requires stand { AllEntriesLead store.now entries.now }
     requires order { Ascending (map (entry_row store.now) entries.now) }
     ensures within { result ≤ length entries.now }
-    ensures left { AllBefore (take result (map (entry_row store.now) entries.now)) (address_of address.now.path.now (key_at address.now.is_group address.now.name.now)) }
+    ensures left { AllBefore (take result (map (entry_row store.now) entries.now))
+        (address_of address.now.path.now (key_at address.now.is_group address.now.name.now)) }
 {
     let mut at = 0;
     while entries.len() - at >= STRIDE && comes_before(store, &entries[at + STRIDE - 1], address) {

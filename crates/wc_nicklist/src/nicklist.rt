@@ -1,7 +1,12 @@
-ghost use Rattle.std.specs.Prelude.{[], ◌≡◌, ◌≢◌, ◌≤◌, ◌<◌, Some, None, false, ◌&&◌, OnOk, OnErr, IfOk, IfErr, IfSome, IsSome, length, unwrap_or, option_copied, is_some, IsOk, IsTrue, ◌↔◌, true, vec_capacity};
-ghost use Rattle.wc_nicklist.specs.Calls.{is_bad_name, name_refusal, add_refusal, remove_refusal, change_refusal, add_row, item_of, with_rows, has_children, row_under};
+ghost use Rattle.std.specs.Prelude.{[], ◌≡◌, ◌≢◌, ◌≤◌, ◌<◌, Some, None, false, ◌&&◌, OnOk};
+ghost use Rattle.std.specs.Prelude.{OnErr, IfOk, IfErr, IfSome, IsSome, length, unwrap_or};
+ghost use Rattle.std.specs.Prelude.{option_copied, is_some, IsOk, IsTrue, ◌↔◌, true, vec_capacity};
+ghost use Rattle.wc_nicklist.specs.Calls.{is_bad_name, name_refusal, add_refusal, remove_refusal};
+ghost use Rattle.wc_nicklist.specs.Calls.{change_refusal, add_row, item_of, with_rows};
+ghost use Rattle.wc_nicklist.specs.Calls.{has_children, row_under};
 ghost use Rattle.wc_nicklist.specs.Order.{key_at};
-ghost use Rattle.wc_nicklist.specs.Rows.{find_row, remove_row, change_row, path_below, is_root, has_child, below, TextsAreUtf8, IsRows, Nicks};
+ghost use Rattle.wc_nicklist.specs.Rows.{find_row, remove_row, change_row, path_below, is_root};
+ghost use Rattle.wc_nicklist.specs.Rows.{has_child, below, TextsAreUtf8, IsRows, Nicks};
 
 use crate::index::Index;
 use crate::item::{Item, Key, Row};
@@ -115,7 +120,8 @@ impl Nicklist {
     }
 
     /// Adds a group below a parent, which is a group's name or `root`. Its level is its parent's
-    /// plus 1. A refusal changes nothing: `IsRoot`, `BadName`, `NoParent`, `NameTaken`, in this order.
+    /// plus 1. A refusal changes nothing: `IsRoot`, `BadName`, `NoParent`, `NameTaken`, in this
+    /// order.
     pub fn add_group(
         &mut self,
         alloc: Global,
@@ -123,9 +129,12 @@ impl Nicklist {
         group: Item,
     ) -> Result<(), NickRefused>
         requires { TextsAreUtf8 group }
-        ensures accepted { OnOk result (add_refusal true parent.now group.name self.old.rows ≡ None) }
-        ensures after { OnOk result (self.new ≡ with_rows (add_row true parent.now group self.old.rows) self.old) }
-        ensures refused { IfErr result (λ e. e ≢ NickRefused.NoMemory → add_refusal true parent.now group.name self.old.rows ≡ Some e) }
+        ensures accepted { OnOk result
+            (add_refusal true parent.now group.name self.old.rows ≡ None) }
+        ensures after { OnOk result
+            (self.new ≡ with_rows (add_row true parent.now group self.old.rows) self.old) }
+        ensures refused { IfErr result (λ e. e ≢ NickRefused.NoMemory →
+            add_refusal true parent.now group.name self.old.rows ≡ Some e) }
         ensures err { OnErr result (self.new ≡ self.old) }
         ensures room { self.old.room ≡ Some parent.now → result ≢ Err NickRefused.NoMemory }
     {
@@ -136,9 +145,12 @@ impl Nicklist {
     /// nothing: `BadName`, `NoParent`, `NameTaken`, in this order.
     pub fn add_nick(&mut self, alloc: Global, group: &Text, nick: Item) -> Result<(), NickRefused>
         requires { TextsAreUtf8 nick }
-        ensures accepted { OnOk result (add_refusal false group.now nick.name self.old.rows ≡ None) }
-        ensures after { OnOk result (self.new ≡ with_rows (add_row false group.now nick self.old.rows) self.old) }
-        ensures refused { IfErr result (λ e. e ≢ NickRefused.NoMemory → add_refusal false group.now nick.name self.old.rows ≡ Some e) }
+        ensures accepted { OnOk result
+            (add_refusal false group.now nick.name self.old.rows ≡ None) }
+        ensures after { OnOk result
+            (self.new ≡ with_rows (add_row false group.now nick self.old.rows) self.old) }
+        ensures refused { IfErr result (λ e. e ≢ NickRefused.NoMemory →
+            add_refusal false group.now nick.name self.old.rows ≡ Some e) }
         ensures err { OnErr result (self.new ≡ self.old) }
         ensures room { self.old.room ≡ Some group.now → result ≢ Err NickRefused.NoMemory }
     {
@@ -153,9 +165,12 @@ impl Nicklist {
         item: Item,
     ) -> Result<(), NickRefused>
         requires { TextsAreUtf8 item }
-        ensures accepted { OnOk result (add_refusal is_group parent.now item.name self.old.rows ≡ None) }
-        ensures after { OnOk result (self.new ≡ with_rows (add_row is_group parent.now item self.old.rows) self.old) }
-        ensures refused { IfErr result (λ e. e ≢ NickRefused.NoMemory → add_refusal is_group parent.now item.name self.old.rows ≡ Some e) }
+        ensures accepted { OnOk result
+            (add_refusal is_group parent.now item.name self.old.rows ≡ None) }
+        ensures after { OnOk result
+            (self.new ≡ with_rows (add_row is_group parent.now item self.old.rows) self.old) }
+        ensures refused { IfErr result (λ e. e ≢ NickRefused.NoMemory →
+            add_refusal is_group parent.now item.name self.old.rows ≡ Some e) }
         ensures err { OnErr result (self.new ≡ self.old) }
         ensures room { self.old.room ≡ Some parent.now → result ≢ Err NickRefused.NoMemory }
     {
@@ -180,8 +195,10 @@ impl Nicklist {
         parent: &Text,
         name: &[u8],
     ) -> Option<NickRefused>
-        ensures none { result ≡ None → add_refusal is_group parent.now name.now self.now.rows ≡ None }
-        ensures some { IfSome result (λ e. e ≢ NickRefused.NoMemory → add_refusal is_group parent.now name.now self.now.rows ≡ Some e) }
+        ensures none { result ≡ None →
+            add_refusal is_group parent.now name.now self.now.rows ≡ None }
+        ensures some { IfSome result (λ e. e ≢ NickRefused.NoMemory →
+            add_refusal is_group parent.now name.now self.now.rows ≡ Some e) }
         ensures room { self.now.room ≡ Some parent.now → result ≢ Some NickRefused.NoMemory }
     {
         if let Some(refused) = refusal_of_name(is_group, name) {
@@ -217,8 +234,13 @@ impl Nicklist {
     /// `NoMemory` until the next change. A refusal changes nothing: `NoParent`.
     pub fn make_room(&mut self, alloc: Global, parent: &Text) -> Result<(), NickRefused>
         ensures accepted { OnOk result (IsSome (path_below parent.now self.old.rows)) }
-        ensures after { OnOk result (self.new ≡ record { root = self.old.root; rows = self.old.rows; room = Some parent.now }) }
-        ensures refused { IfErr result (λ e. e ≢ NickRefused.NoMemory → (path_below parent.now self.old.rows ≡ None) × (e ≡ NickRefused.NoParent parent.now)) }
+        ensures after { OnOk result (self.new ≡ record {
+          root = self.old.root;
+          rows = self.old.rows;
+          room = Some parent.now;
+        }) }
+        ensures refused { IfErr result (λ e. e ≢ NickRefused.NoMemory →
+            (path_below parent.now self.old.rows ≡ None) × (e ≡ NickRefused.NoParent parent.now)) }
         ensures err { OnErr result (self.new ≡ self.old) }
     {
         if !self.has_parent(parent.as_slice()) {
@@ -232,7 +254,11 @@ impl Nicklist {
 
     fn prepare(&mut self, alloc: Global, parent: &Text) -> Result<(), NoMemory>
         requires { IsSome (path_below parent.now self.old.rows) }
-        ensures ok { OnOk result (self.new ≡ record { root = self.old.root; rows = self.old.rows; room = Some parent.now }) }
+        ensures ok { OnOk result (self.new ≡ record {
+          root = self.old.root;
+          rows = self.old.rows;
+          room = Some parent.now;
+        }) }
         ensures err { OnErr result (self.new ≡ self.old) }
         ensures ready { self.old.room ≡ Some parent.now → IsOk result }
     {
@@ -332,7 +358,8 @@ impl Nicklist {
         requires absent { find_row (key_at is_group item.name) self.old.rows ≡ None }
         requires named { name_refusal is_group item.name ≡ None }
         requires utf8 { TextsAreUtf8 item }
-        ensures { self.new ≡ with_rows (add_row is_group (unwrap_or self.old.room []) item self.old.rows) self.old }
+        ensures { self.new ≡ with_rows
+            (add_row is_group (unwrap_or self.old.room []) item self.old.rows) self.old }
     {
         let Some(room) = self.room.take() else {
             unreachable!()
@@ -353,8 +380,10 @@ impl Nicklist {
     /// `BadName`, `NoSuch`, `NotEmpty`, in this order.
     pub fn remove_group(&mut self, name: &Text) -> Result<Item, NickRefused>
         ensures accepted { OnOk result (remove_refusal true name.now self.old.rows ≡ None) }
-        ensures item { IfOk result (λ item. item_of (find_row (key_at true name.now) self.old.rows) ≡ Some item) }
-        ensures after { OnOk result (self.new ≡ with_rows (remove_row (key_at true name.now) self.old.rows) self.old) }
+        ensures item { IfOk result (λ item. item_of (find_row (key_at true name.now) self.old.rows)
+            ≡ Some item) }
+        ensures after { OnOk result
+            (self.new ≡ with_rows (remove_row (key_at true name.now) self.old.rows) self.old) }
         ensures refused { IfErr result (λ e. remove_refusal true name.now self.old.rows ≡ Some e) }
         ensures err { OnErr result (self.new ≡ self.old) }
     {
@@ -364,8 +393,10 @@ impl Nicklist {
     /// Takes a nick out. A refusal changes nothing: `BadName`, `NoSuch`, in this order.
     pub fn remove_nick(&mut self, name: &Text) -> Result<Item, NickRefused>
         ensures accepted { OnOk result (remove_refusal false name.now self.old.rows ≡ None) }
-        ensures item { IfOk result (λ item. item_of (find_row (key_at false name.now) self.old.rows) ≡ Some item) }
-        ensures after { OnOk result (self.new ≡ with_rows (remove_row (key_at false name.now) self.old.rows) self.old) }
+        ensures item { IfOk result (λ item. item_of (find_row (key_at false name.now) self.old.rows)
+            ≡ Some item) }
+        ensures after { OnOk result
+            (self.new ≡ with_rows (remove_row (key_at false name.now) self.old.rows) self.old) }
         ensures refused { IfErr result (λ e. remove_refusal false name.now self.old.rows ≡ Some e) }
         ensures err { OnErr result (self.new ≡ self.old) }
     {
@@ -374,9 +405,12 @@ impl Nicklist {
 
     fn remove(&mut self, is_group: bool, name: &[u8]) -> Result<Item, NickRefused>
         ensures accepted { OnOk result (remove_refusal is_group name.now self.old.rows ≡ None) }
-        ensures item { IfOk result (λ item. item_of (find_row (key_at is_group name.now) self.old.rows) ≡ Some item) }
-        ensures after { OnOk result (self.new ≡ with_rows (remove_row (key_at is_group name.now) self.old.rows) self.old) }
-        ensures refused { IfErr result (λ e. remove_refusal is_group name.now self.old.rows ≡ Some e) }
+        ensures item { IfOk result
+            (λ item. item_of (find_row (key_at is_group name.now) self.old.rows) ≡ Some item) }
+        ensures after { OnOk result
+            (self.new ≡ with_rows (remove_row (key_at is_group name.now) self.old.rows) self.old) }
+        ensures refused { IfErr result (λ e. remove_refusal is_group name.now self.old.rows
+            ≡ Some e) }
         ensures err { OnErr result (self.new ≡ self.old) }
     {
         if let Some(refused) = self.remove_refusal(is_group, name) {
@@ -417,9 +451,11 @@ impl Nicklist {
     /// Takes a row out that is there and has no children.
     fn take(&mut self, is_group: bool, name: &[u8]) -> Item
         requires stands { IsSome (find_row (key_at is_group name.now) self.old.rows) }
-        requires childless { is_group ≡ true → has_children (find_row (key_at is_group name.now) self.old.rows) self.old.rows ≡ false }
+        requires childless { is_group ≡ true →
+            has_children (find_row (key_at is_group name.now) self.old.rows) self.old.rows ≡ false }
         ensures item { item_of (find_row (key_at is_group name.now) self.old.rows) ≡ Some result }
-        ensures after { self.new ≡ with_rows (remove_row (key_at is_group name.now) self.old.rows) self.old }
+        ensures after { self.new
+            ≡ with_rows (remove_row (key_at is_group name.now) self.old.rows) self.old }
     {
         let Some(id) = self.index.find(is_group, name) else {
             unreachable!()
@@ -435,7 +471,9 @@ impl Nicklist {
     pub fn change_group(&mut self, item: Item) -> Result<(), NickRefused>
         requires { TextsAreUtf8 item }
         ensures accepted { OnOk result (change_refusal true item.name self.old.rows ≡ None) }
-        ensures after { OnOk result (self.new ≡ with_rows (change_row (key_at true item.name) item self.old.rows) self.old) }
+        ensures after { OnOk result
+            (self.new ≡ with_rows (change_row (key_at true item.name) item self.old.rows)
+            self.old) }
         ensures refused { IfErr result (λ e. change_refusal true item.name self.old.rows ≡ Some e) }
         ensures err { OnErr result (self.new ≡ self.old) }
     {
@@ -447,8 +485,11 @@ impl Nicklist {
     pub fn change_nick(&mut self, item: Item) -> Result<(), NickRefused>
         requires { TextsAreUtf8 item }
         ensures accepted { OnOk result (change_refusal false item.name self.old.rows ≡ None) }
-        ensures after { OnOk result (self.new ≡ with_rows (change_row (key_at false item.name) item self.old.rows) self.old) }
-        ensures refused { IfErr result (λ e. change_refusal false item.name self.old.rows ≡ Some e) }
+        ensures after { OnOk result
+            (self.new ≡ with_rows (change_row (key_at false item.name) item self.old.rows)
+            self.old) }
+        ensures refused { IfErr result (λ e. change_refusal false item.name self.old.rows
+            ≡ Some e) }
         ensures err { OnErr result (self.new ≡ self.old) }
     {
         self.change(false, item)
@@ -457,8 +498,11 @@ impl Nicklist {
     fn change(&mut self, is_group: bool, item: Item) -> Result<(), NickRefused>
         requires { TextsAreUtf8 item }
         ensures accepted { OnOk result (change_refusal is_group item.name self.old.rows ≡ None) }
-        ensures after { OnOk result (self.new ≡ with_rows (change_row (key_at is_group item.name) item self.old.rows) self.old) }
-        ensures refused { IfErr result (λ e. change_refusal is_group item.name self.old.rows ≡ Some e) }
+        ensures after { OnOk result
+            (self.new ≡ with_rows (change_row (key_at is_group item.name) item self.old.rows)
+            self.old) }
+        ensures refused { IfErr result (λ e. change_refusal is_group item.name self.old.rows
+            ≡ Some e) }
         ensures err { OnErr result (self.new ≡ self.old) }
     {
         if let Some(refused) = self.change_refusal(is_group, item.name.as_slice()) {
@@ -488,7 +532,8 @@ impl Nicklist {
     fn write(&mut self, is_group: bool, item: Item)
         requires stands { IsSome (find_row (key_at is_group item.name) self.old.rows) }
         requires utf8 { TextsAreUtf8 item }
-        ensures { self.new ≡ with_rows (change_row (key_at is_group item.name) item self.old.rows) self.old }
+        ensures { self.new ≡ with_rows
+            (change_row (key_at is_group item.name) item self.old.rows) self.old }
     {
         let Some(id) = self.index.find(is_group, item.name.as_slice()) else {
             unreachable!()

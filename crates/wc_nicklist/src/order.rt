@@ -1,6 +1,7 @@
 ghost use Rattle.std.specs.Prelude.{◌≡◌, ◌≤◌, ◌<◌, length, drop, min};
 ghost use Rattle.wc_text.specs.Order.{fold_order};
-ghost use Rattle.wc_nicklist.specs.Order.{key_at, key_cmp, address, address_cmp, address_of, is_before};
+ghost use Rattle.wc_nicklist.specs.Order.{key_at, key_cmp, address, address_cmp, address_of};
+ghost use Rattle.wc_nicklist.specs.Order.{is_before};
 ghost use Rattle.wc_nicklist.specs.Digest.{IsPathDigest};
 ghost use Rattle.wc_nicklist.specs.Stored.{entry_row, EntryLeads};
 
@@ -82,7 +83,8 @@ pub fn row_cmp(a: &Row, b: &Row) -> Ordering
 #[inline(always)]
 pub(crate) fn comes_before(store: &Store, entry: &Entry, address: &Address<'_>) -> bool
     requires { EntryLeads store.now entry.now }
-    ensures { result ≡ is_before (entry_row store.now entry.now) (address_of address.now.path.now (key_at address.now.is_group address.now.name.now)) }
+    ensures { result ≡ is_before (entry_row store.now entry.now)
+        (address_of address.now.path.now (key_at address.now.is_group address.now.name.now)) }
 {
     let digest = entry.digest;
     if digest.place != address.digest.place
@@ -99,7 +101,8 @@ pub(crate) fn comes_before(store: &Store, entry: &Entry, address: &Address<'_>) 
 #[inline(never)]
 fn comes_before_by_names(store: &Store, entry: &Entry, address: &Address<'_>) -> bool
     requires { EntryLeads store.now entry.now }
-    ensures { result ≡ is_before (entry_row store.now entry.now) (address_of address.now.path.now (key_at address.now.is_group address.now.name.now)) }
+    ensures { result ≡ is_before (entry_row store.now entry.now)
+        (address_of address.now.path.now (key_at address.now.is_group address.now.name.now)) }
 {
     let row = store.get(entry.id);
     let digest = entry.digest;
@@ -111,7 +114,9 @@ fn comes_before_by_names(store: &Store, entry: &Entry, address: &Address<'_>) ->
 
 /// The canonical order: name by name along the paths, and a nick before a group.
 fn compare(a: &Names<'_>, b: &Names<'_>) -> Ordering
-    ensures { result ≡ address_cmp (address_of a.now.path.now (key_at a.now.is_group a.now.name.now)) (address_of b.now.path.now (key_at b.now.is_group b.now.name.now)) }
+    ensures { result ≡ address_cmp (address_of a.now.path.now
+        (key_at a.now.is_group a.now.name.now))
+        (address_of b.now.path.now (key_at b.now.is_group b.now.name.now)) }
 {
     let shared = a.path.len().min(b.path.len());
     for i in 0..shared {
@@ -128,7 +133,9 @@ fn compare_ends(a: &Names<'_>, b: &Names<'_>, shared: usize) -> Ordering
     requires within_a { shared ≤ length a.now.path.now }
     requires within_b { shared ≤ length b.now.path.now }
     requires one_ends { min (length a.now.path.now) (length b.now.path.now) ≤ shared }
-    ensures { result ≡ address_cmp (address_of (drop shared a.now.path.now) (key_at a.now.is_group a.now.name.now)) (address_of (drop shared b.now.path.now) (key_at b.now.is_group b.now.name.now)) }
+    ensures { result ≡ address_cmp (address_of (drop shared a.now.path.now)
+        (key_at a.now.is_group a.now.name.now)) (address_of (drop shared b.now.path.now)
+        (key_at b.now.is_group b.now.name.now)) }
 {
     if shared < a.path.len() {
         compare_keys(true, a.path[shared].as_slice(), b.is_group, b.name).then(Ordering::Greater)

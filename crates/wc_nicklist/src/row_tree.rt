@@ -1,8 +1,15 @@
-ghost use Rattle.std.specs.Prelude.{◌≡◌, ◌≤◌, ◌<◌, ◌+◌, ◌++◌, ℕ, [], None, Some, OnOk, IsTrue, IsSome, IfSome, IsSomeAnd, length, map, vec_len, vec_capacity, true, suc, drop, slice_get, nat_eq, if◌then◌else◌};
+ghost use Rattle.std.specs.Prelude.{◌≡◌, ◌≤◌, ◌<◌, ◌+◌, ◌++◌, ℕ, [], None, Some, OnOk};
+ghost use Rattle.std.specs.Prelude.{IsTrue, IsSome, IfSome, IsSomeAnd, length, map, vec_len};
+ghost use Rattle.std.specs.Prelude.{vec_capacity, true, suc, drop, slice_get, nat_eq};
+ghost use Rattle.std.specs.Prelude.{if◌then◌else◌};
 ghost use Rattle.wc_nicklist.specs.Order.{key, key_at, address_of};
-ghost use Rattle.wc_nicklist.specs.Rows.{find_row, insert_row, remove_row, change_row, changed_row, has_child, below, Ascending, IsRows};
-ghost use Rattle.wc_nicklist.specs.Stored.{begins_below, entry_row, row_at, AllEntriesLead, EntryLeads};
-ghost use Rattle.wc_nicklist.specs.Tree.{entries_in, rows_in, AreLeaves, IsLeafPlace, IsRoomyPlace, IsFullAt, AreNearlyLeaves, AreFewAt, IsInTree, IsInserted, IsRemoved};
+ghost use Rattle.wc_nicklist.specs.Rows.{find_row, insert_row, remove_row, change_row, changed_row};
+ghost use Rattle.wc_nicklist.specs.Rows.{has_child, below, Ascending, IsRows};
+ghost use Rattle.wc_nicklist.specs.Stored.{begins_below, entry_row, row_at, AllEntriesLead};
+ghost use Rattle.wc_nicklist.specs.Stored.{EntryLeads};
+ghost use Rattle.wc_nicklist.specs.Tree.{entries_in, rows_in, AreLeaves, IsLeafPlace, IsRoomyPlace};
+ghost use Rattle.wc_nicklist.specs.Tree.{IsFullAt, AreNearlyLeaves, AreFewAt, IsInTree, IsInserted};
+ghost use Rattle.wc_nicklist.specs.Tree.{IsRemoved};
 ghost use Rattle.wc_nicklist.specs.declared.item.Row.{Row as RowValue};
 
 use crate::entry::Entry;
@@ -35,7 +42,12 @@ impl Model for RowTree {
 
     ghost Value = { Stored };
 
-    ghost view = { λ a. record { rows = rows_in a.store a.leaves.items; store = a.store; has_room = store_has_room a.store && nat_lt (vec_len a.leaves) (vec_capacity a.leaves) && nat_le 64 (vec_capacity a.spare) && nat_lt a.count 18446744073709551615 } };
+    ghost view = { λ a. record {
+      rows = rows_in a.store a.leaves.items;
+      store = a.store;
+      has_room = store_has_room a.store && nat_lt (vec_len a.leaves) (vec_capacity a.leaves)
+          && nat_le 64 (vec_capacity a.spare) && nat_lt a.count 18446744073709551615;
+    } };
 
     ghost invariant = { λ a. IsTree a.store a.leaves.items a.spare a.count };
 }
@@ -91,7 +103,8 @@ impl RowTree {
         requires absent { find_row (key row.value) self.old.rows ≡ None }
         ensures rows { self.new.rows ≡ insert_row row.value self.old.rows }
         ensures fresh { row_at self.old.store result.0 ≡ None }
-        ensures at { (n : ℕ) → row_at self.new.store n ≡ (if nat_eq result.0 n then Some row.value else row_at self.old.store n) }
+        ensures at { (n : ℕ) → row_at self.new.store n ≡ (if nat_eq result.0 n then Some row.value
+            else row_at self.old.store n) }
     {
         let id = self.store.put(row);
         let stored = self.store.get(id);
@@ -123,10 +136,12 @@ impl RowTree {
     /// Takes the row of a number out.
     pub(crate) fn remove(&mut self, id: RowId) -> Slot
         requires held { IsRows self.old.rows }
-        requires known { IsSomeAnd (row_at self.old.store id.0) (λ r. find_row (key r) self.old.rows ≡ Some r) }
+        requires known { IsSomeAnd (row_at self.old.store id.0) (λ r. find_row (key r) self.old.rows
+            ≡ Some r) }
         ensures row { row_at self.old.store id.0 ≡ Some result.value }
         ensures rows { self.new.rows ≡ remove_row (key result.value) self.old.rows }
-        ensures at { (n : ℕ) → row_at self.new.store n ≡ (if nat_eq id.0 n then None else row_at self.old.store n) }
+        ensures at { (n : ℕ) → row_at self.new.store n ≡ (if nat_eq id.0 n then None
+            else row_at self.old.store n) }
     {
         let row = self.store.get(id);
         remove(&mut self.leaves, &self.store, &row.address());
@@ -137,9 +152,13 @@ impl RowTree {
     /// Gives the row of a number other fields.
     pub(crate) fn change(&mut self, id: RowId, item: Item)
         requires held { IsRows self.old.rows }
-        requires known { IsSomeAnd (row_at self.old.store id.0) (λ r. find_row (key r) self.old.rows ≡ Some r) }
-        ensures rows { (r : RowValue) → row_at self.old.store id.0 ≡ Some r → self.new.rows ≡ change_row (key r) item self.old.rows }
-        ensures at { (r : RowValue) → row_at self.old.store id.0 ≡ Some r → (n : ℕ) → row_at self.new.store n ≡ (if nat_eq id.0 n then Some (changed_row r item) else row_at self.old.store n) }
+        requires known { IsSomeAnd (row_at self.old.store id.0) (λ r. find_row (key r) self.old.rows
+            ≡ Some r) }
+        ensures rows { (r : RowValue) → row_at self.old.store id.0 ≡ Some r →
+            self.new.rows ≡ change_row (key r) item self.old.rows }
+        ensures at { (r : RowValue) → row_at self.old.store id.0 ≡ Some r → (n : ℕ) →
+            row_at self.new.store n ≡ (if nat_eq id.0 n then Some (changed_row r item)
+            else row_at self.old.store n) }
     {
         self.store.change(id, item);
     }
@@ -147,7 +166,8 @@ impl RowTree {
     /// Whether a row is right below a group of these rows.
     pub(crate) fn has_child_of(&self, group: &Stored) -> bool
         requires held { IsRows self.now.rows }
-        requires stands { find_row (key_at true group.now.item.name) self.now.rows ≡ Some group.now }
+        requires stands { find_row (key_at true group.now.item.name) self.now.rows
+            ≡ Some group.now }
         ensures { result ≡ has_child (below group.now) self.now.rows }
     {
         has_child(&self.store, self.leaves.as_slice(), group)
@@ -160,7 +180,8 @@ fn has_child(store: &Store, leaves: &[Leaf], group: &Stored) -> bool
     requires held { IsRows (rows_in store.now leaves.now) }
     requires leaves { AreLeaves leaves.now }
     requires stand { AllEntriesLead store.now (entries_in leaves.now) }
-    requires stands { find_row (key_at true group.now.item.name) (rows_in store.now leaves.now) ≡ Some group.now }
+    requires stands { find_row (key_at true group.now.item.name) (rows_in store.now leaves.now)
+        ≡ Some group.now }
     ensures { result ≡ has_child (below group.now) (rows_in store.now leaves.now) }
 {
     let (at, n) = find(store, leaves, &group.address());
@@ -173,7 +194,8 @@ fn rows_after<'a>(store: &'a Store, leaves: &'a [Leaf], at: usize, n: usize) -> 
     requires stand { AllEntriesLead store.now (entries_in leaves.now) }
     requires outer { at < length leaves.now }
     requires inner { IfSome (slice_get leaves.now at) (λ l. n < vec_len l) }
-    ensures { IfSome (slice_get leaves.now at) (λ l. result ≡ map (entry_row store.now) (drop (suc n) l.items ++ entries_in (drop (suc at) leaves.now))) }
+    ensures { IfSome (slice_get leaves.now at) (λ l. result ≡ map (entry_row store.now)
+        (drop (suc n) l.items ++ entries_in (drop (suc at) leaves.now))) }
 {
     RowIter::from_leaf(store, &leaves[at].as_slice()[n + 1..], &leaves[at + 1..])
 }
@@ -193,7 +215,9 @@ fn leaf_of(store: &Store, leaves: &[Leaf], address: &Address<'_>) -> usize
     requires leaves { AreLeaves leaves.now }
     requires stand { AllEntriesLead store.now (entries_in leaves.now) }
     requires order { Ascending (rows_in store.now leaves.now) }
-    ensures { IsLeafPlace store.now leaves.now (address_of address.now.path.now (key_at address.now.is_group address.now.name.now)) result }
+    ensures { IsLeafPlace store.now leaves.now
+        (address_of address.now.path.now
+        (key_at address.now.is_group address.now.name.now)) result }
 {
     let mut low = 0;
     let mut high = leaves.len() - 1;
@@ -213,8 +237,10 @@ fn find(store: &Store, leaves: &[Leaf], address: &Address<'_>) -> (usize, usize)
     requires held { IsRows (rows_in store.now leaves.now) }
     requires leaves { AreLeaves leaves.now }
     requires stand { AllEntriesLead store.now (entries_in leaves.now) }
-    requires known { IsSomeAnd (find_row (key_at address.now.is_group address.now.name.now) (rows_in store.now leaves.now)) (λ r. r.path ≡ address.now.path.now) }
-    ensures { IsInTree store.now leaves.now result.0 result.1 (key_at address.now.is_group address.now.name.now) }
+    requires known { IsSomeAnd (find_row (key_at address.now.is_group address.now.name.now)
+        (rows_in store.now leaves.now)) (λ r. r.path ≡ address.now.path.now) }
+    ensures { IsInTree store.now leaves.now result.0 result.1
+        (key_at address.now.is_group address.now.name.now) }
 {
     let at = leaf_of(store, leaves, address);
     let n = leaves[at].place(store, address);
@@ -226,8 +252,10 @@ fn remove(leaves: &mut Vec<Leaf>, store: &Store, address: &Address<'_>) -> Entry
     requires held { IsRows (rows_in store.now leaves.old.items) }
     requires leaves { AreLeaves leaves.old.items }
     requires stand { AllEntriesLead store.now (entries_in leaves.old.items) }
-    requires known { IsSomeAnd (find_row (key_at address.now.is_group address.now.name.now) (rows_in store.now leaves.old.items)) (λ r. r.path ≡ address.now.path.now) }
-    ensures found { find_row (key_at address.now.is_group address.now.name.now) (rows_in store.now leaves.old.items) ≡ Some (entry_row store.now result) }
+    requires known { IsSomeAnd (find_row (key_at address.now.is_group address.now.name.now)
+        (rows_in store.now leaves.old.items)) (λ r. r.path ≡ address.now.path.now) }
+    ensures found { find_row (key_at address.now.is_group address.now.name.now)
+        (rows_in store.now leaves.old.items) ≡ Some (entry_row store.now result) }
     ensures entries { IsRemoved (entries_in leaves.old.items) (entries_in leaves.new.items) result }
     ensures leaves { AreLeaves leaves.new.items }
 {
@@ -306,7 +334,9 @@ fn insert(
     requires stand { AllEntriesLead store.now (entries_in leaves.old.items) }
     requires order { Ascending (rows_in store.now leaves.old.items) }
     requires stands { EntryLeads store.now entry }
-    ensures entries { IsInserted store.now (entries_in leaves.old.items) (entries_in leaves.new.items) entry (address_of address.now.path.now (key_at address.now.is_group address.now.name.now)) }
+    ensures entries { IsInserted store.now (entries_in leaves.old.items)
+        (entries_in leaves.new.items) entry
+        (address_of address.now.path.now (key_at address.now.is_group address.now.name.now)) }
     ensures leaves { AreLeaves leaves.new.items }
     ensures spare_empty { spare.new.items ≡ [] }
 {
@@ -335,7 +365,9 @@ fn roomy_leaf(
     requires leaves { AreLeaves leaves.old.items }
     requires stand { AllEntriesLead store.now (entries_in leaves.old.items) }
     requires order { Ascending (rows_in store.now leaves.old.items) }
-    ensures place { IsRoomyPlace store.now leaves.new.items (address_of address.now.path.now (key_at address.now.is_group address.now.name.now)) result }
+    ensures place { IsRoomyPlace store.now leaves.new.items
+        (address_of address.now.path.now
+        (key_at address.now.is_group address.now.name.now)) result }
     ensures entries { entries_in leaves.new.items ≡ entries_in leaves.old.items }
     ensures leaves { AreLeaves leaves.new.items }
     ensures spare_empty { spare.new.items ≡ [] }
@@ -356,7 +388,8 @@ fn split(
     store: &Store,
     address: &Address<'_>,
 ) -> usize
-    requires place { IsLeafPlace store.now leaves.old.items (address_of address.now.path.now (key_at address.now.is_group address.now.name.now)) at }
+    requires place { IsLeafPlace store.now leaves.old.items
+        (address_of address.now.path.now (key_at address.now.is_group address.now.name.now)) at }
     requires full { IsFullAt leaves.old.items at }
     requires room { vec_len leaves.old < vec_capacity leaves.old }
     requires empty { upper.items ≡ [] }
@@ -364,7 +397,9 @@ fn split(
     requires leaves { AreLeaves leaves.old.items }
     requires stand { AllEntriesLead store.now (entries_in leaves.old.items) }
     requires order { Ascending (rows_in store.now leaves.old.items) }
-    ensures place { IsRoomyPlace store.now leaves.new.items (address_of address.now.path.now (key_at address.now.is_group address.now.name.now)) result }
+    ensures place { IsRoomyPlace store.now leaves.new.items
+        (address_of address.now.path.now
+        (key_at address.now.is_group address.now.name.now)) result }
     ensures entries { entries_in leaves.new.items ≡ entries_in leaves.old.items }
     ensures leaves { AreLeaves leaves.new.items }
 {

@@ -1,4 +1,5 @@
-ghost use Rattle.std.specs.Prelude.{◌≡◌, ℕ, None, Some, IsSome, OnOk, IsTrue, if◌then◌else◌, nat_eq};
+ghost use Rattle.std.specs.Prelude.{◌≡◌, ℕ, None, Some, IsSome, OnOk, IsTrue, if◌then◌else◌};
+ghost use Rattle.std.specs.Prelude.{nat_eq};
 ghost use Rattle.wc_nicklist.specs.Rows.{changed_item, changed_row};
 ghost use Rattle.wc_nicklist.specs.Stored.{row_at, store_has_room};
 ghost use Rattle.wc_nicklist.specs.declared.item.Row.{Row as RowValue};
@@ -181,7 +182,8 @@ impl Store {
     pub(crate) fn put(&mut self, row: Slot) -> RowId
         requires { IsTrue (store_has_room self.old) }
         ensures fresh { row_at self.old result.0 ≡ None }
-        ensures after { (n : ℕ) → row_at self.new n ≡ (if nat_eq result.0 n then Some row.value else row_at self.old n) }
+        ensures after { (n : ℕ) → row_at self.new n ≡ (if nat_eq result.0 n then Some row.value
+            else row_at self.old n) }
     {
         RowId(self.rows.insert_reserved(row))
     }
@@ -190,7 +192,8 @@ impl Store {
     pub(crate) fn take(&mut self, id: RowId) -> Slot
         requires { IsSome (row_at self.old id.0) }
         ensures row { row_at self.old id.0 ≡ Some result.value }
-        ensures after { (n : ℕ) → row_at self.new n ≡ (if nat_eq id.0 n then None else row_at self.old n) }
+        ensures after { (n : ℕ) → row_at self.new n ≡ (if nat_eq id.0 n then None
+            else row_at self.old n) }
     {
         match self.rows.try_remove(id.0) {
             Some(row) => row,
@@ -201,7 +204,8 @@ impl Store {
     /// Gives the row of a number other fields. The kind, the name and the level stay.
     pub(crate) fn change(&mut self, id: RowId, item: Item)
         requires { IsSome (row_at self.old id.0) }
-        ensures { (r : RowValue) → row_at self.old id.0 ≡ Some r → (n : ℕ) → row_at self.new n ≡ (if nat_eq id.0 n then Some (changed_row r item) else row_at self.old n) }
+        ensures { (r : RowValue) → row_at self.old id.0 ≡ Some r → (n : ℕ) → row_at self.new n
+            ≡ (if nat_eq id.0 n then Some (changed_row r item) else row_at self.old n) }
     {
         match self.rows.get_mut(id.0) {
             Some(row) => row.change(item),

@@ -15,6 +15,8 @@ pub trait Touch {
 
     /// The row of that key is about to change. Where memory is refused nothing is noted.
     fn touch(&mut self, buffer: Handle, key: &Key, before: Option<Row>) -> Result<(), NoMemory>
-        ensures ok { OnOk result ((b : HandleValue) (k : KeyValue) → first self.new b k ≡ first_touch buffer key.now before (first self.old) b k) }
-        ensures err { OnErr result ((b : HandleValue) (k : KeyValue) → first self.new b k ≡ first self.old b k) };
+        ensures ok { OnOk result ((b : HandleValue) (k : KeyValue) → first self.new b k
+            ≡ first_touch buffer key.now before (first self.old) b k) }
+        ensures err { OnErr result ((b : HandleValue) (k : KeyValue) → first self.new b k
+            ≡ first self.old b k) };
 }

@@ -1,9 +1,12 @@
 -- Which objects a message may hold.
-use Rattle.std.specs.Prelude.{ℕ, ◌-◌, Bool, true, false, ◌&&◌, ◌==◌, nat_lt, List, [], ◌∷◌, length, drop, Option, Some, None, if◌then◌else◌, bytes_eq, slice_index, is_some}
+use Rattle.std.specs.Prelude.{ℕ, ◌-◌, Bool, true, false, ◌&&◌, ◌==◌, nat_lt, List, [], ◌∷◌}
+use Rattle.std.specs.Prelude.{length, drop, Option, Some, None, if◌then◌else◌, bytes_eq}
+use Rattle.std.specs.Prelude.{slice_index, is_some}
 use Rattle.std.specs.List.{list_all}
 use Rattle.std.specs.Str.{is_utf8}
 use Rattle.wc_objects.specs.declared.kind.Kind.{Kind}
-use Rattle.wc_objects.specs.declared.kind.Kind.TheVariants.{Chr, Int, Lon, Str, Buf, Ptr, Tim, Htb, Hda, Inf, Inl, Arr}
+use Rattle.wc_objects.specs.declared.kind.Kind.TheVariants.{Chr, Int, Lon, Str, Buf, Ptr, Tim, Htb}
+use Rattle.wc_objects.specs.declared.kind.Kind.TheVariants.{Hda, Inf, Inl, Arr}
 use Rattle.wc_objects.specs.declared.object.Object.{Object, out-Object}
 use Rattle.wc_objects.specs.declared.object.Object.TheOpen.{Object-F}
 use Rattle.wc_objects.specs.declared.object.Hda.{Hda as HdaValue, out-Hda}
@@ -28,7 +31,8 @@ onto_first b (piece ∷ pieces) = (b ∷ piece) ∷ pieces
 
 abbrev pub pieces_of : ℕ → List ℕ → List (List ℕ)
 pieces_of mark [] = [] ∷ []
-pieces_of mark (b ∷ text) = if b == mark then [] ∷ pieces_of mark text else onto_first b (pieces_of mark text)
+pieces_of mark (b ∷ text) = if b == mark then [] ∷ pieces_of mark text
+    else onto_first b (pieces_of mark text)
 
 -- an h-path is one or more names of at least one byte, parted by slashes
 abbrev pub names_of : List ℕ → List (List ℕ)
@@ -40,7 +44,8 @@ is_path path = list_all (λ name. nat_lt 0 (length name)) (names_of path)
 -- the type that three letters name
 abbrev pub kind_among : List Kind → List ℕ → Option Kind
 kind_among [] text = None
-kind_among (kind ∷ kinds) text = if bytes_eq (letters kind) text then Some kind else kind_among kinds text
+kind_among (kind ∷ kinds) text = if bytes_eq (letters kind) text then Some kind
+    else kind_among kinds text
 
 abbrev pub kinds : List Kind
 kinds = Chr ∷ Int ∷ Lon ∷ Str ∷ Buf ∷ Ptr ∷ Tim ∷ Htb ∷ Hda ∷ Inf ∷ Inl ∷ Arr ∷ []
@@ -91,8 +96,10 @@ simple_is kind o = simple_layer_is kind (out-Object o)
 -- the same, or a table or an array of such objects
 abbrev pub value_layer_is : Kind → Layer → Bool
 value_layer_is kind (Object-F.Htb key value pairs) =
-    same kind Htb && is_simple key && is_simple value && list_all (λ p. simple_is key p.0 && simple_is value p.1) pairs
-value_layer_is kind (Object-F.Arr element values) = same kind Arr && is_simple element && list_all (λ o. simple_is element o) values
+    same kind Htb && is_simple key && is_simple value
+    && list_all (λ p. simple_is key p.0 && simple_is value p.1) pairs
+value_layer_is kind (Object-F.Arr element values) = same kind Arr && is_simple element
+    && list_all (λ o. simple_is element o) values
 value_layer_is kind layer = simple_layer_is kind layer
 
 unfoldable pub value_is : Kind → Object → Bool
@@ -110,24 +117,29 @@ values_of (Some kinds) values = values_are kinds values
 
 -- an item has a pointer for each name of the path, and a value for each key
 unfoldable pub item_of : ℕ → Option (List Kind) → HdaItem → Bool
-item_of depth kinds item = length (out-HdaItem item).pointers == depth && values_of kinds (out-HdaItem item).values
+item_of depth kinds item = length (out-HdaItem item).pointers == depth && values_of kinds
+    (out-HdaItem item).values
 
 -- the null hdata has neither path nor keys nor items
 abbrev pub hda_parts_are : Option (List ℕ) → Option (List ℕ) → List HdaItem → Bool
 hda_parts_are None None items = length items == 0
-hda_parts_are (Some path) (Some keys) items = is_utf8 path && is_path path && is_utf8 keys && is_some (kinds_of keys) && list_all (λ item. item_of (length (names_of path)) (kinds_of keys) item) items
+hda_parts_are (Some path) (Some keys) items = is_utf8 path && is_path path && is_utf8 keys
+    && is_some (kinds_of keys)
+    && list_all (λ item. item_of (length (names_of path)) (kinds_of keys) item) items
 hda_parts_are _ _ items = false
 
 unfoldable pub hda_is : HdaValue → Bool
 hda_is h = hda_parts_are (out-Hda h).path (out-Hda h).keys (out-Hda h).items
 
 unfoldable pub variable_is : InlVar → Bool
-variable_is v = is_utf8 (out-InlVar v).name && simple_is (kind_of (out-InlVar v).value) (out-InlVar v).value
+variable_is v = is_utf8 (out-InlVar v).name && simple_is (kind_of (out-InlVar v).value)
+    (out-InlVar v).value
 
 abbrev pub object_layer_is : Layer → Bool
 object_layer_is (Object-F.Hda h) = hda_is h
 object_layer_is (Object-F.Inf name value) = is_name name && is_text value
-object_layer_is (Object-F.Inl name items) = is_utf8 name && list_all (λ item. list_all (λ v. variable_is v) item) items
+object_layer_is (Object-F.Inl name items) = is_utf8 name
+    && list_all (λ item. list_all (λ v. variable_is v) item) items
 object_layer_is layer = value_layer_is (kind_at layer) layer
 
 unfoldable pub object_is : Object → Bool

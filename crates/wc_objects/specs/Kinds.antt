@@ -1,7 +1,8 @@
 -- The types of objects.
 use Rattle.std.specs.Prelude.{ℕ, Bool, true, false, ◌||◌, ◌==◌, List, codes}
 use Rattle.wc_objects.specs.declared.kind.Kind.{Kind}
-use Rattle.wc_objects.specs.declared.kind.Kind.TheVariants.{Chr, Int, Lon, Str, Buf, Ptr, Tim, Htb, Hda, Inf, Inl, Arr}
+use Rattle.wc_objects.specs.declared.kind.Kind.TheVariants.{Chr, Int, Lon, Str, Buf, Ptr, Tim, Htb}
+use Rattle.wc_objects.specs.declared.kind.Kind.TheVariants.{Hda, Inf, Inl, Arr}
 use Rattle.wc_objects.specs.declared.object.Object.{Object, out-Object}
 use Rattle.wc_objects.specs.declared.object.Object.TheOpen.{Object-F}
 use Rattle.wc_objects.specs.declared.object.Hda.{Hda as HdaValue}

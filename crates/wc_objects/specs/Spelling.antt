@@ -1,5 +1,6 @@
 -- The one spelling of each message of the relay.
-use Rattle.std.specs.Prelude.{◌≡◌, ℕ, ◌+◌, ◌<◌, ◌≤◌, ◌^◌, List, [], ◌∷◌, ◌++◌, length, Option, Some, None, MatchOption}
+use Rattle.std.specs.Prelude.{◌≡◌, ℕ, ◌+◌, ◌<◌, ◌≤◌, ◌^◌, List, [], ◌∷◌, ◌++◌}
+use Rattle.std.specs.Prelude.{length, Option, Some, None, MatchOption}
 use Rattle.std.specs.List.{flat_map}
 use Rattle.std.specs.Fmt.{signed_decimal}
 use Rattle.std.specs.Int.{w8, w32, to_be_bytes, cast_unsigned}
@@ -70,19 +71,23 @@ value_bytes o = value_layer (out-Object o)
 
 -- an item of an hda: its pointers and its values
 unfoldable pub item_bytes : HdaItem → List ℕ
-item_bytes item = flat_map pointer_bytes (out-HdaItem item).pointers ++ flat_map value_bytes (out-HdaItem item).values
+item_bytes item = flat_map pointer_bytes (out-HdaItem item).pointers ++ flat_map value_bytes
+    (out-HdaItem item).values
 
 unfoldable pub hda_bytes : Hda → List ℕ
-hda_bytes h = text_bytes (out-Hda h).path ++ (text_bytes (out-Hda h).keys ++ with_count item_bytes (out-Hda h).items)
+hda_bytes h = text_bytes (out-Hda h).path
+    ++ (text_bytes (out-Hda h).keys ++ with_count item_bytes (out-Hda h).items)
 
 -- a variable of an inl: its name, the letters of its type and its value
 unfoldable pub variable_bytes : InlVar → List ℕ
-variable_bytes v = text_bytes (Some (out-InlVar v).name) ++ (letters (kind_of (out-InlVar v).value) ++ simple_bytes (out-InlVar v).value)
+variable_bytes v = text_bytes (Some (out-InlVar v).name) ++ (letters (kind_of (out-InlVar v).value)
+    ++ simple_bytes (out-InlVar v).value)
 
 abbrev pub whole_layer : Layer → List ℕ
 whole_layer (Object-F.Hda h) = hda_bytes h
 whole_layer (Object-F.Inf name value) = text_bytes name ++ text_bytes value
-whole_layer (Object-F.Inl name items) = text_bytes (Some name) ++ with_count (with_count variable_bytes) items
+whole_layer (Object-F.Inl name items) = text_bytes (Some name)
+    ++ with_count (with_count variable_bytes) items
 whole_layer layer = value_layer layer
 
 -- an object: the letters of its type and its value

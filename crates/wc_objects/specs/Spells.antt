@@ -1,5 +1,6 @@
 -- Which bytes spell a message, and which are too few.
-use Rattle.std.specs.Prelude.{◌≡◌, ℕ, ◌<◌, ◌≤◌, ◌^◌, ◌-◌, Bool, true, ◌&&◌, ◌||◌, nat_lt, nat_le, List, length, take, Option, Some, None}
+use Rattle.std.specs.Prelude.{◌≡◌, ℕ, ◌<◌, ◌≤◌, ◌^◌, ◌-◌, Bool, true, ◌&&◌, ◌||◌}
+use Rattle.std.specs.Prelude.{nat_lt, nat_le, List, length, take, Option, Some, None}
 use Rattle.std.specs.Int.{w32, from_be_bytes}
 use Rattle.std.specs.Str.{IsUtf8}
 use Rattle.wc_objects.specs.declared.object.WireMessage.{WireMessage}
@@ -7,7 +8,8 @@ use Rattle.wc_objects.specs.Forms.{well_formed}
 use Rattle.wc_objects.specs.Spelling.{message_bytes}
 use Rattle.wc_objects.specs.Within.{IsWithin}
 
--- the bytes are the one spelling of a message that keeps the rules, and no longer than a message may be
+-- the bytes are the one spelling of a message that keeps the rules, and no longer than a message
+-- may be
 pub record Spells (message : WireMessage) (bytes : List ℕ) : Type 0 where
   pub id : IsUtf8 message.id
   pub formed : well_formed message.objects ≡ true
@@ -20,12 +22,14 @@ pub record FrontSpells (message : WireMessage) (size : ℕ) (bytes : List ℕ) :
   pub spells : Spells message (take size bytes)
   pub within : IsWithin message
 
--- fewer bytes are there than a message needs: fewer than four, or fewer than the first four state, from 9 to 2^31 - 1
+-- fewer bytes are there than a message needs: fewer than four, or fewer than the first four state,
+-- from 9 to 2^31 - 1
 abbrev pub misses_of : ℕ → ℕ → Bool
 misses_of size there = nat_le 9 size && (nat_le size (2 ^ 31 - 1) && nat_lt there size)
 
 abbrev pub misses_bytes : List ℕ → Bool
-misses_bytes bytes = nat_lt (length bytes) 4 || misses_of (from_be_bytes w32 (take 4 bytes)) (length bytes)
+misses_bytes bytes = nat_lt (length bytes) 4 || misses_of (from_be_bytes w32 (take 4 bytes))
+    (length bytes)
 
 -- the front of the bytes, so many of them, is the spelling
 pub record IsFront (spelling : List ℕ) (size : ℕ) (bytes : List ℕ) : Type 0 where

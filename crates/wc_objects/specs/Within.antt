@@ -37,7 +37,8 @@ abbrev pub PointerWithin : ℕ → Type 0
 PointerWithin p = p < 2 ^ 64
 
 unfoldable pub ItemWithin : HdaItem → Type 0
-ItemWithin item = AllByRecursion PointerWithin (out-HdaItem item).pointers × AllByRecursion ValueWithin (out-HdaItem item).values
+ItemWithin item = AllByRecursion PointerWithin (out-HdaItem item).pointers
+    × AllByRecursion ValueWithin (out-HdaItem item).values
 
 unfoldable pub HdaWithin : HdaValue → Type 0
 HdaWithin h = AllByRecursion ItemWithin (out-Hda h).items

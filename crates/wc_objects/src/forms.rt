@@ -1,6 +1,7 @@
 //! Which objects a message may hold.
 
-ghost use Rattle.std.specs.Prelude.{◌≡◌, ◌&&◌, ◌==◌, true, Some, None, length, MatchOption, is_some};
+ghost use Rattle.std.specs.Prelude.{◌≡◌, ◌&&◌, ◌==◌, true, Some, None, length, MatchOption};
+ghost use Rattle.std.specs.Prelude.{is_some};
 ghost use Rattle.std.specs.List.{list_all};
 ghost use Rattle.std.specs.Str.{is_utf8};
 ghost use Rattle.wc_objects.specs.Forms as spec;
@@ -67,7 +68,8 @@ fn values_are_simple(kind: Kind, values: &[Object]) -> bool
 }
 
 fn pairs_are_simple(key: Kind, value: Kind, pairs: &[(Object, Object)]) -> bool
-    ensures { result ≡ list_all (λ p. spec.simple_is key p.0 && spec.simple_is value p.1) pairs.now }
+    ensures { result ≡ list_all (λ p. spec.simple_is key p.0 && spec.simple_is value p.1)
+        pairs.now }
 {
     pairs.iter().all(|pair| simple_is(key, &pair.0) && simple_is(value, &pair.1))
 }
@@ -134,7 +136,8 @@ fn item_is(depth: usize, keys: &[u8], item: &HdaItem) -> bool
 }
 
 fn items_are(depth: usize, keys: &[u8], items: &[HdaItem]) -> bool
-    ensures { result ≡ list_all (λ item. spec.item_of depth (spec.kinds_of keys.now) item) items.now }
+    ensures { result ≡ list_all (λ item. spec.item_of depth (spec.kinds_of keys.now) item)
+        items.now }
 {
     items.iter().all(|item| item_is(depth, keys, item))
 }
@@ -222,12 +225,13 @@ fn object_is(object: &Object) -> bool
     }
 }
 
-/// Whether a message may hold the objects: each keeps the rules of its type in WeeChat's relay protocol.
+/// Whether a message may hold the objects: each keeps the rules of its type in WeeChat's relay
+/// protocol.
 ///
-/// Texts are UTF-8. Values of an `arr`, keys and values of an `htb`, and variables of an `inl` are of the
-/// type that is named, which holds no other objects. An `inf` has a name. An `hda` has neither path nor
-/// keys nor items, or a path of names parted by `/` and keys `name:type` parted by `,`; each of its items
-/// has a pointer for each name and a value for each key.
+/// Texts are UTF-8. Values of an `arr`, keys and values of an `htb`, and variables of an `inl` are
+/// of the type that is named, which holds no other objects. An `inf` has a name. An `hda` has
+/// neither path nor keys nor items, or a path of names parted by `/` and keys `name:type` parted by
+/// `,`; each of its items has a pointer for each name and a value for each key.
 #[tactic(auto, unfolding(crate::specs::Forms::well_formed))]
 pub fn well_formed(objects: &Items<Object>) -> bool
     ensures { result ≡ spec.well_formed objects.now }

@@ -1,6 +1,7 @@
 //! The text of a pointer.
 
-ghost use Rattle.std.specs.Prelude.{◌≡◌, ◌≤◌, ◌<◌, ◌++◌, length, drop, map, true, false, MatchOption};
+ghost use Rattle.std.specs.Prelude.{◌≡◌, ◌≤◌, ◌<◌, ◌++◌, length, drop, map, true, false};
+ghost use Rattle.std.specs.Prelude.{MatchOption};
 ghost use Rattle.std.specs.List.{list_all};
 ghost use Rattle.std.specs.Int.Digits.{number_from_digits};
 ghost use Rattle.wc_objects.specs.Hex as spec;
@@ -37,7 +38,8 @@ fn write_digits(n: u64, digits: &mut [u8; MAX_DIGITS]) -> usize
 
 /// The value of a digit.
 fn digit_value(c: u8) -> Option<u8>
-    ensures { MatchOption result (is_hex c ≡ false) (λ d. (is_hex c ≡ true) × (d ≡ spec.digit c) × (d < 16)) }
+    ensures { MatchOption result (is_hex c ≡ false) (λ d. (is_hex c ≡ true) × (d ≡ spec.digit c)
+        × (d < 16)) }
 {
     match c {
         b'0'..=b'9' => Some(c - b'0'),
@@ -50,7 +52,8 @@ fn digit_value(c: u8) -> Option<u8>
 fn digits_number(text: &[u8]) -> Option<u64>
     requires { length text.now ≤ 16 }
     ensures { MatchOption result (list_all is_hex text.now ≡ false)
-        (λ n. (list_all is_hex text.now ≡ true) × (n ≡ number_from_digits 16 (map spec.digit text.now))) }
+        (λ n. (list_all is_hex text.now ≡ true)
+        × (n ≡ number_from_digits 16 (map spec.digit text.now))) }
 {
     let mut number = 0u64;
     for c in text {

@@ -1,6 +1,7 @@
 //! The path and the keys of an `hda`, and the types that they name.
 
-ghost use Rattle.std.specs.Prelude.{◌≡◌, ◌<◌, ◌+◌, ◌∷◌, [], true, false, Some, None, length, MatchOption, IfSome};
+ghost use Rattle.std.specs.Prelude.{◌≡◌, ◌<◌, ◌+◌, ◌∷◌, [], true, false, Some, None, length};
+ghost use Rattle.std.specs.Prelude.{MatchOption, IfSome};
 ghost use Rattle.wc_objects.specs.Forms as spec;
 ghost use Rattle.wc_objects.specs.Left.{keys_left};
 
@@ -10,7 +11,8 @@ use crate::kind::Kind;
 fn first_piece(mark: u8, text: &[u8]) -> (&[u8], Option<&[u8]>)
     ensures pieces { MatchOption result.1 (spec.pieces_of mark text.now ≡ result.0.now ∷ [])
         (λ rest. spec.pieces_of mark text.now ≡ result.0.now ∷ spec.pieces_of mark rest.now) }
-    ensures shorter { IfSome result.1 (λ rest. length result.0.now + length rest.now < length text.now) }
+    ensures shorter { IfSome result.1 (λ rest. length result.0.now + length rest.now
+        < length text.now) }
 {
     for (i, b) in text.iter().enumerate() {
         if *b == mark {
@@ -95,7 +97,8 @@ pub fn all_keys(keys: &[u8]) -> Option<&[u8]>
 /// The type of the first of one or more keys, and the keys after it.
 pub fn first_key(keys: &[u8]) -> Option<(Kind, Option<&[u8]>)>
     ensures kinds { MatchOption result (spec.kinds_of_keys (spec.pieces_of 44 keys.now) ≡ None)
-        (λ x. spec.kinds_of_keys (spec.pieces_of 44 keys.now) ≡ spec.with_kind (Some x.0) (spec.kinds_of_keys (keys_left x.1))) }
+        (λ x. spec.kinds_of_keys (spec.pieces_of 44 keys.now) ≡ spec.with_kind (Some x.0)
+        (spec.kinds_of_keys (keys_left x.1))) }
     ensures shorter { IfSome result (λ x. IfSome x.1 (λ rest. length rest.now < length keys.now)) }
 {
     let (key, rest) = first_piece(b',', keys);

@@ -12,10 +12,12 @@ pub fn one_spelling()
 
 /// No spelling of a message begins another, so a stream of messages falls apart in one way.
 pub fn no_spelling_begins_another()
-    ensures { (m n : WireMessage) (a b rest : List ℕ) → Spells m a → Spells n b → b ≡ a ++ rest → rest ≡ [] }
+    ensures { (m n : WireMessage) (a b rest : List ℕ) → Spells m a → Spells n b → b ≡ a ++ rest →
+        rest ≡ [] }
 {}
 
 /// No bytes spell two messages.
 pub fn one_message()
-    ensures { (m n : WireMessage) (bytes : List ℕ) → IsWithin m → IsWithin n → Spells m bytes → Spells n bytes → m ≡ n }
+    ensures { (m n : WireMessage) (bytes : List ℕ) → IsWithin m → IsWithin n → Spells m bytes →
+        Spells n bytes → m ≡ n }
 {}

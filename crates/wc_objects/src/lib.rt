@@ -23,4 +23,3 @@ pub use laws::{no_spelling_begins_another, one_message, one_spelling};
 pub use object::{Hda, HdaItem, InlVar, Object, WireMessage};
 pub use read::{MessageRefused, read_i32, read_message, read_ptr, read_str};
 pub use write::{WriteRefused, append_message, append_text, write_message};
-

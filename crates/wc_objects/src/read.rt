@@ -1,8 +1,10 @@
 //! Messages read from bytes.
 
-ghost use Rattle.std.specs.Prelude.{◌≡◌, ℕ, ◌<◌, ◌≤◌, ◌^◌, List, Option, Some, None, Ok, Err, length, take, drop, IsTrue, MatchOption, IfOk, IfSome, IfNone};
+ghost use Rattle.std.specs.Prelude.{◌≡◌, ℕ, ◌<◌, ◌≤◌, ◌^◌, List, Option, Some, None, Ok, Err};
+ghost use Rattle.std.specs.Prelude.{length, take, drop, IsTrue, MatchOption, IfOk, IfSome, IfNone};
 ghost use Rattle.std.specs.Int.{w32, cast_signed, from_be_bytes};
-ghost use Rattle.wc_objects.specs.Reading.{GivesWhole, GivesFirst, GivesFront, pointer_at, text_at, objects_of, message_of, first_message};
+ghost use Rattle.wc_objects.specs.Reading.{GivesWhole, GivesFirst, GivesFront, pointer_at, text_at};
+ghost use Rattle.wc_objects.specs.Reading.{objects_of, message_of, first_message};
 ghost use Rattle.wc_objects.specs.Spelling.{pointer_bytes, text_bytes};
 ghost use Rattle.wc_objects.specs.Spells.{FrontSpells, IsFront, IsStr, misses_bytes};
 
@@ -16,7 +18,8 @@ use wc_text::{Items, NoMemory, Text};
 /// Why bytes were not read as a message.
 #[derive(Clone, Copy, Debug, PartialEq, Eq, thiserror::Error)]
 pub enum MessageRefused {
-    /// The first field that breaks a rule begins at this place. It is 0 for a length that no message has.
+    /// The first field that breaks a rule begins at this place. It is 0 for a length that no
+    /// message has.
     #[error("a field breaks a rule at byte {place}")]
     BadAt { place: usize },
     #[error("out of memory")]
@@ -59,7 +62,8 @@ fn message(alloc: Global, bytes: &[u8]) -> Result<WireMessage, ReadError>
 
 /// The length that the first four bytes state.
 fn stated_length(bytes: &[u8]) -> Option<usize>
-    ensures { MatchOption result (length bytes.now < 4) (λ size. (4 ≤ length bytes.now) × (size ≡ from_be_bytes w32 (take 4 bytes.now))) }
+    ensures { MatchOption result (length bytes.now < 4) (λ size. (4 ≤ length bytes.now)
+        × (size ≡ from_be_bytes w32 (take 4 bytes.now))) }
 {
     if bytes.len() < 4 {
         return None;
@@ -94,20 +98,23 @@ fn first_message(
     }
 }
 
-/// The message at the front of the bytes and how many bytes it takes, in WeeChat's relay protocol without
-/// compression. Other bytes may follow it. A message is given exactly where so many of the first bytes are its
-/// one spelling.
+/// The message at the front of the bytes and how many bytes it takes, in WeeChat's relay protocol
+/// without compression. Other bytes may follow it. A message is given exactly where so many of the
+/// first bytes are its one spelling.
 ///
-/// None where fewer than four bytes are there, or the first four state a length from 9 to 2^31 - 1 and fewer
-/// bytes than that are there. `BadAt` where neither holds and the bytes of that length spell no message.
+/// None where fewer than four bytes are there, or the first four state a length from 9 to 2^31 - 1
+/// and fewer bytes than that are there. `BadAt` where neither holds and the bytes of that length
+/// spell no message.
 pub fn read_message(
     alloc: Global,
     bytes: &[u8],
 ) -> Result<Option<(WireMessage, usize)>, MessageRefused>
     // What is read is spelt so.
-    ensures found { IfOk result (λ front. IfSome front (λ found. FrontSpells found.0 found.1 bytes.now)) }
+    ensures found { IfOk result
+        (λ front. IfSome front (λ found. FrontSpells found.0 found.1 bytes.now)) }
     // What is spelt so is read, unless memory is refused.
-    ensures only { (message : WireMessage) (size : ℕ) → FrontSpells message size bytes.now → GivesFirst result (Ok (Some (message, size))) }
+    ensures only { (message : WireMessage) (size : ℕ) → FrontSpells message size bytes.now →
+        GivesFirst result (Ok (Some (message, size))) }
     // None is given exactly where bytes are missing.
     ensures none { IfOk result (λ front. IfNone front (IsTrue (misses_bytes bytes.now))) }
     ensures missing { IsTrue (misses_bytes bytes.now) → GivesFirst result (Ok None) }
@@ -119,7 +126,8 @@ pub fn read_message(
 
 /// The signed number that the first four bytes are, the highest first. None where fewer are there.
 pub fn read_i32(bytes: &[u8]) -> Option<i32>
-    ensures { MatchOption result (length bytes.now < 4) (λ n. (4 ≤ length bytes.now) × (n ≡ cast_signed w32 (from_be_bytes w32 (take 4 bytes.now)))) }
+    ensures { MatchOption result (length bytes.now < 4) (λ n. (4 ≤ length bytes.now)
+        × (n ≡ cast_signed w32 (from_be_bytes w32 (take 4 bytes.now)))) }
 {
     if bytes.len() < 4 {
         return None;
@@ -138,13 +146,14 @@ fn front_pointer(bytes: &[u8]) -> Option<(u64, usize)>
     }
 }
 
-/// The pointer at the front of the bytes, without the letters of its type, and how many bytes it takes. None
-/// where no prefix of the bytes is a pointer in its one form.
+/// The pointer at the front of the bytes, without the letters of its type, and how many bytes it
+/// takes. None where no prefix of the bytes is a pointer in its one form.
 pub fn read_ptr(bytes: &[u8]) -> Option<(u64, usize)>
     // What is read is spelt so.
     ensures found { IfSome result (λ found. IsFront (pointer_bytes found.0) found.1 bytes.now) }
     // What is spelt so is read.
-    ensures only { (pointer size : ℕ) → pointer < 2 ^ 64 → IsFront (pointer_bytes pointer) size bytes.now → result ≡ Some (pointer, size) }
+    ensures only { (pointer size : ℕ) → pointer < 2 ^ 64 →
+        IsFront (pointer_bytes pointer) size bytes.now → result ≡ Some (pointer, size) }
 {
     front_pointer(bytes)
 }
@@ -160,14 +169,17 @@ fn front_text(alloc: Global, bytes: &[u8]) -> Result<Option<(Option<Text>, usize
     }
 }
 
-/// The text or null at the front of the bytes, without the letters of its type, and how many bytes it takes.
-/// None where no prefix of the bytes is such a text.
+/// The text or null at the front of the bytes, without the letters of its type, and how many bytes
+/// it takes. None where no prefix of the bytes is such a text.
 pub fn read_str(alloc: Global, bytes: &[u8]) -> Result<Option<(Option<Text>, usize)>, NoMemory>
     // What is read is spelt so.
-    ensures found { IfOk result (λ front. IfSome front (λ found. IsFront (text_bytes found.0) found.1 bytes.now)) }
+    ensures found { IfOk result
+        (λ front. IfSome front (λ found. IsFront (text_bytes found.0) found.1 bytes.now)) }
     ensures text { IfOk result (λ front. IfSome front (λ found. IsStr found.0)) }
     // What is spelt so is read, unless memory is refused.
-    ensures only { (text : Option (List ℕ)) (size : ℕ) → IsStr text → IsFront (text_bytes text) size bytes.now → IfOk result (λ front. front ≡ Some (text, size)) }
+    ensures only { (text : Option (List ℕ)) (size : ℕ) → IsStr text →
+        IsFront (text_bytes text) size bytes.now →
+        IfOk result (λ front. front ≡ Some (text, size)) }
 {
     front_text(alloc, bytes)
 }

@@ -2,7 +2,11 @@
 
 ghost use Rattle.std.specs.Prelude.{◌≡◌, Some, None, length};
 ghost use Rattle.std.specs.Int.{w32, cast_signed};
-ghost use Rattle.wc_objects.specs.Reading.{GivesValue, TakesNoMemory, byte_at, int_at, some_text_at, same_value, keeps, bytes_at, number_at, count_at, tested_at, name_by, text_by, null_at, short_at, decimal_number, decimal_at, pointer_at, kind_by, any_kind, no_text, plain_at};
+ghost use Rattle.wc_objects.specs.Reading.{GivesValue, TakesNoMemory, byte_at, int_at};
+ghost use Rattle.wc_objects.specs.Reading.{some_text_at, same_value, keeps, bytes_at, number_at};
+ghost use Rattle.wc_objects.specs.Reading.{count_at, tested_at, name_by, text_by, null_at};
+ghost use Rattle.wc_objects.specs.Reading.{short_at, decimal_number, decimal_at, pointer_at};
+ghost use Rattle.wc_objects.specs.Reading.{kind_by, any_kind, no_text, plain_at};
 ghost use Rattle.wc_objects.specs.Kinds.{is_simple};
 
 use crate::decimal::decimal_number;
@@ -26,7 +30,8 @@ pub struct Reader<'a> {
 impl<'a> Reader<'a> {
     /// The next bytes, as many as are asked for.
     fn take(&mut self, count: usize) -> Result<&'a [u8], ReadError>
-        ensures gives { GivesValue (λ x. x.now) result self.new.bytes.now (bytes_at count self.old.bytes.now) }
+        ensures gives { GivesValue (λ x. x.now) result self.new.bytes.now
+            (bytes_at count self.old.bytes.now) }
         ensures no_memory { TakesNoMemory result }
     {
         if self.bytes.len() < count {
@@ -85,7 +90,8 @@ impl<'a> Reader<'a> {
     /// A text of that length which keeps a rule.
     #[tactic(auto, unfolding(crate::specs::Reading::tested_at))]
     fn tested(&mut self, alloc: Global, rule: Rule, length: u32) -> Result<Text, ReadError>
-        ensures { GivesValue same_value result self.new.bytes.now (tested_at (keeps rule) length self.old.bytes.now) }
+        ensures { GivesValue same_value result self.new.bytes.now
+            (tested_at (keeps rule) length self.old.bytes.now) }
     {
         let before = self.bytes.len();
         let text = self.take(length as usize)?;
@@ -98,7 +104,8 @@ impl<'a> Reader<'a> {
     /// A text that is not null and keeps a rule.
     #[tactic(auto, unfolding(crate::specs::Reading::name_by))]
     pub fn name(&mut self, alloc: Global, rule: Rule) -> Result<Text, ReadError>
-        ensures { GivesValue same_value result self.new.bytes.now (name_by (keeps rule) self.old.bytes.now) }
+        ensures { GivesValue same_value result self.new.bytes.now
+            (name_by (keeps rule) self.old.bytes.now) }
     {
         let length = self.count()?;
         self.tested(alloc, rule, length)
@@ -111,7 +118,8 @@ impl<'a> Reader<'a> {
         rule: Rule,
         length: u32,
     ) -> Result<Option<Text>, ReadError>
-        ensures { GivesValue same_value result self.new.bytes.now (some_text_at (keeps rule) length self.old.bytes.now) }
+        ensures { GivesValue same_value result self.new.bytes.now
+            (some_text_at (keeps rule) length self.old.bytes.now) }
     {
         let text = self.tested(alloc, rule, length)?;
         Ok(Some(text))
@@ -120,7 +128,8 @@ impl<'a> Reader<'a> {
     /// A text that keeps a rule, or null.
     #[tactic(auto, unfolding(crate::specs::Reading::text_by))]
     pub fn text(&mut self, alloc: Global, rule: Rule) -> Result<Option<Text>, ReadError>
-        ensures { GivesValue same_value result self.new.bytes.now (text_by (keeps rule) self.old.bytes.now) }
+        ensures { GivesValue same_value result self.new.bytes.now
+            (text_by (keeps rule) self.old.bytes.now) }
     {
         let before = self.bytes.len();
         let length = self.number()?;
@@ -148,7 +157,8 @@ impl<'a> Reader<'a> {
     /// A text of one byte of length, which is not 0 and not above a limit.
     #[tactic(auto, unfolding(crate::specs::Reading::short_at))]
     fn short(&mut self, most: u8) -> Result<&'a [u8], ReadError>
-        ensures gives { GivesValue (λ x. x.now) result self.new.bytes.now (short_at most self.old.bytes.now) }
+        ensures gives { GivesValue (λ x. x.now) result self.new.bytes.now
+            (short_at most self.old.bytes.now) }
         ensures no_memory { TakesNoMemory result }
     {
         let before = self.bytes.len();
@@ -176,7 +186,8 @@ impl<'a> Reader<'a> {
     /// A pointer in hex.
     #[tactic(auto, unfolding(crate::specs::Reading::pointer_at))]
     pub fn pointer(&mut self) -> Result<u64, ReadError>
-        ensures gives { GivesValue same_value result self.new.bytes.now (pointer_at self.old.bytes.now) }
+        ensures gives { GivesValue same_value result self.new.bytes.now
+            (pointer_at self.old.bytes.now) }
         ensures no_memory { TakesNoMemory result }
     {
         let before = self.bytes.len();
@@ -190,7 +201,8 @@ impl<'a> Reader<'a> {
     /// The letters of a type.
     #[tactic(auto, unfolding(crate::specs::Reading::kind_by))]
     pub fn kind(&mut self) -> Result<Kind, ReadError>
-        ensures { GivesValue same_value result self.new.bytes.now (kind_by any_kind self.old.bytes.now) }
+        ensures { GivesValue same_value result self.new.bytes.now
+            (kind_by any_kind self.old.bytes.now) }
     {
         let before = self.bytes.len();
         let letters = self.take(3)?;
@@ -203,7 +215,8 @@ impl<'a> Reader<'a> {
     /// The letters of a type whose values hold no others.
     #[tactic(auto, unfolding(crate::specs::Reading::kind_by))]
     pub fn simple_kind(&mut self) -> Result<Kind, ReadError>
-        ensures { GivesValue same_value result self.new.bytes.now (kind_by is_simple self.old.bytes.now) }
+        ensures { GivesValue same_value result self.new.bytes.now
+            (kind_by is_simple self.old.bytes.now) }
     {
         let before = self.bytes.len();
         let letters = self.take(3)?;

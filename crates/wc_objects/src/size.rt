@@ -1,11 +1,15 @@
 //! How long a message is, found before it is written: each function tells what is left of a room
 //! after what it looks at, and None where that is longer than the room.
 
-ghost use Rattle.std.specs.Prelude.{◌≡◌, ◌+◌, ◌-◌, ◌^◌, ◌<◌, ◌≤◌, ◌++◌, ◌∷◌, [], List, length, MatchOption, Some};
+ghost use Rattle.std.specs.Prelude.{◌≡◌, ◌+◌, ◌-◌, ◌^◌, ◌<◌, ◌≤◌, ◌++◌, ◌∷◌};
+ghost use Rattle.std.specs.Prelude.{[], List, length, MatchOption, Some};
 ghost use Rattle.std.specs.List.{flat_map};
 ghost use Rattle.std.specs.Fmt.{signed_decimal};
 ghost use Rattle.wc_objects.specs.Hex.{hex};
-ghost use Rattle.wc_objects.specs.Spelling.{short_bytes, pointer_bytes, text_bytes, with_count, simple_bytes, pair_bytes, value_bytes, item_bytes, hda_bytes, variable_bytes, object_bytes, message_bytes, text_body_bytes, FitsIn};
+ghost use Rattle.wc_objects.specs.Spelling.{short_bytes, pointer_bytes, text_bytes, with_count};
+ghost use Rattle.wc_objects.specs.Spelling.{simple_bytes, pair_bytes, value_bytes, item_bytes};
+ghost use Rattle.wc_objects.specs.Spelling.{hda_bytes, variable_bytes, object_bytes, message_bytes};
+ghost use Rattle.wc_objects.specs.Spelling.{text_body_bytes, FitsIn};
 
 use crate::hex::HexBuffer;
 use crate::object::{Hda, HdaItem, InlVar, Object};

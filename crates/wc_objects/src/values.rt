@@ -1,7 +1,11 @@
 //! The objects of a message, read from left to right.
 
 ghost use Rattle.std.specs.Prelude.{◌≡◌, Some, None, length, IfOk, option_map};
-ghost use Rattle.wc_objects.specs.Reading.{GivesValue, same_value, times, counted_at, simple_at, pair_at, table_at, array_at, value_at, values_at, pointer_at, item_at, items_by, depth_of, hda_after, hda_at, inf_at, variable_at, inl_at, whole_at, object_at};
+ghost use Rattle.wc_objects.specs.Reading.{GivesValue, same_value, times, counted_at, simple_at};
+ghost use Rattle.wc_objects.specs.Reading.{pair_at, table_at, array_at, value_at, values_at};
+ghost use Rattle.wc_objects.specs.Reading.{pointer_at, item_at, items_by, depth_of, hda_after};
+ghost use Rattle.wc_objects.specs.Reading.{hda_at, inf_at, variable_at, inl_at, whole_at};
+ghost use Rattle.wc_objects.specs.Reading.{object_at};
 ghost use Rattle.wc_objects.specs.Forms.{kinds_of};
 
 use crate::fault::ReadError;
@@ -17,7 +21,8 @@ impl Reader<'_> {
     /// A value of a type that holds no others.
     #[tactic(auto, unfolding(crate::specs::Reading::simple_at))]
     fn simple(&mut self, alloc: Global, kind: Kind) -> Result<Object, ReadError>
-        ensures { GivesValue same_value result self.new.bytes.now (simple_at kind self.old.bytes.now) }
+        ensures { GivesValue same_value result self.new.bytes.now
+            (simple_at kind self.old.bytes.now) }
     {
         match kind {
             Kind::Chr => Ok(Object::Chr(self.byte()?)),
@@ -35,7 +40,8 @@ impl Reader<'_> {
 
     #[tactic(auto, unfolding(crate::specs::Reading::pair_at))]
     fn pair(&mut self, alloc: Global, key: Kind, value: Kind) -> Result<(Object, Object), ReadError>
-        ensures { GivesValue same_value result self.new.bytes.now (pair_at key value self.old.bytes.now) }
+        ensures { GivesValue same_value result self.new.bytes.now
+            (pair_at key value self.old.bytes.now) }
     {
         let first = self.simple(alloc, key)?;
         let second = self.simple(alloc, value)?;
@@ -49,7 +55,8 @@ impl Reader<'_> {
         value: Kind,
         count: u32,
     ) -> Result<Items<(Object, Object)>, ReadError>
-        ensures { GivesValue same_value result self.new.bytes.now (times count (pair_at key value) self.old.bytes.now) }
+        ensures { GivesValue same_value result self.new.bytes.now
+            (times count (pair_at key value) self.old.bytes.now) }
     {
         let mut items = Items::new(alloc);
         for _ in 0..count {
@@ -65,7 +72,8 @@ impl Reader<'_> {
         kind: Kind,
         count: u32,
     ) -> Result<Items<Object>, ReadError>
-        ensures { GivesValue same_value result self.new.bytes.now (times count (simple_at kind) self.old.bytes.now) }
+        ensures { GivesValue same_value result self.new.bytes.now
+            (times count (simple_at kind) self.old.bytes.now) }
     {
         let mut items = Items::new(alloc);
         for _ in 0..count {
@@ -101,7 +109,8 @@ impl Reader<'_> {
     /// A value of an `hda`.
     #[tactic(auto, unfolding(crate::specs::Reading::value_at))]
     fn value(&mut self, alloc: Global, kind: Kind) -> Result<Object, ReadError>
-        ensures { GivesValue same_value result self.new.bytes.now (value_at kind self.old.bytes.now) }
+        ensures { GivesValue same_value result self.new.bytes.now
+            (value_at kind self.old.bytes.now) }
     {
         match kind {
             Kind::Htb => self.table(alloc),
@@ -120,7 +129,8 @@ impl Reader<'_> {
     }
 
     fn pointers(&mut self, alloc: Global, count: usize) -> Result<Items<u64>, ReadError>
-        ensures { GivesValue same_value result self.new.bytes.now (times count pointer_at self.old.bytes.now) }
+        ensures { GivesValue same_value result self.new.bytes.now
+            (times count pointer_at self.old.bytes.now) }
     {
         let mut items = Items::new(alloc);
         for _ in 0..count {
@@ -132,7 +142,8 @@ impl Reader<'_> {
 
     /// A value of each type.
     fn item_values(&mut self, alloc: Global, kinds: &[Kind]) -> Result<Items<Object>, ReadError>
-        ensures { GivesValue same_value result self.new.bytes.now (values_at kinds.now self.old.bytes.now) }
+        ensures { GivesValue same_value result self.new.bytes.now
+            (values_at kinds.now self.old.bytes.now) }
     {
         let mut items = Items::new(alloc);
         for kind in kinds {
@@ -145,7 +156,8 @@ impl Reader<'_> {
     /// An item of an `hda`.
     #[tactic(auto, unfolding(crate::specs::Reading::item_at))]
     fn item(&mut self, alloc: Global, depth: usize, kinds: &[Kind]) -> Result<HdaItem, ReadError>
-        ensures { GivesValue same_value result self.new.bytes.now (item_at depth kinds.now self.old.bytes.now) }
+        ensures { GivesValue same_value result self.new.bytes.now
+            (item_at depth kinds.now self.old.bytes.now) }
     {
         let pointers = self.pointers(alloc, depth)?;
         let values = self.item_values(alloc, kinds)?;
@@ -159,7 +171,8 @@ impl Reader<'_> {
         kinds: &[Kind],
         count: u32,
     ) -> Result<Items<HdaItem>, ReadError>
-        ensures { GivesValue same_value result self.new.bytes.now (times count (item_at depth kinds.now) self.old.bytes.now) }
+        ensures { GivesValue same_value result self.new.bytes.now
+            (times count (item_at depth kinds.now) self.old.bytes.now) }
     {
         let mut items = Items::new(alloc);
         for _ in 0..count {
@@ -177,7 +190,8 @@ impl Reader<'_> {
         path: &[u8],
         keys: &[u8],
     ) -> Result<Items<HdaItem>, ReadError>
-        ensures { GivesValue same_value result self.new.bytes.now (items_by (depth_of path.now) (kinds_of keys.now) self.old.bytes.now) }
+        ensures { GivesValue same_value result self.new.bytes.now
+            (items_by (depth_of path.now) (kinds_of keys.now) self.old.bytes.now) }
     {
         let Some(depth) = path_depth(path) else {
             return Err(ReadError::Broken(self.bytes.len()));
@@ -191,7 +205,8 @@ impl Reader<'_> {
 
     /// The null hdata after its path.
     fn null_hda(&mut self, alloc: Global) -> Result<Hda, ReadError>
-        ensures { GivesValue same_value result self.new.bytes.now (hda_after None self.old.bytes.now) }
+        ensures { GivesValue same_value result self.new.bytes.now
+            (hda_after None self.old.bytes.now) }
     {
         self.null()?;
         let before = self.bytes.len();
@@ -208,7 +223,8 @@ impl Reader<'_> {
 
     /// An hdata after its path.
     fn hda_on(&mut self, alloc: Global, path: Text) -> Result<Hda, ReadError>
-        ensures { GivesValue same_value result self.new.bytes.now (hda_after (Some path) self.old.bytes.now) }
+        ensures { GivesValue same_value result self.new.bytes.now
+            (hda_after (Some path) self.old.bytes.now) }
     {
         let keys = self.name(alloc, Rule::Keys)?;
         let items = self.listed(alloc, path.as_slice(), keys.as_slice())?;
@@ -253,7 +269,8 @@ impl Reader<'_> {
     }
 
     fn variables_of(&mut self, alloc: Global, count: u32) -> Result<Items<InlVar>, ReadError>
-        ensures { GivesValue same_value result self.new.bytes.now (times count variable_at self.old.bytes.now) }
+        ensures { GivesValue same_value result self.new.bytes.now
+            (times count variable_at self.old.bytes.now) }
     {
         let mut items = Items::new(alloc);
         for _ in 0..count {
@@ -265,14 +282,16 @@ impl Reader<'_> {
 
     #[tactic(auto, unfolding(crate::specs::Reading::counted_at))]
     fn variables(&mut self, alloc: Global) -> Result<Items<InlVar>, ReadError>
-        ensures { GivesValue same_value result self.new.bytes.now (counted_at variable_at self.old.bytes.now) }
+        ensures { GivesValue same_value result self.new.bytes.now
+            (counted_at variable_at self.old.bytes.now) }
     {
         let count = self.count()?;
         self.variables_of(alloc, count)
     }
 
     fn lists(&mut self, alloc: Global, count: u32) -> Result<Items<Items<InlVar>>, ReadError>
-        ensures { GivesValue same_value result self.new.bytes.now (times count (counted_at variable_at) self.old.bytes.now) }
+        ensures { GivesValue same_value result self.new.bytes.now
+            (times count (counted_at variable_at) self.old.bytes.now) }
     {
         let mut items = Items::new(alloc);
         for _ in 0..count {
@@ -295,7 +314,8 @@ impl Reader<'_> {
     /// An object after the letters of its type.
     #[tactic(auto, unfolding(crate::specs::Reading::whole_at))]
     fn whole(&mut self, alloc: Global, kind: Kind) -> Result<Object, ReadError>
-        ensures { GivesValue same_value result self.new.bytes.now (whole_at kind self.old.bytes.now) }
+        ensures { GivesValue same_value result self.new.bytes.now
+            (whole_at kind self.old.bytes.now) }
     {
         match kind {
             Kind::Hda => Ok(Object::Hda(self.hda(alloc)?)),

@@ -1,7 +1,9 @@
-//! Messages as bytes. The parts that `parts` gives to other crates write what they are given as a part of a message whose
-//! length was found before, into room that was taken for it.
+//! Messages as bytes. The parts that `parts` gives to other crates write what they are given as a
+//! part of a message whose length was found before, into room that was taken for it.
 
-ghost use Rattle.std.specs.Prelude.{◌≡◌, ◌+◌, ◌-◌, ◌^◌, ◌<◌, ◌≤◌, ◌++◌, ◌∷◌, [], List, length, Some, IsTrue, true, IfOk, IsOk, OnOk, OnErr, IsErrOf};
+ghost use Rattle.std.specs.Prelude.{◌≡◌, ◌+◌, ◌-◌, ◌^◌, ◌<◌, ◌≤◌, ◌++◌, ◌∷◌};
+ghost use Rattle.std.specs.Prelude.{[], List, length, Some, IsTrue, true, IfOk, IsOk, OnOk, OnErr};
+ghost use Rattle.std.specs.Prelude.{IsErrOf};
 ghost use Rattle.std.specs.List.{flat_map};
 ghost use Rattle.std.specs.Fmt.{signed_decimal};
 ghost use Rattle.std.specs.Int.{w8, cast_unsigned};
@@ -9,7 +11,11 @@ ghost use Rattle.std.specs.Str.{IsUtf8};
 ghost use Rattle.wc_objects.specs.Forms.{well_formed};
 ghost use Rattle.wc_objects.specs.Spells.{Spells};
 ghost use Rattle.wc_objects.specs.Hex.{hex};
-ghost use Rattle.wc_objects.specs.Spelling.{be32, short_bytes, pointer_bytes, text_bytes, with_count, simple_bytes, pair_bytes, value_bytes, item_bytes, hda_bytes, variable_bytes, table_bytes, array_bytes, whole_bytes, object_bytes, body_bytes, message_bytes, text_body_bytes, HasRoomFor, Puts};
+ghost use Rattle.wc_objects.specs.Spelling.{be32, short_bytes, pointer_bytes, text_bytes};
+ghost use Rattle.wc_objects.specs.Spelling.{with_count, simple_bytes, pair_bytes, value_bytes};
+ghost use Rattle.wc_objects.specs.Spelling.{item_bytes, hda_bytes, variable_bytes, table_bytes};
+ghost use Rattle.wc_objects.specs.Spelling.{array_bytes, whole_bytes, object_bytes, body_bytes};
+ghost use Rattle.wc_objects.specs.Spelling.{message_bytes, text_body_bytes, HasRoomFor, Puts};
 ghost use Rattle.wc_objects.specs.Kinds.{letters};
 
 use crate::hex::HexBuffer;
@@ -361,7 +367,8 @@ pub fn append_message(out: &mut BytesMut, id: &[u8], objects: &[Object]) -> Resu
     requires text { IsUtf8 id.now }
     ensures ok { OnOk result (out.new.items ≡ out.old.items ++ message_bytes id.now objects.now) }
     ensures fits { OnOk result (length (message_bytes id.now objects.now) ≤ 2 ^ 31 - 1) }
-    ensures too_long { IsErrOf result WriteRefused.TooLong → 2 ^ 31 - 1 < length (message_bytes id.now objects.now) }
+    ensures too_long { IsErrOf result WriteRefused.TooLong →
+        2 ^ 31 - 1 < length (message_bytes id.now objects.now) }
     ensures err { OnErr result (out.new.items ≡ out.old.items) }
 {
     let Some(size) = message_length(id, objects) else {
@@ -376,7 +383,8 @@ pub fn append_message(out: &mut BytesMut, id: &[u8], objects: &[Object]) -> Resu
 
 /// A message of well-formed objects, in WeeChat's relay protocol without compression.
 ///
-/// `TooLong` where it would be longer than 2^31 - 1 bytes, which is found before memory is asked for.
+/// `TooLong` where it would be longer than 2^31 - 1 bytes, which is found before memory is asked
+/// for.
 pub fn write_message(
     alloc: Global,
     id: &Text,
@@ -385,9 +393,11 @@ pub fn write_message(
     requires formed { well_formed objects.now ≡ true }
     requires text { IsUtf8 id.now }
     ensures ok { IfOk result (λ text. text ≡ message_bytes id.now objects.now) }
-    ensures spells { IfOk result (λ text. Spells (record { id = id.now; objects = objects.now }) text) }
+    ensures spells { IfOk result
+        (λ text. Spells (record { id = id.now; objects = objects.now }) text) }
     ensures fits { OnOk result (length (message_bytes id.now objects.now) ≤ 2 ^ 31 - 1) }
-    ensures too_long { IsErrOf result WriteRefused.TooLong → 2 ^ 31 - 1 < length (message_bytes id.now objects.now) }
+    ensures too_long { IsErrOf result WriteRefused.TooLong →
+        2 ^ 31 - 1 < length (message_bytes id.now objects.now) }
 {
     let Some(size) = message_length(id.as_slice(), objects.as_slice()) else {
         return Err(WriteRefused::TooLong);
@@ -407,9 +417,12 @@ pub fn write_message(
 pub fn append_text(out: &mut BytesMut, id: &[u8], text: &[u8]) -> Result<(), WriteRefused>
     requires id { IsUtf8 id.now }
     requires text { IsUtf8 text.now }
-    ensures ok { OnOk result (out.new.items ≡ out.old.items ++ message_bytes id.now (Object.Str (Some text.now) ∷ [])) }
-    ensures fits { OnOk result (length (message_bytes id.now (Object.Str (Some text.now) ∷ [])) ≤ 2 ^ 31 - 1) }
-    ensures too_long { IsErrOf result WriteRefused.TooLong → 2 ^ 31 - 1 < length (message_bytes id.now (Object.Str (Some text.now) ∷ [])) }
+    ensures ok { OnOk result (out.new.items ≡ out.old.items ++ message_bytes id.now
+        (Object.Str (Some text.now) ∷ [])) }
+    ensures fits { OnOk result (length (message_bytes id.now (Object.Str (Some text.now) ∷ []))
+        ≤ 2 ^ 31 - 1) }
+    ensures too_long { IsErrOf result WriteRefused.TooLong →
+        2 ^ 31 - 1 < length (message_bytes id.now (Object.Str (Some text.now) ∷ [])) }
     ensures err { OnErr result (out.new.items ≡ out.old.items) }
 {
     let Some(size) = text_message_length(id, text) else {

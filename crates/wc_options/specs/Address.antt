@@ -1,5 +1,6 @@
 -- Addresses: an IPv4 address or `localhost`, a slash, and a port.
-use Rattle.std.specs.Prelude.{ℕ, ◌+◌, ◌*◌, ◌==◌, bytes_eq, List, Option, Some, None, option_and_then, codes, if◌then◌else◌}
+use Rattle.std.specs.Prelude.{ℕ, ◌+◌, ◌*◌, ◌==◌, bytes_eq, List, Option, Some, None}
+use Rattle.std.specs.Prelude.{option_and_then, codes, if◌then◌else◌}
 use Rattle.std.specs.List.{before_first, after_first}
 use Rattle.wc_text.specs.declared.names.Address.{Address}
 use Rattle.wc_options.specs.Number.{number_in}
@@ -21,7 +22,8 @@ address_number first second third fourth =
 unfoldable pub ipv4_of : List ℕ → Option ℕ
 ipv4_of text =
     let rest = after_dot text in let last = after_dot rest in
-    address_number (number_in 0 255 (before_dot text)) (number_in 0 255 (before_dot rest)) (number_in 0 255 (before_dot last)) (number_in 0 255 (after_dot last))
+    address_number (number_in 0 255 (before_dot text)) (number_in 0 255 (before_dot rest))
+    (number_in 0 255 (before_dot last)) (number_in 0 255 (after_dot last))
 
 -- `localhost` is 127.0.0.1
 abbrev pub host_of : List ℕ → Option ℕ
@@ -30,4 +32,6 @@ host_of text = if bytes_eq text (codes "localhost") then Some 2130706433 else ip
 -- the address that a text writes
 unfoldable pub address_of : List ℕ → Option Address
 address_of text =
-    option_and_then (λ ip. option_and_then (λ port. Some (record { ip = ip; port = port })) (number_in 1 65535 (after_first (λ byte. byte == 47) text))) (host_of (before_first (λ byte. byte == 47) text))
+    option_and_then (λ ip. option_and_then (λ port. Some (record { ip = ip; port = port }))
+    (number_in 1 65535 (after_first (λ byte. byte == 47) text)))
+    (host_of (before_first (λ byte. byte == 47) text))

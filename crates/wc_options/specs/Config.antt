@@ -1,5 +1,7 @@
 -- The file of options: what its lines make of the options, and how options are written.
-use Rattle.std.specs.Prelude.{ℕ, Bool, true, false, ◌+◌, ◌==◌, ◌||◌, bytes_eq, length, List, [], ◌∷◌, ◌++◌, Option, Some, None, Result, Ok, Err, is_none, codes, take, if◌then◌else◌}
+use Rattle.std.specs.Prelude.{ℕ, Bool, true, false, ◌+◌, ◌==◌, ◌||◌, bytes_eq, length, List, []}
+use Rattle.std.specs.Prelude.{◌∷◌, ◌++◌, Option, Some, None, Result, Ok, Err, is_none, codes, take}
+use Rattle.std.specs.Prelude.{if◌then◌else◌}
 use Rattle.std.specs.List.{flat_map}
 use Rattle.std.specs.Option.{option_map_or}
 use Rattle.std.specs.Str.{is_utf8}
@@ -20,7 +22,8 @@ is_passed_over line = bytes_eq line [] || bytes_eq (take 1 line) (codes "#")
 -- a name and a value that an option takes
 abbrev pub with_setting : OptionsValue → Option (List ℕ × List ℕ) → Option OptionsValue
 with_setting options None = None
-with_setting options (Some parts) = if is_none (refusal_of options parts.0 parts.1) then Some (with_value options parts.0 parts.1) else None
+with_setting options (Some parts) = if is_none (refusal_of options parts.0 parts.1)
+    then Some (with_value options parts.0 parts.1) else None
 
 -- the options after a line, or none where it is unreadable
 unfoldable pub after_line : OptionsValue → List ℕ → Option OptionsValue
@@ -29,16 +32,19 @@ after_line options line =
     else if is_utf8 line then with_setting options (parted line)
     else None
 
--- the options after all lines, of which the first has a number, or the number of the first line that is unreadable
+-- the options after all lines, of which the first has a number, or the number of the first line
+-- that is unreadable
 abbrev pub after_lines : ℕ → OptionsValue → List (List ℕ) → Result OptionsValue ℕ
 after_lines number options [] = Ok options
 after_lines number options (line ∷ lines) =
-    option_map_or (λ following. after_lines (number + 1) following lines) (after_line options line) (Err number)
+    option_map_or (λ following. after_lines (number + 1) following lines) (after_line options line)
+    (Err number)
 
 -- the options that a file holds; its first line may tell the version, which is 1 without it
 abbrev pub of_lines : List (List ℕ) → Result OptionsValue ℕ
 of_lines [] = Ok fresh
-of_lines (line ∷ lines) = if bytes_eq line version_line then after_lines 2 fresh lines else after_lines 1 fresh (line ∷ lines)
+of_lines (line ∷ lines) = if bytes_eq line version_line then after_lines 2 fresh lines
+    else after_lines 1 fresh (line ∷ lines)
 
 unfoldable pub config_of : List ℕ → Result OptionsValue ℕ
 config_of bytes = of_lines (lines_of bytes)
@@ -58,7 +64,8 @@ abbrev pub set_lines : List ℕ → List OptionRow → List (Option (List ℕ)) 
 set_lines prefix [] values = []
 set_lines prefix (row ∷ rows) [] = []
 set_lines prefix (row ∷ rows) (None ∷ values) = set_lines prefix rows values
-set_lines prefix (row ∷ rows) (Some value ∷ values) = set_line prefix row value ∷ set_lines prefix rows values
+set_lines prefix (row ∷ rows) (Some value ∷ values) = set_line prefix row value ∷ set_lines prefix
+    rows values
 
 -- what the names of a server's options begin with
 abbrev pub prefix_of : List ℕ → List ℕ
@@ -67,9 +74,11 @@ prefix_of name = server_prefix ++ name ++ codes "."
 abbrev pub server_lines : ServerOptions → List (List ℕ)
 server_lines server = set_lines (prefix_of server.name) of_server server.own
 
--- the version, the options that are set in the order of the table, and those of each server in the order of their making
+-- the version, the options that are set in the order of the table, and those of each server in the
+-- order of their making
 abbrev pub config_lines : OptionsValue → List (List ℕ)
-config_lines options = version_line ∷ (set_lines [] globals options.set ++ flat_map server_lines options.servers)
+config_lines options = version_line ∷ (set_lines [] globals options.set
+    ++ flat_map server_lines options.servers)
 
 -- each line ended by LF
 abbrev pub text_of_lines : List (List ℕ) → List ℕ

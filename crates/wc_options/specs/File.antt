@@ -1,5 +1,6 @@
 -- The lines of a file, and the parting of a line into a name and a value.
-use Rattle.std.specs.Prelude.{ℕ, ◌==◌, bytes_eq, List, [], ◌∷◌, Option, Some, None, option_map, codes, take, drop, if◌then◌else◌}
+use Rattle.std.specs.Prelude.{ℕ, ◌==◌, bytes_eq, List, [], ◌∷◌, Option, Some, None, option_map}
+use Rattle.std.specs.Prelude.{codes, take, drop, if◌then◌else◌}
 
 -- a byte in front of the first line
 abbrev pub onto_first : ℕ → List (List ℕ) → List (List ℕ)
@@ -9,7 +10,8 @@ onto_first byte (line ∷ lines) = (byte ∷ line) ∷ lines
 -- the lines, each ended by LF, which the last one may lack
 unfoldable pub lines_of : List ℕ → List (List ℕ)
 lines_of [] = []
-lines_of (byte ∷ bytes) = if byte == 10 then [] ∷ lines_of bytes else onto_first byte (lines_of bytes)
+lines_of (byte ∷ bytes) = if byte == 10 then [] ∷ lines_of bytes
+    else onto_first byte (lines_of bytes)
 
 -- what parts a name from its value
 abbrev pub equals_sign : List ℕ

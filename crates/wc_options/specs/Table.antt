@@ -1,7 +1,9 @@
 -- The options, in the order in which the file has them.
-use Rattle.std.specs.Prelude.{ℕ, Option, Some, None, List, [], ◌∷◌, ◌++◌, bytes_eq, codes, position, slice_index_or}
+use Rattle.std.specs.Prelude.{ℕ, Option, Some, None, List, [], ◌∷◌, ◌++◌, bytes_eq, codes, position}
+use Rattle.std.specs.Prelude.{slice_index_or}
 use Rattle.wc_options.specs.declared.kind.Kind.{Kind}
-use Rattle.wc_options.specs.declared.kind.Kind.TheVariants.{Number, Text, Filled, Word, Switch, Endpoint}
+use Rattle.wc_options.specs.declared.kind.Kind.TheVariants.{Number, Text, Filled, Word, Switch}
+use Rattle.wc_options.specs.declared.kind.Kind.TheVariants.{Endpoint}
 use Rattle.wc_options.specs.declared.table.Row.{Row}
 
 -- an option: its name, what its values have to be, its value where none is set, and the words that
@@ -14,21 +16,35 @@ pub record OptionRow : Type 0 where
 
 -- the same in the code
 abbrev pub row_of : Row → OptionRow
-row_of row = record { name = row.name.now; kind = row.kind; default = row.default.now; range = row.range.now }
+row_of row = record {
+  name = row.name.now;
+  kind = row.kind;
+  default = row.default.now;
+  range = row.range.now;
+}
 
 abbrev pub option : List ℕ → Kind → List ℕ → List ℕ → OptionRow
-option name kind default range = record { name = name; kind = kind; default = default; range = range }
+option name kind default range = record {
+  name = name;
+  kind = kind;
+  default = default;
+  range = range;
+}
 
 -- the options of the program
 unfoldable pub globals : List OptionRow
 globals =
-    option (codes "weechat.history.max_buffer_lines_number") (Number 1 4096) (codes "4096") (codes "1 to 4096, read at the start")
+    option (codes "weechat.history.max_buffer_lines_number") (Number 1 4096) (codes "4096")
+    (codes "1 to 4096, read at the start")
     ∷ option (codes "relay.network.password") Text [] (codes "text")
-    ∷ option (codes "relay.network.password_hash_algo") Text (codes "*") (codes "masks joined by commas")
+    ∷ option (codes "relay.network.password_hash_algo") Text (codes "*")
+    (codes "masks joined by commas")
     ∷ option (codes "relay.network.max_clients") (Number 1 64) (codes "5") (codes "1 to 64")
-    ∷ option (codes "relay.port.weechat") (Number 1 65535) (codes "9000") (codes "1 to 65535, read at the start")
+    ∷ option (codes "relay.port.weechat") (Number 1 65535) (codes "9000")
+    (codes "1 to 65535, read at the start")
     ∷ option (codes "irc.server_default.nicks") Filled (codes "weechat") (codes "text, not empty")
-    ∷ option (codes "irc.server_default.realname") Filled (codes "weechat") (codes "text, not empty")
+    ∷ option (codes "irc.server_default.realname") Filled (codes "weechat")
+    (codes "text, not empty")
     ∷ option (codes "irc.server_default.username") Word (codes "weechat") (codes "one word")
     ∷ option (codes "irc.server_default.password") Text [] (codes "text")
     ∷ option (codes "irc.server_default.autojoin") Text [] (codes "text")

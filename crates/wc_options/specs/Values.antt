@@ -1,10 +1,12 @@
 -- Which values an option may have.
-use Rattle.std.specs.Prelude.{ℕ, Bool, true, false, ◌==◌, ◌&&◌, ◌||◌, not, nat_le, bytes_eq, length, List, [], ◌∷◌, is_some, codes}
+use Rattle.std.specs.Prelude.{ℕ, Bool, true, false, ◌==◌, ◌&&◌, ◌||◌, not, nat_le, bytes_eq, length}
+use Rattle.std.specs.Prelude.{List, [], ◌∷◌, is_some, codes}
 use Rattle.std.specs.List.{list_all}
 use Rattle.wc_options.specs.Address.{address_of}
 use Rattle.wc_options.specs.Number.{number_in}
 use Rattle.wc_options.specs.declared.kind.Kind.{Kind}
-use Rattle.wc_options.specs.declared.kind.Kind.TheVariants.{Number, Text, Filled, Word, Switch, Endpoint}
+use Rattle.wc_options.specs.declared.kind.Kind.TheVariants.{Number, Text, Filled, Word, Switch}
+use Rattle.wc_options.specs.declared.kind.Kind.TheVariants.{Endpoint}
 
 -- no value has CR, LF or NUL
 abbrev pub is_storable_byte : ℕ → Bool

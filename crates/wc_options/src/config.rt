@@ -1,6 +1,9 @@
-ghost use Rattle.std.specs.Prelude.{◌≡◌, ◌≢◌, ◌<◌, ◌^◌, ◌+◌, ◌∷◌, ◌++◌, [], Ok, Err, Some, None, IfOk, IfErr, OnOk, OnErr, bytes_eq, take, codes, drop, length, slice_index_or};
+ghost use Rattle.std.specs.Prelude.{◌≡◌, ◌≢◌, ◌<◌, ◌^◌, ◌+◌, ◌∷◌, ◌++◌, [], Ok};
+ghost use Rattle.std.specs.Prelude.{Err, Some, None, IfOk, IfErr, OnOk, OnErr, bytes_eq, take};
+ghost use Rattle.std.specs.Prelude.{codes, drop, length, slice_index_or};
 ghost use Rattle.std.specs.Str.{is_utf8, IsUtf8};
-ghost use Rattle.wc_options.specs.Config.{config_of, after_line, after_lines, is_passed_over, version_line, with_setting};
+ghost use Rattle.wc_options.specs.Config.{config_of, after_line, after_lines, is_passed_over};
+ghost use Rattle.wc_options.specs.Config.{version_line, with_setting};
 ghost use Rattle.wc_options.specs.File.{lines_of, parted};
 ghost use Rattle.wc_options.specs.ReadConfig.{IsBadLine};
 
@@ -29,7 +32,8 @@ pub(crate) enum LineRefused {
 #[tactic(auto, using(crate::proofs::ConfigLemmas::config_read))]
 pub fn read_config(alloc: Global, bytes: &[u8]) -> Result<Options, ConfigRefused>
     ensures read { IfOk result (λ options. config_of bytes.now ≡ Ok options) }
-    ensures bad_line { IfErr result (λ refused. refused ≢ ConfigRefused.NoMemory → IsBadLine refused (config_of bytes.now)) }
+    ensures bad_line { IfErr result (λ refused. refused ≢ ConfigRefused.NoMemory →
+        IsBadLine refused (config_of bytes.now)) }
 {
     let Ok(options) = Options::new(alloc) else {
         return Err(ConfigRefused::NoMemory);
@@ -55,8 +59,10 @@ impl Options {
         bytes: &[u8],
     ) -> Result<Options, ConfigRefused>
         requires { first + length bytes.now < 2 ^ 64 }
-        ensures read { IfOk result (λ options. after_lines first self (lines_of bytes.now) ≡ Ok options) }
-        ensures bad_line { IfErr result (λ refused. refused ≢ ConfigRefused.NoMemory → IsBadLine refused (after_lines first self (lines_of bytes.now))) }
+        ensures read { IfOk result (λ options. after_lines first self (lines_of bytes.now)
+            ≡ Ok options) }
+        ensures bad_line { IfErr result (λ refused. refused ≢ ConfigRefused.NoMemory →
+            IsBadLine refused (after_lines first self (lines_of bytes.now))) }
     {
         let mut number = first;
         let mut rest = bytes;
@@ -76,7 +82,8 @@ impl Options {
     #[tactic(auto, using(crate::proofs::ConfigLemmas::lines_taken))]
     fn take_line(&mut self, alloc: Global, line: &[u8]) -> Result<(), LineRefused>
         ensures taken { OnOk result (after_line self.old line.now ≡ Some self.new) }
-        ensures refused { IfErr result (λ refused. refused ≢ LineRefused.NoMemory → after_line self.old line.now ≡ None) }
+        ensures refused { IfErr result (λ refused. refused ≢ LineRefused.NoMemory →
+            after_line self.old line.now ≡ None) }
     {
         if is_passed_over(line) {
             return Ok(());
@@ -90,7 +97,8 @@ impl Options {
     fn take_text(&mut self, alloc: Global, line: &[u8]) -> Result<(), LineRefused>
         requires { IsUtf8 line.now }
         ensures taken { OnOk result (with_setting self.old (parted line.now) ≡ Some self.new) }
-        ensures refused { IfErr result (λ refused. refused ≢ LineRefused.NoMemory → with_setting self.old (parted line.now) ≡ None) }
+        ensures refused { IfErr result (λ refused. refused ≢ LineRefused.NoMemory →
+            with_setting self.old (parted line.now) ≡ None) }
     {
         match part_line(line) {
             Some((name, value)) => self.take_value(alloc, name, value),
@@ -100,8 +108,10 @@ impl Options {
 
     fn take_value(&mut self, alloc: Global, name: &[u8], value: &[u8]) -> Result<(), LineRefused>
         requires { IsUtf8 value.now }
-        ensures taken { OnOk result (with_setting self.old (Some (name.now, value.now)) ≡ Some self.new) }
-        ensures refused { IfErr result (λ refused. refused ≢ LineRefused.NoMemory → with_setting self.old (Some (name.now, value.now)) ≡ None) }
+        ensures taken { OnOk result (with_setting self.old (Some (name.now, value.now))
+            ≡ Some self.new) }
+        ensures refused { IfErr result (λ refused. refused ≢ LineRefused.NoMemory →
+            with_setting self.old (Some (name.now, value.now)) ≡ None) }
     {
         match self.set_bytes(alloc, name, value) {
             Ok(_) => Ok(()),

@@ -1,4 +1,5 @@
-ghost use Rattle.std.specs.Prelude.{◌≡◌, ◌==◌, ◌∷◌, ◌+◌, ◌≤◌, ◌<◌, [], length, IfSome, IfNone, MatchOption, Some, None, position};
+ghost use Rattle.std.specs.Prelude.{◌≡◌, ◌==◌, ◌∷◌, ◌+◌, ◌≤◌, ◌<◌, [], length, IfSome};
+ghost use Rattle.std.specs.Prelude.{IfNone, MatchOption, Some, None, position};
 ghost use Rattle.std.specs.List.{before_first, after_first};
 ghost use Rattle.wc_options.specs.File.{lines_of, parted};
 
@@ -25,7 +26,8 @@ pub(crate) fn part_at(text: &[u8], separator: u8) -> (&[u8], &[u8])
 #[tactic(auto, using(crate::proofs::FileLemmas::first_lines))]
 pub fn first_line(bytes: &[u8]) -> Option<(&[u8], &[u8])>
     ensures none { IfNone result (lines_of bytes.now ≡ []) }
-    ensures first { IfSome result (λ parts. lines_of bytes.now ≡ parts.0.now ∷ lines_of parts.1.now) }
+    ensures first { IfSome result (λ parts. lines_of bytes.now
+        ≡ parts.0.now ∷ lines_of parts.1.now) }
     ensures shorter { IfSome result (λ parts. length parts.1.now < length bytes.now) }
 {
     if bytes.is_empty() {
@@ -40,7 +42,8 @@ pub(crate) const EQUALS_SIGN: &[u8] = b" = ";
 /// The name and the value of a line, parted at the first ` = `. None exactly where there is none.
 #[tactic(auto, using(crate::proofs::FileLemmas::parting))]
 pub fn part_line(line: &[u8]) -> Option<(&[u8], &[u8])>
-    ensures { MatchOption result (parted line.now ≡ None) (λ parts. parted line.now ≡ Some (parts.0.now, parts.1.now)) }
+    ensures { MatchOption result (parted line.now ≡ None) (λ parts. parted line.now
+        ≡ Some (parts.0.now, parts.1.now)) }
 {
     for place in 0..line.len() {
         let (name, rest) = line.split_at(place);

@@ -1,4 +1,5 @@
-//! The options of the program, the rules that their values keep, and the file that they are kept in.
+//! The options of the program, the rules that their values keep, and the file that they are kept
+//! in.
 #![tactic(auto)]
 
 mod address;
@@ -20,4 +21,3 @@ pub use kind::{Kind, LONGEST_VALUE};
 pub use number::number_in;
 pub use options::{Changed, MOST_SERVERS, Options};
 pub use refusal::{ConfigRefused, SetRefused};
-

@@ -1,7 +1,14 @@
-ghost use Rattle.std.specs.Prelude.{◌≡◌, ◌≢◌, ◌<◌, ◌∷◌, [], map, length, find, IfOk, IfErr, IfSome, IfNone, OnOk, OnErr, Some, None, IsTrue, position, option_map, true, false, slice_set, slice_index_or, ◌++◌, remove};
+ghost use Rattle.std.specs.Prelude.{◌≡◌, ◌≢◌, ◌<◌, ◌∷◌, [], map, length, find, IfOk, IfErr};
+ghost use Rattle.std.specs.Prelude.{IfSome, IfNone, OnOk, OnErr, Some, None, IsTrue, position};
+ghost use Rattle.std.specs.Prelude.{option_map, true, false, slice_set, slice_index_or, ◌++◌};
+ghost use Rattle.std.specs.Prelude.{remove};
 ghost use Rattle.std.specs.Option.{option_copied};
 ghost use Rattle.std.specs.Str.{IsUtf8};
-ghost use Rattle.wc_options.specs.Options.{fresh, value_of, global_value, server_value, refusal_of, with_value, makes, without_value, has_server, without, is_named, value_at, refusal_at, with_value_at, makes_server, reset_at, ServerOptions, own_at_first, with_own, fresh_server, no_server};
+ghost use Rattle.wc_options.specs.Options.{fresh, value_of, global_value, server_value, refusal_of};
+ghost use Rattle.wc_options.specs.Options.{with_value, makes, without_value, has_server, without};
+ghost use Rattle.wc_options.specs.Options.{is_named, value_at, refusal_at, with_value_at};
+ghost use Rattle.wc_options.specs.Options.{makes_server, reset_at, ServerOptions, own_at_first};
+ghost use Rattle.wc_options.specs.Options.{with_own, fresh_server, no_server};
 ghost use Rattle.wc_options.specs.Kept.{Fits, unset_at_first};
 ghost use Rattle.wc_options.specs.Names.{AtServer, IsInTable, IsNamed, is_server_name};
 ghost use Rattle.wc_options.specs.Place.{located_of};
@@ -47,7 +54,9 @@ impl Model for Options {
 
     ghost view = { λ a. record { set = a.set.items; servers = a.servers.items } };
 
-    ghost invariant = { λ a. AreTextsStored (record { set = a.set.items; servers = a.servers.items }) a.defaults.items a.no_address a.names.items };
+    ghost invariant = { λ a. AreTextsStored
+        (record { set = a.set.items; servers = a.servers.items }) a.defaults.items a.no_address
+        a.names.items };
 }
 
 /// The place of the server with a name.
@@ -161,7 +170,8 @@ impl Options {
         ensures after { OnOk result (self.new ≡ with_value self.old name.now value.now) }
         ensures made { IfOk result (λ changed. changed.made_server ≡ makes self.old name.now) }
         ensures accepted { OnOk result (refusal_of self.old name.now value.now ≡ None) }
-        ensures refused { IfErr result (λ refused. refused ≢ SetRefused.NoMemory → refusal_of self.old name.now value.now ≡ Some refused) }
+        ensures refused { IfErr result (λ refused. refused ≢ SetRefused.NoMemory →
+            refusal_of self.old name.now value.now ≡ Some refused) }
         ensures unchanged { OnErr result (self.new ≡ self.old) }
     {
         self.set_bytes(alloc, name.as_slice(), value.as_slice())
@@ -177,7 +187,8 @@ impl Options {
         ensures after { OnOk result (self.new ≡ with_value self.old name.now value.now) }
         ensures made { IfOk result (λ changed. changed.made_server ≡ makes self.old name.now) }
         ensures accepted { OnOk result (refusal_of self.old name.now value.now ≡ None) }
-        ensures refused { IfErr result (λ refused. refused ≢ SetRefused.NoMemory → refusal_of self.old name.now value.now ≡ Some refused) }
+        ensures refused { IfErr result (λ refused. refused ≢ SetRefused.NoMemory →
+            refusal_of self.old name.now value.now ≡ Some refused) }
         ensures unchanged { OnErr result (self.new ≡ self.old) }
     {
         match locate(name) {
@@ -186,8 +197,8 @@ impl Options {
         }
     }
 
-    /// Sets an option to its default. Refused, and nothing is changed, where there is no option with
-    /// this name; the options of a server are there where the server is.
+    /// Sets an option to its default. Refused, and nothing is changed, where there is no option
+    /// with this name; the options of a server are there where the server is.
     pub fn unset(&mut self, alloc: Global, name: &Text) -> Result<(), SetRefused>
         ensures after { OnOk result (self.new ≡ without_value self.old name.now) }
         ensures known { OnOk result (value_of self.old name.now ≢ None) }
@@ -272,10 +283,14 @@ impl Options {
         requires place { IsInTable (located_of place) }
         requires named { IsNamed (located_of place) }
         requires value_is_text { IsUtf8 value.now }
-        ensures after { OnOk result (self.new ≡ with_value_at self.old value.now (located_of place.entry)) }
-        ensures made { IfOk result (λ changed. changed.made_server ≡ makes_server self.old (located_of place.entry)) }
-        ensures accepted { OnOk result (refusal_at self.old value.now (located_of place.entry) ≡ None) }
-        ensures refused { IfErr result (λ refused. refused ≢ SetRefused.NoMemory → refusal_at self.old value.now (located_of place.entry) ≡ Some refused) }
+        ensures after { OnOk result (self.new ≡ with_value_at self.old value.now
+            (located_of place.entry)) }
+        ensures made { IfOk result (λ changed. changed.made_server ≡ makes_server self.old
+            (located_of place.entry)) }
+        ensures accepted { OnOk result
+            (refusal_at self.old value.now (located_of place.entry) ≡ None) }
+        ensures refused { IfErr result (λ refused. refused ≢ SetRefused.NoMemory →
+            refusal_at self.old value.now (located_of place.entry) ≡ Some refused) }
         ensures unchanged { OnErr result (self.new ≡ self.old) }
     {
         let row = row(place);
@@ -306,7 +321,10 @@ impl Options {
         requires found { found < length self.old.servers }
         requires place { place < 8 }
         requires fits { Fits own_at_first (row_at of_server place) value }
-        ensures { self.new ≡ record self.old { servers = slice_set self.old.servers found (with_own place value (slice_index_or self.old.servers found no_server)) } }
+        ensures { self.new ≡ record self.old {
+          servers = slice_set self.old.servers found
+              (with_own place value (slice_index_or self.old.servers found no_server));
+        } }
     {
         self.servers[found].put(place, value);
     }
@@ -321,10 +339,14 @@ impl Options {
         requires named { is_server_name name.now ≡ true }
         requires place { place < 8 }
         requires fits { Fits own_at_first (row_at of_server place) (Some value) }
-        ensures after { OnOk result (self.new ≡ with_value_at self.old value (AtServer name.now place)) }
-        ensures made { IfOk result (λ changed. changed.made_server ≡ makes_server self.old (AtServer name.now place)) }
-        ensures accepted { OnOk result (refusal_at self.old value (AtServer name.now place) ≡ None) }
-        ensures refused { IfErr result (λ refused. refused ≢ SetRefused.NoMemory → refusal_at self.old value (AtServer name.now place) ≡ Some refused) }
+        ensures after { OnOk result (self.new ≡ with_value_at self.old value
+            (AtServer name.now place)) }
+        ensures made { IfOk result (λ changed. changed.made_server ≡ makes_server self.old
+            (AtServer name.now place)) }
+        ensures accepted { OnOk result
+            (refusal_at self.old value (AtServer name.now place) ≡ None) }
+        ensures refused { IfErr result (λ refused. refused ≢ SetRefused.NoMemory →
+            refusal_at self.old value (AtServer name.now place) ≡ Some refused) }
         ensures unchanged { OnErr result (self.new ≡ self.old) }
     {
         match self.place_of(name) {
@@ -357,7 +379,10 @@ impl Options {
         requires few { length self.old.servers < 64 }
         requires place { place < 8 }
         requires fits { Fits own_at_first (row_at of_server place) (Some value) }
-        ensures after { OnOk result (self.new ≡ record self.old { servers = self.old.servers ++ with_own place (Some value) (fresh_server name.now) ∷ [] }) }
+        ensures after { OnOk result (self.new ≡ record self.old {
+          servers = self.old.servers
+              ++ with_own place (Some value) (fresh_server name.now) ∷ [];
+        }) }
         ensures unchanged { OnErr result (self.new ≡ self.old) }
     {
         let mut server = Server::new(alloc, name)?;

@@ -1,6 +1,7 @@
 ghost use Rattle.std.specs.Prelude.{◌≡◌, ◌<◌, ◌==◌, option_map, IfSome};
 ghost use Rattle.std.specs.List.{list_all};
-ghost use Rattle.wc_options.specs.Names.{is_server_byte, is_server_name, located, located_of_server, row_of_located, IsInTable, IsNamed};
+ghost use Rattle.wc_options.specs.Names.{is_server_byte, is_server_name, located};
+ghost use Rattle.wc_options.specs.Names.{located_of_server, row_of_located, IsInTable, IsNamed};
 ghost use Rattle.wc_options.specs.Place.{located_of};
 ghost use Rattle.wc_options.specs.Table.{row_of};
 

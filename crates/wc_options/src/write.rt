@@ -1,6 +1,7 @@
 ghost use Rattle.std.specs.Prelude.{◌≡◌, ◌++◌, ◌∷◌, [], Ok, IfOk, OnOk, length, map};
 ghost use Rattle.std.specs.List.{flat_map};
-ghost use Rattle.wc_options.specs.Config.{config_of, config_text, text_of_lines, prefix_of, set_lines, lines_of_value, server_lines};
+ghost use Rattle.wc_options.specs.Config.{config_of, config_text, text_of_lines, prefix_of};
+ghost use Rattle.wc_options.specs.Config.{set_lines, lines_of_value, server_lines};
 ghost use Rattle.wc_options.specs.File.{equals_sign};
 ghost use Rattle.wc_options.specs.Kept.{AreOptionsKept};
 ghost use Rattle.wc_options.specs.Table.{globals, of_server, row_of};
@@ -31,14 +32,16 @@ impl Options {
     }
 
     fn write_globals(&self, text: &mut Text) -> Result<(), NoMemory>
-        ensures written { OnOk result (text.new ≡ text.old ++ text_of_lines (set_lines [] globals self.now.set)) }
+        ensures written { OnOk result
+            (text.new ≡ text.old ++ text_of_lines (set_lines [] globals self.now.set)) }
         ensures kept { AreOptionsKept self.now }
     {
         write_values(text, b"", &GLOBALS, &self.set)
     }
 
     fn write_servers(&self, alloc: Global, text: &mut Text) -> Result<(), NoMemory>
-        ensures { OnOk result (text.new ≡ text.old ++ text_of_lines (flat_map server_lines self.now.servers)) }
+        ensures { OnOk result
+            (text.new ≡ text.old ++ text_of_lines (flat_map server_lines self.now.servers)) }
     {
         for place in 0..self.servers.len() {
             let server = &self.servers[place];
@@ -69,7 +72,8 @@ fn write_values(
     values: &[Option<Text>],
 ) -> Result<(), NoMemory>
     requires { length values.now ≡ length table.now }
-    ensures { OnOk result (text.new ≡ text.old ++ text_of_lines (set_lines prefix.now (map row_of table.now) values.now)) }
+    ensures { OnOk result (text.new ≡ text.old
+        ++ text_of_lines (set_lines prefix.now (map row_of table.now) values.now)) }
 {
     for place in 0..table.len() {
         write_value(text, prefix, &table[place], &values[place])?;
@@ -83,7 +87,8 @@ fn write_value(
     row: &Row,
     value: &Option<Text>,
 ) -> Result<(), NoMemory>
-    ensures { OnOk result (text.new ≡ text.old ++ text_of_lines (lines_of_value prefix.now (row_of row.now) value.now)) }
+    ensures { OnOk result (text.new ≡ text.old
+        ++ text_of_lines (lines_of_value prefix.now (row_of row.now) value.now)) }
 {
     match value {
         Some(value) => write_line(text, prefix, row.name, value.as_slice()),
@@ -93,7 +98,8 @@ fn write_value(
 
 #[tactic(auto, using(crate::proofs::WriteLemmas::line_written))]
 fn write_line(text: &mut Text, prefix: &[u8], name: &[u8], value: &[u8]) -> Result<(), NoMemory>
-    ensures { OnOk result (text.new ≡ text.old ++ (prefix.now ++ name.now ++ equals_sign ++ value.now ++ 10 ∷ [] ++ [])) }
+    ensures { OnOk result (text.new ≡ text.old ++ (prefix.now ++ name.now ++ equals_sign
+        ++ value.now ++ 10 ∷ [] ++ [])) }
 {
     text.append(prefix)?;
     text.append(name)?;

@@ -1,5 +1,6 @@
 -- The happenings that a call adds, the bytes that it sends, and the sources that it speaks of.
-use Rattle.std.specs.Prelude.{ℕ, Bool, true, false, ◌+◌, ◌≤◌, List, [], ◌∷◌, take, ◌==◌, Option, Some, None, Result, Ok, Err, IsTrue}
+use Rattle.std.specs.Prelude.{ℕ, Bool, true, false, ◌+◌, ◌≤◌, List, [], ◌∷◌, take, ◌==◌, Option}
+use Rattle.std.specs.Prelude.{Some, None, Result, Ok, Err, IsTrue}
 use Rattle.wc_text.specs.declared.names.LinkId.{LinkId}
 use Rattle.wc_text.specs.declared.names.Arrival.{Arrival}
 use Rattle.wc_outside.specs.declared.failed.Failed.{Failed as Fault}
@@ -10,7 +11,8 @@ use Rattle.wc_outside.specs.declared.sockets.Put.TheVariants.{Took, NotYet as No
 use Rattle.wc_outside.specs.declared.sockets.Token.{Token}
 use Rattle.wc_outside.specs.declared.sockets.Token.TheVariants.{Listener, Link}
 use Rattle.wc_outside.specs.declared.happening.Happening.{Happening}
-use Rattle.wc_outside.specs.declared.happening.Happening.TheVariants.{Woke, Accepted, Read, Ended, Failed, ListenFailed}
+use Rattle.wc_outside.specs.declared.happening.Happening.TheVariants.{Woke, Accepted, Read, Ended}
+use Rattle.wc_outside.specs.declared.happening.Happening.TheVariants.{Failed, ListenFailed}
 
 -- what a wait adds
 abbrev pub wait_gives : Result ℕ Fault → List Happening

@@ -1,4 +1,5 @@
-ghost use Rattle.std.specs.Prelude.{◌≡◌, ◌≤◌, ℕ, List, Option, Some, IfOk, IfSome, IsSome, OnOk, OnErr, IsErrOf};
+ghost use Rattle.std.specs.Prelude.{◌≡◌, ◌≤◌, ℕ, List, Option, Some, IfOk, IfSome, IsSome, OnOk};
+ghost use Rattle.std.specs.Prelude.{OnErr, IsErrOf};
 ghost use Rattle.wc_outside.specs.Faults.{Rose};
 
 use crate::failed::Failed;
@@ -27,9 +28,11 @@ pub trait Keeper {
         ensures contents { contents self.new ≡ contents self.old }
         ensures read { IfOk result (λ text. IfSome (contents self.old) (λ kept. text ≡ kept)) }
         ensures counts { faults self.old ≤ faults self.new }
-        ensures failed { IsErrOf result KeepFault.Failed → Rose (faults self.old) (faults self.new) };
+        ensures failed { IsErrOf result KeepFault.Failed →
+            Rose (faults self.old) (faults self.new) };
 
-    /// Puts these bytes in the place of all that is kept. Where it fails what is kept stays as it is.
+    /// Puts these bytes in the place of all that is kept. Where it fails what is kept stays as it
+    /// is.
     fn replace(&mut self, bytes: &[u8]) -> Result<(), Failed>
         ensures ok { OnOk result (IsSome (contents self.new) → contents self.new ≡ Some bytes.now) }
         ensures kept { OnErr result (contents self.new ≡ contents self.old) }

@@ -1,4 +1,5 @@
-//! What the program meets outside itself: sockets, the keeper of a file, and a sink of printed text.
+//! What the program meets outside itself: sockets, the keeper of a file, and a sink of printed
+//! text.
 #![tactic(auto)]
 
 mod asked;

@@ -23,7 +23,8 @@ pub struct MemoryKeeper {
 impl MemoryKeeper {
     /// A keeper of this text, which fails at the calls with these numbers, counted from 1.
     pub fn new(alloc: Global, contents: Text, failing: Items<u64>) -> Result<MemoryKeeper, NoMemory>
-        ensures contents { IfOk result (λ keeper. ⟦<MemoryKeeper as Keeper>⟧.contents keeper ≡ Some contents) }
+        ensures contents { IfOk result (λ keeper. ⟦<MemoryKeeper as Keeper>⟧.contents keeper
+            ≡ Some contents) }
         ensures faults { IfOk result (λ keeper. ⟦<MemoryKeeper as Keeper>⟧.faults keeper ≡ 0) }
     {
         Ok(MemoryKeeper {

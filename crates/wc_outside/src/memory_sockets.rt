@@ -1,4 +1,5 @@
-ghost use Rattle.std.specs.Prelude.{◌≡◌, ◌+◌, ◌-◌, ◌^◌, ◌<◌, ◌≤◌, ◌++◌, ◌∷◌, [], true, IsTrue, IfOk, OnErr, vec_len};
+ghost use Rattle.std.specs.Prelude.{◌≡◌, ◌+◌, ◌-◌, ◌^◌, ◌<◌, ◌≤◌, ◌++◌, ◌∷◌};
+ghost use Rattle.std.specs.Prelude.{[], true, IsTrue, IfOk, OnErr, vec_len};
 ghost use Rattle.wc_outside.specs.Seen.{IsNew};
 ghost use Rattle.wc_outside.specs.Rows.{blank, row_at};
 
@@ -39,7 +40,8 @@ pub struct MemorySockets {
 /// Makes the next link.
 fn make_link(alloc: Global, play: &mut Play, rows: &mut Vec<Row>) -> Result<LinkId, NoMemory>
     ensures number { IfOk result (λ link. link.0 ≡ vec_len rows.old) }
-    ensures rows { IfOk result (λ link. rows.new.items ≡ rows.old.items ++ record blank { is_open = true } ∷ []) }
+    ensures rows { IfOk result (λ link. rows.new.items ≡ rows.old.items
+        ++ record blank { is_open = true } ∷ []) }
     ensures err { OnErr result (rows.new.items ≡ rows.old.items) }
 {
     let link = LinkId(rows.len() as u64);
@@ -66,7 +68,8 @@ impl MemorySockets {
         window: u32,
     ) -> Result<MemorySockets, NoMemory>
         ensures fresh { IfOk result (λ sockets. IsNew (⟦<MemorySockets as Sockets>⟧.seen sockets)) }
-        ensures tells { IfOk result (λ sockets. IsTrue (⟦<MemorySockets as Sockets>⟧.seen sockets).tells) }
+        ensures tells { IfOk result
+            (λ sockets. IsTrue (⟦<MemorySockets as Sockets>⟧.seen sockets).tells) }
     {
         let mut rows = Vec::with_capacity(alloc, 8)?;
         rows.push(Row::new(alloc)).map_err(|_| NoMemory)?;

@@ -10,7 +10,8 @@ use crate::sockets::{READY_LIMIT, Ready, Token};
 fn add(ready: &mut Ready, source: Token)
     requires { ready.old.count < 64 }
     ensures count { ready.new.count ≡ ready.old.count + 1 }
-    ensures tokens { take ready.new.count ready.new.tokens ≡ take ready.old.count ready.old.tokens ++ source ∷ [] }
+    ensures tokens { take ready.new.count ready.new.tokens ≡ take ready.old.count ready.old.tokens
+        ++ source ∷ [] }
 {
     ready.tokens[ready.count] = source;
     ready.count += 1;
@@ -34,7 +35,8 @@ fn mark(rows: &mut [Row], listening: &mut bool, source: Token)
 
 /// Reports the sources that are ready or not drained, as many as fit.
 fn report_ready(play: &mut Play, rows: &mut [Row], listening: &mut bool, ready: &mut Ready)
-    ensures { Reported rows.old rows.new listening.old listening.new (take ready.new.count ready.new.tokens) }
+    ensures { Reported rows.old rows.new listening.old listening.new
+        (take ready.new.count ready.new.tokens) }
 {
     ready.count = 0;
     while ready.count < READY_LIMIT {
@@ -49,7 +51,8 @@ fn report_ready(play: &mut Play, rows: &mut [Row], listening: &mut bool, ready: 
 
 /// Notes that a wait returned, and reports the sources that are ready or not drained.
 pub(crate) fn report(play: &mut Play, rows: &mut [Row], listening: &mut bool, ready: &mut Ready)
-    ensures { Reported (map freed_row rows.old) rows.new listening.old listening.new (take ready.new.count ready.new.tokens) }
+    ensures { Reported (map freed_row rows.old) rows.new listening.old listening.new
+        (take ready.new.count ready.new.tokens) }
 {
     free_all(rows);
     report_ready(play, rows, listening, ready);

@@ -1,4 +1,5 @@
-ghost use Rattle.std.specs.Prelude.{◌≡◌, ◌+◌, ◌<◌, ◌≤◌, ◌++◌, ◌∷◌, [], false, true, map, slice_set, IsTrue, OnOk, OnErr, IfSome, length, take};
+ghost use Rattle.std.specs.Prelude.{◌≡◌, ◌+◌, ◌<◌, ◌≤◌, ◌++◌, ◌∷◌, [], false, true};
+ghost use Rattle.std.specs.Prelude.{map, slice_set, IsTrue, OnOk, OnErr, IfSome, length, take};
 ghost use Rattle.wc_outside.specs.Rows.{blank, row_at, closed_row, freed_row};
 
 use std::alloc::Global;
@@ -40,7 +41,8 @@ pub(crate) fn is_open(rows: &[Row], link: LinkId) -> bool
 
 /// Takes a link out of those that are not drained.
 pub(crate) fn drain(rows: &mut [Row], link: LinkId)
-    ensures { rows.new ≡ slice_set rows.old link.0 (record (row_at link.0 rows.old) { undrained = false }) }
+    ensures { rows.new ≡ slice_set rows.old link.0
+        (record (row_at link.0 rows.old) { undrained = false }) }
 {
     let place = link.0 as usize;
     if place < rows.len() {
@@ -50,7 +52,8 @@ pub(crate) fn drain(rows: &mut [Row], link: LinkId)
 
 /// Notes whether the last write to a link found no room.
 pub(crate) fn set_blocked(rows: &mut [Row], link: LinkId, blocked: bool)
-    ensures { rows.new ≡ slice_set rows.old link.0 (record (row_at link.0 rows.old) { blocked = blocked }) }
+    ensures { rows.new ≡ slice_set rows.old link.0
+        (record (row_at link.0 rows.old) { blocked = blocked }) }
 {
     let place = link.0 as usize;
     if place < rows.len() {
@@ -70,7 +73,11 @@ pub(crate) fn free_all(rows: &mut [Row])
 /// Puts bytes after what was sent on a link that is there.
 pub(crate) fn send(rows: &mut [Row], link: LinkId, bytes: &[u8]) -> Result<(), NoMemory>
     requires { IsTrue (row_at link.0 rows.old).is_open }
-    ensures ok { OnOk result (rows.new ≡ slice_set rows.old link.0 (let row = row_at link.0 rows.old in record row { sent = row.sent ++ bytes.now; blocked = false })) }
+    ensures ok { OnOk result (rows.new ≡ slice_set rows.old link.0
+        (let row = row_at link.0 rows.old in record row {
+          sent = row.sent ++ bytes.now;
+          blocked = false;
+        })) }
     ensures err { OnErr result (rows.new ≡ rows.old) }
 {
     let place = link.0 as usize;

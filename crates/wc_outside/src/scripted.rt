@@ -3,7 +3,8 @@ use wc_text::{LinkId, Text};
 /// A step of the script of a `MemorySockets`.
 ///
 /// What is between one `Wake` and the next is ready from the first of them on. A step for a
-/// link that is not there yet waits for that link, and one for a link that is closed is passed over.
+/// link that is not there yet waits for that link, and one for a link that is closed is passed
+/// over.
 #[derive(Drop)]
 pub enum Scripted {
     /// A wait comes back at this moment, in milliseconds since 1970.

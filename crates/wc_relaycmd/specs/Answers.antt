@@ -1,5 +1,6 @@
 -- The request of a line, computed.
-use Rattle.std.specs.Prelude.{ℕ, List, [], ◌∷◌, Bool, Option, Some, None, option_map, option_and_then, codes, if◌then◌else◌, ◌==◌}
+use Rattle.std.specs.Prelude.{ℕ, List, [], ◌∷◌, Bool, Option, Some, None, option_map}
+use Rattle.std.specs.Prelude.{option_and_then, codes, if◌then◌else◌, ◌==◌}
 use Rattle.std.specs.Borrow.{Bor}
 use Rattle.std.specs.Str.{is_utf8}
 use Rattle.wc_relaycmd.specs.declared.word.Word.{Word}
@@ -33,12 +34,14 @@ abbrev pub hdata_of : List ℕ → Option Command
 hdata_of text = if_filled text (Commands.Hdata (word_of text) (second_of text))
 
 abbrev pub input_of : List ℕ → Option Command
-input_of text = option_and_then (λ typed. if_filled typed (Commands.Input (word_of text) typed)) (text_after 32 text)
+input_of text = option_and_then (λ typed. if_filled typed (Commands.Input (word_of text) typed))
+    (text_after 32 text)
 
 unfoldable pub completion_of : List ℕ → Option Command
 completion_of [] = None
 completion_of (b ∷ text) =
-    option_map (λ position. Commands.Completion (word_of (b ∷ text)) position (rest_of (rest_of (b ∷ text)))) (integer_of (second_of (b ∷ text)))
+    option_map (λ position. Commands.Completion (word_of (b ∷ text)) position
+    (rest_of (rest_of (b ∷ text)))) (integer_of (second_of (b ∷ text)))
 
 abbrev pub buffers_of : List ℕ → List (List ℕ)
 buffers_of [] = codes "*" ∷ []
@@ -66,7 +69,8 @@ command_of Words.Quit text = Some Commands.Quit
 -- an id up to its `)`, and what follows it
 abbrev pub named_tag : List ℕ → Option (List ℕ × List ℕ)
 named_tag [] = None
-named_tag (b ∷ text) = if b == 95 then None else option_map (λ rest. (before 41 (b ∷ text), rest)) (text_after 41 (b ∷ text))
+named_tag (b ∷ text) = if b == 95 then None else option_map (λ rest. (before 41 (b ∷ text), rest))
+    (text_after 41 (b ∷ text))
 
 -- the id of a text, empty where it has none, and what follows it
 abbrev pub tag_of : List ℕ → Option (List ℕ × List ℕ)
@@ -86,16 +90,20 @@ abbrev pub call_named : Call → Called
 call_named call = record { id = call.id.now; word = call.word; arguments = call.arguments.now }
 
 abbrev pub called_by : List ℕ → List ℕ → Option Called
-called_by id text = option_map (λ word. record { id = id; word = word; arguments = rest_of text }) (word_named (word_of text))
+called_by id text = option_map (λ word. record { id = id; word = word; arguments = rest_of text })
+    (word_named (word_of text))
 
 -- the call of a line that is text
 unfoldable pub call_of : List ℕ → Option Called
-call_of line = option_and_then (λ (tag : List ℕ × List ℕ). called_by tag.0 (past 32 tag.1)) (tag_of (past 32 line))
+call_of line = option_and_then (λ (tag : List ℕ × List ℕ). called_by tag.0 (past 32 tag.1))
+    (tag_of (past 32 line))
 
 -- the request of a call
 unfoldable pub asked_by : Bool → Called → Option Request
-asked_by escaped call = option_map (λ command. record { id = call.id; command = command }) (command_of call.word (arguments_meant escaped call.arguments))
+asked_by escaped call = option_map (λ command. record { id = call.id; command = command })
+    (command_of call.word (arguments_meant escaped call.arguments))
 
 -- the request of a line, where it has one
 unfoldable pub request_of : Bool → List ℕ → Option Request
-request_of escaped line = if is_utf8 line then option_and_then (asked_by escaped) (call_of line) else None
+request_of escaped line = if is_utf8 line then option_and_then (asked_by escaped)
+    (call_of line) else None

@@ -15,14 +15,16 @@ algorithm_name Sha512 = codes "sha512"
 
 -- the client's list, parted at colons, has the name
 abbrev pub is_offered : List ℕ → List ℕ → Bool
-is_offered offered name = list_any (λ piece. bytes_eq piece name) (slice_split (λ b. b == 58) offered)
+is_offered offered name = list_any (λ piece. bytes_eq piece name)
+    (slice_split (λ b. b == 58) offered)
 
 -- some mask of the option, whose masks commas part, matches the name
 abbrev pub is_allowed : List ℕ → List ℕ → Bool
 is_allowed allowed name = list_any (λ mask. matches_of false mask name) (pieces_of allowed)
 
 unfoldable pub is_common : List ℕ → List ℕ → Algorithm → Bool
-is_common offered allowed algorithm = is_offered offered (algorithm_name algorithm) && is_allowed allowed (algorithm_name algorithm)
+is_common offered allowed algorithm = is_offered offered (algorithm_name algorithm)
+    && is_allowed allowed (algorithm_name algorithm)
 
 -- the first of the algorithms, from the strongest down, that is offered and allowed
 abbrev pub choice_of : List ℕ → List ℕ → Option Algorithm

@@ -8,5 +8,8 @@ use Rattle.wc_relaycmd.specs.Lists.{items_of}
 -- how the items of a list go on
 abbrev pub IsListFront : List ℕ → Front → Type 0
 IsListFront list (Ends None) = list ≡ []
-IsListFront list (Ends (Some text_after)) = (items_of list ≡ [] ∷ items_of text_after.now) × (length text_after.now < length list)
-IsListFront list (Goes byte text_after) = (items_of list ≡ onto_first byte (items_of text_after.now)) × (length text_after.now < length list)
+IsListFront list (Ends (Some text_after)) = (items_of list ≡ [] ∷ items_of text_after.now)
+    × (length text_after.now < length list)
+IsListFront list (Goes byte text_after) =
+    (items_of list ≡ onto_first byte (items_of text_after.now))
+    × (length text_after.now < length list)

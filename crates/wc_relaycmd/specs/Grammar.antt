@@ -1,5 +1,6 @@
 -- The grammar of request lines.
-use Rattle.std.specs.Prelude.{◌≡◌, ◌≢◌, ℕ, List, [], ◌∷◌, ◌++◌, Bool, Option, Some, None, codes, ℤ}
+use Rattle.std.specs.Prelude.{◌≡◌, ◌≢◌, ℕ, List, [], ◌∷◌, ◌++◌, Bool, Option, Some, None}
+use Rattle.std.specs.Prelude.{codes, ℤ}
 use Rattle.std.specs.Str.{IsUtf8, bytes_eq}
 use Rattle.std.specs.List.{find}
 use Rattle.wc_relaycmd.specs.declared.word.Word.{Word}
@@ -30,7 +31,8 @@ name_of Words.Quit = codes "quit"
 
 abbrev pub all_words : List Word
 all_words =
-    Words.Handshake ∷ Words.Init ∷ Words.Hdata ∷ Words.Info ∷ Words.Infolist ∷ Words.Nicklist ∷ Words.Input ∷
+    Words.Handshake ∷ Words.Init ∷ Words.Hdata ∷ Words.Info ∷ Words.Infolist ∷ Words.Nicklist ∷
+    Words.Input ∷
     Words.Completion ∷ Words.Sync ∷ Words.Desync ∷ Words.Test ∷ Words.Ping ∷ Words.Quit ∷ []
 
 -- the command of that name
@@ -86,20 +88,25 @@ Selects (b ∷ text) buffers options = (first second rest : List ℕ) ×
 -- `nicklist` alone, or with a buffer
 abbrev pub AsksNicks : List ℕ → Command → Type 0
 AsksNicks [] command = command ≡ Commands.Nicklist None
-AsksNicks (b ∷ text) command = (buffer rest : List ℕ) × WordAndRest (b ∷ text) buffer rest × (command ≡ Commands.Nicklist (Some buffer))
+AsksNicks (b ∷ text) command = (buffer rest : List ℕ) × WordAndRest (b ∷ text) buffer rest
+    × (command ≡ Commands.Nicklist (Some buffer))
 
 -- what a command's arguments ask
 unfoldable pub Asks : Word → List ℕ → Command → Type 0
 Asks Words.Handshake text command = command ≡ Commands.Handshake (pairs_of text)
 Asks Words.Init text command = (text ≢ []) × (command ≡ Commands.Init (pairs_of text))
-Asks Words.Hdata text command = (path keys rest : List ℕ) × TwoParts text path keys rest × (command ≡ Commands.Hdata path keys)
-Asks Words.Info text command = (name rest : List ℕ) × (name ≢ []) × WordAndRest text name rest × (command ≡ Commands.Info name)
-Asks Words.Infolist text command = (name rest : List ℕ) × (name ≢ []) × WordAndRest text name rest × (command ≡ Commands.Infolist name)
+Asks Words.Hdata text command = (path keys rest : List ℕ) × TwoParts text path keys rest
+    × (command ≡ Commands.Hdata path keys)
+Asks Words.Info text command = (name rest : List ℕ) × (name ≢ []) × WordAndRest text name rest
+    × (command ≡ Commands.Info name)
+Asks Words.Infolist text command = (name rest : List ℕ) × (name ≢ []) × WordAndRest text name rest
+    × (command ≡ Commands.Infolist name)
 Asks Words.Nicklist text command = AsksNicks text command
 Asks Words.Input text command = (buffer typed : List ℕ) × (buffer ≢ []) × (typed ≢ []) ×
     Lacks 32 buffer × (text ≡ buffer ++ 32 ∷ typed) × (command ≡ Commands.Input buffer typed)
 Asks Words.Completion text command = (buffer number typed : List ℕ) × (position : ℤ) ×
-    TwoParts text buffer number typed × (integer_of number ≡ Some position) × (command ≡ Commands.Completion buffer position typed)
+    TwoParts text buffer number typed × (integer_of number ≡ Some position)
+    × (command ≡ Commands.Completion buffer position typed)
 Asks Words.Sync text command = (buffers : List (List ℕ)) × (options : Option (List (List ℕ))) ×
     Selects text buffers options × (command ≡ Commands.Sync buffers options)
 Asks Words.Desync text command = (buffers : List (List ℕ)) × (options : Option (List (List ℕ))) ×
@@ -108,8 +115,8 @@ Asks Words.Test text command = command ≡ Commands.Test
 Asks Words.Ping text command = command ≡ Commands.Ping text
 Asks Words.Quit text command = command ≡ Commands.Quit
 
--- The request that a line spells: its id, and what the arguments of its command ask, whose escapes are read first
--- where they are on.
+-- The request that a line spells: its id, and what the arguments of its command ask, whose escapes
+-- are read first where they are on.
 pub record ReadsRequest (line : List ℕ) (escaped : Bool) (request : Request) : Type 0 where
   pub utf8 : IsUtf8 line
   pub word : Word

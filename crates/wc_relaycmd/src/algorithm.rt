@@ -1,5 +1,6 @@
 ghost use Rattle.std.specs.Prelude.{◌≡◌};
-ghost use Rattle.wc_relaycmd.specs.Choices.{algorithm_name, is_offered, is_allowed, is_common, choice_of};
+ghost use Rattle.wc_relaycmd.specs.Choices.{algorithm_name, is_offered, is_allowed, is_common};
+ghost use Rattle.wc_relaycmd.specs.Choices.{choice_of};
 
 use wc_text::mask_matches;
 
@@ -48,8 +49,9 @@ fn is_common(offered: &[u8], allowed: &[u8], algorithm: Algorithm) -> bool
     is_offered(offered, algorithm.name()) && is_allowed(allowed, algorithm.name())
 }
 
-/// The strongest algorithm that is in the client's list, whose names colons part, and is allowed: some mask of the
-/// option, whose masks commas part, matches its name with case kept. None where there is no such algorithm.
+/// The strongest algorithm that is in the client's list, whose names colons part, and is allowed:
+/// some mask of the option, whose masks commas part, matches its name with case kept. None where
+/// there is no such algorithm.
 pub fn choose_algorithm(offered: &[u8], allowed: &[u8]) -> Option<Algorithm>
     ensures { result ≡ choice_of offered.now allowed.now }
 {

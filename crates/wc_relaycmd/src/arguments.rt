@@ -1,5 +1,6 @@
 ghost use Rattle.std.specs.Prelude.{◌≡◌, IfOk, option_map};
-ghost use Rattle.wc_relaycmd.specs.Answers.{leading_of, init_of, hdata_of, input_of, completion_of, buffers_of, options_of, command_of, if_filled};
+ghost use Rattle.wc_relaycmd.specs.Answers.{leading_of, init_of, hdata_of, input_of, completion_of};
+ghost use Rattle.wc_relaycmd.specs.Answers.{buffers_of, options_of, command_of, if_filled};
 ghost use Rattle.wc_relaycmd.specs.Lists.{pieces_of};
 
 use crate::lists::{pairs, pieces};

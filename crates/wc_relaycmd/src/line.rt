@@ -1,6 +1,8 @@
-ghost use Rattle.std.specs.Prelude.{◌≡◌, ◌↔◌, ℕ, Bool, List, Option, Some, None, IfOk, IfSome, OnErr, IsTrue, option_map};
+ghost use Rattle.std.specs.Prelude.{◌≡◌, ◌↔◌, ℕ, Bool, List, Option, Some, None, IfOk, IfSome};
+ghost use Rattle.std.specs.Prelude.{OnErr, IsTrue, option_map};
 ghost use Rattle.std.specs.Str.{IsUtf8};
-ghost use Rattle.wc_relaycmd.specs.Answers.{tag_of, tag_seen, call_named, call_of, command_of, asked_by, request_of};
+ghost use Rattle.wc_relaycmd.specs.Answers.{tag_of, tag_seen, call_named, call_of, command_of};
+ghost use Rattle.wc_relaycmd.specs.Answers.{asked_by, request_of};
 ghost use Rattle.wc_relaycmd.specs.Escapes.{without_escapes, arguments_meant};
 ghost use Rattle.wc_relaycmd.specs.Grammar.{HasCommand, ReadsRequest};
 ghost use Rattle.wc_relaycmd.specs.Utf8.{RequestIsUtf8};
@@ -21,7 +23,8 @@ pub struct Call<'a> {
     pub arguments: &'a [u8],
 }
 
-/// The id at the front of a text, empty where none is there, and what follows it. None where the id begins with
+/// The id at the front of a text, empty where none is there, and what follows it. None where the id
+/// begins with
 /// `_`, or its parenthesis is not closed.
 fn cut_tag(text: &[u8]) -> Option<(&[u8], &[u8])>
     ensures { option_map tag_seen result ≡ tag_of text.now }
@@ -51,8 +54,8 @@ fn read_call(line: &[u8]) -> Option<Call<'_>>
     })
 }
 
-/// What the arguments ask once their escapes are read. A text without a `\` is not copied for it, and one that is
-/// asked for as it is is moved into the command.
+/// What the arguments ask once their escapes are read. A text without a `\` is not copied for it,
+/// and one that is asked for as it is is moved into the command.
 #[tactic(auto, unfolding(crate::specs::Answers::command_of))]
 fn escaped_command(alloc: Global, word: Word, arguments: &[u8]) -> Result<Option<Command>, NoMemory>
     ensures { IfOk result (λ asked. asked ≡ command_of word (without_escapes arguments.now)) }
@@ -74,7 +77,8 @@ fn meant_command(
     arguments: &[u8],
     escaped: bool,
 ) -> Result<Option<Command>, NoMemory>
-    ensures { IfOk result (λ asked. asked ≡ command_of word (arguments_meant escaped arguments.now)) }
+    ensures { IfOk result (λ asked. asked ≡ command_of word
+        (arguments_meant escaped arguments.now)) }
 {
     if escaped {
         escaped_command(alloc, word, arguments)
@@ -116,14 +120,16 @@ fn request_in(alloc: Global, line: &[u8], escaped: bool) -> Result<Option<Reques
     request_by(alloc, call, escaped)
 }
 
-/// The request that a line of the WeeChat relay protocol spells, where `escaped` says whether the client asked for
+/// The request that a line of the WeeChat relay protocol spells, where `escaped` says whether the
+/// client asked for
 /// `escape_commands`. None exactly where the line is outside the grammar.
 ///
 /// A line that is not UTF-8, or has no command's word after its optional id, takes no memory.
 pub fn read_request(alloc: Global, line: &[u8], escaped: bool) -> Result<Option<Request>, NoMemory>
     // What is read is in the grammar, and nothing in it is refused.
     ensures read { IfOk result (λ asked. IfSome asked (ReadsRequest line.now escaped)) }
-    ensures unread { result ≡ Ok None → (request : Request) → ¬ (ReadsRequest line.now escaped request) }
+    ensures unread { result ≡ Ok None → (request : Request) →
+        ¬ (ReadsRequest line.now escaped request) }
     ensures computed { IfOk result (λ asked. asked ≡ request_of escaped line.now) }
 
     // Each text of the request is UTF-8.
@@ -135,6 +141,8 @@ pub fn read_request(alloc: Global, line: &[u8], escaped: bool) -> Result<Option<
 
 /// A line has at most one request, and it is the one that is computed.
 pub fn one_request()
-    ensures one { (line : List ℕ) (escaped : Bool) (a b : Request) → ReadsRequest line escaped a → ReadsRequest line escaped b → a ≡ b }
-    ensures computed { (line : List ℕ) (escaped : Bool) (request : Request) → ReadsRequest line escaped request ↔ (request_of escaped line ≡ Some request) }
+    ensures one { (line : List ℕ) (escaped : Bool) (a b : Request) → ReadsRequest line escaped a →
+        ReadsRequest line escaped b → a ≡ b }
+    ensures computed { (line : List ℕ) (escaped : Bool) (request : Request) →
+        ReadsRequest line escaped request ↔ (request_of escaped line ≡ Some request) }
 {}

@@ -1,6 +1,7 @@
 ghost use Rattle.std.specs.Prelude.{◌≡◌, ◌++◌, ◌<◌, length, IfOk, IfSome, OnOk, option_to_list};
 ghost use Rattle.std.specs.Option.{option_copied};
-ghost use Rattle.wc_relaycmd.specs.Lists.{pieces_of, items_of, items_after, pair_in, pairs_of, last_value};
+ghost use Rattle.wc_relaycmd.specs.Lists.{pieces_of, items_of, items_after, pair_in, pairs_of};
+ghost use Rattle.wc_relaycmd.specs.Lists.{last_value};
 ghost use Rattle.wc_relaycmd.specs.Fronts.{IsListFront};
 
 use std::alloc::Global;
@@ -41,10 +42,13 @@ fn read_front(list: &[u8]) -> Front<'_>
     }
 }
 
-/// The first item of a list, in which `\,` is a comma, and what comes after the comma that ends it, if one does.
+/// The first item of a list, in which `\,` is a comma, and what comes after the comma that ends it,
+/// if one does.
 fn take_item(alloc: Global, list: &[u8]) -> Result<(Text, Option<&[u8]>), NoMemory>
-    ensures item { IfOk result (λ taken. items_of list.now ≡ items_after taken.0 (option_copied taken.1)) }
-    ensures shorter { IfOk result (λ taken. IfSome taken.1 (λ rest. length rest.now < length list.now)) }
+    ensures item { IfOk result (λ taken. items_of list.now ≡ items_after taken.0
+        (option_copied taken.1)) }
+    ensures shorter { IfOk result
+        (λ taken. IfSome taken.1 (λ rest. length rest.now < length list.now)) }
 {
     let mut item = Text::new(alloc);
     let mut rest = list;
@@ -98,7 +102,8 @@ pub fn pairs(alloc: Global, list: &[u8]) -> Result<Items<Pair>, NoMemory>
     }
 }
 
-/// The value of the last pair of that name, since of a repeated name the last counts. It takes no memory.
+/// The value of the last pair of that name, since of a repeated name the last counts. It takes no
+/// memory.
 #[tactic(auto, unfolding(crate::specs::Lists::last_value))]
 pub fn last_value<'a>(pairs: &'a Items<Pair>, name: &[u8]) -> Option<&'a Text>
     ensures { option_copied result ≡ last_value name.now pairs.now }

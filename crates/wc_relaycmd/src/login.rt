@@ -1,6 +1,7 @@
 ghost use Rattle.std.specs.Prelude.{◌≡◌, ◌++◌, ◌↔◌, IsTrue, IfOk, Some};
 ghost use Rattle.std.specs.Option.{option_copied};
-ghost use Rattle.wc_relaycmd.specs.Logins.{hash_named, bytes_in, hash_from, hash_of, login_of, IsDigestOf, IsSalted, Proves, LetsIn};
+ghost use Rattle.wc_relaycmd.specs.Logins.{hash_named, bytes_in, hash_from, hash_of, login_of};
+ghost use Rattle.wc_relaycmd.specs.Logins.{IsDigestOf, IsSalted, Proves, LetsIn};
 ghost use Rattle.wc_relaycmd.specs.Choices.{algorithm_name};
 
 use crate::algorithm::Algorithm;
@@ -103,9 +104,9 @@ fn copied(alloc: Global, text: Option<&Text>) -> Result<Option<Text>, NoMemory>
     }
 }
 
-/// The login that the pairs of `init` write. Of a repeated name the last counts, and unknown names are ignored.
-/// None exactly where a `password_hash` is given that is not `sha256:SALT:HASH` or `sha512:SALT:HASH`, the salt and the
-/// hash in hex.
+/// The login that the pairs of `init` write. Of a repeated name the last counts, and unknown names
+/// are ignored. None exactly where a `password_hash` is given that is not `sha256:SALT:HASH` or
+/// `sha512:SALT:HASH`, the salt and the hash in hex.
 #[tactic(auto, unfolding(crate::specs::Logins::login_of))]
 pub fn read_login(alloc: Global, pairs: &Items<Pair>) -> Result<Option<Login>, NoMemory>
     ensures { IfOk result (λ login. login ≡ login_of pairs.now) }
@@ -181,12 +182,13 @@ fn is_password(given: &Option<Text>, password: &[u8]) -> bool
     }
 }
 
-/// Whether a login is let in, where `password` is the one that is set and `nonce` and `chosen` are those of the
-/// handshake. It takes no memory.
+/// Whether a login is let in, where `password` is the one that is set and `nonce` and `chosen` are
+/// those of the handshake. It takes no memory.
 ///
-/// Nobody is let in where the password that is set is empty. A hash has to be of the chosen algorithm, its salt has to
-/// begin with the nonce and have at least one byte more, and the hash has to be that of the salt's bytes followed by
-/// the password's. Without a hash the password itself has to be given, and `plain` be chosen.
+/// Nobody is let in where the password that is set is empty. A hash has to be of the chosen
+/// algorithm, its salt has to begin with the nonce and have at least one byte more, and the hash
+/// has to be that of the salt's bytes followed by the password's. Without a hash the password
+/// itself has to be given, and `plain` be chosen.
 pub fn check_login(login: &Login, password: &[u8], nonce: &[u8; 16], chosen: Algorithm) -> bool
     ensures { IsTrue result ↔ LetsIn login.now password.now nonce.now chosen }
 {

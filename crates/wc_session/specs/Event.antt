@@ -46,7 +46,8 @@ with_event event session = record {
 
 -- what a client is told of a notice
 unfoldable pub notice_told : World → Notice → Client → List WireMessage
-notice_told world notice client = if follows notice.kind notice.buffer.0 client then event_messages world notice else []
+notice_told world notice client = if follows notice.kind notice.buffer.0 client
+    then event_messages world notice else []
 
 -- ---- pushes
 
@@ -62,4 +63,5 @@ pub record IsPushOf (event : Spelled) (at : Handle) (push : Push) : Type 0 where
 
 -- what a client is told of a push
 unfoldable pub push_told : Handle → Push → Client → List WireMessage
-push_told buffer push client = if follows (push_kind push) buffer.0 client then push_messages buffer push else []
+push_told buffer push client = if follows (push_kind push) buffer.0 client
+    then push_messages buffer push else []

@@ -1,5 +1,6 @@
 -- What a handshake settles, and how it is answered.
-use Rattle.std.specs.Prelude.{ℕ, Bool, false, List, [], ◌∷◌, Option, Some, None, unwrap_or, codes, if◌then◌else◌}
+use Rattle.std.specs.Prelude.{ℕ, Bool, false, List, [], ◌∷◌, Option, Some, None, unwrap_or, codes}
+use Rattle.std.specs.Prelude.{if◌then◌else◌}
 use Rattle.std.specs.Str.{bytes_eq}
 use Rattle.hex.specs.Hex.{encode_upper}
 use Rattle.wc_text.specs.declared.names.Pair.{Pair}
@@ -16,7 +17,8 @@ allowed_masks = codes "*"
 
 -- the strongest algorithm of the client's list that is allowed; a list that is not given is `plain`
 unfoldable pub choice_in : List Pair → Option Algorithm
-choice_in pairs = choice_of (unwrap_or (last_value (codes "password_hash_algo") pairs) (codes "plain")) allowed_masks
+choice_in pairs = choice_of (unwrap_or (last_value (codes "password_hash_algo") pairs)
+    (codes "plain")) allowed_masks
 
 abbrev pub is_on : Option (List ℕ) → Bool
 is_on None = false
@@ -47,4 +49,5 @@ handshake_table nonce choice escapes =
 
 -- the objects of the reply
 abbrev pub handshake_objects : List ℕ → Option Algorithm → Bool → List Object
-handshake_objects nonce choice escapes = o.Htb k.Str k.Str (handshake_table nonce choice escapes) ∷ []
+handshake_objects nonce choice escapes = o.Htb k.Str k.Str
+    (handshake_table nonce choice escapes) ∷ []

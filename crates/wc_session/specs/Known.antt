@@ -12,7 +12,15 @@ pub record Known : Type 0 where
 
 -- A client that has said nothing: without a handshake `plain` is chosen.
 abbrev pub new_client : LinkId → List ℕ → Client
-new_client link nonce = record { link = link; nonce = nonce; chosen = Some Plain; escaped = false; logged_in = false; everywhere = no_options; sets = [] }
+new_client link nonce = record {
+  link = link;
+  nonce = nonce;
+  chosen = Some Plain;
+  escaped = false;
+  logged_in = false;
+  everywhere = no_options;
+  sets = [];
+}
 
 abbrev pub new_session : LinkId → List ℕ → Known
 new_session link nonce = record { client = new_client link nonce; unsent = [] }

@@ -1,5 +1,6 @@
 -- What each request gets.
-use Rattle.std.specs.Prelude.{ℕ, pos, negsuc, Bool, true, false, not, ◌&&◌, ◌||◌, List, [], ◌∷◌, Option, Some, None, is_none, codes, if◌then◌else◌}
+use Rattle.std.specs.Prelude.{ℕ, pos, negsuc, Bool, true, false, not, ◌&&◌, ◌||◌, List, [], ◌∷◌}
+use Rattle.std.specs.Prelude.{Option, Some, None, is_none, codes, if◌then◌else◌}
 use Rattle.std.specs.Str.{bytes_eq}
 use Rattle.wc_text.specs.declared.names.Handle.{Handle}
 use Rattle.wc_text.specs.declared.names.Pair.{Pair}
@@ -26,8 +27,8 @@ use Rattle.wc_session.specs.Logins.{pairs_let_in}
 use Rattle.wc_session.specs.Names.{buffer_named}
 use Rattle.wc_session.specs.Sync.{synchronized, desynchronized}
 
--- what a request gets: the messages that are sent, in order, what is answered to who asked, and what is known of
--- the client from then on
+-- what a request gets: the messages that are sent, in order, what is answered to who asked, and
+-- what is known of the client from then on
 pub record Answer : Type 0 where
   pub messages : List WireMessage
   pub outcome : Outcome
@@ -42,7 +43,11 @@ leaves client why = record { messages = []; outcome = outcome.Leave why; client 
 -- a reply
 abbrev pub replies : Client → List WireMessage → Answer
 replies client [] = silent client
-replies client (m ∷ messages) = record { messages = m ∷ messages; outcome = outcome.Replied; client = client }
+replies client (m ∷ messages) = record {
+  messages = m ∷ messages;
+  outcome = outcome.Replied;
+  client = client;
+}
 
 -- ---- the objects of replies
 
@@ -55,18 +60,26 @@ test_numbers = o.Int (pos 123) ∷ o.Int (pos 456) ∷ o.Int (pos 789) ∷ []
 -- the reply to `test`
 unfoldable pub test_objects : List Object
 test_objects =
-    o.Chr (pos 65) ∷ o.Int (pos 123456) ∷ o.Int (negsuc 123455) ∷ o.Lon (pos 1234567890) ∷ o.Lon (negsuc 1234567889) ∷
-    o.Str (Some (codes "a string")) ∷ o.Str (Some []) ∷ o.Str None ∷ o.Buf (Some (codes "buffer")) ∷ o.Buf None ∷
-    o.Ptr 305441741 ∷ o.Ptr 0 ∷ o.Tim (pos 1321993456) ∷ o.Arr k.Str test_texts ∷ o.Arr k.Int test_numbers ∷ []
+    o.Chr (pos 65) ∷ o.Int (pos 123456) ∷ o.Int (negsuc 123455) ∷ o.Lon (pos 1234567890) ∷ o.Lon
+    (negsuc 1234567889) ∷
+    o.Str (Some (codes "a string")) ∷ o.Str (Some []) ∷ o.Str None ∷ o.Buf (Some (codes "buffer")) ∷
+    o.Buf None ∷
+    o.Ptr 305441741 ∷ o.Ptr 0 ∷ o.Tim (pos 1321993456) ∷ o.Arr k.Str test_texts ∷ o.Arr k.Int
+    test_numbers ∷ []
 
 abbrev pub is_buffer_dump : List ℕ → List ℕ → Bool
 is_buffer_dump path keys =
-    bytes_eq path (codes "buffer:gui_buffers(*)") && bytes_eq keys (codes "number,full_name,short_name,hidden,title,local_variables")
+    bytes_eq path (codes "buffer:gui_buffers(*)")
+    && bytes_eq keys (codes "number,full_name,short_name,hidden,title,local_variables")
 
 abbrev pub is_line_dump : List ℕ → List ℕ → Bool
 is_line_dump path keys =
     bytes_eq path (codes "buffer:gui_buffers(*)/own_lines/first_line(*)/data")
-    && bytes_eq keys (codes "buffer,date,date_printed,displayed,notify_level,highlight,tags_array,prefix,message")
+    &&
+    bytes_eq
+    keys
+    (codes
+    "buffer,date,date_printed,displayed,notify_level,highlight,tags_array,prefix,message")
 
 -- the reply to `hdata`: the buffers, their lines, and else the null hdata
 unfoldable pub hdata_objects : World → List ℕ → List ℕ → List Object
@@ -102,29 +115,42 @@ pong_objects text = o.Str (Some text) ∷ []
 
 -- A handshake before login settles the algorithm and the escapes; one after it settles nothing.
 unfoldable pub shaken : Client → List Pair → Client
-shaken client pairs = if client.logged_in then client else record client { chosen = choice_in pairs; escaped = asks_escapes pairs }
+shaken client pairs = if client.logged_in then client else record client {
+  chosen = choice_in pairs;
+  escaped = asks_escapes pairs;
+}
 
 abbrev pub handshake_reply : Client → List ℕ → List Pair → List WireMessage
-handshake_reply client id pairs = reply id (handshake_objects client.nonce (choice_in pairs) (asks_escapes pairs))
+handshake_reply client id pairs = reply id (handshake_objects client.nonce (choice_in pairs)
+    (asks_escapes pairs))
 
 -- Before login a handshake without a common algorithm is answered, and then the client leaves.
 unfoldable pub handshake_answer : Client → List ℕ → List Pair → Answer
 handshake_answer client id pairs =
     if not client.logged_in && is_none (choice_in pairs)
-    then record { messages = handshake_reply client id pairs; outcome = outcome.Leave cause.LoginFailed; client = shaken client pairs }
+    then record {
+      messages = handshake_reply client id pairs;
+      outcome = outcome.Leave cause.LoginFailed;
+      client = shaken client pairs;
+    }
     else replies (shaken client pairs) (handshake_reply client id pairs)
 
 unfoldable pub init_answer : List ℕ → Client → List Pair → Answer
 init_answer password client pairs =
     if client.logged_in then silent client else (
-    if pairs_let_in pairs password client.nonce client.chosen then silent (record client { logged_in = true })
+    if pairs_let_in pairs password client.nonce client.chosen
+    then silent (record client { logged_in = true })
     else leaves client cause.LoginFailed)
 
 -- ---- requests
 
 abbrev pub typed_into : Client → List ℕ → Option Handle → Answer
 typed_into client text None = silent client
-typed_into client text (Some buffer) = record { messages = []; outcome = outcome.Input buffer text; client = client }
+typed_into client text (Some buffer) = record {
+  messages = [];
+  outcome = outcome.Input buffer text;
+  client = client;
+}
 
 abbrev pub input_answer : EntryGroups → Client → List ℕ → List ℕ → Answer
 input_answer groups client buffer text = typed_into client text (buffer_named groups buffer)
@@ -140,21 +166,30 @@ is_open _ = false
 unfoldable pub served : World → List ℕ → Client → List ℕ → Command → Answer
 served world password client id (ask.Handshake pairs) = handshake_answer client id pairs
 served world password client id (ask.Init pairs) = init_answer password client pairs
-served world password client id (ask.Hdata path keys) = replies client (reply id (hdata_objects world path keys))
+served world password client id (ask.Hdata path keys) =
+    replies client (reply id (hdata_objects world path keys))
 served world password client id (ask.Info name) = replies client (reply id (info_objects name))
-served world password client id (ask.Infolist name) = replies client (reply id (infolist_objects name))
-served world password client id (ask.Nicklist buffer) = replies client (reply id (nicklist_objects world buffer))
-served world password client id (ask.Input buffer text) = input_answer world.groups client buffer text
-served world password client id (ask.Completion buffer position text) = replies client (reply id null_hdata)
-served world password client id (ask.Sync buffers options) = silent (synchronized world.groups client buffers options)
-served world password client id (ask.Desync buffers options) = silent (desynchronized world.groups client buffers options)
+served world password client id (ask.Infolist name) =
+    replies client (reply id (infolist_objects name))
+served world password client id (ask.Nicklist buffer) =
+    replies client (reply id (nicklist_objects world buffer))
+served world password client id (ask.Input buffer text) =
+    input_answer world.groups client buffer text
+served world password client id (ask.Completion buffer position text) =
+    replies client (reply id null_hdata)
+served world password client id (ask.Sync buffers options) =
+    silent (synchronized world.groups client buffers options)
+served world password client id (ask.Desync buffers options) =
+    silent (desynchronized world.groups client buffers options)
 served world password client id ask.Test = replies client (reply id test_objects)
-served world password client id (ask.Ping text) = replies client (reply (codes "_pong") (pong_objects text))
+served world password client id (ask.Ping text) =
+    replies client (reply (codes "_pong") (pong_objects text))
 served world password client id ask.Quit = leaves client cause.Quit
 
 -- What a request gets in this world, where this is the password that is set. Before login a
 -- handshake, `init` and `quit` are served, and any other request drops the client.
 unfoldable pub reply_of : World → List ℕ → Client → Request → Answer
 reply_of world password client request =
-    if client.logged_in || is_open request.command then served world password client request.id request.command
+    if client.logged_in || is_open request.command
+    then served world password client request.id request.command
     else leaves client cause.LoginFailed

@@ -1,5 +1,6 @@
 -- Messages as they are put after the unsent bytes.
-use Rattle.std.specs.Prelude.{◌≡◌, ℕ, ◌^◌, ◌-◌, Bool, true, false, nat_le, List, [], ◌∷◌, ◌++◌, length, if◌then◌else◌, None}
+use Rattle.std.specs.Prelude.{◌≡◌, ℕ, ◌^◌, ◌-◌, Bool, true, false, nat_le, List, [], ◌∷◌}
+use Rattle.std.specs.Prelude.{◌++◌, length, if◌then◌else◌, None}
 use Rattle.std.specs.List.{flat_map, AllByRecursion}
 use Rattle.wc_objects.specs.declared.object.Object.{Object}
 use Rattle.wc_objects.specs.declared.object.Object.TheVariants as o
@@ -26,10 +27,11 @@ fitting m = if fits m then m ∷ [] else []
 abbrev pub null_hdata : List Object
 null_hdata = o.Hda (roll-Hda (record { path = None; keys = None; items = [] })) ∷ []
 
--- The reply under an id: these objects; where they are too long for a message, the null hdata; where the id alone is
--- too long for one, nothing.
+-- The reply under an id: these objects; where they are too long for a message, the null hdata;
+-- where the id alone is too long for one, nothing.
 unfoldable pub reply : List ℕ → List Object → List WireMessage
-reply id objects = if fits (message id objects) then message id objects ∷ [] else fitting (message id null_hdata)
+reply id objects = if fits (message id objects) then message id objects ∷ []
+    else fitting (message id null_hdata)
 
 -- the bytes are those before and the spelling of each message, in order
 pub record Sends (old new : List ℕ) (messages : List WireMessage) : Type 0 where

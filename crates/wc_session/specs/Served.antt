@@ -17,8 +17,10 @@ abbrev pub OnNoMemory : Outcome → Type 0 → Type 0
 OnNoMemory outcome.NoMemory fact = fact
 OnNoMemory _ fact = Unit {0}
 
--- what was answered is the answer, its messages were put after the bytes, and this is known of the client
-pub record GivesAnswer (old new : List ℕ) (result : Outcome) (after : Client) (answer : Answer) : Type 0 where
+-- what was answered is the answer, its messages were put after the bytes, and this is known of the
+-- client
+pub record GivesAnswer (old new : List ℕ) (result : Outcome) (after : Client) (answer : Answer) :
+    Type 0 where
   pub sends : Sends old new answer.messages
   pub outcome : result ≡ answer.outcome
   pub client : after ≡ answer.client

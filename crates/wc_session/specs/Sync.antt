@@ -1,5 +1,6 @@
 -- Which events a client asked for.
-use Rattle.std.specs.Prelude.{ℕ, Bool, true, false, not, ◌==◌, ◌&&◌, ◌||◌, List, [], ◌∷◌, filter, fold, Option, Some, None, codes, if◌then◌else◌}
+use Rattle.std.specs.Prelude.{ℕ, Bool, true, false, not, ◌==◌, ◌&&◌, ◌||◌, List, [], ◌∷◌, filter}
+use Rattle.std.specs.Prelude.{fold, Option, Some, None, codes, if◌then◌else◌}
 use Rattle.std.specs.List.{list_any}
 use Rattle.std.specs.Str.{bytes_eq}
 use Rattle.wc_text.specs.declared.names.Handle.{Handle}
@@ -22,7 +23,12 @@ all_options = record { buffers = true; upgrade = true; buffer = true; nicklist =
 
 -- the options of these names; other names are none
 abbrev pub options_named : List (List ℕ) → SyncSet
-options_named names = record { buffers = has (codes "buffers") names; upgrade = has (codes "upgrade") names; buffer = has (codes "buffer") names; nicklist = has (codes "nicklist") names }
+options_named names = record {
+  buffers = has (codes "buffers") names;
+  upgrade = has (codes "upgrade") names;
+  buffer = has (codes "buffer") names;
+  nicklist = has (codes "nicklist") names;
+}
 
 -- the options of a request, where none stand for all
 abbrev pub options_asked : Option (List (List ℕ)) → SyncSet
@@ -34,10 +40,21 @@ abbrev pub of_buffer : SyncSet → SyncSet
 of_buffer set = record set { buffers = false; upgrade = false }
 
 abbrev pub union : SyncSet → SyncSet → SyncSet
-union a b = record { buffers = a.buffers || b.buffers; upgrade = a.upgrade || b.upgrade; buffer = a.buffer || b.buffer; nicklist = a.nicklist || b.nicklist }
+union a b = record {
+  buffers = a.buffers || b.buffers;
+  upgrade = a.upgrade || b.upgrade;
+  buffer = a.buffer || b.buffer;
+  nicklist = a.nicklist || b.nicklist;
+}
 
 abbrev pub difference : SyncSet → SyncSet → SyncSet
-difference a b = record { buffers = a.buffers && not b.buffers; upgrade = a.upgrade && not b.upgrade; buffer = a.buffer && not b.buffer; nicklist = a.nicklist && not b.nicklist }
+difference a b = record {
+  buffers = a.buffers && not b.buffers;
+  upgrade = a.upgrade
+      && not b.upgrade;
+  buffer = a.buffer && not b.buffer;
+  nicklist = a.nicklist && not b.nicklist;
+}
 
 -- ---- the sets for single buffers
 
@@ -49,32 +66,41 @@ set_at buffer (s ∷ sets) = if s.buffer.0 == buffer then s.set else set_at buff
 abbrev pub put_to : SyncSet → Handle → List BufferSet → List BufferSet
 put_to options buffer [] = record { buffer = buffer; set = options } ∷ []
 put_to options buffer (s ∷ sets) =
-    if s.buffer.0 == buffer.0 then record { buffer = s.buffer; set = union s.set options } ∷ sets else s ∷ put_to options buffer sets
+    if s.buffer.0 == buffer.0 then record { buffer = s.buffer; set = union s.set options } ∷ sets
+    else s ∷ put_to options buffer sets
 
 -- options taken from the set of a buffer, where it has one
 abbrev pub without_options : SyncSet → Handle → List BufferSet → List BufferSet
 without_options options buffer [] = []
 without_options options buffer (s ∷ sets) =
-    if s.buffer.0 == buffer.0 then record { buffer = s.buffer; set = difference s.set options } ∷ sets else s ∷ without_options options buffer sets
+    if s.buffer.0 == buffer.0 then record { buffer = s.buffer; set = difference s.set options } ∷
+    sets else s ∷ without_options options buffer sets
 
 -- what is done for a buffer that is named; one that is not there is passed over
-abbrev pub at_named : (Handle → List BufferSet → List BufferSet) → List BufferSet → Option Handle → List BufferSet
+abbrev pub at_named : (Handle → List BufferSet → List BufferSet) → List BufferSet → Option Handle →
+    List BufferSet
 at_named change sets None = sets
 at_named change sets (Some buffer) = change buffer sets
 
-abbrev pub at_each : EntryGroups → (Handle → List BufferSet → List BufferSet) → List BufferSet → List (List ℕ) → List BufferSet
-at_each groups change sets names = fold (λ sets name. at_named change sets (buffer_named groups name)) sets names
+abbrev pub at_each : EntryGroups → (Handle → List BufferSet → List BufferSet) → List BufferSet →
+    List (List ℕ) → List BufferSet
+at_each groups change sets names =
+    fold (λ sets name. at_named change sets (buffer_named groups name)) sets names
 
--- The set for `*` is changed where `*` is among the buffers, and the sets of the buffers that are named.
+-- The set for `*` is changed where `*` is among the buffers, and the sets of the buffers that are
+-- named.
 unfoldable pub synchronized : EntryGroups → Client → List (List ℕ) → Option (List (List ℕ)) → Client
 synchronized groups client buffers options = record client {
-  everywhere = if has (codes "*") buffers then union client.everywhere (options_asked options) else client.everywhere;
+  everywhere = if has (codes "*") buffers then union client.everywhere (options_asked options)
+      else client.everywhere;
   sets = at_each groups (put_to (of_buffer (options_asked options))) client.sets buffers;
 }
 
-unfoldable pub desynchronized : EntryGroups → Client → List (List ℕ) → Option (List (List ℕ)) → Client
+unfoldable pub desynchronized : EntryGroups → Client → List (List ℕ) →
+    Option (List (List ℕ)) → Client
 desynchronized groups client buffers options = record client {
-  everywhere = if has (codes "*") buffers then difference client.everywhere (options_asked options) else client.everywhere;
+  everywhere = if has (codes "*") buffers then difference client.everywhere (options_asked options)
+      else client.everywhere;
   sets = at_each groups (without_options (of_buffer (options_asked options))) client.sets buffers;
 }
 

@@ -21,8 +21,8 @@ use wc_objects::well_formed;
 use wc_text::{Handle, NoMemory};
 use wc_world::World;
 
-/// The event of a notice or of a push, as it is sent. Its bytes are none where nothing is told, or the message would be
-/// too long.
+/// The event of a notice or of a push, as it is sent. Its bytes are none where nothing is told, or
+/// the message would be too long.
 #[derive(Drop)]
 pub struct BufferEvent {
     kind: EventKind,
@@ -35,11 +35,16 @@ impl Model for BufferEvent {
 
     ghost Value = { Spelled };
 
-    ghost view = { λ event. record { kind = event.kind; buffer = event.buffer; bytes = event.bytes.items } };
+    ghost view = { λ event. record {
+      kind = event.kind;
+      buffer = event.buffer;
+      bytes = event.bytes.items;
+    } };
 }
 
 impl BufferEvent {
-    /// Spells the event of a notice, in the world after the change, for however many clients are to be sent it.
+    /// Spells the event of a notice, in the world after the change, for however many clients are to
+    /// be sent it.
     pub fn of(alloc: Global, world: &World, notice: &Notice) -> Result<BufferEvent, NoMemory>
         requires text { IsUtf8 notice.now.full_name }
         ensures { IfOk result (λ event. IsEventOf event world.now notice.now) }
@@ -55,7 +60,8 @@ impl BufferEvent {
         })
     }
 
-    /// Spells the event of a push of a buffer's nicklist, for however many clients are to be sent it.
+    /// Spells the event of a push of a buffer's nicklist, for however many clients are to be sent
+    /// it.
     pub fn of_push(alloc: Global, buffer: Handle, push: &Push) -> Result<BufferEvent, NoMemory>
         requires text { IsPushText push.now }
         ensures { IfOk result (λ event. IsPushOf event buffer push.now) }
@@ -63,15 +69,19 @@ impl BufferEvent {
         push_event(alloc, buffer, push)
     }
 
-    /// Spells what became of the nicklist of a buffer since it was told, for however many clients are to be sent it. None
-    /// exactly where the buffer is not there.
+    /// Spells what became of the nicklist of a buffer since it was told, for however many clients
+    /// are to be sent it. None exactly where the buffer is not there.
     pub fn of_nicks(
         alloc: Global,
         world: &World,
         pending: &Pending,
         buffer: Handle,
     ) -> Result<Option<BufferEvent>, NoMemory>
-        ensures { IfOk result (λ told. MatchOption told (is_there buffer world.now.groups ≡ false) (λ event. (told : List Row) → IsTold (λ k. before_at k (touches_of buffer pending.now)) (rows_at world.now buffer.0) told → IsPushOf event buffer (nick_push (root_at buffer.0) told (rows_at world.now buffer.0)))) }
+        ensures { IfOk result (λ told. MatchOption told (is_there buffer world.now.groups ≡ false)
+            (λ event. (told : List Row) → IsTold (λ k. before_at k (touches_of buffer pending.now))
+            (rows_at world.now buffer.0) told →
+            IsPushOf event buffer
+            (nick_push (root_at buffer.0) told (rows_at world.now buffer.0)))) }
     {
         let Some(list) = world.nicks(buffer) else {
             return Ok(None);
@@ -117,7 +127,8 @@ fn push_event(alloc: Global, buffer: Handle, push: &Push) -> Result<BufferEvent,
 
 /// The bytes of a push. What has a text that is not UTF-8 has none, since no message may hold it.
 fn push_bytes(alloc: Global, buffer: Handle, push: &Push) -> Result<BytesMut, NoMemory>
-    ensures { IfOk result (λ bytes. IsPushText push.now → Sends [] bytes.items (push_messages buffer push.now)) }
+    ensures { IfOk result (λ bytes. IsPushText push.now →
+        Sends [] bytes.items (push_messages buffer push.now)) }
 {
     let mut bytes = BytesMut::new(alloc);
     let Some(objects) = push_objects(alloc, buffer, push)? else {

@@ -51,8 +51,8 @@ impl BufferSets {
         SyncSet::none()
     }
 
-    /// Puts options to the set of a buffer. Where it has none, a set is made after the others. Where memory is refused
-    /// the sets stay as they were.
+    /// Puts options to the set of a buffer. Where it has none, a set is made after the others.
+    /// Where memory is refused the sets stay as they were.
     pub fn put(&mut self, options: SyncSet, buffer: Handle) -> Result<(), NoMemory>
         ensures ok { OnOk result (self.new ≡ put_to options buffer self.old) }
         ensures err { OnErr result (self.new ≡ self.old) }

@@ -15,7 +15,8 @@ pub struct Client {
     pub link: LinkId,
     /// The bytes that a salt has to begin with.
     pub nonce: [u8; 16],
-    /// How the client is to prove that it knows the password. None where the handshake found no common way.
+    /// How the client is to prove that it knows the password. None where the handshake found no
+    /// common way.
     pub chosen: Option<Algorithm>,
     /// Whether it writes its lines with `escape_commands`.
     pub escaped: bool,
@@ -49,7 +50,8 @@ impl Client {
         self.everywhere.union(self.sets.at(buffer)).wants(kind)
     }
 
-    /// Takes note of an event, be it for this client or not: a closed buffer has no set from then on.
+    /// Takes note of an event, be it for this client or not: a closed buffer has no set from then
+    /// on.
     pub fn hear(&mut self, kind: EventKind, buffer: Handle)
         ensures { self.new ≡ after_event kind buffer.0 self.old }
     {

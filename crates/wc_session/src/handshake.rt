@@ -1,7 +1,8 @@
 ghost use Rattle.std.specs.Prelude.{◌≡◌, true, Some, IfOk, OnErr};
 ghost use Rattle.std.specs.Str.{IsUtf8};
 ghost use Rattle.wc_objects.specs.Forms.{well_formed};
-ghost use Rattle.wc_session.specs.Handshakes.{choice_in, asks_escapes, name_of_choice, switch, entry, handshake_table, handshake_objects};
+ghost use Rattle.wc_session.specs.Handshakes.{choice_in, asks_escapes, name_of_choice, switch};
+ghost use Rattle.wc_session.specs.Handshakes.{entry, handshake_table, handshake_objects};
 ghost use Rattle.wc_session.specs.Reply.{shaken, handshake_answer};
 ghost use Rattle.wc_session.specs.Served.{GivesAnswer};
 
@@ -17,7 +18,8 @@ use wc_text::{Cause, Items, NoMemory, Pair, Text};
 /// The algorithms that are allowed, as masks.
 const ALLOWED: &[u8] = b"*";
 
-/// The algorithm that a handshake settles: the strongest of the client's list, which is `plain` where it is not given.
+/// The algorithm that a handshake settles: the strongest of the client's list, which is `plain`
+/// where it is not given.
 #[tactic(auto, unfolding(crate::specs::Handshakes::choice_in))]
 fn choice_in(pairs: &Items<Pair>) -> Option<Algorithm>
     ensures { result ≡ choice_in pairs.now }
@@ -88,7 +90,8 @@ fn handshake_objects(
     choice: Option<Algorithm>,
     escapes: bool,
 ) -> Result<[Object; 1], NoMemory>
-    ensures objects { IfOk result (λ objects. objects ≡ handshake_objects nonce.now choice escapes) }
+    ensures objects { IfOk result
+        (λ objects. objects ≡ handshake_objects nonce.now choice escapes) }
     ensures formed { IfOk result (λ objects. well_formed objects ≡ true) }
 {
     let pairs = handshake_table(alloc, nonce, choice, escapes)?;
@@ -110,8 +113,8 @@ fn settle(client: &mut Client, pairs: &Items<Pair>)
     }
 }
 
-/// Serves `handshake`: it is answered, and before login it settles the algorithm and the escapes, or drops the client
-/// where there is no common algorithm. Where memory is refused nothing changes.
+/// Serves `handshake`: it is answered, and before login it settles the algorithm and the escapes,
+/// or drops the client where there is no common algorithm. Where memory is refused nothing changes.
 #[tactic(auto, unfolding(crate::specs::Reply::handshake_answer))]
 pub fn shake(
     alloc: Global,
@@ -121,7 +124,8 @@ pub fn shake(
     pairs: &Items<Pair>,
 ) -> Result<Outcome, NoMemory>
     requires { IsUtf8 id.now }
-    ensures ok { IfOk result (λ outcome. GivesAnswer out.old.items out.new.items outcome client.new (handshake_answer client.old id.now pairs.now)) }
+    ensures ok { IfOk result (λ outcome. GivesAnswer out.old.items out.new.items outcome client.new
+        (handshake_answer client.old id.now pairs.now)) }
     ensures err { OnErr result (out.new.items ≡ out.old.items) }
     ensures still { OnErr result (client.new ≡ client.old) }
 {

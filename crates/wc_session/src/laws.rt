@@ -11,7 +11,8 @@ ghost use Rattle.wc_nickdiff.specs.declared.push.Push.{Push};
 ghost use Rattle.wc_model.specs.declared.notice.Notice.{Notice};
 ghost use Rattle.wc_session.specs.declared.client.Client.{Client};
 ghost use Rattle.wc_session.specs.Logins.{lets_in};
-ghost use Rattle.wc_session.specs.Event.{Spelled, IsEventOf, IsPushOf, with_event, notice_told, push_told};
+ghost use Rattle.wc_session.specs.Event.{Spelled, IsEventOf, IsPushOf, with_event, notice_told};
+ghost use Rattle.wc_session.specs.Event.{push_told};
 ghost use Rattle.wc_session.specs.Known.{Known};
 ghost use Rattle.wc_session.specs.OneReply.{IsOneReply};
 ghost use Rattle.wc_session.specs.Reply.{reply_of};
@@ -19,20 +20,28 @@ ghost use Rattle.wc_session.specs.Sending.{Sends};
 
 /// The test that a session takes of a login is the rule of who is let in.
 pub fn lets_in_exactly()
-    ensures { (login : Login) (password nonce : List ℕ) (chosen : Algorithm) → IsTrue (lets_in login password nonce chosen) ↔ LetsIn login password nonce chosen }
+    ensures { (login : Login) (password nonce : List ℕ) (chosen : Algorithm) →
+        IsTrue (lets_in login password nonce chosen) ↔ LetsIn login password nonce chosen }
 {}
 
 /// A request gets one message under its id, or none. The id is `_pong` for `ping`.
 pub fn one_reply_each()
-    ensures { (world : World) (password : List ℕ) (client : Client) (request : Request) → IsOneReply request (reply_of world password client request).messages }
+    ensures { (world : World) (password : List ℕ) (client : Client) (request : Request) →
+        IsOneReply request (reply_of world password client request).messages }
 {}
 
-/// The event of a notice puts after the unsent bytes of each client what that client is to be told of it.
+/// The event of a notice puts after the unsent bytes of each client what that client is to be told
+/// of it.
 pub fn event_tells()
-    ensures { (event : Spelled) (world : World) (notice : Notice) (session : Known) → IsEventOf event world notice → Sends session.unsent (with_event event session).unsent (notice_told world notice session.client) }
+    ensures { (event : Spelled) (world : World) (notice : Notice) (session : Known) →
+        IsEventOf event world notice → Sends session.unsent (with_event event session).unsent
+        (notice_told world notice session.client) }
 {}
 
-/// The event of a push puts after the unsent bytes of each client what that client is to be told of it.
+/// The event of a push puts after the unsent bytes of each client what that client is to be told of
+/// it.
 pub fn push_tells()
-    ensures { (event : Spelled) (buffer : Handle) (push : Push) (session : Known) → IsPushOf event buffer push → Sends session.unsent (with_event event session).unsent (push_told buffer push session.client) }
+    ensures { (event : Spelled) (buffer : Handle) (push : Push) (session : Known) →
+        IsPushOf event buffer push → Sends session.unsent (with_event event session).unsent
+        (push_told buffer push session.client) }
 {}

@@ -24,4 +24,3 @@ pub use names::buffer_named;
 pub use outcome::Outcome;
 pub use session::Session;
 pub use sync_set::{BufferSet, SyncSet};
-

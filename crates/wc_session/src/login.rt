@@ -23,7 +23,8 @@ fn pairs_let_in(
     password: &[u8],
     client: &Client,
 ) -> Result<bool, NoMemory>
-    ensures { IfOk result (λ let_in. let_in ≡ pairs_let_in pairs.now password.now client.now.nonce client.now.chosen) }
+    ensures { IfOk result (λ let_in. let_in ≡ pairs_let_in pairs.now password.now client.now.nonce
+        client.now.chosen) }
 {
     let Some(login) = read_login(alloc, pairs)? else {
         return Ok(false);
@@ -35,8 +36,8 @@ fn pairs_let_in(
     Ok(lets_in(&login, password, &nonce, chosen))
 }
 
-/// Serves `init`: it lets the client in or drops it, and after login does nothing. Where memory is refused the client
-/// stays as it was.
+/// Serves `init`: it lets the client in or drops it, and after login does nothing. Where memory is
+/// refused the client stays as it was.
 #[tactic(auto, unfolding(crate::specs::Reply::init_answer))]
 pub fn log_in(
     alloc: Global,
@@ -44,7 +45,8 @@ pub fn log_in(
     password: &[u8],
     pairs: &Items<Pair>,
 ) -> Result<Outcome, NoMemory>
-    ensures ok { IfOk result (λ outcome. IsQuiet outcome client.new (init_answer password.now client.old pairs.now)) }
+    ensures ok { IfOk result (λ outcome. IsQuiet outcome client.new
+        (init_answer password.now client.old pairs.now)) }
     ensures err { OnErr result (client.new ≡ client.old) }
 {
     if client.logged_in {

@@ -1,11 +1,13 @@
 ghost use Rattle.std.specs.Prelude.{◌≡◌};
 ghost use Rattle.wc_buffers.specs.Calls.{is_there};
-ghost use Rattle.wc_session.specs.Names.{hex_number, handle_named, if_there, named_by, buffer_named};
+ghost use Rattle.wc_session.specs.Names.{hex_number, handle_named, if_there, named_by};
+ghost use Rattle.wc_session.specs.Names.{buffer_named};
 
 use wc_buffers::Buffers;
 use wc_text::Handle;
 
-/// The number that hex digits of either case write. None where they are none, or the number needs more than 64 bits.
+/// The number that hex digits of either case write. None where they are none, or the number needs
+/// more than 64 bits.
 fn hex_number(digits: &[u8]) -> Option<u64>
     ensures { result ≡ hex_number digits.now }
 {
@@ -46,7 +48,8 @@ fn if_there(buffers: &Buffers, handle: u64) -> Option<Handle>
     Some(buffer)
 }
 
-/// The buffer that a text names, by its handle or by its full name. None exactly where there is no such buffer.
+/// The buffer that a text names, by its handle or by its full name. None exactly where there is no
+/// such buffer.
 #[tactic(auto, unfolding(crate::specs::Names::buffer_named))]
 pub fn buffer_named(buffers: &Buffers, name: &[u8]) -> Option<Handle>
     ensures { result ≡ buffer_named buffers.now name.now }

@@ -2,7 +2,9 @@ ghost use Rattle.std.specs.Prelude.{◌≡◌, ◌∷◌, [], true, Some, IfOk, 
 ghost use Rattle.std.specs.Str.{IsUtf8};
 ghost use Rattle.wc_objects.specs.Forms.{well_formed};
 ghost use Rattle.wc_session.specs.Names.{buffer_named};
-ghost use Rattle.wc_session.specs.Reply.{list_of_named, test_texts, test_numbers, test_objects, is_buffer_dump, is_line_dump, hdata_objects, info_objects, infolist_objects, pong_objects};
+ghost use Rattle.wc_session.specs.Reply.{list_of_named, test_texts, test_numbers, test_objects};
+ghost use Rattle.wc_session.specs.Reply.{is_buffer_dump, is_line_dump, hdata_objects, info_objects};
+ghost use Rattle.wc_session.specs.Reply.{infolist_objects, pong_objects};
 
 use crate::names::buffer_named;
 use std::alloc::Global;
@@ -103,7 +105,8 @@ pub fn list_of_named(
     world: &World,
     name: &[u8],
 ) -> Result<Option<Items<Object>>, NoMemory>
-    ensures objects { IfOk result (λ told. told ≡ list_of_named world.now (buffer_named world.now.groups name.now)) }
+    ensures objects { IfOk result
+        (λ told. told ≡ list_of_named world.now (buffer_named world.now.groups name.now)) }
     ensures formed { IfOk result (λ told. IfSome told (λ objects. well_formed objects ≡ true)) }
 {
     match buffer_named(world.buffers(), name) {

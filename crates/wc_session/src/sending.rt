@@ -2,7 +2,8 @@ ghost use Rattle.std.specs.Prelude.{◌≡◌, true, IfOk, OnErr, is_some};
 ghost use Rattle.std.specs.Str.{IsUtf8};
 ghost use Rattle.wc_objects.specs.Forms.{well_formed};
 ghost use Rattle.wc_events.specs.LineObjects.{line_dump};
-ghost use Rattle.wc_session.specs.Sending.{message, fits, fitting, reply, null_hdata, Sends, is_owed};
+ghost use Rattle.wc_session.specs.Sending.{message, fits, fitting, reply, null_hdata, Sends};
+ghost use Rattle.wc_session.specs.Sending.{is_owed};
 
 use bytes::BytesMut;
 use std::alloc::Global;
@@ -16,7 +17,8 @@ pub fn send(out: &mut BytesMut, id: &[u8], objects: &[Object]) -> Result<bool, N
     requires formed { well_formed objects.now ≡ true }
     requires text { IsUtf8 id.now }
     ensures fits { IfOk result (λ sent. sent ≡ fits (message id.now objects.now)) }
-    ensures ok { IfOk result (λ sent. Sends out.old.items out.new.items (fitting (message id.now objects.now))) }
+    ensures ok { IfOk result (λ sent. Sends out.old.items out.new.items
+        (fitting (message id.now objects.now))) }
     ensures err { OnErr result (out.new.items ≡ out.old.items) }
 {
     match append_message(out, id, objects) {
@@ -38,8 +40,8 @@ pub fn null_hdata(alloc: Global) -> [Object; 1]
     })]
 }
 
-/// Puts the reply to a request after the unsent bytes, which is the null hdata where these objects are too long for a
-/// message. It answers whether there is one.
+/// Puts the reply to a request after the unsent bytes, which is the null hdata where these objects
+/// are too long for a message. It answers whether there is one.
 #[tactic(auto, unfolding(crate::specs::Sending::reply))]
 pub fn reply(
     alloc: Global,
@@ -50,7 +52,8 @@ pub fn reply(
     requires formed { well_formed objects.now ≡ true }
     requires text { IsUtf8 id.now }
     ensures owed { IfOk result (λ sent. sent ≡ is_owed (reply id.now objects.now)) }
-    ensures ok { IfOk result (λ sent. Sends out.old.items out.new.items (reply id.now objects.now)) }
+    ensures ok { IfOk result (λ sent. Sends out.old.items out.new.items
+        (reply id.now objects.now)) }
     ensures err { OnErr result (out.new.items ≡ out.old.items) }
 {
     if send(out, id, objects)? {
@@ -61,8 +64,8 @@ pub fn reply(
     Ok(sent)
 }
 
-/// Puts the reply to a request of the lines of all buffers after the unsent bytes, as `reply` does. The lines are written
-/// there one by one, without objects of them.
+/// Puts the reply to a request of the lines of all buffers after the unsent bytes, as `reply` does.
+/// The lines are written there one by one, without objects of them.
 #[tactic(auto, unfolding(crate::specs::Sending::reply))]
 pub fn reply_lines(
     alloc: Global,
@@ -72,7 +75,8 @@ pub fn reply_lines(
 ) -> Result<bool, NoMemory>
     requires { IsUtf8 id.now }
     ensures owed { IfOk result (λ sent. sent ≡ is_owed (reply id.now (line_dump world.now))) }
-    ensures ok { IfOk result (λ sent. Sends out.old.items out.new.items (reply id.now (line_dump world.now))) }
+    ensures ok { IfOk result (λ sent. Sends out.old.items out.new.items
+        (reply id.now (line_dump world.now))) }
     ensures err { OnErr result (out.new.items ≡ out.old.items) }
 {
     if send_lines(alloc, out, id, world)? {
@@ -87,7 +91,8 @@ pub fn reply_lines(
 fn send_lines(alloc: Global, out: &mut BytesMut, id: &[u8], world: &World) -> Result<bool, NoMemory>
     requires { IsUtf8 id.now }
     ensures fits { IfOk result (λ sent. sent ≡ fits (message id.now (line_dump world.now))) }
-    ensures ok { IfOk result (λ sent. Sends out.old.items out.new.items (fitting (message id.now (line_dump world.now)))) }
+    ensures ok { IfOk result (λ sent. Sends out.old.items out.new.items
+        (fitting (message id.now (line_dump world.now)))) }
     ensures err { OnErr result (out.new.items ≡ out.old.items) }
 {
     match append_line_dump(alloc, out, id, world) {

@@ -3,7 +3,8 @@ ghost use Rattle.std.specs.Str.{IsUtf8};
 ghost use Rattle.wc_objects.specs.Forms.{well_formed};
 ghost use Rattle.wc_relaycmd.specs.Utf8.{RequestIsUtf8, CommandUtf8};
 ghost use Rattle.wc_session.specs.declared.client.Client.{Client};
-ghost use Rattle.wc_session.specs.Reply.{hdata_objects, nicklist_objects, replies, input_answer, is_open, served, reply_of};
+ghost use Rattle.wc_session.specs.Reply.{hdata_objects, nicklist_objects, replies, input_answer};
+ghost use Rattle.wc_session.specs.Reply.{is_open, served, reply_of};
 ghost use Rattle.wc_session.specs.Sending.{reply};
 ghost use Rattle.wc_events.specs.LineObjects.{line_dump};
 ghost use Rattle.wc_session.specs.Served.{GivesAnswer, IsQuiet};
@@ -37,7 +38,9 @@ pub fn give(
 ) -> Result<Outcome, NoMemory>
     requires formed { well_formed objects.now ≡ true }
     requires text { IsUtf8 id.now }
-    ensures ok { IfOk result (λ outcome. (client : Client) → GivesAnswer out.old.items out.new.items outcome client (replies client (reply id.now objects.now))) }
+    ensures ok { IfOk result (λ outcome. (client : Client) →
+        GivesAnswer out.old.items out.new.items outcome client
+        (replies client (reply id.now objects.now))) }
     ensures err { OnErr result (out.new.items ≡ out.old.items) }
 {
     if !reply(alloc, out, id, objects)? {
@@ -54,7 +57,9 @@ fn give_lines(
     id: &[u8],
 ) -> Result<Outcome, NoMemory>
     requires { IsUtf8 id.now }
-    ensures ok { IfOk result (λ outcome. (client : Client) → GivesAnswer out.old.items out.new.items outcome client (replies client (reply id.now (line_dump world.now)))) }
+    ensures ok { IfOk result (λ outcome. (client : Client) →
+        GivesAnswer out.old.items out.new.items outcome client
+        (replies client (reply id.now (line_dump world.now)))) }
     ensures err { OnErr result (out.new.items ≡ out.old.items) }
 {
     if !reply_lines(alloc, out, id, world)? {
@@ -63,7 +68,8 @@ fn give_lines(
     Ok(Outcome::Replied)
 }
 
-/// Serves `hdata`: the buffers or their lines, where the path and the keys ask for them, and else the null hdata.
+/// Serves `hdata`: the buffers or their lines, where the path and the keys ask for them, and else
+/// the null hdata.
 #[tactic(auto, unfolding(crate::specs::Reply::hdata_objects))]
 fn give_hdata(
     alloc: Global,
@@ -74,7 +80,9 @@ fn give_hdata(
     keys: &[u8],
 ) -> Result<Outcome, NoMemory>
     requires { IsUtf8 id.now }
-    ensures ok { IfOk result (λ outcome. (client : Client) → GivesAnswer out.old.items out.new.items outcome client (replies client (reply id.now (hdata_objects world.now path.now keys.now)))) }
+    ensures ok { IfOk result (λ outcome. (client : Client) →
+        GivesAnswer out.old.items out.new.items outcome client
+        (replies client (reply id.now (hdata_objects world.now path.now keys.now)))) }
     ensures err { OnErr result (out.new.items ≡ out.old.items) }
 {
     if is_line_dump(path, keys) {
@@ -87,8 +95,8 @@ fn give_hdata(
     give(alloc, out, id, null_hdata(alloc).as_slice())
 }
 
-/// Serves `nicklist`: the nicklists of all buffers, or that of the buffer that is named, and the null hdata where there is
-/// no such buffer.
+/// Serves `nicklist`: the nicklists of all buffers, or that of the buffer that is named, and the
+/// null hdata where there is no such buffer.
 #[tactic(auto, unfolding(crate::specs::Reply::nicklist_objects))]
 fn give_nicks(
     alloc: Global,
@@ -98,7 +106,9 @@ fn give_nicks(
     buffer: &Option<Text>,
 ) -> Result<Outcome, NoMemory>
     requires { IsUtf8 id.now }
-    ensures ok { IfOk result (λ outcome. (client : Client) → GivesAnswer out.old.items out.new.items outcome client (replies client (reply id.now (nicklist_objects world.now buffer.now)))) }
+    ensures ok { IfOk result (λ outcome. (client : Client) →
+        GivesAnswer out.old.items out.new.items outcome client
+        (replies client (reply id.now (nicklist_objects world.now buffer.now)))) }
     ensures err { OnErr result (out.new.items ≡ out.old.items) }
 {
     let Some(name) = buffer else {
@@ -112,7 +122,8 @@ fn give_nicks(
 }
 
 fn input(buffers: &Buffers, buffer: &[u8], text: Text) -> Outcome
-    ensures { (client : Client) → IsQuiet result client (input_answer buffers.now client buffer.now text) }
+    ensures { (client : Client) →
+        IsQuiet result client (input_answer buffers.now client buffer.now text) }
 {
     match buffer_named(buffers, buffer) {
         Some(buffer) => Outcome::Input { buffer, text },
@@ -142,7 +153,8 @@ fn serve_command(
 ) -> Result<Outcome, NoMemory>
     requires id { IsUtf8 id.now }
     requires command { CommandUtf8 command }
-    ensures ok { IfOk result (λ outcome. GivesAnswer out.old.items out.new.items outcome client.new (served world.now password.now client.old id.now command)) }
+    ensures ok { IfOk result (λ outcome. GivesAnswer out.old.items out.new.items outcome client.new
+        (served world.now password.now client.old id.now command)) }
     ensures err { OnErr result (out.new.items ≡ out.old.items) }
     ensures still { OnErr result (client.new ≡ client.old) }
 {
@@ -171,8 +183,8 @@ fn serve_command(
     }
 }
 
-/// Serves a request. Before login a handshake, `init` and `quit` are served, and any other request drops the client.
-/// Where memory is refused nothing changes.
+/// Serves a request. Before login a handshake, `init` and `quit` are served, and any other request
+/// drops the client. Where memory is refused nothing changes.
 #[tactic(auto, unfolding(crate::specs::Reply::reply_of))]
 pub fn serve(
     alloc: Global,
@@ -183,7 +195,8 @@ pub fn serve(
     request: Request,
 ) -> Result<Outcome, NoMemory>
     requires { RequestIsUtf8 request }
-    ensures ok { IfOk result (λ outcome. GivesAnswer out.old.items out.new.items outcome client.new (reply_of world.now password.now client.old request)) }
+    ensures ok { IfOk result (λ outcome. GivesAnswer out.old.items out.new.items outcome client.new
+        (reply_of world.now password.now client.old request)) }
     ensures err { OnErr result (out.new.items ≡ out.old.items) }
     ensures still { OnErr result (client.new ≡ client.old) }
 {

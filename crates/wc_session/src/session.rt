@@ -18,7 +18,8 @@ use wc_relaycmd::Request;
 use wc_text::{Handle, LinkId, NoMemory, Text};
 use wc_world::World;
 
-/// The relay's side of one client: what is known of it, and the bytes that are still to be sent to it.
+/// The relay's side of one client: what is known of it, and the bytes that are still to be sent to
+/// it.
 #[derive(Drop)]
 pub struct Session {
     client: Client,
@@ -44,10 +45,11 @@ impl Session {
         })
     }
 
-    /// Serves a request in WeeChat's relay protocol, in this world and where this is the password that is set. The reply
-    /// is put after the unsent bytes.
+    /// Serves a request in WeeChat's relay protocol, in this world and where this is the password
+    /// that is set. The reply is put after the unsent bytes.
     ///
-    /// `Leave` where the client asked to quit, its login was refused, or it asked for something else before its login.
+    /// `Leave` where the client asked to quit, its login was refused, or it asked for something
+    /// else before its login.
     /// `NoMemory` leaves the session as it was.
     pub fn request(
         &mut self,
@@ -57,7 +59,8 @@ impl Session {
         request: Request,
     ) -> Outcome
         requires { RequestIsUtf8 request }
-        ensures answered { OnServed result (AnswersRequest self.old self.new result (reply_of world.now password.now self.old.client request)) }
+        ensures answered { OnServed result (AnswersRequest self.old self.new result
+            (reply_of world.now password.now self.old.client request)) }
         ensures refused { OnNoMemory result (self.new ≡ self.old) }
     {
         let Ok(outcome) = serve(
@@ -73,14 +76,15 @@ impl Session {
         outcome
     }
 
-    /// Puts an event after the unsent bytes, where it is for this client. Where memory is refused the session stays as
-    /// it was.
+    /// Puts an event after the unsent bytes, where it is for this client. Where memory is refused
+    /// the session stays as it was.
     pub fn append_event(&mut self, event: &BufferEvent) -> Result<(), NoMemory>
         ensures told { OnOk result (self.new ≡ with_event event.now self.old) }
         ensures refused { OnErr result (self.new ≡ self.old) }
 
         // A client that did not ask for the event is never dropped for want of memory here.
-        ensures unasked { follows event.now.kind event.now.buffer.0 self.old.client ≡ false → IsOk result }
+        ensures unasked { follows event.now.kind event.now.buffer.0 self.old.client ≡ false →
+            IsOk result }
     {
         if self.client.follows(event.kind(), event.buffer()) {
             self.unsent.extend_from_slice(event.as_slice())?;
@@ -98,7 +102,8 @@ impl Session {
 
     /// Takes note of an event that is not put after the unsent bytes.
     pub fn hear(&mut self, kind: EventKind, buffer: Handle)
-        ensures { self.new ≡ record self.old { client = after_event kind buffer.0 self.old.client } }
+        ensures { self.new
+            ≡ record self.old { client = after_event kind buffer.0 self.old.client } }
     {
         self.client.hear(kind, buffer);
     }

@@ -1,5 +1,6 @@
 ghost use Rattle.std.specs.Prelude.{◌≡◌, OnOk, OnErr};
-ghost use Rattle.wc_session.specs.Sync.{at_each, put_to, without_options, synchronized, desynchronized};
+ghost use Rattle.wc_session.specs.Sync.{at_each, put_to, without_options, synchronized};
+ghost use Rattle.wc_session.specs.Sync.{desynchronized};
 
 use crate::buffer_sets::BufferSets;
 use crate::client::Client;
@@ -9,7 +10,8 @@ use std::alloc::Global;
 use wc_buffers::Buffers;
 use wc_text::{Items, NoMemory, Text};
 
-/// Puts options to the sets of the buffers that are named. A buffer that is not there is passed over.
+/// Puts options to the sets of the buffers that are named. A buffer that is not there is passed
+/// over.
 fn put_each(
     sets: &mut BufferSets,
     buffers: &Buffers,
@@ -26,7 +28,8 @@ fn put_each(
     Ok(())
 }
 
-/// Takes options from the sets of the buffers that are named. A buffer that is not there is passed over.
+/// Takes options from the sets of the buffers that are named. A buffer that is not there is passed
+/// over.
 fn take_each(sets: &mut BufferSets, buffers: &Buffers, names: &[Text], options: SyncSet)
     ensures { sets.new ≡ at_each buffers.now (without_options options) sets.old names.now }
 {
@@ -37,8 +40,8 @@ fn take_each(sets: &mut BufferSets, buffers: &Buffers, names: &[Text], options: 
     }
 }
 
-/// Serves `sync`: the options are put to the set for all buffers, where `*` is among the names, and to the sets of the
-/// buffers that are named. Where memory is refused the client stays as it was.
+/// Serves `sync`: the options are put to the set for all buffers, where `*` is among the names, and
+/// to the sets of the buffers that are named. Where memory is refused the client stays as it was.
 #[tactic(auto, unfolding(crate::specs::Sync::synchronized))]
 pub fn synchronize(
     alloc: Global,
@@ -47,7 +50,8 @@ pub fn synchronize(
     names: &Items<Text>,
     options: &Option<Items<Text>>,
 ) -> Result<(), NoMemory>
-    ensures ok { OnOk result (client.new ≡ synchronized buffers.now client.old names.now options.now) }
+    ensures ok { OnOk result (client.new ≡ synchronized buffers.now client.old names.now
+        options.now) }
     ensures err { OnErr result (client.new ≡ client.old) }
 {
     let options = SyncSet::asked(options);
@@ -60,8 +64,8 @@ pub fn synchronize(
     Ok(())
 }
 
-/// Serves `desync`: the options are taken from the set for all buffers, where `*` is among the names, and from the sets
-/// of the buffers that are named. It takes no memory.
+/// Serves `desync`: the options are taken from the set for all buffers, where `*` is among the
+/// names, and from the sets of the buffers that are named. It takes no memory.
 #[tactic(auto, unfolding(crate::specs::Sync::desynchronized))]
 pub fn desynchronize(
     client: &mut Client,

@@ -1,5 +1,6 @@
 ghost use Rattle.std.specs.Prelude.{◌≡◌};
-ghost use Rattle.wc_session.specs.Sync.{has, no_options, all_options, options_named, options_asked, of_buffer, union, difference, wants};
+ghost use Rattle.wc_session.specs.Sync.{has, no_options, all_options, options_named, options_asked};
+ghost use Rattle.wc_session.specs.Sync.{of_buffer, union, difference, wants};
 
 use wc_model::EventKind;
 use wc_text::{Handle, Items, Text};

@@ -1,5 +1,6 @@
 -- The text that is made of any bytes.
-use Rattle.std.specs.Prelude.{ℕ, zero, suc, ◌-◌, Bool, true, false, ◌&&◌, ◌==◌, List, [], ◌∷◌, ◌++◌, if◌then◌else◌}
+use Rattle.std.specs.Prelude.{ℕ, zero, suc, ◌-◌, Bool, true, false, ◌&&◌, ◌==◌, List, [], ◌∷◌}
+use Rattle.std.specs.Prelude.{◌++◌, if◌then◌else◌}
 use Rattle.std.specs.Int.{is_in_range}
 use Rattle.std.specs.Str.Lossy.{second_byte_min, second_byte_max, replacement_bytes}
 
@@ -12,7 +13,8 @@ continues (suc n) (b ∷ bytes) = is_in_range 0x80 0xBF b && continues n bytes
 -- whether after the first byte `x` of a character are a second that goes with it and n further ones
 abbrev pub ends_char : ℕ → ℕ → List ℕ → Bool
 ends_char x n [] = false
-ends_char x n (y ∷ bytes) = is_in_range (second_byte_min x) (second_byte_max x) y && continues n bytes
+ends_char x n (y ∷ bytes) = is_in_range (second_byte_min x) (second_byte_max x) y
+    && continues n bytes
 
 -- how many bytes at the front are one well-formed character, 0 where none is (Unicode, table 3-7)
 abbrev pub char_len : List ℕ → ℕ

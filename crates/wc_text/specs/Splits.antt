@@ -1,5 +1,6 @@
 -- Where texts are split: at a byte, and after a word.
-use Rattle.std.specs.Prelude.{◌≡◌, ◌≢◌, ℕ, ◌<◌, Bool, false, List, [], ◌∷◌, ◌++◌, replicate, if◌then◌else◌, ◌==◌, Option, Some, None}
+use Rattle.std.specs.Prelude.{◌≡◌, ◌≢◌, ℕ, ◌<◌, Bool, false, List, [], ◌∷◌, ◌++◌}
+use Rattle.std.specs.Prelude.{replicate, if◌then◌else◌, ◌==◌, Option, Some, None}
 
 -- the bytes before the first c, or all where there is none
 abbrev pub before : ℕ → List ℕ → List ℕ

@@ -10,7 +10,8 @@ abbrev pub is_filled : List ℕ → Bool
 is_filled [] = false
 is_filled (b ∷ bs) = true
 
--- the maximal runs of bytes other than the space, in order: the parts between spaces, without the empty ones
+-- the maximal runs of bytes other than the space, in order: the parts between spaces, without the
+-- empty ones
 unfoldable pub words_of : List ℕ → List (List ℕ)
 words_of bytes = filter is_filled (slice_split is_space bytes)
 

@@ -1,6 +1,7 @@
 ghost use Rattle.std.specs.Prelude.{◌≡◌, ◌++◌, ◌∷◌, true, IsTrue, MatchOption};
 ghost use Rattle.std.specs.Option.{option_copied};
-ghost use Rattle.wc_text.specs.Mask.{matches_of, is_plain, after_front, after_first, ends_with, same_byte};
+ghost use Rattle.wc_text.specs.Mask.{matches_of, is_plain, after_front, after_first, ends_with};
+ghost use Rattle.wc_text.specs.Mask.{same_byte};
 
 use crate::places::place_of;
 
@@ -38,7 +39,8 @@ fn matches_some_end(mask: &[u8], text: &[u8], fold: bool) -> bool
 
 /// What is before the first `*` and after it.
 fn split_at_star(mask: &[u8]) -> Option<(&[u8], &[u8])>
-    ensures { MatchOption result (IsTrue (is_plain mask.now)) (λ parts. IsTrue (is_plain parts.0.now) × (mask.now ≡ parts.0.now ++ 42 ∷ parts.1.now)) }
+    ensures { MatchOption result (IsTrue (is_plain mask.now))
+        (λ parts. IsTrue (is_plain parts.0.now) × (mask.now ≡ parts.0.now ++ 42 ∷ parts.1.now)) }
 {
     let star = place_of(b'*', mask);
     if star == mask.len() {

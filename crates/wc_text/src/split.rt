@@ -16,7 +16,8 @@ fn onward(text: &[u8], byte: u8) -> &[u8]
 }
 
 #[tactic(auto, using(crate::proofs::SplitLemmas::cuts))]
-/// The text before the first such byte, and from it on. Where there is none the second part is empty.
+/// The text before the first such byte, and from it on. Where there is none the second part is
+/// empty.
 pub fn cut_at(text: &[u8], byte: u8) -> (&[u8], &[u8])
     ensures front { result.0.now ≡ before byte text.now }
     ensures back { result.1.now ≡ onward byte text.now }

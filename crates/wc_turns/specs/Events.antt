@@ -1,8 +1,10 @@
 -- The events that the happenings of the sockets spell.
-use Rattle.std.specs.Prelude.{ℕ, ◌+◌, Bool, true, List, [], ◌∷◌, ◌++◌, length, if◌then◌else◌, ◌==◌, nat_lt, nat_le, ◌||◌, Option, Some, None}
+use Rattle.std.specs.Prelude.{ℕ, ◌+◌, Bool, true, List, [], ◌∷◌, ◌++◌, length, if◌then◌else◌}
+use Rattle.std.specs.Prelude.{◌==◌, nat_lt, nat_le, ◌||◌, Option, Some, None}
 use Rattle.std.specs.List.{flat_map}
 use Rattle.wc_outside.specs.declared.happening.Happening.{Happening}
-use Rattle.wc_outside.specs.declared.happening.Happening.TheVariants.{Woke, Accepted, Read, Ended, Failed, ListenFailed}
+use Rattle.wc_outside.specs.declared.happening.Happening.TheVariants.{Woke, Accepted, Read, Ended}
+use Rattle.wc_outside.specs.declared.happening.Happening.TheVariants.{Failed, ListenFailed}
 use Rattle.wc_core.specs.Events.{Event, Start, Tick, Arrives, Line, Ends, Fails, ListenFails}
 use Rattle.wc_turns.specs.Lines.{ended_lines, rest, without_cr, line_limit}
 
@@ -31,7 +33,8 @@ is_event (Some last) moment = is_tick last moment
 abbrev pub clock_from : Option ℕ → List Happening → Option ℕ
 clock_from last [] = last
 clock_from None (Woke moment ∷ happenings) = clock_from (Some moment) happenings
-clock_from (Some last) (Woke moment ∷ happenings) = clock_from (Some (if is_tick last moment then moment else last)) happenings
+clock_from (Some last) (Woke moment ∷ happenings) =
+    clock_from (Some (if is_tick last moment then moment else last)) happenings
 clock_from last (Accepted link nonce ∷ happenings) = clock_from last happenings
 clock_from last (Read link bytes ∷ happenings) = clock_from last happenings
 clock_from last (Ended link ∷ happenings) = clock_from last happenings
@@ -48,7 +51,8 @@ wake_events (Some last) moment = if is_tick last moment then Tick moment ∷ [] 
 
 -- a line of a link, unless it is too long
 abbrev pub line_events : ℕ → List ℕ → List Event
-line_events link line = if nat_le (length line) line_limit then Line link (without_cr line) ∷ [] else []
+line_events link line = if nat_le (length line) line_limit
+    then Line link (without_cr line) ∷ [] else []
 
 -- the events that bytes spell on a link, on which `line` is already
 abbrev pub read_events : ℕ → List ℕ → List ℕ → List Event
@@ -66,7 +70,8 @@ events_of before ListenFailed = ListenFails ∷ []
 -- the events of happenings, after those that came before
 abbrev pub events_from : List Happening → List Happening → List Event
 events_from before [] = []
-events_from before (happening ∷ happenings) = events_of before happening ++ events_from (before ++ happening ∷ []) happenings
+events_from before (happening ∷ happenings) = events_of before happening
+    ++ events_from (before ++ happening ∷ []) happenings
 
 -- all events
 abbrev pub whole : List Happening → List Event

@@ -20,9 +20,15 @@ with_closed None closed one = closed
 
 -- the links after one of them was reported or drained
 abbrev pub marked_at : ℕ → Bool → List LinkState → Option LinkState → List LinkState
-marked_at link undrained states (Some state) = put_at link_number link (record state { undrained = undrained }) states
+marked_at link undrained states (Some state) = put_at link_number link
+    (record state { undrained = undrained }) states
 marked_at link undrained states None = states
 
 -- a link that came
 abbrev pub new_state : LinkId → LinkState
-new_state link = record { link = link; server = None; tail = record { line = []; over = false }; undrained = false }
+new_state link = record {
+  link = link;
+  server = None;
+  tail = record { line = []; over = false };
+  undrained = false;
+}

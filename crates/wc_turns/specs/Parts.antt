@@ -1,5 +1,7 @@
 -- How the loop parts with clients, and what one call takes of a link.
-use Rattle.std.specs.Prelude.{ℕ, ◌+◌, ◌≡◌, ◌≢◌, ◌⊎◌, IsSome, is_some, Bool, true, if◌then◌else◌, List, map, All, Option, Some, None, Result, Ok, Err, IsTrue}
+use Rattle.std.specs.Prelude.{ℕ, ◌+◌, ◌≡◌, ◌≢◌, ◌⊎◌, IsSome, is_some, Bool, true}
+use Rattle.std.specs.Prelude.{if◌then◌else◌, List, map, All, Option, Some, None, Result, Ok, Err}
+use Rattle.std.specs.Prelude.{IsTrue}
 use Rattle.wc_text.specs.declared.names.LinkId.{LinkId}
 use Rattle.wc_outside.specs.Seen.{Seen}
 use Rattle.wc_outside.specs.Keyed.{at_key}
@@ -15,7 +17,8 @@ use Rattle.wc_turns.specs.Turns.{has_failed}
 
 -- the failure of a link is no event that is run: `/quit` was run, or its client is leaving
 abbrev pub FailureIgnored : ℕ → CoreView → Type 0
-FailureIgnored link core = (core.quits ≡ true) ⊎ (Distinct (links_of core) → IsSome (leaving_on link core.connections))
+FailureIgnored link core = (core.quits ≡ true)
+    ⊎ (Distinct (links_of core) → IsSome (leaving_on link core.connections))
 
 -- bytes are sent on one link at most, and nothing is taken
 pub record SendsOn (link : ℕ) (x y : Headless) (before after : Seen) : Type 0 where
@@ -28,7 +31,8 @@ pub record SendsOn (link : ℕ) (x y : Headless) (before after : Seen) : Type 0 
   pub links : map connection_link y.core.connections ≡ map connection_link x.core.connections
   pub leaving : leaving_closes y.core.connections ≡ leaving_closes x.core.connections
   pub why : leaving_on link y.core.connections ≡ leaving_on link x.core.connections
-  pub connections : (other : ℕ) → other ≢ link → at_key connection_link other y.core.connections ≡ at_key connection_link other x.core.connections
+  pub connections : (other : ℕ) → other ≢ link → at_key connection_link other y.core.connections
+      ≡ at_key connection_link other x.core.connections
   pub blocked : (other : ℕ) → other ≢ link → after.blocked other ≡ before.blocked other
 
 -- no close is that of this link
@@ -45,23 +49,31 @@ pub record ClosesLeaving (x y : Headless) (before after : Seen) : Type 0 where
   pub falls : NothingBecameReady before after
   pub nothing : TakesNothing before after
   pub quits : y.core.quits ≡ x.core.quits
-  pub spared : (other : ℕ) → SparesOthers other (leaving_closes x.core.connections) → SparesOthers other (leaving_closes y.core.connections)
-  pub connections : (other : ℕ) → SparesOthers other (leaving_closes x.core.connections) → at_key connection_link other y.core.connections ≡ at_key connection_link other x.core.connections
-  pub blocked : (other : ℕ) → SparesOthers other (leaving_closes x.core.connections) → after.blocked other ≡ before.blocked other
+  pub spared : (other : ℕ) → SparesOthers other (leaving_closes x.core.connections) →
+      SparesOthers other (leaving_closes y.core.connections)
+  pub connections : (other : ℕ) → SparesOthers other (leaving_closes x.core.connections) →
+      at_key connection_link other y.core.connections
+      ≡ at_key connection_link other x.core.connections
+  pub blocked : (other : ℕ) → SparesOthers other (leaving_closes x.core.connections) →
+      after.blocked other ≡ before.blocked other
   pub contained : KeepsLinks x y
   -- a client is forgotten, or stays as it is
   pub parted : (other : ℕ) → (at_key connection_link other y.core.connections ≡ None)
-      ⊎ ((leaving_on other y.core.connections ≡ leaving_on other x.core.connections) × (is_some (at_key connection_link other y.core.connections) ≡ is_some (at_key connection_link other x.core.connections)))
+      ⊎ ((leaving_on other y.core.connections ≡ leaving_on other x.core.connections)
+      × (is_some (at_key connection_link other y.core.connections)
+      ≡ is_some (at_key connection_link other x.core.connections)))
 
 -- bytes are taken of one link at most, and no client comes
 pub record ReadsOn (link : ℕ) (before after : Seen) : Type 0 where
   pub falls : NothingBecameReady before after
-  pub others : IsTrue after.tells → (other : ℕ) → other ≢ link → bytes_taken other after.taken ≡ bytes_taken other before.taken
+  pub others : IsTrue after.tells → (other : ℕ) → other ≢ link → bytes_taken other after.taken
+      ≡ bytes_taken other before.taken
   pub clients : IsTrue after.tells → arrivals after.taken ≡ arrivals before.taken
 
 -- so many bytes were taken of a link
 abbrev pub ReadBytes : ℕ → ℕ → Seen → Seen → Type 0
-ReadBytes link count before after = IsTrue after.tells → bytes_taken link after.taken ≡ bytes_taken link before.taken + count
+ReadBytes link count before after = IsTrue after.tells → bytes_taken link after.taken
+    ≡ bytes_taken link before.taken + count
 
 -- whether a client came
 abbrev pub came_of : Result Bool Fault → ℕ

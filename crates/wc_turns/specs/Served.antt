@@ -1,8 +1,10 @@
 -- The clients of the core, as the loop serves them.
-use Rattle.std.specs.Prelude.{ℕ, ◌+◌, ◌-◌, ◌^◌, ◌≡◌, ◌<◌, ◌≤◌, Bool, true, false, min, List, [], ◌∷◌, ◌++◌, length, Option, Some, None}
+use Rattle.std.specs.Prelude.{ℕ, ◌+◌, ◌-◌, ◌^◌, ◌≡◌, ◌<◌, ◌≤◌, Bool, true, false, min}
+use Rattle.std.specs.Prelude.{List, [], ◌∷◌, ◌++◌, length, Option, Some, None}
 use Rattle.wc_text.specs.declared.names.LinkId.{LinkId}
 use Rattle.wc_text.specs.declared.names.Cause.{Cause}
-use Rattle.wc_text.specs.declared.names.Cause.TheVariants.{Ended, Failed, LoginFailed, NoMemory, Surplus, Quit, Disconnected, NickTaken}
+use Rattle.wc_text.specs.declared.names.Cause.TheVariants.{Ended, Failed, LoginFailed, NoMemory}
+use Rattle.wc_text.specs.declared.names.Cause.TheVariants.{Surplus, Quit, Disconnected, NickTaken}
 use Rattle.wc_core.specs.declared.connection.Connection.{Connection}
 use Rattle.wc_core.specs.Events.{Event}
 use Rattle.wc_core.specs.CoreView.{CoreView}
@@ -18,14 +20,17 @@ closed_by link (Some cause) = record { link = link; cause = cause } ∷ []
 -- the closes that clients ask for, in the order in which they came
 abbrev pub leaving_closes : List Connection → List Closed
 leaving_closes [] = []
-leaving_closes (connection ∷ connections) = closed_by connection.session.client.link connection.leaving ++ leaving_closes connections
+leaving_closes (connection ∷ connections) = closed_by connection.session.client.link
+    connection.leaving ++ leaving_closes connections
 
 -- no client is leaving
 abbrev pub NobodyLeaving : List Connection → Type 0
 NobodyLeaving connections = leaving_closes connections ≡ []
 
--- Of all these events the first ones are reached: all of them, unless `/quit` is run, and none where it was run before.
-pub record ReachesEvents (quits quits' : Bool) (ran ran' : ℕ) (all events : List Event) : Type 0 where
+-- Of all these events the first ones are reached: all of them, unless `/quit` is run, and none
+-- where it was run before.
+pub record ReachesEvents (quits quits' : Bool) (ran ran' : ℕ) (all events : List Event) :
+    Type 0 where
   pub rest : List Event
   pub front : all ≡ events ++ rest
   pub counts : ran < 2 ^ 64 → ran' ≡ min (ran + length events) (2 ^ 64 - 1)
@@ -35,7 +40,8 @@ pub record ReachesEvents (quits quits' : Bool) (ran ran' : ℕ) (all events : Li
 -- the core takes events, unless some growth was refused
 pub record MayRun (old new : CoreView) (events : List Event) : Type 0 where
   pub keeps : KeepsClients old new
-  pub does : new.starved ≡ old.starved → old.starved < 2 ^ 64 - 1 → Distinct (links_of old) → Follows old new (run (state_of old) events)
+  pub does : new.starved ≡ old.starved → old.starved < 2 ^ 64 - 1 → Distinct (links_of old) →
+      Follows old new (run (state_of old) events)
 
 -- the core takes those of the events that are reached, unless some growth was refused
 pub record MayTake (old new : CoreView) (ran ran' : ℕ) (all : List Event) : Type 0 where
@@ -43,7 +49,8 @@ pub record MayTake (old new : CoreView) (ran ran' : ℕ) (all : List Event) : Ty
   pub reaches : ReachesEvents old.quits new.quits ran ran' all events
   pub takes : MayRun old new events
 
--- for what a client can leave at a line of a link: its own client for its answer, and each one for want of memory
+-- for what a client can leave at a line of a link: its own client for its answer, and each one for
+-- want of memory
 abbrev pub IsOfLine : ℕ → ℕ → Cause → Type 0
 IsOfLine link other NoMemory = Unit {0}
 IsOfLine link other LoginFailed = other ≡ link
@@ -54,7 +61,8 @@ IsOfLine link other Surplus = ⊥
 IsOfLine link other Disconnected = ⊥
 IsOfLine link other NickTaken = ⊥
 
--- a client that was leaving goes on so, and one that is leaving else can leave at a line of this link
+-- a client that was leaving goes on so, and one that is leaving else can leave at a line of this
+-- link
 abbrev pub LeavesFor : ℕ → ℕ → Option Cause → Option Cause → Type 0
 LeavesFor link other (Some before) now = now ≡ Some before
 LeavesFor link other None (Some cause) = IsOfLine link other cause
@@ -64,7 +72,8 @@ LeavesFor link other None None = Unit {0}
 pub record LeavesAtLine (link : ℕ) (old new : CoreView) : Type 0 where
   pub rises : old.starved ≤ new.starved
   pub links : links_of new ≡ links_of old
-  pub leaving : Distinct (links_of old) → (other : ℕ) → LeavesFor link other (leaving_on other old.connections) (leaving_on other new.connections)
+  pub leaving : Distinct (links_of old) → (other : ℕ) →
+      LeavesFor link other (leaving_on other old.connections) (leaving_on other new.connections)
 
 -- a close goes by the number of its link
 abbrev pub closed_number : Closed → ℕ

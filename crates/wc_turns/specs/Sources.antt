@@ -1,5 +1,6 @@
 -- How the sources that are ready are served.
-use Rattle.std.specs.Prelude.{ℕ, ◌≡◌, ◌+◌, ◌≤◌, ◌⊎◌, ◌==◌, Bool, true, false, not, ◌&&◌, List, [], ◌∷◌, length, Option, Some, None, IsTrue}
+use Rattle.std.specs.Prelude.{ℕ, ◌≡◌, ◌+◌, ◌≤◌, ◌⊎◌, ◌==◌, Bool, true, false, not}
+use Rattle.std.specs.Prelude.{◌&&◌, List, [], ◌∷◌, length, Option, Some, None, IsTrue}
 use Rattle.std.specs.List.{flat_map, list_any}
 use Rattle.wc_outside.specs.Happenings.{is_link, is_listener}
 use Rattle.wc_outside.specs.Seen.{Seen}
@@ -9,7 +10,8 @@ use Rattle.wc_turns.specs.Contained.{KeepsLinks}
 use Rattle.wc_turns.specs.Served.{NobodyLeaving}
 use Rattle.wc_turns.specs.Turns.{HasGained, AgreesWithSockets, LoopStep}
 use Rattle.wc_outside.specs.declared.happening.Happening.{Happening}
-use Rattle.wc_outside.specs.declared.happening.Happening.TheVariants.{Woke, Accepted, Read, Ended, Failed, ListenFailed}
+use Rattle.wc_outside.specs.declared.happening.Happening.TheVariants.{Woke, Accepted, Read, Ended}
+use Rattle.wc_outside.specs.declared.happening.Happening.TheVariants.{Failed, ListenFailed}
 use Rattle.wc_outside.specs.declared.sockets.Token.{Token}
 use Rattle.wc_turns.specs.declared.link_state.LinkState.{LinkState}
 use Rattle.wc_core.specs.declared.connection.Connection.{Connection}
@@ -40,11 +42,13 @@ pub record NothingBecameReady (before after : Seen) : Type 0 where
 
 -- a link that is not drained was read up to the limit of a turn
 abbrev pub IsServed : ℕ → Seen → Seen → Type 0
-IsServed link before after = IsTrue after.tells → after.undrained link ≡ true → bytes_taken link before.taken + 1048576 ≤ bytes_taken link after.taken
+IsServed link before after = IsTrue after.tells → after.undrained link ≡ true →
+    bytes_taken link before.taken + 1048576 ≤ bytes_taken link after.taken
 
 -- a listener that is not drained gave as many clients as a turn takes
 abbrev pub IsHeard : Seen → Seen → Type 0
-IsHeard before after = IsTrue after.tells → after.listening ≡ true → arrivals before.taken + 1024 ≤ arrivals after.taken
+IsHeard before after = IsTrue after.tells → after.listening ≡ true → arrivals before.taken + 1024
+    ≤ arrivals after.taken
 
 -- nothing is unsent on a link, or its last write found no room
 abbrev pub IsWritten : ℕ → List Connection → Seen → Type 0
@@ -58,25 +62,35 @@ pub record AllServed (connections : List Connection) (before after : Seen) : Typ
 
 -- nothing is unsent on a link, or its last write found no room, or it failed between
 abbrev pub IsSent : ℕ → List Connection → Seen → Seen → Type 0
-IsSent link connections before after = (unsent_on link connections ≡ []) ⊎ ((after.blocked link ≡ true) ⊎ (Rose before.faults.links after.faults.links × (IsTrue after.tells → HasGained before after (Failed (record { 0 = link })))))
+IsSent link connections before after = (unsent_on link connections ≡ [])
+    ⊎ ((after.blocked link ≡ true) ⊎ (Rose before.faults.links after.faults.links
+    × (IsTrue after.tells → HasGained before after (Failed (record { 0 = link })))))
 
 -- after `/quit` each link with unsent bytes is written once
 abbrev pub AllSent : List Connection → Seen → Seen → Type 0
 AllSent connections before after = (link : ℕ) → 1 ≤ link → IsSent link connections before after
 
--- the sources that these tokens name are served between two moments, each once, unless `/quit` was run; the listener failed so often
-pub record ServesNamed (tokens : List Token) (faults : ℕ) (old new : Headless) (before after : Seen) : Type 0 where
+-- the sources that these tokens name are served between two moments, each once, unless `/quit` was
+-- run; the listener failed so often
+pub record ServesNamed (tokens : List Token) (faults : ℕ) (old new : Headless) (before after : Seen)
+    : Type 0 where
   pub continues : LoopStep true 0 faults old new before after
   pub calm : NobodyLeaving new.core.connections
   pub falls : NothingBecameReady before after
   pub contained : AgreesWithSockets old before → KeepsLinks old new
-  pub served : AgreesWithSockets old before → new.core.quits ≡ false → (link : ℕ) → IsTrue (list_any (is_link link) tokens) → IsServed link before after
-  pub heard : faults ≡ 0 → new.core.quits ≡ false → IsTrue (list_any is_listener tokens) → IsHeard before after
-  pub failed : 1 ≤ faults → Rose before.faults.listens after.faults.listens × IsTrue (list_any is_listener tokens)
-  pub most : IsTrue after.tells → (link : ℕ) → bytes_taken link after.taken ≤ bytes_taken link before.taken + 1048576
-  pub others : IsTrue after.tells → (link : ℕ) → list_any (is_link link) tokens ≡ false → bytes_taken link after.taken ≡ bytes_taken link before.taken
+  pub served : AgreesWithSockets old before → new.core.quits ≡ false → (link : ℕ) →
+      IsTrue (list_any (is_link link) tokens) → IsServed link before after
+  pub heard : faults ≡ 0 → new.core.quits ≡ false → IsTrue (list_any is_listener tokens) →
+      IsHeard before after
+  pub failed : 1 ≤ faults → Rose before.faults.listens after.faults.listens
+      × IsTrue (list_any is_listener tokens)
+  pub most : IsTrue after.tells → (link : ℕ) → bytes_taken link after.taken
+      ≤ bytes_taken link before.taken + 1048576
+  pub others : IsTrue after.tells → (link : ℕ) → list_any (is_link link) tokens ≡ false →
+      bytes_taken link after.taken ≡ bytes_taken link before.taken
   pub clients : IsTrue after.tells → arrivals after.taken ≤ arrivals before.taken + 1024
-  pub unheard : IsTrue after.tells → list_any is_listener tokens ≡ false → arrivals after.taken ≡ arrivals before.taken
+  pub unheard : IsTrue after.tells → list_any is_listener tokens ≡ false → arrivals after.taken
+      ≡ arrivals before.taken
 
 -- whether what was looked up has a flag
 abbrev pub has_flag : {X : Type 0} → (X → Bool) → Option X → Bool
@@ -93,10 +107,12 @@ is_left_over tokens state = state.undrained && not (list_any (is_link state.link
 
 -- in one turn at most so many bytes of a link are taken, and at most so many clients
 pub record TakesWithin (before after : Seen) : Type 0 where
-  pub bytes : IsTrue after.tells → (link : ℕ) → 1 ≤ link → bytes_taken link after.taken ≤ bytes_taken link before.taken + 1048576
+  pub bytes : IsTrue after.tells → (link : ℕ) → 1 ≤ link → bytes_taken link after.taken
+      ≤ bytes_taken link before.taken + 1048576
   pub clients : IsTrue after.tells → arrivals after.taken ≤ arrivals before.taken + 1024
 
 -- nothing is read, and no client comes
 pub record TakesNothing (before after : Seen) : Type 0 where
-  pub bytes : IsTrue after.tells → (link : ℕ) → bytes_taken link after.taken ≡ bytes_taken link before.taken
+  pub bytes : IsTrue after.tells → (link : ℕ) → bytes_taken link after.taken
+      ≡ bytes_taken link before.taken
   pub clients : IsTrue after.tells → arrivals after.taken ≡ arrivals before.taken

@@ -1,5 +1,7 @@
 -- What the loop keeps of arrivals and of the sources that are ready.
-use Rattle.std.specs.Prelude.{ℕ, ◌+◌, ◌-◌, ◌^◌, ◌≡◌, ◌&&◌, ◌||◌, ◌⊎◌, ◌<◌, ◌≤◌, ◌++◌, Bool, true, false, if◌then◌else◌, Option, None, min, length, List, [], ◌∷◌, is_some, IfSome}
+use Rattle.std.specs.Prelude.{ℕ, ◌+◌, ◌-◌, ◌^◌, ◌≡◌, ◌&&◌, ◌||◌, ◌⊎◌, ◌<◌}
+use Rattle.std.specs.Prelude.{◌≤◌, ◌++◌, Bool, true, false, if◌then◌else◌, Option, None, min}
+use Rattle.std.specs.Prelude.{length, List, [], ◌∷◌, is_some, IfSome}
 use Rattle.std.specs.List.{list_any}
 use Rattle.wc_text.specs.declared.names.LinkId.{LinkId}
 use Rattle.wc_text.specs.declared.names.Cause.{Cause}
@@ -7,7 +9,8 @@ use Rattle.wc_text.specs.declared.names.Cause.TheVariants.{NoMemory, Surplus}
 use Rattle.wc_core.specs.Events.{Arrives}
 use Rattle.wc_core.specs.CoreView.{CoreView}
 use Rattle.wc_core.specs.Step.{step}
-use Rattle.wc_core.specs.Served.{state_of, links_of, new_connection, refusal, Absent, AdmitsUnlessStarved}
+use Rattle.wc_core.specs.Served.{state_of, links_of, new_connection, refusal, Absent}
+use Rattle.wc_core.specs.Served.{AdmitsUnlessStarved}
 use Rattle.wc_turns.specs.Contained.{HasStarved}
 use Rattle.wc_turns.specs.Served.{closed_by, NobodyLeaving}
 use Rattle.wc_outside.specs.Happenings.{is_link, is_listener}
@@ -22,7 +25,9 @@ use Rattle.wc_turns.specs.Tails.{IsTail}
 
 -- what comes after the last LF of each link is as before
 abbrev pub SameTails : List LinkState → List LinkState → Type 0
-SameTails old new = (k : ℕ) (line : List ℕ) → IfSome (at_key link_number k old) (λ state. IsTail line state.tail) → IfSome (at_key link_number k new) (λ state. IsTail line state.tail)
+SameTails old new = (k : ℕ) (line : List ℕ) →
+    IfSome (at_key link_number k old) (λ state. IsTail line state.tail) →
+    IfSome (at_key link_number k new) (λ state. IsTail line state.tail)
 
 -- an arrival is taken
 pub record LinkComes (x y : Headless) (link : LinkId) : Type 0 where
@@ -38,23 +43,34 @@ pub record LinkComes (x y : Headless) (link : LinkId) : Type 0 where
 pub record TakesArrival (x y : Headless) (link : LinkId) (nonce : List ℕ) : Type 0 where
   pub opened : y.links.opened.items ≡ x.links.opened.items ++ new_state link ∷ []
   pub closed : y.links.closed.items ≡ x.links.closed.items
-  pub core : y.core ≡ record x.core { connections = x.core.connections ++ new_connection link nonce ∷ [] }
-  pub step : Absent link.0 (links_of x.core) → AdmitsUnlessStarved link.0 x.core y.core None (step (state_of x.core) (Arrives link.0 nonce))
+  pub core : y.core ≡ record x.core {
+    connections = x.core.connections
+        ++ new_connection link nonce ∷ [];
+  }
+  pub step : Absent link.0 (links_of x.core) → AdmitsUnlessStarved link.0 x.core y.core None
+      (step (state_of x.core) (Arrives link.0 nonce))
 
 abbrev pub IsRefusal : Cause → Type 0
 IsRefusal cause = (cause ≡ Surplus) ⊎ (cause ≡ NoMemory)
 
--- it has no client, and its link is to be closed at once: it is listed with its cause, unless there was no memory for that
+-- it has no client, and its link is to be closed at once: it is listed with its cause, unless there
+-- was no memory for that
 pub record RefusesArrival (x y : Headless) (link : LinkId) (nonce : List ℕ) : Type 0 where
   pub cause : Option Cause
   pub fits : IfSome cause IsRefusal
-  pub opened : at_key link_number link.0 x.links.opened.items ≡ None → y.links.opened.items ≡ x.links.opened.items
-  pub closed : at_key link_number link.0 x.links.opened.items ≡ None → y.links.closed.items ≡ x.links.closed.items ++ closed_by link cause
+  pub opened : at_key link_number link.0 x.links.opened.items ≡ None → y.links.opened.items
+      ≡ x.links.opened.items
+  pub closed : at_key link_number link.0 x.links.opened.items ≡ None → y.links.closed.items
+      ≡ x.links.closed.items ++ closed_by link cause
   pub core : Absent link.0 (links_of x.core) → y.core ≡ record x.core { starved = y.core.starved }
   pub rises : x.core.starved ≤ y.core.starved
   pub starves : cause ≡ None → HasStarved x.core.starved y.core.starved
-  pub step : y.core.starved ≡ x.core.starved → x.core.starved < 2 ^ 64 - 1 → Absent link.0 (links_of x.core)
-      → step (state_of x.core) (Arrives link.0 nonce) ≡ record { state = state_of x.core; acts = refusal link.0 cause }
+  pub step : y.core.starved ≡ x.core.starved → x.core.starved < 2 ^ 64 - 1 →
+      Absent link.0 (links_of x.core)
+      → step (state_of x.core) (Arrives link.0 nonce) ≡ record {
+        state = state_of x.core;
+        acts = refusal link.0 cause;
+      }
 
 abbrev pub ServesArrival : Bool → Headless → Headless → LinkId → List ℕ → Type 0
 ServesArrival true x y link nonce = RefusesArrival x y link nonce
@@ -73,8 +89,11 @@ pub record MarksLink (x y : Headless) (token : Token) : Type 0 where
   pub ran : y.ran ≡ x.ran
   pub closed : y.links.closed.items ≡ x.links.closed.items
   pub listening : y.listening ≡ (x.listening || is_listener token)
-  pub links : (k : ℕ) → is_some (at_key link_number k y.links.opened.items) ≡ is_some (at_key link_number k x.links.opened.items)
-  pub undrained : (k : ℕ) → is_undrained (at_key link_number k y.links.opened.items) ≡ (is_undrained (at_key link_number k x.links.opened.items) || (is_link k token && is_some (at_key link_number k x.links.opened.items)))
+  pub links : (k : ℕ) → is_some (at_key link_number k y.links.opened.items)
+      ≡ is_some (at_key link_number k x.links.opened.items)
+  pub undrained : (k : ℕ) → is_undrained (at_key link_number k y.links.opened.items)
+      ≡ (is_undrained (at_key link_number k x.links.opened.items)
+      || (is_link k token && is_some (at_key link_number k x.links.opened.items)))
   pub tails : SameTails x.links.opened.items y.links.opened.items
 
 -- the sources that were reported are kept as ones that are not drained
@@ -86,8 +105,11 @@ pub record ReportsSources (x y : Headless) (tokens : List Token) : Type 0 where
   pub ran : y.ran ≡ x.ran
   pub closed : y.links.closed.items ≡ x.links.closed.items
   pub listening : y.listening ≡ (x.listening || list_any is_listener tokens)
-  pub links : (k : ℕ) → is_some (at_key link_number k y.links.opened.items) ≡ is_some (at_key link_number k x.links.opened.items)
-  pub undrained : (k : ℕ) → is_undrained (at_key link_number k y.links.opened.items) ≡ (is_undrained (at_key link_number k x.links.opened.items) || (list_any (is_link k) tokens && is_some (at_key link_number k x.links.opened.items)))
+  pub links : (k : ℕ) → is_some (at_key link_number k y.links.opened.items)
+      ≡ is_some (at_key link_number k x.links.opened.items)
+  pub undrained : (k : ℕ) → is_undrained (at_key link_number k y.links.opened.items)
+      ≡ (is_undrained (at_key link_number k x.links.opened.items)
+      || (list_any (is_link k) tokens && is_some (at_key link_number k x.links.opened.items)))
   pub tails : SameTails x.links.opened.items y.links.opened.items
 
 -- the core after the return of a wait

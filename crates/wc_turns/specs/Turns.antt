@@ -1,12 +1,18 @@
 -- What the loop keeps, and how it goes on from one moment to another.
-use Rattle.std.specs.Prelude.{ℕ, ◌+◌, ◌-◌, ◌^◌, ◌≡◌, ◌<◌, ◌≤◌, ◌==◌, Bool, true, false, ◌&&◌, ◌||◌, nat_le, min, List, [], ◌∷◌, ◌++◌, length, map, Option, None, is_some, is_none, IfSome, Result, Ok, Err, IsTrue, All}
+use Rattle.std.specs.Prelude.{ℕ, ◌+◌, ◌-◌, ◌^◌, ◌≡◌, ◌<◌, ◌≤◌, ◌==◌, Bool, true}
+use Rattle.std.specs.Prelude.{false, ◌&&◌, ◌||◌, nat_le, min, List, [], ◌∷◌, ◌++◌, length, map}
+use Rattle.std.specs.Prelude.{Option, None, is_some, is_none, IfSome, Result, Ok, Err, IsTrue, All}
 use Rattle.std.specs.List.{flat_map, list_any}
 use Rattle.wc_text.specs.declared.names.Cause.{Cause}
-use Rattle.wc_text.specs.declared.names.Cause.TheVariants.{Ended as CauseEnded, Failed as CauseFailed, LoginFailed, NoMemory, Surplus, Quit as CauseQuit, Disconnected, NickTaken}
+use Rattle.wc_text.specs.declared.names.Cause.TheVariants.{Ended as CauseEnded}
+use Rattle.wc_text.specs.declared.names.Cause.TheVariants.{Failed as CauseFailed, LoginFailed}
+use Rattle.wc_text.specs.declared.names.Cause.TheVariants.{NoMemory, Surplus, Quit as CauseQuit}
+use Rattle.wc_text.specs.declared.names.Cause.TheVariants.{Disconnected, NickTaken}
 use Rattle.wc_outside.specs.Seen.{Seen}
 use Rattle.wc_outside.specs.Faults.{NeverFall, Rose}
 use Rattle.wc_outside.specs.declared.happening.Happening.{Happening}
-use Rattle.wc_outside.specs.declared.happening.Happening.TheVariants.{Woke, Accepted, Read, Ended, Failed, ListenFailed}
+use Rattle.wc_outside.specs.declared.happening.Happening.TheVariants.{Woke, Accepted, Read, Ended}
+use Rattle.wc_outside.specs.declared.happening.Happening.TheVariants.{Failed, ListenFailed}
 use Rattle.wc_outside.specs.declared.failed.Failed.{Failed as Fault}
 use Rattle.wc_core.specs.declared.connection.Connection.{Connection}
 use Rattle.wc_core.specs.Events.{Event}
@@ -17,7 +23,8 @@ use Rattle.wc_turns.specs.declared.link_state.LinkState.{LinkState}
 use Rattle.wc_turns.specs.declared.link_state.Closed.{Closed}
 use Rattle.wc_turns.specs.declared.headless.Headless.{Headless}
 use Rattle.wc_turns.specs.declared.turn_end.TurnEnd.{TurnEnd}
-use Rattle.wc_turns.specs.declared.turn_end.TurnEnd.TheVariants.{GoOn, Quit, WaitFault, ListenFault, KeeperFault}
+use Rattle.wc_turns.specs.declared.turn_end.TurnEnd.TheVariants.{GoOn, Quit, WaitFault, ListenFault}
+use Rattle.wc_turns.specs.declared.turn_end.TurnEnd.TheVariants.{KeeperFault}
 use Rattle.wc_outside.specs.Keyed.{at_key}
 use Rattle.wc_turns.specs.Events.{bytes_on, tail_on, clock, events_of, events_from, whole}
 use Rattle.wc_turns.specs.Hands.{Point, Delivers}
@@ -26,29 +33,38 @@ use Rattle.wc_turns.specs.Run.{closings}
 use Rattle.wc_turns.specs.Served.{leaving_closes, ReachesEvents, MayTake}
 use Rattle.wc_turns.specs.Tails.{IsTail}
 
--- what the loop keeps is what the happenings make of it: the clock, what came after the last LF of each link, and how many events were reached
-pub record AgreesWithHappenings (clocked : Option ℕ) (states : List LinkState) (used ran : ℕ) (taken : List Happening) : Type 0 where
+-- what the loop keeps is what the happenings make of it: the clock, what came after the last LF of
+-- each link, and how many events were reached
+pub record AgreesWithHappenings (clocked : Option ℕ) (states : List LinkState) (used ran : ℕ)
+    (taken : List Happening) : Type 0 where
   pub clock : clocked ≡ clock taken
-  pub tails : (link : ℕ) → IfSome (at_key link_number link states) (λ state. IsTail (tail_on link taken) state.tail)
+  pub tails : (link : ℕ) → IfSome (at_key link_number link states)
+      (λ state. IsTail (tail_on link taken) state.tail)
   -- no byte came on a link that is not used yet
   pub fresh : (link : ℕ) → used < link → flat_map (bytes_on link) taken ≡ []
   pub events : ran ≡ min (length (whole taken)) (2 ^ 64 - 1)
 
--- the links that the loop keeps are those of these sockets, and those of the clients, also of those that are leaving
-pub record AgreesOnLinks (states : List LinkState) (connections : List Connection) (used : ℕ) (listening : Bool) (seen : Seen) : Type 0 where
+-- the links that the loop keeps are those of these sockets, and those of the clients, also of those
+-- that are leaving
+pub record AgreesOnLinks (states : List LinkState) (connections : List Connection) (used : ℕ)
+    (listening : Bool) (seen : Seen) : Type 0 where
   pub counted : used ≡ seen.used
   pub there : (link : ℕ) → seen.there link ≡ is_some (at_key link_number link states)
   pub undrained : (link : ℕ) → seen.undrained link ≡ is_undrained (at_key link_number link states)
   pub listens : seen.listening ≡ listening
-  pub clients : (link : ℕ) → is_some (at_key connection_link link connections) ≡ is_some (at_key link_number link states)
+  pub clients : (link : ℕ) → is_some (at_key connection_link link connections)
+      ≡ is_some (at_key link_number link states)
   pub once : Distinct (map connection_link connections)
   -- no link above those that are used is known
   pub unknown : (link : ℕ) → used < link → at_key link_number link states ≡ None
 
 -- what the loop keeps is that of these sockets, until `/quit` is run
 pub record AgreesWithSockets (headless : Headless) (seen : Seen) : Type 0 where
-  pub among : AgreesOnLinks headless.links.opened.items headless.core.connections headless.used headless.listening seen
-  pub told : IsTrue seen.tells → headless.core.quits ≡ false → AgreesWithHappenings headless.clock headless.links.opened.items headless.used headless.ran seen.taken
+  pub among : AgreesOnLinks headless.links.opened.items headless.core.connections headless.used
+      headless.listening seen
+  pub told : IsTrue seen.tells → headless.core.quits ≡ false →
+      AgreesWithHappenings headless.clock headless.links.opened.items headless.used
+      headless.ran seen.taken
 
 -- what is seen at a moment
 pub record Moment : Type 0 where
@@ -89,19 +105,24 @@ point link m = record {
   spoiled = m.choked link || has_failed link m.taken;
 }
 
--- from one moment to another the core takes these events, what it owes is handed to each link, and it closes these links
+-- from one moment to another the core takes these events, what it owes is handed to each link, and
+-- it closes these links
 pub record MomentAdvances (a b : Moment) (closed : List Closed) (events : List Event) : Type 0 where
   pub state : state_of b.core ≡ (run (state_of a.core) events).state
-  pub hands : (link : ℕ) → Delivers (point link a) (point link b) (sent_to link (run (state_of a.core) events).acts)
+  pub hands : (link : ℕ) → Delivers (point link a) (point link b)
+      (sent_to link (run (state_of a.core) events).acts)
   pub closes : closings (run (state_of a.core) events).acts ≡ closed
   pub quits : b.core.quits ≡ (a.core.quits || has_end (run (state_of a.core) events).acts)
 
--- from one moment to another the core takes the events that more happenings add, as far as they are reached, unless some growth was refused
-pub record CoreTakes (a b : Moment) (ran ran' : ℕ) (closed : List Closed) (more : List Happening) : Type 0 where
+-- from one moment to another the core takes the events that more happenings add, as far as they are
+-- reached, unless some growth was refused
+pub record CoreTakes (a b : Moment) (ran ran' : ℕ) (closed : List Closed) (more : List Happening) :
+    Type 0 where
   pub events : List Event
   pub reaches : ReachesEvents a.core.quits b.core.quits ran ran' (events_from a.taken more) events
   pub rises : a.core.starved ≤ b.core.starved
-  pub advances : b.core.starved ≡ a.core.starved → a.core.starved < 2 ^ 64 - 1 → MomentAdvances a b closed events
+  pub advances : b.core.starved ≡ a.core.starved → a.core.starved < 2 ^ 64 - 1 →
+      MomentAdvances a b closed events
 
 -- between two moments this happened
 pub record HasGained (before after : Seen) (happening : Happening) : Type 0 where
@@ -111,12 +132,17 @@ pub record HasGained (before after : Seen) (happening : Happening) : Type 0 wher
 
 -- a link is closed for a cause only where what happened between two moments has it
 abbrev pub CausedBy : Cause → ℕ → Seen → Seen → Type 0
-CausedBy CauseEnded link before after = IsTrue after.tells → HasGained before after (Ended (record { 0 = link }))
-CausedBy CauseFailed link before after = Rose before.faults.links after.faults.links × (IsTrue after.tells → HasGained before after (Failed (record { 0 = link })))
-CausedBy LoginFailed link before after = IsTrue after.tells → (bytes : List ℕ) × HasGained before after (Read (record { 0 = link }) bytes)
-CausedBy Surplus link before after = IsTrue after.tells → (nonce : List ℕ) × HasGained before after (Accepted (record { 0 = link }) nonce)
+CausedBy CauseEnded link before after = IsTrue after.tells →
+    HasGained before after (Ended (record { 0 = link }))
+CausedBy CauseFailed link before after = Rose before.faults.links after.faults.links
+    × (IsTrue after.tells → HasGained before after (Failed (record { 0 = link })))
+CausedBy LoginFailed link before after = IsTrue after.tells → (bytes : List ℕ)
+    × HasGained before after (Read (record { 0 = link }) bytes)
+CausedBy Surplus link before after = IsTrue after.tells → (nonce : List ℕ)
+    × HasGained before after (Accepted (record { 0 = link }) nonce)
 CausedBy NoMemory link before after = Unit {0}
-CausedBy CauseQuit link before after = IsTrue after.tells → (bytes : List ℕ) × HasGained before after (Read (record { 0 = link }) bytes)
+CausedBy CauseQuit link before after = IsTrue after.tells → (bytes : List ℕ)
+    × HasGained before after (Read (record { 0 = link }) bytes)
 CausedBy Disconnected link before after = ⊥
 CausedBy NickTaken link before after = ⊥
 
@@ -173,9 +199,11 @@ faults_then KeeperFault = 0
 abbrev pub closed_so_far : Headless → List Closed
 closed_so_far headless = headless.links.closed.items ++ leaving_closes headless.core.connections
 
--- a loop goes on over `waits` returned waits and `faults` failures of the listener: what it keeps goes on standing for the happenings, and the core takes the events that they add.
--- Within one turn it lists what it closes.
-pub record LoopStep (within : Bool) (waits faults : ℕ) (old new : Headless) (before after : Seen) : Type 0 where
+-- a loop goes on over `waits` returned waits and `faults` failures of the listener: what it keeps
+-- goes on standing for the happenings, and the core takes the events that they add. Within one turn
+-- it lists what it closes.
+pub record LoopStep (within : Bool) (waits faults : ℕ) (old new : Headless) (before after : Seen) :
+    Type 0 where
   pub turns : old.turns + waits < 2 ^ 64 → new.turns ≡ old.turns + waits
   pub counts : NeverFall before.faults after.faults
   pub told : IsTrue after.tells → IsTrue before.tells
@@ -185,11 +213,13 @@ pub record LoopStep (within : Bool) (waits faults : ℕ) (old new : Headless) (b
   pub gained : List Happening
   pub taken : IsTrue after.tells → after.taken ≡ before.taken ++ gained
   pub closed : List Closed
-  pub grows : within ≡ true → AgreesWithSockets old before → closed_so_far new ≡ closed_so_far old ++ closed
+  pub grows : within ≡ true → AgreesWithSockets old before → closed_so_far new
+      ≡ closed_so_far old ++ closed
   pub causes : AgreesWithSockets old before → All (IsCaused before after) closed
   pub quits : old.core.quits ≡ true → new.core.quits ≡ true
   pub agrees : AgreesWithSockets old before → AgreesWithSockets new after
-  pub goes : IsTrue after.tells → AgreesWithSockets old before → CoreTakes (moment old before) (moment new after) old.ran new.ran closed gained
+  pub goes : IsTrue after.tells → AgreesWithSockets old before →
+      CoreTakes (moment old before) (moment new after) old.ran new.ran closed gained
 
 -- one happening is taken, before which `/quit` was not run; clients may be leaving after it
 pub record TakesHappening (old new : Headless) (happening : Happening) : Type 0 where
@@ -197,23 +227,35 @@ pub record TakesHappening (old new : Headless) (happening : Happening) : Type 0 
   pub closed : new.links.closed.items ≡ old.links.closed.items
   pub used : new.used ≡ old.used
   pub listening : new.listening ≡ old.listening
-  pub links : (link : ℕ) → is_some (at_key link_number link new.links.opened.items) ≡ is_some (at_key link_number link old.links.opened.items)
-  pub undrained : (link : ℕ) → is_undrained (at_key link_number link new.links.opened.items) ≡ is_undrained (at_key link_number link old.links.opened.items)
+  pub links : (link : ℕ) → is_some (at_key link_number link new.links.opened.items)
+      ≡ is_some (at_key link_number link old.links.opened.items)
+  pub undrained : (link : ℕ) → is_undrained (at_key link_number link new.links.opened.items)
+      ≡ is_undrained (at_key link_number link old.links.opened.items)
   pub clients : map connection_link new.core.connections ≡ map connection_link old.core.connections
-  pub told : (taken : List Happening) → ((link : ℕ) → old.used < link → at_key link_number link old.links.opened.items ≡ None) → new.core.quits ≡ false
-      → AgreesWithHappenings old.clock old.links.opened.items old.used old.ran taken → AgreesWithHappenings new.clock new.links.opened.items new.used new.ran (taken ++ happening ∷ [])
-  pub takes : (taken : List Happening) → AgreesWithHappenings old.clock old.links.opened.items old.used old.ran taken
+  pub told : (taken : List Happening) →
+      ((link : ℕ) → old.used < link → at_key link_number link old.links.opened.items ≡ None) →
+      new.core.quits ≡ false
+      → AgreesWithHappenings old.clock old.links.opened.items old.used old.ran taken →
+      AgreesWithHappenings new.clock new.links.opened.items new.used new.ran
+      (taken ++ happening ∷ [])
+  pub takes : (taken : List Happening) → AgreesWithHappenings old.clock old.links.opened.items
+      old.used old.ran taken
       → MayTake old.core new.core old.ran new.ran (events_of taken happening)
 
--- a client that is leaving is settled: what it is owed is sent, or there is no room for it, or its link failed
+-- a client that is leaving is settled: what it is owed is sent, or there is no room for it, or its
+-- link failed
 abbrev pub IsSettled : ℕ → List Connection → Seen → Type 0
-IsSettled link connections seen = IsTrue seen.tells → seen.blocked link ≡ false → has_failed link seen.taken ≡ false → unsent_on link connections ≡ []
+IsSettled link connections seen = IsTrue seen.tells → seen.blocked link ≡ false →
+    has_failed link seen.taken ≡ false → unsent_on link connections ≡ []
 
--- the links that a turn closed are, in order, those that the core closes at the events that the turn added, unless some growth was refused
+-- the links that a turn closed are, in order, those that the core closes at the events that the
+-- turn added, unless some growth was refused
 pub record ClosesExactly (old new : Headless) (before after : Seen) : Type 0 where
   pub gained : List Happening
   pub taken : IsTrue after.tells → after.taken ≡ before.taken ++ gained
   pub events : List Event
-  pub reaches : IsTrue after.tells → ReachesEvents old.core.quits new.core.quits old.ran new.ran (events_from before.taken gained) events
-  pub closed : IsTrue after.tells → new.core.starved ≡ old.core.starved → old.core.starved < 2 ^ 64 - 1
+  pub reaches : IsTrue after.tells → ReachesEvents old.core.quits new.core.quits old.ran new.ran
+      (events_from before.taken gained) events
+  pub closed : IsTrue after.tells → new.core.starved ≡ old.core.starved →
+      old.core.starved < 2 ^ 64 - 1
       → new.links.closed.items ≡ closings (run (state_of old.core) events).acts

@@ -1,5 +1,6 @@
 -- How a turn waits, and how it ends.
-use Rattle.std.specs.Prelude.{ℕ, ◌≡◌, ◌<◌, ◌≤◌, ◌⊎◌, ◌==◌, Bool, true, false, ◌||◌, if◌then◌else◌, is_some, [], Result, Ok, Err}
+use Rattle.std.specs.Prelude.{ℕ, ◌≡◌, ◌<◌, ◌≤◌, ◌⊎◌, ◌==◌, Bool, true, false, ◌||◌}
+use Rattle.std.specs.Prelude.{if◌then◌else◌, is_some, [], Result, Ok, Err}
 use Rattle.std.specs.List.{list_any}
 use Rattle.wc_outside.specs.Seen.{Seen}
 use Rattle.wc_outside.specs.declared.failed.Failed.{Failed as Fault}
@@ -15,7 +16,8 @@ use Rattle.wc_turns.specs.Turns.{LoopStep}
 
 -- whether a source was reported ready and is not drained
 abbrev pub has_undrained : Headless → Bool
-has_undrained headless = headless.listening || list_any (λ state. state.undrained) headless.links.opened.items
+has_undrained headless = headless.listening || list_any (λ state. state.undrained)
+    headless.links.opened.items
 
 -- how long a wait may take, in milliseconds
 abbrev pub timeout_of : Headless → ℕ
@@ -36,10 +38,14 @@ pub record WakesCore (waits : ℕ) (old new : Headless) (before after : Seen) : 
   pub going : new.core.quits ≡ false
   pub used : new.used ≡ old.used
   pub starved : new.core.starved ≡ old.core.starved
-  pub links : (link : ℕ) → is_some (at_key link_number link new.links.opened.items) ≡ is_some (at_key link_number link old.links.opened.items)
+  pub links : (link : ℕ) → is_some (at_key link_number link new.links.opened.items)
+      ≡ is_some (at_key link_number link old.links.opened.items)
   pub nothing : TakesNothing before after
 
--- In a turn no link is lost: one that was open before is open after it or listed as closed, and so is one whose number came to be used, unless it was refused for want of memory.
+-- In a turn no link is lost: one that was open before is open after it or listed as closed, and so
+-- is one whose number came to be used, unless it was refused for want of memory.
 pub record LosesNone (x y : Headless) : Type 0 where
-  pub opened : (link : ℕ) → is_some (at_key link_number link x.links.opened.items) ≡ true → is_known link y ≡ true
-  pub came : (link : ℕ) → x.used < link → link ≤ y.used → (is_known link y ≡ true) ⊎ HasStarved x.core.starved y.core.starved
+  pub opened : (link : ℕ) → is_some (at_key link_number link x.links.opened.items) ≡ true →
+      is_known link y ≡ true
+  pub came : (link : ℕ) → x.used < link → link ≤ y.used → (is_known link y ≡ true)
+      ⊎ HasStarved x.core.starved y.core.starved

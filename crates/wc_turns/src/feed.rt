@@ -1,4 +1,5 @@
-ghost use Rattle.std.specs.Prelude.{◌≡◌, ◌+◌, ◌-◌, ◌^◌, ◌≤◌, ◌++◌, ◌∷◌, ℕ, List, [], false, None, IfSome, length, min};
+ghost use Rattle.std.specs.Prelude.{◌≡◌, ◌+◌, ◌-◌, ◌^◌, ◌≤◌, ◌++◌, ◌∷◌, ℕ, List};
+ghost use Rattle.std.specs.Prelude.{[], false, None, IfSome, length, min};
 ghost use Rattle.wc_turns.specs.Lines.{rest, HasNoLf};
 ghost use Rattle.wc_turns.specs.Events.{line_events, read_events};
 ghost use Rattle.wc_turns.specs.Served.{MayRun, MayTake, LeavesAtLine};
@@ -27,9 +28,11 @@ fn serve_line(core: &mut Core, link: LinkId, line: &[u8], ran: &mut u64)
 /// Serves the line that a tail has come to, unless it is too long.
 fn serve_tail(core: &mut Core, link: LinkId, tail: &mut Tail, ran: &mut u64)
     ensures begins { tail.new ≡ record { line = []; over = false } }
-    ensures does { (line : List ℕ) → IsTail line tail.old → MayRun core.old core.new (line_events link.0 line) }
+    ensures does { (line : List ℕ) → IsTail line tail.old →
+        MayRun core.old core.new (line_events link.0 line) }
     ensures causes { LeavesAtLine link.0 core.old core.new }
-    ensures ran { (line : List ℕ) → IsTail line tail.old → ran.new ≡ min (ran.old + length (line_events link.0 line)) (2 ^ 64 - 1) }
+    ensures ran { (line : List ℕ) → IsTail line tail.old →
+        ran.new ≡ min (ran.old + length (line_events link.0 line)) (2 ^ 64 - 1) }
 {
     let _ran = *ran;
     if tail.over {
@@ -43,9 +46,11 @@ fn serve_tail(core: &mut Core, link: LinkId, tail: &mut Tail, ran: &mut u64)
 /// Serves the line that ends after these bytes. A line that came whole is not copied.
 fn end_line(core: &mut Core, link: LinkId, tail: &mut Tail, front: &[u8], ran: &mut u64)
     ensures begins { tail.new ≡ record { line = []; over = false } }
-    ensures does { (line : List ℕ) → IsTail line tail.old → MayRun core.old core.new (line_events link.0 (line ++ front.now)) }
+    ensures does { (line : List ℕ) → IsTail line tail.old →
+        MayRun core.old core.new (line_events link.0 (line ++ front.now)) }
     ensures causes { LeavesAtLine link.0 core.old core.new }
-    ensures ran { (line : List ℕ) → IsTail line tail.old → ran.new ≡ min (ran.old + length (line_events link.0 (line ++ front.now))) (2 ^ 64 - 1) }
+    ensures ran { (line : List ℕ) → IsTail line tail.old →
+        ran.new ≡ min (ran.old + length (line_events link.0 (line ++ front.now))) (2 ^ 64 - 1) }
 {
     if tail.is_empty() {
         serve_line(core, link, front, ran);
@@ -71,8 +76,10 @@ pub fn next_line(bytes: &[u8]) -> Option<(&[u8], &[u8])>
 /// Serves the lines that bytes end, up to one that runs `/quit`.
 pub fn feed(core: &mut Core, link: LinkId, tail: &mut Tail, bytes: &[u8], ran: &mut u64)
     requires going { core.old.quits ≡ false }
-    ensures tail { core.new.quits ≡ false → (line : List ℕ) → IsTail line tail.old → IsTail (rest line bytes.now) tail.new }
-    ensures takes { (line : List ℕ) → IsTail line tail.old → MayTake core.old core.new ran.old ran.new (read_events link.0 line bytes.now) }
+    ensures tail { core.new.quits ≡ false → (line : List ℕ) → IsTail line tail.old →
+        IsTail (rest line bytes.now) tail.new }
+    ensures takes { (line : List ℕ) → IsTail line tail.old →
+        MayTake core.old core.new ran.old ran.new (read_events link.0 line bytes.now) }
     ensures causes { LeavesAtLine link.0 core.old core.new }
 {
     let _ran = *ran;

@@ -1,9 +1,11 @@
-ghost use Rattle.std.specs.Prelude.{◌≡◌, ◌≢◌, ◌⊎◌, ◌+◌, ◌-◌, ◌^◌, ◌<◌, ◌≤◌, ◌++◌, ◌∷◌, [], None, false, IfOk, IfSome, min, take};
+ghost use Rattle.std.specs.Prelude.{◌≡◌, ◌≢◌, ◌⊎◌, ◌+◌, ◌-◌, ◌^◌, ◌<◌, ◌≤◌};
+ghost use Rattle.std.specs.Prelude.{◌++◌, ◌∷◌, [], None, false, IfOk, IfSome, min, take};
 ghost use Rattle.std.specs.Option.{option_copied};
 ghost use Rattle.wc_outside.specs.declared.happening.Happening.TheVariants.{Read, Ended, Failed};
 ghost use Rattle.wc_outside.specs.Keyed.{at_key, IsKeyPlace};
 ghost use Rattle.wc_core.specs.State.{first_state};
-ghost use Rattle.wc_core.specs.Served.{connection_link, state_of, links_of, left_at, unsent_at, is_open_at, Absent};
+ghost use Rattle.wc_core.specs.Served.{connection_link, state_of, links_of, left_at, unsent_at};
+ghost use Rattle.wc_core.specs.Served.{is_open_at, Absent};
 ghost use Rattle.wc_turns.specs.Events.{is_tick};
 ghost use Rattle.wc_turns.specs.Links.{link_number};
 ghost use Rattle.wc_turns.specs.Served.{NobodyLeaving, LeavesAtLine};
@@ -43,16 +45,22 @@ fn is_tick(last: u64, moment: u64) -> bool
 impl Headless {
     ghost use Rattle.wc_turns.specs.Contained.{HasStarved};
     ghost use Rattle.wc_turns.specs.Turns.{TakesHappening};
-    ghost use Rattle.wc_turns.specs.Steps.{LinkComes, ServesArrival, MarksLink, ReportsSources, BeginsTurn, reached_after_miss};
+    ghost use Rattle.wc_turns.specs.Steps.{LinkComes, ServesArrival, MarksLink, ReportsSources};
+    ghost use Rattle.wc_turns.specs.Steps.{BeginsTurn, reached_after_miss};
 
-    /// The state before the first turn, for clients that log in by this password, and with buffers of at most so many lines.
+    /// The state before the first turn, for clients that log in by this password, and with buffers
+    /// of at most so many lines.
     pub fn new(alloc: Global, password: Text, limit: u32) -> Result<Headless, NoMemory>
         requires some { 1 ≤ limit }
         requires most { limit ≤ 4096 }
-        ensures state { IfOk result (λ headless. state_of headless.core ≡ first_state password limit) }
-        ensures core { IfOk result (λ headless. (headless.core.connections ≡ []) × (headless.core.starved ≡ 0) × (headless.core.quits ≡ false)) }
-        ensures links { IfOk result (λ headless. (headless.links.opened.items ≡ []) × (headless.links.closed.items ≡ [])) }
-        ensures rest { IfOk result (λ headless. (headless.clock ≡ None) × (headless.used ≡ 0) × (headless.listening ≡ false) × (headless.turns ≡ 0) × (headless.ran ≡ 0)) }
+        ensures state { IfOk result (λ headless. state_of headless.core
+            ≡ first_state password limit) }
+        ensures core { IfOk result (λ headless. (headless.core.connections ≡ [])
+            × (headless.core.starved ≡ 0) × (headless.core.quits ≡ false)) }
+        ensures links { IfOk result (λ headless. (headless.links.opened.items ≡ [])
+            × (headless.links.closed.items ≡ [])) }
+        ensures rest { IfOk result (λ headless. (headless.clock ≡ None) × (headless.used ≡ 0)
+            × (headless.listening ≡ false) × (headless.turns ≡ 0) × (headless.ran ≡ 0)) }
     {
         let links = Links::new(alloc)?;
         let core = Core::new(alloc, password, limit)?;
@@ -90,17 +98,25 @@ impl Headless {
         requires cause { cause ≢ Cause.NoMemory }
         ensures ended { cause ≡ Cause.Ended → TakesHappening self.old self.new (Ended link) }
         ensures failed { cause ≡ Cause.Failed → TakesHappening self.old self.new (Failed link) }
-        ensures core { self.new.core ≡ record self.old.core { connections = left_at link.0 cause self.old.core.connections (at_key connection_link link.0 self.old.core.connections) } }
-        ensures gone { is_open_at (at_key connection_link link.0 self.new.core.connections) ≡ false }
+        ensures core { self.new.core ≡ record self.old.core {
+          connections =
+              left_at link.0 cause self.old.core.connections
+              (at_key connection_link link.0 self.old.core.connections);
+        } }
+        ensures gone { is_open_at
+            (at_key connection_link link.0 self.new.core.connections) ≡ false }
     {
         self.ran = self.ran.saturating_add(1);
         self.core.link_gone(link, cause);
     }
 
-    /// Counts an event that changes nothing, as the failure of a link whose client is leaving, or that of the listener.
-    /// After `/quit` no event is reached.
+    /// Counts an event that changes nothing, as the failure of a link whose client is leaving, or
+    /// that of the listener. After `/quit` no event is reached.
     pub(crate) fn link_missed(&mut self)
-        ensures { self.new ≡ record self.old { ran = reached_after_miss self.old.core.quits self.old.ran } }
+        ensures { self.new ≡ record self.old {
+          ran = reached_after_miss self.old.core.quits
+              self.old.ran;
+        } }
     {
         if self.core.quits() {
             return;
@@ -108,8 +124,9 @@ impl Headless {
         self.ran = self.ran.saturating_add(1);
     }
 
-    /// Serves an arrival. Whether its link is to be closed at once: its client is one too many, and the link is listed as
-    /// closed; or there is no memory for a client or for a line of the link, and then it may not be listed.
+    /// Serves an arrival. Whether its link is to be closed at once: its client is one too many, and
+    /// the link is listed as closed; or there is no memory for a client or for a line of the link,
+    /// and then it may not be listed.
     pub(crate) fn link_came(&mut self, arrival: Arrival) -> bool
         ensures comes { LinkComes self.old self.new arrival.link }
         ensures serves { ServesArrival result self.old self.new arrival.link arrival.nonce }
@@ -131,11 +148,19 @@ impl Headless {
 
     /// Serves an arrival for whose link there is no memory.
     fn starve(&mut self, arrival: Arrival)
-        ensures core { self.new ≡ record self.old { core = record self.old.core { connections = self.new.core.connections; starved = self.new.core.starved } } }
+        ensures core { self.new ≡ record self.old {
+          core =
+              record self.old.core {
+                connections = self.new.core.connections;
+                starved = self.new.core.starved;
+              };
+        } }
         ensures starved { HasStarved self.old.core.starved self.new.core.starved }
         ensures rises { self.old.core.starved ≤ self.new.core.starved }
-        ensures connections { Absent arrival.link.0 (links_of self.old.core) → self.new.core.connections ≡ self.old.core.connections }
-        ensures calm { NobodyLeaving self.old.core.connections → NobodyLeaving self.new.core.connections }
+        ensures connections { Absent arrival.link.0 (links_of self.old.core) →
+            self.new.core.connections ≡ self.old.core.connections }
+        ensures calm { NobodyLeaving self.old.core.connections →
+            NobodyLeaving self.new.core.connections }
     {
         let _refused = self.core.accepted(arrival);
         self.core.link_gone(arrival.link, Cause::NoMemory);
@@ -195,7 +220,8 @@ impl Headless {
     /// The bytes that a client is owed and that are not sent yet. There are none exactly where the
     /// link has no client.
     pub fn unsent(&self, link: LinkId) -> Option<&[u8]>
-        ensures { option_copied result ≡ unsent_at (at_key connection_link link.0 self.now.core.connections) }
+        ensures { option_copied result
+            ≡ unsent_at (at_key connection_link link.0 self.now.core.connections) }
     {
         self.core.unsent(link)
     }

@@ -1,4 +1,5 @@
-//! Turns: waits, reads and writes over the core's clients. It knows the sockets and the core, and nothing of a client's mirror.
+//! Turns: waits, reads and writes over the core's clients. It knows the sockets and the core, and
+//! nothing of a client's mirror.
 #![tactic(auto)]
 
 mod feed;

@@ -1,4 +1,5 @@
-ghost use Rattle.std.specs.Prelude.{◌≡◌, ◌+◌, ◌≤◌, ◌++◌, ◌∷◌, [], ◌==◌, OnOk, OnErr, IfOk, position, vec_len, vec_capacity};
+ghost use Rattle.std.specs.Prelude.{◌≡◌, ◌+◌, ◌≤◌, ◌++◌, ◌∷◌, [], ◌==◌, OnOk, OnErr};
+ghost use Rattle.std.specs.Prelude.{IfOk, position, vec_len, vec_capacity};
 ghost use Rattle.wc_outside.specs.Keyed.{at_key, without, PlaceOf};
 
 use crate::link_state::{Closed, LinkState};
@@ -46,7 +47,8 @@ impl Links {
 
     /// Takes a link in, with room for a line of it and for its close.
     pub fn admit(&mut self, alloc: Global, link: LinkId) -> Result<(), NoMemory>
-        ensures ok { OnOk result (self.new.opened.items ≡ self.old.opened.items ++ new_state link ∷ []) }
+        ensures ok { OnOk result (self.new.opened.items ≡ self.old.opened.items
+            ++ new_state link ∷ []) }
         ensures err { OnErr result (self.new.opened.items ≡ self.old.opened.items) }
         ensures closed { self.new.closed.items ≡ self.old.closed.items }
     {
@@ -65,7 +67,9 @@ impl Links {
     /// Takes a link out, and lists it as closed, where it is there. It takes no memory.
     pub fn close(&mut self, link: LinkId, cause: Cause)
         ensures opened { self.new.opened.items ≡ without link_number link.0 self.old.opened.items }
-        ensures closed { self.new.closed.items ≡ with_closed (at_key link_number link.0 self.old.opened.items) self.old.closed.items (record { link = link; cause = cause }) }
+        ensures closed { self.new.closed.items
+            ≡ with_closed (at_key link_number link.0 self.old.opened.items) self.old.closed.items
+            (record { link = link; cause = cause }) }
     {
         if self.place(link).is_none() {
             return;
@@ -76,7 +80,8 @@ impl Links {
 
     /// Marks a link as one that was reported ready, or as one that is drained.
     pub fn mark(&mut self, link: LinkId, undrained: bool)
-        ensures opened { self.new.opened.items ≡ marked_at link.0 undrained self.old.opened.items (at_key link_number link.0 self.old.opened.items) }
+        ensures opened { self.new.opened.items ≡ marked_at link.0 undrained self.old.opened.items
+            (at_key link_number link.0 self.old.opened.items) }
         ensures closed { self.new.closed ≡ self.old.closed }
     {
         if let Some(place) = self.place(link) {

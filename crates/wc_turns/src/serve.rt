@@ -1,4 +1,5 @@
-ghost use Rattle.std.specs.Prelude.{◌≡◌, ◌≢◌, ◌⊎◌, ◌<◌, ◌≤◌, ◌+◌, ℕ, None, Some, IfSome, OnOk, OnErr, IsTrue, true, false, take};
+ghost use Rattle.std.specs.Prelude.{◌≡◌, ◌≢◌, ◌⊎◌, ◌<◌, ◌≤◌, ◌+◌, ℕ, None, Some};
+ghost use Rattle.std.specs.Prelude.{IfSome, OnOk, OnErr, IsTrue, true, false, take};
 ghost use Rattle.std.specs.List.{list_any};
 ghost use Rattle.wc_outside.specs.Faults.{Rose};
 ghost use Rattle.wc_outside.specs.Happenings.{is_link, is_listener};
@@ -7,7 +8,10 @@ ghost use Rattle.wc_core.specs.Served.{connection_link};
 ghost use Rattle.wc_turns.specs.Contained.{KeepsLinks};
 ghost use Rattle.wc_turns.specs.Links.{link_number};
 ghost use Rattle.wc_turns.specs.Served.{NobodyLeaving};
-ghost use Rattle.wc_turns.specs.Sources.{NothingBecameReady, IsServed, IsHeard, IsWritten, AllServed, AllSent, ServesNamed, TakesWithin, TakesNothing, bytes_taken, arrivals, has_flag, has_unsent, is_left_over};
+ghost use Rattle.wc_turns.specs.Sources.{NothingBecameReady, IsServed, IsHeard, IsWritten};
+ghost use Rattle.wc_turns.specs.Sources.{AllServed, AllSent, ServesNamed, TakesWithin};
+ghost use Rattle.wc_turns.specs.Sources.{TakesNothing, bytes_taken, arrivals, has_flag, has_unsent};
+ghost use Rattle.wc_turns.specs.Sources.{is_left_over};
 ghost use Rattle.wc_turns.specs.Turns.{LoopStep, AgreesWithSockets, faults_of};
 
 use crate::headless::Headless;
@@ -19,8 +23,10 @@ use wc_text::LinkId;
 
 /// The lesser one of two links, where it is above the last one.
 fn lesser(next: Option<LinkId>, link: LinkId, last: u64) -> Option<LinkId>
-    ensures above { IfSome next (λ known. last < known.0) → IfSome result (λ least. last < least.0) }
-    ensures other { IfSome result (λ least. (other : ℕ) → last < other → other < least.0 → link.0 ≢ other) }
+    ensures above { IfSome next (λ known. last < known.0) →
+        IfSome result (λ least. last < least.0) }
+    ensures other { IfSome result (λ least. (other : ℕ) → last < other → other < least.0 →
+        link.0 ≢ other) }
     ensures before { IfSome result (λ least. IfSome next (λ known. least.0 ≤ known.0)) }
     ensures none { result ≡ None → (next ≡ None) × (link.0 ≤ last) }
     ensures one { (result ≡ next) ⊎ (result ≡ Some link) }
@@ -44,8 +50,10 @@ fn has_unsent(connection: &Connection) -> bool
 /// The client with the least number above the last one that has unsent bytes.
 fn next_unsent(connections: &[Connection], last: u64) -> Option<LinkId>
     ensures above { IfSome result (λ link. last < link.0) }
-    ensures between { IfSome result (λ link. (other : ℕ) → last < other → other < link.0 → has_flag has_unsent (at_key connection_link other connections.now) ≡ false) }
-    ensures none { result ≡ None → (other : ℕ) → last < other → has_flag has_unsent (at_key connection_link other connections.now) ≡ false }
+    ensures between { IfSome result (λ link. (other : ℕ) → last < other → other < link.0 →
+        has_flag has_unsent (at_key connection_link other connections.now) ≡ false) }
+    ensures none { result ≡ None → (other : ℕ) → last < other →
+        has_flag has_unsent (at_key connection_link other connections.now) ≡ false }
 {
     let mut next = None;
     for connection in connections {
@@ -81,8 +89,10 @@ fn is_left_over(state: &LinkState, tokens: &[Token]) -> bool
 /// these tokens do not name.
 fn next_undrained(states: &[LinkState], tokens: &[Token], last: u64) -> Option<LinkId>
     ensures above { IfSome result (λ link. last < link.0) }
-    ensures between { IfSome result (λ link. (other : ℕ) → last < other → other < link.0 → has_flag (is_left_over tokens.now) (at_key link_number other states.now) ≡ false) }
-    ensures none { result ≡ None → (other : ℕ) → last < other → has_flag (is_left_over tokens.now) (at_key link_number other states.now) ≡ false }
+    ensures between { IfSome result (λ link. (other : ℕ) → last < other → other < link.0 →
+        has_flag (is_left_over tokens.now) (at_key link_number other states.now) ≡ false) }
+    ensures none { result ≡ None → (other : ℕ) → last < other → has_flag (is_left_over tokens.now)
+        (at_key link_number other states.now) ≡ false }
     ensures unnamed { IfSome result (λ link. list_any (is_link link.0) tokens.now ≡ false) }
 {
     let mut next = None;
@@ -98,12 +108,14 @@ fn next_undrained(states: &[LinkState], tokens: &[Token], last: u64) -> Option<L
 fn write_all<S: Sockets>(headless: &mut Headless, sockets: &mut S)
     requires calm { NobodyLeaving headless.old.core.connections }
     requires going { headless.old.core.quits ≡ false }
-    ensures continues { LoopStep true 0 0 headless.old headless.new (S.seen sockets.old) (S.seen sockets.new) }
+    ensures continues { LoopStep true 0 0 headless.old headless.new (S.seen sockets.old)
+        (S.seen sockets.new) }
     ensures calm { NobodyLeaving headless.new.core.connections }
     ensures contained { KeepsLinks headless.old headless.new }
     ensures going { headless.new.core.quits ≡ false }
     ensures falls { NothingBecameReady (S.seen sockets.old) (S.seen sockets.new) }
-    ensures written { (link : ℕ) → 1 ≤ link → IsWritten link headless.new.core.connections (S.seen sockets.new) }
+    ensures written { (link : ℕ) → 1 ≤ link → IsWritten link headless.new.core.connections
+        (S.seen sockets.new) }
     ensures nothing { TakesNothing (S.seen sockets.old) (S.seen sockets.new) }
 {
     let mut last = 0;
@@ -117,7 +129,8 @@ fn write_all<S: Sockets>(headless: &mut Headless, sockets: &mut S)
 fn send_all<S: Sockets>(headless: &mut Headless, sockets: &mut S)
     requires calm { NobodyLeaving headless.old.core.connections }
     requires quit { headless.old.core.quits ≡ true }
-    ensures continues { LoopStep true 0 0 headless.old headless.new (S.seen sockets.old) (S.seen sockets.new) }
+    ensures continues { LoopStep true 0 0 headless.old headless.new (S.seen sockets.old)
+        (S.seen sockets.new) }
     ensures calm { NobodyLeaving headless.new.core.connections }
     ensures contained { KeepsLinks headless.old headless.new }
     ensures quits { headless.new.core.quits ≡ headless.old.core.quits }
@@ -136,14 +149,22 @@ fn send_all<S: Sockets>(headless: &mut Headless, sockets: &mut S)
 fn read_rest<S: Sockets>(headless: &mut Headless, sockets: &mut S, tokens: &[Token])
     requires calm { NobodyLeaving headless.old.core.connections }
     requires going { headless.old.core.quits ≡ false }
-    ensures continues { LoopStep true 0 0 headless.old headless.new (S.seen sockets.old) (S.seen sockets.new) }
+    ensures continues { LoopStep true 0 0 headless.old headless.new (S.seen sockets.old)
+        (S.seen sockets.new) }
     ensures calm { NobodyLeaving headless.new.core.connections }
     ensures contained { KeepsLinks headless.old headless.new }
     ensures falls { NothingBecameReady (S.seen sockets.old) (S.seen sockets.new) }
-    ensures served { AgreesWithSockets headless.old (S.seen sockets.old) → headless.new.core.quits ≡ false → (link : ℕ) → 1 ≤ link → list_any (is_link link) tokens.now ≡ false → IsServed link (S.seen sockets.old) (S.seen sockets.new) }
-    ensures most { IsTrue (S.seen sockets.new).tells → (link : ℕ) → bytes_taken link (S.seen sockets.new).taken ≤ bytes_taken link (S.seen sockets.old).taken + 1048576 }
-    ensures named { IsTrue (S.seen sockets.new).tells → (link : ℕ) → IsTrue (list_any (is_link link) tokens.now) → bytes_taken link (S.seen sockets.new).taken ≡ bytes_taken link (S.seen sockets.old).taken }
-    ensures clients { IsTrue (S.seen sockets.new).tells → arrivals (S.seen sockets.new).taken ≡ arrivals (S.seen sockets.old).taken }
+    ensures served { AgreesWithSockets headless.old (S.seen sockets.old) → headless.new.core.quits
+        ≡ false → (link : ℕ) → 1 ≤ link → list_any (is_link link) tokens.now ≡ false →
+        IsServed link (S.seen sockets.old) (S.seen sockets.new) }
+    ensures most { IsTrue (S.seen sockets.new).tells → (link : ℕ) →
+        bytes_taken link (S.seen sockets.new).taken ≤ bytes_taken link (S.seen sockets.old).taken
+        + 1048576 }
+    ensures named { IsTrue (S.seen sockets.new).tells → (link : ℕ) →
+        IsTrue (list_any (is_link link) tokens.now) → bytes_taken link (S.seen sockets.new).taken
+        ≡ bytes_taken link (S.seen sockets.old).taken }
+    ensures clients { IsTrue (S.seen sockets.new).tells → arrivals (S.seen sockets.new).taken
+        ≡ arrivals (S.seen sockets.old).taken }
 {
     let mut last = 0;
     while let Some(link) = next_undrained(headless.links(), tokens, last) {
@@ -164,7 +185,8 @@ pub(crate) fn serve_tokens<S: Sockets>(
 ) -> Result<(), Failed>
     requires calm { NobodyLeaving headless.old.core.connections }
     requires going { headless.old.core.quits ≡ false }
-    ensures { ServesNamed tokens.now (faults_of result) headless.old headless.new (S.seen sockets.old) (S.seen sockets.new) }
+    ensures { ServesNamed tokens.now (faults_of result) headless.old headless.new
+        (S.seen sockets.old) (S.seen sockets.new) }
 {
     let mut listened = Ok(());
     for place in 0..tokens.len() {
@@ -196,16 +218,24 @@ fn accept_rest<S: Sockets>(
 ) -> Result<(), Failed>
     requires calm { NobodyLeaving headless.old.core.connections }
     requires going { headless.old.core.quits ≡ false }
-    ensures continues { LoopStep true 0 (faults_of result) headless.old headless.new (S.seen sockets.old) (S.seen sockets.new) }
+    ensures continues { LoopStep true 0 (faults_of result) headless.old headless.new
+        (S.seen sockets.old) (S.seen sockets.new) }
     ensures calm { NobodyLeaving headless.new.core.connections }
-    ensures contained { AgreesWithSockets headless.old (S.seen sockets.old) → KeepsLinks headless.old headless.new }
+    ensures contained { AgreesWithSockets headless.old (S.seen sockets.old) →
+        KeepsLinks headless.old headless.new }
     ensures going { headless.new.core.quits ≡ false }
     ensures falls { NothingBecameReady (S.seen sockets.old) (S.seen sockets.new) }
-    ensures heard { OnOk result (AgreesWithSockets headless.old (S.seen sockets.old) → list_any is_listener tokens.now ≡ false → IsHeard (S.seen sockets.old) (S.seen sockets.new)) }
-    ensures failed { OnErr result (Rose (S.seen sockets.old).faults.listens (S.seen sockets.new).faults.listens) }
-    ensures clients { IsTrue (S.seen sockets.new).tells → arrivals (S.seen sockets.new).taken ≤ arrivals (S.seen sockets.old).taken + 1024 }
-    ensures named { IsTrue (S.seen sockets.new).tells → IsTrue (list_any is_listener tokens.now) → arrivals (S.seen sockets.new).taken ≡ arrivals (S.seen sockets.old).taken }
-    ensures bytes { IsTrue (S.seen sockets.new).tells → (link : ℕ) → bytes_taken link (S.seen sockets.new).taken ≡ bytes_taken link (S.seen sockets.old).taken }
+    ensures heard { OnOk result (AgreesWithSockets headless.old (S.seen sockets.old) →
+        list_any is_listener tokens.now ≡ false →
+        IsHeard (S.seen sockets.old) (S.seen sockets.new)) }
+    ensures failed { OnErr result (Rose (S.seen sockets.old).faults.listens
+        (S.seen sockets.new).faults.listens) }
+    ensures clients { IsTrue (S.seen sockets.new).tells → arrivals (S.seen sockets.new).taken
+        ≤ arrivals (S.seen sockets.old).taken + 1024 }
+    ensures named { IsTrue (S.seen sockets.new).tells → IsTrue (list_any is_listener tokens.now) →
+        arrivals (S.seen sockets.new).taken ≡ arrivals (S.seen sockets.old).taken }
+    ensures bytes { IsTrue (S.seen sockets.new).tells → (link : ℕ) →
+        bytes_taken link (S.seen sockets.new).taken ≡ bytes_taken link (S.seen sockets.old).taken }
 {
     if !headless.listening || is_listener_named(tokens) {
         return Ok(());
@@ -222,12 +252,17 @@ fn serve_sources<S: Sockets>(
 ) -> Result<(), Failed>
     requires calm { NobodyLeaving headless.old.core.connections }
     requires going { headless.old.core.quits ≡ false }
-    ensures continues { LoopStep true 0 (faults_of result) headless.old headless.new (S.seen sockets.old) (S.seen sockets.new) }
+    ensures continues { LoopStep true 0 (faults_of result) headless.old headless.new
+        (S.seen sockets.old) (S.seen sockets.new) }
     ensures calm { NobodyLeaving headless.new.core.connections }
-    ensures contained { AgreesWithSockets headless.old (S.seen sockets.old) → KeepsLinks headless.old headless.new }
-    ensures served { AgreesWithSockets headless.old (S.seen sockets.old) → headless.new.core.quits ≡ false → (link : ℕ) → 1 ≤ link → IsServed link (S.seen sockets.old) (S.seen sockets.new) }
-    ensures heard { OnOk result (AgreesWithSockets headless.old (S.seen sockets.old) → headless.new.core.quits ≡ false → IsHeard (S.seen sockets.old) (S.seen sockets.new)) }
-    ensures failed { OnErr result (Rose (S.seen sockets.old).faults.listens (S.seen sockets.new).faults.listens) }
+    ensures contained { AgreesWithSockets headless.old (S.seen sockets.old) →
+        KeepsLinks headless.old headless.new }
+    ensures served { AgreesWithSockets headless.old (S.seen sockets.old) → headless.new.core.quits
+        ≡ false → (link : ℕ) → 1 ≤ link → IsServed link (S.seen sockets.old) (S.seen sockets.new) }
+    ensures heard { OnOk result (AgreesWithSockets headless.old (S.seen sockets.old) →
+        headless.new.core.quits ≡ false → IsHeard (S.seen sockets.old) (S.seen sockets.new)) }
+    ensures failed { OnErr result (Rose (S.seen sockets.old).faults.listens
+        (S.seen sockets.new).faults.listens) }
     ensures within { TakesWithin (S.seen sockets.old) (S.seen sockets.new) }
 {
     let listened = serve_tokens(headless, sockets, tokens);
@@ -244,13 +279,17 @@ fn serve_sources<S: Sockets>(
 /// Writes what is unsent, or sends it after `/quit`.
 fn write_unsent<S: Sockets>(headless: &mut Headless, sockets: &mut S)
     requires calm { NobodyLeaving headless.old.core.connections }
-    ensures continues { LoopStep true 0 0 headless.old headless.new (S.seen sockets.old) (S.seen sockets.new) }
+    ensures continues { LoopStep true 0 0 headless.old headless.new (S.seen sockets.old)
+        (S.seen sockets.new) }
     ensures calm { NobodyLeaving headless.new.core.connections }
     ensures contained { KeepsLinks headless.old headless.new }
     ensures quits { headless.new.core.quits ≡ headless.old.core.quits }
-    ensures falls { headless.new.core.quits ≡ false → NothingBecameReady (S.seen sockets.old) (S.seen sockets.new) }
-    ensures written { headless.new.core.quits ≡ false → (link : ℕ) → 1 ≤ link → IsWritten link headless.new.core.connections (S.seen sockets.new) }
-    ensures sent { headless.new.core.quits ≡ true → AllSent headless.new.core.connections (S.seen sockets.old) (S.seen sockets.new) }
+    ensures falls { headless.new.core.quits ≡ false → NothingBecameReady (S.seen sockets.old)
+        (S.seen sockets.new) }
+    ensures written { headless.new.core.quits ≡ false → (link : ℕ) → 1 ≤ link →
+        IsWritten link headless.new.core.connections (S.seen sockets.new) }
+    ensures sent { headless.new.core.quits ≡ true → AllSent headless.new.core.connections
+        (S.seen sockets.old) (S.seen sockets.new) }
     ensures nothing { TakesNothing (S.seen sockets.old) (S.seen sockets.new) }
 {
     if headless.core.quits() {
@@ -268,12 +307,18 @@ pub fn serve_ready<S: Sockets>(
 ) -> Result<(), Failed>
     requires calm { NobodyLeaving headless.old.core.connections }
     requires going { headless.old.core.quits ≡ false }
-    ensures continues { LoopStep true 0 (faults_of result) headless.old headless.new (S.seen sockets.old) (S.seen sockets.new) }
+    ensures continues { LoopStep true 0 (faults_of result) headless.old headless.new
+        (S.seen sockets.old) (S.seen sockets.new) }
     ensures calm { NobodyLeaving headless.new.core.connections }
-    ensures contained { AgreesWithSockets headless.old (S.seen sockets.old) → KeepsLinks headless.old headless.new }
-    ensures served { OnOk result (AgreesWithSockets headless.old (S.seen sockets.old) → headless.new.core.quits ≡ false → AllServed headless.new.core.connections (S.seen sockets.old) (S.seen sockets.new)) }
-    ensures sent { headless.new.core.quits ≡ true → AllSent headless.new.core.connections (S.seen sockets.old) (S.seen sockets.new) }
-    ensures failed { OnErr result (Rose (S.seen sockets.old).faults.listens (S.seen sockets.new).faults.listens) }
+    ensures contained { AgreesWithSockets headless.old (S.seen sockets.old) →
+        KeepsLinks headless.old headless.new }
+    ensures served { OnOk result (AgreesWithSockets headless.old (S.seen sockets.old) →
+        headless.new.core.quits ≡ false → AllServed headless.new.core.connections
+        (S.seen sockets.old) (S.seen sockets.new)) }
+    ensures sent { headless.new.core.quits ≡ true → AllSent headless.new.core.connections
+        (S.seen sockets.old) (S.seen sockets.new) }
+    ensures failed { OnErr result (Rose (S.seen sockets.old).faults.listens
+        (S.seen sockets.new).faults.listens) }
     ensures within { TakesWithin (S.seen sockets.old) (S.seen sockets.new) }
 {
     let listened = serve_sources(headless, sockets, &ready.tokens[..ready.count]);

@@ -19,8 +19,10 @@ impl Headless {
     ghost use Rattle.std.specs.Prelude.{true, false, OnOk, OnErr};
     ghost use Rattle.wc_turns.specs.Served.{NobodyLeaving};
     ghost use Rattle.wc_turns.specs.Sources.{AllServed, AllSent, TakesWithin};
-    ghost use Rattle.wc_turns.specs.Turns.{AgreesWithSockets, LoopStep, IsCaused, ClosesExactly, waits_then, faults_then};
-    ghost use Rattle.wc_turns.specs.Waits.{has_undrained, timeout_of, then_of, WakesCore, LosesNone};
+    ghost use Rattle.wc_turns.specs.Turns.{AgreesWithSockets, LoopStep, IsCaused, ClosesExactly};
+    ghost use Rattle.wc_turns.specs.Turns.{waits_then, faults_then};
+    ghost use Rattle.wc_turns.specs.Waits.{has_undrained, timeout_of, then_of, WakesCore};
+    ghost use Rattle.wc_turns.specs.Waits.{LosesNone};
 
     /// Whether a source was reported ready and is not drained.
     fn has_undrained(&self) -> bool
@@ -50,21 +52,27 @@ impl Headless {
         requires agrees { AgreesWithSockets self.old (S.seen sockets.old) }
         requires calm { NobodyLeaving self.old.core.connections }
         requires going { self.old.core.quits ≡ false }
-        ensures continues { LoopStep false (waits_then result) (faults_then result) self.old self.new (S.seen sockets.old) (S.seen sockets.new) }
+        ensures continues { LoopStep false (waits_then result) (faults_then result) self.old
+            self.new (S.seen sockets.old) (S.seen sockets.new) }
         ensures agrees { AgreesWithSockets self.new (S.seen sockets.new) }
         ensures calm { NobodyLeaving self.new.core.connections }
-        ensures causes { All (IsCaused (S.seen sockets.old) (S.seen sockets.new)) self.new.links.closed.items }
-        ensures served { result ≡ TurnEnd.GoOn → AllServed self.new.core.connections (S.seen sockets.old) (S.seen sockets.new) }
-        ensures sent { result ≡ TurnEnd.Quit → AllSent self.new.core.connections (S.seen sockets.old) (S.seen sockets.new) }
+        ensures causes { All (IsCaused (S.seen sockets.old) (S.seen sockets.new))
+            self.new.links.closed.items }
+        ensures served { result ≡ TurnEnd.GoOn → AllServed self.new.core.connections
+            (S.seen sockets.old) (S.seen sockets.new) }
+        ensures sent { result ≡ TurnEnd.Quit →
+            AllSent self.new.core.connections (S.seen sockets.old) (S.seen sockets.new) }
         ensures within { TakesWithin (S.seen sockets.old) (S.seen sockets.new) }
         ensures contained { LosesNone self.old self.new }
         ensures closes { ClosesExactly self.old self.new (S.seen sockets.old) (S.seen sockets.new) }
         ensures never { result ≢ TurnEnd.KeeperFault }
         ensures quit { result ≡ TurnEnd.Quit → self.new.core.quits ≡ true }
         ensures goes_on { result ≡ TurnEnd.GoOn → self.new.core.quits ≡ false }
-        ensures wait_fault { result ≡ TurnEnd.WaitFault → Rose (S.seen sockets.old).faults.waits (S.seen sockets.new).faults.waits }
+        ensures wait_fault { result ≡ TurnEnd.WaitFault → Rose (S.seen sockets.old).faults.waits
+            (S.seen sockets.new).faults.waits }
         ensures unwoken { result ≡ TurnEnd.WaitFault → self.new.core.quits ≡ false }
-        ensures listen_fault { result ≡ TurnEnd.ListenFault → Rose (S.seen sockets.old).faults.listens (S.seen sockets.new).faults.listens }
+        ensures listen_fault { result ≡ TurnEnd.ListenFault →
+            Rose (S.seen sockets.old).faults.listens (S.seen sockets.new).faults.listens }
         ensures kept { keeper.new ≡ keeper.old }
     {
         let mut ready = Ready::new();
@@ -80,9 +88,12 @@ impl Headless {
         requires agrees { AgreesWithSockets self.old (S.seen sockets.old) }
         requires calm { NobodyLeaving self.old.core.connections }
         requires going { self.old.core.quits ≡ false }
-        ensures woken { OnOk result (WakesCore 1 self.old self.new (S.seen sockets.old) (S.seen sockets.new)) }
-        ensures failed { OnErr result (WakesCore 0 self.old self.new (S.seen sockets.old) (S.seen sockets.new)) }
-        ensures fault { OnErr result (Rose (S.seen sockets.old).faults.waits (S.seen sockets.new).faults.waits) }
+        ensures woken { OnOk result (WakesCore 1 self.old self.new (S.seen sockets.old)
+            (S.seen sockets.new)) }
+        ensures failed { OnErr result (WakesCore 0 self.old self.new (S.seen sockets.old)
+            (S.seen sockets.new)) }
+        ensures fault { OnErr result
+            (Rose (S.seen sockets.old).faults.waits (S.seen sockets.new).faults.waits) }
     {
         let _idle = self.core.world();
         match sockets.wait(self.timeout(), ready) {

@@ -1,10 +1,13 @@
-ghost use Rattle.std.specs.Prelude.{◌≡◌, ◌≢◌, ◌+◌, ◌<◌, ◌≤◌, ℕ, None, Some, Ok, IfSome, IsSome, OnOk, OnErr, IsTrue, true, false, length};
+ghost use Rattle.std.specs.Prelude.{◌≡◌, ◌≢◌, ◌+◌, ◌<◌, ◌≤◌, ℕ, None, Some, Ok, IfSome};
+ghost use Rattle.std.specs.Prelude.{IsSome, OnOk, OnErr, IsTrue, true, false, length};
 ghost use Rattle.wc_outside.specs.Faults.{Rose};
 ghost use Rattle.wc_core.specs.Served.{unsent_on, departure_of};
 ghost use Rattle.wc_turns.specs.Contained.{KeepsLinks};
-ghost use Rattle.wc_turns.specs.Parts.{FailureIgnored, SendsOn, ClosesLeaving, HasFailed, ReadsOn, ReadBytes, came_of};
+ghost use Rattle.wc_turns.specs.Parts.{FailureIgnored, SendsOn, ClosesLeaving, HasFailed, ReadsOn};
+ghost use Rattle.wc_turns.specs.Parts.{ReadBytes, came_of};
 ghost use Rattle.wc_turns.specs.Served.{NobodyLeaving, leaving_closes};
-ghost use Rattle.wc_turns.specs.Sources.{NothingBecameReady, IsServed, IsHeard, IsWritten, IsSent, TakesNothing, bytes_taken, arrivals};
+ghost use Rattle.wc_turns.specs.Sources.{NothingBecameReady, IsServed, IsHeard, IsWritten, IsSent};
+ghost use Rattle.wc_turns.specs.Sources.{TakesNothing, bytes_taken, arrivals};
 ghost use Rattle.wc_turns.specs.Turns.{LoopStep, AgreesWithSockets, IsSettled, faults_of};
 
 use crate::headless::Headless;
@@ -21,13 +24,18 @@ const ACCEPT_LIMIT: usize = 1024;
 /// How many bytes one read takes at most.
 const PIECE: usize = 16_384;
 
-/// Sends unsent bytes of a client once, at which a failure changes nothing. Whether more may be sent.
+/// Sends unsent bytes of a client once, at which a failure changes nothing. Whether more may be
+/// sent.
 fn send_once<S: Sockets>(headless: &mut Headless, sockets: &mut S, link: LinkId) -> bool
     requires missed { FailureIgnored link.0 headless.old.core }
-    ensures continues { LoopStep true 0 0 headless.old headless.new (S.seen sockets.old) (S.seen sockets.new) }
-    ensures sends { SendsOn link.0 headless.old headless.new (S.seen sockets.old) (S.seen sockets.new) }
-    ensures done { result ≡ false → IsSent link.0 headless.new.core.connections (S.seen sockets.old) (S.seen sockets.new) }
-    ensures less { result ≡ true → length (unsent_on link.0 headless.new.core.connections) < length (unsent_on link.0 headless.old.core.connections) }
+    ensures continues { LoopStep true 0 0 headless.old headless.new (S.seen sockets.old)
+        (S.seen sockets.new) }
+    ensures sends { SendsOn link.0 headless.old headless.new (S.seen sockets.old)
+        (S.seen sockets.new) }
+    ensures done { result ≡ false → IsSent link.0 headless.new.core.connections (S.seen sockets.old)
+        (S.seen sockets.new) }
+    ensures less { result ≡ true → length (unsent_on link.0 headless.new.core.connections)
+        < length (unsent_on link.0 headless.old.core.connections) }
 {
     let Some(unsent) = headless.core.unsent(link) else {
         return false;
@@ -58,8 +66,8 @@ fn is_lost(lost: Option<LinkId>, link: LinkId) -> bool
     }
 }
 
-/// Sends what a client that is leaving is owed, until it is gone, there is no room, or its link failed.
-/// Nothing is sent on the link that was lost, if one was.
+/// Sends what a client that is leaving is owed, until it is gone, there is no room, or its link
+/// failed. Nothing is sent on the link that was lost, if one was.
 fn flush_leaving<S: Sockets>(
     headless: &mut Headless,
     sockets: &mut S,
@@ -68,8 +76,10 @@ fn flush_leaving<S: Sockets>(
 )
     requires first { departure_of headless.old.core.connections ≡ Some departure }
     requires failed { HasFailed lost (S.seen sockets.old) }
-    ensures continues { LoopStep true 0 0 headless.old headless.new (S.seen sockets.old) (S.seen sockets.new) }
-    ensures sends { SendsOn departure.link.0 headless.old headless.new (S.seen sockets.old) (S.seen sockets.new) }
+    ensures continues { LoopStep true 0 0 headless.old headless.new (S.seen sockets.old)
+        (S.seen sockets.new) }
+    ensures sends { SendsOn departure.link.0 headless.old headless.new (S.seen sockets.old)
+        (S.seen sockets.new) }
     ensures done { IsSettled departure.link.0 headless.new.core.connections (S.seen sockets.new) }
 {
     if is_lost(lost, departure.link) {
@@ -87,8 +97,10 @@ fn close_leaving<S: Sockets>(
 )
     requires first { departure_of headless.old.core.connections ≡ Some departure }
     requires failed { HasFailed lost (S.seen sockets.old) }
-    ensures continues { LoopStep true 0 0 headless.old headless.new (S.seen sockets.old) (S.seen sockets.new) }
-    ensures parts { ClosesLeaving headless.old headless.new (S.seen sockets.old) (S.seen sockets.new) }
+    ensures continues { LoopStep true 0 0 headless.old headless.new (S.seen sockets.old)
+        (S.seen sockets.new) }
+    ensures parts { ClosesLeaving headless.old headless.new (S.seen sockets.old)
+        (S.seen sockets.new) }
     ensures fewer { length headless.new.core.connections < length headless.old.core.connections }
 {
     flush_leaving(headless, sockets, departure, lost);
@@ -100,8 +112,10 @@ fn close_leaving<S: Sockets>(
 /// Closes the links of all clients that are leaving.
 fn close_all_leaving<S: Sockets>(headless: &mut Headless, sockets: &mut S, lost: Option<LinkId>)
     requires failed { HasFailed lost (S.seen sockets.old) }
-    ensures continues { LoopStep true 0 0 headless.old headless.new (S.seen sockets.old) (S.seen sockets.new) }
-    ensures parts { ClosesLeaving headless.old headless.new (S.seen sockets.old) (S.seen sockets.new) }
+    ensures continues { LoopStep true 0 0 headless.old headless.new (S.seen sockets.old)
+        (S.seen sockets.new) }
+    ensures parts { ClosesLeaving headless.old headless.new (S.seen sockets.old)
+        (S.seen sockets.new) }
     ensures calm { NobodyLeaving headless.new.core.connections }
 {
     while let Some(departure) = headless.core.departure() {
@@ -109,7 +123,8 @@ fn close_all_leaving<S: Sockets>(headless: &mut Headless, sockets: &mut S, lost:
     }
 }
 
-/// Serves what one read of a link gave. The number is that of the bytes, where it may be read again.
+/// Serves what one read of a link gave. The number is that of the bytes, where it may be read
+/// again.
 fn read_once<S: Sockets>(
     headless: &mut Headless,
     sockets: &mut S,
@@ -119,13 +134,18 @@ fn read_once<S: Sockets>(
     requires calm { NobodyLeaving headless.old.core.connections }
     requires going { headless.old.core.quits ≡ false }
     requires room { 0 < length buffer.old }
-    ensures continues { LoopStep true 0 0 headless.old headless.new (S.seen sockets.old) (S.seen sockets.new) }
+    ensures continues { LoopStep true 0 0 headless.old headless.new (S.seen sockets.old)
+        (S.seen sockets.new) }
     ensures calm { NobodyLeaving headless.new.core.connections }
     ensures going { IsSome result → headless.new.core.quits ≡ false }
     ensures reads { ReadsOn link.0 (S.seen sockets.old) (S.seen sockets.new) }
-    ensures drained { result ≡ None → AgreesWithSockets headless.old (S.seen sockets.old) → headless.new.core.quits ≡ false → (S.seen sockets.new).undrained link.0 ≡ false }
-    ensures bytes { IfSome result (λ count. ReadBytes link.0 count (S.seen sockets.old) (S.seen sockets.new)) }
-    ensures within { IsTrue (S.seen sockets.new).tells → bytes_taken link.0 (S.seen sockets.new).taken ≤ bytes_taken link.0 (S.seen sockets.old).taken + length buffer.old }
+    ensures drained { result ≡ None → AgreesWithSockets headless.old (S.seen sockets.old) →
+        headless.new.core.quits ≡ false → (S.seen sockets.new).undrained link.0 ≡ false }
+    ensures bytes { IfSome result (λ count. ReadBytes link.0 count (S.seen sockets.old)
+        (S.seen sockets.new)) }
+    ensures within { IsTrue (S.seen sockets.new).tells →
+        bytes_taken link.0 (S.seen sockets.new).taken ≤ bytes_taken link.0
+        (S.seen sockets.old).taken + length buffer.old }
     ensures count { IfSome result (λ count. (1 ≤ count) × (count ≤ length buffer.old)) }
     ensures contained { KeepsLinks headless.old headless.new }
 {
@@ -165,13 +185,20 @@ fn read_once<S: Sockets>(
 pub fn read_link<S: Sockets>(headless: &mut Headless, sockets: &mut S, link: LinkId)
     requires calm { NobodyLeaving headless.old.core.connections }
     requires going { headless.old.core.quits ≡ false }
-    ensures continues { LoopStep true 0 0 headless.old headless.new (S.seen sockets.old) (S.seen sockets.new) }
+    ensures continues { LoopStep true 0 0 headless.old headless.new (S.seen sockets.old)
+        (S.seen sockets.new) }
     ensures calm { NobodyLeaving headless.new.core.connections }
     ensures falls { NothingBecameReady (S.seen sockets.old) (S.seen sockets.new) }
-    ensures served { AgreesWithSockets headless.old (S.seen sockets.old) → headless.new.core.quits ≡ false → IsServed link.0 (S.seen sockets.old) (S.seen sockets.new) }
-    ensures within { IsTrue (S.seen sockets.new).tells → bytes_taken link.0 (S.seen sockets.new).taken ≤ bytes_taken link.0 (S.seen sockets.old).taken + 1048576 }
-    ensures others { IsTrue (S.seen sockets.new).tells → (other : ℕ) → other ≢ link.0 → bytes_taken other (S.seen sockets.new).taken ≡ bytes_taken other (S.seen sockets.old).taken }
-    ensures clients { IsTrue (S.seen sockets.new).tells → arrivals (S.seen sockets.new).taken ≡ arrivals (S.seen sockets.old).taken }
+    ensures served { AgreesWithSockets headless.old (S.seen sockets.old) → headless.new.core.quits
+        ≡ false → IsServed link.0 (S.seen sockets.old) (S.seen sockets.new) }
+    ensures within { IsTrue (S.seen sockets.new).tells →
+        bytes_taken link.0 (S.seen sockets.new).taken ≤ bytes_taken link.0
+        (S.seen sockets.old).taken + 1048576 }
+    ensures others { IsTrue (S.seen sockets.new).tells → (other : ℕ) → other ≢ link.0 →
+        bytes_taken other (S.seen sockets.new).taken ≡ bytes_taken other
+        (S.seen sockets.old).taken }
+    ensures clients { IsTrue (S.seen sockets.new).tells → arrivals (S.seen sockets.new).taken
+        ≡ arrivals (S.seen sockets.old).taken }
     ensures contained { KeepsLinks headless.old headless.new }
 {
     let mut buffer = [0u8; PIECE];
@@ -189,15 +216,20 @@ pub fn read_link<S: Sockets>(headless: &mut Headless, sockets: &mut S, link: Lin
 fn accept_once<S: Sockets>(headless: &mut Headless, sockets: &mut S) -> Result<bool, Failed>
     requires calm { NobodyLeaving headless.old.core.connections }
     requires going { headless.old.core.quits ≡ false }
-    ensures continues { LoopStep true 0 (faults_of result) headless.old headless.new (S.seen sockets.old) (S.seen sockets.new) }
+    ensures continues { LoopStep true 0 (faults_of result) headless.old headless.new
+        (S.seen sockets.old) (S.seen sockets.new) }
     ensures calm { NobodyLeaving headless.new.core.connections }
     ensures going { headless.new.core.quits ≡ false }
     ensures falls { NothingBecameReady (S.seen sockets.old) (S.seen sockets.new) }
     ensures drained { result ≡ Ok false → (S.seen sockets.new).listening ≡ false }
-    ensures arrived { IsTrue (S.seen sockets.new).tells → arrivals (S.seen sockets.new).taken ≡ arrivals (S.seen sockets.old).taken + came_of result }
-    ensures bytes { IsTrue (S.seen sockets.new).tells → (link : ℕ) → bytes_taken link (S.seen sockets.new).taken ≡ bytes_taken link (S.seen sockets.old).taken }
-    ensures failed { OnErr result (Rose (S.seen sockets.old).faults.listens (S.seen sockets.new).faults.listens) }
-    ensures contained { AgreesWithSockets headless.old (S.seen sockets.old) → KeepsLinks headless.old headless.new }
+    ensures arrived { IsTrue (S.seen sockets.new).tells → arrivals (S.seen sockets.new).taken
+        ≡ arrivals (S.seen sockets.old).taken + came_of result }
+    ensures bytes { IsTrue (S.seen sockets.new).tells → (link : ℕ) →
+        bytes_taken link (S.seen sockets.new).taken ≡ bytes_taken link (S.seen sockets.old).taken }
+    ensures failed { OnErr result (Rose (S.seen sockets.old).faults.listens
+        (S.seen sockets.new).faults.listens) }
+    ensures contained { AgreesWithSockets headless.old (S.seen sockets.old) →
+        KeepsLinks headless.old headless.new }
 {
     match sockets.accept() {
         Ok(None) => {
@@ -221,15 +253,20 @@ fn accept_once<S: Sockets>(headless: &mut Headless, sockets: &mut S) -> Result<b
 pub fn accept_all<S: Sockets>(headless: &mut Headless, sockets: &mut S) -> Result<(), Failed>
     requires calm { NobodyLeaving headless.old.core.connections }
     requires going { headless.old.core.quits ≡ false }
-    ensures continues { LoopStep true 0 (faults_of result) headless.old headless.new (S.seen sockets.old) (S.seen sockets.new) }
+    ensures continues { LoopStep true 0 (faults_of result) headless.old headless.new
+        (S.seen sockets.old) (S.seen sockets.new) }
     ensures calm { NobodyLeaving headless.new.core.connections }
     ensures going { headless.new.core.quits ≡ false }
     ensures falls { NothingBecameReady (S.seen sockets.old) (S.seen sockets.new) }
     ensures heard { OnOk result (IsHeard (S.seen sockets.old) (S.seen sockets.new)) }
-    ensures failed { OnErr result (Rose (S.seen sockets.old).faults.listens (S.seen sockets.new).faults.listens) }
-    ensures within { IsTrue (S.seen sockets.new).tells → arrivals (S.seen sockets.new).taken ≤ arrivals (S.seen sockets.old).taken + 1024 }
-    ensures bytes { IsTrue (S.seen sockets.new).tells → (link : ℕ) → bytes_taken link (S.seen sockets.new).taken ≡ bytes_taken link (S.seen sockets.old).taken }
-    ensures contained { AgreesWithSockets headless.old (S.seen sockets.old) → KeepsLinks headless.old headless.new }
+    ensures failed { OnErr result (Rose (S.seen sockets.old).faults.listens
+        (S.seen sockets.new).faults.listens) }
+    ensures within { IsTrue (S.seen sockets.new).tells → arrivals (S.seen sockets.new).taken
+        ≤ arrivals (S.seen sockets.old).taken + 1024 }
+    ensures bytes { IsTrue (S.seen sockets.new).tells → (link : ℕ) →
+        bytes_taken link (S.seen sockets.new).taken ≡ bytes_taken link (S.seen sockets.old).taken }
+    ensures contained { AgreesWithSockets headless.old (S.seen sockets.old) →
+        KeepsLinks headless.old headless.new }
 {
     for _ in 0..ACCEPT_LIMIT {
         match accept_once(headless, sockets) {
@@ -245,13 +282,17 @@ pub fn accept_all<S: Sockets>(headless: &mut Headless, sockets: &mut S) -> Resul
 fn write_once<S: Sockets>(headless: &mut Headless, sockets: &mut S, link: LinkId) -> bool
     requires calm { NobodyLeaving headless.old.core.connections }
     requires going { headless.old.core.quits ≡ false }
-    ensures continues { LoopStep true 0 0 headless.old headless.new (S.seen sockets.old) (S.seen sockets.new) }
+    ensures continues { LoopStep true 0 0 headless.old headless.new (S.seen sockets.old)
+        (S.seen sockets.new) }
     ensures calm { NobodyLeaving headless.new.core.connections }
     ensures going { headless.new.core.quits ≡ false }
     ensures falls { NothingBecameReady (S.seen sockets.old) (S.seen sockets.new) }
-    ensures done { result ≡ false → IsWritten link.0 headless.new.core.connections (S.seen sockets.new) }
-    ensures others { (other : ℕ) → other ≢ link.0 → IsWritten other headless.old.core.connections (S.seen sockets.old) → IsWritten other headless.new.core.connections (S.seen sockets.new) }
-    ensures less { result ≡ true → length (unsent_on link.0 headless.new.core.connections) < length (unsent_on link.0 headless.old.core.connections) }
+    ensures done { result ≡ false → IsWritten link.0 headless.new.core.connections
+        (S.seen sockets.new) }
+    ensures others { (other : ℕ) → other ≢ link.0 → IsWritten other headless.old.core.connections
+        (S.seen sockets.old) → IsWritten other headless.new.core.connections (S.seen sockets.new) }
+    ensures less { result ≡ true → length (unsent_on link.0 headless.new.core.connections)
+        < length (unsent_on link.0 headless.old.core.connections) }
     ensures nothing { TakesNothing (S.seen sockets.old) (S.seen sockets.new) }
     ensures contained { KeepsLinks headless.old headless.new }
 {
@@ -275,16 +316,19 @@ fn write_once<S: Sockets>(headless: &mut Headless, sockets: &mut S, link: LinkId
     }
 }
 
-/// Writes the unsent bytes of a client until they are gone or there is no room. A client whose link fails leaves.
+/// Writes the unsent bytes of a client until they are gone or there is no room. A client whose link
+/// fails leaves.
 pub fn write_link<S: Sockets>(headless: &mut Headless, sockets: &mut S, link: LinkId)
     requires calm { NobodyLeaving headless.old.core.connections }
     requires going { headless.old.core.quits ≡ false }
-    ensures continues { LoopStep true 0 0 headless.old headless.new (S.seen sockets.old) (S.seen sockets.new) }
+    ensures continues { LoopStep true 0 0 headless.old headless.new (S.seen sockets.old)
+        (S.seen sockets.new) }
     ensures calm { NobodyLeaving headless.new.core.connections }
     ensures going { headless.new.core.quits ≡ false }
     ensures falls { NothingBecameReady (S.seen sockets.old) (S.seen sockets.new) }
     ensures done { IsWritten link.0 headless.new.core.connections (S.seen sockets.new) }
-    ensures others { (other : ℕ) → other ≢ link.0 → IsWritten other headless.old.core.connections (S.seen sockets.old) → IsWritten other headless.new.core.connections (S.seen sockets.new) }
+    ensures others { (other : ℕ) → other ≢ link.0 → IsWritten other headless.old.core.connections
+        (S.seen sockets.old) → IsWritten other headless.new.core.connections (S.seen sockets.new) }
     ensures nothing { TakesNothing (S.seen sockets.old) (S.seen sockets.new) }
     ensures contained { KeepsLinks headless.old headless.new }
 {
@@ -295,18 +339,24 @@ pub fn write_link<S: Sockets>(headless: &mut Headless, sockets: &mut S, link: Li
     }
 }
 
-/// Sends the unsent bytes of a client until they are gone, there is no room, or the link fails. A client whose link
-/// fails stays, so it is leaving already, or `/quit` was run.
+/// Sends the unsent bytes of a client until they are gone, there is no room, or the link fails. A
+/// client whose link fails stays, so it is leaving already, or `/quit` was run.
 pub fn send_link<S: Sockets>(headless: &mut Headless, sockets: &mut S, link: LinkId)
     requires missed { FailureIgnored link.0 headless.old.core }
-    ensures continues { LoopStep true 0 0 headless.old headless.new (S.seen sockets.old) (S.seen sockets.new) }
-    ensures sends { SendsOn link.0 headless.old headless.new (S.seen sockets.old) (S.seen sockets.new) }
-    ensures done { IsSent link.0 headless.new.core.connections (S.seen sockets.old) (S.seen sockets.new) }
-    ensures leaving { leaving_closes headless.new.core.connections ≡ leaving_closes headless.old.core.connections }
+    ensures continues { LoopStep true 0 0 headless.old headless.new (S.seen sockets.old)
+        (S.seen sockets.new) }
+    ensures sends { SendsOn link.0 headless.old headless.new (S.seen sockets.old)
+        (S.seen sockets.new) }
+    ensures done { IsSent link.0 headless.new.core.connections (S.seen sockets.old)
+        (S.seen sockets.new) }
+    ensures leaving { leaving_closes headless.new.core.connections
+        ≡ leaving_closes headless.old.core.connections }
     ensures quits { headless.new.core.quits ≡ headless.old.core.quits }
     ensures falls { NothingBecameReady (S.seen sockets.old) (S.seen sockets.new) }
-    ensures unsent { (other : ℕ) → other ≢ link.0 → unsent_on other headless.new.core.connections ≡ unsent_on other headless.old.core.connections }
-    ensures others { (other : ℕ) → other ≢ link.0 → (S.seen sockets.new).blocked other ≡ (S.seen sockets.old).blocked other }
+    ensures unsent { (other : ℕ) → other ≢ link.0 → unsent_on other headless.new.core.connections
+        ≡ unsent_on other headless.old.core.connections }
+    ensures others { (other : ℕ) → other ≢ link.0 → (S.seen sockets.new).blocked other
+        ≡ (S.seen sockets.old).blocked other }
     ensures nothing { TakesNothing (S.seen sockets.old) (S.seen sockets.new) }
     ensures contained { KeepsLinks headless.old headless.new }
 {

@@ -40,3 +40,6 @@ carry_end fs c all e = sym (ap (λ gs. carry_all gs [] c) (nothing_left fs)) ∙
 pub carry_long : (fs : List Field) (vs : List Object) (c : Carried) (all : Option Carried) → 0 < length vs → carry_all (drop (length fs) fs) vs c ≡ all → None ≡ all
 carry_long fs [] c all l e = absurd (omega arith)
 carry_long fs (v ∷ vs) c all l e = sym (ap (λ gs. carry_all gs (v ∷ vs) c) (nothing_left fs)) ∙ e
+
+-- what `carry_all` needs
+pub ruleset carry_all_facts = (carry_more, carry_none, carry_short, carry_end, carry_long)

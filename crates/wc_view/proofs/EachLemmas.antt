@@ -35,3 +35,6 @@ nothing_left (x ∷ xs) = nothing_left xs
 -- all are there
 pub all_there : {A B : Type 0} (f : A → Option B) (xs : List A) (front : List B) (all : Option (List B)) → following front (each f (drop (length xs) xs)) ≡ all → Some front ≡ all
 all_there f xs front all e = ap Some (sym (append-nil front)) ∙ sym (ap (λ ys. following front (each f ys)) (nothing_left xs)) ∙ e
+
+-- what `each_flag` needs
+pub ruleset each_flag_facts = (one_more, none_there, all_there)

@@ -91,3 +91,9 @@ pub row_new : (limit : ℕ) (es : List Entry) (b : Entry) (row : LineRow) → fi
 row_new limit es b row n new =
     ap (λ z. part_at (es ++ z ∷ [])) (new ∙ ap (λ z. (row.buffer, last_of limit (z ++ row.line ∷ []))) (sym (no_entry row.buffer es n)))
     ∙ entry_push row.buffer es (last_of limit (lines_at (part_at es) row.buffer ++ row.line ∷ [])) n
+
+-- what `keep_last` needs
+pub ruleset keep_last_facts = (last_all, last_shorter)
+
+-- what `lines_of` needs
+pub ruleset lines_of_facts = (entry_shown, none_shown)

@@ -30,3 +30,6 @@ fold_done old new message a b c d buffers lines nicks =
 pub fold_refused : (old : MirrorParts) (message : WireMessage) (e : DiffRefused) → RefusesDiff e (fold_nicks old.nick_dump old.nicks message) → RefusesDiff e (parts_after old message)
 fold_refused old message (BadItem place) h = ap (with_nicks old message) h
 fold_refused old message NoMemory h = tt
+
+-- what `fold` needs
+pub ruleset fold_facts = (fold_done, fold_refused)

@@ -80,3 +80,9 @@ pub put_more : (h i : ℕ) (added : List MirrorBuffer) (gs placed : MirrorGroups
 put_more h i added gs placed g new l is n e =
     ap (λ ys. ys ++ new ∷ []) e ∙ ap (λ y. put_after h added (take i gs) ++ y ∷ []) n
     ∙ sym (ap (put_after h added) (take_more gs i g l ∙ ap (λ y. take i gs ++ y ∷ []) (sym is)) ∙ map-append (insert_after h added) (take i gs) (g ∷ []))
+
+-- what `without` needs
+pub ruleset without_facts = (without_more, without_same)
+
+-- what `others` needs
+pub ruleset others_facts = (others_more, others_same)

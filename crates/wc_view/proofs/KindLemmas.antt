@@ -42,3 +42,6 @@ groups_none (Some kind) objects = changed_none kind (told_by kind objects)
 
 pub nothing_held : (message : WireMessage) → None ≡ fold_buffer_event None message
 nothing_held message = sym (groups_none (kind_named message.id) message.objects)
+
+-- what `kind_among` needs
+pub ruleset kind_among_facts = (kind_more, kind_here, kind_none)

@@ -56,3 +56,12 @@ list_gone h es = same_map nat_cmp_total nat_cmp-IsAntisymmetric _ _ (λ q.
     get-from_entries nat_cmp_total (filter (is_other h) es) q ∙ found_else q h es
     ∙ sym (get-remove nat_cmp_total (nicks_at es) h q ∙ ap (λ b. cond b None (get (nicks_at es) q)) (tied q h)
     ∙ ap (cond (eqb q h) None) (get-from_entries nat_cmp_total es q)))
+
+-- what `nicklist_of` needs
+pub ruleset nicklist_of_facts = (nicks_shown, none_shown)
+
+-- what `replace_list` needs
+pub ruleset replace_list_facts = (list_replaced, none_replaced)
+
+-- what `add_buffer` needs
+pub ruleset add_buffer_facts = (held_already, buffer_added)

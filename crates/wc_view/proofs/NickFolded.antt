@@ -188,3 +188,15 @@ diff_refused told changes part buffer rows items place t e g i a =
     ap (λ z. some_part (with_diff_told z part)) (sym t) ∙ ap some_part (diff_of_one changes part buffer e)
     ∙ ap (λ o. some_part (apply_to buffer (diffs changes) part o)) (sym g)
     ∙ ap (λ z. some_part (put_applied buffer part z)) (ap (λ z. applied_all z rows) (sym i) ∙ a)
+
+-- what `lists_of` needs
+pub ruleset lists_of_facts = (list_none, list_all, group_utf8)
+
+-- what `dump_step` needs
+pub ruleset dump_step_facts = (dump_nothing, dump_all, dump_refused, told_groups_utf8)
+
+-- what `full_step` needs
+pub ruleset full_step_facts = (full_nothing, full_other, full_list, full_refused, told_group_utf8)
+
+-- what `diff_step` needs
+pub ruleset diff_step_facts = (diff_nothing, diff_other, diff_unknown, diff_done, diff_refused, told_diff_utf8)

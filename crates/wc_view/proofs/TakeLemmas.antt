@@ -76,3 +76,6 @@ pub front_formed : {E : Type 0} (result : Result Front E) (bytes : List ℕ) →
 front_formed (Ok (Some found)) bytes h = h.spells.formed
 front_formed (Ok None) bytes h = tt
 front_formed (Err e) bytes h = tt
+
+-- what `take_front` needs
+pub ruleset take_front_facts = (takes_found, takes_none, takes_bad, takes_refused)

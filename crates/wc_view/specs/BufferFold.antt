@@ -1,16 +1,19 @@
 -- What a message changes of the buffers that a client holds.
-use Rattle.std.specs.Prelude.{ℕ, ◌==◌, Bool, true, not, ◌&&◌, List, [], ◌∷◌, Option, Some, None, codes, find, option_map, if◌then◌else◌, bytes_eq}
+use Rattle.std.specs.Prelude.{ℕ, ◌==◌, Bool, true, not, ◌&&◌, List, [], ◌∷◌, Option, Some, None}
+use Rattle.std.specs.Prelude.{codes, find, option_map, if◌then◌else◌, bytes_eq}
 use Rattle.std.specs.Option.{option_and_then}
 use Rattle.std.specs.List.{list_any}
 use Rattle.wc_model.specs.declared.notice.EventKind.{EventKind}
 use Rattle.wc_model.specs.declared.notice.EventKind.TheVariants as event
 use Rattle.wc_objects.specs.declared.object.Object.{Object}
 use Rattle.wc_objects.specs.declared.object.WireMessage.{WireMessage}
-use Rattle.wc_events.specs.BufferObjects.{id_of, opened_keys, placed_keys, renamed_keys, title_keys, vars_keys, named_keys, dump_keys}
+use Rattle.wc_events.specs.BufferObjects.{id_of, opened_keys, placed_keys, renamed_keys, title_keys}
+use Rattle.wc_events.specs.BufferObjects.{vars_keys, named_keys, dump_keys}
 use Rattle.wc_view.specs.declared.mirror_buffer.MirrorBuffer.{MirrorBuffer}
 use Rattle.wc_view.specs.declared.carried.Carried.{Carried}
 use Rattle.wc_view.specs.declared.carried.Field.{Field}
-use Rattle.wc_view.specs.declared.carried.Field.TheVariants.{Number, FullName, ShortName, Hidden, Title, Vars, Prev, Next}
+use Rattle.wc_view.specs.declared.carried.Field.TheVariants.{Number, FullName, ShortName, Hidden}
+use Rattle.wc_view.specs.declared.carried.Field.TheVariants.{Title, Vars, Prev, Next}
 use Rattle.wc_view.specs.Each.{each, only}
 use Rattle.wc_view.specs.Items.{items_on}
 use Rattle.wc_view.specs.Carried.{carried_by}
@@ -36,7 +39,8 @@ in_front b (group ∷ groups) = (b ∷ group) ∷ groups
 -- in front of these groups, whose first begins with this row
 abbrev pub put_in_front : Carried → List Carried → MirrorGroups → MirrorGroups
 put_in_front row [] groups = (row.buffer ∷ []) ∷ groups
-put_in_front row (next ∷ rows) groups = if row.number == next.number then in_front row.buffer groups else (row.buffer ∷ []) ∷ groups
+put_in_front row (next ∷ rows) groups = if row.number == next.number then in_front row.buffer groups
+    else (row.buffer ∷ []) ∷ groups
 
 -- runs of equal numbers are groups
 abbrev pub runs : List Carried → MirrorGroups
@@ -48,7 +52,8 @@ dumped_groups None part = part
 dumped_groups (Some rows) part = if are_once rows then Some (runs rows) else part
 
 abbrev pub rows_dumped : List Object → Option (List Carried)
-rows_dumped objects = option_and_then (each (carried_by dump_fields)) (items_on (codes "buffer") dump_keys objects)
+rows_dumped objects = option_and_then (each (carried_by dump_fields))
+    (items_on (codes "buffer") dump_keys objects)
 
 abbrev pub fold_buffer_dump : Option MirrorGroups → WireMessage → Option MirrorGroups
 fold_buffer_dump part message = dumped_groups (rows_dumped message.objects) part
@@ -58,7 +63,8 @@ fold_buffer_dump part message = dumped_groups (rows_dumped message.objects) part
 -- the events that change buffers
 abbrev pub kinds : List EventKind
 kinds =
-    event.Opened ∷ event.Moved ∷ event.Merged ∷ event.Unmerged ∷ event.Hidden ∷ event.Unhidden ∷ event.Renamed ∷ event.TitleChanged ∷
+    event.Opened ∷ event.Moved ∷ event.Merged ∷ event.Unmerged ∷ event.Hidden ∷ event.Unhidden ∷
+    event.Renamed ∷ event.TitleChanged ∷
     event.VarAdded ∷ event.VarChanged ∷ event.VarRemoved ∷ event.Closing ∷ []
 
 abbrev pub kind_among : List ℕ → List EventKind → Option EventKind
@@ -103,7 +109,8 @@ keys_of _ = named_keys
 
 -- what the one item of an event tells
 unfoldable pub told_by : EventKind → List Object → Option Carried
-told_by kind objects = option_and_then (carried_by (fields_of kind)) (option_and_then only (items_on (codes "buffer") (keys_of kind) objects))
+told_by kind objects = option_and_then (carried_by (fields_of kind))
+    (option_and_then only (items_on (codes "buffer") (keys_of kind) objects))
 
 abbrev pub changed_by : EventKind → Option Carried → Option MirrorGroups → Option MirrorGroups
 changed_by kind None part = part
@@ -116,7 +123,9 @@ event_groups (Some kind) objects part = changed_by kind (told_by kind objects) p
 abbrev pub fold_buffer_event : Option MirrorGroups → WireMessage → Option MirrorGroups
 fold_buffer_event part message = event_groups (kind_named message.id) message.objects part
 
--- The reply under the id of the buffer dump, where it tells of no buffer twice, and the events of buffers. Other
--- messages, and those whose keys or values are not those of their kind, change nothing.
+-- The reply under the id of the buffer dump, where it tells of no buffer twice, and the events of
+-- buffers. Other messages, and those whose keys or values are not those of their kind, change
+-- nothing.
 abbrev pub fold_buffers : List ℕ → Option MirrorGroups → WireMessage → Option MirrorGroups
-fold_buffers id part message = if bytes_eq message.id id then fold_buffer_dump part message else fold_buffer_event part message
+fold_buffers id part message = if bytes_eq message.id id then fold_buffer_dump part message
+    else fold_buffer_event part message

@@ -1,5 +1,6 @@
 -- What a client has of the buffers of a world.
-use Rattle.std.specs.Prelude.{◌≡◌, ℕ, ◌^◌, ◌-◌, ◌<◌, ◌≤◌, true, List, length, map, Option, Some, None}
+use Rattle.std.specs.Prelude.{◌≡◌, ℕ, ◌^◌, ◌-◌, ◌<◌, ◌≤◌, true, List, length, map, Option}
+use Rattle.std.specs.Prelude.{Some, None}
 use Rattle.wc_buffers.specs.declared.entry.BufferEntry.{BufferEntry}
 use Rattle.wc_buffers.specs.Groups.{AllFilled, has, times}
 use Rattle.wc_buffers.specs.Calls.{handle_of}
@@ -31,8 +32,8 @@ shown_groups groups = map (map shown_buffer) groups
 abbrev pub HasBuffers : Option MirrorGroups → World → Type 0
 HasBuffers part world = part ≡ Some (shown_groups world.groups)
 
--- What always holds of the groups of a world: no buffer is there twice, the handles were drawn, no group is empty, and
--- they are no more than a number of the protocol can count.
+-- What always holds of the groups of a world: no buffer is there twice, the handles were drawn, no
+-- group is empty, and they are no more than a number of the protocol can count.
 pub record AreGrouped (world : World) : Type 0 where
   pub once : (buffer : ℕ) → times handle_of buffer world.groups ≤ 1
   pub drawn : (buffer : ℕ) → has handle_of buffer world.groups ≡ true → buffer < world.next
@@ -42,17 +43,22 @@ pub record AreGrouped (world : World) : Type 0 where
 abbrev pub dump_reply : List ℕ → World → WireMessage
 dump_reply id world = record { id = id; objects = buffer_dump world.groups }
 
--- After the reply to the buffer dump a client has the buffers of the world in their groups, whatever it had before.
+-- After the reply to the buffer dump a client has the buffers of the world in their groups,
+-- whatever it had before.
 abbrev pub BufferDumpShows : Type 0
-BufferDumpShows = (id : List ℕ) (part : Option MirrorGroups) (world : World) → AreGrouped world → HasBuffers (fold_buffers id part (dump_reply id world)) world
+BufferDumpShows = (id : List ℕ) (part : Option MirrorGroups) (world : World) → AreGrouped world →
+    HasBuffers (fold_buffers id part (dump_reply id world)) world
 
 -- the buffers after an event, where there is one
-abbrev pub fold_told_buffers : List ℕ → Option MirrorGroups → Option WireMessage → Option MirrorGroups
+abbrev pub fold_told_buffers : List ℕ → Option MirrorGroups → Option WireMessage →
+    Option MirrorGroups
 fold_told_buffers id part None = part
 fold_told_buffers id part (Some message) = fold_buffers id part message
 
--- After the event of a change a client that had the buffers of the world has those of the world after it.
+-- After the event of a change a client that had the buffers of the world has those of the world
+-- after it.
 abbrev pub BufferNoticeShows : Type 0
 BufferNoticeShows = (id : List ℕ) (part : Option MirrorGroups) (world : World) (change : Change)
     → AreGrouped world → IsFree id → refusal world change ≡ None → HasBuffers part world
-    → HasBuffers (fold_told_buffers id part (event_of (after world change) (notice world change))) (after world change)
+    → HasBuffers (fold_told_buffers id part (event_of (after world change) (notice world change)))
+    (after world change)

@@ -6,7 +6,8 @@ use Rattle.wc_objects.specs.declared.object.Object.{Object}
 use Rattle.wc_objects.specs.declared.object.HdaItem.{HdaItem, out-HdaItem}
 use Rattle.wc_view.specs.declared.carried.Carried.{Carried}
 use Rattle.wc_view.specs.declared.carried.Field.{Field}
-use Rattle.wc_view.specs.declared.carried.Field.TheVariants.{Number, FullName, ShortName, Hidden, Title, Vars, Prev, Next}
+use Rattle.wc_view.specs.declared.carried.Field.TheVariants.{Number, FullName, ShortName, Hidden}
+use Rattle.wc_view.specs.declared.carried.Field.TheVariants.{Title, Vars, Prev, Next}
 use Rattle.wc_view.specs.Items.{last_pointer}
 use Rattle.wc_view.specs.Values.{number_in, pointer_in, text_in, switch_in, pairs_in}
 
@@ -15,7 +16,14 @@ abbrev pub bare : ℕ → Carried
 bare buffer = record {
   number = 0;
   prev = 0;
-  buffer = record { handle = record { 0 = buffer }; full_name = []; short_name = []; title = []; hidden = false; vars = [] };
+  buffer = record {
+    handle = record { 0 = buffer };
+    full_name = [];
+    short_name = [];
+    title = [];
+    hidden = false;
+    vars = [];
+  };
 }
 
 abbrev pub with_number : ℕ → Carried → Carried
@@ -25,19 +33,39 @@ abbrev pub with_prev : ℕ → Carried → Carried
 with_prev prev c = record c { prev = prev }
 
 abbrev pub with_full_name : List ℕ → Carried → Carried
-with_full_name name c = record { number = c.number; prev = c.prev; buffer = record c.buffer { full_name = name } }
+with_full_name name c = record {
+  number = c.number;
+  prev = c.prev;
+  buffer = record c.buffer { full_name = name };
+}
 
 abbrev pub with_short_name : List ℕ → Carried → Carried
-with_short_name name c = record { number = c.number; prev = c.prev; buffer = record c.buffer { short_name = name } }
+with_short_name name c = record {
+  number = c.number;
+  prev = c.prev;
+  buffer = record c.buffer { short_name = name };
+}
 
 abbrev pub with_title : List ℕ → Carried → Carried
-with_title title c = record { number = c.number; prev = c.prev; buffer = record c.buffer { title = title } }
+with_title title c = record {
+  number = c.number;
+  prev = c.prev;
+  buffer = record c.buffer { title = title };
+}
 
 abbrev pub with_hidden : Bool → Carried → Carried
-with_hidden hidden c = record { number = c.number; prev = c.prev; buffer = record c.buffer { hidden = hidden } }
+with_hidden hidden c = record {
+  number = c.number;
+  prev = c.prev;
+  buffer = record c.buffer { hidden = hidden };
+}
 
 abbrev pub with_vars : List Pair → Carried → Carried
-with_vars vars c = record { number = c.number; prev = c.prev; buffer = record c.buffer { vars = vars } }
+with_vars vars c = record {
+  number = c.number;
+  prev = c.prev;
+  buffer = record c.buffer { vars = vars };
+}
 
 -- one more value, where it can be that of the field
 unfoldable pub carry : Field → Object → Carried → Option Carried
@@ -53,8 +81,10 @@ carry Next value c = option_map (λ p. c) (pointer_in value)
 -- the values of these fields, each in its place and none besides
 abbrev pub carry_all : List Field → List Object → Carried → Option Carried
 carry_all [] [] c = Some c
-carry_all (field ∷ fields) (value ∷ values) c = option_and_then (carry_all fields values) (carry field value c)
+carry_all (field ∷ fields) (value ∷ values) c = option_and_then (carry_all fields values)
+    (carry field value c)
 carry_all _ _ c = None
 
 unfoldable pub carried_by : List Field → HdaItem → Option Carried
-carried_by fields item = option_and_then (λ buffer. carry_all fields (out-HdaItem item).values (bare buffer)) (last_pointer item)
+carried_by fields item = option_and_then (λ buffer. carry_all fields (out-HdaItem item).values
+    (bare buffer)) (last_pointer item)

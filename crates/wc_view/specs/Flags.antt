@@ -9,7 +9,8 @@ use Rattle.wc_view.specs.Each.{each}
 use Rattle.wc_view.specs.Items.{items_on, last_pointer}
 use Rattle.wc_view.specs.Values.{pointer_in, truth_in}
 
--- a line by the last pointer, which is that of the line's content, its buffer, and whether it is displayed
+-- a line by the last pointer, which is that of the line's content, its buffer, and whether it is
+-- displayed
 abbrev pub flag_of : Option ℕ → List Object → Option LineFlag
 flag_of content (buffer ∷ displayed ∷ []) =
     option_and_then (λ content. option_and_then (λ buffer. option_and_then (λ displayed.

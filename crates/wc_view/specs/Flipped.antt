@@ -19,11 +19,15 @@ use Rattle.wc_view.specs.Views.{HasAll, IsMirrorable, fold_told}
 
 -- the event of the lines of a buffer whose flags differ, where there are such
 abbrev pub flag_message : ℕ → List Handle → List Line → WireMessage
-flag_message buffer flips lines = record { id = id_of kind.LineDataChanged; objects = flag_objects (record { 0 = buffer }) flips lines }
+flag_message buffer flips lines = record {
+  id = id_of kind.LineDataChanged;
+  objects = flag_objects (record { 0 = buffer }) flips lines;
+}
 
 abbrev pub flag_event : World → List Handle → ℕ → List WireMessage
 flag_event world flips buffer =
-    if list_any (is_flipped flips) (lines_in world buffer) then flag_message buffer flips (lines_in world buffer) ∷ [] else []
+    if list_any (is_flipped flips) (lines_in world buffer)
+    then flag_message buffer flips (lines_in world buffer) ∷ [] else []
 
 -- one for each buffer that has such lines, in order
 abbrev pub flag_events : World → List Handle → List WireMessage
@@ -37,11 +41,12 @@ ContentsDiffer (line ∷ lines) = (has_content line.content lines ≡ false) × 
 abbrev pub fold_all : ℕ → List ℕ → Option Part → List WireMessage → Option Part
 fold_all limit id part messages = fold (fold_lines limit id) part messages
 
--- After the event of any change, and after it the events of flags, a client that had the lines of the world has
--- those of the world after the change.
+-- After the event of any change, and after it the events of flags, a client that had the lines of
+-- the world has those of the world after the change.
 abbrev pub FlipsShow : Type 0
 FlipsShow = (limit : ℕ) (id : List ℕ) (part : Option Part) (world : World) (change : Change)
     → IsMirrorable world → world.limit ≡ limit → IsFree id → refusal world change ≡ None
     → ((buffer : ℕ) → ContentsDiffer (lines_in (after world change) buffer)) → HasAll part world
-    → HasAll (fold_all limit id (fold_told limit id part (event_of (after world change) (notice world change)))
+    → HasAll (fold_all limit id
+    (fold_told limit id part (event_of (after world change) (notice world change)))
     (flag_events (after world change) (notice world change).flips)) (after world change)

@@ -1,5 +1,6 @@
 -- What a message changes of the lines that a client holds.
-use Rattle.std.specs.Prelude.{ℕ, Bool, ◌||◌, List, Option, Some, None, codes, option_map, if◌then◌else◌, bytes_eq}
+use Rattle.std.specs.Prelude.{ℕ, Bool, ◌||◌, List, Option, Some, None, codes, option_map}
+use Rattle.std.specs.Prelude.{if◌then◌else◌, bytes_eq}
 use Rattle.std.specs.Option.{option_and_then}
 use Rattle.wc_model.specs.declared.notice.EventKind.TheVariants as kind
 use Rattle.wc_objects.specs.declared.object.WireMessage.{WireMessage}
@@ -37,10 +38,12 @@ abbrev pub only_row : Option (List LineRow) → Option LineRow
 only_row rows = option_and_then only rows
 
 abbrev pub fold_dump : ℕ → Option Part → WireMessage → Option Part
-fold_dump limit part message = with_dump limit (rows_on (codes "buffer/lines/line/line_data") message.objects) part
+fold_dump limit part message =
+    with_dump limit (rows_on (codes "buffer/lines/line/line_data") message.objects) part
 
 abbrev pub fold_added : ℕ → Option Part → WireMessage → Option Part
-fold_added limit part message = with_new_line limit (only_row (rows_on (codes "line_data") message.objects)) part
+fold_added limit part message = with_new_line limit
+    (only_row (rows_on (codes "line_data") message.objects)) part
 
 abbrev pub fold_emptied : Option Part → WireMessage → Option Part
 fold_emptied part message = without_lines_of (buffer_named message.objects) part
@@ -55,15 +58,17 @@ empties id = bytes_eq id (id_of kind.Closing) || bytes_eq id (id_of kind.Cleared
 abbrev pub fold_change : Option Part → WireMessage → Option Part
 fold_change part message =
     if empties message.id then fold_emptied part message
-    else (if bytes_eq message.id (id_of kind.LineDataChanged) then fold_flags part message else part)
+    else (if bytes_eq message.id (id_of kind.LineDataChanged)
+    then fold_flags part message else part)
 
 abbrev pub fold_event : ℕ → Option Part → WireMessage → Option Part
 fold_event limit part message =
-    if bytes_eq message.id (id_of kind.LineAdded) then fold_added limit part message else fold_change part message
+    if bytes_eq message.id (id_of kind.LineAdded) then fold_added limit part message
+    else fold_change part message
 
--- The reply under the id of the line dump, and the events: of a new line, which has exactly one, of a buffer that is
--- closed or cleared, and of flags of lines. Other messages, and those whose keys or values are not those of their
--- kind, change nothing.
+-- The reply under the id of the line dump, and the events: of a new line, which has exactly one, of
+-- a buffer that is closed or cleared, and of flags of lines. Other messages, and those whose keys
+-- or values are not those of their kind, change nothing.
 abbrev pub fold_lines : ℕ → List ℕ → Option Part → WireMessage → Option Part
 fold_lines limit id part message =
     if bytes_eq message.id id then fold_dump limit part message else fold_event limit part message

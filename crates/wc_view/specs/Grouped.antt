@@ -1,5 +1,6 @@
 -- The buffers of a client in groups, and what events make of them.
-use Rattle.std.specs.Prelude.{ℕ, ◌-◌, ◌==◌, true, false, not, ◌&&◌, nat_lt, nat_le, List, [], ◌∷◌, ◌++◌, map, length, if◌then◌else◌}
+use Rattle.std.specs.Prelude.{ℕ, ◌-◌, ◌==◌, true, false, not, ◌&&◌, nat_lt, nat_le, List, [], ◌∷◌}
+use Rattle.std.specs.Prelude.{◌++◌, map, length, if◌then◌else◌}
 use Rattle.std.specs.List.{flat_map}
 use Rattle.wc_buffers.specs.Groups.{has, take_out, pick, others, move_group, unmerge}
 use Rattle.wc_model.specs.declared.notice.EventKind.{EventKind}
@@ -29,18 +30,24 @@ open_buffer_in b groups = if has key_of (key_of b) groups then groups else group
 -- a place that is not there changes nothing
 abbrev pub move_group_at : ℕ → ℕ → MirrorGroups → MirrorGroups
 move_group_at h number groups =
-    if nat_lt 0 number && nat_le (number - 1) (length (others key_of h groups)) then move_group key_of h (number - 1) groups else groups
+    if nat_lt 0 number && nat_le (number - 1) (length (others key_of h groups))
+    then move_group key_of h (number - 1) groups else groups
 
 -- and neither does one that is no other held buffer
 abbrev pub merge_groups_at : ℕ → ℕ → MirrorGroups → MirrorGroups
 merge_groups_at h prev groups =
-    if not (prev == h) && has key_of prev groups then put_after prev (pick key_of h groups) (take_out key_of h groups) else groups
+    if not (prev == h) && has key_of prev groups then put_after prev (pick key_of h groups)
+    (take_out key_of h groups) else groups
 
 -- a buffer with the values that are told of it
 abbrev pub with_told : EventKind → MirrorBuffer → MirrorBuffer → MirrorBuffer
 with_told event.Hidden told b = record b { hidden = true }
 with_told event.Unhidden told b = record b { hidden = false }
-with_told event.Renamed told b = record b { full_name = told.full_name; short_name = told.short_name; vars = told.vars }
+with_told event.Renamed told b = record b {
+  full_name = told.full_name;
+  short_name = told.short_name;
+  vars = told.vars;
+}
 with_told event.TitleChanged told b = record b { full_name = told.full_name; title = told.title }
 with_told event.VarAdded told b = record b { full_name = told.full_name; vars = told.vars }
 with_told event.VarChanged told b = record b { full_name = told.full_name; vars = told.vars }
@@ -65,7 +72,9 @@ edited event.Merged told groups = merge_groups_at (key_of told.buffer) told.prev
 edited event.Unmerged told groups = unmerge key_of (key_of told.buffer) groups
 edited kind told groups = told_update kind told.buffer groups
 
--- an opening of a buffer that is held changes nothing, and neither does another event of one that is not
+-- an opening of a buffer that is held changes nothing, and neither does another event of one that
+-- is not
 abbrev pub with_event : EventKind → Carried → MirrorGroups → MirrorGroups
 with_event event.Opened told groups = open_buffer_in told.buffer groups
-with_event kind told groups = if has key_of (key_of told.buffer) groups then edited kind told groups else groups
+with_event kind told groups = if has key_of (key_of told.buffer) groups then edited kind told groups
+    else groups

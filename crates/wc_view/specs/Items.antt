@@ -1,5 +1,6 @@
 -- The items that a message tells.
-use Rattle.std.specs.Prelude.{ℕ, ◌-◌, Bool, false, ◌&&◌, List, [], ◌∷◌, length, Option, Some, None, if◌then◌else◌, bytes_eq}
+use Rattle.std.specs.Prelude.{ℕ, ◌-◌, Bool, false, ◌&&◌, List, [], ◌∷◌, length, Option, Some, None}
+use Rattle.std.specs.Prelude.{if◌then◌else◌, bytes_eq}
 use Rattle.std.specs.List.{slice_get}
 use Rattle.wc_objects.specs.declared.object.Object.{Object, out-Object}
 use Rattle.wc_objects.specs.declared.object.Object.TheOpen.{Object-F}
@@ -13,7 +14,8 @@ is_text text (Some found) = bytes_eq found text
 
 abbrev pub items_layer : List ℕ → List ℕ → Layer → Option (List HdaItem)
 items_layer path keys (Object-F.Hda hda) =
-    if is_text path (out-Hda hda).path && is_text keys (out-Hda hda).keys then Some (out-Hda hda).items else None
+    if is_text path (out-Hda hda).path && is_text keys (out-Hda hda).keys
+    then Some (out-Hda hda).items else None
 items_layer path keys _ = None
 
 -- the items of a message of one hda on this path with these keys

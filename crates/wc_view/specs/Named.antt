@@ -9,7 +9,8 @@ use Rattle.wc_view.specs.Items.{items_on, last_pointer}
 use Rattle.wc_view.specs.Values.{number_in, text_in}
 
 abbrev pub named_with : Option ℕ → List Object → Option ℕ
-named_with buffer (number ∷ name ∷ []) = option_and_then (λ number. option_and_then (λ name. buffer) (text_in name)) (number_in number)
+named_with buffer (number ∷ name ∷ []) = option_and_then (λ number. option_and_then (λ name. buffer)
+    (text_in name)) (number_in number)
 named_with buffer _ = None
 
 unfoldable pub named_in : HdaItem → Option ℕ
@@ -17,4 +18,5 @@ named_in item = named_with (last_pointer item) (out-HdaItem item).values
 
 -- the buffer of the one item, where its values can be a number and a name
 abbrev pub buffer_named : List Object → Option ℕ
-buffer_named objects = option_and_then named_in (option_and_then only (items_on (codes "buffer") named_keys objects))
+buffer_named objects = option_and_then named_in
+    (option_and_then only (items_on (codes "buffer") named_keys objects))

@@ -1,5 +1,7 @@
 -- What a message changes of the nicklists that a client holds.
-use Rattle.std.specs.Prelude.{ℕ, ◌==◌, Bool, true, false, ◌&&◌, List, [], ◌∷◌, map, filter, Option, Some, None, Result, Ok, Err, is_none, is_some, option_map, if◌then◌else◌, bytes_eq}
+use Rattle.std.specs.Prelude.{ℕ, ◌==◌, Bool, true, false, ◌&&◌, List, [], ◌∷◌, map, filter, Option}
+use Rattle.std.specs.Prelude.{Some, None, Result, Ok, Err, is_none, is_some, option_map}
+use Rattle.std.specs.Prelude.{if◌then◌else◌, bytes_eq}
 use Rattle.std.specs.Option.{option_and_then}
 use Rattle.std.specs.List.{list_all}
 use Rattle.std.specs.FinMap.{FinMap, get, insert, remove, from_entries}
@@ -44,11 +46,13 @@ abbrev pub is_path : Option (List (List ℕ)) → List (List ℕ) → Bool
 is_path None path = false
 is_path (Some found) path = path_eq found path
 
--- a row whose parent is the root or a group of these rows, with its level and a name that it may have
+-- a row whose parent is the root or a group of these rows, with its level and a name that it may
+-- have
 abbrev pub may_be_listed : List Row → Row → Bool
 may_be_listed rows r =
     is_path (path_below (parent_of r) rows) r.path
-    && ((r.item.level == level_at r.item.is_group r.path) && is_none (name_refusal r.item.is_group r.item.name))
+    && ((r.item.level == level_at r.item.is_group r.path)
+    && is_none (name_refusal r.item.is_group r.item.name))
 
 unfoldable pub are_rows : List Row → Bool
 are_rows rows = are_ascending rows && (are_keyed rows && list_all (may_be_listed rows) rows)
@@ -64,11 +68,13 @@ rows_if holds rows = if holds then Some rows else None
 -- the rows after one root
 unfoldable pub rows_listed : List Item → Option (List Row)
 rows_listed [] = None
-rows_listed (root ∷ items) = rows_if (is_root_item root && are_rows (rows_from [] items)) (rows_from [] items)
+rows_listed (root ∷ items) = rows_if (is_root_item root && are_rows (rows_from [] items))
+    (rows_from [] items)
 
 -- the items of one buffer among these
 abbrev pub items_of : ℕ → List NickRow → List Item
-items_of buffer rows = map (λ (row : NickRow). row.item) (filter (λ (row : NickRow). row.buffer == buffer) rows)
+items_of buffer rows = map (λ (row : NickRow). row.item)
+    (filter (λ (row : NickRow). row.buffer == buffer) rows)
 
 abbrev pub entry_of : List NickRow → NickRow → Option (ℕ × List Row)
 entry_of all row = option_map (λ list. (row.buffer, list)) (rows_listed (items_of row.buffer all))
@@ -96,12 +102,15 @@ are_of buffer rows = list_all (λ (row : NickRow). row.buffer == buffer) rows
 -- other rows of a buffer that is held
 abbrev pub put_rows : ℕ → Option (List Row) → NickPart → NickPart
 put_rows buffer None part = part
-put_rows buffer (Some rows) part = if is_some (get part buffer) then insert part buffer rows else part
+put_rows buffer (Some rows) part = if is_some (get part buffer)
+    then insert part buffer rows else part
 
 -- a full list has some items, which are all of one buffer
 unfoldable pub with_full : List NickRow → NickPart → NickPart
 with_full [] part = part
-with_full (row ∷ rows) part = if are_of row.buffer rows then put_rows row.buffer (rows_listed (map (λ (row : NickRow). row.item) (row ∷ rows))) part else part
+with_full (row ∷ rows) part = if are_of row.buffer rows
+    then put_rows row.buffer (rows_listed (map (λ (row : NickRow). row.item) (row ∷ rows)))
+    part else part
 
 abbrev pub with_full_told : Option (List NickRow) → NickPart → NickPart
 with_full_told None part = part
@@ -129,7 +138,8 @@ unfoldable pub with_diff : List NickChange → NickPart → Result NickPart ℕ
 with_diff [] part = Ok part
 with_diff (change ∷ changes) part =
     if changes_are_of change.buffer changes
-    then apply_to change.buffer (map (λ (change : NickChange). change.diff) (change ∷ changes)) part (get part change.buffer)
+    then apply_to change.buffer (map (λ (change : NickChange). change.diff) (change ∷ changes)) part
+    (get part change.buffer)
     else Ok part
 
 abbrev pub with_diff_told : Option (List NickChange) → NickPart → Result NickPart ℕ
@@ -149,7 +159,8 @@ fold_diff (Some part) message = some_part (with_diff_told (nick_changes_on messa
 -- a buffer that was not held comes without rows
 abbrev pub with_opened : Option Carried → NickPart → NickPart
 with_opened None part = part
-with_opened (Some told) part = if is_some (get part (key_of told.buffer)) then part else insert part (key_of told.buffer) []
+with_opened (Some told) part = if is_some (get part (key_of told.buffer)) then part
+    else insert part (key_of told.buffer) []
 
 abbrev pub fold_opened : Option NickPart → WireMessage → Option NickPart
 fold_opened part message = option_map (with_opened (told_by event.Opened message.objects)) part
@@ -170,8 +181,10 @@ fold_nick_event part message =
     if bytes_eq message.id (id_of event.Opened) then Ok (fold_opened part message) else (
     if bytes_eq message.id (id_of event.Closing) then Ok (fold_closed part message) else Ok part)))
 
--- The reply under the id of the nicklist dump, and the events: of a whole nicklist, of a diff, which may be refused at
--- one of its items, and of a buffer that comes or goes. Other messages, and those whose keys or values are not those of
--- their kind, change nothing, and neither does a list that no nicklist can hold.
+-- The reply under the id of the nicklist dump, and the events: of a whole nicklist, of a diff,
+-- which may be refused at one of its items, and of a buffer that comes or goes. Other messages, and
+-- those whose keys or values are not those of their kind, change nothing, and neither does a list
+-- that no nicklist can hold.
 abbrev pub fold_nicks : List ℕ → Option NickPart → WireMessage → Result (Option NickPart) ℕ
-fold_nicks id part message = if bytes_eq message.id id then Ok (fold_nick_dump part message) else fold_nick_event part message
+fold_nicks id part message = if bytes_eq message.id id then Ok (fold_nick_dump part message)
+    else fold_nick_event part message

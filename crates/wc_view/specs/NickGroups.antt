@@ -1,5 +1,6 @@
 -- The items of each buffer among rows.
-use Rattle.std.specs.Prelude.{ℕ, ◌==◌, List, [], ◌∷◌, ◌++◌, fold, Option, option_map, if◌then◌else◌}
+use Rattle.std.specs.Prelude.{ℕ, ◌==◌, List, [], ◌∷◌, ◌++◌, fold, Option, option_map}
+use Rattle.std.specs.Prelude.{if◌then◌else◌}
 use Rattle.wc_nicklist.specs.declared.item.Item.{Item}
 use Rattle.wc_view.specs.declared.nick_rows.NickRow.{NickRow}
 use Rattle.wc_view.specs.NickEntries.{NickEntry}
@@ -12,7 +13,8 @@ Group = ℕ × List Item
 -- a row after the others of its buffer
 abbrev pub with_item : List Group → NickRow → List Group
 with_item [] row = (row.buffer, row.item ∷ []) ∷ []
-with_item (group ∷ groups) row = if group.0 == row.buffer then (group.0, group.1 ++ row.item ∷ []) ∷ groups else group ∷ with_item groups row
+with_item (group ∷ groups) row = if group.0 == row.buffer
+    then (group.0, group.1 ++ row.item ∷ []) ∷ groups else group ∷ with_item groups row
 
 -- the buffers in the order of their first rows
 abbrev pub by_buffer : List NickRow → List Group

@@ -1,5 +1,6 @@
 -- A nicklist that is read row by row.
-use Rattle.std.specs.Prelude.{◌≡◌, ℕ, ◌-◌, Bool, true, false, Result, Ok, Err, List, [], ◌∷◌, ◌++◌, take, Option, Some, None, option_map, if◌then◌else◌}
+use Rattle.std.specs.Prelude.{◌≡◌, ℕ, ◌-◌, Bool, true, false, Result, Ok, Err, List, [], ◌∷◌}
+use Rattle.std.specs.Prelude.{◌++◌, take, Option, Some, None, option_map, if◌then◌else◌}
 use Rattle.std.specs.Ordering.{is_lt}
 use Rattle.wc_text.specs.Order.{fold_order}
 use Rattle.wc_nicklist.specs.declared.item.Item.{Item}
@@ -31,7 +32,8 @@ nick_name (Some r) = if r.item.is_group then None else Some r.item.name
 -- the row of an item that comes after these
 abbrev pub next_row : List Row → Item → Row
 next_row rows i = record {
-  path = if i.is_group then take (i.level - 1) (path_after (last_row rows)) else path_after (last_row rows);
+  path = if i.is_group then take (i.level - 1) (path_after (last_row rows))
+      else path_after (last_row rows);
   item = i;
 }
 

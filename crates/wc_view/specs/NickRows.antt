@@ -1,5 +1,6 @@
 -- The groups and nicks that a message tells.
-use Rattle.std.specs.Prelude.{ℕ, ℤ, pos, List, [], ◌∷◌, Option, Some, None, option_map, if◌then◌else◌}
+use Rattle.std.specs.Prelude.{ℕ, ℤ, pos, List, [], ◌∷◌, Option, Some, None, option_map}
+use Rattle.std.specs.Prelude.{if◌then◌else◌}
 use Rattle.std.specs.List.{slice_get}
 use Rattle.std.specs.Option.{option_and_then}
 use Rattle.std.specs.Ordering.{int_eq}
@@ -29,7 +30,8 @@ nick_marks_in group visible level =
 
 unfoldable pub nick_texts_in : Object → Object → Object → Object → Option NickTexts
 nick_texts_in name color prefix prefix_color =
-    option_and_then (λ name. option_and_then (λ color. option_and_then (λ prefix. option_and_then (λ prefix_color.
+    option_and_then (λ name. option_and_then
+    (λ color. option_and_then (λ prefix. option_and_then (λ prefix_color.
     Some (record { name = name; color = color; prefix = prefix; prefix_color = prefix_color }))
     (text_in prefix_color)) (text_in prefix)) (text_in color)) (text_in name)
 
@@ -48,7 +50,8 @@ nick_with handle marks texts = record {
 -- a group or a nick by its pointer and the values in the order of the keys
 abbrev pub nick_of : Option ℕ → List Object → Option Item
 nick_of handle (group ∷ visible ∷ level ∷ name ∷ color ∷ prefix ∷ prefix_color ∷ []) =
-    option_and_then (λ handle. option_and_then (λ marks. option_and_then (λ texts. Some (nick_with handle marks texts))
+    option_and_then (λ handle. option_and_then
+    (λ marks. option_and_then (λ texts. Some (nick_with handle marks texts))
     (nick_texts_in name color prefix prefix_color)) (nick_marks_in group visible level)) handle
 nick_of handle _ = None
 
@@ -57,9 +60,11 @@ nick_row (Some buffer) (Some item) = Some (record { buffer = buffer; item = item
 nick_row _ _ = None
 
 unfoldable pub nick_row_in : HdaItem → Option NickRow
-nick_row_in item = nick_row (first_pointer item) (nick_of (last_pointer item) (out-HdaItem item).values)
+nick_row_in item = nick_row (first_pointer item)
+    (nick_of (last_pointer item) (out-HdaItem item).values)
 
--- the groups and nicks of a message of one hda with the keys of a nicklist, each of whose items says one
+-- the groups and nicks of a message of one hda with the keys of a nicklist, each of whose items
+-- says one
 abbrev pub nick_rows_on : List Object → Option (List NickRow)
 nick_rows_on objects = option_and_then (each nick_row_in) (items_on nick_path nick_keys objects)
 
@@ -77,7 +82,8 @@ abbrev pub mark_in : Object → Option Mark
 mark_in value = option_and_then mark_of (level_in value)
 
 abbrev pub nick_change : Option ℕ → Option Mark → Option Item → Option NickChange
-nick_change (Some buffer) (Some mark) (Some item) = Some (record { buffer = buffer; diff = record { mark = mark; item = item } })
+nick_change (Some buffer) (Some mark) (Some item) =
+    Some (record { buffer = buffer; diff = record { mark = mark; item = item } })
 nick_change _ _ _ = None
 
 abbrev pub change_of : Option ℕ → Option ℕ → List Object → Option NickChange
@@ -89,4 +95,5 @@ nick_change_in item = change_of (first_pointer item) (last_pointer item) (out-Hd
 
 -- the same of a diff
 abbrev pub nick_changes_on : List Object → Option (List NickChange)
-nick_changes_on objects = option_and_then (each nick_change_in) (items_on nick_path diff_keys objects)
+nick_changes_on objects = option_and_then (each nick_change_in)
+    (items_on nick_path diff_keys objects)

@@ -1,10 +1,12 @@
 -- What is done to the nicklists that a client holds.
-use Rattle.std.specs.Prelude.{◌≡◌, ℕ, List, [], ◌∷◌, Option, Some, None, Result, Ok, Err, option_map, is_some, if◌then◌else◌}
+use Rattle.std.specs.Prelude.{◌≡◌, ℕ, List, [], ◌∷◌, Option, Some, None, Result, Ok, Err}
+use Rattle.std.specs.Prelude.{option_map, is_some, if◌then◌else◌}
 use Rattle.std.specs.FinMap.{get, insert, remove}
 use Rattle.wc_nickdiff.specs.declared.refused.DiffRefused.{DiffRefused}
 use Rattle.wc_nickdiff.specs.declared.refused.DiffRefused.TheVariants.{BadItem, NoMemory}
 use Rattle.wc_view.specs.declared.mirror_nicks.NickStep.{NickStep}
-use Rattle.wc_view.specs.declared.mirror_nicks.NickStep.TheVariants.{Nothing, All, Becomes, Opened, Closed}
+use Rattle.wc_view.specs.declared.mirror_nicks.NickStep.TheVariants.{Nothing, All, Becomes, Opened}
+use Rattle.wc_view.specs.declared.mirror_nicks.NickStep.TheVariants.{Closed}
 use Rattle.wc_view.specs.NickEntries.{NickEntry, nicks_at}
 use Rattle.wc_view.specs.declared.nick_rows.NickChange.{NickChange}
 use Rattle.wc_view.specs.NickFold.{NickPart, put_rows, changes_are_of}
@@ -28,4 +30,5 @@ RefusesDiff NoMemory folded = Unit {0}
 -- the one buffer that changes are of
 abbrev pub buffer_of : List NickChange → Option ℕ
 buffer_of [] = None
-buffer_of (change ∷ changes) = if changes_are_of change.buffer changes then Some change.buffer else None
+buffer_of (change ∷ changes) = if changes_are_of change.buffer changes
+    then Some change.buffer else None

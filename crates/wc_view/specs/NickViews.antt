@@ -1,5 +1,6 @@
 -- What a client has of the nicklists of a world.
-use Rattle.std.specs.Prelude.{◌≡◌, ℕ, ◌^◌, ◌-◌, ◌<◌, ◌≤◌, true, List, Option, Some, None, Result, Ok, is_some}
+use Rattle.std.specs.Prelude.{◌≡◌, ℕ, ◌^◌, ◌-◌, ◌<◌, ◌≤◌, true, List, Option, Some, None}
+use Rattle.std.specs.Prelude.{Result, Ok, is_some}
 use Rattle.std.specs.List.{AllByRecursion}
 use Rattle.std.specs.FinMap.{get, insert, remove}
 use Rattle.wc_text.specs.declared.names.Handle.{Handle}
@@ -32,8 +33,8 @@ pub record AreTellable (rows : List Row) : Type 0 where
   pub held : IsRows rows
   pub levels : AllByRecursion IsTellable rows
 
--- What always holds of the nicklists of a world: each buffer that is there has one, and nothing else has; no buffer is
--- there twice, and the handles of buffers were drawn.
+-- What always holds of the nicklists of a world: each buffer that is there has one, and nothing
+-- else has; no buffer is there twice, and the handles of buffers were drawn.
 pub record HasLists (world : World) : Type 0 where
   pub once : (buffer : ℕ) → times handle_of buffer world.groups ≤ 1
   pub drawn : (buffer : ℕ) → has handle_of buffer world.groups ≡ true → buffer < world.next
@@ -46,22 +47,28 @@ nick_reply id world = record { id = id; objects = nick_dump world }
 
 -- After the reply a client has the nicklists of the world, whatever it had before.
 abbrev pub NickDumpShows : Type 0
-NickDumpShows = (id : List ℕ) (part : Option NickPart) (world : World) → HasLists world → HasNicks (fold_nicks id part (nick_reply id world)) world.nicks
+NickDumpShows = (id : List ℕ) (part : Option NickPart) (world : World) → HasLists world →
+    HasNicks (fold_nicks id part (nick_reply id world)) world.nicks
 
 -- the nicklists after an event, where there is one
-abbrev pub fold_told_nicks : List ℕ → Option NickPart → Option WireMessage → Result (Option NickPart) ℕ
+abbrev pub fold_told_nicks : List ℕ → Option NickPart → Option WireMessage →
+    Result (Option NickPart) ℕ
 fold_told_nicks id part None = Ok part
 fold_told_nicks id part (Some message) = fold_nicks id part message
 
--- After the event of a change a client that had the rows that were told has those that are told after it: a buffer that
--- came has none, and one that went is gone.
+-- After the event of a change a client that had the rows that were told has those that are told
+-- after it: a buffer that came has none, and one that went is gone.
 abbrev pub NickNoticeShows : Type 0
 NickNoticeShows = (id : List ℕ) (told : NickPart) (world : World) (change : Change)
-    → HasLists world → ((buffer : ℕ) → is_some (get told buffer) ≡ is_some (get world.nicks buffer)) → IsFree id → refusal world change ≡ None
-    → HasNicks (fold_told_nicks id (Some told) (event_of (after world change) (notice world change))) (told_after world change.buffer change.what told)
+    → HasLists world → ((buffer : ℕ) → is_some (get told buffer) ≡ is_some (get world.nicks buffer))
+    → IsFree id → refusal world change ≡ None
+    → HasNicks (fold_told_nicks id (Some told)
+    (event_of (after world change) (notice world change)))
+    (told_after world change.buffer change.what told)
 
 -- After a push a client that had the rows that were told of a buffer has those of now.
 abbrev pub PushShows : Type 0
 PushShows = (id : List ℕ) (told : NickPart) (root buffer : Handle) (before now : List Row)
     → IsFree id → get told buffer.0 ≡ Some before → AreTellable before → AreTellable now
-    → HasNicks (fold_told_nicks id (Some told) (push_message buffer (nick_push root before now))) (insert told buffer.0 now)
+    → HasNicks (fold_told_nicks id (Some told) (push_message buffer (nick_push root before now)))
+    (insert told buffer.0 now)

@@ -1,5 +1,6 @@
 -- The lines of each buffer, as a client holds them.
-use Rattle.std.specs.Prelude.{ℕ, ◌==◌, List, [], ◌∷◌, ◌++◌, map, filter, fold, unwrap_or, Option, Some, None, if◌then◌else◌}
+use Rattle.std.specs.Prelude.{ℕ, ◌==◌, List, [], ◌∷◌, ◌++◌, map, filter, fold, unwrap_or, Option}
+use Rattle.std.specs.Prelude.{Some, None, if◌then◌else◌}
 use Rattle.std.specs.FinMap.{FinMap, get, insert, remove, from_entries}
 use Rattle.std.specs.Ordering.{nat_cmp}
 use Rattle.wc_lines.specs.Ring.{last_of}
@@ -17,7 +18,8 @@ lines_at part buffer = unwrap_or (get part buffer) []
 
 -- a line after the others of its buffer, as far as the limit allows
 abbrev pub with_row : ℕ → LineRow → Part → Part
-with_row limit row part = insert part row.buffer (last_of limit (lines_at part row.buffer ++ row.line ∷ []))
+with_row limit row part = insert part row.buffer
+    (last_of limit (lines_at part row.buffer ++ row.line ∷ []))
 
 -- the lines of one buffer among these
 abbrev pub lines_of : ℕ → List LineRow → List MirrorLine
@@ -25,7 +27,8 @@ lines_of buffer rows = map (λ row. row.line) (filter (λ row. row.buffer == buf
 
 -- for each buffer that has lines among these, the last of them, up to the limit
 abbrev pub part_of : ℕ → List LineRow → Part
-part_of limit rows = from_entries (map (λ row. (row.buffer, last_of limit (lines_of row.buffer rows))) rows)
+part_of limit rows = from_entries
+    (map (λ row. (row.buffer, last_of limit (lines_of row.buffer rows))) rows)
 
 -- the lines of a buffer gone
 abbrev pub without : ℕ → Part → Part
@@ -33,7 +36,8 @@ without buffer part = remove part buffer
 
 -- a line with the flag set, where it has the content of the flag
 abbrev pub flagged_line : LineFlag → MirrorLine → MirrorLine
-flagged_line flag line = if line.content.0 == flag.content then record line { displayed = flag.displayed } else line
+flagged_line flag line = if line.content.0 == flag.content
+    then record line { displayed = flag.displayed } else line
 
 abbrev pub with_line_flag : LineFlag → List MirrorLine → List MirrorLine
 with_line_flag flag lines = map (flagged_line flag) lines

@@ -16,14 +16,23 @@ unfoldable pub marks_in : Object → Object → Object → Object → Object →
 marks_in buffer date printed displayed notify highlight =
     option_and_then (λ buffer. option_and_then (λ date. option_and_then (λ printed.
     option_and_then (λ displayed. option_and_then (λ notify. option_and_then (λ highlight.
-    Some (record { buffer = buffer; date = date; date_printed = printed; displayed = displayed; notify = notify; highlight = highlight }))
-    (truth_in highlight)) (level_in notify)) (truth_in displayed)) (date_in printed)) (date_in date)) (pointer_in buffer)
+    Some (record {
+      buffer = buffer;
+      date = date;
+      date_printed = printed;
+      displayed = displayed;
+      notify = notify;
+      highlight = highlight;
+    }))
+    (truth_in highlight)) (level_in notify)) (truth_in displayed)) (date_in printed))
+    (date_in date)) (pointer_in buffer)
 
 -- what the values say that are texts
 unfoldable pub line_texts_in : Object → Object → Object → Option LineTexts
 line_texts_in tags prefix message =
     option_and_then (λ tags. option_and_then (λ prefix. option_and_then (λ message.
-    Some (record { tags = tags; prefix = prefix; message = message })) (text_in message)) (text_in prefix)) (texts_in tags)
+    Some (record { tags = tags; prefix = prefix; message = message })) (text_in message))
+    (text_in prefix)) (texts_in tags)
 
 abbrev pub row_with : ℕ → LineMarks → LineTexts → LineRow
 row_with content marks texts = record {
@@ -41,16 +50,21 @@ row_with content marks texts = record {
   };
 }
 
--- a line and its buffer, by the last pointer, which is that of the line's content, and the values in the order of the keys
+-- a line and its buffer, by the last pointer, which is that of the line's content, and the values
+-- in the order of the keys
 abbrev pub row_of : Option ℕ → List Object → Option LineRow
-row_of content (buffer ∷ date ∷ printed ∷ displayed ∷ notify ∷ highlight ∷ tags ∷ prefix ∷ message ∷ []) =
-    option_and_then (λ content. option_and_then (λ marks. option_and_then (λ texts. Some (row_with content marks texts))
-    (line_texts_in tags prefix message)) (marks_in buffer date printed displayed notify highlight)) content
+row_of content (buffer ∷ date ∷ printed ∷ displayed ∷ notify ∷ highlight ∷ tags ∷ prefix ∷
+    message ∷ []) =
+    option_and_then (λ content. option_and_then
+    (λ marks. option_and_then (λ texts. Some (row_with content marks texts))
+    (line_texts_in tags prefix message))
+    (marks_in buffer date printed displayed notify highlight)) content
 row_of content _ = None
 
 unfoldable pub row_in : HdaItem → Option LineRow
 row_in item = row_of (last_pointer item) (out-HdaItem item).values
 
--- the lines of a message of one hda on this path with the keys of a line, each of whose items says a line
+-- the lines of a message of one hda on this path with the keys of a line, each of whose items says
+-- a line
 abbrev pub rows_on : List ℕ → List Object → Option (List LineRow)
 rows_on path objects = option_and_then (each row_in) (items_on path line_keys objects)

@@ -1,5 +1,6 @@
 -- Groups of which the last may grow.
-use Rattle.std.specs.Prelude.{ℕ, ◌==◌, ◌||◌, List, [], ◌∷◌, ◌++◌, length, Option, Some, None, if◌then◌else◌}
+use Rattle.std.specs.Prelude.{ℕ, ◌==◌, ◌||◌, List, [], ◌∷◌, ◌++◌, length, Option, Some, None}
+use Rattle.std.specs.Prelude.{if◌then◌else◌}
 use Rattle.wc_buffers.specs.Groups.{filled_groups}
 use Rattle.wc_view.specs.declared.mirror_buffer.MirrorBuffer.{MirrorBuffer}
 use Rattle.wc_view.specs.declared.carried.Carried.{Carried}
@@ -17,7 +18,8 @@ nothing_open = record { groups = []; number = 0; group = [] }
 -- a buffer in the last group, where it has its number or is the first, and else in the next one
 abbrev pub with_row : GroupsSoFar → Carried → GroupsSoFar
 with_row o row =
-    if (length o.group == 0) || (o.number == row.number) then record { groups = o.groups; number = row.number; group = o.group ++ row.buffer ∷ [] }
+    if (length o.group == 0) || (o.number == row.number)
+    then record { groups = o.groups; number = row.number; group = o.group ++ row.buffer ∷ [] }
     else record { groups = o.groups ++ o.group ∷ []; number = row.number; group = row.buffer ∷ [] }
 
 abbrev pub groups_of_open : GroupsSoFar → MirrorGroups

@@ -1,5 +1,7 @@
--- What values say. None where the value is of another kind, or has a number or a null text that it can not have.
-use Rattle.std.specs.Prelude.{ℕ, ℤ, pos, Bool, true, false, ◌&&◌, List, Option, Some, None, if◌then◌else◌}
+-- What values say. None where the value is of another kind, or has a number or a null text that it
+-- can not have.
+use Rattle.std.specs.Prelude.{ℕ, ℤ, pos, Bool, true, false, ◌&&◌, List, Option, Some, None}
+use Rattle.std.specs.Prelude.{if◌then◌else◌}
 use Rattle.std.specs.Ordering.{int_eq}
 use Rattle.wc_text.specs.declared.names.Pair.{Pair}
 use Rattle.wc_objects.specs.declared.kind.Kind.TheVariants.{Str}
@@ -79,7 +81,8 @@ abbrev pub pair_in : Object × Object → Option Pair
 pair_in pair = pair_of (text_in pair.0) (text_in pair.1)
 
 abbrev pub pairs_layer : Layer → Option (List Pair)
-pairs_layer (Object-F.Htb key value pairs) = if same key Str && same value Str then each pair_in pairs else None
+pairs_layer (Object-F.Htb key value pairs) = if same key Str && same value Str
+    then each pair_in pairs else None
 pairs_layer _ = None
 
 -- the variables of a buffer

@@ -1,5 +1,6 @@
 -- What a client has of the lines of a world.
-use Rattle.std.specs.Prelude.{◌≡◌, ℕ, ◌^◌, ◌-◌, ◌<◌, ◌≤◌, nat_le, true, false, List, [], length, map, Option, None, Some, if◌then◌else◌}
+use Rattle.std.specs.Prelude.{◌≡◌, ℕ, ◌^◌, ◌-◌, ◌<◌, ◌≤◌, nat_le, true, false, List, []}
+use Rattle.std.specs.Prelude.{length, map, Option, None, Some, if◌then◌else◌}
 use Rattle.wc_lines.specs.declared.line.Line.{Line}
 use Rattle.wc_buffers.specs.Groups.{has, times}
 use Rattle.wc_buffers.specs.Calls.{handle_of}
@@ -47,8 +48,8 @@ HasLines (Some held) buffer lines = lines_at held buffer ≡ view_of lines
 abbrev pub HasAll : Option Part → World → Type 0
 HasAll part world = (buffer : ℕ) → HasLines part buffer (lines_in world buffer)
 
--- What always holds of a world: no buffer is there twice, the handles of buffers were drawn, a buffer holds no more
--- lines than the limit, and one that is not there holds none.
+-- What always holds of a world: no buffer is there twice, the handles of buffers were drawn, a
+-- buffer holds no more lines than the limit, and one that is not there holds none.
 pub record IsMirrorable (world : World) : Type 0 where
   pub once : (buffer : ℕ) → times handle_of buffer world.groups ≤ 1
   pub drawn : (buffer : ℕ) → has handle_of buffer world.groups ≡ true → buffer < world.next
@@ -61,7 +62,8 @@ reply id world = record { id = id; objects = line_dump world }
 
 -- After the reply a client has the lines of the world, whatever it had before.
 abbrev pub DumpShows : Type 0
-DumpShows = (limit : ℕ) (id : List ℕ) (part : Option Part) (world : World) → IsMirrorable world → world.limit ≡ limit
+DumpShows = (limit : ℕ) (id : List ℕ) (part : Option Part) (world : World) → IsMirrorable world →
+    world.limit ≡ limit
     → HasAll (fold_lines limit id part (reply id world)) world
 
 -- the lines after an event, where there is one
@@ -75,8 +77,11 @@ SetsNoFlags (Rename name flips) = flips ≡ []
 SetsNoFlags (Flips flips) = ⊥
 SetsNoFlags _ = Unit {0}
 
--- After the event of a change a client that had the lines of the world has those of the world after it.
+-- After the event of a change a client that had the lines of the world has those of the world after
+-- it.
 abbrev pub NoticeShows : Type 0
 NoticeShows = (limit : ℕ) (id : List ℕ) (part : Option Part) (world : World) (change : Change)
-    → IsMirrorable world → world.limit ≡ limit → IsFree id → refusal world change ≡ None → SetsNoFlags change.what → HasAll part world
-    → HasAll (fold_told limit id part (event_of (after world change) (notice world change))) (after world change)
+    → IsMirrorable world → world.limit ≡ limit → IsFree id → refusal world change ≡ None →
+    SetsNoFlags change.what → HasAll part world
+    → HasAll (fold_told limit id part (event_of (after world change) (notice world change)))
+    (after world change)

@@ -1,11 +1,13 @@
 //! The lines of each buffer.
 
-ghost use Rattle.std.specs.Prelude.{◌≡◌, ℕ, ◌<◌, ◌++◌, ◌∷◌, [], length, None, IfOk, IfSome, IfNone, OnOk, OnErr};
+ghost use Rattle.std.specs.Prelude.{◌≡◌, ℕ, ◌<◌, ◌++◌, ◌∷◌, [], length, None, IfOk, IfSome};
+ghost use Rattle.std.specs.Prelude.{IfNone, OnOk, OnErr};
 ghost use Rattle.std.specs.FinMap.{find};
 ghost use Rattle.std.specs.Ordering.{nat_cmp};
 ghost use Rattle.wc_lines.specs.Ring.{last_of};
 ghost use Rattle.wc_view.specs.Entries.{part_at, IsEntry};
-ghost use Rattle.wc_view.specs.Parts.{lines_at, with_row, part_of, without, flagged_line, with_line_flag, with_flag, with_flags};
+ghost use Rattle.wc_view.specs.Parts.{lines_at, with_row, part_of, without, flagged_line};
+ghost use Rattle.wc_view.specs.Parts.{with_line_flag, with_flag, with_flags};
 
 use crate::flags::LineFlag;
 use crate::mirror_line::MirrorLine;
@@ -52,9 +54,11 @@ impl BufferLines {
         self.lines.as_slice()
     }
 
-    /// Puts a line after the others, of which the oldest go above the limit. Where memory is refused, all stay.
+    /// Puts a line after the others, of which the oldest go above the limit. Where memory is
+    /// refused, all stay.
     fn push(&mut self, line: MirrorLine, limit: usize) -> Result<(), NoMemory>
-        ensures ok { OnOk result (self.new ≡ (self.old.0, last_of limit (self.old.1 ++ line ∷ []))) }
+        ensures ok { OnOk result
+            (self.new ≡ (self.old.0, last_of limit (self.old.1 ++ line ∷ []))) }
         ensures err { OnErr result (self.new ≡ self.old) }
     {
         match self.lines.push(line) {
@@ -92,7 +96,7 @@ fn flag_lines(lines: &mut [MirrorLine], flag: LineFlag)
     }
 }
 
-#[tactic(auto, using(crate::proofs::EntryLemmas::last_all, crate::proofs::EntryLemmas::last_shorter))]
+#[tactic(auto, using(crate::proofs::EntryLemmas::keep_last_facts))]
 fn keep_last(lines: &mut Vec<MirrorLine>, limit: usize)
     ensures { lines.new.items ≡ last_of limit lines.old.items }
 {
@@ -115,7 +119,7 @@ fn place_of(entries: &[BufferLines], buffer: u64) -> Option<usize>
 }
 
 /// The lines of a buffer, none where it is not there.
-#[tactic(auto, using(crate::proofs::EntryLemmas::entry_shown, crate::proofs::EntryLemmas::none_shown))]
+#[tactic(auto, using(crate::proofs::EntryLemmas::lines_of_facts))]
 pub(crate) fn lines_of(entries: &[BufferLines], buffer: u64) -> &[MirrorLine]
     ensures { result.now ≡ lines_at (part_at entries.now) buffer }
 {
@@ -125,8 +129,8 @@ pub(crate) fn lines_of(entries: &[BufferLines], buffer: u64) -> &[MirrorLine]
     }
 }
 
-/// Puts a line after the others of its buffer, of which the oldest go above the limit. Where memory is refused,
-/// all stay.
+/// Puts a line after the others of its buffer, of which the oldest go above the limit. Where memory
+/// is refused, all stay.
 #[tactic(auto, using(crate::proofs::EntryLemmas::row_at, crate::proofs::EntryLemmas::row_new))]
 pub(crate) fn add_row(
     entries: &mut Vec<BufferLines>,
@@ -134,7 +138,8 @@ pub(crate) fn add_row(
     row: LineRow,
     limit: usize,
 ) -> Result<(), NoMemory>
-    ensures ok { OnOk result (part_at entries.new.items ≡ with_row limit row (part_at entries.old.items)) }
+    ensures ok { OnOk result (part_at entries.new.items ≡ with_row limit row
+        (part_at entries.old.items)) }
     ensures err { OnErr result (entries.new.items ≡ entries.old.items) }
 {
     match place_of(entries.as_slice(), row.buffer) {

@@ -1,6 +1,7 @@
 //! The nicklist of each buffer.
 
-ghost use Rattle.std.specs.Prelude.{◌≡◌, ◌<◌, Some, None, IfSome, IfNone, length, option_map, vec_len, vec_capacity};
+ghost use Rattle.std.specs.Prelude.{◌≡◌, ◌<◌, Some, None, IfSome, IfNone, length, option_map};
+ghost use Rattle.std.specs.Prelude.{vec_len, vec_capacity};
 ghost use Rattle.std.specs.FinMap.{find, get, remove};
 ghost use Rattle.std.specs.Ordering.{nat_cmp};
 ghost use Rattle.wc_view.specs.Entries.{IsEntry};
@@ -60,7 +61,7 @@ fn place_of(entries: &[BufferNicks], buffer: u64) -> Option<usize>
 }
 
 /// The nicklist of a buffer. None where the buffer is not there.
-#[tactic(auto, using(crate::proofs::NickEntries::nicks_shown, crate::proofs::NickEntries::none_shown))]
+#[tactic(auto, using(crate::proofs::NickEntries::nicklist_of_facts))]
 pub(crate) fn nicklist_of(entries: &[BufferNicks], buffer: u64) -> Option<&Nicklist>
     ensures { option_map (λ list. list.now.rows) result ≡ get (nicks_at entries.now) buffer }
 {
@@ -71,7 +72,7 @@ pub(crate) fn nicklist_of(entries: &[BufferNicks], buffer: u64) -> Option<&Nickl
 }
 
 /// Puts another nicklist in the place of a buffer's, where the buffer is there.
-#[tactic(auto, using(crate::proofs::NickEntries::list_replaced, crate::proofs::NickEntries::none_replaced))]
+#[tactic(auto, using(crate::proofs::NickEntries::replace_list_facts))]
 pub(crate) fn replace_list(entries: &mut [BufferNicks], entry: BufferNicks)
     ensures { nicks_at entries.new ≡ put_rows entry.0 (Some entry.1) (nicks_at entries.old) }
 {
@@ -81,7 +82,7 @@ pub(crate) fn replace_list(entries: &mut [BufferNicks], entry: BufferNicks)
 }
 
 /// Puts a buffer after the others, where it is not there.
-#[tactic(auto, using(crate::proofs::NickEntries::held_already, crate::proofs::NickEntries::buffer_added))]
+#[tactic(auto, using(crate::proofs::NickEntries::add_buffer_facts))]
 pub(crate) fn add_buffer(entries: &mut Vec<BufferNicks>, entry: BufferNicks)
     requires { vec_len entries.old < vec_capacity entries.old }
     ensures { nicks_at entries.new.items ≡ put_new entry (nicks_at entries.old.items) }

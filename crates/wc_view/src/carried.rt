@@ -1,7 +1,9 @@
 //! What an item tells of a buffer.
 
 ghost use Rattle.std.specs.Prelude.{◌≡◌, Option, option_map, IfOk};
-ghost use Rattle.wc_view.specs.Carried.{bare, with_number, with_prev, with_full_name, with_short_name, with_title, with_hidden, with_vars, carry, carry_all, carried_by};
+ghost use Rattle.wc_view.specs.Carried.{bare, with_number, with_prev, with_full_name};
+ghost use Rattle.wc_view.specs.Carried.{with_short_name, with_title, with_hidden, with_vars, carry};
+ghost use Rattle.wc_view.specs.Carried.{carry_all, carried_by};
 
 use crate::items::last_pointer;
 use crate::mirror_buffer::MirrorBuffer;
@@ -127,8 +129,9 @@ fn carry(
     }
 }
 
-/// The values of these fields. None where one can not be that of its field, or where they are more or fewer.
-#[tactic(auto, using(crate::proofs::CarryLemmas::carry_more, crate::proofs::CarryLemmas::carry_none, crate::proofs::CarryLemmas::carry_short, crate::proofs::CarryLemmas::carry_end, crate::proofs::CarryLemmas::carry_long))]
+/// The values of these fields. None where one can not be that of its field, or where they are more
+/// or fewer.
+#[tactic(auto, using(crate::proofs::CarryLemmas::carry_all_facts))]
 fn carry_all(
     alloc: Global,
     fields: &[Field],

@@ -40,7 +40,7 @@ fn flag_in(item: &HdaItem) -> Option<LineFlag>
 }
 
 /// The flags that items say. None where one says none.
-#[tactic(auto, using(crate::proofs::EachLemmas::one_more, crate::proofs::EachLemmas::none_there, crate::proofs::EachLemmas::all_there))]
+#[tactic(auto, using(crate::proofs::EachLemmas::each_flag_facts))]
 fn each_flag(alloc: Global, items: &Items<HdaItem>) -> Result<Option<Vec<LineFlag>>, NoMemory>
     ensures { IfOk result (λ flags. option_map (λ v. v.items) flags ≡ each flag_in items.now) }
 {

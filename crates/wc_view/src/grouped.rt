@@ -1,9 +1,13 @@
-//! The buffers in groups, and what events make of them. The groups after an event are new lists; the buffers in them
-//! are shared with the lists before, so that want of memory leaves these as they were.
+//! The buffers in groups, and what events make of them. The groups after an event are new lists;
+//! the buffers in them are shared with the lists before, so that want of memory leaves these as
+//! they were.
 
 ghost use Rattle.std.specs.Prelude.{◌≡◌, ◌++◌, ◌∷◌, [], IfOk, OnOk};
-ghost use Rattle.wc_buffers.specs.Groups.{filled_groups, has, in_group, without, only, take_out, pick, others, own, move_group, part, unmerge};
-ghost use Rattle.wc_view.specs.Grouped.{key_of, with_after, insert_after, put_after, open_buffer_in, move_group_at, merge_groups_at, with_told, told_or_same, told_group, told_update, edited, with_event};
+ghost use Rattle.wc_buffers.specs.Groups.{filled_groups, has, in_group, without, only, take_out};
+ghost use Rattle.wc_buffers.specs.Groups.{pick, others, own, move_group, part, unmerge};
+ghost use Rattle.wc_view.specs.Grouped.{key_of, with_after, insert_after, put_after};
+ghost use Rattle.wc_view.specs.Grouped.{open_buffer_in, move_group_at, merge_groups_at, with_told};
+ghost use Rattle.wc_view.specs.Grouped.{told_or_same, told_group, told_update, edited, with_event};
 
 use crate::carried::Carried;
 use crate::mirror_buffer::{MirrorBuffer, SharedBuffer};
@@ -32,7 +36,7 @@ pub(crate) fn has(h: u64, groups: &[Group]) -> bool
 }
 
 /// The buffers of a group but one.
-#[tactic(auto, using(crate::proofs::GroupLoops::without_more, crate::proofs::GroupLoops::without_same))]
+#[tactic(auto, using(crate::proofs::GroupLoops::without_facts))]
 fn without(alloc: Global, h: u64, group: &[SharedBuffer]) -> Result<Group, NoMemory>
     ensures { IfOk result (λ kept. kept ≡ without key_of h group.now) }
 {
@@ -149,8 +153,8 @@ fn put_after(
     Ok(placed)
 }
 
-/// A buffer after another, of which it need not be in the group. Nothing changes where that is no other buffer that
-/// is there.
+/// A buffer after another, of which it need not be in the group. Nothing changes where that is no
+/// other buffer that is there.
 fn merged(alloc: Global, h: u64, prev: u64, groups: &Items<Group>) -> Result<Items<Group>, NoMemory>
     ensures { IfOk result (λ new. new ≡ merge_groups_at h prev groups.now) }
 {
@@ -192,7 +196,7 @@ fn unmerge(alloc: Global, h: u64, groups: &[Group]) -> Result<Items<Group>, NoMe
 }
 
 /// The groups that do not have a buffer.
-#[tactic(auto, using(crate::proofs::GroupLoops::others_more, crate::proofs::GroupLoops::others_same))]
+#[tactic(auto, using(crate::proofs::GroupLoops::others_facts))]
 fn others(alloc: Global, h: u64, groups: &[Group]) -> Result<Items<Group>, NoMemory>
     ensures { IfOk result (λ found. found ≡ others key_of h groups.now) }
 {
@@ -232,7 +236,8 @@ fn push_groups(found: &mut Items<Group>, alloc: Global, groups: &[Group]) -> Res
     Ok(())
 }
 
-/// The group of a buffer at the place of this number, from 1. Nothing changes where there is no such place.
+/// The group of a buffer at the place of this number, from 1. Nothing changes where there is no
+/// such place.
 fn moved(
     alloc: Global,
     h: u64,
@@ -377,8 +382,8 @@ fn opened(
     Ok(new)
 }
 
-/// The groups after an event. An opening of a buffer that is held changes nothing, and neither does another event of
-/// one that is not.
+/// The groups after an event. An opening of a buffer that is held changes nothing, and neither does
+/// another event of one that is not.
 pub(crate) fn with_event(
     alloc: Global,
     kind: EventKind,

@@ -9,12 +9,14 @@ pub fn dump_shows_world()
     ensures { DumpShows }
 {}
 
-/// A client that has the lines of a world has those of the world after a change after the event of the change.
+/// A client that has the lines of a world has those of the world after a change after the event of
+/// the change.
 pub fn notice_shows_world()
     ensures { NoticeShows }
 {}
 
-/// The same of any change, where after its event each buffer with lines whose flags differ has an event of these.
+/// The same of any change, where after its event each buffer with lines whose flags differ has an
+/// event of these.
 pub fn flips_show_world()
     ensures { FlipsShow }
 {}
@@ -24,7 +26,8 @@ pub fn dump_shows_buffers()
     ensures { BufferDumpShows }
 {}
 
-/// A client that has the buffers of a world has those of the world after a change after the event of the change.
+/// A client that has the buffers of a world has those of the world after a change after the event
+/// of the change.
 pub fn notice_shows_buffers()
     ensures { BufferNoticeShows }
 {}

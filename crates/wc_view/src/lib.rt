@@ -31,4 +31,3 @@ pub use mirror::{Mirror, MirrorRefused};
 pub use mirror_buffer::{MirrorBuffer, SharedBuffer};
 pub use mirror_line::MirrorLine;
 pub use nick_laws::{dump_shows_nicks, notice_shows_nicks, push_shows_nicks};
-

@@ -1,4 +1,5 @@
-ghost use Rattle.std.specs.Prelude.{◌≡◌, ℕ, ◌≤◌, Some, None, Ok, [], true, option_map, slice_index_or, IfOk, IfErr, IfSome, OnOk, OnErr, IsTrue};
+ghost use Rattle.std.specs.Prelude.{◌≡◌, ℕ, ◌≤◌, Some, None, Ok, [], true, option_map};
+ghost use Rattle.std.specs.Prelude.{slice_index_or, IfOk, IfErr, IfSome, OnOk, OnErr, IsTrue};
 ghost use Rattle.std.specs.Option.{option_and_then};
 ghost use Rattle.std.specs.FinMap.{get};
 ghost use Rattle.wc_objects.specs.declared.object.WireMessage.{WireMessage};
@@ -29,7 +30,8 @@ use wc_text::{Handle, Items, NoMemory, Text};
 /// Why bytes were not taken.
 #[derive(Clone, Copy, Debug, PartialEq, Eq, thiserror::Error)]
 pub enum MirrorRefused {
-    /// The first field that breaks a rule begins at this place. It is 0 for a length that no message has.
+    /// The first field that breaks a rule begins at this place. It is 0 for a length that no
+    /// message has.
     #[error("a field breaks a rule at byte {place}")]
     BadMessage { place: usize },
     /// The item at this place of a diff, from 0, can't be applied to the nicklist that is held.
@@ -39,9 +41,9 @@ pub enum MirrorRefused {
     NoMemory,
 }
 
-/// A client's mirror: what it holds by the messages that a relay sent it. Contracts see the limit on the lines of
-/// a buffer, the ids of the dumps of buffers, of lines and of nicklists, and once they were taken, the buffers in groups,
-/// the lines of each buffer and the rows of its nicklist.
+/// A client's mirror: what it holds by the messages that a relay sent it. Contracts see the limit
+/// on the lines of a buffer, the ids of the dumps of buffers, of lines and of nicklists, and once
+/// they were taken, the buffers in groups, the lines of each buffer and the rows of its nicklist.
 #[derive(Drop)]
 pub struct Mirror {
     limit: usize,
@@ -65,16 +67,25 @@ impl Model for Mirror {
 
     ghost coded = { Prim.hlevel (codes, map.code) };
 
-    ghost view = { λ m. record { limit = m.limit; buffer_dump = m.buffer_dump; line_dump = m.line_dump; nick_dump = m.nick_dump; buffers = m.buffers; lines = option_map (λ v. part_at v.items) m.lines; nicks = option_map (λ v. nicks_at v.items) m.nicks } };
+    ghost view = { λ m. record {
+      limit = m.limit;
+      buffer_dump = m.buffer_dump;
+      line_dump = m.line_dump;
+      nick_dump = m.nick_dump;
+      buffers = m.buffers;
+      lines = option_map (λ v. part_at v.items) m.lines;
+      nicks = option_map (λ v. nicks_at v.items) m.nicks;
+    } };
 }
 
 impl Mirror {
-    /// A mirror that has taken nothing, of at most `limit` lines a buffer. The ids are those under which the client
-    /// asks for the dumps of buffers, of lines and of nicklists.
+    /// A mirror that has taken nothing, of at most `limit` lines a buffer. The ids are those under
+    /// which the client asks for the dumps of buffers, of lines and of nicklists.
     pub fn new(alloc: Global, limit: u32, ids: [Text; 3]) -> Result<Mirror, NoMemory>
         requires some { 1 ≤ limit }
         requires ids { AreIds ids }
-        ensures { IfOk result (λ mirror. mirror ≡ nothing_taken limit (slice_index_or ids 0 []) (slice_index_or ids 1 []) (slice_index_or ids 2 [])) }
+        ensures { IfOk result (λ mirror. mirror ≡ nothing_taken limit (slice_index_or ids 0 [])
+            (slice_index_or ids 1 []) (slice_index_or ids 2 [])) }
     {
         let buffer_dump = ids[0].copy(alloc)?;
         let line_dump = ids[1].copy(alloc)?;
@@ -97,10 +108,11 @@ impl Mirror {
         self.buffers.as_ref()
     }
 
-    /// The lines of a buffer, from the oldest, and none of them where the buffer has none or is not there. None
-    /// where the line dump was not taken.
+    /// The lines of a buffer, from the oldest, and none of them where the buffer has none or is not
+    /// there. None where the line dump was not taken.
     pub fn lines(&self, buffer: Handle) -> Option<&[MirrorLine]>
-        ensures { option_map (λ lines. lines.now) result ≡ option_map (λ part. lines_at part buffer.0) self.now.lines }
+        ensures { option_map (λ lines. lines.now) result
+            ≡ option_map (λ part. lines_at part buffer.0) self.now.lines }
     {
         match &self.lines {
             Some(entries) => Some(lines_of(entries.as_slice(), buffer.0)),
@@ -108,9 +120,11 @@ impl Mirror {
         }
     }
 
-    /// The nicklist of a buffer. None where the nicklist dump was not taken, or the buffer is not there.
+    /// The nicklist of a buffer. None where the nicklist dump was not taken, or the buffer is not
+    /// there.
     pub fn nicks(&self, buffer: Handle) -> Option<&Nicklist>
-        ensures { option_map (λ list. list.now.rows) result ≡ option_and_then (λ part. get part buffer.0) self.now.nicks }
+        ensures { option_map (λ list. list.now.rows) result ≡ option_and_then
+            (λ part. get part buffer.0) self.now.nicks }
     {
         match &self.nicks {
             Some(entries) => nicklist_of(entries.as_slice(), buffer.0),
@@ -125,7 +139,8 @@ impl Mirror {
         alloc: Global,
         message: &WireMessage,
     ) -> Result<Option<Items<Items<SharedBuffer>>>, NoMemory>
-        ensures { IfOk result (λ new. or_kept new self.now.buffers ≡ fold_buffers self.now.buffer_dump self.now.buffers message.now) }
+        ensures { IfOk result (λ new. or_kept new self.now.buffers
+            ≡ fold_buffers self.now.buffer_dump self.now.buffers message.now) }
     {
         if message.id.as_slice() == self.buffer_dump.as_slice() {
             return dump_told(alloc, message);
@@ -136,8 +151,9 @@ impl Mirror {
         }
     }
 
-    /// Folds a message. `BadItem` where it is a diff that can't be applied. Nothing changes after a refusal.
-    #[tactic(auto, using(crate::proofs::FoldLemmas::fold_done, crate::proofs::FoldLemmas::fold_refused))]
+    /// Folds a message. `BadItem` where it is a diff that can't be applied. Nothing changes after a
+    /// refusal.
+    #[tactic(auto, using(crate::proofs::FoldLemmas::fold_facts))]
     fn fold(&mut self, alloc: Global, message: &WireMessage) -> Result<(), DiffRefused>
         requires { well_formed message.now.objects ≡ true }
         ensures ok { OnOk result (parts_after self.old message.now ≡ Ok self.new) }
@@ -154,7 +170,7 @@ impl Mirror {
     }
 
     /// Folds the message at the front of the bytes, as `take` does.
-    #[tactic(auto, using(crate::proofs::TakeLemmas::takes_found, crate::proofs::TakeLemmas::takes_none, crate::proofs::TakeLemmas::takes_bad, crate::proofs::TakeLemmas::takes_refused))]
+    #[tactic(auto, using(crate::proofs::TakeLemmas::take_front_facts))]
     fn take_front(&mut self, alloc: Global, bytes: &[u8]) -> Result<usize, MirrorRefused>
         ensures { TakesMessage result self.old self.new (first_message bytes.now) }
     {
@@ -170,16 +186,19 @@ impl Mirror {
         }
     }
 
-    /// Folds the first message of WeeChat's relay protocol where a whole one is at the front of the bytes, and
-    /// answers how many bytes it takes. 0 where none is there yet, as `read_message` tells.
+    /// Folds the first message of WeeChat's relay protocol where a whole one is at the front of the
+    /// bytes, and answers how many bytes it takes. 0 where none is there yet, as `read_message`
+    /// tells.
     ///
-    /// `BadMessage` where the bytes of the length that is at the front spell no message, and for a length that
-    /// no message has. The mirror stays as it was after each refusal.
+    /// `BadMessage` where the bytes of the length that is at the front spell no message, and for a
+    /// length that no message has. The mirror stays as it was after each refusal.
     pub fn take(&mut self, alloc: Global, bytes: &[u8]) -> Result<usize, MirrorRefused>
         // A message at the front is folded, unless memory is refused.
-        ensures folded { (message : WireMessage) (size : ℕ) → FrontSpells message size bytes.now → TakesMessage result self.old self.new (Ok (Some (message, size))) }
+        ensures folded { (message : WireMessage) (size : ℕ) → FrontSpells message size bytes.now →
+            TakesMessage result self.old self.new (Ok (Some (message, size))) }
         // Nothing changes exactly where bytes are missing.
-        ensures missing { IsTrue (misses_bytes bytes.now) → TakesMessage result self.old self.new (Ok None) }
+        ensures missing { IsTrue (misses_bytes bytes.now) → TakesMessage result self.old self.new
+            (Ok None) }
         ensures none { IfOk result (λ size. size ≡ 0 → IsTrue (misses_bytes bytes.now)) }
         // Which field is the first that breaks a rule.
         ensures exact { TakesMessage result self.old self.new (first_message bytes.now) }
@@ -204,7 +223,8 @@ fn put_groups(
 /// The message at the front of the bytes, as `read_message` gives it.
 fn front_of(alloc: Global, bytes: &[u8]) -> Result<Option<(WireMessage, usize)>, MessageRefused>
     ensures front { GivesFirst result (first_message bytes.now) }
-    ensures formed { IfOk result (λ front. IfSome front (λ found. well_formed found.0.objects ≡ true)) }
+    ensures formed { IfOk result
+        (λ front. IfSome front (λ found. well_formed found.0.objects ≡ true)) }
 {
     read_message(alloc, bytes)
 }

@@ -2,7 +2,8 @@
 
 ghost use Rattle.std.specs.Prelude.{◌≡◌, option_map, OnOk, OnErr};
 ghost use Rattle.wc_view.specs.Entries.{part_at};
-ghost use Rattle.wc_view.specs.Fold.{fold_dump, fold_added, fold_emptied, fold_flags, empties, fold_change, fold_event, fold_lines};
+ghost use Rattle.wc_view.specs.Fold.{fold_dump, fold_added, fold_emptied, fold_flags, empties};
+ghost use Rattle.wc_view.specs.Fold.{fold_change, fold_event, fold_lines};
 
 use crate::buffer_lines::{BufferLines, add_row, of_rows, remove_buffer, set_flags};
 use crate::flags::flags_on;
@@ -21,8 +22,10 @@ fn take_dump(
     limit: usize,
     message: &WireMessage,
 ) -> Result<(), NoMemory>
-    ensures ok { OnOk result (option_map (λ v. part_at v.items) lines.new ≡ fold_dump limit (option_map (λ v. part_at v.items) lines.old) message.now) }
-    ensures err { OnErr result (option_map (λ v. v.items) lines.new ≡ option_map (λ v. v.items) lines.old) }
+    ensures ok { OnOk result (option_map (λ v. part_at v.items) lines.new ≡ fold_dump limit
+        (option_map (λ v. part_at v.items) lines.old) message.now) }
+    ensures err { OnErr result (option_map (λ v. v.items) lines.new
+        ≡ option_map (λ v. v.items) lines.old) }
 {
     let path = b"buffer/lines/line/line_data";
     let Some(rows) = rows_on(alloc, path, &message.objects)? else {
@@ -39,8 +42,10 @@ fn take_line(
     limit: usize,
     message: &WireMessage,
 ) -> Result<(), NoMemory>
-    ensures ok { OnOk result (option_map (λ v. part_at v.items) lines.new ≡ fold_added limit (option_map (λ v. part_at v.items) lines.old) message.now) }
-    ensures err { OnErr result (option_map (λ v. v.items) lines.new ≡ option_map (λ v. v.items) lines.old) }
+    ensures ok { OnOk result (option_map (λ v. part_at v.items) lines.new ≡ fold_added limit
+        (option_map (λ v. part_at v.items) lines.old) message.now) }
+    ensures err { OnErr result (option_map (λ v. v.items) lines.new
+        ≡ option_map (λ v. v.items) lines.old) }
 {
     let Some(held) = lines else {
         return Ok(());
@@ -56,7 +61,8 @@ fn take_line(
 
 /// A buffer that is closed or cleared has no lines any more, once the dump was taken.
 fn take_emptied(lines: &mut Option<Vec<BufferLines>>, message: &WireMessage)
-    ensures { option_map (λ v. part_at v.items) lines.new ≡ fold_emptied (option_map (λ v. part_at v.items) lines.old) message.now }
+    ensures { option_map (λ v. part_at v.items) lines.new
+        ≡ fold_emptied (option_map (λ v. part_at v.items) lines.old) message.now }
 {
     let Some(entries) = lines else {
         return;
@@ -72,8 +78,10 @@ fn take_flags(
     alloc: Global,
     message: &WireMessage,
 ) -> Result<(), NoMemory>
-    ensures ok { OnOk result (option_map (λ v. part_at v.items) lines.new ≡ fold_flags (option_map (λ v. part_at v.items) lines.old) message.now) }
-    ensures err { OnErr result (option_map (λ v. v.items) lines.new ≡ option_map (λ v. v.items) lines.old) }
+    ensures ok { OnOk result (option_map (λ v. part_at v.items) lines.new
+        ≡ fold_flags (option_map (λ v. part_at v.items) lines.old) message.now) }
+    ensures err { OnErr result (option_map (λ v. v.items) lines.new
+        ≡ option_map (λ v. v.items) lines.old) }
 {
     let Some(entries) = lines else {
         return Ok(());
@@ -97,8 +105,10 @@ fn take_change(
     alloc: Global,
     message: &WireMessage,
 ) -> Result<(), NoMemory>
-    ensures ok { OnOk result (option_map (λ v. part_at v.items) lines.new ≡ fold_change (option_map (λ v. part_at v.items) lines.old) message.now) }
-    ensures err { OnErr result (option_map (λ v. v.items) lines.new ≡ option_map (λ v. v.items) lines.old) }
+    ensures ok { OnOk result (option_map (λ v. part_at v.items) lines.new
+        ≡ fold_change (option_map (λ v. part_at v.items) lines.old) message.now) }
+    ensures err { OnErr result (option_map (λ v. v.items) lines.new
+        ≡ option_map (λ v. v.items) lines.old) }
 {
     if empties(message.id.as_slice()) {
         take_emptied(lines, message);
@@ -117,8 +127,10 @@ fn take_event(
     limit: usize,
     message: &WireMessage,
 ) -> Result<(), NoMemory>
-    ensures ok { OnOk result (option_map (λ v. part_at v.items) lines.new ≡ fold_event limit (option_map (λ v. part_at v.items) lines.old) message.now) }
-    ensures err { OnErr result (option_map (λ v. v.items) lines.new ≡ option_map (λ v. v.items) lines.old) }
+    ensures ok { OnOk result (option_map (λ v. part_at v.items) lines.new ≡ fold_event limit
+        (option_map (λ v. part_at v.items) lines.old) message.now) }
+    ensures err { OnErr result (option_map (λ v. v.items) lines.new
+        ≡ option_map (λ v. v.items) lines.old) }
 {
     if message.id.as_slice() == event_id(EventKind::LineAdded) {
         return take_line(lines, alloc, limit, message);
@@ -134,8 +146,10 @@ pub(crate) fn fold_lines(
     dump: &Text,
     message: &WireMessage,
 ) -> Result<(), NoMemory>
-    ensures ok { OnOk result (option_map (λ v. part_at v.items) lines.new ≡ fold_lines limit dump.now (option_map (λ v. part_at v.items) lines.old) message.now) }
-    ensures err { OnErr result (option_map (λ v. v.items) lines.new ≡ option_map (λ v. v.items) lines.old) }
+    ensures ok { OnOk result (option_map (λ v. part_at v.items) lines.new
+        ≡ fold_lines limit dump.now (option_map (λ v. part_at v.items) lines.old) message.now) }
+    ensures err { OnErr result (option_map (λ v. v.items) lines.new
+        ≡ option_map (λ v. v.items) lines.old) }
 {
     if message.id.as_slice() == dump.as_slice() {
         return take_dump(lines, alloc, limit, message);

@@ -1,10 +1,13 @@
 //! What messages make of the nicklists. All memory is found before the first write.
 
-ghost use Rattle.std.specs.Prelude.{◌≡◌, ◌<◌, true, Some, Ok, Option, option_map, map, IfOk, IfErr, OnOk, IfSome, vec_len, vec_capacity};
+ghost use Rattle.std.specs.Prelude.{◌≡◌, ◌<◌, true, Some, Ok, Option, option_map, map, IfOk, IfErr};
+ghost use Rattle.std.specs.Prelude.{OnOk, IfSome, vec_len, vec_capacity};
 ghost use Rattle.wc_objects.specs.Forms.{well_formed};
 ghost use Rattle.wc_view.specs.Each.{each, only};
 ghost use Rattle.wc_view.specs.NickEntries.{nicks_at};
-ghost use Rattle.wc_view.specs.NickFold.{NickPart, fold_nick_dump, fold_full, fold_diff, fold_opened, fold_closed, fold_nick_event, fold_nicks, changes_are_of};
+ghost use Rattle.wc_view.specs.NickFold.{NickPart, fold_nick_dump, fold_full, fold_diff};
+ghost use Rattle.wc_view.specs.NickFold.{fold_opened, fold_closed, fold_nick_event, fold_nicks};
+ghost use Rattle.wc_view.specs.NickFold.{changes_are_of};
 ghost use Rattle.wc_view.specs.NickGroups.{entry_listed, GroupsAreUtf8};
 ghost use Rattle.wc_view.specs.NickLists.{ItemsAreUtf8};
 ghost use Rattle.wc_view.specs.NickSteps.{after_step, buffer_of, RefusesDiff};
@@ -52,10 +55,11 @@ fn entry_of(alloc: Global, group: BufferItems) -> Result<Option<BufferNicks>, No
 }
 
 /// The nicklists of these groups. None where the items of one are no nicklist.
-#[tactic(auto, using(crate::proofs::NickFolded::list_none, crate::proofs::NickFolded::list_all, crate::proofs::NickFolded::group_utf8))]
+#[tactic(auto, using(crate::proofs::NickFolded::lists_of_facts))]
 fn lists_of(alloc: Global, groups: Vec<BufferItems>) -> Result<Option<Vec<BufferNicks>>, NoMemory>
     requires { GroupsAreUtf8 groups.items }
-    ensures { IfOk result (λ entries. option_map (λ v. v.items) entries ≡ each entry_listed groups.items) }
+    ensures { IfOk result (λ entries. option_map (λ v. v.items) entries
+        ≡ each entry_listed groups.items) }
 {
     let mut entries = Vec::new(alloc);
     for group in groups {
@@ -70,10 +74,11 @@ fn lists_of(alloc: Global, groups: Vec<BufferItems>) -> Result<Option<Vec<Buffer
 }
 
 /// The dump sets the nicklists, where each of its lists is one.
-#[tactic(auto, using(crate::proofs::NickFolded::dump_nothing, crate::proofs::NickFolded::dump_all, crate::proofs::NickFolded::dump_refused, crate::proofs::NickFolded::told_groups_utf8))]
+#[tactic(auto, using(crate::proofs::NickFolded::dump_step_facts))]
 fn dump_step(alloc: Global, message: &WireMessage) -> Result<NickStep, NoMemory>
     requires { well_formed message.now.objects ≡ true }
-    ensures { IfOk result (λ step. (part : Option NickPart) → after_step step part ≡ fold_nick_dump part message.now) }
+    ensures { IfOk result (λ step. (part : Option NickPart) → after_step step part
+        ≡ fold_nick_dump part message.now) }
 {
     let Some(rows) = nick_rows_on(alloc, &message.objects)? else {
         return Ok(NickStep::Nothing);
@@ -97,10 +102,11 @@ fn only_group(mut groups: Vec<BufferItems>) -> Option<BufferItems>
 }
 
 /// A full list of one buffer is its nicklist from now on.
-#[tactic(auto, using(crate::proofs::NickFolded::full_nothing, crate::proofs::NickFolded::full_other, crate::proofs::NickFolded::full_list, crate::proofs::NickFolded::full_refused, crate::proofs::NickFolded::told_group_utf8))]
+#[tactic(auto, using(crate::proofs::NickFolded::full_step_facts))]
 fn full_step(alloc: Global, message: &WireMessage) -> Result<NickStep, NoMemory>
     requires { well_formed message.now.objects ≡ true }
-    ensures { IfOk result (λ step. (part : Option NickPart) → after_step step part ≡ fold_full part message.now) }
+    ensures { IfOk result (λ step. (part : Option NickPart) → after_step step part
+        ≡ fold_full part message.now) }
 {
     let Some(rows) = nick_rows_on(alloc, &message.objects)? else {
         return Ok(NickStep::Nothing);
@@ -146,15 +152,17 @@ fn are_of(buffer: u64, changes: &[NickChange]) -> bool
 }
 
 /// A diff of a buffer that is held is applied to its nicklist.
-#[tactic(auto, using(crate::proofs::NickFolded::diff_nothing, crate::proofs::NickFolded::diff_other, crate::proofs::NickFolded::diff_unknown, crate::proofs::NickFolded::diff_done, crate::proofs::NickFolded::diff_refused, crate::proofs::NickFolded::told_diff_utf8))]
+#[tactic(auto, using(crate::proofs::NickFolded::diff_step_facts))]
 fn diff_step(
     alloc: Global,
     entries: &[BufferNicks],
     message: &WireMessage,
 ) -> Result<NickStep, DiffRefused>
     requires { well_formed message.now.objects ≡ true }
-    ensures ok { IfOk result (λ step. fold_diff (Some (nicks_at entries.now)) message.now ≡ Ok (after_step step (Some (nicks_at entries.now)))) }
-    ensures err { IfErr result (λ e. RefusesDiff e (fold_diff (Some (nicks_at entries.now)) message.now)) }
+    ensures ok { IfOk result (λ step. fold_diff (Some (nicks_at entries.now)) message.now
+        ≡ Ok (after_step step (Some (nicks_at entries.now)))) }
+    ensures err { IfErr result
+        (λ e. RefusesDiff e (fold_diff (Some (nicks_at entries.now)) message.now)) }
 {
     let Some(changes) = nick_changes_on(alloc, &message.objects)? else {
         return Ok(NickStep::Nothing);
@@ -172,7 +180,8 @@ fn diff_step(
 
 /// A buffer that comes has a nicklist without rows, whose root no message named yet.
 fn opened_step(alloc: Global, message: &WireMessage) -> Result<NickStep, NoMemory>
-    ensures { IfOk result (λ step. (part : Option NickPart) → after_step step part ≡ fold_opened part message.now) }
+    ensures { IfOk result (λ step. (part : Option NickPart) → after_step step part
+        ≡ fold_opened part message.now) }
 {
     let Some(told) = told_by(alloc, EventKind::Opened, &message.objects)? else {
         return Ok(NickStep::Nothing);
@@ -198,8 +207,10 @@ fn event_step(
     message: &WireMessage,
 ) -> Result<NickStep, DiffRefused>
     requires { well_formed message.now.objects ≡ true }
-    ensures ok { IfOk result (λ step. fold_nick_event (Some (nicks_at entries.now)) message.now ≡ Ok (after_step step (Some (nicks_at entries.now)))) }
-    ensures err { IfErr result (λ e. RefusesDiff e (fold_nick_event (Some (nicks_at entries.now)) message.now)) }
+    ensures ok { IfOk result (λ step. fold_nick_event (Some (nicks_at entries.now)) message.now
+        ≡ Ok (after_step step (Some (nicks_at entries.now)))) }
+    ensures err { IfErr result
+        (λ e. RefusesDiff e (fold_nick_event (Some (nicks_at entries.now)) message.now)) }
 {
     let id = message.id.as_slice();
     if id == event_id(EventKind::NicklistDiff) {
@@ -225,8 +236,11 @@ pub(crate) fn nick_step(
     message: &WireMessage,
 ) -> Result<NickStep, DiffRefused>
     requires { well_formed message.now.objects ≡ true }
-    ensures ok { IfOk result (λ step. fold_nicks dump.now (option_map (λ v. nicks_at v.items) nicks.now) message.now ≡ Ok (after_step step (option_map (λ v. nicks_at v.items) nicks.now))) }
-    ensures err { IfErr result (λ e. RefusesDiff e (fold_nicks dump.now (option_map (λ v. nicks_at v.items) nicks.now) message.now)) }
+    ensures ok { IfOk result (λ step. fold_nicks dump.now
+        (option_map (λ v. nicks_at v.items) nicks.now) message.now
+        ≡ Ok (after_step step (option_map (λ v. nicks_at v.items) nicks.now))) }
+    ensures err { IfErr result (λ e. RefusesDiff e
+        (fold_nicks dump.now (option_map (λ v. nicks_at v.items) nicks.now) message.now)) }
 {
     if message.id.as_slice() == dump.as_slice() {
         return Ok(dump_step(alloc, message)?);
@@ -254,7 +268,8 @@ pub(crate) fn make_room(nicks: &mut Option<Vec<BufferNicks>>) -> Result<(), NoMe
 /// Does what is to be done.
 pub(crate) fn take_step(nicks: &mut Option<Vec<BufferNicks>>, step: NickStep)
     requires { IfSome nicks.old (λ v. vec_len v < vec_capacity v) }
-    ensures { option_map (λ v. nicks_at v.items) nicks.new ≡ after_step step (option_map (λ v. nicks_at v.items) nicks.old) }
+    ensures { option_map (λ v. nicks_at v.items) nicks.new ≡ after_step step
+        (option_map (λ v. nicks_at v.items) nicks.old) }
 {
     if let NickStep::All(entries) = step {
         *nicks = Some(entries);

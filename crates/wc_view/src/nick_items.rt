@@ -2,7 +2,9 @@
 
 ghost use Rattle.std.specs.Prelude.{◌≡◌, option_map, IfOk};
 ghost use Rattle.wc_view.specs.Each.{each};
-ghost use Rattle.wc_view.specs.NickRows.{first_pointer, nick_marks_in, nick_texts_in, nick_with, nick_of, nick_row_in, nick_rows_on, mark_of, mark_in, nick_change_in, nick_changes_on};
+ghost use Rattle.wc_view.specs.NickRows.{first_pointer, nick_marks_in, nick_texts_in, nick_with};
+ghost use Rattle.wc_view.specs.NickRows.{nick_of, nick_row_in, nick_rows_on, mark_of, mark_in};
+ghost use Rattle.wc_view.specs.NickRows.{nick_change_in, nick_changes_on};
 
 use crate::items::{items_on, last_pointer};
 use crate::nick_rows::{NickChange, NickMarks, NickRow, NickTexts};
@@ -54,7 +56,8 @@ fn nick_texts_in(
     prefix: &Object,
     prefix_color: &Object,
 ) -> Result<Option<NickTexts>, NoMemory>
-    ensures { IfOk result (λ texts. texts ≡ nick_texts_in name.now color.now prefix.now prefix_color.now) }
+    ensures { IfOk result (λ texts. texts ≡ nick_texts_in name.now color.now prefix.now
+        prefix_color.now) }
 {
     let Some(name) = text_copy(alloc, name)? else {
         return Ok(None);
@@ -91,7 +94,8 @@ fn nick_with(handle: u64, marks: NickMarks, texts: NickTexts) -> Item
     }
 }
 
-/// A group or a nick by its pointer and its values. None where these are others than a group or a nick has.
+/// A group or a nick by its pointer and its values. None where these are others than a group or a
+/// nick has.
 fn nick_of(alloc: Global, handle: Option<u64>, values: &[Object]) -> Result<Option<Item>, NoMemory>
     ensures { IfOk result (λ item. item ≡ nick_of handle values.now) }
 {
@@ -124,7 +128,7 @@ fn nick_row_in(alloc: Global, item: &HdaItem) -> Result<Option<NickRow>, NoMemor
 }
 
 /// The groups and nicks that items say. None where one says none.
-#[tactic(auto, using(crate::proofs::EachLemmas::one_more, crate::proofs::EachLemmas::none_there, crate::proofs::EachLemmas::all_there))]
+#[tactic(auto, using(crate::proofs::EachLemmas::each_flag_facts))]
 fn each_nick_row(alloc: Global, items: &Items<HdaItem>) -> Result<Option<Vec<NickRow>>, NoMemory>
     ensures { IfOk result (λ rows. option_map (λ v. v.items) rows ≡ each nick_row_in items.now) }
 {
@@ -140,8 +144,8 @@ fn each_nick_row(alloc: Global, items: &Items<HdaItem>) -> Result<Option<Vec<Nic
     Ok(Some(rows))
 }
 
-/// The groups and nicks of a message with the keys of a nicklist. None of a message of another kind, and where some
-/// item says none.
+/// The groups and nicks of a message with the keys of a nicklist. None of a message of another
+/// kind, and where some item says none.
 pub(crate) fn nick_rows_on(
     alloc: Global,
     objects: &Items<Object>,
@@ -203,12 +207,13 @@ fn nick_change_in(alloc: Global, item: &HdaItem) -> Result<Option<NickChange>, N
 }
 
 /// The items of a diff that items say. None where one says none.
-#[tactic(auto, using(crate::proofs::EachLemmas::one_more, crate::proofs::EachLemmas::none_there, crate::proofs::EachLemmas::all_there))]
+#[tactic(auto, using(crate::proofs::EachLemmas::each_flag_facts))]
 fn each_nick_change(
     alloc: Global,
     items: &Items<HdaItem>,
 ) -> Result<Option<Vec<NickChange>>, NoMemory>
-    ensures { IfOk result (λ changes. option_map (λ v. v.items) changes ≡ each nick_change_in items.now) }
+    ensures { IfOk result (λ changes. option_map (λ v. v.items) changes
+        ≡ each nick_change_in items.now) }
 {
     let mut changes = Vec::new(alloc);
     for item in items.as_slice() {
@@ -227,7 +232,8 @@ pub(crate) fn nick_changes_on(
     alloc: Global,
     objects: &Items<Object>,
 ) -> Result<Option<Vec<NickChange>>, NoMemory>
-    ensures { IfOk result (λ changes. option_map (λ v. v.items) changes ≡ nick_changes_on objects.now) }
+    ensures { IfOk result (λ changes. option_map (λ v. v.items) changes
+        ≡ nick_changes_on objects.now) }
 {
     match items_on(NICK_PATH, DIFF_KEYS, objects) {
         Some(items) => each_nick_change(alloc, items),

@@ -7,7 +7,8 @@ pub fn dump_shows_nicks()
     ensures { NickDumpShows }
 {}
 
-/// A client that has the rows that were told has those that are told after a change after the event of the change.
+/// A client that has the rows that were told has those that are told after a change after the event
+/// of the change.
 pub fn notice_shows_nicks()
     ensures { NickNoticeShows }
 {}

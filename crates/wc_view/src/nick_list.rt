@@ -1,11 +1,13 @@
 //! The nicklist that items say.
 
-ghost use Rattle.std.specs.Prelude.{◌≡◌, ◌++◌, ◌∷◌, [], true, false, option_map, option_copied, IfOk, IsTrue};
+ghost use Rattle.std.specs.Prelude.{◌≡◌, ◌++◌, ◌∷◌, [], true, false, option_map, option_copied};
+ghost use Rattle.std.specs.Prelude.{IfOk, IsTrue};
 ghost use Rattle.std.specs.List.{slice_get};
 ghost use Rattle.std.specs.Vec.Iter.{into_iter_items};
 ghost use Rattle.wc_nicklist.specs.Rows.{last_or, root_name, TextsAreUtf8};
 ghost use Rattle.wc_view.specs.NickFold.{are_rows, is_root_item, rows_listed};
-ghost use Rattle.wc_view.specs.NickLists.{next_row, comes_after, rows_after, Took, IsListing, ItemsAreUtf8};
+ghost use Rattle.wc_view.specs.NickLists.{next_row, comes_after, rows_after, Took, IsListing};
+ghost use Rattle.wc_view.specs.NickLists.{ItemsAreUtf8};
 
 use std::alloc::Global;
 use std::cmp::Ordering;
@@ -48,8 +50,11 @@ impl Listing {
         requires utf8 { TextsAreUtf8 item }
         requires listing { IsListing self.old }
         requires root { self.old.root_name ≡ root_name }
-        ensures fits { IfOk result (λ fits. fits ≡ are_rows (self.old.list.rows ++ next_row self.old.list.rows item ∷ [])) }
-        ensures after { IfOk result (λ fits. IsTrue fits → self.new.list.rows ≡ self.old.list.rows ++ next_row self.old.list.rows item ∷ []) }
+        ensures fits { IfOk result
+            (λ fits. fits ≡ are_rows
+            (self.old.list.rows ++ next_row self.old.list.rows item ∷ [])) }
+        ensures after { IfOk result (λ fits. IsTrue fits → self.new.list.rows ≡ self.old.list.rows
+            ++ next_row self.old.list.rows item ∷ []) }
         ensures listing { IfOk result (λ fits. IsTrue fits → IsListing self.new) }
         ensures root { IfOk result (λ fits. self.new.root_name ≡ root_name) }
     {
@@ -65,8 +70,11 @@ impl Listing {
         requires utf8 { TextsAreUtf8 nick }
         requires listing { IsListing self.old }
         requires root { self.old.root_name ≡ root_name }
-        ensures fits { IfOk result (λ fits. fits ≡ are_rows (self.old.list.rows ++ next_row self.old.list.rows nick ∷ [])) }
-        ensures after { IfOk result (λ fits. IsTrue fits → self.new.list.rows ≡ self.old.list.rows ++ next_row self.old.list.rows nick ∷ []) }
+        ensures fits { IfOk result
+            (λ fits. fits ≡ are_rows
+            (self.old.list.rows ++ next_row self.old.list.rows nick ∷ [])) }
+        ensures after { IfOk result (λ fits. IsTrue fits → self.new.list.rows ≡ self.old.list.rows
+            ++ next_row self.old.list.rows nick ∷ []) }
         ensures listing { IfOk result (λ fits. IsTrue fits → IsListing self.new) }
         ensures root { IfOk result (λ fits. self.new.root_name ≡ root_name) }
     {
@@ -92,8 +100,11 @@ impl Listing {
         requires utf8 { TextsAreUtf8 group }
         requires listing { IsListing self.old }
         requires root { self.old.root_name ≡ root_name }
-        ensures fits { IfOk result (λ fits. fits ≡ are_rows (self.old.list.rows ++ next_row self.old.list.rows group ∷ [])) }
-        ensures after { IfOk result (λ fits. IsTrue fits → self.new.list.rows ≡ self.old.list.rows ++ next_row self.old.list.rows group ∷ []) }
+        ensures fits { IfOk result
+            (λ fits. fits ≡ are_rows
+            (self.old.list.rows ++ next_row self.old.list.rows group ∷ [])) }
+        ensures after { IfOk result (λ fits. IsTrue fits → self.new.list.rows ≡ self.old.list.rows
+            ++ next_row self.old.list.rows group ∷ []) }
         ensures listing { IfOk result (λ fits. IsTrue fits → IsListing self.new) }
         ensures root { IfOk result (λ fits. self.new.root_name ≡ root_name) }
     {
@@ -175,7 +186,8 @@ fn list_after(
     rows: IntoIter<Item>,
 ) -> Result<Option<Nicklist>, NoMemory>
     requires { ItemsAreUtf8 (into_iter_items rows) }
-    ensures { IfOk result (λ list. option_map (λ list. list.rows) list ≡ rows_after (into_iter_items rows)) }
+    ensures { IfOk result (λ list. option_map (λ list. list.rows) list
+        ≡ rows_after (into_iter_items rows)) }
 {
     let mut listing = Listing::new(alloc, root)?;
     for item in rows {
@@ -187,8 +199,8 @@ fn list_after(
     Ok(Some(listing.list))
 }
 
-/// The nicklist of items. None where they are something else than one root and after it rows that a nicklist can
-/// hold, in canonical order.
+/// The nicklist of items. None where they are something else than one root and after it rows that a
+/// nicklist can hold, in canonical order.
 pub(crate) fn list_of(alloc: Global, items: Vec<Item>) -> Result<Option<Nicklist>, NoMemory>
     requires { ItemsAreUtf8 items.items }
     ensures { IfOk result (λ list. option_map (λ list. list.rows) list ≡ rows_listed items.items) }

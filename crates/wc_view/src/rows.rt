@@ -51,7 +51,8 @@ fn marks_in(
     notify: &Object,
     highlight: &Object,
 ) -> Option<LineMarks>
-    ensures { result ≡ marks_in buffer.now date.now printed.now displayed.now notify.now highlight.now }
+    ensures { result ≡ marks_in buffer.now date.now printed.now displayed.now notify.now
+        highlight.now }
 {
     let Some(buffer) = pointer_in(buffer) else {
         return None;
@@ -159,7 +160,7 @@ fn row_in(alloc: Global, item: &HdaItem) -> Result<Option<LineRow>, NoMemory>
 }
 
 /// The lines that items say. None where one says none.
-#[tactic(auto, using(crate::proofs::EachLemmas::one_more, crate::proofs::EachLemmas::none_there, crate::proofs::EachLemmas::all_there))]
+#[tactic(auto, using(crate::proofs::EachLemmas::each_flag_facts))]
 fn each_row(alloc: Global, items: &Items<HdaItem>) -> Result<Option<Vec<LineRow>>, NoMemory>
     ensures { IfOk result (λ rows. option_map (λ v. v.items) rows ≡ each row_in items.now) }
 {
@@ -175,8 +176,8 @@ fn each_row(alloc: Global, items: &Items<HdaItem>) -> Result<Option<Vec<LineRow>
     Ok(Some(rows))
 }
 
-/// The lines of a message of one `hda` on this path with the keys of a line. None of any other message, and where
-/// some item says no line.
+/// The lines of a message of one `hda` on this path with the keys of a line. None of any other
+/// message, and where some item says no line.
 pub(crate) fn rows_on(
     alloc: Global,
     path: &[u8],

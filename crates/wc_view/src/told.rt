@@ -4,7 +4,9 @@ ghost use Rattle.std.specs.Prelude.{◌≡◌, Option, Some, option_map, IfOk, O
 ghost use Rattle.wc_view.specs.declared.mirror_buffer.MirrorBuffer.{MirrorBuffer};
 ghost use Rattle.wc_view.specs.Each.{each};
 ghost use Rattle.wc_view.specs.Carried.{carried_by};
-ghost use Rattle.wc_view.specs.BufferFold.{is_told, are_once, runs, dump_fields, rows_dumped, fold_buffer_dump, kind_among, fields_of, keys_of, told_by, fold_buffer_event};
+ghost use Rattle.wc_view.specs.BufferFold.{is_told, are_once, runs, dump_fields, rows_dumped};
+ghost use Rattle.wc_view.specs.BufferFold.{fold_buffer_dump, kind_among, fields_of, keys_of};
+ghost use Rattle.wc_view.specs.BufferFold.{told_by, fold_buffer_event};
 ghost use Rattle.wc_view.specs.Runs.{GroupsSoFar, nothing_open, with_row, groups_of_open, or_kept};
 
 use crate::carried::{Carried, Field, carried_by};
@@ -33,9 +35,10 @@ const DUMP_FIELDS: [Field; 6] = [
 ];
 
 /// What items of the dump tell. None where one has other values than a buffer has.
-#[tactic(auto, using(crate::proofs::EachLemmas::one_more, crate::proofs::EachLemmas::none_there, crate::proofs::EachLemmas::all_there))]
+#[tactic(auto, using(crate::proofs::EachLemmas::each_flag_facts))]
 fn each_carried(alloc: Global, items: &Items<HdaItem>) -> Result<Option<Vec<Carried>>, NoMemory>
-    ensures { IfOk result (λ rows. option_map (λ v. v.items) rows ≡ each (carried_by dump_fields) items.now) }
+    ensures { IfOk result (λ rows. option_map (λ v. v.items) rows
+        ≡ each (carried_by dump_fields) items.now) }
 {
     let mut rows = Vec::new(alloc);
     for item in items.as_slice() {
@@ -148,7 +151,8 @@ pub(crate) fn dump_told(
     alloc: Global,
     message: &WireMessage,
 ) -> Result<Option<Items<Group>>, NoMemory>
-    ensures { IfOk result (λ new. (part : Option (List (List MirrorBuffer))) → or_kept new part ≡ fold_buffer_dump part message.now) }
+    ensures { IfOk result (λ new. (part : Option (List (List MirrorBuffer))) →
+        or_kept new part ≡ fold_buffer_dump part message.now) }
 {
     let Some(rows) = rows_dumped(alloc, &message.objects)? else {
         return Ok(None);
@@ -175,7 +179,7 @@ const KINDS: [EventKind; 12] = [
     EventKind::Closing,
 ];
 
-#[tactic(auto, using(crate::proofs::KindLemmas::kind_more, crate::proofs::KindLemmas::kind_here, crate::proofs::KindLemmas::kind_none))]
+#[tactic(auto, using(crate::proofs::KindLemmas::kind_among_facts))]
 fn kind_among(kinds: &[EventKind], id: &[u8]) -> Option<EventKind>
     ensures { result ≡ kind_among id.now kinds.now }
 {
@@ -269,7 +273,8 @@ pub(crate) fn event_told(
     groups: &Items<Group>,
     message: &WireMessage,
 ) -> Result<Option<Items<Group>>, NoMemory>
-    ensures { IfOk result (λ new. or_kept new (Some groups.now) ≡ fold_buffer_event (Some groups.now) message.now) }
+    ensures { IfOk result (λ new. or_kept new (Some groups.now) ≡ fold_buffer_event
+        (Some groups.now) message.now) }
 {
     let Some(kind) = kind_among(&KINDS, message.id.as_slice()) else {
         return Ok(None);

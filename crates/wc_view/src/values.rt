@@ -1,8 +1,10 @@
-//! What values say. None where a value is of another kind, or has a number or a null text that it can not have.
+//! What values say. None where a value is of another kind, or has a number or a null text that it
+//! can not have.
 
 ghost use Rattle.std.specs.Prelude.{◌≡◌, None, Some, MatchOption, IfOk};
 ghost use Rattle.wc_view.specs.Each.{each};
-ghost use Rattle.wc_view.specs.Values.{pointer_in, date_in, number_in, level_in, truth_of, truth_in, text_in, texts_in, switch_in, pair_in, pairs_in};
+ghost use Rattle.wc_view.specs.Values.{pointer_in, date_in, number_in, level_in, truth_of};
+ghost use Rattle.wc_view.specs.Values.{truth_in, text_in, texts_in, switch_in, pair_in, pairs_in};
 
 use std::alloc::Global;
 use wc_objects::{Kind, Object};
@@ -65,7 +67,8 @@ pub(crate) fn truth_in(value: &Object) -> Option<bool>
 }
 
 pub(crate) fn text_in(value: &Object) -> Option<&Text>
-    ensures { MatchOption result (text_in value.now ≡ None) (λ text. text_in value.now ≡ Some text.now) }
+    ensures { MatchOption result (text_in value.now ≡ None) (λ text. text_in value.now
+        ≡ Some text.now) }
 {
     match value {
         Object::Str(Some(text)) => Some(text),
@@ -83,7 +86,7 @@ pub(crate) fn text_copy(alloc: Global, value: &Object) -> Result<Option<Text>, N
 }
 
 /// The texts of an array. None where one is null.
-#[tactic(auto, using(crate::proofs::EachLemmas::one_more, crate::proofs::EachLemmas::none_there, crate::proofs::EachLemmas::all_there))]
+#[tactic(auto, using(crate::proofs::EachLemmas::each_flag_facts))]
 fn each_text(alloc: Global, values: &Items<Object>) -> Result<Option<Items<Text>>, NoMemory>
     ensures { IfOk result (λ texts. texts ≡ each text_in values.now) }
 {
@@ -135,7 +138,7 @@ fn pair_in(alloc: Global, pair: &(Object, Object)) -> Result<Option<Pair>, NoMem
     Ok(Some(Pair { name, value }))
 }
 
-#[tactic(auto, using(crate::proofs::EachLemmas::one_more, crate::proofs::EachLemmas::none_there, crate::proofs::EachLemmas::all_there))]
+#[tactic(auto, using(crate::proofs::EachLemmas::each_flag_facts))]
 fn each_pair(
     alloc: Global,
     pairs: &Items<(Object, Object)>,

@@ -42,3 +42,6 @@ take_whole (tag ∷ tags) = ap (λ l. tag ∷ l) (take_whole tags)
 -- where as many tags fit as there are, all do
 pub all_fit : (tags : List (List ℕ)) → length (cut_tags tags) ≡ length tags → tags ≡ cut_tags tags
 all_fit tags e = sym (cut_tags_front tags ∙ ap (λ n. take n tags) e ∙ take_whole tags)
+
+-- what `fitting_tags` needs
+pub ruleset fitting_tags_facts = (cut_tags_front, cut_tags_length, all_fit)

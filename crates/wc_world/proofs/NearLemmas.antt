@@ -24,3 +24,6 @@ firsts n (m ∷ ms) = refl
 pub after_first : (n : ℕ) (ms : List ℕ) → after_in n ms ≡ after_seen false n ms
 after_first n [] = refl
 after_first n (m ∷ ms) = by_bool (eqb m n) _ (λ t. rw t (firsts n ms)) (λ t. rw t (after_first n ms))
+
+-- what `next_of` needs
+pub ruleset next_of_facts = (order_handles, after_first)

@@ -1,5 +1,7 @@
 -- What flips come to: each content gets the flag of the last flip that names it.
-use Rattle.std.specs.Prelude.{◌≡◌, ◌≢◌, ℕ, Bool, false, not, nat_eq, Option, Some, None, List, [], ◌∷◌, map, filter, option_map, unwrap_or, if◌then◌else◌, Result, Ok, Err}
+use Rattle.std.specs.Prelude.{◌≡◌, ◌≢◌, ℕ, Bool, false, not, nat_eq, Option, Some, None, List, []}
+use Rattle.std.specs.Prelude.{◌∷◌, map, filter, option_map, unwrap_or, if◌then◌else◌, Result, Ok}
+use Rattle.std.specs.Prelude.{Err}
 use Rattle.std.specs.HashMap.{HashMap}
 use Rattle.std.specs.List.{list_any, flat_map}
 use Rattle.wc_text.specs.declared.names.Handle.{Handle}
@@ -19,7 +21,8 @@ use Rattle.wc_world.specs.declared.on_flips.Plan.{Plan}
 
 abbrev pub last_from : Option Bool → ℕ → List Flip → Option Bool
 last_from flag content [] = flag
-last_from flag content (flip ∷ flips) = last_from (if nat_eq flip.content.0 content then Some flip.displayed else flag) content flips
+last_from flag content (flip ∷ flips) = last_from (if nat_eq flip.content.0 content
+    then Some flip.displayed else flag) content flips
 
 abbrev pub last_flag : List Flip → ℕ → Option Bool
 last_flag flips content = last_from None content flips
@@ -49,10 +52,13 @@ abbrev pub stored_lines : {S : Type 0} → HashMap ℕ RingView S → ℕ → Li
 stored_lines m buffer = unwrap_or (option_map (λ (x : RingView). x.lines) (held_at m buffer)) []
 
 abbrev pub is_stored : {S : Type 0} → HashMap ℕ RingView S → List ℕ → ℕ → Bool
-is_stored m buffers content = list_any (λ buffer. has_number content (stored_lines m buffer)) buffers
+is_stored m buffers content =
+    list_any (λ buffer. has_number content (stored_lines m buffer)) buffers
 
-abbrev pub all_differing : {S : Type 0} → (ℕ → Option Bool) → HashMap ℕ RingView S → List ℕ → List Handle
-all_differing flags m buffers = flat_map (λ buffer. differing_handles flags (stored_lines m buffer)) buffers
+abbrev pub all_differing : {S : Type 0} → (ℕ → Option Bool) → HashMap ℕ RingView S → List ℕ →
+    List Handle
+all_differing flags m buffers =
+    flat_map (λ buffer. differing_handles flags (stored_lines m buffer)) buffers
 
 -- whether a number is in a list
 abbrev pub lies_in : ℕ → List ℕ → Bool
@@ -64,8 +70,10 @@ pub record IsPlan (flips : List Flip) (world : World) (plan : Plan) : Type 0 whe
   pub all_held : no_line flips world ≡ None
   pub last : (content : ℕ) → flag_at plan.flags content ≡ last_flag flips content
   pub ordered : numbers plan.order ≡ order world.groups
-  pub found : plan.differing ≡ flat_map (λ buffer. differing_handles (last_flag flips) (lines_at world buffer)) (order world.groups)
+  pub found : plan.differing ≡ flat_map (λ buffer. differing_handles (last_flag flips)
+      (lines_at world buffer)) (order world.groups)
 
 abbrev pub Planned : List Flip → World → Result Plan ChangeRefused → Type 0
 Planned flips world (Ok plan) = IsPlan flips world plan
-Planned flips world (Err reason) = reason ≢ ChangeRefused.NoMemory → no_line flips world ≡ Some reason
+Planned flips world (Err reason) = reason ≢ ChangeRefused.NoMemory → no_line flips world
+    ≡ Some reason

@@ -1,5 +1,6 @@
 -- The lines of the buffers as they are stored, and what always holds of them.
-use Rattle.std.specs.Prelude.{◌≡◌, ℕ, ◌+◌, ◌<◌, ◌≤◌, ◌^◌, true, false, nat_eq, Option, Some, List, [], ◌∷◌, map, is_some, if◌then◌else◌, option_map}
+use Rattle.std.specs.Prelude.{◌≡◌, ℕ, ◌+◌, ◌<◌, ◌≤◌, ◌^◌, true, false, nat_eq, Option, Some}
+use Rattle.std.specs.Prelude.{List, [], ◌∷◌, map, is_some, if◌then◌else◌, option_map}
 use Rattle.std.specs.FinMap.{FinMap, from_entries, get}
 use Rattle.std.specs.HashMap.{HashMap, get_by}
 use Rattle.std.specs.Ordering.{nat_cmp}
@@ -20,19 +21,23 @@ abbrev pub lines_map : {S : Type 0} → HashMap ℕ RingView S → FinMap nat_cm
 lines_map m = from_entries (map (λ e. (e.0, e.1.lines)) m.entries)
 
 -- what is held under one handle changed by f, and all else as it was
-abbrev pub IsHeldChanged : {S T : Type 0} → ℕ → (RingView → RingView) → HashMap ℕ RingView S → HashMap ℕ RingView T → Type 0
-IsHeldChanged h f old new = (q : ℕ) → held_at new q ≡ (if nat_eq h q then option_map f (held_at old q) else held_at old q)
+abbrev pub IsHeldChanged : {S T : Type 0} → ℕ → (RingView → RingView) → HashMap ℕ RingView S →
+    HashMap ℕ RingView T → Type 0
+IsHeldChanged h f old new = (q : ℕ) →
+    held_at new q ≡ (if nat_eq h q then option_map f (held_at old q) else held_at old q)
 
 -- no two lines have one content, and all contents lie below the next handle
 abbrev pub AreContentsApart : ℕ → List Line → Type 0
 AreContentsApart next [] = Unit {0}
-AreContentsApart next (line ∷ lines) = (line.content.0 < next) × (has_content line.content lines ≡ false) × AreContentsApart next lines
+AreContentsApart next (line ∷ lines) = (line.content.0 < next)
+    × (has_content line.content lines ≡ false) × AreContentsApart next lines
 
 pub record IsHeldBuffer (limit next : ℕ) (x : RingView) : Type 0 where
   pub limited : x.limit ≡ limit
   pub apart : AreContentsApart next x.lines
 
-pub record IsWorld {S : Type 0} (groups : EntryGroups) (lines : HashMap ℕ RingView S) (limit next : ℕ) : Type 0 where
+pub record IsWorld {S : Type 0} (groups : EntryGroups) (lines : HashMap ℕ RingView S)
+    (limit next : ℕ) : Type 0 where
   -- each buffer has lines, and nothing else has
   pub stored : (h : ℕ) → is_some (held_at lines h) ≡ has handle_of h groups
   pub fit : (h : ℕ) (x : RingView) → held_at lines h ≡ Some x → IsHeldBuffer limit next x
@@ -43,9 +48,17 @@ pub record IsWorld {S : Type 0} (groups : EntryGroups) (lines : HashMap ℕ Ring
   pub ended : next ≤ 2 ^ 62 + 1
 
 -- the world that these fields stand for
-abbrev pub world_of : {S : Type 0} → EntryGroups → HashMap ℕ RingView S → FinMap nat_cmp (List Row) → ℕ → ℕ → World
-world_of groups held nicks limit next = record { groups = groups; lines = lines_map held; nicks = nicks; limit = limit; next = next }
+abbrev pub world_of : {S : Type 0} → EntryGroups → HashMap ℕ RingView S → FinMap nat_cmp (List Row)
+    → ℕ → ℕ → World
+world_of groups held nicks limit next = record {
+  groups = groups;
+  lines = lines_map held;
+  nicks = nicks;
+  limit = limit;
+  next = next;
+}
 
 -- the lines of a buffer, with how many it holds at most
 abbrev pub held_in : World → ℕ → Option RingView
-held_in world h = option_map (λ lines. record { limit = world.limit; lines = lines }) (get world.lines h)
+held_in world h = option_map (λ lines. record { limit = world.limit; lines = lines })
+    (get world.lines h)

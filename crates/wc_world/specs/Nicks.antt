@@ -1,5 +1,6 @@
 -- The nicklists of the buffers as they are stored, and what always holds of them.
-use Rattle.std.specs.Prelude.{◌≡◌, ℕ, ◌≤◌, Bool, true, false, nat_eq, Option, Some, None, List, [], ◌∷◌, length, map, is_some, if◌then◌else◌, option_map}
+use Rattle.std.specs.Prelude.{◌≡◌, ℕ, ◌≤◌, Bool, true, false, nat_eq, Option, Some, None, List, []}
+use Rattle.std.specs.Prelude.{◌∷◌, length, map, is_some, if◌then◌else◌, option_map}
 use Rattle.std.specs.FinMap.{FinMap, from_entries, entries}
 use Rattle.std.specs.HashMap.{HashMap, get_by}
 use Rattle.std.specs.Ordering.{nat_cmp}
@@ -8,14 +9,17 @@ use Rattle.wc_nicklist.specs.Rows.{Nicks, IsRows}
 use Rattle.wc_nicklist.specs.declared.item.Item.{Item}
 use Rattle.wc_nicklist.specs.declared.item.Row.{Row}
 use Rattle.wc_nicklist.specs.declared.refused.NickRefused.{NickRefused}
-use Rattle.wc_nicklist.specs.declared.refused.NickRefused.TheVariants.{IsRoot, BadName, NoParent, NameTaken, NoSuch, NotEmpty, NoMemory}
+use Rattle.wc_nicklist.specs.declared.refused.NickRefused.TheVariants.{IsRoot, BadName, NoParent}
+use Rattle.wc_nicklist.specs.declared.refused.NickRefused.TheVariants.{NameTaken, NoSuch, NotEmpty}
+use Rattle.wc_nicklist.specs.declared.refused.NickRefused.TheVariants.{NoMemory}
 use Rattle.wc_text.specs.declared.names.Handle.{Handle}
 use Rattle.wc_buffers.specs.Calls.{EntryGroups, handle_of}
 use Rattle.wc_buffers.specs.Groups.{has}
 use Rattle.wc_model.specs.World.{root_at, count_rows, row_limit}
 use Rattle.wc_model.specs.declared.change.What.{What}
 use Rattle.wc_model.specs.declared.refused.ChangeRefused.{ChangeRefused}
-use Rattle.wc_model.specs.declared.change.What.TheVariants.{AddGroup, AddNick, RemoveGroup, RemoveNick, ChangeGroup, ChangeNick}
+use Rattle.wc_model.specs.declared.change.What.TheVariants.{AddGroup, AddNick, RemoveGroup}
+use Rattle.wc_model.specs.declared.change.What.TheVariants.{RemoveNick, ChangeGroup, ChangeNick}
 
 -- the nicklist that is stored under a handle
 abbrev pub list_at : {S : Type 0} → HashMap ℕ Nicks S → ℕ → Option Nicks
@@ -40,7 +44,8 @@ shown_list x = (x.root, x.rows)
 
 -- the roots and the rows are the same
 abbrev pub AreSameRows : {S T : Type 0} → HashMap ℕ Nicks S → HashMap ℕ Nicks T → Type 0
-AreSameRows old new = (q : ℕ) → option_map shown_list (list_at new q) ≡ option_map shown_list (list_at old q)
+AreSameRows old new = (q : ℕ) → option_map shown_list (list_at new q) ≡ option_map shown_list
+    (list_at old q)
 
 -- the nicklist with room below a parent
 abbrev pub with_room : List ℕ → Nicks → Nicks
@@ -51,8 +56,10 @@ abbrev pub with_edit : (List Row → List Row) → Nicks → Nicks
 with_edit f x = with_rows (f x.rows) x
 
 -- what is stored under one handle changed by f, and all else as it was
-abbrev pub IsListChangedAt : {S T : Type 0} → ℕ → (Nicks → Nicks) → HashMap ℕ Nicks S → HashMap ℕ Nicks T → Type 0
-IsListChangedAt h f old new = (q : ℕ) → list_at new q ≡ (if nat_eq h q then option_map f (list_at old q) else list_at old q)
+abbrev pub IsListChangedAt : {S T : Type 0} → ℕ → (Nicks → Nicks) → HashMap ℕ Nicks S →
+    HashMap ℕ Nicks T → Type 0
+IsListChangedAt h f old new = (q : ℕ) →
+    list_at new q ≡ (if nat_eq h q then option_map f (list_at old q) else list_at old q)
 
 -- the texts of an item are cut
 pub record IsCut (item : Item) : Type 0 where
@@ -69,7 +76,8 @@ pub record IsList (h : ℕ) (x : Nicks) : Type 0 where
   pub held : IsRows x.rows
   pub cut : AreCut x.rows
 
-pub record AreNicks {S : Type 0} (groups : EntryGroups) (nicks : HashMap ℕ Nicks S) (count : ℕ) : Type 0 where
+pub record AreNicks {S : Type 0} (groups : EntryGroups) (nicks : HashMap ℕ Nicks S)
+    (count : ℕ) : Type 0 where
   -- each buffer has a nicklist, and nothing else has
   pub stored : (h : ℕ) → is_some (list_at nicks h) ≡ has handle_of h groups
   pub fit : (h : ℕ) (x : Nicks) → list_at nicks h ≡ Some x → IsList h x

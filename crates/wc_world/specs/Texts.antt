@@ -6,7 +6,11 @@ use Rattle.wc_buffers.specs.Entries.{IsText}
 use Rattle.wc_buffers.specs.declared.row.BufferSpec.{BufferSpec}
 use Rattle.wc_model.specs.declared.change.LineSpec.{LineSpec}
 use Rattle.wc_model.specs.declared.change.What.{What}
-use Rattle.wc_model.specs.declared.change.What.TheVariants.{Add, Close, MoveTo, MergeInto, Unmerge, Hide, Unhide, Rename, ShortName, Title, SetVar, RemoveVar, Print, Clear, Flips, AddGroup, AddNick, RemoveGroup, RemoveNick, ChangeGroup, ChangeNick}
+use Rattle.wc_model.specs.declared.change.What.TheVariants.{Add, Close, MoveTo, MergeInto, Unmerge}
+use Rattle.wc_model.specs.declared.change.What.TheVariants.{Hide, Unhide, Rename, ShortName, Title}
+use Rattle.wc_model.specs.declared.change.What.TheVariants.{SetVar, RemoveVar, Print, Clear, Flips}
+use Rattle.wc_model.specs.declared.change.What.TheVariants.{AddGroup, AddNick, RemoveGroup}
+use Rattle.wc_model.specs.declared.change.What.TheVariants.{RemoveNick, ChangeGroup, ChangeNick}
 
 pub record IsLineText (spec : LineSpec) : Type 0 where
   pub tags : All IsUtf8 spec.tags

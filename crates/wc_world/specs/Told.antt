@@ -3,7 +3,11 @@ use Rattle.std.specs.Prelude.{ℕ, List, unwrap_or}
 use Rattle.wc_text.specs.declared.names.Handle.{Handle}
 use Rattle.wc_buffers.specs.Calls.{EntryGroups, number}
 use Rattle.wc_buffers.specs.declared.refused.BufferRefused.{BufferRefused}
-use Rattle.wc_buffers.specs.declared.refused.BufferRefused.TheVariants.{NoBuffer, IsCore, BadName, FixedVar, NameTaken, NoVar, SameGroup, NotMerged, BadNumber, TooMany, NoMemory}
+use Rattle.wc_buffers.specs.declared.refused.BufferRefused.TheVariants.{NoBuffer, IsCore, BadName}
+use Rattle.wc_buffers.specs.declared.refused.BufferRefused.TheVariants.{FixedVar, NameTaken, NoVar}
+use Rattle.wc_buffers.specs.declared.refused.BufferRefused.TheVariants.{SameGroup, NotMerged}
+use Rattle.wc_buffers.specs.declared.refused.BufferRefused.TheVariants.{BadNumber, TooMany}
+use Rattle.wc_buffers.specs.declared.refused.BufferRefused.TheVariants.{NoMemory}
 use Rattle.wc_model.specs.declared.notice.EventKind.{EventKind}
 use Rattle.wc_model.specs.declared.notice.Notice.{Notice}
 use Rattle.wc_model.specs.declared.refused.ChangeRefused.{ChangeRefused}

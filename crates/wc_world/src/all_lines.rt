@@ -1,4 +1,5 @@
-ghost use Rattle.std.specs.Prelude.{◌≡◌, ◌++◌, ℕ, IfOk, OnOk, None, not, find, option_map, if◌then◌else◌};
+ghost use Rattle.std.specs.Prelude.{◌≡◌, ◌++◌, ℕ, IfOk, OnOk, None, not, find, option_map};
+ghost use Rattle.std.specs.Prelude.{if◌then◌else◌};
 ghost use Rattle.wc_lines.specs.Flags.{flag_at, with_flags};
 ghost use Rattle.wc_model.specs.Order.{order};
 ghost use Rattle.wc_model.specs.declared.change.Flip.{Flip as FlipValue};
@@ -42,7 +43,9 @@ pub(crate) fn first_not_held(
     held: &Held,
     buffers: &[Handle],
 ) -> Result<Option<Handle>, NoMemory>
-    ensures { IfOk result (λ first. first ≡ option_map (λ (flip : FlipValue). flip.content) (find (λ (flip : FlipValue). not (is_stored held.now (numbers buffers.now) flip.content.0)) flips.now)) }
+    ensures { IfOk result (λ first. first ≡ option_map (λ (flip : FlipValue). flip.content)
+        (find (λ (flip : FlipValue). not (is_stored held.now (numbers buffers.now) flip.content.0))
+        flips.now)) }
 {
     let mut flags = flags_of(alloc, flips)?;
     take_all_out(&mut flags, held, buffers);
@@ -51,7 +54,9 @@ pub(crate) fn first_not_held(
 
 /// Takes the flags of all lines of the buffers out.
 fn take_all_out(flags: &mut Flags, held: &Held, buffers: &[Handle])
-    ensures { (content : ℕ) → flag_at flags.new content ≡ (if is_stored held.now (numbers buffers.now) content then None else flag_at flags.old content) }
+    ensures { (content : ℕ) → flag_at flags.new content
+        ≡ (if is_stored held.now (numbers buffers.now) content then None
+        else flag_at flags.old content) }
 {
     for h in buffers {
         if let Some(lines) = held.get(&h.0) {
@@ -67,7 +72,8 @@ pub(crate) fn all_differing(
     held: &Held,
     buffers: &[Handle],
 ) -> Result<Items<Handle>, NoMemory>
-    ensures { IfOk result (λ contents. contents ≡ all_differing (flag_at flags.now) held.now (numbers buffers.now)) }
+    ensures { IfOk result (λ contents. contents ≡ all_differing (flag_at flags.now) held.now
+        (numbers buffers.now)) }
 {
     let mut contents = Items::new(alloc);
     for h in buffers {
@@ -80,7 +86,9 @@ pub(crate) fn all_differing(
 
 /// Sets the flags of the lines of all these buffers. It takes no memory.
 pub(crate) fn set_flags(held: &mut Held, buffers: &[Handle], flags: &Flags)
-    ensures { (q : ℕ) → held_at held.new q ≡ (if lies_in q (numbers buffers.now) then option_map (with_flags (flag_at flags.now)) (held_at held.old q) else held_at held.old q) }
+    ensures { (q : ℕ) → held_at held.new q ≡ (if lies_in q (numbers buffers.now)
+        then option_map (with_flags (flag_at flags.now)) (held_at held.old q)
+        else held_at held.old q) }
 {
     for h in buffers {
         set_flags_at(held, *h, flags);

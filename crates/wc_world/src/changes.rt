@@ -28,8 +28,10 @@ impl World {
     ) -> Result<Notice, ChangeRefused>
         requires { IsChangeText change.what }
         ensures outcome { Outcome self.old change self.new result }
-        ensures touched { OnOk result ((b : HandleValue) (k : KeyValue) → T.first touch.new b k ≡ touched_by self.old change.buffer change.what (T.first touch.old) b k) }
-        ensures untouched { OnErr result ((b : HandleValue) (k : KeyValue) → T.first touch.new b k ≡ T.first touch.old b k) }
+        ensures touched { OnOk result ((b : HandleValue) (k : KeyValue) → T.first touch.new b k
+            ≡ touched_by self.old change.buffer change.what (T.first touch.old) b k) }
+        ensures untouched { OnErr result ((b : HandleValue) (k : KeyValue) → T.first touch.new b k
+            ≡ T.first touch.old b k) }
         ensures still { touched_key change.what ≡ None → touch.new ≡ touch.old }
     {
         let h = change.buffer;

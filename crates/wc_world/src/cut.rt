@@ -64,7 +64,7 @@ fn front(alloc: Global, tags: &[Text], count: usize) -> Result<Items<Text>, NoMe
 }
 
 /// The tags that fit. They are copied only where some do not.
-#[tactic(auto, using(crate::proofs::CutTags::cut_tags_front, crate::proofs::CutTags::cut_tags_length, crate::proofs::CutTags::all_fit))]
+#[tactic(auto, using(crate::proofs::CutTags::fitting_tags_facts))]
 fn fitting_tags(alloc: Global, tags: Items<Text>) -> Result<Items<Text>, NoMemory>
     ensures { IfOk result (λ cut. cut ≡ cut_tags tags) }
 {

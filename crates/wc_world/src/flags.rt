@@ -1,4 +1,5 @@
-ghost use Rattle.std.specs.Prelude.{◌≡◌, ◌++◌, ℕ, IfOk, OnOk, None, Some, nat_eq, is_some, find, option_map, if◌then◌else◌};
+ghost use Rattle.std.specs.Prelude.{◌≡◌, ◌++◌, ℕ, IfOk, OnOk, None, Some, nat_eq, is_some, find};
+ghost use Rattle.std.specs.Prelude.{option_map, if◌then◌else◌};
 ghost use Rattle.wc_lines.specs.Flags.{flag_at};
 ghost use Rattle.wc_model.specs.declared.change.Flip.{Flip as FlipValue};
 ghost use Rattle.wc_world.specs.Flips.{last_flag, has_number, differs, differing_handles};
@@ -11,7 +12,8 @@ use wc_text::{Handle, Items, NoMemory};
 
 /// The flag of the last flip of each content.
 pub(crate) fn flags_of(alloc: Global, flips: &[Flip]) -> Result<Flags, NoMemory>
-    ensures { IfOk result (λ flags. (content : ℕ) → flag_at flags content ≡ last_flag flips.now content) }
+    ensures { IfOk result (λ flags. (content : ℕ) → flag_at flags content
+        ≡ last_flag flips.now content) }
 {
     let mut flags = HashMap::new(alloc);
     for flip in flips {
@@ -21,7 +23,9 @@ pub(crate) fn flags_of(alloc: Global, flips: &[Flip]) -> Result<Flags, NoMemory>
 }
 
 fn put(flags: &mut Flags, flip: Flip) -> Result<(), NoMemory>
-    ensures { OnOk result ((content : ℕ) → flag_at flags.new content ≡ (if nat_eq flip.content.0 content then Some flip.displayed else flag_at flags.old content)) }
+    ensures { OnOk result ((content : ℕ) → flag_at flags.new content
+        ≡ (if nat_eq flip.content.0 content then Some flip.displayed
+        else flag_at flags.old content)) }
 {
     match flags.insert(flip.content.0, flip.displayed) {
         Ok(_) => Ok(()),
@@ -31,7 +35,8 @@ fn put(flags: &mut Flags, flip: Flip) -> Result<(), NoMemory>
 
 /// The content of the first flip that has a flag here.
 pub(crate) fn first_in(flips: &[Flip], flags: &Flags) -> Option<Handle>
-    ensures { result ≡ option_map (λ (flip : FlipValue). flip.content) (find (λ (flip : FlipValue). is_some (flag_at flags.now flip.content.0)) flips.now) }
+    ensures { result ≡ option_map (λ (flip : FlipValue). flip.content)
+        (find (λ (flip : FlipValue). is_some (flag_at flags.now flip.content.0)) flips.now) }
 {
     for flip in flips {
         if flags.contains_key(&flip.content.0) {
@@ -43,7 +48,8 @@ pub(crate) fn first_in(flips: &[Flip], flags: &Flags) -> Option<Handle>
 
 /// Takes the flags of these lines out.
 pub(crate) fn take_out(flags: &mut Flags, lines: &Lines)
-    ensures { (content : ℕ) → flag_at flags.new content ≡ (if has_number content lines.now.lines then None else flag_at flags.old content) }
+    ensures { (content : ℕ) → flag_at flags.new content ≡ (if has_number content lines.now.lines
+        then None else flag_at flags.old content) }
 {
     for line in lines.iter() {
         take_one(flags, line.content);
@@ -51,7 +57,8 @@ pub(crate) fn take_out(flags: &mut Flags, lines: &Lines)
 }
 
 fn take_one(flags: &mut Flags, content: Handle)
-    ensures { (n : ℕ) → flag_at flags.new n ≡ (if nat_eq content.0 n then None else flag_at flags.old n) }
+    ensures { (n : ℕ) → flag_at flags.new n ≡ (if nat_eq content.0 n then None
+        else flag_at flags.old n) }
 {
     let _ = flags.remove(&content.0);
 }
@@ -62,7 +69,8 @@ pub(crate) fn push_differing(
     flags: &Flags,
     lines: &Lines,
 ) -> Result<(), NoMemory>
-    ensures { OnOk result (contents.new ≡ contents.old ++ differing_handles (flag_at flags.now) lines.now.lines) }
+    ensures { OnOk result (contents.new ≡ contents.old ++ differing_handles (flag_at flags.now)
+        lines.now.lines) }
 {
     for line in lines.iter() {
         if differs(flags, line) {

@@ -23,7 +23,8 @@ pub(crate) fn reserve(held: &mut Held) -> Result<(), NoMemory>
 /// Puts the lines of a buffer in. It takes no memory.
 pub(crate) fn insert(held: &mut Held, h: Handle, lines: Lines)
     requires { 0 < spare held.old }
-    ensures { (q : ℕ) → held_at held.new q ≡ (if nat_eq h.0 q then Some lines else held_at held.old q) }
+    ensures { (q : ℕ) → held_at held.new q ≡ (if nat_eq h.0 q then Some lines
+        else held_at held.old q) }
 {
     let Ok(_) = held.insert(h.0, lines) else {
         unreachable!()

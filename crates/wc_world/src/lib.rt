@@ -17,4 +17,3 @@ mod on_nicks;
 mod world;
 
 pub use world::World;
-

@@ -7,8 +7,10 @@ use wc_text::Handle;
 
 /// Ok: the handle before `h`, which is here; Err: the last handle, where it is not.
 fn before_here(last: Handle, h: Handle, group: &[Handle]) -> Result<Handle, Handle>
-    ensures here { IfOk result (λ x. (rest : List ℕ) → before_in last.0 h.0 (numbers group.now ++ rest) ≡ x.0) }
-    ensures past { IfErr result (λ x. (rest : List ℕ) → before_in last.0 h.0 (numbers group.now ++ rest) ≡ before_in x.0 h.0 rest) }
+    ensures here { IfOk result (λ x. (rest : List ℕ) →
+        before_in last.0 h.0 (numbers group.now ++ rest) ≡ x.0) }
+    ensures past { IfErr result (λ x. (rest : List ℕ) →
+        before_in last.0 h.0 (numbers group.now ++ rest) ≡ before_in x.0 h.0 rest) }
 {
     let mut last = last;
     for other in group {
@@ -22,8 +24,10 @@ fn before_here(last: Handle, h: Handle, group: &[Handle]) -> Result<Handle, Hand
 
 /// Ok: the handle after `h`; Err: whether `h` was the last one.
 fn after_here(seen: bool, h: Handle, group: &[Handle]) -> Result<Handle, bool>
-    ensures here { IfOk result (λ x. (rest : List ℕ) → after_seen seen h.0 (numbers group.now ++ rest) ≡ x.0) }
-    ensures past { IfErr result (λ x. (rest : List ℕ) → after_seen seen h.0 (numbers group.now ++ rest) ≡ after_seen x h.0 rest) }
+    ensures here { IfOk result (λ x. (rest : List ℕ) →
+        after_seen seen h.0 (numbers group.now ++ rest) ≡ x.0) }
+    ensures past { IfErr result (λ x. (rest : List ℕ) →
+        after_seen seen h.0 (numbers group.now ++ rest) ≡ after_seen x h.0 rest) }
 {
     let mut seen = seen;
     for other in group {
@@ -50,7 +54,7 @@ pub(crate) fn prev_of(buffers: &Buffers, h: Handle) -> Handle
     Handle(0)
 }
 
-#[tactic(auto, using(crate::proofs::NearLemmas::order_handles, crate::proofs::NearLemmas::after_first))]
+#[tactic(auto, using(crate::proofs::NearLemmas::next_of_facts))]
 /// The buffer after `h` in the order of buffers; null where there is none.
 pub(crate) fn next_of(buffers: &Buffers, h: Handle) -> Handle
     ensures { result.0 ≡ next_of h.0 buffers.now }

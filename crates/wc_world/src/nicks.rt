@@ -1,9 +1,11 @@
-ghost use Rattle.std.specs.Prelude.{◌≡◌, ◌<◌, ℕ, IsSome, OnOk, OnErr, Some, None, nat_eq, length, if◌then◌else◌};
+ghost use Rattle.std.specs.Prelude.{◌≡◌, ◌<◌, ℕ, IsSome, OnOk, OnErr, Some, None, nat_eq, length};
+ghost use Rattle.std.specs.Prelude.{if◌then◌else◌};
 ghost use Rattle.std.specs.HashMap.{spare};
 ghost use Rattle.wc_nicklist.specs.Calls.{add_refusal, remove_refusal, change_refusal, add_row};
 ghost use Rattle.wc_nicklist.specs.Order.{key_at};
 ghost use Rattle.wc_nicklist.specs.Rows.{remove_row, change_row, TextsAreUtf8};
-ghost use Rattle.wc_world.specs.Nicks.{list_at, rows_of, room_of, with_room, with_edit, IsListChangedAt};
+ghost use Rattle.wc_world.specs.Nicks.{list_at, rows_of, room_of, with_room, with_edit};
+ghost use Rattle.wc_world.specs.Nicks.{IsListChangedAt};
 
 use crate::nick_item::{add_item, change_item, remove_item};
 use std::alloc::Global;
@@ -26,7 +28,8 @@ pub(crate) fn reserve(lists: &mut Lists) -> Result<(), NoMemory>
 /// Puts the nicklist of a buffer in. It takes no memory.
 pub(crate) fn insert(lists: &mut Lists, h: Handle, list: Nicklist)
     requires { 0 < spare lists.old }
-    ensures { (q : ℕ) → list_at lists.new q ≡ (if nat_eq h.0 q then Some list else list_at lists.old q) }
+    ensures { (q : ℕ) → list_at lists.new q ≡ (if nat_eq h.0 q then Some list
+        else list_at lists.old q) }
 {
     let Ok(_) = lists.insert(h.0, list) else {
         unreachable!()
@@ -35,7 +38,8 @@ pub(crate) fn insert(lists: &mut Lists, h: Handle, list: Nicklist)
 
 /// Takes the nicklist of a buffer out. The answer is how many rows it had.
 pub(crate) fn remove(lists: &mut Lists, h: Handle) -> u64
-    ensures gone { (q : ℕ) → list_at lists.new q ≡ (if nat_eq h.0 q then None else list_at lists.old q) }
+    ensures gone { (q : ℕ) → list_at lists.new q ≡ (if nat_eq h.0 q then None
+        else list_at lists.old q) }
     ensures count { result ≡ length (rows_of (list_at lists.old h.0)) }
 {
     match lists.remove(&h.0) {
@@ -86,9 +90,11 @@ pub(crate) fn put(
     item: Item,
 )
     requires room { room_of (list_at lists.old h.0) ≡ Some parent.now }
-    requires free { add_refusal is_group parent.now item.name (rows_of (list_at lists.old h.0)) ≡ None }
+    requires free { add_refusal is_group parent.now item.name
+        (rows_of (list_at lists.old h.0)) ≡ None }
     requires text { TextsAreUtf8 item }
-    ensures { IsListChangedAt h.0 (with_edit (add_row is_group parent.now item)) lists.old lists.new }
+    ensures { IsListChangedAt h.0 (with_edit (add_row is_group parent.now item)) lists.old
+        lists.new }
 {
     let Some(list) = lists.get_mut(&h.0) else {
         unreachable!()
@@ -99,8 +105,10 @@ pub(crate) fn put(
 /// Takes the row of a key out, which can be taken. It takes no memory.
 pub(crate) fn take(lists: &mut Lists, h: Handle, key: &Key)
     requires there { IsSome (list_at lists.old h.0) }
-    requires free { remove_refusal key.now.is_group key.now.name (rows_of (list_at lists.old h.0)) ≡ None }
-    ensures { IsListChangedAt h.0 (with_edit (remove_row (key_at key.now.is_group key.now.name))) lists.old lists.new }
+    requires free { remove_refusal key.now.is_group key.now.name
+        (rows_of (list_at lists.old h.0)) ≡ None }
+    ensures { IsListChangedAt h.0 (with_edit (remove_row (key_at key.now.is_group key.now.name)))
+        lists.old lists.new }
 {
     let Some(list) = lists.get_mut(&h.0) else {
         unreachable!()
@@ -113,7 +121,8 @@ pub(crate) fn write(lists: &mut Lists, h: Handle, is_group: bool, item: Item)
     requires there { IsSome (list_at lists.old h.0) }
     requires free { change_refusal is_group item.name (rows_of (list_at lists.old h.0)) ≡ None }
     requires text { TextsAreUtf8 item }
-    ensures { IsListChangedAt h.0 (with_edit (change_row (key_at is_group item.name) item)) lists.old lists.new }
+    ensures { IsListChangedAt h.0 (with_edit (change_row (key_at is_group item.name) item))
+        lists.old lists.new }
 {
     let Some(list) = lists.get_mut(&h.0) else {
         unreachable!()

@@ -35,7 +35,8 @@ impl World {
         spec: BufferSpec,
     ) -> Result<Notice, ChangeRefused>
         requires { IsBufferText spec }
-        ensures { Outcome self.old (record { buffer = h; what = WhatValue.Add spec }) self.new result }
+        ensures { Outcome self.old (record { buffer = h; what = WhatValue.Add spec })
+            self.new result }
     {
         let handle = Handle(self.next);
         let full_name = spec.full_name.copy(alloc)?;
@@ -89,7 +90,8 @@ impl World {
         h: Handle,
         number: u32,
     ) -> Result<Notice, ChangeRefused>
-        ensures { Outcome self.old (record { buffer = h; what = WhatValue.MoveTo number }) self.new result }
+        ensures { Outcome self.old (record { buffer = h; what = WhatValue.MoveTo number })
+            self.new result }
     {
         let full_name = name_of(&self.buffers, alloc, h)?;
         match self.buffers.move_to(h, number) {
@@ -106,7 +108,8 @@ impl World {
         h: Handle,
         into: Handle,
     ) -> Result<Notice, ChangeRefused>
-        ensures { Outcome self.old (record { buffer = h; what = WhatValue.MergeInto into }) self.new result }
+        ensures { Outcome self.old (record { buffer = h; what = WhatValue.MergeInto into })
+            self.new result }
     {
         let full_name = name_of(&self.buffers, alloc, h)?;
         match self.buffers.merge(h, into) {
@@ -118,7 +121,8 @@ impl World {
 
     /// The buffer gets a group of its own, after its old one.
     pub(crate) fn unmerge(&mut self, alloc: Global, h: Handle) -> Result<Notice, ChangeRefused>
-        ensures { Outcome self.old (record { buffer = h; what = WhatValue.Unmerge }) self.new result }
+        ensures { Outcome self.old (record { buffer = h; what = WhatValue.Unmerge })
+            self.new result }
     {
         let full_name = name_of(&self.buffers, alloc, h)?;
         match self.buffers.unmerge(h) {
@@ -142,7 +146,8 @@ impl World {
 
     /// The buffer is shown again.
     pub(crate) fn unhide(&mut self, alloc: Global, h: Handle) -> Result<Notice, ChangeRefused>
-        ensures { Outcome self.old (record { buffer = h; what = WhatValue.Unhide }) self.new result }
+        ensures { Outcome self.old (record { buffer = h; what = WhatValue.Unhide })
+            self.new result }
     {
         let full_name = name_of(&self.buffers, alloc, h)?;
         match self.buffers.unhide(h) {
@@ -160,7 +165,8 @@ impl World {
         short_name: Text,
     ) -> Result<Notice, ChangeRefused>
         requires { IsUtf8 short_name }
-        ensures { Outcome self.old (record { buffer = h; what = WhatValue.ShortName short_name }) self.new result }
+        ensures { Outcome self.old (record { buffer = h; what = WhatValue.ShortName short_name })
+            self.new result }
     {
         let full_name = name_of(&self.buffers, alloc, h)?;
         match self.buffers.set_short_name(alloc, h, &short_name) {
@@ -178,7 +184,8 @@ impl World {
         title: Text,
     ) -> Result<Notice, ChangeRefused>
         requires { IsUtf8 title }
-        ensures { Outcome self.old (record { buffer = h; what = WhatValue.Title title }) self.new result }
+        ensures { Outcome self.old (record { buffer = h; what = WhatValue.Title title })
+            self.new result }
     {
         let full_name = name_of(&self.buffers, alloc, h)?;
         match self.buffers.set_title(alloc, h, &title) {
@@ -196,7 +203,8 @@ impl World {
         var: Pair,
     ) -> Result<Notice, ChangeRefused>
         requires { IsText var }
-        ensures { Outcome self.old (record { buffer = h; what = WhatValue.SetVar var }) self.new result }
+        ensures { Outcome self.old (record { buffer = h; what = WhatValue.SetVar var })
+            self.new result }
     {
         let full_name = name_of(&self.buffers, alloc, h)?;
         let new = match self.buffers.set_var(alloc, h, &var.name, &var.value) {
@@ -213,7 +221,8 @@ impl World {
         h: Handle,
         name: Text,
     ) -> Result<Notice, ChangeRefused>
-        ensures { Outcome self.old (record { buffer = h; what = WhatValue.RemoveVar name }) self.new result }
+        ensures { Outcome self.old (record { buffer = h; what = WhatValue.RemoveVar name })
+            self.new result }
     {
         let full_name = name_of(&self.buffers, alloc, h)?;
         match self.buffers.remove_var(alloc, h, &name) {

@@ -50,7 +50,8 @@ impl World {
         h: Handle,
         flips: Items<Flip>,
     ) -> Result<Notice, ChangeRefused>
-        ensures { Outcome self.old (record { buffer = h; what = WhatValue.Flips flips }) self.new result }
+        ensures { Outcome self.old (record { buffer = h; what = WhatValue.Flips flips })
+            self.new result }
     {
         let plan = self.plan(alloc, flips.as_slice())?;
         // Flips are of no one buffer, and no buffer has the null handle.
@@ -76,7 +77,8 @@ impl World {
         flips: Items<Flip>,
     ) -> Result<Notice, ChangeRefused>
         requires { IsUtf8 name }
-        ensures { Outcome self.old (record { buffer = h; what = WhatValue.Rename name flips }) self.new result }
+        ensures { Outcome self.old (record { buffer = h; what = WhatValue.Rename name flips })
+            self.new result }
     {
         if let Some(refused) = self.buffers.rename_refusal(alloc, h, &name) {
             return Err(refused_by(refused));

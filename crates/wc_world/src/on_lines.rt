@@ -19,7 +19,8 @@ impl World {
         spec: LineSpec,
     ) -> Result<Notice, ChangeRefused>
         requires { IsLineText spec }
-        ensures { Outcome self.old (record { buffer = h; what = WhatValue.Print spec }) self.new result }
+        ensures { Outcome self.old (record { buffer = h; what = WhatValue.Print spec })
+            self.new result }
     {
         if let Some(refused) = no_buffer(&self.buffers, h) {
             return Err(ChangeRefused::Buffer(refused));

@@ -37,7 +37,8 @@ impl World {
         parent: &Text,
         item: &Item,
     ) -> Option<ChangeRefused>
-        ensures { result ≢ Some ChangeRefusedValue.NoMemory → result ≡ adds_row self.now h is_group parent.now item.now }
+        ensures { result ≢ Some ChangeRefusedValue.NoMemory →
+            result ≡ adds_row self.now h is_group parent.now item.now }
     {
         if let Some(refused) = no_buffer(&self.buffers, h) {
             return Some(ChangeRefused::Buffer(refused));
@@ -66,9 +67,12 @@ impl World {
         touch: &mut T,
     ) -> Result<Notice, ChangeRefused>
         requires { TextsAreUtf8 item }
-        ensures outcome { Outcome self.old (record { buffer = h; what = add_of is_group parent item }) self.new result }
-        ensures touched { OnOk result ((b : HandleValue) (k : KeyValue) → T.first touch.new b k ≡ touched_by self.old h (add_of is_group parent item) (T.first touch.old) b k) }
-        ensures untouched { OnErr result ((b : HandleValue) (k : KeyValue) → T.first touch.new b k ≡ T.first touch.old b k) }
+        ensures outcome { Outcome self.old
+            (record { buffer = h; what = add_of is_group parent item }) self.new result }
+        ensures touched { OnOk result ((b : HandleValue) (k : KeyValue) → T.first touch.new b k
+            ≡ touched_by self.old h (add_of is_group parent item) (T.first touch.old) b k) }
+        ensures untouched { OnErr result ((b : HandleValue) (k : KeyValue) → T.first touch.new b k
+            ≡ T.first touch.old b k) }
     {
         if let Some(refused) = self.add_refusal(alloc, h, is_group, &parent, &item) {
             return Err(refused);
@@ -107,9 +111,12 @@ impl World {
         name: Text,
         touch: &mut T,
     ) -> Result<Notice, ChangeRefused>
-        ensures outcome { Outcome self.old (record { buffer = h; what = remove_of is_group name }) self.new result }
-        ensures touched { OnOk result ((b : HandleValue) (k : KeyValue) → T.first touch.new b k ≡ touched_by self.old h (remove_of is_group name) (T.first touch.old) b k) }
-        ensures untouched { OnErr result ((b : HandleValue) (k : KeyValue) → T.first touch.new b k ≡ T.first touch.old b k) }
+        ensures outcome { Outcome self.old (record { buffer = h; what = remove_of is_group name })
+            self.new result }
+        ensures touched { OnOk result ((b : HandleValue) (k : KeyValue) → T.first touch.new b k
+            ≡ touched_by self.old h (remove_of is_group name) (T.first touch.old) b k) }
+        ensures untouched { OnErr result ((b : HandleValue) (k : KeyValue) → T.first touch.new b k
+            ≡ T.first touch.old b k) }
     {
         if let Some(refused) = self.remove_refusal(h, is_group, &name) {
             return Err(refused);
@@ -146,9 +153,12 @@ impl World {
         touch: &mut T,
     ) -> Result<Notice, ChangeRefused>
         requires { TextsAreUtf8 item }
-        ensures outcome { Outcome self.old (record { buffer = h; what = change_of_rows is_group item }) self.new result }
-        ensures touched { OnOk result ((b : HandleValue) (k : KeyValue) → T.first touch.new b k ≡ touched_by self.old h (change_of_rows is_group item) (T.first touch.old) b k) }
-        ensures untouched { OnErr result ((b : HandleValue) (k : KeyValue) → T.first touch.new b k ≡ T.first touch.old b k) }
+        ensures outcome { Outcome self.old
+            (record { buffer = h; what = change_of_rows is_group item }) self.new result }
+        ensures touched { OnOk result ((b : HandleValue) (k : KeyValue) → T.first touch.new b k
+            ≡ touched_by self.old h (change_of_rows is_group item) (T.first touch.old) b k) }
+        ensures untouched { OnErr result ((b : HandleValue) (k : KeyValue) → T.first touch.new b k
+            ≡ T.first touch.old b k) }
     {
         if let Some(refused) = self.change_refusal(h, is_group, &item) {
             return Err(refused);

@@ -48,7 +48,8 @@ impl Model for World {
 
     ghost view = { λ a. world_of a.buffers a.held (rows_map a.nicks) a.limit a.next };
 
-    ghost invariant = { λ a. IsWorld a.buffers a.held a.limit a.next × AreNicks a.buffers a.nicks a.row_count };
+    ghost invariant = { λ a. IsWorld a.buffers a.held a.limit a.next
+        × AreNicks a.buffers a.nicks a.row_count };
 }
 
 /// What is kept of the core buffer.
@@ -70,7 +71,8 @@ fn core_row(alloc: Global) -> Result<BufferRow, NoMemory>
 }
 
 impl World {
-    /// The core buffer alone, whose handles are 1 to 4, with no rows in its nicklist. A buffer holds as many lines as the limit.
+    /// The core buffer alone, whose handles are 1 to 4, with no rows in its nicklist. A buffer
+    /// holds as many lines as the limit.
     pub fn new(alloc: Global, limit: u32) -> Result<World, NoMemory>
         requires some { 1 ≤ limit }
         requires most { limit ≤ 4096 }
@@ -118,7 +120,8 @@ impl World {
     /// The nicklist of a buffer. None exactly where it is not there.
     pub fn nicks(&self, h: Handle) -> Option<&Nicklist>
         ensures there { is_some (option_copied result) ≡ is_there h self.now.groups }
-        ensures stored { option_map (λ (x : NicksValue). x.rows) (option_copied result) ≡ get self.now.nicks h.0 }
+        ensures stored { option_map (λ (x : NicksValue). x.rows) (option_copied result)
+            ≡ get self.now.nicks h.0 }
         ensures rows { IfSome result (λ list. list.now.rows ≡ rows_at self.now h.0) }
         ensures root { IfSome result (λ list. list.now.root ≡ root_at h.0) }
         ensures held { (b : ℕ) → IsRows (rows_at self.now b) }
