@@ -7,7 +7,7 @@ use Rattle.std.specs.List.{list_any}
 use Rattle.std.specs.declared.alloc.Global.{Global}
 use Rattle.std.specs.declared.vec.Vec.{Vec}
 use Rattle.wc_text.specs.declared.names.Handle.{Handle}
-use Rattle.wc_buffers.specs.declared.entry.BufferEntry.{BufferEntry}
+use Rattle.wc_buffers.specs.declared.row.BufferEntry.{BufferEntry}
 use Rattle.wc_buffers.specs.Calls.{is_there, with_entry}
 use Rattle.wc_buffers.specs.Groups.{rows, in_group, has}
 use Rattle.wc_buffers.specs.Kept.{at_handle, entry_at, groups_of_handles, AreBuffersKept, IsBuffer, IsEntryChanged}

@@ -11,7 +11,7 @@ use Rattle.wc_text.specs.Cut.{cut_of}
 use Rattle.wc_text.specs.declared.names.Pair.{Pair}
 use Rattle.wc_text.proofs.CutLemmas.{cut_within, cut_utf8}
 use Rattle.wc_buffers.specs.declared.row.BufferRow.{BufferRow}
-use Rattle.wc_buffers.specs.declared.entry.BufferEntry.{BufferEntry}
+use Rattle.wc_buffers.specs.declared.row.BufferEntry.{BufferEntry}
 use Rattle.wc_buffers.specs.declared.refused.BufferRefused.{BufferRefused}
 use Rattle.wc_buffers.specs.Calls.{is_bad_name, bad_name, is_fixed, bad_var_names, fixed_vars, bad_names, or_else, when, too_many_vars, new_entry, with_hidden, with_full_name, with_short_name, with_title, with_var, without_var, lacks_var, is_full}
 use Rattle.wc_buffers.specs.Entries.{IsText}

@@ -4,7 +4,7 @@ use Rattle.std.specs.HashMap.{HashMap}
 use Rattle.std.specs.declared.alloc.Global.{Global}
 use Rattle.std.specs.declared.vec.Vec.{Vec}
 use Rattle.wc_text.specs.declared.names.Handle.{Handle}
-use Rattle.wc_buffers.specs.declared.entry.BufferEntry.{BufferEntry}
+use Rattle.wc_buffers.specs.declared.row.BufferEntry.{BufferEntry}
 use Rattle.wc_buffers.specs.Calls.{handle_of}
 use Rattle.wc_buffers.specs.Kept.{at_handle, entry_at, groups_of_handles, AreBuffersKept, AreBuffers}
 use Rattle.wc_buffers.specs.Table.{key, AreGroups}

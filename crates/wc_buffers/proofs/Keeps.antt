@@ -9,7 +9,7 @@ use Rattle.std.specs.Cmp.Lexicographic.{bytes_decides}
 use Rattle.std.specs.declared.alloc.Global.{Global}
 use Rattle.std.specs.declared.vec.Vec.{Vec}
 use Rattle.wc_text.specs.declared.names.Handle.{Handle}
-use Rattle.wc_buffers.specs.declared.entry.BufferEntry.{BufferEntry}
+use Rattle.wc_buffers.specs.declared.row.BufferEntry.{BufferEntry}
 use Rattle.wc_buffers.specs.Calls.{handle_of, with_full_name}
 use Rattle.wc_buffers.specs.Groups.{in_group, has, take_out, update}
 use Rattle.wc_buffers.specs.Kept.{at_handle, at_name, blank, entry_at, groups_of_handles, AreBuffersKept, IsBuffer, IsEntryChanged}

@@ -8,7 +8,7 @@ use Rattle.std.specs.List.{list_any}
 use Rattle.std.specs.declared.alloc.Global.{Global}
 use Rattle.std.specs.declared.vec.Vec.{Vec}
 use Rattle.wc_text.specs.declared.names.Handle.{Handle}
-use Rattle.wc_buffers.specs.declared.entry.BufferEntry.{BufferEntry}
+use Rattle.wc_buffers.specs.declared.row.BufferEntry.{BufferEntry}
 use Rattle.wc_buffers.specs.Calls.{handle_of, number, are_together, is_alone}
 use Rattle.wc_buffers.specs.Groups.{rows, in_group, has, place, row_of}
 use Rattle.wc_buffers.specs.Kept.{at_handle, blank, entry_at, groups_of_handles, AreBuffersKept, handles}

@@ -6,7 +6,7 @@ use Rattle.std.specs.List.{list_any}
 use Rattle.wc_text.specs.declared.names.Handle.{Handle}
 use Rattle.wc_text.specs.declared.names.Pair.{Pair}
 use Rattle.wc_buffers.specs.declared.row.BufferRow.{BufferRow}
-use Rattle.wc_buffers.specs.declared.entry.BufferEntry.{BufferEntry}
+use Rattle.wc_buffers.specs.declared.row.BufferEntry.{BufferEntry}
 use Rattle.wc_buffers.specs.declared.refused.BufferRefused.{BufferRefused}
 use Rattle.wc_buffers.specs.declared.refused.BufferRefused.TheVariants.{NoBuffer, IsCore, BadName}
 use Rattle.wc_buffers.specs.declared.refused.BufferRefused.TheVariants.{FixedVar, NameTaken, NoVar}

@@ -5,11 +5,10 @@ ghost use Rattle.wc_buffers.specs.Groups.{rows};
 ghost use Rattle.wc_buffers.specs.Kept.{AreBuffers, handles};
 
 use crate::entries::Entries;
-use crate::entry::BufferEntry;
 use crate::group::MOST_BUFFERS;
 use crate::iter::GroupIter;
 use crate::names::Names;
-use crate::row::BufferRow;
+use crate::row::{BufferEntry, BufferRow};
 use crate::table::GroupTable;
 use crate::vars::Vars;
 use std::alloc::Global;
@@ -30,7 +29,7 @@ pub struct Buffers {
 
 impl Model for Buffers {
     ghost use Rattle.std.specs.Prelude.{List};
-    ghost use Rattle.wc_buffers.specs.declared.entry.BufferEntry.{BufferEntry};
+    ghost use Rattle.wc_buffers.specs.declared.row.BufferEntry.{BufferEntry};
     ghost use Rattle.wc_buffers.specs.Kept.{groups_of_handles, AreBuffersKept};
 
     ghost Value = { List (List BufferEntry) };

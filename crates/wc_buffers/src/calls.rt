@@ -14,10 +14,9 @@ ghost use Rattle.wc_buffers.specs.Kept.{HasUtf8Row};
 ghost use Rattle.wc_buffers.specs.Vars.{cut_to};
 
 use crate::buffers::Buffers;
-use crate::entry::BufferEntry;
 use crate::refusals::MOST_VARS;
 use crate::refused::BufferRefused;
-use crate::row::BufferRow;
+use crate::row::{BufferEntry, BufferRow};
 use crate::vars::{VALUE_LIMIT, Vars, cut_value};
 use std::alloc::Global;
 use wc_text::{Handle, Items, NoMemory, Pair, Text, cut};

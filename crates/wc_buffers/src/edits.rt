@@ -11,8 +11,7 @@ ghost use Rattle.wc_buffers.specs.Groups.{rows};
 ghost use Rattle.wc_buffers.specs.Kept.{IsBuffer};
 
 use crate::buffers::Buffers;
-use crate::entry::BufferEntry;
-use crate::row::BufferRow;
+use crate::row::{BufferEntry, BufferRow};
 use crate::{entries, names};
 use std::alloc::Global;
 use wc_text::{Handle, NoMemory, Text};

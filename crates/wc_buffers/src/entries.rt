@@ -6,7 +6,7 @@ ghost use Rattle.wc_buffers.specs.Calls.{with_hidden, with_full_name, with_short
 ghost use Rattle.wc_buffers.specs.Calls.{with_var, without_var, lacks_var};
 ghost use Rattle.wc_buffers.specs.Kept.{at_handle, IsEntryChanged};
 
-use crate::entry::BufferEntry;
+use crate::row::BufferEntry;
 use std::alloc::Global;
 use std::collections::HashMap;
 use std::mem;

@@ -5,7 +5,6 @@ mod buffers;
 mod calls;
 mod edits;
 mod entries;
-mod entry;
 mod group;
 mod iter;
 mod names;
@@ -16,8 +15,7 @@ mod table;
 mod vars;
 
 pub use buffers::Buffers;
-pub use entry::BufferEntry;
 pub use iter::GroupIter;
 pub use refused::BufferRefused;
-pub use row::{BufferRow, BufferSpec};
+pub use row::{BufferEntry, BufferRow, BufferSpec};
 pub use vars::{VarIter, Vars};

@@ -1,3 +1,4 @@
+use crate::vars::Vars;
 use wc_text::{Handle, Items, Pair, Text};
 
 /// What is kept of a buffer beside its variables.
@@ -22,4 +23,11 @@ pub struct BufferSpec {
     pub short_name: Text,
     pub title: Text,
     pub vars: Items<Pair>,
+}
+
+/// A buffer with its variables.
+#[derive(Drop)]
+pub struct BufferEntry {
+    pub(crate) row: BufferRow,
+    pub(crate) vars: Vars,
 }

@@ -6,7 +6,7 @@ use Rattle.std.specs.List.{flat_map}
 use Rattle.std.specs.FinMap.{FinMap}
 use Rattle.std.specs.Ordering.{nat_cmp}
 use Rattle.wc_nicklist.specs.declared.item.Row.{Row}
-use Rattle.wc_nickdiff.specs.declared.push.Push.{Push}
+use Rattle.wc_nickdiff.specs.declared.diff_item.Push.{Push}
 use Rattle.wc_session.specs.Event.{push_told}
 use Rattle.wc_objects.specs.declared.object.WireMessage.{WireMessage}
 use Rattle.wc_session.specs.declared.client.Client.{Client}

@@ -6,8 +6,8 @@ use Rattle.wc_nicklist.specs.Order.{key}
 use Rattle.wc_nicklist.specs.Rows.{find_row, IsRows}
 use Rattle.wc_nicklist.proofs.OrderLaws.{path_eq-same}
 use Rattle.wc_nickdiff.specs.declared.diff_item.Mark.TheVariants.{Added, Removed, Changed}
-use Rattle.wc_nickdiff.specs.declared.push.Push.{Push}
-use Rattle.wc_nickdiff.specs.declared.push.Push.TheVariants.{Nothing}
+use Rattle.wc_nickdiff.specs.declared.diff_item.Push.{Push}
+use Rattle.wc_nickdiff.specs.declared.diff_item.Push.TheVariants.{Nothing}
 use Rattle.wc_nickdiff.specs.NickPush.{stays, change_list, is_group, is_nick, outs, ins, changed_rows, root_item, op, with_parents, push_of, nick_push}
 use Rattle.wc_nickdiff.proofs.PushLaw.{item_eq-same}
 use Rattle.wc_nickdiff.proofs.Split.{split_of}

@@ -4,7 +4,7 @@ use Rattle.std.specs.Prelude.{map}
 use Rattle.std.specs.List.{flat_map}
 use Rattle.wc_text.specs.declared.names.Handle.{Handle}
 use Rattle.wc_nicklist.specs.declared.item.Row.{Row}
-use Rattle.wc_nickdiff.specs.declared.push.Push.{Push}
+use Rattle.wc_nickdiff.specs.declared.diff_item.Push.{Push}
 use Rattle.wc_model.specs.Order.{order}
 use Rattle.wc_model.specs.World.{World}
 use Rattle.wc_objects.specs.declared.object.WireMessage.{WireMessage}

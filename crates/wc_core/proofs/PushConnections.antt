@@ -6,12 +6,12 @@ use Rattle.std.proofs.lemmas.List.Concat.{flat_map-append}
 use Rattle.wc_text.specs.declared.names.Handle.{Handle}
 use Rattle.wc_nicklist.specs.declared.item.Row.{Row}
 use Rattle.wc_nicklist.specs.Rows.{IsRows}
-use Rattle.wc_nickdiff.specs.declared.first_touch.FirstTouch.{FirstTouch}
+use Rattle.wc_nickdiff.specs.declared.diff_item.FirstTouch.{FirstTouch}
 use Rattle.wc_nickdiff.specs.Held.{OfBuffer, before_at, touches_of}
 use Rattle.wc_nickdiff.proofs.TouchLaw.{untouched_told}
-use Rattle.wc_nickdiff.specs.declared.push.Push.{Push}
-use Rattle.wc_nickdiff.specs.declared.push.Push.TheVariants.{Nothing, Diff, Full}
-use Rattle.wc_buffers.specs.declared.entry.BufferEntry.{BufferEntry}
+use Rattle.wc_nickdiff.specs.declared.diff_item.Push.{Push}
+use Rattle.wc_nickdiff.specs.declared.diff_item.Push.TheVariants.{Nothing, Diff, Full}
+use Rattle.wc_buffers.specs.declared.row.BufferEntry.{BufferEntry}
 use Rattle.wc_buffers.specs.Calls.{EntryGroups, handle_of}
 use Rattle.wc_buffers.specs.Groups.{in_group, has}
 use Rattle.wc_buffers.specs.Kept.{handles}

@@ -6,7 +6,7 @@ use Rattle.std.specs.Ordering.{nat_cmp}
 use Rattle.std.specs.Cmp.{nat_cmp_total}
 use Rattle.wc_text.specs.declared.names.Handle.{Handle}
 use Rattle.wc_nicklist.specs.declared.item.Row.{Row}
-use Rattle.wc_nickdiff.specs.declared.push.Push.TheVariants.{Nothing}
+use Rattle.wc_nickdiff.specs.declared.diff_item.Push.TheVariants.{Nothing}
 use Rattle.wc_nickdiff.specs.NickPush.{nick_push}
 use Rattle.wc_model.specs.declared.change.Change.{Change}
 use Rattle.wc_model.specs.declared.change.What.{What}

@@ -9,8 +9,8 @@ use Rattle.std.proofs.lemmas.Bool.Decides.{nat_tests}
 use Rattle.wc_text.proofs.IntegerLemmas.{list_all_fails}
 use Rattle.wc_text.specs.Splits.{word_of, rest_of}
 use Rattle.wc_model.specs.declared.change.What.TheVariants as what
-use Rattle.wc_core.specs.declared.buffer_word.BufferWord.{BufferWord}
-use Rattle.wc_core.specs.declared.buffer_word.BufferWord.TheVariants as words
+use Rattle.wc_core.specs.declared.typed_buffer.BufferWord.{BufferWord}
+use Rattle.wc_core.specs.declared.typed_buffer.BufferWord.TheVariants as words
 use Rattle.wc_core.specs.Typed.{TypedCommand, Adds, Merges, Changes, wrong_buffer, one_word, without_words, moves_to, close_command, set_property, buffer_word, buffer_command}
 use Rattle.wc_core.specs.TypedSeen.{set_var_property, number_of, word_named}
 

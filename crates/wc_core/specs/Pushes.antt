@@ -3,7 +3,7 @@ use Rattle.std.specs.Prelude.{◌≡◌, ℕ, true, List, [], ◌∷◌, ◌++�
 use Rattle.std.specs.List.{flat_map}
 use Rattle.wc_text.specs.declared.names.Handle.{Handle}
 use Rattle.wc_nicklist.specs.declared.item.Row.{Row}
-use Rattle.wc_nickdiff.specs.declared.push.Push.{Push}
+use Rattle.wc_nickdiff.specs.declared.diff_item.Push.{Push}
 use Rattle.wc_nickdiff.specs.Held.{OfBuffer, before_at, touches_of}
 use Rattle.wc_nickdiff.specs.NickPush.{nick_push}
 use Rattle.wc_nickdiff.specs.Told.{IsTold}

@@ -8,7 +8,7 @@ use Rattle.wc_text.specs.declared.names.Cause.TheVariants.{Ended, Failed, Surplu
 use Rattle.std.specs.FinMap.{FinMap}
 use Rattle.std.specs.Ordering.{nat_cmp}
 use Rattle.wc_nicklist.specs.declared.item.Row.{Row}
-use Rattle.wc_nickdiff.specs.declared.push.Push.{Push}
+use Rattle.wc_nickdiff.specs.declared.diff_item.Push.{Push}
 use Rattle.wc_nickdiff.specs.NickPush.{nick_push}
 use Rattle.wc_outside.specs.Keyed.{at_key, put_at, without}
 use Rattle.wc_buffers.specs.Calls.{is_there}

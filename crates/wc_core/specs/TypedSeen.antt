@@ -7,10 +7,10 @@ use Rattle.std.specs.Borrow.{Bor}
 use Rattle.wc_text.specs.Integer.{is_numeral}
 use Rattle.wc_text.specs.Splits.{word_of, rest_of}
 use Rattle.wc_model.specs.declared.change.What.TheVariants as what
-use Rattle.wc_core.specs.declared.buffer_word.BufferWord.{BufferWord}
-use Rattle.wc_core.specs.declared.buffer_word.BufferWord.TheVariants as words
-use Rattle.wc_core.specs.declared.buffer_word.Property.{Property}
-use Rattle.wc_core.specs.declared.buffer_word.Property.TheVariants as properties
+use Rattle.wc_core.specs.declared.typed_buffer.BufferWord.{BufferWord}
+use Rattle.wc_core.specs.declared.typed_buffer.BufferWord.TheVariants as words
+use Rattle.wc_core.specs.declared.typed_buffer.Property.{Property}
+use Rattle.wc_core.specs.declared.typed_buffer.Property.TheVariants as properties
 use Rattle.wc_core.specs.declared.typed.CommandText.{CommandText}
 use Rattle.wc_core.specs.declared.typed.CommandText.TheVariants as asked
 use Rattle.wc_core.specs.Typed.{TypedCommand, Nothing, Quits, Refused, Prints, Adds, Closes, Merges}

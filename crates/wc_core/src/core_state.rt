@@ -23,7 +23,6 @@ ghost use Rattle.wc_core.specs.Served.{FollowsUnlessStarved, AdmitsUnlessStarved
 ghost use Rattle.wc_core.specs.Served.{OutcomeUtf8};
 ghost use Rattle.wc_core.specs.Inputs.{MakesChange, MayTell, GoesOn, Stops};
 
-use crate::changes::told_refusal;
 use crate::connection::{
     Connection, Departure, connection_place, drop_connection, first_departure, open_count,
     tell_notice,
@@ -31,7 +30,7 @@ use crate::connection::{
 use crate::nick_change::change_world;
 use crate::pushes::{forget_nicks, push_nicks};
 use crate::refusals::refusal_text;
-use crate::resolve::{Resolution, resolve};
+use crate::resolve::{Resolution, resolve, told_refusal};
 use crate::typed::read_typed;
 use std::alloc::Global;
 use std::marker::Model;

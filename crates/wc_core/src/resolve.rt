@@ -1,20 +1,22 @@
-ghost use Rattle.std.specs.Prelude.{◌≡◌, IfOk, IfErr, false};
-ghost use Rattle.wc_model.specs.declared.change.What.TheVariants as what;
-ghost use Rattle.wc_core.specs.Typed.{Merges};
+ghost use Rattle.std.specs.Option.{option_copied};
+ghost use Rattle.std.specs.Prelude.{◌≡◌, IfOk, IfErr, false, ◌++◌, ℕ, ◌^◌, ◌-◌, min};
 ghost use Rattle.wc_core.specs.Resolved.{Asks, Tells, no_such_buffer, change_of, buffer_meant};
-ghost use Rattle.wc_core.specs.Resolved.{of_meant, of_named, effect_of};
-ghost use Rattle.wc_core.specs.Step.{is_quit};
-ghost use Rattle.wc_core.specs.TypedSeen.{meaning, word_in};
+ghost use Rattle.wc_core.specs.Resolved.{of_meant, of_named, effect_of, line_spec, core_spec};
+ghost use Rattle.wc_core.specs.Resolved.{plugin_in, rename_of, told_refusal, first_of_number};
+ghost use Rattle.wc_core.specs.Resolved.{first_in};
 ghost use Rattle.wc_core.specs.ResolvedSeen.{outcome_of};
+ghost use Rattle.wc_core.specs.Step.{is_quit};
+ghost use Rattle.wc_core.specs.Typed.{Merges, tags_of};
+ghost use Rattle.wc_core.specs.TypedSeen.{meaning, word_in};
+ghost use Rattle.wc_model.specs.declared.change.What.TheVariants as what;
 
-use crate::changes::{add, print, rename};
-use crate::meant::buffer_meant;
 use crate::refusals::joined;
-use crate::typed::CommandText;
+use crate::typed::{CommandText, read_number, read_tags};
 use std::alloc::Global;
-use wc_buffers::Buffers;
-use wc_model::{Change, What};
-use wc_text::{Handle, NoMemory, Pair, Text};
+use wc_buffers::{BufferRow, BufferSpec, Buffers};
+use wc_model::{Change, LineSpec, What};
+use wc_session::buffer_named;
+use wc_text::{Handle, Items, NoMemory, Pair, Text, split_once};
 use wc_world::World;
 
 /// The handle of no buffer, which a change has that adds one.
@@ -135,5 +137,124 @@ pub(crate) fn resolve(
             buffer,
             What::RemoveVar(Text::from_slice(alloc, name)?),
         )),
+    }
+}
+
+/// The handle of the core buffer.
+const CORE: Handle = Handle(1);
+
+/// The prefix of a line that tells a refusal.
+const REFUSAL: &[u8] = b"=!=";
+
+/// A line that is printed at this moment, in milliseconds since 1970.
+fn line_spec(moment: u64, tags: Items<Text>, prefix: Text, message: Text) -> LineSpec
+    ensures { result ≡ line_spec moment tags prefix message }
+{
+    LineSpec {
+        date: moment / 1000,
+        date_printed: moment / 1000,
+        displayed: true,
+        notify: 0,
+        highlight: false,
+        tags,
+        prefix,
+        message,
+    }
+}
+
+/// The print of a line at this moment, in milliseconds since 1970. Commas part its tags.
+pub(crate) fn print(
+    alloc: Global,
+    moment: u64,
+    tags: &[u8],
+    prefix: &[u8],
+    message: &[u8],
+) -> Result<What, NoMemory>
+    ensures { IfOk result (λ w. w
+        ≡ what.Print (line_spec moment (tags_of tags.now) prefix.now message.now)) }
+{
+    let tags = read_tags(alloc, tags)?;
+    let prefix = Text::from_slice(alloc, prefix)?;
+    let message = Text::from_slice(alloc, message)?;
+    Ok(What::Print(line_spec(moment, tags, prefix, message)))
+}
+
+/// The print that tells a refusal: a line of the core buffer.
+pub(crate) fn told_refusal(alloc: Global, moment: u64, text: Text) -> Result<Change, NoMemory>
+    ensures { IfOk result (λ change. change ≡ told_refusal moment text) }
+{
+    let prefix = Text::from_slice(alloc, REFUSAL)?;
+    Ok(Change {
+        buffer: CORE,
+        what: What::Print(line_spec(moment, Items::new(alloc), prefix, text)),
+    })
+}
+
+/// A new buffer of the core.
+pub(crate) fn add(alloc: Global, name: &[u8]) -> Result<What, NoMemory>
+    ensures { IfOk result (λ w. w ≡ what.Add (core_spec name.now)) }
+{
+    let full_name = joined(alloc, b"core.", name)?;
+    let short_name = Text::from_slice(alloc, name)?;
+    Ok(What::Add(BufferSpec {
+        full_name,
+        short_name,
+        title: Text::new(alloc),
+        vars: Items::new(alloc),
+    }))
+}
+
+/// What is before the first dot of a buffer's full name, or all of it.
+#[tactic(auto, using(crate::proofs::ResolvedWords::plugin_before))]
+fn plugin_in(row: Option<&BufferRow>) -> &[u8]
+    ensures { result.now ≡ plugin_in (option_copied row.entry) }
+{
+    match row {
+        Some(row) => split_once(row.full_name.as_slice(), b'.').0,
+        None => b"",
+    }
+}
+
+/// Another name after the first dot of a buffer's full name.
+pub(crate) fn rename(
+    alloc: Global,
+    buffers: &Buffers,
+    buffer: Handle,
+    name: &[u8],
+) -> Result<What, NoMemory>
+    ensures { IfOk result (λ w. w ≡ rename_of buffers.now buffer name.now) }
+{
+    let mut full_name = joined(alloc, plugin_in(buffers.get(buffer)), b".")?;
+    full_name.append(name)?;
+    Ok(What::Rename {
+        name: full_name,
+        flips: Items::new(alloc),
+    })
+}
+
+/// The first buffer of the group of a number, which may be larger than the largest of its type.
+#[tactic(auto, using(crate::proofs::ResolvedWords::numbered_facts))]
+fn numbered(buffers: &Buffers, number: u32) -> Option<Handle>
+    ensures { (n : ℕ) → number ≡ min n (2 ^ 32 - 1) → result ≡ first_of_number buffers.now n }
+{
+    let mut left = number.checked_sub(1)?;
+    for group in buffers.groups() {
+        if left == 0 {
+            return group.first().copied();
+        }
+        left -= 1;
+    }
+    None
+}
+
+/// The buffer that a word of a command means: by the number of its group, of which the first one is
+/// meant, by its full name or by its handle. None exactly where there is no such buffer.
+#[tactic(auto, unfolding(crate::specs::Resolved::buffer_meant))]
+pub(crate) fn buffer_meant(buffers: &Buffers, word: &[u8]) -> Option<Handle>
+    ensures { result ≡ buffer_meant buffers.now word.now }
+{
+    match read_number(word) {
+        Some(number) => numbered(buffers, number),
+        None => buffer_named(buffers, word),
     }
 }

@@ -1,11 +1,13 @@
-ghost use Rattle.std.specs.Prelude.{◌≡◌};
+ghost use Rattle.std.specs.Prelude.{◌≡◌, Some, ◌++◌, ◌∷◌, [], IfOk, OnOk, filter};
 ghost use Rattle.wc_core.specs.Typed.{no_text_here, unknown_command, wrong_arguments, quit_command};
-ghost use Rattle.wc_core.specs.Typed.{command, slash_command, typed_line};
-ghost use Rattle.wc_core.specs.TypedSeen.{meaning};
+ghost use Rattle.wc_core.specs.Typed.{command, slash_command, typed_line, print_words};
+ghost use Rattle.wc_core.specs.Typed.{print_tagged, print_on, print_command, tags_of};
+ghost use Rattle.wc_core.specs.TypedSeen.{meaning, word_in, number_of};
+ghost use Rattle.wc_text.specs.Words.{is_filled};
 
 use crate::typed_buffer::buffer_command;
-use crate::typed_print::print_command;
-use wc_text::cut_word;
+use std::alloc::Global;
+use wc_text::{Items, NoMemory, Text, cut_word, split_once};
 
 const UNKNOWN: &[u8] = b"unknown command: /";
 
@@ -122,4 +124,116 @@ pub fn read_typed(line: &[u8]) -> CommandText<'_>
         [b'/', text @ ..] => slashed(text),
         _ => no_text_here(),
     }
+}
+
+const BUFFER: &[u8] = b"-buffer";
+
+const TAGS: &[u8] = b"-tags";
+
+/// A text whose first tab parts the prefix from the message.
+fn printed<'a>(buffer: Option<&'a [u8]>, tags: &'a [u8], text: &'a [u8]) -> CommandText<'a>
+    ensures { meaning result ≡ print_words (word_in buffer.entry) (tags_of tags.now) text.now }
+{
+    if text.is_empty() {
+        return wrong_arguments(b"print");
+    }
+    match split_once(text, b'\t') {
+        (prefix, Some(message)) => CommandText::Print {
+            buffer,
+            tags,
+            prefix,
+            message,
+        },
+        (_, None) => CommandText::Print {
+            buffer,
+            tags,
+            prefix: b"",
+            message: text,
+        },
+    }
+}
+
+/// After the buffer there may be tags.
+fn print_tagged<'a>(buffer: &'a [u8], text: &'a [u8]) -> CommandText<'a>
+    ensures { meaning result ≡ print_tagged (Some buffer.now) text.now }
+{
+    let (word, rest) = cut_word(text);
+    if word != TAGS {
+        return printed(Some(buffer), b"", text);
+    }
+    let (tags, text) = cut_word(rest);
+    printed(Some(buffer), tags, text)
+}
+
+/// After the tags there may be a buffer.
+fn print_on<'a>(tags: &'a [u8], text: &'a [u8]) -> CommandText<'a>
+    ensures { meaning result ≡ print_on (tags_of tags.now) text.now }
+{
+    let (word, rest) = cut_word(text);
+    if word != BUFFER {
+        return printed(None, tags, text);
+    }
+    let (buffer, text) = cut_word(rest);
+    printed(Some(buffer), tags, text)
+}
+
+/// What is to be printed: a text, which words for its buffer and for its tags may are before, in
+/// either order.
+pub(crate) fn print_command(text: &[u8]) -> CommandText<'_>
+    ensures { meaning result ≡ print_command text.now }
+{
+    let (word, rest) = cut_word(text);
+    if word == BUFFER {
+        let (buffer, text) = cut_word(rest);
+        return print_tagged(buffer, text);
+    }
+    if word == TAGS {
+        let (tags, text) = cut_word(rest);
+        return print_on(tags, text);
+    }
+    printed(None, b"", text)
+}
+
+/// Puts a tag after the others, where it is not empty.
+fn push_filled(tags: &mut Items<Text>, alloc: Global, tag: &[u8]) -> Result<(), NoMemory>
+    ensures { OnOk result (tags.new ≡ tags.old ++ filter is_filled (tag.now ∷ [])) }
+{
+    if tag.is_empty() {
+        return Ok(());
+    }
+    tags.push(Text::from_slice(alloc, tag)?)
+}
+
+/// The tags that commas part. Empty ones are passed over.
+pub(crate) fn read_tags(alloc: Global, word: &[u8]) -> Result<Items<Text>, NoMemory>
+    ensures { IfOk result (λ tags. tags ≡ tags_of word.now) }
+{
+    let mut tags = Items::new(alloc);
+    let mut left = Some(word);
+    while let Some(rest) = left {
+        let (tag, following) = split_once(rest, b',');
+        push_filled(&mut tags, alloc, tag)?;
+        left = following;
+    }
+    Ok(tags)
+}
+
+/// The number that decimal digits write, or the largest of its type where that one is larger. None
+/// where the bytes are no digits.
+pub(crate) fn read_number(bytes: &[u8]) -> Option<u32>
+    ensures { result ≡ number_of bytes.now }
+{
+    if bytes.is_empty() {
+        return None;
+    }
+    let mut value: u32 = 0;
+    for b in bytes {
+        if !b.is_ascii_digit() {
+            return None;
+        }
+        value = value
+            .saturating_mul(10)
+            .saturating_add(u32::from(*b - b'0'));
+    }
+    Some(value)
 }

@@ -1,15 +1,111 @@
-ghost use Rattle.std.specs.Prelude.{◌≡◌};
 ghost use Rattle.std.specs.Option.{option_copied};
-ghost use Rattle.wc_text.specs.Splits.{word_of, rest_of};
-ghost use Rattle.wc_core.specs.Typed.{Adds, Merges, wrong_buffer, one_word, without_words};
-ghost use Rattle.wc_core.specs.Typed.{some_text, moves_to, close_command, set_property};
+ghost use Rattle.std.specs.Prelude.{◌≡◌, ℕ, List};
+ghost use Rattle.wc_core.specs.Typed.{set_property, Adds, Merges, wrong_buffer, one_word};
+ghost use Rattle.wc_core.specs.Typed.{without_words, some_text, moves_to, close_command};
 ghost use Rattle.wc_core.specs.Typed.{buffer_command};
-ghost use Rattle.wc_core.specs.TypedSeen.{meaning, only_word, property_set};
+ghost use Rattle.wc_core.specs.TypedSeen.{name_of, word_named, set_to, set_var_property, meaning};
+ghost use Rattle.wc_core.specs.TypedSeen.{only_word, property_set};
+ghost use Rattle.wc_text.specs.Splits.{word_of, rest_of};
 
-use crate::buffer_word::{BufferWord, Property, read_property};
-use crate::number::read_number;
-use crate::typed::{CommandText, wrong_arguments};
+use crate::typed::{CommandText, read_number, wrong_arguments};
 use wc_text::cut_word;
+
+/// The word after `/buffer`.
+#[derive(Clone, Copy, PartialEq, Eq)]
+pub(crate) enum BufferWord {
+    Add,
+    Close,
+    Move,
+    Merge,
+    Unmerge,
+    Hide,
+    Unhide,
+    Clear,
+    Set,
+}
+
+impl BufferWord {
+    const ALL: [BufferWord; 9] = [
+        BufferWord::Add,
+        BufferWord::Close,
+        BufferWord::Move,
+        BufferWord::Merge,
+        BufferWord::Unmerge,
+        BufferWord::Hide,
+        BufferWord::Unhide,
+        BufferWord::Clear,
+        BufferWord::Set,
+    ];
+
+    fn name(self) -> &'static [u8]
+        ensures { result.now ≡ name_of self }
+    {
+        match self {
+            BufferWord::Add => b"add",
+            BufferWord::Close => b"close",
+            BufferWord::Move => b"move",
+            BufferWord::Merge => b"merge",
+            BufferWord::Unmerge => b"unmerge",
+            BufferWord::Hide => b"hide",
+            BufferWord::Unhide => b"unhide",
+            BufferWord::Clear => b"clear",
+            BufferWord::Set => b"set",
+        }
+    }
+
+    /// The word that is written so, with case kept.
+    pub(crate) fn named(text: &[u8]) -> Option<BufferWord>
+        ensures { result ≡ word_named text.now }
+    {
+        BufferWord::ALL
+            .iter()
+            .copied()
+            .find(|word| text == word.name())
+    }
+}
+
+/// What `/buffer set` sets.
+pub(crate) enum Property<'a> {
+    Name,
+    ShortName,
+    Title,
+    /// The variable that is named after `localvar_set_`.
+    SetVar(&'a [u8]),
+    /// The variable that is named after `localvar_del_`.
+    RemoveVar(&'a [u8]),
+}
+
+const SET_VAR: &[u8] = b"localvar_set_";
+
+const REMOVE_VAR: &[u8] = b"localvar_del_";
+
+/// The property of a variable.
+fn var_property(word: &[u8]) -> Option<Property<'_>>
+    ensures { (text : List ℕ) → set_to result text ≡ set_var_property word.now text }
+{
+    if word.starts_with(SET_VAR) {
+        return Some(Property::SetVar(word.split_at(13).1));
+    }
+    if word.starts_with(REMOVE_VAR) {
+        return Some(Property::RemoveVar(word.split_at(13).1));
+    }
+    None
+}
+
+/// The property that is written so.
+pub(crate) fn read_property(word: &[u8]) -> Option<Property<'_>>
+    ensures { (text : List ℕ) → set_to result text ≡ set_property word.now text }
+{
+    if word == b"name".as_slice() {
+        Some(Property::Name)
+    } else if word == b"short_name".as_slice() {
+        Some(Property::ShortName)
+    } else if word == b"title".as_slice() {
+        Some(Property::Title)
+    } else {
+        var_property(word)
+    }
+}
 
 fn wrong_buffer<'a>() -> CommandText<'a>
     ensures { meaning result ≡ wrong_buffer }

@@ -2,7 +2,7 @@
 use Rattle.std.proofs.Common.{◌≡◌, ℕ, ◌+◌, ◌≤◌, true, false, eqb, List, [], ◌∷◌, ◌++◌, ◌⊎◌, inl, inr, map, length, find, flat_map, Some, refl, sym, ap, subst, ◌∙◌, arith, append_assoc, eq-eqb, length-append}
 use Rattle.std.specs.List.{AllByRecursion}
 use Rattle.std.proofs.lemmas.List.Concat.{flat_map-append}
-use Rattle.wc_buffers.specs.declared.entry.BufferEntry.{BufferEntry}
+use Rattle.wc_buffers.specs.declared.row.BufferEntry.{BufferEntry}
 use Rattle.wc_buffers.specs.Calls.{EntryGroups, handle_of, entry_of}
 use Rattle.wc_buffers.specs.Groups.{rows, in_group, times_in, times, AllFilled}
 use Rattle.wc_buffers.specs.Kept.{AreBuffers, IsBuffer, handles}

@@ -4,7 +4,7 @@ use Rattle.wc_text.specs.declared.names.Handle.{Handle}
 use Rattle.wc_nicklist.specs.declared.item.Row.{Row}
 use Rattle.wc_nicklist.proofs.OrderLaws.{by_bool}
 use Rattle.wc_nickdiff.specs.NickPush.{full_list, root_item}
-use Rattle.wc_buffers.specs.declared.entry.BufferEntry.{BufferEntry}
+use Rattle.wc_buffers.specs.declared.row.BufferEntry.{BufferEntry}
 use Rattle.wc_buffers.specs.Calls.{handle_of, entry_of, is_there}
 use Rattle.wc_buffers.specs.Groups.{rows}
 use Rattle.wc_buffers.specs.Kept.{AreBuffers, handles}

@@ -4,8 +4,8 @@ use Rattle.std.specs.List.{flat_map, list_all, AllByRecursion}
 use Rattle.wc_text.specs.declared.names.Handle.{Handle}
 use Rattle.wc_nicklist.specs.Rows.{TextsAreUtf8}
 use Rattle.wc_nickdiff.specs.Apply.{AreUtf8}
-use Rattle.wc_nickdiff.specs.declared.push.Push.{Push}
-use Rattle.wc_nickdiff.specs.declared.push.Push.TheVariants.{Nothing, Diff, Full}
+use Rattle.wc_nickdiff.specs.declared.diff_item.Push.{Push}
+use Rattle.wc_nickdiff.specs.declared.diff_item.Push.TheVariants.{Nothing, Diff, Full}
 use Rattle.wc_model.specs.World.{World}
 use Rattle.wc_objects.specs.declared.kind.Kind.{Kind}
 use Rattle.wc_objects.specs.declared.kind.Kind.TheVariants as k

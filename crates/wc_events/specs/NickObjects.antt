@@ -6,10 +6,10 @@ use Rattle.wc_nicklist.specs.declared.item.Item.{Item}
 use Rattle.wc_nickdiff.specs.declared.diff_item.DiffItem.{DiffItem}
 use Rattle.wc_nickdiff.specs.declared.diff_item.Mark.{Mark}
 use Rattle.wc_nickdiff.specs.declared.diff_item.Mark.TheVariants.{Parent, Added, Removed, Changed}
-use Rattle.wc_nickdiff.specs.declared.push.Push.{Push}
-use Rattle.wc_nickdiff.specs.declared.push.Push.TheVariants.{Nothing, Diff, Full}
+use Rattle.wc_nickdiff.specs.declared.diff_item.Push.{Push}
+use Rattle.wc_nickdiff.specs.declared.diff_item.Push.TheVariants.{Nothing, Diff, Full}
 use Rattle.wc_nickdiff.specs.NickPush.{full_list, root_item}
-use Rattle.wc_buffers.specs.declared.entry.BufferEntry.{BufferEntry}
+use Rattle.wc_buffers.specs.declared.row.BufferEntry.{BufferEntry}
 use Rattle.wc_buffers.specs.Calls.{entry_of}
 use Rattle.wc_buffers.specs.Groups.{rows}
 use Rattle.wc_model.specs.declared.notice.EventKind.{EventKind}

@@ -1,16 +1,31 @@
-ghost use Rattle.std.specs.Prelude.{◌≡◌, ◌+◌, ◌-◌, ◌++◌, ◌≤◌, ◌^◌, true, IfOk, OnOk};
-ghost use Rattle.std.specs.Prelude.{length, pos};
-ghost use Rattle.wc_objects.specs.Forms.{well_formed};
+ghost use Rattle.std.specs.Prelude.{◌≡◌, None, Some, MatchOption, IfSome, ◌+◌, ◌-◌, ◌++◌};
+ghost use Rattle.std.specs.Prelude.{◌≤◌, ◌^◌, true, IfOk, OnOk, length, pos};
+ghost use Rattle.wc_buffers.specs.Calls.{entry_of};
+ghost use Rattle.wc_buffers.specs.Kept.{IsBuffer};
 ghost use Rattle.wc_events.specs.BufferObjects.{buffer_dump, dumped_buffer, dumped_values};
 ghost use Rattle.wc_events.specs.BufferObjects.{dumped_groups};
 ghost use Rattle.wc_events.specs.Dumps.{group_items};
+ghost use Rattle.wc_objects.specs.Forms.{well_formed};
 
-use crate::standing::standing;
 use crate::values::{count, table, text, truth};
 use std::alloc::Global;
 use wc_buffers::{BufferRow, Buffers, Vars};
 use wc_objects::{Hda, HdaItem, Object};
 use wc_text::{Handle, Items, NoMemory, Text};
+
+/// What there is of a buffer: its row and its variables. None exactly where it is not there.
+pub(crate) fn standing(buffers: &Buffers, buffer: Handle) -> Option<(&BufferRow, &Vars)>
+    ensures entry { MatchOption result (entry_of buffer buffers.now ≡ None)
+        (λ parts. entry_of buffer buffers.now
+        ≡ Some (record { row = parts.0.now; vars = parts.1.now })) }
+    ensures kept { IfSome result
+        (λ parts. IsBuffer (record { row = parts.0.now; vars = parts.1.now })) }
+{
+    let _ = buffers.groups();
+    let row = buffers.get(buffer)?;
+    let vars = buffers.vars(buffer)?;
+    Some((row, vars))
+}
 
 const DUMP_KEYS: &[u8] =
     b"number:int,full_name:str,short_name:str,hidden:int,title:str,local_variables:htb";

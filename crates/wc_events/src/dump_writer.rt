@@ -16,8 +16,8 @@ ghost use Rattle.wc_events.specs.Dumps.{if_there, line_items, are_lines};
 ghost use Rattle.wc_events.specs.LineObjects.{truth, moment, dumped_item, dumped_lines, dump_of};
 ghost use Rattle.wc_events.specs.LineObjects.{line_dump};
 
+use crate::buffers::standing;
 use crate::line_objects::{LINE_KEYS, moment, truth};
-use crate::standing::standing;
 use bytes::BytesMut;
 use std::alloc::Global;
 use wc_lines::{Line, Lines};

@@ -1,19 +1,19 @@
 ghost use Rattle.std.specs.Prelude.{◌≡◌, true, IfOk, IfSome, option_map};
 ghost use Rattle.std.specs.Str.{IsUtf8};
-ghost use Rattle.wc_lines.specs.Ring.{newest};
 ghost use Rattle.wc_buffers.specs.Calls.{entry_of};
-ghost use Rattle.wc_model.specs.World.{lines_at};
-ghost use Rattle.wc_objects.specs.Forms.{well_formed};
-ghost use Rattle.wc_events.specs.LineObjects.{added_objects};
 ghost use Rattle.wc_events.specs.BufferObjects.{named_objects, placed_objects, opened_objects};
 ghost use Rattle.wc_events.specs.BufferObjects.{renamed_objects, title_objects, vars_objects};
-ghost use Rattle.wc_events.specs.BufferObjects.{objects_of, event_objects};
+ghost use Rattle.wc_events.specs.BufferObjects.{objects_of, event_objects, id_of};
+ghost use Rattle.wc_events.specs.LineObjects.{added_objects};
+ghost use Rattle.wc_lines.specs.Ring.{newest};
+ghost use Rattle.wc_model.specs.World.{lines_at};
+ghost use Rattle.wc_objects.specs.Forms.{well_formed};
 
+use crate::buffers::standing;
 use crate::event_values::{
     named_values, opened_values, placed_values, renamed_values, title_values, vars_values,
 };
 use crate::line_objects::line_added;
-use crate::standing::standing;
 use crate::values::about;
 use std::alloc::Global;
 use wc_buffers::Buffers;
@@ -174,5 +174,32 @@ pub fn event_objects(
         | EventKind::Nicklist
         | EventKind::NicklistDiff
         | EventKind::NickTouched => Ok(None),
+    }
+}
+
+/// The id under which an event is told. A touch of a nicklist is told under none.
+pub fn event_id(kind: EventKind) -> &'static [u8]
+    ensures id { result.now ≡ id_of kind }
+    ensures text { IsUtf8 result.now }
+{
+    match kind {
+        EventKind::Opened => b"_buffer_opened",
+        EventKind::Moved => b"_buffer_moved",
+        EventKind::Merged => b"_buffer_merged",
+        EventKind::Unmerged => b"_buffer_unmerged",
+        EventKind::Hidden => b"_buffer_hidden",
+        EventKind::Unhidden => b"_buffer_unhidden",
+        EventKind::Renamed => b"_buffer_renamed",
+        EventKind::TitleChanged => b"_buffer_title_changed",
+        EventKind::VarAdded => b"_buffer_localvar_added",
+        EventKind::VarChanged => b"_buffer_localvar_changed",
+        EventKind::VarRemoved => b"_buffer_localvar_removed",
+        EventKind::Cleared => b"_buffer_cleared",
+        EventKind::Closing => b"_buffer_closing",
+        EventKind::LineAdded => b"_buffer_line_added",
+        EventKind::LineDataChanged => b"_buffer_line_data_changed",
+        EventKind::Nicklist => b"_nicklist",
+        EventKind::NicklistDiff => b"_nicklist_diff",
+        EventKind::NickTouched => b"",
     }
 }

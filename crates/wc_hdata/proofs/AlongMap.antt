@@ -3,7 +3,7 @@ use Rattle.std.proofs.Common.{◌≡◌, ℕ, ◌+◌, List, [], ◌∷◌, ◌+
 use Rattle.std.proofs.lemmas.List.{take-map, drop-map, map-append, reverse-append}
 use Rattle.wc_hdata.specs.declared.count.Count.{Count}
 use Rattle.wc_hdata.specs.declared.count.Count.TheVariants.{One, All, Forward, Backward}
-use Rattle.wc_hdata.specs.declared.reached.HeldLine.{HeldLine as Lent}
+use Rattle.wc_hdata.specs.declared.nodes.HeldLine.{HeldLine as Lent}
 use Rattle.wc_hdata.specs.Along.{along}
 use Rattle.wc_hdata.specs.Reached.{held_line, held_lines}
 

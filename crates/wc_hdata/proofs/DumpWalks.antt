@@ -7,7 +7,7 @@ use Rattle.std.proofs.lemmas.List.{map-append, length-map}
 use Rattle.std.proofs.lemmas.List.Concat.{flat_map-append}
 use Rattle.wc_text.specs.declared.names.Handle.{Handle}
 use Rattle.wc_lines.specs.declared.line.Line.{Line}
-use Rattle.wc_buffers.specs.declared.entry.BufferEntry.{BufferEntry}
+use Rattle.wc_buffers.specs.declared.row.BufferEntry.{BufferEntry}
 use Rattle.wc_buffers.specs.Calls.{EntryGroups, handle_of, buffer_of, entry_of, number}
 use Rattle.wc_buffers.specs.Groups.{rows, in_group, place, times_in, times}
 use Rattle.wc_buffers.specs.Kept.{AreBuffers}

@@ -4,10 +4,10 @@ use Rattle.std.specs.declared.alloc.Global.{Global}
 use Rattle.std.specs.declared.vec.Vec.{Vec}
 use Rattle.wc_text.specs.declared.names.Handle.{Handle}
 use Rattle.wc_lines.specs.declared.line.Line.{Line}
-use Rattle.wc_hdata.specs.declared.reached.HeldLine.{HeldLine as Lent}
-use Rattle.wc_hdata.specs.declared.reached.LineList.{LineList}
-use Rattle.wc_hdata.specs.declared.reached.Place.{Place as LentPlace}
-use Rattle.wc_hdata.specs.declared.reached.Place.TheVariants as lent
+use Rattle.wc_hdata.specs.declared.nodes.HeldLine.{HeldLine as Lent}
+use Rattle.wc_hdata.specs.declared.nodes.LineList.{LineList}
+use Rattle.wc_hdata.specs.declared.nodes.Place.{Place as LentPlace}
+use Rattle.wc_hdata.specs.declared.nodes.Place.TheVariants as lent
 
 -- a line, and the buffer that holds it
 pub record HeldLine : Type 0 where

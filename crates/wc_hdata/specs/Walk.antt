@@ -5,8 +5,8 @@ use Rattle.wc_buffers.specs.Calls.{EntryGroups, buffer_of}
 use Rattle.wc_buffers.specs.declared.row.BufferRow.{BufferRow}
 use Rattle.wc_model.specs.World.{World}
 use Rattle.wc_hdata.specs.declared.path.Step.{Step}
-use Rattle.wc_hdata.specs.declared.reached.LineList.{LineList}
-use Rattle.wc_hdata.specs.declared.reached.LineList.TheVariants.{Own, Mixed}
+use Rattle.wc_hdata.specs.declared.nodes.LineList.{LineList}
+use Rattle.wc_hdata.specs.declared.nodes.LineList.TheVariants.{Own, Mixed}
 use Rattle.wc_hdata.specs.declared.nodes.Node.{Node as LentNode}
 use Rattle.wc_hdata.specs.Reached.{Place, Buffer, Lines, Line_at, Data_at, place_of}
 use Rattle.wc_hdata.specs.Steps.{reach}

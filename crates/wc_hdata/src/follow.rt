@@ -10,10 +10,9 @@ ghost use Rattle.wc_hdata.specs.Steps.{all_buffers};
 ghost use Rattle.wc_hdata.specs.Walk.{nodes_at, nodes_of, visits, nodes_reached};
 ghost use Rattle.wc_hdata.specs.declared.refused.WalkRefused.TheVariants as Refused;
 
-use crate::nodes::{Node, VISITS, first_nodes, onward_all};
+use crate::nodes::{Node, Place, VISITS, first_nodes, onward_all};
 use crate::path::{Path, Start, Step};
 use crate::reach::all_buffers;
-use crate::reached::Place;
 use crate::refused::WalkRefused;
 use crate::starts::starts;
 use std::alloc::Global;

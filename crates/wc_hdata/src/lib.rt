@@ -19,7 +19,6 @@ mod nodes;
 mod path;
 mod pointer;
 mod reach;
-mod reached;
 mod refused;
 mod size;
 mod starts;

@@ -7,7 +7,7 @@ ghost use Rattle.wc_hdata.specs.Values.{first_of, last_of, line_number, of_data,
 
 use crate::key::Key;
 use crate::lists::lines_in;
-use crate::reached::{HeldLine, LineList};
+use crate::nodes::{HeldLine, LineList};
 use crate::values::{count, moment, text, texts, truth};
 use std::alloc::Global;
 use wc_lines::Line;

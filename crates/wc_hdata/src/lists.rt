@@ -5,7 +5,7 @@ ghost use Rattle.wc_hdata.specs.Lists.{by_handle, group_of, is_in, lines_in, lin
 ghost use Rattle.wc_hdata.specs.Lists.{own_lines, shown_list};
 ghost use Rattle.wc_hdata.specs.Reached.{held_lines};
 
-use crate::reached::{HeldLine, LineList};
+use crate::nodes::{HeldLine, LineList};
 use std::alloc::Global;
 use wc_buffers::Buffers;
 use wc_text::{Handle, NoMemory};

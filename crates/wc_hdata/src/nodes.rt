@@ -1,22 +1,46 @@
 //! What the steps of a path reach.
-
 ghost use Rattle.std.specs.Prelude.{◌≡◌, ◌≢◌, ◌++◌, ◌∷◌, [], ◌+◌, ◌<◌, IfOk, OnOk};
 ghost use Rattle.std.specs.Prelude.{IfErr, length};
 ghost use Rattle.wc_hdata.specs.Reached.{place_of, places_of};
+ghost use Rattle.wc_hdata.specs.Refusals.{too_many};
 ghost use Rattle.wc_hdata.specs.Steps.{all_buffers, reach};
 ghost use Rattle.wc_hdata.specs.Walk.{nodes_at, node_at, list_pointer, node_of, nodes_of, onward};
 ghost use Rattle.wc_hdata.specs.Walk.{onward_all, pointer_of, visits, nodes_reached};
-ghost use Rattle.wc_hdata.specs.Refusals.{too_many};
 ghost use Rattle.wc_hdata.specs.declared.refused.WalkRefused.TheVariants as Refused;
 
 use crate::path::Step;
 use crate::reach::reach;
-use crate::reached::{LineList, Place};
 use crate::refused::WalkRefused;
 use std::alloc::Global;
 use wc_buffers::Buffers;
+use wc_lines::Line;
 use wc_text::{Handle, Items, NoMemory};
 use wc_world::World;
+
+/// A line, and the buffer that holds it.
+#[derive(Clone, Copy)]
+pub(crate) struct HeldLine<'a> {
+    pub(crate) buffer: Handle,
+    pub(crate) line: &'a Line,
+}
+
+/// A list of lines.
+#[derive(Clone, Copy)]
+pub(crate) enum LineList {
+    /// The own one of a buffer.
+    Own(Handle),
+    /// The mixed one of the group whose first buffer this is.
+    Mixed(Handle),
+}
+
+/// What an element of a path leads to.
+#[derive(Clone, Copy)]
+pub(crate) enum Place<'a> {
+    Buffer(Handle),
+    Lines(LineList),
+    Line(HeldLine<'a>),
+    LineData(HeldLine<'a>),
+}
 
 /// How many pointers the elements of a path may give together.
 pub(crate) const VISITS: usize = 4_194_304;

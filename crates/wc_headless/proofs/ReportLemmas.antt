@@ -6,7 +6,7 @@ use Rattle.std.proofs.lemmas.Grind.{common_steps}
 use Rattle.wc_outside.specs.declared.sockets.Token.{Token}
 use Rattle.wc_outside.specs.declared.sockets.Token.TheVariants.{Listener, Link}
 use Rattle.wc_outside.specs.Happenings.{is_link, is_listener, IsThere}
-use Rattle.wc_headless.specs.declared.row.Row.{Row}
+use Rattle.wc_headless.specs.declared.rows.Row.{Row}
 use Rattle.wc_headless.specs.Rows.{is_there, is_undrained, SourcesReported}
 
 or_assoc : (a b c : Bool) → (a || b) || c ≡ a || (b || c)

@@ -9,7 +9,7 @@ use Rattle.std.proofs.lemmas.List.Edits.{get_or-remove_below, get_or-remove_abov
 use Rattle.std.proofs.lemmas.List.{get_or-map, get_or_default}
 use Rattle.wc_outside.specs.Keyed.{at_key, put_at, IsKeyPlace, PlaceOf}
 use Rattle.wc_outside.proofs.KeyedLemmas.{here, following, at_key-key, at_key-put_same, at_key-put_other}
-use Rattle.wc_headless.specs.declared.row.Row.{Row}
+use Rattle.wc_headless.specs.declared.rows.Row.{Row}
 use Rattle.wc_headless.specs.Rows.{number_of, no_row, freed_link_row, has, undrained_in, blocked_in, is_there, is_undrained, is_blocked, IsAscending}
 
 ascending_after : (n : ℕ) (ns : List ℕ) → IsAscending (n ∷ ns) → IsAscending ns

@@ -5,7 +5,7 @@ use Rattle.std.specs.List.{list_any}
 use Rattle.wc_outside.specs.declared.sockets.Token.{Token}
 use Rattle.wc_outside.specs.Happenings.{is_link, is_listener, IsThere}
 use Rattle.wc_outside.specs.Keyed.{at_key}
-use Rattle.wc_headless.specs.declared.row.Row.{Row}
+use Rattle.wc_headless.specs.declared.rows.Row.{Row}
 
 -- the number of a row's link
 abbrev pub number_of : Row → ℕ

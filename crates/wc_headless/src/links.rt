@@ -6,8 +6,7 @@ ghost use Rattle.wc_headless.specs.Rows.{number_of, is_there, is_undrained, is_b
 ghost use Rattle.wc_headless.specs.Rows.{freed_link_row, IsAscending, SourcesReported};
 
 use crate::report::report;
-use crate::row::Row;
-use crate::rows::{place_of, set_blocked, set_undrained};
+use crate::rows::{Row, place_of, set_blocked, set_undrained};
 use crate::streams::Streams;
 use std::alloc::{AllocError, Global};
 use std::net::Net;

@@ -5,7 +5,6 @@ mod file_keeper;
 mod links;
 mod mio_sockets;
 mod report;
-mod row;
 mod rows;
 mod std_sink;
 mod streams;

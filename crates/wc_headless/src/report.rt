@@ -3,8 +3,7 @@ ghost use Rattle.wc_outside.specs.Happenings.{IsThere};
 ghost use Rattle.wc_headless.specs.Rows.{number_of, is_there, freed_link_row, IsAscending};
 ghost use Rattle.wc_headless.specs.Rows.{SourcesReported};
 
-use crate::row::Row;
-use crate::rows::{free_all, place_of, set_undrained};
+use crate::rows::{Row, free_all, place_of, set_undrained};
 use crate::streams::Streams;
 use std::net::Net;
 use std::random::RandomSource;

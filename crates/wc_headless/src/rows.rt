@@ -1,11 +1,20 @@
 ghost use Rattle.std.specs.Prelude.{◌≡◌, ◌+◌, ◌<◌, ◌≤◌, ◌&&◌, ◌||◌, ◌==◌, not, map};
 ghost use Rattle.std.specs.Prelude.{length, ℕ, if◌then◌else◌};
-ghost use Rattle.wc_outside.specs.Keyed.{IsKeyPlace, PlaceOf};
 ghost use Rattle.wc_headless.specs.Rows.{number_of, is_there, is_undrained, is_blocked};
 ghost use Rattle.wc_headless.specs.Rows.{IsAscending, freed_link_row};
+ghost use Rattle.wc_outside.specs.Keyed.{IsKeyPlace, PlaceOf};
 
-use crate::row::Row;
 use wc_text::LinkId;
+
+/// What is seen of a link that is there.
+#[derive(Clone, Copy)]
+pub(crate) struct Row {
+    pub(crate) link: LinkId,
+    /// Whether it was reported and is not drained.
+    pub(crate) undrained: bool,
+    /// Whether its last write found no room.
+    pub(crate) blocked: bool,
+}
 
 /// Where the row of a link is.
 pub(crate) fn place_of(rows: &[Row], link: LinkId) -> Option<usize>

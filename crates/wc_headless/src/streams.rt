@@ -3,8 +3,7 @@ ghost use Rattle.wc_outside.specs.Happenings.{IsReadWithin, IsPutWithin, IsThere
 ghost use Rattle.wc_headless.specs.Rows.{number_of, is_there, IsAscending};
 
 use crate::links::SLOTS;
-use crate::row::Row;
-use crate::rows::place_of;
+use crate::rows::{Row, place_of};
 use mio::event::Event;
 use mio::net::{TcpListener, TcpStream};
 use mio::{Events, Interest, Poll};

@@ -9,7 +9,6 @@ mod laws;
 mod marks;
 mod past;
 mod places;
-mod refused;
 mod slot;
 mod slots;
 mod steps;
@@ -17,9 +16,8 @@ mod table;
 #[cfg(test)]
 mod tests;
 
-pub use entry::{Entry, HookId, Owner};
+pub use entry::{Entry, HookId, HookRefused, Owner};
 pub use kind::HookKind;
 pub use laws::{passes_hold, steps_hold};
-pub use refused::HookRefused;
 pub use steps::Steps;
 pub use table::{HookTable, Pass};

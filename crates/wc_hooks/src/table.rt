@@ -2,7 +2,7 @@ ghost use Rattle.std.specs.Prelude.{◌≤◌, is_some, ◌≡◌, ◌≢◌, �
 ghost use Rattle.std.specs.Prelude.{◌==◌, ℕ, List, true, false, None, Some, IsTrue, IfOk, IfSome};
 ghost use Rattle.std.specs.Prelude.{IfNone, OnErr, is_none, IsOkUnless, Ok, Err, if◌then◌else◌};
 ghost use Rattle.wc_hooks.specs.declared.kind.HookKind.{HookKind};
-ghost use Rattle.wc_hooks.specs.declared.refused.HookRefused.{HookRefused};
+ghost use Rattle.wc_hooks.specs.declared.entry.HookRefused.{HookRefused};
 ghost use Rattle.wc_hooks.specs.Kinds.{is_relay};
 ghost use Rattle.wc_hooks.specs.Rows.{new_row, without, rows_switched, lives, relays, others};
 ghost use Rattle.wc_hooks.specs.Rows.{rows_filed};
@@ -14,14 +14,13 @@ ghost use Rattle.wc_hooks.specs.Table.{next_of, after_next, IsHookTable, IsFiled
 ghost use Rattle.wc_hooks.specs.Table.{other_passes};
 
 use crate::cursor::{Cursor, move_all};
-use crate::entry::{Entry, HookId, Owner};
+use crate::entry::{Entry, HookId, HookRefused, Owner};
 use crate::kind::HookKind;
 use crate::marks::{mark_given, unmark};
 use crate::past::unchanged;
 use crate::places::{
     RELAY_PLACE, cursor_at, is_any_open, is_open, new_places, place_for, put_cursor,
 };
-use crate::refused::HookRefused;
 use crate::slot::Slot;
 use crate::slots::Slots;
 use crate::steps::Steps;

@@ -14,7 +14,7 @@ use Rattle.wc_core.specs.State.{State}
 use Rattle.wc_core.specs.Step.{client_link, run}
 use Rattle.wc_core.specs.Served.{connection_link, clients_of, state_of, unsent_on, sent_to, has_end}
 use Rattle.wc_turns.specs.declared.headless.Headless.{Headless}
-use Rattle.wc_turns.specs.declared.link_state.Closed.{Closed}
+use Rattle.wc_turns.specs.declared.links.Closed.{Closed}
 use Rattle.wc_loop.specs.Endings.{kept_of}
 use Rattle.wc_turns.specs.Events.{events_from}
 use Rattle.wc_turns.specs.Hands.{IsFrontOf}

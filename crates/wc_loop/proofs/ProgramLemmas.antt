@@ -2,8 +2,8 @@
 use Rattle.std.proofs.Common.{◌≡◌, ◌≢◌, ◌⊎◌, inl, inr, ℕ, ◌+◌, ◌^◌, ◌<◌, ◌≤◌, false, refl, ap, arith}
 use Rattle.wc_outside.specs.Faults.{Rose}
 use Rattle.wc_outside.specs.Seen.{Seen}
-use Rattle.wc_turns.specs.declared.turn_end.TurnEnd.{TurnEnd}
-use Rattle.wc_turns.specs.declared.turn_end.TurnEnd.TheVariants.{GoOn, Quit, WaitFault, ListenFault, KeeperFault}
+use Rattle.wc_turns.specs.declared.turn.TurnEnd.{TurnEnd}
+use Rattle.wc_turns.specs.declared.turn.TurnEnd.TheVariants.{GoOn, Quit, WaitFault, ListenFault, KeeperFault}
 use Rattle.wc_turns.specs.declared.headless.Headless.{Headless}
 use Rattle.wc_turns.specs.Turns.{LoopStep, faults_then, waits_then}
 use Rattle.wc_turns.proofs.TurnLemmas.{LoopStep-sum}

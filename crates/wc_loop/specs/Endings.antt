@@ -5,16 +5,16 @@ use Rattle.std.specs.Prelude.{IfSome, IsTrue, IsSomeAnd, if◌then◌else◌, �
 use Rattle.std.specs.Io.KnownBytes.{append_known}
 use Rattle.wc_outside.specs.Faults.{Faults, Rose}
 use Rattle.wc_outside.specs.Seen.{Seen}
-use Rattle.wc_outside.specs.declared.asked.Asked.{Asked}
-use Rattle.wc_outside.specs.declared.asked.Asked.TheVariants.{Listen}
+use Rattle.wc_outside.specs.declared.happening.Asked.{Asked}
+use Rattle.wc_outside.specs.declared.happening.Asked.TheVariants.{Listen}
 use Rattle.wc_loop.specs.declared.ending.Ending.{Ending}
 use Rattle.wc_loop.specs.declared.ending.Ending.TheVariants.{Version, BadWord, WaitFailed}
 use Rattle.wc_loop.specs.declared.ending.Ending.TheVariants.{NoConfiguration, BadLine, NoMemory}
 use Rattle.wc_loop.specs.declared.ending.Ending.TheVariants.{ListenFailed, TurnsTaken, Quit}
 use Rattle.wc_turns.specs.declared.headless.Headless.{Headless}
-use Rattle.wc_turns.specs.declared.turn_end.TurnEnd.{TurnEnd}
-use Rattle.wc_turns.specs.declared.turn_end.TurnEnd.TheVariants.{GoOn, Quit as ThenQuit, WaitFault}
-use Rattle.wc_turns.specs.declared.turn_end.TurnEnd.TheVariants.{ListenFault, KeeperFault}
+use Rattle.wc_turns.specs.declared.turn.TurnEnd.{TurnEnd}
+use Rattle.wc_turns.specs.declared.turn.TurnEnd.TheVariants.{GoOn, Quit as ThenQuit, WaitFault}
+use Rattle.wc_turns.specs.declared.turn.TurnEnd.TheVariants.{ListenFault, KeeperFault}
 use Rattle.wc_loop.specs.declared.words.Wish.{Wish}
 use Rattle.wc_loop.specs.declared.configuration.Settings.{Settings}
 use Rattle.wc_loop.specs.Configuration.{settings_in}

@@ -6,7 +6,7 @@ use Rattle.std.proofs.lemmas.List.Folds.{list_all-append}
 use Rattle.wc_text.specs.declared.names.Handle.{Handle}
 use Rattle.wc_nicklist.specs.Rows.{root_name, IsRows}
 use Rattle.wc_nickdiff.specs.NickPush.{full_list, root_item}
-use Rattle.wc_buffers.specs.declared.entry.BufferEntry.{BufferEntry}
+use Rattle.wc_buffers.specs.declared.row.BufferEntry.{BufferEntry}
 use Rattle.wc_buffers.specs.Groups.{rows}
 use Rattle.wc_model.specs.World.{World, rows_at, root_at}
 use Rattle.wc_objects.specs.declared.object.HdaItem.{HdaItem}

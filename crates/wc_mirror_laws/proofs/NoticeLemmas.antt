@@ -3,7 +3,7 @@ use Rattle.std.proofs.Common.{◌≡◌, ℕ, ◌<◌, ◌≤◌, ◌^◌, Bool,
 use Rattle.std.specs.List.{AllByRecursion}
 use Rattle.std.proofs.lemmas.Str.{IsUtf8-nil}
 use Rattle.wc_text.specs.declared.names.Handle.{Handle}
-use Rattle.wc_buffers.specs.declared.entry.BufferEntry.{BufferEntry}
+use Rattle.wc_buffers.specs.declared.row.BufferEntry.{BufferEntry}
 use Rattle.wc_buffers.specs.Calls.{handle_of, is_there, entry_of}
 use Rattle.wc_buffers.specs.Groups.{rows, has}
 use Rattle.wc_buffers.proofs.RefusalLemmas.{there_good, close_good, move_good, merge_good, unmerge_good, rename_good, short_name_good, set_var_good, remove_var_good}

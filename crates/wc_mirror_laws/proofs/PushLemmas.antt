@@ -5,8 +5,8 @@ use Rattle.std.specs.FinMap.{get}
 use Rattle.std.specs.Prelude.{unwrap_or}
 use Rattle.wc_text.specs.declared.names.Handle.{Handle}
 use Rattle.wc_nickdiff.specs.NickPush.{nick_push}
-use Rattle.wc_nickdiff.specs.declared.push.Push.{Push}
-use Rattle.wc_nickdiff.specs.declared.push.Push.TheVariants.{Nothing}
+use Rattle.wc_nickdiff.specs.declared.diff_item.Push.{Push}
+use Rattle.wc_nickdiff.specs.declared.diff_item.Push.TheVariants.{Nothing}
 use Rattle.wc_model.specs.Order.{order}
 use Rattle.wc_model.specs.World.{rows_at, root_at}
 use Rattle.wc_relaycmd.specs.declared.request.Request.{Request}

@@ -14,7 +14,7 @@ use Rattle.std.proofs.lemmas.Int.Digits.{length-digits_of-le}
 use denote.Hole.Carrier.{out}
 use Rattle.wc_text.specs.declared.names.Handle.{Handle}
 use Rattle.wc_lines.specs.declared.line.Line.{Line}
-use Rattle.wc_buffers.specs.declared.entry.BufferEntry.{BufferEntry}
+use Rattle.wc_buffers.specs.declared.row.BufferEntry.{BufferEntry}
 use Rattle.wc_buffers.specs.Groups.{rows}
 use Rattle.wc_model.specs.declared.notice.Notice.{Notice}
 use Rattle.wc_model.specs.World.{World, lines_at}

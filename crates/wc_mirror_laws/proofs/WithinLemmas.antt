@@ -11,7 +11,7 @@ use Rattle.wc_text.specs.declared.names.Handle.{Handle}
 use Rattle.wc_text.specs.declared.names.Pair.{Pair}
 use Rattle.wc_lines.specs.declared.line.Line.{Line}
 use Rattle.wc_nicklist.specs.declared.item.Item.{Item}
-use Rattle.wc_buffers.specs.declared.entry.BufferEntry.{BufferEntry}
+use Rattle.wc_buffers.specs.declared.row.BufferEntry.{BufferEntry}
 use Rattle.wc_buffers.specs.Calls.{EntryGroups}
 use Rattle.wc_buffers.specs.Groups.{rows}
 use Rattle.wc_model.specs.declared.notice.Notice.{Notice}

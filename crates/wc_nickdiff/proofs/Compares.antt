@@ -4,7 +4,7 @@ use Rattle.std.proofs.lemmas.List.{take_more}
 use Rattle.std.proofs.lemmas.Grind.{flat_map-append}
 use Rattle.wc_nicklist.specs.declared.item.Row.{Row}
 use Rattle.wc_nicklist.specs.Rows.{find_row}
-use Rattle.wc_nickdiff.specs.declared.first_touch.FirstTouch.{FirstTouch}
+use Rattle.wc_nickdiff.specs.declared.diff_item.FirstTouch.{FirstTouch}
 use Rattle.wc_nickdiff.specs.Compared.{keep, leaving_row, coming_row, changed_pair, listed_row, picked_rows}
 use Rattle.wc_nickdiff.specs.NickPush.{stays}
 

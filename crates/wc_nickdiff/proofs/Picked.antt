@@ -11,7 +11,7 @@ use Rattle.wc_nicklist.specs.Rows.{key_eq, path_eq, find_row, Ascending, Keyed, 
 use Rattle.wc_nicklist.proofs.OrderLaws.{by_bool, key_eq-true, key_eq-same, path_eq-same}
 use Rattle.wc_nicklist.proofs.RowLaws.{find_key, key_eq-back}
 use Rattle.wc_nicklist.proofs.Held.{by_row}
-use Rattle.wc_nickdiff.specs.declared.first_touch.FirstTouch.{FirstTouch}
+use Rattle.wc_nickdiff.specs.declared.diff_item.FirstTouch.{FirstTouch}
 use Rattle.wc_nickdiff.specs.Compared.{keep, leaving_row, coming_row, changed_pair, listed_row, picked_rows}
 use Rattle.wc_nickdiff.specs.Held.{before_at, is_untouched, EachOnce}
 use Rattle.wc_nickdiff.specs.NickPush.{stays, differs, change_list, item_eq, is_group, is_nick, outs, ins, changed_rows}

@@ -10,7 +10,7 @@ use Rattle.wc_nicklist.specs.Rows.{key_eq}
 use Rattle.wc_nicklist.specs.Touched.{earlier_or}
 use Rattle.wc_nicklist.proofs.OrderLaws.{by_bool, key_eq-true, key_eq-same}
 use Rattle.wc_nicklist.proofs.RowLaws.{key_eq-back}
-use Rattle.wc_nickdiff.specs.declared.first_touch.FirstTouch.{FirstTouch}
+use Rattle.wc_nickdiff.specs.declared.diff_item.FirstTouch.{FirstTouch}
 use Rattle.wc_nickdiff.specs.declared.index.Index.{Index}
 use Rattle.wc_nickdiff.specs.Held.{before_at, EachOnce, with_touch, keep_first, AreAmong}
 use Rattle.wc_nickdiff.specs.Index.{place_in, place_of, IndexesTouches}

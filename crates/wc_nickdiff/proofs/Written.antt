@@ -13,7 +13,7 @@ use Rattle.wc_nicklist.proofs.OrderLaws.{by_bool}
 use Rattle.wc_nickdiff.specs.declared.diff_item.DiffItem.{DiffItem}
 use Rattle.wc_nickdiff.specs.declared.diff_item.Mark.{Mark}
 use Rattle.wc_nickdiff.specs.declared.diff_item.Mark.TheVariants.{Parent, Added, Removed, Changed}
-use Rattle.wc_nickdiff.specs.declared.push.Push.TheVariants.{Nothing, Diff, Full}
+use Rattle.wc_nickdiff.specs.declared.diff_item.Push.TheVariants.{Nothing, Diff, Full}
 use Rattle.wc_nickdiff.specs.Compared.{items_written}
 use Rattle.wc_nickdiff.specs.NickPush.{Op, op, same_name, with_parents, last_under, is_group, is_nick, outs, ins, changed_rows, diff, push_of, full_list}
 

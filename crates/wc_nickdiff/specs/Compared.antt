@@ -10,7 +10,7 @@ use Rattle.wc_nickdiff.specs.NickPush.{stays, change_list, op, with_parents}
 use Rattle.wc_nickdiff.specs.declared.diff_item.DiffItem.{DiffItem}
 use Rattle.wc_nickdiff.specs.declared.diff_item.Mark.{Mark}
 use Rattle.wc_nickdiff.specs.declared.diff_item.Mark.TheVariants.{Parent, Added, Removed, Changed}
-use Rattle.wc_nickdiff.specs.declared.first_touch.FirstTouch.{FirstTouch}
+use Rattle.wc_nickdiff.specs.declared.diff_item.FirstTouch.{FirstTouch}
 
 -- the row, where it passes
 abbrev pub keep : (Row → Bool) → Option Row → Option Row

@@ -7,7 +7,7 @@ use Rattle.wc_nicklist.specs.declared.item.Key.{Key}
 use Rattle.wc_nicklist.specs.declared.item.Row.{Row}
 use Rattle.wc_nicklist.specs.Order.{key}
 use Rattle.wc_nicklist.specs.Rows.{key_eq}
-use Rattle.wc_nickdiff.specs.declared.first_touch.FirstTouch.{FirstTouch}
+use Rattle.wc_nickdiff.specs.declared.diff_item.FirstTouch.{FirstTouch}
 
 -- what was at the first touch of a key: None where it was not touched
 abbrev pub before_at : Key → List FirstTouch → Option (Option Row)

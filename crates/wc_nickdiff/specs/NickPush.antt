@@ -12,8 +12,8 @@ use Rattle.wc_nicklist.specs.Rows.{bool_eq, path_eq, find_row, root_name, is_roo
 use Rattle.wc_nickdiff.specs.declared.diff_item.DiffItem.{DiffItem}
 use Rattle.wc_nickdiff.specs.declared.diff_item.Mark.{Mark}
 use Rattle.wc_nickdiff.specs.declared.diff_item.Mark.TheVariants.{Parent, Added, Removed, Changed}
-use Rattle.wc_nickdiff.specs.declared.push.Push.{Push}
-use Rattle.wc_nickdiff.specs.declared.push.Push.TheVariants.{Nothing, Diff, Full}
+use Rattle.wc_nickdiff.specs.declared.diff_item.Push.{Push}
+use Rattle.wc_nickdiff.specs.declared.diff_item.Push.TheVariants.{Nothing, Diff, Full}
 
 unfoldable pub item_eq : Item → Item → Bool
 item_eq a b =

@@ -2,8 +2,8 @@
 use Rattle.std.specs.Prelude.{ℕ, ◌-◌, Result, Ok, List, [], ◌∷◌, ◌++◌, take, if◌then◌else◌}
 use Rattle.wc_nicklist.specs.declared.item.Item.{Item}
 use Rattle.wc_nicklist.specs.declared.item.Row.{Row}
-use Rattle.wc_nickdiff.specs.declared.push.Push.{Push}
-use Rattle.wc_nickdiff.specs.declared.push.Push.TheVariants.{Nothing, Diff, Full}
+use Rattle.wc_nickdiff.specs.declared.diff_item.Push.{Push}
+use Rattle.wc_nickdiff.specs.declared.diff_item.Push.TheVariants.{Nothing, Diff, Full}
 use Rattle.wc_nickdiff.specs.Apply.{applied_all}
 
 -- a nick belongs to the group before it; a group of level n is below the group of level n - 1

@@ -2,9 +2,9 @@ ghost use Rattle.std.specs.Prelude.{◌≡◌, ◌==◌, ◌≤◌, [], OnOk, On
 ghost use Rattle.wc_nicklist.specs.Order.{key_at};
 ghost use Rattle.wc_nickdiff.specs.Held.{before_at, with_touch, EachOnce};
 
-use crate::first_touch::FirstTouch;
-use crate::grow::push;
+use crate::diff_item::FirstTouch;
 use crate::index::{Index, bytes_of};
+use crate::row::push;
 use std::alloc::Global;
 use std::marker::Model;
 use wc_nicklist::{Key, Row};

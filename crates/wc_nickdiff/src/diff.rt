@@ -6,10 +6,9 @@ ghost use Rattle.wc_nickdiff.specs.Apply.{lies_under, is_refused_under, is_refus
 ghost use Rattle.wc_nickdiff.specs.Apply.{item_applied, applied_from, applied_all, AreUtf8};
 
 use crate::by_kind::{add, change, remove};
-use crate::copy::copy_of;
 use crate::diff_item::{DiffItem, Mark};
 use crate::refused::DiffRefused;
-use crate::row::{ROOT_NAME, key_of, parent_of};
+use crate::row::{ROOT_NAME, copy_of, key_of, parent_of};
 use std::alloc::Global;
 use wc_nicklist::{Item, Key, NickRefused, Nicklist};
 use wc_text::{Items, NoMemory, Text};

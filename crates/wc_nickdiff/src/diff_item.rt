@@ -1,6 +1,7 @@
 ghost use Rattle.std.specs.Prelude.{◌≡◌};
 
-use wc_nicklist::Item;
+use wc_nicklist::{Item, Key, Row};
+use wc_text::Items;
 
 /// What an item of a diff does.
 #[derive(Clone, Copy, Debug, PartialEq, Eq)]
@@ -45,4 +46,22 @@ impl Mark {
 pub struct DiffItem {
     pub mark: Mark,
     pub item: Item,
+}
+
+/// What is pushed of a nicklist.
+#[derive(Drop)]
+pub enum Push {
+    /// The rows are those that were told.
+    Nothing,
+    /// What has changed.
+    Diff(Items<DiffItem>),
+    /// The root and all rows, in canonical order.
+    Full(Items<Item>),
+}
+
+/// A key that was touched, and the row that was at its first touch.
+#[derive(Drop)]
+pub struct FirstTouch {
+    pub(crate) key: Key,
+    pub(crate) before: Option<Row>,
 }

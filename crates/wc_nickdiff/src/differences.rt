@@ -4,9 +4,8 @@ ghost use Rattle.wc_nickdiff.specs.Compared.{keep, leaving_row, coming_row, chan
 ghost use Rattle.wc_nickdiff.specs.Compared.{listed_row, picked_rows};
 ghost use Rattle.wc_nickdiff.specs.NickPush.{item_eq, is_group, is_nick, stays};
 
-use crate::first_touch::FirstTouch;
-use crate::grow::push;
-use crate::order::sort;
+use crate::diff_item::FirstTouch;
+use crate::row::{push, sort};
 use std::alloc::Global;
 use wc_nicklist::{Item, Nicklist, Row};
 use wc_text::{NoMemory, Text};

@@ -7,9 +7,8 @@ ghost use Rattle.wc_nickdiff.specs.NickPush.{diff, full_list, nick_push, root_it
 ghost use Rattle.wc_nickdiff.specs.Told.{told_at, IsTold};
 
 use crate::buffer_touches::BufferTouches;
-use crate::diff_item::{DiffItem, Mark};
+use crate::diff_item::{DiffItem, Mark, Push};
 use crate::differences::Differences;
-use crate::push::Push;
 use crate::row::root_item;
 use crate::writer::Writer;
 use std::alloc::Global;

@@ -8,9 +8,9 @@ ghost use Rattle.wc_nickdiff.specs.NickPush.{nick_push};
 ghost use Rattle.wc_nickdiff.specs.Told.{IsTold};
 
 use crate::buffer_touches::BufferTouches;
-use crate::grow::push;
+use crate::diff_item::Push;
 use crate::message::message;
-use crate::push::Push;
+use crate::row::push;
 use crate::told::told_rows;
 use std::alloc::Global;
 use std::marker::Model;

@@ -1,10 +1,12 @@
-ghost use Rattle.std.specs.Prelude.{◌≡◌, IfOk};
-ghost use Rattle.wc_nicklist.specs.Order.{key_of};
-ghost use Rattle.wc_nicklist.specs.Rows.{parent_of};
+ghost use Rattle.std.specs.List.Sorted.{IsPermutation, IsSortedBy};
+ghost use Rattle.std.specs.Prelude.{◌≡◌, IfOk, ◌++◌, ◌∷◌, [], OnOk, OnErr};
 ghost use Rattle.wc_nickdiff.specs.NickPush.{root_item};
+ghost use Rattle.wc_nicklist.specs.Order.{key_of, before};
+ghost use Rattle.wc_nicklist.specs.Rows.{parent_of};
 
+use crate::by_kind::add;
 use std::alloc::Global;
-use wc_nicklist::{Item, Key, Row};
+use wc_nicklist::{Item, Key, Nicklist, Row, row_cmp};
 use wc_text::{Handle, NoMemory, Text};
 
 /// The name of the root group, which is in no row.
@@ -44,4 +46,41 @@ pub(crate) fn root_item(alloc: Global, root: Handle) -> Result<Item, NoMemory>
         prefix: Text::new(alloc),
         prefix_color: Text::new(alloc),
     })
+}
+
+/// A nicklist with the same root and the same rows.
+pub(crate) fn copy_of(alloc: Global, list: &Nicklist) -> Result<Nicklist, NoMemory>
+    ensures root { IfOk result (λ copy. copy.root ≡ list.now.root) }
+    ensures rows { IfOk result (λ copy. copy.rows ≡ list.now.rows) }
+{
+    let mut copy = Nicklist::new(alloc, list.root())?;
+    for row in list.rows() {
+        let parent = Text::from_slice(alloc, row.parent())?;
+        let item = row.item().copy(alloc)?;
+        match add(alloc, &mut copy, &parent, item) {
+            Ok(()) => {}
+            Err(_) => return Err(NoMemory),
+        }
+    }
+    Ok(copy)
+}
+
+/// Puts rows in canonical order.
+#[tactic(auto, unfolding(wc_nicklist::specs::Order::before))]
+pub(crate) fn sort(rows: &mut Vec<Row>)
+    ensures permutation { IsPermutation rows.old.items rows.new.items }
+    ensures sorted { IsSortedBy before rows.new.items }
+{
+    rows.sort_unstable_by(|a, b| row_cmp(a, b));
+}
+
+/// Puts a value after others. Where memory is refused they stay as they were.
+pub(crate) fn push<T: Drop>(items: &mut Vec<T>, item: T) -> Result<(), NoMemory>
+    ensures ok { OnOk result (items.new.items ≡ items.old.items ++ item ∷ []) }
+    ensures err { OnErr result (items.new.items ≡ items.old.items) }
+{
+    match items.push(item) {
+        Ok(()) => Ok(()),
+        Err(_) => Err(NoMemory),
+    }
 }

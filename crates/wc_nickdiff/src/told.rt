@@ -5,9 +5,7 @@ ghost use Rattle.wc_nickdiff.specs.Held.{before_at, is_untouched};
 ghost use Rattle.wc_nickdiff.specs.Told.{IsTold};
 
 use crate::buffer_touches::BufferTouches;
-use crate::grow::push;
-use crate::order::sort;
-use crate::row::key_of;
+use crate::row::{key_of, push, sort};
 use std::alloc::Global;
 use wc_nicklist::{Nicklist, Row};
 use wc_text::{Items, NoMemory};

@@ -3,7 +3,7 @@ use Rattle.std.proofs.Common.{◌≡◌, ℕ, zero, suc, ◌<◌, ◌≤◌, Boo
 use Rattle.std.specs.Prelude.{IsTrue, nat_lt, vec_len}
 use Rattle.std.proofs.lemmas.List.{map-append}
 use Rattle.wc_nicklist.specs.declared.digest.Digest.{Digest}
-use Rattle.wc_nicklist.specs.declared.entry.Entry.{Entry}
+use Rattle.wc_nicklist.specs.declared.store.Entry.{Entry}
 use Rattle.wc_nicklist.specs.declared.item.Key.{Key}
 use Rattle.wc_nicklist.specs.declared.item.Row.{Row}
 use Rattle.wc_nicklist.specs.declared.store.Store.{Store}

@@ -3,7 +3,7 @@ use Rattle.std.proofs.Common.{◌≡◌, ℕ, zero, suc, ◌+◌, ◌-◌, ◌<�
 use Rattle.std.specs.Prelude.{vec_len}
 use Rattle.std.proofs.lemmas.List.{length-map, take_all, map-append, take-map, drop-map}
 use Rattle.std.proofs.lemmas.List.Concat.{flat_map-append}
-use Rattle.wc_nicklist.specs.declared.entry.Entry.{Entry}
+use Rattle.wc_nicklist.specs.declared.store.Entry.{Entry}
 use Rattle.wc_nicklist.specs.declared.item.Key.{Key}
 use Rattle.wc_nicklist.specs.declared.item.Row.{Row}
 use Rattle.wc_nicklist.specs.declared.store.Store.{Store}

@@ -5,7 +5,7 @@ use Rattle.std.specs.Prelude.{slice_index_or, slice_set, nat_lt}
 use Rattle.std.specs.declared.alloc.Global.{Global}
 use Rattle.std.specs.declared.boxed.Box.{Box}
 use Rattle.slab.specs.Slab.{get, slab_len}
-use Rattle.wc_nicklist.specs.declared.entry.Entry.{Entry}
+use Rattle.wc_nicklist.specs.declared.store.Entry.{Entry}
 use Rattle.wc_nicklist.specs.declared.item.Key.{Key}
 use Rattle.wc_nicklist.specs.declared.item.Row.{Row}
 use Rattle.wc_nicklist.specs.declared.store.Store.{Store}

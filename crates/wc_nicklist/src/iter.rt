@@ -4,10 +4,9 @@ ghost use Rattle.wc_nicklist.specs.Rows.{below, parent_of, path_eq};
 ghost use Rattle.wc_nicklist.specs.Stored.{entry_row, AllEntriesLead};
 ghost use Rattle.wc_nicklist.specs.Tree.{entries_in, rows_in};
 
-use crate::entry::Entry;
 use crate::item::Item;
 use crate::leaf::{Leaf, is_child};
-use crate::store::{Store, Stored};
+use crate::store::{Entry, Store, Stored};
 use std::marker::Model;
 
 /// A row that is lent by its nicklist.

@@ -7,9 +7,8 @@ ghost use Rattle.wc_nicklist.specs.Stored.{entry_row, AllBefore, AllEntriesLead,
 ghost use Rattle.wc_nicklist.specs.Tree.{leaf_rows, IsLastDigest};
 
 use crate::digest::Digest;
-use crate::entry::Entry;
 use crate::order::{Address, comes_before};
-use crate::store::{Store, Stored};
+use crate::store::{Entry, Store, Stored};
 use std::alloc::Global;
 use std::marker::Model;
 use wc_text::{NoMemory, Text};

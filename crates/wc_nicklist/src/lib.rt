@@ -3,7 +3,6 @@
 
 mod by_name;
 mod digest;
-mod entry;
 mod index;
 mod item;
 mod iter;

@@ -6,9 +6,8 @@ ghost use Rattle.wc_nicklist.specs.Digest.{IsPathDigest};
 ghost use Rattle.wc_nicklist.specs.Stored.{entry_row, EntryLeads};
 
 use crate::digest::{Digest, NO_PLACE};
-use crate::entry::Entry;
 use crate::item::Row;
-use crate::store::{Store, Stored};
+use crate::store::{Entry, Store, Stored};
 use std::cmp::Ordering;
 use wc_text::{Text, fold_cmp};
 

@@ -12,12 +12,11 @@ ghost use Rattle.wc_nicklist.specs.Tree.{IsFullAt, AreNearlyLeaves, AreFewAt, Is
 ghost use Rattle.wc_nicklist.specs.Tree.{IsRemoved};
 ghost use Rattle.wc_nicklist.specs.declared.item.Row.{Row as RowValue};
 
-use crate::entry::Entry;
 use crate::item::Item;
 use crate::iter::RowIter;
 use crate::leaf::{HALF, LEAF_ROWS, Leaf};
 use crate::order::Address;
-use crate::store::{RowId, Slot, Store, Stored};
+use crate::store::{Entry, RowId, Slot, Store, Stored};
 use std::alloc::Global;
 use std::marker::Model;
 use std::mem;

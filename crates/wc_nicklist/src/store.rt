@@ -13,6 +13,14 @@ use std::alloc::Global;
 use std::marker::Model;
 use wc_text::{Handle, Items, NoMemory, Text};
 
+/// A row as a leaf keeps it: its number beside its digest, so that a leaf is short and a search in
+/// it reads few rows.
+#[derive(Clone, Copy)]
+pub(crate) struct Entry {
+    pub(crate) digest: Digest,
+    pub(crate) id: RowId,
+}
+
 /// A path and an item. Contracts see the row.
 #[derive(Drop)]
 pub(crate) struct Stored {

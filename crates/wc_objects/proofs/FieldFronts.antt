@@ -3,7 +3,7 @@ use Rattle.std.proofs.Common.{◌≡◌, ℕ, ◌-◌, ◌<◌, ◌^◌, List, �
 use Rattle.std.specs.Prelude.{IfOk, IfSome}
 use Rattle.std.proofs.lemmas.Str.{IsUtf8-from_is_utf8, is_utf8-from_IsUtf8}
 use Rattle.std.proofs.lemmas.List.{length-append, length-drop, take_at, take-append-drop}
-use Rattle.wc_objects.specs.declared.rule.Rule.TheVariants.{Plain}
+use Rattle.wc_objects.specs.declared.fault.Rule.TheVariants.{Plain}
 use Rattle.wc_objects.specs.Spelling.{be32, pointer_bytes, text_bytes}
 use Rattle.wc_objects.specs.Spells.{IsFront, IsStr}
 use Rattle.wc_objects.specs.Reading.{Read, ◌>>=◌, keeps, text_by, GivesFront, pointer_at, text_at}

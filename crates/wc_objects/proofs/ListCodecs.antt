@@ -11,7 +11,7 @@ use Rattle.wc_objects.specs.declared.object.InlVar.{InlVar, out-InlVar}
 use Rattle.wc_objects.specs.declared.object.Object.TheViews.{out-Object, out-roll-InlVar, roll-out-InlVar}
 use Rattle.wc_objects.specs.declared.object.Object.TheOpen.{Object-F}
 use Rattle.wc_objects.specs.declared.object.Object.TheVariants as o
-use Rattle.wc_objects.specs.declared.rule.Rule.TheVariants.{Plain}
+use Rattle.wc_objects.specs.declared.fault.Rule.TheVariants.{Plain}
 use Rattle.wc_objects.specs.Kinds.{Layer, letters, is_simple, kind_at, kind_of}
 use Rattle.wc_objects.specs.Forms.{simple_is, variable_is}
 use Rattle.wc_objects.specs.Within.{VariableWithin}

@@ -8,7 +8,7 @@ use Rattle.std.proofs.lemmas.List.{length-append}
 use Rattle.std.proofs.lemmas.List.Concat.{flat_map-cons}
 use Rattle.wc_objects.specs.declared.object.Object.{Object}
 use Rattle.wc_objects.specs.declared.object.WireMessage.{WireMessage}
-use Rattle.wc_objects.specs.declared.rule.Rule.TheVariants.{Plain}
+use Rattle.wc_objects.specs.declared.fault.Rule.TheVariants.{Plain}
 use Rattle.wc_objects.specs.Kinds.{letters, kind_of}
 use Rattle.wc_objects.specs.Forms.{object_is, well_formed}
 use Rattle.wc_objects.specs.Within.{ObjectWithin, IsWithin}

@@ -7,7 +7,7 @@ use Rattle.std.proofs.lemmas.Bool.{and_parts, and_from, eqb-true}
 use Rattle.wc_objects.specs.declared.object.Hda.{Hda as HdaValue, out-Hda}
 use Rattle.wc_objects.specs.declared.object.HdaItem.{HdaItem}
 use Rattle.wc_objects.specs.declared.object.Object.TheViews.{roll-out-Hda}
-use Rattle.wc_objects.specs.declared.rule.Rule.TheVariants.{Path, Keys}
+use Rattle.wc_objects.specs.declared.fault.Rule.TheVariants.{Path, Keys}
 use Rattle.wc_objects.specs.Forms.{is_path, names_of, kinds_of, item_of, hda_parts_are, hda_is}
 use Rattle.wc_objects.specs.Within.{ItemWithin, HdaWithin}
 use Rattle.wc_objects.specs.Spelling.{text_bytes, with_count, item_bytes, hda_bytes}

@@ -10,7 +10,7 @@ use Rattle.wc_objects.specs.declared.object.Object.{Object}
 use Rattle.wc_objects.specs.declared.object.Object.TheViews.{out-Object}
 use Rattle.wc_objects.specs.declared.object.Object.TheOpen.{Object-F}
 use Rattle.wc_objects.specs.declared.object.Object.TheVariants as o
-use Rattle.wc_objects.specs.declared.rule.Rule.TheVariants.{Plain}
+use Rattle.wc_objects.specs.declared.fault.Rule.TheVariants.{Plain}
 use Rattle.wc_objects.specs.Kinds.{Layer, same}
 use Rattle.wc_objects.specs.Forms.{is_text, simple_layer_is, simple_is}
 use Rattle.wc_objects.specs.Within.{SimpleLayerWithin, SimpleWithin}

@@ -11,7 +11,7 @@ use Rattle.wc_objects.specs.declared.object.InlVar.{InlVar}
 use Rattle.wc_objects.specs.declared.object.Object.TheViews.{out-Object}
 use Rattle.wc_objects.specs.declared.object.Object.TheOpen.{Object-F}
 use Rattle.wc_objects.specs.declared.object.Object.TheVariants as o
-use Rattle.wc_objects.specs.declared.rule.Rule.TheVariants.{Plain}
+use Rattle.wc_objects.specs.declared.fault.Rule.TheVariants.{Plain}
 use Rattle.wc_objects.specs.Kinds.{Layer, kind_at, kind_of}
 use Rattle.wc_objects.specs.Forms.{variable_is, is_text, object_layer_is, object_is}
 use Rattle.wc_objects.specs.Within.{VariableWithin, ObjectLayerWithin, ObjectWithin}

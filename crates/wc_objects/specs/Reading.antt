@@ -17,8 +17,8 @@ use Rattle.wc_objects.specs.declared.object.Hda.{Hda as HdaValue, roll-Hda}
 use Rattle.wc_objects.specs.declared.object.HdaItem.{HdaItem, roll-HdaItem}
 use Rattle.wc_objects.specs.declared.object.InlVar.{InlVar, roll-InlVar}
 use Rattle.wc_objects.specs.declared.object.WireMessage.{WireMessage}
-use Rattle.wc_objects.specs.declared.rule.Rule.{Rule}
-use Rattle.wc_objects.specs.declared.rule.Rule.TheVariants.{Plain, Path, Keys}
+use Rattle.wc_objects.specs.declared.fault.Rule.{Rule}
+use Rattle.wc_objects.specs.declared.fault.Rule.TheVariants.{Plain, Path, Keys}
 use Rattle.wc_objects.specs.declared.read.MessageRefused.{MessageRefused}
 use Rattle.wc_objects.specs.declared.read.MessageRefused.TheVariants as refused
 use Rattle.wc_objects.specs.declared.fault.ReadError.{ReadError}

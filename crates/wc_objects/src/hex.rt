@@ -1,11 +1,12 @@
 //! The text of a pointer.
-
+//! The text of a number in decimal.
+ghost use Rattle.std.specs.Int.Digits.{number_from_digits};
+ghost use Rattle.std.specs.List.{list_all};
 ghost use Rattle.std.specs.Prelude.{◌≡◌, ◌≤◌, ◌<◌, ◌++◌, length, drop, map, true, false};
 ghost use Rattle.std.specs.Prelude.{MatchOption};
-ghost use Rattle.std.specs.List.{list_all};
-ghost use Rattle.std.specs.Int.Digits.{number_from_digits};
-ghost use Rattle.wc_objects.specs.Hex as spec;
 ghost use Rattle.wc_objects.specs.Hex.{glyph, hex, is_hex};
+ghost use Rattle.wc_objects.specs.Hex as spec;
+ghost use Rattle.wc_objects.specs.Reading as spec;
 
 /// How many digits a pointer has at most.
 pub const MAX_DIGITS: usize = 16;
@@ -96,5 +97,23 @@ impl HexBuffer {
     {
         let start = write_digits(n, &mut self.digits);
         &self.digits[start..]
+    }
+}
+
+/// The number whose one spelling the text is.
+pub fn decimal_number(text: &[u8]) -> Option<i64>
+    ensures { result ≡ spec.decimal_number text.now }
+{
+    let Ok(digits) = std::str::from_utf8(text) else {
+        return None;
+    };
+    let Ok(number) = i64::from_str_radix(digits, 10) else {
+        return None;
+    };
+    let mut buffer = itoa::Buffer::new();
+    if buffer.format(number).as_bytes() == text {
+        Some(number)
+    } else {
+        None
     }
 }

@@ -1,7 +1,6 @@
 //! Objects and messages of the relay.
 #![tactic(auto)]
 
-mod decimal;
 mod fault;
 mod forms;
 mod hex;
@@ -12,7 +11,6 @@ mod object;
 pub mod parts;
 mod read;
 mod reader;
-mod rule;
 mod size;
 mod values;
 mod write;

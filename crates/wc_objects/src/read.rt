@@ -8,10 +8,9 @@ ghost use Rattle.wc_objects.specs.Reading.{objects_of, message_of, first_message
 ghost use Rattle.wc_objects.specs.Spelling.{pointer_bytes, text_bytes};
 ghost use Rattle.wc_objects.specs.Spells.{FrontSpells, IsFront, IsStr, misses_bytes};
 
-use crate::fault::ReadError;
+use crate::fault::{ReadError, Rule};
 use crate::object::{Object, WireMessage};
 use crate::reader::Reader;
-use crate::rule::Rule;
 use std::alloc::Global;
 use wc_text::{Items, NoMemory, Text};
 

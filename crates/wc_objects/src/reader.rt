@@ -9,12 +9,10 @@ ghost use Rattle.wc_objects.specs.Reading.{short_at, decimal_number, decimal_at,
 ghost use Rattle.wc_objects.specs.Reading.{kind_by, any_kind, no_text, plain_at};
 ghost use Rattle.wc_objects.specs.Kinds.{is_simple};
 
-use crate::decimal::decimal_number;
-use crate::fault::ReadError;
-use crate::hex::hex_number;
+use crate::fault::{ReadError, Rule};
+use crate::hex::{decimal_number, hex_number};
 use crate::keys::named_kind;
 use crate::kind::Kind;
-use crate::rule::Rule;
 use std::alloc::Global;
 use wc_text::Text;
 

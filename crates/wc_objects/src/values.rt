@@ -8,12 +8,11 @@ ghost use Rattle.wc_objects.specs.Reading.{hda_at, inf_at, variable_at, inl_at, 
 ghost use Rattle.wc_objects.specs.Reading.{object_at};
 ghost use Rattle.wc_objects.specs.Forms.{kinds_of};
 
-use crate::fault::ReadError;
+use crate::fault::{ReadError, Rule};
 use crate::keys::{all_keys, first_key, path_depth};
 use crate::kind::Kind;
 use crate::object::{Hda, HdaItem, InlVar, Object};
 use crate::reader::Reader;
-use crate::rule::Rule;
 use std::alloc::Global;
 use wc_text::{Items, NoMemory, Text};
 

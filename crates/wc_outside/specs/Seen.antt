@@ -1,6 +1,6 @@
 -- What is seen of sockets.
 use Rattle.std.specs.Prelude.{ℕ, ◌≡◌, Bool, false, List, [], IsTrue}
-use Rattle.wc_outside.specs.declared.asked.Asked.{Asked}
+use Rattle.wc_outside.specs.declared.happening.Asked.{Asked}
 use Rattle.wc_outside.specs.declared.happening.Happening.{Happening}
 use Rattle.wc_outside.specs.Faults.{Faults}
 

@@ -1,10 +1,28 @@
 ghost use Rattle.std.specs.Prelude.{◌≡◌, ◌≤◌, ◌++◌, ◌∷◌, [], IsTrue};
 ghost use Rattle.wc_outside.specs.Faults.{Rose};
 
-use crate::asked::Asked;
-use crate::failed::Failed;
-use crate::happening::Happening;
+use crate::happening::{Asked, Failed, Happening};
 use crate::told::Told;
+use wc_text::Items;
+
+/// Counts calls from 1, and knows the numbers of those that are to fail.
+#[derive(Drop)]
+pub(crate) struct Calls {
+    made: u64,
+    failing: Items<u64>,
+}
+
+impl Calls {
+    pub(crate) fn new(failing: Items<u64>) -> Calls {
+        Calls { made: 0, failing }
+    }
+
+    /// Counts one more call, and tells whether it is to fail.
+    pub(crate) fn next_fails(&mut self) -> bool {
+        self.made = self.made.saturating_add(1);
+        self.failing.as_slice().contains(&self.made)
+    }
+}
 
 /// How often a wait, the listener and a link failed.
 #[derive(Clone, Copy)]

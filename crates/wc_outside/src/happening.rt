@@ -16,3 +16,15 @@ pub enum Happening {
     /// The listener failed.
     ListenFailed,
 }
+
+/// What sockets were asked to do at an address.
+#[derive(Clone, Copy, Debug, PartialEq, Eq)]
+pub enum Asked {
+    /// To listen at this port of 127.0.0.1.
+    Listen(u16),
+}
+
+/// A call of the outside failed.
+#[derive(Clone, Copy, Debug, PartialEq, Eq, thiserror::Error)]
+#[error("failed")]
+pub struct Failed;

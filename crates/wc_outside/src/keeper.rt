@@ -2,7 +2,7 @@ ghost use Rattle.std.specs.Prelude.{◌≡◌, ◌≤◌, ℕ, List, Option, Som
 ghost use Rattle.std.specs.Prelude.{OnErr, IsErrOf};
 ghost use Rattle.wc_outside.specs.Faults.{Rose};
 
-use crate::failed::Failed;
+use crate::happening::Failed;
 use std::alloc::Global;
 use wc_text::Text;
 

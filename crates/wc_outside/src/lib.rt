@@ -2,9 +2,6 @@
 //! text.
 #![tactic(auto)]
 
-mod asked;
-mod calls;
-mod failed;
 mod fault_counts;
 mod happening;
 mod keeper;
@@ -22,9 +19,7 @@ mod sink;
 mod sockets;
 mod told;
 
-pub use asked::Asked;
-pub use failed::Failed;
-pub use happening::Happening;
+pub use happening::{Asked, Failed, Happening};
 pub use keeper::{KeepFault, Keeper};
 pub use memory_keeper::MemoryKeeper;
 pub use memory_sink::MemorySink;

@@ -1,8 +1,7 @@
 ghost use Rattle.std.specs.Prelude.{◌≡◌, [], Some, IfOk};
 
-use crate::calls::Calls;
-use crate::failed::Failed;
-use crate::fault_counts::count_fault;
+use crate::fault_counts::{Calls, count_fault};
+use crate::happening::Failed;
 use crate::sink::Sink;
 use std::alloc::Global;
 use wc_text::{Items, NoMemory, Text};

@@ -3,11 +3,8 @@ ghost use Rattle.std.specs.Prelude.{[], true, IsTrue, IfOk, OnErr, vec_len};
 ghost use Rattle.wc_outside.specs.Seen.{IsNew};
 ghost use Rattle.wc_outside.specs.Rows.{blank, row_at};
 
-use crate::asked::Asked;
-use crate::calls::Calls;
-use crate::failed::Failed;
-use crate::fault_counts::{FaultCounts, count_fault, fail, give, note};
-use crate::happening::Happening;
+use crate::fault_counts::{Calls, FaultCounts, count_fault, fail, give, note};
+use crate::happening::{Asked, Failed, Happening};
 use crate::play::{Next, Play};
 use crate::report::report;
 use crate::rows::{Row, close, drain, is_open, send, set_blocked};

@@ -1,4 +1,4 @@
-use crate::failed::Failed;
+use crate::happening::Failed;
 use crate::keeper::{KeepFault, Keeper};
 use crate::memory_keeper::MemoryKeeper;
 use crate::memory_sink::MemorySink;

@@ -2,7 +2,7 @@ ghost use Rattle.std.specs.Prelude.{◌≡◌, ◌≤◌, ℕ, List, Option, OnO
 ghost use Rattle.std.specs.Io.KnownBytes.{append_known};
 ghost use Rattle.wc_outside.specs.Faults.{Rose};
 
-use crate::failed::Failed;
+use crate::happening::Failed;
 
 /// Takes printed text.
 pub trait Sink {

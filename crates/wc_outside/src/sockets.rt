@@ -11,8 +11,7 @@ ghost use Rattle.wc_outside.specs.Happenings.{found_no_arrival, used_after, is_a
 ghost use Rattle.wc_outside.specs.Happenings.{IsReadWithin, IsPutWithin, is_link, is_listener};
 ghost use Rattle.wc_outside.specs.Happenings.{IsThere};
 
-use crate::asked::Asked;
-use crate::failed::Failed;
+use crate::happening::{Asked, Failed};
 use wc_text::{Arrival, LinkId};
 
 /// What may be ready.

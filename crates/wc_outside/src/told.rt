@@ -1,7 +1,6 @@
 ghost use Rattle.std.specs.Prelude.{◌≡◌, ◌++◌, ◌∷◌, [], IsTrue};
 
-use crate::asked::Asked;
-use crate::happening::Happening;
+use crate::happening::{Asked, Happening};
 use std::alloc::Global;
 use wc_text::Items;
 

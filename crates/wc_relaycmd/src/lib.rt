@@ -8,7 +8,6 @@ mod line;
 mod lists;
 mod login;
 mod request;
-mod secrets;
 mod word;
 
 pub use algorithm::{Algorithm, choose_algorithm};

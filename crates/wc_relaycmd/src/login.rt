@@ -1,12 +1,11 @@
-ghost use Rattle.std.specs.Prelude.{◌≡◌, ◌++◌, ◌↔◌, IsTrue, IfOk, Some};
 ghost use Rattle.std.specs.Option.{option_copied};
+ghost use Rattle.std.specs.Prelude.{◌≡◌, ◌++◌, ◌↔◌, IsTrue, IfOk, Some};
+ghost use Rattle.wc_relaycmd.specs.Choices.{algorithm_name};
 ghost use Rattle.wc_relaycmd.specs.Logins.{hash_named, bytes_in, hash_from, hash_of, login_of};
 ghost use Rattle.wc_relaycmd.specs.Logins.{IsDigestOf, IsSalted, Proves, LetsIn};
-ghost use Rattle.wc_relaycmd.specs.Choices.{algorithm_name};
 
 use crate::algorithm::Algorithm;
 use crate::lists::last_value;
-use crate::secrets::is_same_secret;
 use hex::FromHexError;
 use sha2::{Digest, Sha256, Sha512};
 use std::alloc::Global;
@@ -199,4 +198,22 @@ pub fn check_login(login: &Login, password: &[u8], nonce: &[u8; 16], chosen: Alg
         Some(hash) => proves(hash, password, nonce, chosen),
         None => chosen == Algorithm::Plain && is_password(&login.password, password),
     }
+}
+
+/// Whether two secrets are the same bytes.
+///
+/// Where their lengths are equal each byte is looked at, whatever the bytes before it are, so that
+/// the time that the comparison takes does not tell how much of a guess is right. That is how it is
+/// written; no proof speaks of time.
+pub fn is_same_secret(given: &[u8], kept: &[u8]) -> bool
+    ensures { IsTrue result ↔ (given.now ≡ kept.now) }
+{
+    if given.len() != kept.len() {
+        return false;
+    }
+    let mut difference = 0u8;
+    for (x, y) in given.iter().zip(kept) {
+        difference |= *x ^ *y;
+    }
+    difference == 0
 }

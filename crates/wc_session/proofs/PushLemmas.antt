@@ -3,7 +3,7 @@ use Rattle.std.proofs.Common.{◌≡◌, ℕ, List, [], Option, Some, None, sym,
 use Rattle.wc_text.specs.declared.names.Handle.{Handle}
 use Rattle.wc_objects.specs.declared.object.Object.{Object}
 use Rattle.wc_objects.specs.declared.object.WireMessage.{WireMessage}
-use Rattle.wc_nickdiff.specs.declared.push.Push.{Push}
+use Rattle.wc_nickdiff.specs.declared.diff_item.Push.{Push}
 use Rattle.wc_events.specs.BufferObjects.{id_of}
 use Rattle.wc_events.specs.NickObjects.{push_kind, push_objects}
 use Rattle.wc_session.specs.Event.{if_fits, push_messages}

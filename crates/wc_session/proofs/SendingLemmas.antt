@@ -10,7 +10,7 @@ use Rattle.wc_model.specs.World.{World}
 use Rattle.wc_model.specs.declared.notice.EventKind.{EventKind}
 use Rattle.wc_model.specs.declared.notice.Notice.{Notice}
 use Rattle.wc_text.specs.declared.names.Handle.{Handle}
-use Rattle.wc_nickdiff.specs.declared.push.Push.{Push}
+use Rattle.wc_nickdiff.specs.declared.diff_item.Push.{Push}
 use Rattle.wc_events.specs.NickObjects.{push_kind}
 use Rattle.wc_session.specs.Known.{Known}
 use Rattle.wc_session.specs.Event.{Spelled, IsEventOf, IsPushOf, event_messages, notice_told, push_messages, push_told, with_event}

@@ -5,7 +5,7 @@ use Rattle.wc_objects.specs.declared.object.WireMessage.{WireMessage}
 use Rattle.wc_model.specs.declared.notice.EventKind.{EventKind}
 use Rattle.wc_model.specs.declared.notice.Notice.{Notice}
 use Rattle.wc_model.specs.World.{World}
-use Rattle.wc_nickdiff.specs.declared.push.Push.{Push}
+use Rattle.wc_nickdiff.specs.declared.diff_item.Push.{Push}
 use Rattle.wc_events.specs.BufferObjects.{event_of}
 use Rattle.wc_events.specs.NickObjects.{push_kind, push_message}
 use Rattle.wc_session.specs.declared.client.Client.{Client}

@@ -7,7 +7,7 @@ ghost use Rattle.wc_relaycmd.specs.Logins.{LetsIn};
 ghost use Rattle.wc_relaycmd.specs.declared.request.Request.{Request};
 ghost use Rattle.wc_text.specs.declared.names.Handle.{Handle};
 ghost use Rattle.wc_model.specs.World.{World};
-ghost use Rattle.wc_nickdiff.specs.declared.push.Push.{Push};
+ghost use Rattle.wc_nickdiff.specs.declared.diff_item.Push.{Push};
 ghost use Rattle.wc_model.specs.declared.notice.Notice.{Notice};
 ghost use Rattle.wc_session.specs.declared.client.Client.{Client};
 ghost use Rattle.wc_session.specs.Logins.{lets_in};

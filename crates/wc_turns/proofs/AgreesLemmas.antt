@@ -8,7 +8,7 @@ use Rattle.std.proofs.lemmas.Bool.Decides.{nat_tests}
 use Rattle.wc_text.specs.declared.names.LinkId.{LinkId}
 use Rattle.wc_outside.specs.declared.happening.Happening.{Happening}
 use Rattle.wc_outside.specs.declared.happening.Happening.TheVariants.{Woke, Accepted, Read, Ended, Failed, ListenFailed}
-use Rattle.wc_turns.specs.declared.link_state.LinkState.{LinkState}
+use Rattle.wc_turns.specs.declared.links.LinkState.{LinkState}
 use Rattle.wc_outside.specs.Keyed.{at_key, put_at, without, IsKeyPlace}
 use Rattle.wc_turns.specs.Lines.{rest}
 use Rattle.wc_turns.specs.Links.{link_number, marked_at}

@@ -12,8 +12,8 @@ use Rattle.wc_core.specs.State.{State, Act, Stepped}
 use Rattle.wc_core.specs.Step.{step}
 use Rattle.wc_core.specs.Served.{connection_link, links_of, state_of, is_open, left_if, left_at, new_connection, refusal, Absent, AdmitsUnlessStarved}
 use Rattle.wc_core.proofs.ConnectionLemmas.{absent-connection}
-use Rattle.wc_turns.specs.declared.link_state.LinkState.{LinkState}
-use Rattle.wc_turns.specs.declared.link_state.Closed.{Closed}
+use Rattle.wc_turns.specs.declared.links.LinkState.{LinkState}
+use Rattle.wc_turns.specs.declared.links.Closed.{Closed}
 use Rattle.wc_turns.specs.Contained.{HasStarved}
 use Rattle.wc_turns.specs.Links.{link_number, new_state, with_closed}
 use Rattle.wc_turns.specs.Served.{closed_by, leaving_closes, NobodyLeaving, closed_number}

@@ -6,7 +6,7 @@ use Rattle.wc_text.specs.declared.names.Cause.TheVariants.{Ended as CauseEnded, 
 use Rattle.wc_outside.specs.Seen.{Seen}
 use Rattle.wc_outside.specs.Faults.{NeverFall}
 use Rattle.wc_outside.specs.declared.happening.Happening.{Happening}
-use Rattle.wc_turns.specs.declared.link_state.Closed.{Closed}
+use Rattle.wc_turns.specs.declared.links.Closed.{Closed}
 use Rattle.wc_turns.specs.Turns.{HasGained, CausedBy, IsCaused}
 
 pub gained-later : (a b c : Seen) (h : Happening) (more : List Happening) → c.taken ≡ b.taken ++ more → HasGained a b h → HasGained a c h

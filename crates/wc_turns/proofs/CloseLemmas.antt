@@ -8,8 +8,8 @@ use Rattle.wc_outside.specs.Keyed.{at_key, put_at, without}
 use Rattle.wc_core.specs.declared.connection.Connection.{Connection}
 use Rattle.wc_core.specs.declared.connection.Departure.{Departure}
 use Rattle.wc_core.specs.Served.{connection_link, state_of, unsent_in, unsent_on, unsent_at, gone_at, departure_of, Distinct}
-use Rattle.wc_turns.specs.declared.link_state.LinkState.{LinkState}
-use Rattle.wc_turns.specs.declared.link_state.Closed.{Closed}
+use Rattle.wc_turns.specs.declared.links.LinkState.{LinkState}
+use Rattle.wc_turns.specs.declared.links.Closed.{Closed}
 use Rattle.wc_turns.specs.declared.headless.Headless.{Headless}
 use Rattle.wc_turns.specs.Hands.{Delivers}
 use Rattle.wc_turns.specs.Links.{link_number, is_undrained, with_closed, marked_at}

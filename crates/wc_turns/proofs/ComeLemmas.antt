@@ -14,7 +14,7 @@ use Rattle.wc_core.specs.Events.{Arrives}
 use Rattle.wc_core.specs.Step.{run}
 use Rattle.wc_core.specs.Served.{connection_link, state_of, unsent_in, unsent_on, sent_to, has_end, new_connection, refusal, Distinct}
 use Rattle.wc_core.proofs.ConnectionLemmas.{links-push}
-use Rattle.wc_turns.specs.declared.link_state.LinkState.{LinkState}
+use Rattle.wc_turns.specs.declared.links.LinkState.{LinkState}
 use Rattle.wc_turns.specs.declared.headless.Headless.{Headless}
 use Rattle.wc_turns.specs.Hands.{Delivers}
 use Rattle.wc_turns.specs.Links.{link_number, is_undrained, new_state}

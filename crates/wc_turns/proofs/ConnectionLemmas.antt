@@ -11,7 +11,7 @@ use Rattle.wc_core.specs.declared.connection.Connection.{Connection}
 use Rattle.wc_core.specs.declared.connection.Departure.{Departure}
 use Rattle.wc_core.specs.Served.{connection_link, is_open, clients_of, leaving_in, leaving_on, left_at, left_if, gone_at, departure_by, departure_of, Absent, Distinct}
 use Rattle.wc_core.proofs.ConnectionLemmas.{absent-connection}
-use Rattle.wc_turns.specs.declared.link_state.Closed.{Closed}
+use Rattle.wc_turns.specs.declared.links.Closed.{Closed}
 use Rattle.wc_turns.specs.Served.{closed_by, leaving_closes, NobodyLeaving, closed_number}
 use Rattle.wc_turns.proofs.KeyedLemmas.{at_key-key, without-missing, map-put_at}
 

@@ -1,8 +1,8 @@
 -- Laws of the links that are open.
 use Rattle.std.proofs.Common.{◌≡◌, ℕ, ◌+◌, ◌≤◌, true, false, List, [], ◌∷◌, ◌++◌, length, Option, Some, None, is_some, refl, sym, ap}
 use Rattle.std.proofs.lemmas.Bool.{false≢true}
-use Rattle.wc_turns.specs.declared.link_state.LinkState.{LinkState}
-use Rattle.wc_turns.specs.declared.link_state.Closed.{Closed}
+use Rattle.wc_turns.specs.declared.links.LinkState.{LinkState}
+use Rattle.wc_turns.specs.declared.links.Closed.{Closed}
 use Rattle.wc_outside.specs.Keyed.{at_key, without, PlaceOf}
 use Rattle.wc_turns.specs.Links.{link_number, with_closed}
 use Rattle.wc_turns.proofs.KeyedLemmas.{length-without, some_of}

@@ -14,7 +14,7 @@ use Rattle.wc_core.specs.declared.connection.Connection.{Connection}
 use Rattle.wc_core.specs.declared.connection.Departure.{Departure}
 use Rattle.wc_core.specs.CoreView.{CoreView}
 use Rattle.wc_core.specs.Served.{connection_link, links_of, leaving_in, leaving_on, gone_at, departure_by, departure_of, Distinct}
-use Rattle.wc_turns.specs.declared.link_state.Closed.{Closed}
+use Rattle.wc_turns.specs.declared.links.Closed.{Closed}
 use Rattle.wc_turns.specs.declared.headless.Headless.{Headless}
 use Rattle.wc_turns.specs.Contained.{KeepsLinks}
 use Rattle.wc_turns.specs.Links.{link_number}

@@ -10,7 +10,7 @@ use Rattle.wc_core.specs.Events.{Event}
 use Rattle.wc_core.specs.Step.{run, no_step}
 use Rattle.wc_core.specs.Served.{connection_link, state_of, unsent_in, unsent_on, sent_to, has_end, Follows}
 use Rattle.wc_outside.specs.Keyed.{at_key}
-use Rattle.wc_turns.specs.declared.link_state.Closed.{Closed}
+use Rattle.wc_turns.specs.declared.links.Closed.{Closed}
 use Rattle.wc_turns.specs.Hands.{Delivers}
 use Rattle.wc_turns.specs.Run.{closings}
 use Rattle.wc_turns.specs.Turns.{Moment, point, MomentAdvances, is_failure, has_failed}

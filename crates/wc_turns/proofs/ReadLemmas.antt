@@ -13,7 +13,7 @@ use Rattle.wc_outside.specs.Keyed.{at_key}
 use Rattle.wc_core.specs.declared.connection.Connection.{Connection}
 use Rattle.wc_core.specs.Served.{connection_link, unsent_in, unsent_on, is_open, is_open_at, leaving_in, leaving_on, left_if, left_at}
 use Rattle.wc_core.specs.CoreView.{CoreView}
-use Rattle.wc_turns.specs.declared.link_state.Closed.{Closed}
+use Rattle.wc_turns.specs.declared.links.Closed.{Closed}
 use Rattle.wc_turns.specs.declared.headless.Headless.{Headless}
 use Rattle.wc_turns.specs.Events.{tail_on, events_of}
 use Rattle.wc_turns.specs.Links.{is_undrained}

@@ -9,13 +9,13 @@ use Rattle.wc_outside.specs.Faults.{NeverFall, Rose}
 use Rattle.wc_outside.specs.Happenings.{is_link, is_listener}
 use Rattle.wc_outside.specs.Keyed.{at_key}
 use Rattle.wc_outside.specs.Seen.{Seen}
-use Rattle.wc_outside.specs.declared.failed.Failed.{Failed as Fault}
+use Rattle.wc_outside.specs.declared.happening.Failed.{Failed as Fault}
 use Rattle.wc_outside.specs.declared.sockets.Token.{Token}
 use Rattle.wc_outside.specs.declared.sockets.Token.TheVariants.{Listener, Link}
 use Rattle.wc_core.specs.declared.connection.Connection.{Connection}
 use Rattle.wc_core.specs.Served.{connection_link, unsent_in, unsent_on}
 use Rattle.wc_turns.specs.declared.headless.Headless.{Headless}
-use Rattle.wc_turns.specs.declared.link_state.LinkState.{LinkState}
+use Rattle.wc_turns.specs.declared.links.LinkState.{LinkState}
 use Rattle.wc_turns.specs.Contained.{KeepsLinks}
 use Rattle.wc_turns.specs.Links.{link_number, is_undrained}
 use Rattle.wc_turns.specs.Served.{NobodyLeaving}

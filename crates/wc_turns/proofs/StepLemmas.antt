@@ -14,7 +14,7 @@ use Rattle.wc_core.specs.CoreView.{CoreView}
 use Rattle.wc_core.specs.Step.{run, no_step, client_link}
 use Rattle.wc_core.specs.Served.{connection_link, state_of, clients_of, links_of, leaving_in, leaving_on, Distinct}
 use Rattle.wc_core.proofs.ConnectionLemmas.{client-leaving}
-use Rattle.wc_turns.specs.declared.link_state.LinkState.{LinkState}
+use Rattle.wc_turns.specs.declared.links.LinkState.{LinkState}
 use Rattle.wc_turns.specs.declared.headless.Headless.{Headless}
 use Rattle.wc_outside.specs.Keyed.{at_key, put_at}
 use Rattle.wc_turns.specs.Events.{bytes_on, events_of, events_from}

@@ -17,7 +17,7 @@ use Rattle.wc_core.specs.CoreView.{CoreView}
 use Rattle.wc_core.specs.State.{Act}
 use Rattle.wc_core.specs.Step.{run, step}
 use Rattle.wc_core.specs.Served.{connection_link, links_of, state_of, leaving_on, left_at, close_of, or_else, Distinct, FollowsUnlessStarved}
-use Rattle.wc_turns.specs.declared.link_state.LinkState.{LinkState}
+use Rattle.wc_turns.specs.declared.links.LinkState.{LinkState}
 use Rattle.wc_turns.specs.declared.headless.Headless.{Headless}
 use Rattle.wc_turns.specs.Lines.{rest}
 use Rattle.wc_turns.specs.Links.{link_number, is_undrained}

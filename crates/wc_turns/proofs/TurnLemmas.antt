@@ -6,12 +6,12 @@ use Rattle.std.proofs.lemmas.List.Elements.{All-nil, All-append}
 use Rattle.wc_outside.specs.Seen.{Seen}
 use Rattle.wc_outside.specs.Faults.{Faults, NeverFall, Rose}
 use Rattle.wc_outside.specs.declared.happening.Happening.{Happening}
-use Rattle.wc_outside.specs.declared.failed.Failed.{Failed as Fault}
+use Rattle.wc_outside.specs.declared.happening.Failed.{Failed as Fault}
 use Rattle.wc_core.specs.Events.{Event}
 use Rattle.wc_core.specs.Step.{run}
 use Rattle.wc_core.specs.Served.{state_of, sent_to, has_end}
 use Rattle.wc_core.proofs.DidLemmas.{sent_to-append, has_end-append}
-use Rattle.wc_turns.specs.declared.link_state.Closed.{Closed}
+use Rattle.wc_turns.specs.declared.links.Closed.{Closed}
 use Rattle.wc_turns.specs.declared.headless.Headless.{Headless}
 use Rattle.wc_turns.specs.Events.{events_from}
 use Rattle.wc_turns.specs.Run.{closings}

@@ -4,13 +4,13 @@ use Rattle.std.proofs.lemmas.Bool.{false≢true}
 use Rattle.std.proofs.lemmas.List.{append-nil}
 use Rattle.std.proofs.lemmas.List.Elements.{All-nil}
 use Rattle.wc_outside.specs.Seen.{Seen}
-use Rattle.wc_outside.specs.declared.failed.Failed.{Failed as Fault}
+use Rattle.wc_outside.specs.declared.happening.Failed.{Failed as Fault}
 use Rattle.wc_outside.specs.declared.happening.Happening.TheVariants.{Woke}
 use Rattle.wc_core.specs.Step.{no_step}
 use Rattle.wc_core.specs.Served.{state_of}
 use Rattle.wc_turns.specs.declared.headless.Headless.{Headless}
-use Rattle.wc_turns.specs.declared.turn_end.TurnEnd.{TurnEnd}
-use Rattle.wc_turns.specs.declared.turn_end.TurnEnd.TheVariants.{GoOn, Quit}
+use Rattle.wc_turns.specs.declared.turn.TurnEnd.{TurnEnd}
+use Rattle.wc_turns.specs.declared.turn.TurnEnd.TheVariants.{GoOn, Quit}
 use Rattle.wc_outside.specs.Keyed.{at_key}
 use Rattle.wc_turns.specs.Contained.{is_known, KeepsLinks}
 use Rattle.wc_turns.specs.Links.{link_number}

@@ -11,7 +11,7 @@ use Rattle.wc_outside.specs.Happenings.{is_link, is_listener, IsThere}
 use Rattle.wc_outside.specs.declared.sockets.Token.{Token}
 use Rattle.wc_outside.specs.declared.sockets.Token.TheVariants.{Listener, Link}
 use Rattle.wc_outside.specs.declared.happening.Happening.TheVariants.{Woke}
-use Rattle.wc_turns.specs.declared.link_state.LinkState.{LinkState}
+use Rattle.wc_turns.specs.declared.links.LinkState.{LinkState}
 use Rattle.wc_turns.specs.declared.headless.Headless.{Headless}
 use Rattle.wc_outside.specs.Keyed.{at_key, put_at}
 use Rattle.wc_core.specs.Events.{Tick}

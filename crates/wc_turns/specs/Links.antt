@@ -1,9 +1,9 @@
 -- The links that are open.
 use Rattle.std.specs.Prelude.{ℕ, Bool, false, List, [], ◌∷◌, ◌++◌, Option, Some, None}
 use Rattle.wc_outside.specs.Keyed.{put_at}
-use Rattle.wc_turns.specs.declared.link_state.Closed.{Closed}
+use Rattle.wc_turns.specs.declared.links.Closed.{Closed}
 use Rattle.wc_text.specs.declared.names.LinkId.{LinkId}
-use Rattle.wc_turns.specs.declared.link_state.LinkState.{LinkState}
+use Rattle.wc_turns.specs.declared.links.LinkState.{LinkState}
 
 abbrev pub link_number : LinkState → ℕ
 link_number state = state.link.0

@@ -2,7 +2,7 @@
 use Rattle.std.specs.Prelude.{List, [], ◌∷◌}
 use Rattle.std.specs.List.{flat_map}
 use Rattle.wc_core.specs.State.{Act, Sends, Closes, Quits}
-use Rattle.wc_turns.specs.declared.link_state.Closed.{Closed}
+use Rattle.wc_turns.specs.declared.links.Closed.{Closed}
 
 -- the links that acts close, in order, each with its cause
 abbrev pub act_closes : Act → List Closed

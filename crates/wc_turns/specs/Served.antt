@@ -10,7 +10,7 @@ use Rattle.wc_core.specs.Events.{Event}
 use Rattle.wc_core.specs.CoreView.{CoreView}
 use Rattle.wc_core.specs.Step.{run}
 use Rattle.wc_core.specs.Served.{links_of, leaving_on, state_of, Distinct, KeepsClients, Follows}
-use Rattle.wc_turns.specs.declared.link_state.Closed.{Closed}
+use Rattle.wc_turns.specs.declared.links.Closed.{Closed}
 
 -- the close that a client asks for, if it is leaving
 abbrev pub closed_by : LinkId → Option Cause → List Closed

@@ -13,7 +13,7 @@ use Rattle.wc_outside.specs.declared.happening.Happening.{Happening}
 use Rattle.wc_outside.specs.declared.happening.Happening.TheVariants.{Woke, Accepted, Read, Ended}
 use Rattle.wc_outside.specs.declared.happening.Happening.TheVariants.{Failed, ListenFailed}
 use Rattle.wc_outside.specs.declared.sockets.Token.{Token}
-use Rattle.wc_turns.specs.declared.link_state.LinkState.{LinkState}
+use Rattle.wc_turns.specs.declared.links.LinkState.{LinkState}
 use Rattle.wc_core.specs.declared.connection.Connection.{Connection}
 use Rattle.wc_turns.specs.Events.{bytes_on}
 use Rattle.wc_core.specs.Served.{unsent_on}

@@ -16,7 +16,7 @@ use Rattle.wc_turns.specs.Served.{closed_by, NobodyLeaving}
 use Rattle.wc_outside.specs.Happenings.{is_link, is_listener}
 use Rattle.wc_outside.specs.declared.sockets.Token.{Token}
 use Rattle.wc_outside.specs.declared.happening.Happening.TheVariants.{Woke}
-use Rattle.wc_turns.specs.declared.link_state.LinkState.{LinkState}
+use Rattle.wc_turns.specs.declared.links.LinkState.{LinkState}
 use Rattle.wc_turns.specs.declared.headless.Headless.{Headless}
 use Rattle.wc_outside.specs.Keyed.{at_key}
 use Rattle.wc_turns.specs.Events.{clock_from, is_event, wake_events}

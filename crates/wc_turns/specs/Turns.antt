@@ -13,18 +13,18 @@ use Rattle.wc_outside.specs.Faults.{NeverFall, Rose}
 use Rattle.wc_outside.specs.declared.happening.Happening.{Happening}
 use Rattle.wc_outside.specs.declared.happening.Happening.TheVariants.{Woke, Accepted, Read, Ended}
 use Rattle.wc_outside.specs.declared.happening.Happening.TheVariants.{Failed, ListenFailed}
-use Rattle.wc_outside.specs.declared.failed.Failed.{Failed as Fault}
+use Rattle.wc_outside.specs.declared.happening.Failed.{Failed as Fault}
 use Rattle.wc_core.specs.declared.connection.Connection.{Connection}
 use Rattle.wc_core.specs.Events.{Event}
 use Rattle.wc_core.specs.CoreView.{CoreView}
 use Rattle.wc_core.specs.Step.{run}
 use Rattle.wc_core.specs.Served.{connection_link, state_of, unsent_on, sent_to, has_end, Distinct}
-use Rattle.wc_turns.specs.declared.link_state.LinkState.{LinkState}
-use Rattle.wc_turns.specs.declared.link_state.Closed.{Closed}
+use Rattle.wc_turns.specs.declared.links.LinkState.{LinkState}
+use Rattle.wc_turns.specs.declared.links.Closed.{Closed}
 use Rattle.wc_turns.specs.declared.headless.Headless.{Headless}
-use Rattle.wc_turns.specs.declared.turn_end.TurnEnd.{TurnEnd}
-use Rattle.wc_turns.specs.declared.turn_end.TurnEnd.TheVariants.{GoOn, Quit, WaitFault, ListenFault}
-use Rattle.wc_turns.specs.declared.turn_end.TurnEnd.TheVariants.{KeeperFault}
+use Rattle.wc_turns.specs.declared.turn.TurnEnd.{TurnEnd}
+use Rattle.wc_turns.specs.declared.turn.TurnEnd.TheVariants.{GoOn, Quit, WaitFault, ListenFault}
+use Rattle.wc_turns.specs.declared.turn.TurnEnd.TheVariants.{KeeperFault}
 use Rattle.wc_outside.specs.Keyed.{at_key}
 use Rattle.wc_turns.specs.Events.{bytes_on, tail_on, clock, events_of, events_from, whole}
 use Rattle.wc_turns.specs.Hands.{Point, Delivers}

@@ -11,8 +11,7 @@ ghost use Rattle.wc_turns.specs.Links.{link_number};
 ghost use Rattle.wc_turns.specs.Served.{NobodyLeaving, LeavesAtLine};
 
 use crate::feed::feed;
-use crate::link_state::{Closed, LinkState};
-use crate::links::Links;
+use crate::links::{Closed, LinkState, Links};
 use std::alloc::Global;
 use wc_core::Core;
 use wc_outside::{Ready, Token};

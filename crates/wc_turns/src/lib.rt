@@ -5,14 +5,12 @@
 mod feed;
 mod headless;
 mod line_buffer;
-mod link_state;
 mod links;
 mod serve;
 mod tail;
 mod turn;
-mod turn_end;
 mod turns;
 
 pub use headless::Headless;
-pub use link_state::{Closed, LinkState};
-pub use turn_end::TurnEnd;
+pub use links::{Closed, LinkState};
+pub use turn::TurnEnd;

@@ -2,10 +2,27 @@ ghost use Rattle.std.specs.Prelude.{◌≡◌, ◌+◌, ◌≤◌, ◌++◌, ◌
 ghost use Rattle.std.specs.Prelude.{IfOk, position, vec_len, vec_capacity};
 ghost use Rattle.wc_outside.specs.Keyed.{at_key, without, PlaceOf};
 
-use crate::link_state::{Closed, LinkState};
 use crate::tail::Tail;
 use std::alloc::Global;
-use wc_text::{Cause, LinkId, NoMemory};
+use wc_text::{Cause, LinkId, NoMemory, Text};
+
+/// A link that is open.
+#[derive(Drop)]
+pub struct LinkState {
+    pub link: LinkId,
+    /// The server that the link leads to. A client's link has none.
+    pub server: Option<Text>,
+    pub(crate) tail: Tail,
+    /// Whether it was reported ready and is not drained.
+    pub(crate) undrained: bool,
+}
+
+/// A link that was closed.
+#[derive(Clone, Copy, Debug, PartialEq, Eq)]
+pub struct Closed {
+    pub link: LinkId,
+    pub cause: Cause,
+}
 
 /// How many links there is room for from the start.
 const ROOM: usize = 192;

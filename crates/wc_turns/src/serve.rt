@@ -15,7 +15,7 @@ ghost use Rattle.wc_turns.specs.Sources.{is_left_over};
 ghost use Rattle.wc_turns.specs.Turns.{LoopStep, AgreesWithSockets, faults_of};
 
 use crate::headless::Headless;
-use crate::link_state::LinkState;
+use crate::links::LinkState;
 use crate::turns::{accept_all, read_link, send_link, write_link};
 use wc_core::Connection;
 use wc_outside::{Failed, Ready, Sockets, Token};

@@ -1,12 +1,26 @@
-ghost use Rattle.std.specs.Prelude.{◌≡◌, ◌≢◌, All};
 ghost use Rattle.std.specs.List.{list_any};
+ghost use Rattle.std.specs.Prelude.{◌≡◌, ◌≢◌, All};
 ghost use Rattle.wc_outside.specs.Faults.{Rose};
 
 use crate::headless::Headless;
-use crate::link_state::LinkState;
+use crate::links::LinkState;
 use crate::serve::serve_ready;
-use crate::turn_end::TurnEnd;
 use wc_outside::{Failed, Keeper, Ready, Sockets};
+
+/// How a turn ended.
+#[derive(Clone, Copy, Debug, PartialEq, Eq)]
+pub enum TurnEnd {
+    /// The next turn may come.
+    GoOn,
+    /// A client or a command asked for the end of the run.
+    Quit,
+    /// The wait failed.
+    WaitFault,
+    /// The listener failed.
+    ListenFault,
+    /// The configuration was not kept.
+    KeeperFault,
+}
 
 /// Whether one of the links is not drained.
 fn any_undrained(states: &[LinkState]) -> bool

@@ -7,7 +7,7 @@ use Rattle.std.proofs.lemmas.List.{map-append, length-map}
 use Rattle.wc_text.specs.declared.names.Handle.{Handle}
 use Rattle.wc_text.specs.declared.names.Pair.{Pair}
 use Rattle.wc_buffers.specs.declared.row.BufferSpec.{BufferSpec}
-use Rattle.wc_buffers.specs.declared.entry.BufferEntry.{BufferEntry}
+use Rattle.wc_buffers.specs.declared.row.BufferEntry.{BufferEntry}
 use Rattle.wc_buffers.specs.Groups.{rows, in_group, has, row_of, times, update, take_out, pick, append_to, merge, others, own, move_group}
 use Rattle.wc_buffers.specs.Calls.{EntryGroups as Held, handle_of, entry_of, lacks_var, new_entry as opened_entry, with_hidden, with_full_name, with_short_name, with_title, with_var, without_var, with_entry}
 use Rattle.wc_buffers.specs.Vars.{cut_to}

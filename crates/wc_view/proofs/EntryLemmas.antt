@@ -9,7 +9,7 @@ use Rattle.std.specs.FinMap.{insert, find, get-insert, get-from_entries, same_ma
 use Rattle.std.specs.Ordering.{nat_cmp, eq_by_cmp}
 use Rattle.std.specs.Cmp.{nat_cmp_total, unsigned_tied}
 use Rattle.wc_lines.specs.Ring.{last_of}
-use Rattle.wc_view.specs.declared.mirror_line.MirrorLine.{MirrorLine}
+use Rattle.wc_view.specs.declared.mirror_buffer.MirrorLine.{MirrorLine}
 use Rattle.wc_view.specs.declared.rows.LineRow.{LineRow}
 use Rattle.wc_view.specs.Entries.{Entry, part_at, IsEntry}
 use Rattle.wc_view.specs.Parts.{lines_at, with_row}

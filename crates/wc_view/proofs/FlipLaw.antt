@@ -13,7 +13,7 @@ use Rattle.std.proofs.lemmas.Grind.{fold-append}
 use Rattle.wc_text.specs.declared.names.Handle.{Handle}
 use Rattle.wc_lines.specs.declared.line.Line.{Line}
 use Rattle.wc_lines.specs.Ring.{has_content, set_displayed}
-use Rattle.wc_buffers.specs.declared.entry.BufferEntry.{BufferEntry}
+use Rattle.wc_buffers.specs.declared.row.BufferEntry.{BufferEntry}
 use Rattle.wc_buffers.specs.Groups.{has, in_group, rows}
 use Rattle.wc_buffers.specs.Calls.{EntryGroups, handle_of, with_entry, with_full_name}
 use Rattle.wc_buffers.proofs.GroupLaws.{has-map}
@@ -26,7 +26,7 @@ use Rattle.wc_model.specs.Order.{order}
 use Rattle.wc_model.specs.Apply.{with_flips, after_of}
 use Rattle.wc_model.specs.Notices.{bool_eq, same_flag, is_flipped as differs, flips_in, flips_between, notice_of}
 use Rattle.wc_events.specs.BufferObjects.{event_of, objects_of, is_flipped, flag_keys, flag_item, flag_items, flag_objects}
-use Rattle.wc_view.specs.declared.mirror_line.MirrorLine.{MirrorLine}
+use Rattle.wc_view.specs.declared.mirror_buffer.MirrorLine.{MirrorLine}
 use Rattle.wc_view.specs.declared.flags.LineFlag.{LineFlag}
 use Rattle.wc_view.specs.Each.{each}
 use Rattle.wc_view.specs.Ids.{IsFree}

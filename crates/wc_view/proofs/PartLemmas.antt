@@ -8,7 +8,7 @@ use Rattle.std.specs.FinMap.{find, get, get-insert, get-from_entries, same_map, 
 use Rattle.std.specs.Ordering.{nat_cmp}
 use Rattle.std.specs.Cmp.{nat_cmp_total}
 use Rattle.wc_lines.specs.Ring.{last_of}
-use Rattle.wc_view.specs.declared.mirror_line.MirrorLine.{MirrorLine}
+use Rattle.wc_view.specs.declared.mirror_buffer.MirrorLine.{MirrorLine}
 use Rattle.wc_view.specs.declared.rows.LineRow.{LineRow}
 use Rattle.wc_view.specs.Parts.{lines_at, with_row, lines_of, part_of}
 use Rattle.wc_view.proofs.EntryLemmas.{by_bool, tied}

@@ -1,7 +1,7 @@
 -- What a client has of the buffers of a world.
 use Rattle.std.specs.Prelude.{◌≡◌, ℕ, ◌^◌, ◌-◌, ◌<◌, ◌≤◌, true, List, length, map, Option}
 use Rattle.std.specs.Prelude.{Some, None}
-use Rattle.wc_buffers.specs.declared.entry.BufferEntry.{BufferEntry}
+use Rattle.wc_buffers.specs.declared.row.BufferEntry.{BufferEntry}
 use Rattle.wc_buffers.specs.Groups.{AllFilled, has, times}
 use Rattle.wc_buffers.specs.Calls.{handle_of}
 use Rattle.wc_model.specs.declared.change.Change.{Change}

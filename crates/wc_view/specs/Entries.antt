@@ -2,7 +2,7 @@
 use Rattle.std.specs.Prelude.{◌≡◌, ℕ, List, None, take, get_or}
 use Rattle.std.specs.FinMap.{from_entries, find}
 use Rattle.std.specs.Ordering.{nat_cmp}
-use Rattle.wc_view.specs.declared.mirror_line.MirrorLine.{MirrorLine}
+use Rattle.wc_view.specs.declared.mirror_buffer.MirrorLine.{MirrorLine}
 use Rattle.wc_view.specs.Parts.{Part}
 
 abbrev pub Entry : Type 0

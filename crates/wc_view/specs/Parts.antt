@@ -4,7 +4,7 @@ use Rattle.std.specs.Prelude.{Some, None, if◌then◌else◌}
 use Rattle.std.specs.FinMap.{FinMap, get, insert, remove, from_entries}
 use Rattle.std.specs.Ordering.{nat_cmp}
 use Rattle.wc_lines.specs.Ring.{last_of}
-use Rattle.wc_view.specs.declared.mirror_line.MirrorLine.{MirrorLine}
+use Rattle.wc_view.specs.declared.mirror_buffer.MirrorLine.{MirrorLine}
 use Rattle.wc_view.specs.declared.flags.LineFlag.{LineFlag}
 use Rattle.wc_view.specs.declared.rows.LineRow.{LineRow}
 

@@ -13,7 +13,7 @@ use Rattle.wc_model.specs.Notices.{notice}
 use Rattle.wc_objects.specs.declared.object.WireMessage.{WireMessage}
 use Rattle.wc_events.specs.LineObjects.{line_dump}
 use Rattle.wc_events.specs.BufferObjects.{event_of}
-use Rattle.wc_view.specs.declared.mirror_line.MirrorLine.{MirrorLine}
+use Rattle.wc_view.specs.declared.mirror_buffer.MirrorLine.{MirrorLine}
 use Rattle.wc_view.specs.Ids.{IsFree}
 use Rattle.wc_view.specs.Parts.{Part, lines_at}
 use Rattle.wc_view.specs.Fold.{fold_lines}

@@ -10,7 +10,7 @@ ghost use Rattle.wc_view.specs.Parts.{lines_at, with_row, part_of, without, flag
 ghost use Rattle.wc_view.specs.Parts.{with_line_flag, with_flag, with_flags};
 
 use crate::flags::LineFlag;
-use crate::mirror_line::MirrorLine;
+use crate::mirror_buffer::MirrorLine;
 use crate::rows::LineRow;
 use std::alloc::Global;
 use std::marker::Model;
@@ -25,7 +25,7 @@ pub(crate) struct BufferLines {
 
 impl Model for BufferLines {
     ghost use Rattle.std.specs.Prelude.{List, ℕ};
-    ghost use Rattle.wc_view.specs.declared.mirror_line.MirrorLine.{MirrorLine};
+    ghost use Rattle.wc_view.specs.declared.mirror_buffer.MirrorLine.{MirrorLine};
 
     ghost Value = { ℕ × List MirrorLine };
 

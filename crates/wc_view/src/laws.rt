@@ -1,7 +1,8 @@
 //! What holds of each mirror of the lines of a world.
-
+//! What holds of each mirror of the nicklists of a world.
 ghost use Rattle.wc_view.specs.BufferViews.{BufferDumpShows, BufferNoticeShows};
 ghost use Rattle.wc_view.specs.Flipped.{FlipsShow};
+ghost use Rattle.wc_view.specs.NickViews.{NickDumpShows, NickNoticeShows, PushShows};
 ghost use Rattle.wc_view.specs.Views.{DumpShows, NoticeShows};
 
 /// After the reply to the line dump a client has the lines of the world.
@@ -30,4 +31,20 @@ pub fn dump_shows_buffers()
 /// of the change.
 pub fn notice_shows_buffers()
     ensures { BufferNoticeShows }
+{}
+
+/// After the reply to the nicklist dump a client has the nicklists of the world.
+pub fn dump_shows_nicks()
+    ensures { NickDumpShows }
+{}
+
+/// A client that has the rows that were told has those that are told after a change after the event
+/// of the change.
+pub fn notice_shows_nicks()
+    ensures { NickNoticeShows }
+{}
+
+/// A client that has the rows that were told of a buffer has those of now after a push.
+pub fn push_shows_nicks()
+    ensures { PushShows }
 {}

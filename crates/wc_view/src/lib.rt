@@ -10,13 +10,11 @@ mod items;
 mod laws;
 mod mirror;
 mod mirror_buffer;
-mod mirror_line;
 mod mirror_lines;
 mod mirror_nicks;
 mod named;
 mod nick_groups;
 mod nick_items;
-mod nick_laws;
 mod nick_list;
 mod nick_rows;
 mod rows;
@@ -24,10 +22,8 @@ mod told;
 mod values;
 
 pub use laws::{
-    dump_shows_buffers, dump_shows_world, flips_show_world, notice_shows_buffers,
-    notice_shows_world,
+    dump_shows_buffers, dump_shows_nicks, dump_shows_world, flips_show_world, notice_shows_buffers,
+    notice_shows_nicks, notice_shows_world, push_shows_nicks,
 };
 pub use mirror::{Mirror, MirrorRefused};
-pub use mirror_buffer::{MirrorBuffer, SharedBuffer};
-pub use mirror_line::MirrorLine;
-pub use nick_laws::{dump_shows_nicks, notice_shows_nicks, push_shows_nicks};
+pub use mirror_buffer::{MirrorBuffer, MirrorLine, SharedBuffer};

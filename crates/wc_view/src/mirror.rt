@@ -15,8 +15,7 @@ ghost use Rattle.wc_view.specs.Taking.{nothing_taken, parts_after, TakesMessage}
 
 use crate::buffer_lines::{BufferLines, lines_of};
 use crate::buffer_nicks::{BufferNicks, nicklist_of};
-use crate::mirror_buffer::SharedBuffer;
-use crate::mirror_line::MirrorLine;
+use crate::mirror_buffer::{MirrorLine, SharedBuffer};
 use crate::mirror_lines::fold_lines;
 use crate::mirror_nicks::{make_room, nick_step, take_step};
 use crate::told::{dump_told, event_told};

@@ -5,6 +5,25 @@ use std::marker::Model;
 use std::rc::Rc;
 use wc_text::{Duplicate, Handle, Items, NoMemory, Pair, Text};
 
+/// A line of a buffer as a client has it, without the line's own handle.
+#[derive(Drop)]
+pub struct MirrorLine {
+    /// The name of what the line says, which a mixed buffer's line shares.
+    pub content: Handle,
+    /// In seconds since 1970.
+    pub date: u64,
+    /// In seconds since 1970.
+    pub date_printed: u64,
+    /// No filter hides it.
+    pub displayed: bool,
+    /// The level of notification, from -1 for none to 3.
+    pub notify: i8,
+    pub highlight: bool,
+    pub tags: Items<Text>,
+    pub prefix: Text,
+    pub message: Text,
+}
+
 /// A buffer as a client has it.
 #[derive(Drop)]
 pub struct MirrorBuffer {

@@ -5,7 +5,7 @@ ghost use Rattle.wc_view.specs.Each.{each, only};
 ghost use Rattle.wc_view.specs.Rows.{marks_in, line_texts_in, row_with, row_in, rows_on};
 
 use crate::items::{items_on, last_pointer};
-use crate::mirror_line::MirrorLine;
+use crate::mirror_buffer::MirrorLine;
 use crate::values::{date_in, level_in, pointer_in, text_copy, texts_in, truth_in};
 use std::alloc::Global;
 use wc_objects::{HdaItem, Object};

@@ -11,7 +11,7 @@ use Rattle.wc_lines.specs.Held.{RingView}
 use Rattle.wc_lines.specs.Ring.{last_of, with_line, without_lines}
 use Rattle.wc_nicklist.specs.Rows.{Nicks}
 use Rattle.wc_nicklist.specs.declared.item.Row.{Row}
-use Rattle.wc_buffers.specs.declared.entry.BufferEntry.{BufferEntry}
+use Rattle.wc_buffers.specs.declared.row.BufferEntry.{BufferEntry}
 use Rattle.wc_buffers.specs.declared.refused.BufferRefused.{BufferRefused}
 use Rattle.wc_buffers.specs.Calls.{EntryGroups, handle_of, is_there, entry_of, buffer_of, move_group_to, merge_groups, unmerge_group, with_entry, move_refusal, merge_refusal, unmerge_refusal, no_buffer, short_name_refusal, set_var_refusal, remove_var_refusal, with_hidden, with_short_name, with_title, with_var, without_var, lacks_var}
 use Rattle.wc_buffers.specs.Vars.{cut_to}

@@ -15,7 +15,7 @@ use Rattle.wc_lines.specs.declared.line.Line.{Line}
 use Rattle.wc_lines.specs.Flags.{with_own_flag, with_flags}
 use Rattle.wc_lines.specs.Held.{RingView}
 use Rattle.wc_lines.specs.Ring.{has_content}
-use Rattle.wc_buffers.specs.declared.entry.BufferEntry.{BufferEntry}
+use Rattle.wc_buffers.specs.declared.row.BufferEntry.{BufferEntry}
 use Rattle.wc_buffers.specs.declared.refused.BufferRefused.{BufferRefused}
 use Rattle.wc_buffers.specs.Calls.{EntryGroups, AnswersRefusal, handle_of, is_there, buffer_of, with_entry, rename_refusal, with_full_name}
 use Rattle.wc_buffers.specs.Groups.{rows, has}

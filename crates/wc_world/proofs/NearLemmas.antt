@@ -1,7 +1,7 @@
 -- The order of buffers, group by group.
 use Rattle.std.proofs.Common.{◌≡◌, ℕ, ◌++◌, ◌∷◌, [], List, true, false, eqb, map, refl, ◌∙◌}
 use Rattle.std.proofs.lemmas.List.{map-append}
-use Rattle.wc_buffers.specs.declared.entry.BufferEntry.{BufferEntry}
+use Rattle.wc_buffers.specs.declared.row.BufferEntry.{BufferEntry}
 use Rattle.wc_buffers.specs.Calls.{EntryGroups, handle_of}
 use Rattle.wc_buffers.specs.Groups.{rows}
 use Rattle.wc_buffers.specs.Kept.{handles}

@@ -12,7 +12,7 @@ use Rattle.std.proofs.lemmas.List.Elements.{filter-append}
 use Rattle.std.proofs.lemmas.List.Folds.{list_any-append}
 use Rattle.wc_text.specs.declared.names.Handle.{Handle}
 use Rattle.wc_lines.specs.Held.{RingView, no_lines}
-use Rattle.wc_buffers.specs.declared.entry.BufferEntry.{BufferEntry}
+use Rattle.wc_buffers.specs.declared.row.BufferEntry.{BufferEntry}
 use Rattle.wc_buffers.specs.declared.refused.BufferRefused.{BufferRefused}
 use Rattle.wc_buffers.specs.declared.row.BufferRow.{BufferRow}
 use Rattle.wc_buffers.specs.Kept.{AreBuffers}

@@ -1,5 +1,5 @@
 use Rattle.std.proofs.Common.{◌≡◌, sym, ap, Some, ◌∙◌}
-use Rattle.wc_core.specs.declared.buffer_word.BufferWord.TheVariants as words
+use Rattle.wc_core.specs.declared.typed_buffer.BufferWord.TheVariants as words
 use Rattle.wc_core.specs.TypedSeen.{word_named}
 use Rattle.wc_core.proofs.TypedWords.{command_at}
 use Rattle.wc_core.proofs.typed_buffer.buffer_command.Goals as goal

@@ -1,5 +1,5 @@
 use Rattle.std.proofs.Common.{ℕ, ◌≤◌, ◌<◌, ◌-◌, length, get_or}
-use Rattle.wc_headless.specs.declared.row.Row.{Row}
+use Rattle.wc_headless.specs.declared.rows.Row.{Row}
 use Rattle.wc_headless.specs.Rows.{number_of}
 use Rattle.wc_headless.proofs.rows.place_of.Given as goal
 

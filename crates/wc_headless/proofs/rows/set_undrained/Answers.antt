@@ -1,5 +1,5 @@
 use Rattle.std.proofs.Common.{refl}
-use Rattle.wc_headless.specs.declared.row.Row.{Row}
+use Rattle.wc_headless.specs.declared.rows.Row.{Row}
 use Rattle.wc_headless.specs.Rows.{has, undrained_in, blocked_in}
 use Rattle.wc_headless.proofs.RowLemmas.{edited, edited_same, numbers_edited}
 use Rattle.wc_headless.proofs.rows.set_undrained.Goals as goal

@@ -1,5 +1,5 @@
 use Rattle.std.proofs.Common.{◌≡◌, ◌++◌, [], ◌∷◌, ap, ◌∙◌, arith}
-use Rattle.wc_outside.specs.declared.asked.Asked.TheVariants.{Listen}
+use Rattle.wc_outside.specs.declared.happening.Asked.TheVariants.{Listen}
 use Rattle.wc_turns.specs.Turns.{wake_count, listen_faults}
 use Rattle.wc_turns.proofs.CauseLemmas.{caused-following}
 use Rattle.wc_loop.proofs.EndingLemmas.{Runs-following, known-readable}

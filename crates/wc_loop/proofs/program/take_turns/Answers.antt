@@ -1,5 +1,5 @@
 use Rattle.std.proofs.Common.{◌≡◌, ◌+◌, ap, refl, ◌∙◌, subst, false, arith}
-use Rattle.wc_turns.specs.declared.turn_end.TurnEnd.TheVariants.{GoOn}
+use Rattle.wc_turns.specs.declared.turn.TurnEnd.TheVariants.{GoOn}
 use Rattle.wc_turns.specs.Served.{leaving_closes}
 use Rattle.wc_turns.specs.Turns.{LoopStep, waits_then}
 use Rattle.wc_turns.proofs.CauseLemmas.{caused-following}

@@ -1,6 +1,6 @@
 use Rattle.std.proofs.Common.{◌≡◌, List, map, sym, ap, ◌∙◌, subst, arith}
 use Rattle.std.specs.Prelude.{insert, slice_set, vec_len, vec_capacity}
-use Rattle.wc_nicklist.specs.declared.entry.Entry.{Entry}
+use Rattle.wc_nicklist.specs.declared.store.Entry.{Entry}
 use Rattle.wc_nicklist.specs.Order.{key_at, address_of}
 use Rattle.wc_nicklist.specs.Rows.{Ascending}
 use Rattle.wc_nicklist.specs.Stored.{entry_row, AllEntriesLead, IsRowPlace}

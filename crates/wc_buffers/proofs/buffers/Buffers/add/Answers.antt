@@ -1,6 +1,6 @@
 use Rattle.std.proofs.Common.{◌≡◌, ◌∙◌, None, ap, sym, subst, length, All, arith}
 use Rattle.std.specs.List.{list_any}
-use Rattle.wc_buffers.specs.declared.entry.BufferEntry.{BufferEntry}
+use Rattle.wc_buffers.specs.declared.row.BufferEntry.{BufferEntry}
 use Rattle.wc_buffers.specs.Calls.{add_refusal_so_far, new_entry, other_named}
 use Rattle.wc_buffers.specs.Entries.{IsText}
 use Rattle.wc_buffers.specs.Groups.{rows}

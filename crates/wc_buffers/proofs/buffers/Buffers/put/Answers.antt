@@ -1,5 +1,5 @@
 use Rattle.std.proofs.Common.{◌∙◌, ◌++◌, ◌∷◌, [], List, Some, cond, eqb, bytes_eq, ap, sym, subst}
-use Rattle.wc_buffers.specs.declared.entry.BufferEntry.{BufferEntry}
+use Rattle.wc_buffers.specs.declared.row.BufferEntry.{BufferEntry}
 use Rattle.wc_buffers.specs.Kept.{at_name, groups_of_handles, AreBuffersKept}
 use Rattle.wc_buffers.proofs.EditLemmas.{is_not_grouped, room_shown}
 use Rattle.wc_buffers.proofs.Keeps.{kept_same, kept_added, shown_added}

@@ -1,5 +1,5 @@
 use Rattle.std.proofs.Common.{◌∙◌, None, cond, bytes_eq, ap, sym, subst, option_map}
-use Rattle.wc_buffers.specs.declared.entry.BufferEntry.{BufferEntry}
+use Rattle.wc_buffers.specs.declared.row.BufferEntry.{BufferEntry}
 use Rattle.wc_buffers.specs.Calls.{buffer_of, without_buffer}
 use Rattle.wc_buffers.specs.Kept.{at_name, groups_of_handles, AreBuffersKept}
 use Rattle.wc_buffers.proofs.EditLemmas.{is_stored, is_grouped}

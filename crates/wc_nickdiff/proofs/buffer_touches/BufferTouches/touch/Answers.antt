@@ -3,7 +3,7 @@ use Rattle.std.specs.Prelude.{is_some}
 use Rattle.wc_nicklist.specs.declared.item.Key.{Key}
 use Rattle.wc_nicklist.specs.Order.{key_at}
 use Rattle.wc_nicklist.specs.Rows.{key_eq}
-use Rattle.wc_nickdiff.specs.declared.first_touch.FirstTouch.{FirstTouch}
+use Rattle.wc_nickdiff.specs.declared.diff_item.FirstTouch.{FirstTouch}
 use Rattle.wc_nickdiff.specs.Held.{OfBuffer, before_at, with_touch, EachOnce}
 use Rattle.wc_nickdiff.specs.Index.{place_in, place_of, IndexesTouches}
 use Rattle.wc_nickdiff.proofs.Touches.{none_some, touched_again, touched_first, place_none, once_push, index_push, insert_step}

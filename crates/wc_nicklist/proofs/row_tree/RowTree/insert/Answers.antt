@@ -1,5 +1,5 @@
 use Rattle.std.proofs.Common.{◌≡◌, Some, refl, sym, ap, ◌∙◌, subst, arith}
-use Rattle.wc_nicklist.specs.declared.entry.Entry.{Entry}
+use Rattle.wc_nicklist.specs.declared.store.Entry.{Entry}
 use Rattle.wc_nicklist.specs.Order.{key, key_at, address, address_of}
 use Rattle.wc_nicklist.specs.Rows.{find_row, insert_row, Ascending}
 use Rattle.wc_nicklist.specs.Stored.{row_or, entry_row, EntryLeads}

@@ -1,7 +1,7 @@
 use Rattle.std.proofs.Common.{◌≡◌, List, sym, subst, ◌∙◌}
 use Rattle.wc_model.specs.World.{rows_at, root_at}
 use Rattle.wc_nicklist.specs.declared.item.Row.{Row}
-use Rattle.wc_nickdiff.specs.declared.push.Push.{Push}
+use Rattle.wc_nickdiff.specs.declared.diff_item.Push.{Push}
 use Rattle.wc_nickdiff.specs.Held.{before_at, touches_of}
 use Rattle.wc_nickdiff.specs.NickPush.{nick_push}
 use Rattle.wc_nickdiff.specs.Told.{IsTold}

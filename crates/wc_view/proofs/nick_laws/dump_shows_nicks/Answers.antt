@@ -1,5 +1,0 @@
-use Rattle.wc_view.proofs.NickDump.{dump_shows}
-use Rattle.wc_view.proofs.nick_laws.dump_shows_nicks.Goals as goal
-
-pub returns : goal.returns
-returns c = λ id part world lists. dump_shows id part world lists

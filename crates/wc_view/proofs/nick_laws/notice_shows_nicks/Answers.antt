@@ -1,5 +1,0 @@
-use Rattle.wc_view.proofs.NickNotice.{notice_shows}
-use Rattle.wc_view.proofs.nick_laws.notice_shows_nicks.Goals as goal
-
-pub returns : goal.returns
-returns c = λ id told world change lists same free accepted. notice_shows id told world change lists same free accepted
