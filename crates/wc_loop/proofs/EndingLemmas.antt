@@ -9,7 +9,7 @@ use Rattle.wc_turns.specs.declared.headless.Headless.{Headless}
 use Rattle.wc_loop.specs.declared.ending.Ending.{Ending}
 use Rattle.wc_loop.specs.declared.ending.Ending.TheVariants.{Version, BadWord, WaitFailed, NoConfiguration, BadLine, NoMemory, ListenFailed, TurnsTaken, Quit as EndsQuit}
 use Rattle.wc_turns.specs.declared.turn.TurnEnd.{TurnEnd}
-use Rattle.wc_turns.specs.declared.turn.TurnEnd.TheVariants.{GoOn, Quit, WaitFault, ListenFault, KeeperFault}
+use Rattle.wc_turns.specs.declared.turn.TurnEnd.TheVariants.{GoOn, Quit, WaitFault, ListenFault}
 use Rattle.wc_loop.specs.declared.configuration.Settings.{Settings}
 use Rattle.wc_loop.specs.Configuration.{settings_in}
 use Rattle.wc_turns.specs.Sources.{AllServed, AllSent}
@@ -51,7 +51,6 @@ pub record After (turns : ℕ) (contents : Option (List ℕ)) (before after : Se
   pub known : IfSome contents IsReadable
   pub woke : IsTrue after.tells → wake_count after.taken ≡ h.turns
   pub listens : IsTrue after.tells → listen_faults after.taken ≡ faults_then then
-  pub never : then ≢ KeeperFault
   pub quit : then ≡ Quit → h.core.quits ≡ true
   pub going : then ≢ Quit → then ≢ ListenFault → h.core.quits ≡ false
   pub all : then ≡ GoOn → h.turns ≡ turns
@@ -190,7 +189,6 @@ Runs-following turns contents k k' before after ListenFault ending h b at = rw a
   faults = record { wait = λ q. absurd (omega arith); keeper = λ q. absurd (omega arith); listener = λ q. b.listen_fault refl };
   asked = b.asked;
 })
-Runs-following turns contents k k' before after KeeperFault ending h b at = absurd at
 
 bad-line : (contents : Option (List ℕ)) (n : ℕ) → IfSome contents (λ kept. settings_in kept ≡ Err n) → IfSome contents (λ kept. (settings : Settings) → settings_in kept ≢ Ok settings)
 bad-line None n bad = tt

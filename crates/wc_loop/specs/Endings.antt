@@ -14,7 +14,7 @@ use Rattle.wc_loop.specs.declared.ending.Ending.TheVariants.{ListenFailed, Turns
 use Rattle.wc_turns.specs.declared.headless.Headless.{Headless}
 use Rattle.wc_turns.specs.declared.turn.TurnEnd.{TurnEnd}
 use Rattle.wc_turns.specs.declared.turn.TurnEnd.TheVariants.{GoOn, Quit as ThenQuit, WaitFault}
-use Rattle.wc_turns.specs.declared.turn.TurnEnd.TheVariants.{ListenFault, KeeperFault}
+use Rattle.wc_turns.specs.declared.turn.TurnEnd.TheVariants.{ListenFault}
 use Rattle.wc_loop.specs.declared.words.Wish.{Wish}
 use Rattle.wc_loop.specs.declared.configuration.Settings.{Settings}
 use Rattle.wc_loop.specs.Configuration.{settings_in}
@@ -173,7 +173,6 @@ EndsAt GoOn ending = ending ≡ TurnsTaken
 EndsAt ThenQuit ending = ending ≡ Quit
 EndsAt WaitFault ending = ending ≡ WaitFailed
 EndsAt ListenFault ending = ending ≡ ListenFailed
-EndsAt KeeperFault ending = ⊥
 
 -- an end before the listener is asked for
 abbrev pub IsEarly : Option (List ℕ) → ℕ → ℕ → Ending → Type 0

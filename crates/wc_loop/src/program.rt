@@ -83,7 +83,6 @@ fn take_turns<S: Sockets, K: Keeper>(
         (S.seen sockets.old) (S.seen sockets.new) }
     ensures sent { result ≡ TurnEnd.Quit → AllSent headless.new.core.connections
         (S.seen sockets.old) (S.seen sockets.new) }
-    ensures never { result ≢ TurnEnd.KeeperFault }
     ensures quit { result ≡ TurnEnd.Quit → headless.new.core.quits ≡ true }
     ensures going { result ≢ TurnEnd.Quit → result ≢ TurnEnd.ListenFault →
         headless.new.core.quits ≡ false }
@@ -109,7 +108,6 @@ fn take_turns<S: Sockets, K: Keeper>(
 
 /// Why the run ends after its last turn.
 fn ending_of(then: TurnEnd) -> Ending
-    requires { then ≢ TurnEnd.KeeperFault }
     ensures { EndsAt then result }
 {
     match then {
@@ -117,7 +115,6 @@ fn ending_of(then: TurnEnd) -> Ending
         TurnEnd::Quit => Ending::Quit,
         TurnEnd::WaitFault => Ending::WaitFailed,
         TurnEnd::ListenFault => Ending::ListenFailed,
-        TurnEnd::KeeperFault => unreachable!(),
     }
 }
 

@@ -28,7 +28,6 @@ marked_at link undrained states None = states
 abbrev pub new_state : LinkId → LinkState
 new_state link = record {
   link = link;
-  server = None;
   tail = record { line = []; over = false };
   undrained = false;
 }

@@ -24,7 +24,6 @@ use Rattle.wc_turns.specs.declared.links.Closed.{Closed}
 use Rattle.wc_turns.specs.declared.headless.Headless.{Headless}
 use Rattle.wc_turns.specs.declared.turn.TurnEnd.{TurnEnd}
 use Rattle.wc_turns.specs.declared.turn.TurnEnd.TheVariants.{GoOn, Quit, WaitFault, ListenFault}
-use Rattle.wc_turns.specs.declared.turn.TurnEnd.TheVariants.{KeeperFault}
 use Rattle.wc_outside.specs.Keyed.{at_key}
 use Rattle.wc_turns.specs.Events.{bytes_on, tail_on, clock, events_of, events_from, whole}
 use Rattle.wc_turns.specs.Hands.{Point, Delivers}
@@ -186,14 +185,12 @@ waits_then WaitFault = 0
 waits_then GoOn = 1
 waits_then Quit = 1
 waits_then ListenFault = 1
-waits_then KeeperFault = 1
 
 abbrev pub faults_then : TurnEnd → ℕ
 faults_then ListenFault = 1
 faults_then GoOn = 0
 faults_then Quit = 0
 faults_then WaitFault = 0
-faults_then KeeperFault = 0
 
 -- the links that were closed in a turn so far, and those whose clients are leaving
 abbrev pub closed_so_far : Headless → List Closed

@@ -4,14 +4,12 @@ ghost use Rattle.wc_outside.specs.Keyed.{at_key, without, PlaceOf};
 
 use crate::tail::Tail;
 use std::alloc::Global;
-use wc_text::{Cause, LinkId, NoMemory, Text};
+use wc_text::{Cause, LinkId, NoMemory};
 
 /// A link that is open.
 #[derive(Drop)]
 pub struct LinkState {
     pub link: LinkId,
-    /// The server that the link leads to. A client's link has none.
-    pub server: Option<Text>,
     pub(crate) tail: Tail,
     /// Whether it was reported ready and is not drained.
     pub(crate) undrained: bool,
@@ -74,7 +72,6 @@ impl Links {
         self.closed.reserve(self.opened.len() + 1)?;
         self.opened.push_reserved(LinkState {
             link,
-            server: None,
             tail,
             undrained: false,
         });

@@ -18,8 +18,6 @@ pub enum TurnEnd {
     WaitFault,
     /// The listener failed.
     ListenFault,
-    /// The configuration was not kept.
-    KeeperFault,
 }
 
 /// Whether one of the links is not drained.
@@ -79,7 +77,6 @@ impl Headless {
         ensures within { TakesWithin (S.seen sockets.old) (S.seen sockets.new) }
         ensures contained { LosesNone self.old self.new }
         ensures closes { ClosesExactly self.old self.new (S.seen sockets.old) (S.seen sockets.new) }
-        ensures never { result ≢ TurnEnd.KeeperFault }
         ensures quit { result ≡ TurnEnd.Quit → self.new.core.quits ≡ true }
         ensures goes_on { result ≡ TurnEnd.GoOn → self.new.core.quits ≡ false }
         ensures wait_fault { result ≡ TurnEnd.WaitFault → Rose (S.seen sockets.old).faults.waits

@@ -24,7 +24,6 @@ returns-clause-runs g c =
       known = known-readable _ _ c.in-Ok.ensures.known;
       woke = λ t. (let w = ran.continues.wakes t in let z : wake_count (seen c.listen.new.self).taken ≡ 0 = ap wake_count (fresh.taken (ran.continues.told t)) in omega arith);
       listens = λ t. (let w = ran.continues.listens t in let z : listen_faults (seen c.listen.new.self).taken ≡ 0 = ap listen_faults (fresh.taken (ran.continues.told t)) in omega arith);
-      never = ran.never;
       quit = ran.quit;
       going = ran.going;
       all = ran.all;

@@ -37,9 +37,8 @@ returns-in_default g c =
       causes = caused-following (seen c.args.sockets.now) (seen c.loop.sockets) (seen c.turn.new.sockets) _ i.continues.gained e.continues.told i.continues.taken i.continues.counts e.causes;
       served = λ q. absurd (c.in_default.not-GoOn q);
       sent = λ q. AllSent-following c.turn.new.self.core.connections (seen c.args.sockets.now) (seen c.loop.sockets) (seen c.turn.new.sockets) (later-of _ _ i.continues) (later-of _ _ e.continues) i.continues.counts (e.sent q);
-      never = e.never;
       quit = e.quit;
-      going = λ quit listen. unwoken-by c.turn.result _ c.in_default.not-GoOn e.never quit listen e.unwoken;
+      going = λ quit listen. unwoken-by c.turn.result _ c.in_default.not-GoOn quit listen e.unwoken;
       all = λ q. absurd (c.in_default.not-GoOn q);
       fewer = λ q full. (let w = ap waits_then q in let n = i.count in omega arith);
       some = λ q. (let w = woke-once c.turn.result q in let n = i.count in omega arith);
