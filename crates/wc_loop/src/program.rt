@@ -122,7 +122,7 @@ fn ending_of(then: TurnEnd) -> Ending
 fn kept(headless: Headless) -> Option<Headless>
     ensures { result ≡ kept_of headless }
 {
-    if headless.turns == 0 {
+    if headless.turns() == 0 {
         return None;
     }
     Some(headless)
