@@ -1,0 +1,159 @@
+use crate::escapes::escape;
+use crate::forms::{Forms, add_str};
+use crate::stage::{LINKS, link};
+use crate::wrong::Wrong;
+use std::alloc::{AllocError, Global};
+use wc_outside::MemorySockets;
+use wc_text::{LinkId, Text};
+
+/// What was sent on each link, and how much of it the script has named.
+#[derive(Drop)]
+pub struct Answers<'a> {
+    alloc: Global,
+    sockets: &'a MemorySockets,
+    /// How many bytes of a link were named, by its number.
+    named: [usize; LINKS as usize],
+}
+
+/// The first message of these bytes, or all that there is of it.
+fn first_message(bytes: &[u8]) -> &[u8] {
+    let [first, second, third, fourth, ..] = bytes else {
+        return bytes;
+    };
+    let length = u32::from_be_bytes([*first, *second, *third, *fourth]) as usize;
+    bytes.get(..length.max(4)).unwrap_or(bytes)
+}
+
+/// The id that a word names: `-` is none.
+fn meant_id(word: &str) -> &[u8] {
+    if word == "-" {
+        return b"";
+    }
+    word.as_bytes()
+}
+
+/// Whether a message has this id, which is after its length and its compression.
+fn has_id(message: &[u8], id: &[u8]) -> bool {
+    let [first, second, third, fourth, rest @ ..] = message.get(5..).unwrap_or(&[]) else {
+        return false;
+    };
+    let length = u32::from_be_bytes([*first, *second, *third, *fourth]) as usize;
+    match rest.get(..length) {
+        Some(found) => found == id,
+        None => false,
+    }
+}
+
+/// The link that the first word names, and what is after it.
+fn on_link(rest: &str) -> Result<(LinkId, &str), Wrong> {
+    let (word, rest) = rest.split_once(' ').unwrap_or((rest, ""));
+    Ok((link(word)?, rest))
+}
+
+/// Writes whether what came is what was wanted.
+fn judge(out: &mut String, is_wanted: bool, came: &[u8]) -> Result<(), AllocError> {
+    if is_wanted {
+        return out.push_str("  as expected\n");
+    }
+    if came.is_empty() {
+        return out.push_str("  nothing came instead\n");
+    }
+    out.push_str("  came instead: ")?;
+    escape(out, came)?;
+    out.push('\n')
+}
+
+impl<'a> Answers<'a> {
+    pub fn new(alloc: Global, sockets: &'a MemorySockets) -> Answers<'a> {
+        Answers {
+            alloc,
+            sockets,
+            named: [0; LINKS as usize],
+        }
+    }
+
+    /// The bytes of a link that the script has not named.
+    pub fn unnamed(&self, link: LinkId) -> &'a [u8] {
+        let named = match self.named.get(link.0 as usize) {
+            Some(named) => *named,
+            None => 0,
+        };
+        self.sockets.sent(link).get(named..).unwrap_or(&[])
+    }
+
+    /// The next message of a link, which is named by this.
+    fn next(&mut self, link: LinkId) -> &'a [u8] {
+        let message = first_message(self.unnamed(link));
+        if let Some(named) = self.named.get_mut(link.0 as usize) {
+            *named = named.saturating_add(message.len());
+        }
+        message
+    }
+
+    /// Compares the next message of a link as a line asks:
+    ///
+    /// - `expect 1 BYTES`: it is these bytes;
+    /// - `message 1 ID BYTES`: it has this id, which `-` is none, and its objects are these bytes;
+    /// - `any 1 ID`: it has this id.
+    ///
+    /// Where less than a message was sent, it is what there is of it. There are also `name` and
+    /// comments, as before the run.
+    pub fn compare(
+        &mut self,
+        out: &mut String,
+        forms: &mut Forms,
+        line: &str,
+    ) -> Result<(), Wrong> {
+        let (word, rest) = line.split_once(' ').unwrap_or((line, ""));
+        match word {
+            "" | "#" => Ok(()),
+            "name" => forms.define(rest),
+            "expect" => self.expect(out, forms, rest),
+            "message" => self.expect_message(out, forms, rest),
+            "any" => self.expect_id(out, rest),
+            _ => Err(Wrong::Word),
+        }
+    }
+
+    /// The next message is these bytes.
+    fn expect(&mut self, out: &mut String, forms: &Forms, rest: &str) -> Result<(), Wrong> {
+        let (link, text) = on_link(rest)?;
+        let wanted = forms.spelled(text)?;
+        let came = self.next(link);
+        Ok(judge(out, came == wanted.as_slice(), came)?)
+    }
+
+    /// The next message has this id, or none for `-`, and these objects.
+    fn expect_message(&mut self, out: &mut String, forms: &Forms, rest: &str) -> Result<(), Wrong> {
+        let (link, rest) = on_link(rest)?;
+        let wanted = self.framed(forms, rest)?;
+        let came = self.next(link);
+        Ok(judge(out, came == wanted.as_slice(), came)?)
+    }
+
+    /// The message of an id and objects.
+    fn framed(&self, forms: &Forms, rest: &str) -> Result<Text, Wrong> {
+        let (id, objects) = rest.split_once(' ').unwrap_or((rest, ""));
+        let mut body = Text::from_slice(self.alloc, b"\0")?;
+        add_str(&mut body, meant_id(id))?;
+        forms.add_spelled(&mut body, objects)?;
+        self.measured(body.as_slice())
+    }
+
+    /// A message, whose length counts itself.
+    fn measured(&self, body: &[u8]) -> Result<Text, Wrong> {
+        let Ok(length) = u32::try_from(body.len().saturating_add(4)) else {
+            return Err(Wrong::Number);
+        };
+        let mut message = Text::from_slice(self.alloc, &length.to_be_bytes())?;
+        message.append(body)?;
+        Ok(message)
+    }
+
+    /// The next message has this id, and any objects.
+    fn expect_id(&mut self, out: &mut String, rest: &str) -> Result<(), Wrong> {
+        let (link, id) = on_link(rest)?;
+        let came = self.next(link);
+        Ok(judge(out, has_id(came, meant_id(id)), came)?)
+    }
+}

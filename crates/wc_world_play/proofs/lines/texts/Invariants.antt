@@ -1,0 +1,7 @@
+use Rattle.std.proofs.Common.{All}
+use Rattle.std.specs.Str.{IsUtf8}
+use Rattle.wc_world_play.proofs.lines.texts.Given as goal
+
+-- all so far are text
+abbrev pub invariant-loop-word : goal.invariant-loop-word
+invariant-loop-word l = All IsUtf8 l.texts
