@@ -1,12 +1,11 @@
-//! The text of a pointer.
-//! The text of a number in decimal.
+//! The text of a pointer, and of a number in decimal.
 ghost use Rattle.std.specs.Int.Digits.{number_from_digits};
 ghost use Rattle.std.specs.List.{list_all};
 ghost use Rattle.std.specs.Prelude.{◌≡◌, ◌≤◌, ◌<◌, ◌++◌, length, drop, map, true, false};
 ghost use Rattle.std.specs.Prelude.{MatchOption};
 ghost use Rattle.wc_objects.specs.Hex.{glyph, hex, is_hex};
 ghost use Rattle.wc_objects.specs.Hex as spec;
-ghost use Rattle.wc_objects.specs.Reading as spec;
+ghost use Rattle.wc_objects.specs.Reading as reading;
 
 /// How many digits a pointer has at most.
 pub const MAX_DIGITS: usize = 16;
@@ -102,7 +101,7 @@ impl HexBuffer {
 
 /// The number whose one spelling the text is.
 pub fn decimal_number(text: &[u8]) -> Option<i64>
-    ensures { result ≡ spec.decimal_number text.now }
+    ensures { result ≡ reading.decimal_number text.now }
 {
     let Ok(digits) = std::str::from_utf8(text) else {
         return None;
