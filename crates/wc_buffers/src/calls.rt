@@ -22,7 +22,7 @@ use std::alloc::Global;
 use wc_text::{Handle, Items, NoMemory, Pair, Text, cut};
 
 /// A new buffer. Its title is cut at 1024 bytes.
-fn opened(alloc: Global, row: BufferRow, vars: &[Pair]) -> Result<BufferEntry, NoMemory>
+fn new_entry(alloc: Global, row: BufferRow, vars: &[Pair]) -> Result<BufferEntry, NoMemory>
     requires text { HasUtf8Row row }
     requires vars { All IsText vars.now }
     ensures { IfOk result (λ entry. entry ≡ new_entry row vars.now) }
@@ -68,7 +68,7 @@ impl Buffers {
         if let Some(refused) = self.add_refusal(alloc, &row, vars.as_slice()) {
             return Err(refused);
         }
-        let entry = opened(alloc, row, vars.as_slice())?;
+        let entry = new_entry(alloc, row, vars.as_slice())?;
         if entry.vars.len() > MOST_VARS {
             return Err(BufferRefused::TooMany {
                 limit: MOST_VARS as u32,

@@ -8,7 +8,7 @@ use wc_model::ChangeRefused;
 use wc_text::{NoMemory, Text};
 
 /// A text that is two.
-pub(crate) fn joined(alloc: Global, front: &[u8], rest: &[u8]) -> Result<Text, NoMemory>
+pub(crate) fn joined_texts(alloc: Global, front: &[u8], rest: &[u8]) -> Result<Text, NoMemory>
     ensures { IfOk result (λ text. text ≡ front.now ++ rest.now) }
 {
     let mut text = Text::from_slice(alloc, front)?;
@@ -49,7 +49,7 @@ fn name_meant(refused: &BufferRefused) -> &[u8]
 fn buffer_text(alloc: Global, refused: &BufferRefused) -> Result<Text, NoMemory>
     ensures { IfOk result (λ text. text ≡ codes "buffer: " ++ buffer_text refused.now) }
 {
-    let mut text = joined(alloc, b"buffer: ", reason(refused))?;
+    let mut text = joined_texts(alloc, b"buffer: ", reason(refused))?;
     text.append(name_meant(refused))?;
     Ok(text)
 }

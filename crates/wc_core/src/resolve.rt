@@ -10,7 +10,7 @@ ghost use Rattle.wc_core.specs.Typed.{Merges, tags_of};
 ghost use Rattle.wc_core.specs.TypedSeen.{meaning, word_in};
 ghost use Rattle.wc_model.specs.declared.change.What.TheVariants as what;
 
-use crate::refusals::joined;
+use crate::refusals::joined_texts;
 use crate::typed::{CommandText, read_number, read_tags};
 use std::alloc::Global;
 use wc_buffers::{BufferRow, BufferSpec, Buffers};
@@ -108,7 +108,9 @@ pub(crate) fn resolve(
     match asked {
         CommandText::Nothing => Ok(Resolution::Stays),
         CommandText::Quit => Ok(Resolution::Ends),
-        CommandText::Refused { front, name } => Ok(Resolution::Tells(joined(alloc, front, name)?)),
+        CommandText::Refused { front, name } => Ok(Resolution::Tells(joined_texts(
+            alloc, front, name,
+        )?)),
         CommandText::Print {
             buffer: name,
             tags,
@@ -194,7 +196,7 @@ pub(crate) fn told_refusal(alloc: Global, moment: u64, text: Text) -> Result<Cha
 pub(crate) fn add(alloc: Global, name: &[u8]) -> Result<What, NoMemory>
     ensures { IfOk result (λ w. w ≡ what.Add (core_spec name.now)) }
 {
-    let full_name = joined(alloc, b"core.", name)?;
+    let full_name = joined_texts(alloc, b"core.", name)?;
     let short_name = Text::from_slice(alloc, name)?;
     Ok(What::Add(BufferSpec {
         full_name,
@@ -224,7 +226,7 @@ pub(crate) fn rename(
 ) -> Result<What, NoMemory>
     ensures { IfOk result (λ w. w ≡ rename_of buffers.now buffer name.now) }
 {
-    let mut full_name = joined(alloc, plugin_in(buffers.get(buffer)), b".")?;
+    let mut full_name = joined_texts(alloc, plugin_in(buffers.get(buffer)), b".")?;
     full_name.append(name)?;
     Ok(What::Rename {
         name: full_name,
@@ -234,7 +236,7 @@ pub(crate) fn rename(
 
 /// The first buffer of the group of a number, which may be larger than the largest of its type.
 #[tactic(auto, using(crate::proofs::ResolvedWords::numbered_facts))]
-fn numbered(buffers: &Buffers, number: u32) -> Option<Handle>
+fn first_of_number(buffers: &Buffers, number: u32) -> Option<Handle>
     ensures { (n : ℕ) → number ≡ min n (2 ^ 32 - 1) → result ≡ first_of_number buffers.now n }
 {
     let mut left = number.checked_sub(1)?;
@@ -254,7 +256,7 @@ pub(crate) fn buffer_meant(buffers: &Buffers, word: &[u8]) -> Option<Handle>
     ensures { result ≡ buffer_meant buffers.now word.now }
 {
     match read_number(word) {
-        Some(number) => numbered(buffers, number),
+        Some(number) => first_of_number(buffers, number),
         None => buffer_named(buffers, word),
     }
 }

@@ -103,7 +103,7 @@ fn command<'a>(name: &'a [u8], text: &'a [u8]) -> CommandText<'a>
 }
 
 /// What comes after a `/`, which a second `/` makes a text.
-fn slashed(text: &[u8]) -> CommandText<'_>
+fn slash_command(text: &[u8]) -> CommandText<'_>
     ensures { meaning result ≡ slash_command text.now }
 {
     if let [b'/', ..] = text {
@@ -121,7 +121,7 @@ pub fn read_typed(line: &[u8]) -> CommandText<'_>
 {
     match line {
         [] => CommandText::Nothing,
-        [b'/', text @ ..] => slashed(text),
+        [b'/', text @ ..] => slash_command(text),
         _ => no_text_here(),
     }
 }
@@ -131,7 +131,7 @@ const BUFFER: &[u8] = b"-buffer";
 const TAGS: &[u8] = b"-tags";
 
 /// A text whose first tab parts the prefix from the message.
-fn printed<'a>(buffer: Option<&'a [u8]>, tags: &'a [u8], text: &'a [u8]) -> CommandText<'a>
+fn print_words<'a>(buffer: Option<&'a [u8]>, tags: &'a [u8], text: &'a [u8]) -> CommandText<'a>
     ensures { meaning result ≡ print_words (word_in buffer.entry) (tags_of tags.now) text.now }
 {
     if text.is_empty() {
@@ -159,10 +159,10 @@ fn print_tagged<'a>(buffer: &'a [u8], text: &'a [u8]) -> CommandText<'a>
 {
     let (word, rest) = cut_word(text);
     if word != TAGS {
-        return printed(Some(buffer), b"", text);
+        return print_words(Some(buffer), b"", text);
     }
     let (tags, text) = cut_word(rest);
-    printed(Some(buffer), tags, text)
+    print_words(Some(buffer), tags, text)
 }
 
 /// After the tags there may be a buffer.
@@ -171,10 +171,10 @@ fn print_on<'a>(tags: &'a [u8], text: &'a [u8]) -> CommandText<'a>
 {
     let (word, rest) = cut_word(text);
     if word != BUFFER {
-        return printed(None, tags, text);
+        return print_words(None, tags, text);
     }
     let (buffer, text) = cut_word(rest);
-    printed(Some(buffer), tags, text)
+    print_words(Some(buffer), tags, text)
 }
 
 /// What is to be printed: a text, which words for its buffer and for its tags may are before, in
@@ -191,7 +191,7 @@ pub(crate) fn print_command(text: &[u8]) -> CommandText<'_>
         let (tags, text) = cut_word(rest);
         return print_on(tags, text);
     }
-    printed(None, b"", text)
+    print_words(None, b"", text)
 }
 
 /// Puts a tag after the others, where it is not empty.

@@ -165,7 +165,7 @@ fn merge(text: &[u8]) -> CommandText<'_>
 }
 
 /// What is asked where no word comes after it.
-fn bare<'a>(asked: CommandText<'a>, text: &'a [u8]) -> CommandText<'a>
+fn without_words<'a>(asked: CommandText<'a>, text: &'a [u8]) -> CommandText<'a>
     ensures { meaning result ≡ without_words (meaning asked.entry) text.now }
 {
     if text.is_empty() {
@@ -176,7 +176,7 @@ fn bare<'a>(asked: CommandText<'a>, text: &'a [u8]) -> CommandText<'a>
 }
 
 /// What is asked where a text comes after it.
-fn valued<'a>(asked: CommandText<'a>, text: &'a [u8]) -> CommandText<'a>
+fn with_value<'a>(asked: CommandText<'a>, text: &'a [u8]) -> CommandText<'a>
     ensures { meaning result ≡ some_text (λ value. meaning asked.entry) text.now }
 {
     if text.is_empty() {
@@ -191,11 +191,11 @@ fn set_to<'a>(property: Property<'a>, text: &'a [u8]) -> CommandText<'a>
     ensures { meaning result ≡ property_set property.entry text.now }
 {
     match property {
-        Property::Name => valued(CommandText::Name(text), text),
-        Property::ShortName => valued(CommandText::ShortName(text), text),
-        Property::Title => valued(CommandText::Title(text), text),
-        Property::SetVar(name) => valued(CommandText::SetVar { name, value: text }, text),
-        Property::RemoveVar(name) => bare(CommandText::RemoveVar(name), text),
+        Property::Name => with_value(CommandText::Name(text), text),
+        Property::ShortName => with_value(CommandText::ShortName(text), text),
+        Property::Title => with_value(CommandText::Title(text), text),
+        Property::SetVar(name) => with_value(CommandText::SetVar { name, value: text }, text),
+        Property::RemoveVar(name) => without_words(CommandText::RemoveVar(name), text),
     }
 }
 
@@ -219,10 +219,10 @@ pub(crate) fn buffer_command(text: &[u8]) -> CommandText<'_>
         Some(BufferWord::Close) => close(rest),
         Some(BufferWord::Move) => move_to(rest),
         Some(BufferWord::Merge) => merge(rest),
-        Some(BufferWord::Unmerge) => bare(CommandText::Unmerge, rest),
-        Some(BufferWord::Hide) => bare(CommandText::Hide, rest),
-        Some(BufferWord::Unhide) => bare(CommandText::Unhide, rest),
-        Some(BufferWord::Clear) => bare(CommandText::Clear, rest),
+        Some(BufferWord::Unmerge) => without_words(CommandText::Unmerge, rest),
+        Some(BufferWord::Hide) => without_words(CommandText::Hide, rest),
+        Some(BufferWord::Unhide) => without_words(CommandText::Unhide, rest),
+        Some(BufferWord::Clear) => without_words(CommandText::Clear, rest),
         Some(BufferWord::Set) => set(rest),
         None => wrong_buffer(),
     }

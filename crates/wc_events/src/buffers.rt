@@ -14,7 +14,7 @@ use wc_objects::{Hda, HdaItem, Object};
 use wc_text::{Handle, Items, NoMemory, Text};
 
 /// What there is of a buffer: its row and its variables. None exactly where it is not there.
-pub(crate) fn standing(buffers: &Buffers, buffer: Handle) -> Option<(&BufferRow, &Vars)>
+pub(crate) fn row_and_vars(buffers: &Buffers, buffer: Handle) -> Option<(&BufferRow, &Vars)>
     ensures entry { MatchOption result (entry_of buffer buffers.now ≡ None)
         (λ parts. entry_of buffer buffers.now
         ≡ Some (record { row = parts.0.now; vars = parts.1.now })) }
@@ -79,7 +79,7 @@ fn push_group(
     ensures { OnOk result (items.new ≡ items.old ++ group_items buffers.now number group.now) }
 {
     for buffer in group {
-        if let Some((row, vars)) = standing(buffers, *buffer) {
+        if let Some((row, vars)) = row_and_vars(buffers, *buffer) {
             items.push(dumped_buffer(alloc, number, row, vars)?)?;
         }
     }

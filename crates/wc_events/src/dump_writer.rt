@@ -16,7 +16,7 @@ ghost use Rattle.wc_events.specs.Dumps.{if_there, line_items, are_lines};
 ghost use Rattle.wc_events.specs.LineObjects.{truth, moment, dumped_item, dumped_lines, dump_of};
 ghost use Rattle.wc_events.specs.LineObjects.{line_dump};
 
-use crate::buffers::standing;
+use crate::buffers::row_and_vars;
 use crate::line_objects::{LINE_KEYS, moment, truth};
 use bytes::BytesMut;
 use std::alloc::Global;
@@ -313,7 +313,7 @@ fn push_buffer<'a>(
     ensures formed { OnOk result (are_lines (items_of parts.old) ≡ true →
         are_lines (items_of parts.new) ≡ true) }
 {
-    let Some((row, _vars)) = standing(world.buffers(), buffer) else {
+    let Some((row, _vars)) = row_and_vars(world.buffers(), buffer) else {
         return Ok(());
     };
     let Some(lines) = world.lines(row.handle) else {

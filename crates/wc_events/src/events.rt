@@ -9,7 +9,7 @@ ghost use Rattle.wc_lines.specs.Ring.{newest};
 ghost use Rattle.wc_model.specs.World.{lines_at};
 ghost use Rattle.wc_objects.specs.Forms.{well_formed};
 
-use crate::buffers::standing;
+use crate::buffers::row_and_vars;
 use crate::event_values::{
     named_values, opened_values, placed_values, renamed_values, title_values, vars_values,
 };
@@ -36,7 +36,7 @@ const TITLE_KEYS: &[u8] = b"number:int,full_name:str,title:str";
 const VARS_KEYS: &[u8] = b"number:int,full_name:str,local_variables:htb";
 
 #[tactic(auto, using(crate::proofs::EventsFormed::named_formed))]
-fn named(alloc: Global, notice: &Notice) -> Result<[Object; 1], NoMemory>
+fn named_object(alloc: Global, notice: &Notice) -> Result<[Object; 1], NoMemory>
     requires text { IsUtf8 notice.now.full_name }
     ensures objects { IfOk result (λ objects. objects ≡ named_objects notice.now) }
     ensures formed { IfOk result (λ objects. well_formed objects ≡ true) }
@@ -46,7 +46,7 @@ fn named(alloc: Global, notice: &Notice) -> Result<[Object; 1], NoMemory>
 }
 
 #[tactic(auto, using(crate::proofs::EventsFormed::placed_formed))]
-fn placed(alloc: Global, notice: &Notice) -> Result<[Object; 1], NoMemory>
+fn placed_object(alloc: Global, notice: &Notice) -> Result<[Object; 1], NoMemory>
     requires text { IsUtf8 notice.now.full_name }
     ensures objects { IfOk result (λ objects. objects ≡ placed_objects notice.now) }
     ensures formed { IfOk result (λ objects. well_formed objects ≡ true) }
@@ -55,7 +55,7 @@ fn placed(alloc: Global, notice: &Notice) -> Result<[Object; 1], NoMemory>
     about(alloc, PLACED_KEYS, notice.buffer, values)
 }
 
-fn opened(
+fn opened_object(
     alloc: Global,
     buffers: &Buffers,
     notice: &Notice,
@@ -65,7 +65,7 @@ fn opened(
         (entry_of notice.now.buffer buffers.now)) }
     ensures formed { IfOk result (λ told. IfSome told (λ objects. well_formed objects ≡ true)) }
 {
-    let Some((row, vars)) = standing(buffers, notice.buffer) else {
+    let Some((row, vars)) = row_and_vars(buffers, notice.buffer) else {
         return Ok(None);
     };
     let values = opened_values(alloc, notice, row, vars)?;
@@ -73,7 +73,7 @@ fn opened(
 }
 
 #[tactic(auto, using(crate::proofs::EventsFormed::renamed_formed))]
-fn renamed(
+fn renamed_object(
     alloc: Global,
     buffers: &Buffers,
     notice: &Notice,
@@ -83,7 +83,7 @@ fn renamed(
         (entry_of notice.now.buffer buffers.now)) }
     ensures formed { IfOk result (λ told. IfSome told (λ objects. well_formed objects ≡ true)) }
 {
-    let Some((row, vars)) = standing(buffers, notice.buffer) else {
+    let Some((row, vars)) = row_and_vars(buffers, notice.buffer) else {
         return Ok(None);
     };
     let values = renamed_values(alloc, notice, row, vars)?;
@@ -100,7 +100,7 @@ fn title_changed(
         (entry_of notice.now.buffer buffers.now)) }
     ensures formed { IfOk result (λ told. IfSome told (λ objects. well_formed objects ≡ true)) }
 {
-    let Some((row, _)) = standing(buffers, notice.buffer) else {
+    let Some((row, _)) = row_and_vars(buffers, notice.buffer) else {
         return Ok(None);
     };
     let values = title_values(alloc, notice, row)?;
@@ -117,7 +117,7 @@ fn vars_changed(
         (entry_of notice.now.buffer buffers.now)) }
     ensures formed { IfOk result (λ told. IfSome told (λ objects. well_formed objects ≡ true)) }
 {
-    let Some((_, vars)) = standing(buffers, notice.buffer) else {
+    let Some((_, vars)) = row_and_vars(buffers, notice.buffer) else {
         return Ok(None);
     };
     let values = vars_values(alloc, notice, vars)?;
@@ -157,18 +157,18 @@ pub fn event_objects(
     ensures formed { IfOk result (λ told. IfSome told (λ objects. well_formed objects ≡ true)) }
 {
     match notice.kind {
-        EventKind::Opened => opened(alloc, world.buffers(), notice),
+        EventKind::Opened => opened_object(alloc, world.buffers(), notice),
         EventKind::Moved
         | EventKind::Merged
         | EventKind::Unmerged
         | EventKind::Hidden
-        | EventKind::Unhidden => Ok(Some(placed(alloc, notice)?)),
-        EventKind::Renamed => renamed(alloc, world.buffers(), notice),
+        | EventKind::Unhidden => Ok(Some(placed_object(alloc, notice)?)),
+        EventKind::Renamed => renamed_object(alloc, world.buffers(), notice),
         EventKind::TitleChanged => title_changed(alloc, world.buffers(), notice),
         EventKind::VarAdded | EventKind::VarChanged | EventKind::VarRemoved => {
             vars_changed(alloc, world.buffers(), notice)
         }
-        EventKind::Cleared | EventKind::Closing => Ok(Some(named(alloc, notice)?)),
+        EventKind::Cleared | EventKind::Closing => Ok(Some(named_object(alloc, notice)?)),
         EventKind::LineAdded => newest_told(alloc, world, notice.buffer),
         EventKind::LineDataChanged
         | EventKind::Nicklist

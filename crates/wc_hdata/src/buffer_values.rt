@@ -30,7 +30,7 @@ fn before(all: &[Handle], buffer: Handle) -> u64
 }
 
 /// The buffer after another among all, or 0.
-fn following(all: &[Handle], buffer: Handle) -> u64
+fn next_buffer(all: &[Handle], buffer: Handle) -> u64
     ensures { result ≡ after_in buffer.0 (numbers all.now) }
 {
     let mut left = all;
@@ -53,7 +53,7 @@ fn first_of(handles: &[Handle]) -> u64
 }
 
 /// What there is of a buffer: its row and its variables. None exactly where it is not there.
-pub(crate) fn standing(buffers: &Buffers, buffer: Handle) -> Option<(&BufferRow, &Vars)>
+pub(crate) fn row_and_vars(buffers: &Buffers, buffer: Handle) -> Option<(&BufferRow, &Vars)>
     ensures { MatchOption result (entry_of buffer buffers.now ≡ None)
         (λ parts. entry_of buffer buffers.now
         ≡ Some (record { row = parts.0.now; vars = parts.1.now })) }
@@ -78,7 +78,7 @@ pub(crate) fn of_buffer(
     ensures { IfOk result (λ value. value ≡ of_buffer buffers.now buffer key
         (entry_of buffer buffers.now)) }
 {
-    let Some((row, vars)) = standing(buffers, buffer) else {
+    let Some((row, vars)) = row_and_vars(buffers, buffer) else {
         return Ok(None);
     };
     let value = match key {
@@ -89,7 +89,7 @@ pub(crate) fn of_buffer(
         Key::Title => text(alloc, &row.title)?,
         Key::LocalVariables => table(alloc, vars)?,
         Key::PrevBuffer => Object::Ptr(before(all, buffer)),
-        Key::NextBuffer => Object::Ptr(following(all, buffer)),
+        Key::NextBuffer => Object::Ptr(next_buffer(all, buffer)),
         _ => return Ok(None),
     };
     Ok(Some(value))

@@ -40,12 +40,12 @@ fn count_inside(inner: &[u8]) -> Option<Count>
 {
     match inner {
         b"*" => Some(Count::All),
-        _ => counted(read_i64(inner)?),
+        _ => count_of_number(read_i64(inner)?),
     }
 }
 
 /// The count by a number. None where it is 0, or more than `MOST` in either direction.
-fn counted(number: i64) -> Option<Count>
+fn count_of_number(number: i64) -> Option<Count>
     ensures { result ≡ count_of_number number }
 {
     let size = u32::try_from(number.unsigned_abs()).ok()?;

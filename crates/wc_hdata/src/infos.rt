@@ -7,7 +7,7 @@ ghost use Rattle.wc_hdata.specs.Infos.{info_of, infolist_object, buffer_item, bu
 ghost use Rattle.wc_hdata.specs.Infos.{variable, variables_of};
 ghost use Rattle.wc_hdata.specs.Steps.{all_buffers};
 
-use crate::buffer_values::{number, standing};
+use crate::buffer_values::{number, row_and_vars};
 use crate::reach::all_buffers;
 use crate::values::{text, truth};
 use std::alloc::Global;
@@ -88,7 +88,7 @@ fn push_listed(
     ensures { OnOk result (items.new ≡ items.old ++ buffer_item buffers.now buffer
         (entry_of buffer buffers.now)) }
 {
-    if let Some((row, _vars)) = standing(buffers, buffer) {
+    if let Some((row, _vars)) = row_and_vars(buffers, buffer) {
         items.push(variables_of(alloc, number(buffers, buffer), buffer, row)?)?;
     }
     Ok(())

@@ -21,7 +21,7 @@ pub(crate) fn lines_in(
 {
     match list {
         LineList::Own(buffer) => own(alloc, world, buffer),
-        LineList::Mixed(buffer) => mixed(alloc, world, group_of(world.buffers(), buffer)),
+        LineList::Mixed(buffer) => mixed_lines(alloc, world, group_of(world.buffers(), buffer)),
     }
 }
 
@@ -35,7 +35,7 @@ fn own(alloc: Global, world: &World, buffer: Handle) -> Result<Vec<HeldLine<'_>>
 }
 
 /// The lines of several buffers, in the order of their handles.
-fn mixed<'a>(
+fn mixed_lines<'a>(
     alloc: Global,
     world: &'a World,
     buffers: &[Handle],

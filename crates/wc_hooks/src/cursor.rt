@@ -15,7 +15,7 @@ pub struct Cursor {
 
 /// The cursor after a slot was put in at this place. One that is put in among the slots of the pass
 /// is no part of it, but is among them.
-fn moved(place: Option<Cursor>, at: usize) -> Option<Cursor>
+fn moved_cursor(place: Option<Cursor>, at: usize) -> Option<Cursor>
     requires { is_low place ≡ true }
     ensures { result ≡ moved_place at place }
 {
@@ -44,6 +44,6 @@ fn move_each(cursors: &mut [Option<Cursor>], at: usize)
     ensures { cursors.new ≡ map (moved_place at) cursors.old }
 {
     for cursor in cursors.iter_mut() {
-        *cursor = moved(*cursor, at);
+        *cursor = moved_cursor(*cursor, at);
     }
 }

@@ -1,7 +1,7 @@
 ghost use Rattle.std.specs.Prelude.{◌≡◌, codes};
 ghost use Rattle.wc_loop.specs.Endings.{status_of, number_of, tells_version, line_of, printed_text};
 
-use crate::print::{line, numbered};
+use crate::print::{line, put_number};
 use arrayvec::ArrayVec;
 
 /// Why a run ends.
@@ -47,10 +47,10 @@ impl Ending {
     {
         match self {
             Ending::Version => line(b"wc-headless 1"),
-            Ending::BadWord(number) => numbered(b"bad word ", number),
+            Ending::BadWord(number) => put_number(b"bad word ", number),
             Ending::WaitFailed => line(b"wait failed"),
             Ending::NoConfiguration => line(b"cannot read configuration"),
-            Ending::BadLine(number) => numbered(b"configuration line ", number),
+            Ending::BadLine(number) => put_number(b"configuration line ", number),
             Ending::NoMemory => line(b"out of memory"),
             Ending::ListenFailed => line(b"listen failed"),
             Ending::TurnsTaken | Ending::Quit => ArrayVec::new(),

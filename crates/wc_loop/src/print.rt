@@ -33,7 +33,7 @@ pub fn line(words: &[u8]) -> ArrayVec<u8, 64>
 }
 
 /// A line of some words and a number. It takes no memory.
-pub fn numbered(words: &[u8], number: u64) -> ArrayVec<u8, 64>
+pub fn put_number(words: &[u8], number: u64) -> ArrayVec<u8, 64>
     requires { length words.now ≤ 23 }
     ensures { result.items ≡ line_of (words.now ++ decimal number) }
 {

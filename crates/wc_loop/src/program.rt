@@ -38,7 +38,7 @@ pub struct Ended {
 }
 
 /// Makes the state of a run, by the configuration.
-fn configured<K: Keeper>(alloc: Global, keeper: &mut K) -> Result<Headless, Ending>
+fn configure<K: Keeper>(alloc: Global, keeper: &mut K) -> Result<Headless, Ending>
     ensures first { IfOk result IsFirst }
     ensures known { IfOk result (λ headless. IfSome (K.contents keeper.old)
         (IsConfigured headless)) }
@@ -119,7 +119,7 @@ fn ending_of(then: TurnEnd) -> Ending
 }
 
 /// The state at the end, where a wait returned.
-fn kept(headless: Headless) -> Option<Headless>
+fn last_state(headless: Headless) -> Option<Headless>
     ensures { result ≡ kept_of headless }
 {
     if headless.turns() == 0 {
@@ -143,7 +143,7 @@ fn run<S: Sockets, K: Keeper>(alloc: Global, turns: u64, sockets: &mut S, keeper
         (S.seen sockets.old) (S.seen sockets.new) result.ending result.last }
     ensures kept { K.contents keeper.new ≡ K.contents keeper.old }
 {
-    let mut headless = match configured(alloc, keeper) {
+    let mut headless = match configure(alloc, keeper) {
         Ok(headless) => headless,
         Err(ending) => return Outcome { ending, last: None },
     };
@@ -156,7 +156,7 @@ fn run<S: Sockets, K: Keeper>(alloc: Global, turns: u64, sockets: &mut S, keeper
     let then = take_turns(&mut headless, sockets, keeper, turns);
     Outcome {
         ending: ending_of(then),
-        last: kept(headless),
+        last: last_state(headless),
     }
 }
 

@@ -17,7 +17,7 @@ use wc_text::{Items, NoMemory, Text};
 /// item that can't be applied, which is one that removes or changes what does not are under the
 /// group that was named last, adds what is, has a name that no row may have, removes a group that
 /// has something below it, names a group that does not are, or is before any that names one.
-pub fn applied(
+pub fn item_applied(
     alloc: Global,
     list: &Nicklist,
     items: &Items<DiffItem>,
@@ -42,7 +42,7 @@ pub fn apply(alloc: Global, list: &mut Nicklist, items: &Items<DiffItem>) -> Res
         × (e ≡ DiffRefused.BadItem place) × (applied_all items.now list.old.rows ≡ Err place)) }
     ensures err { OnErr result (list.new ≡ list.old) }
 {
-    let next = applied(alloc, list, items)?;
+    let next = item_applied(alloc, list, items)?;
     *list = next;
     Ok(())
 }

@@ -15,7 +15,7 @@ mod row;
 mod told;
 mod writer;
 
-pub use diff::{applied, apply};
+pub use diff::{apply, item_applied};
 pub use diff_item::{DiffItem, FirstTouch, Mark, Push};
 pub use laws::{diff_holds, push_holds, pushed_are_told, touch_keeps_told, untouched_are_told};
 pub use pending::Pending;

@@ -20,7 +20,7 @@ pub(crate) fn told_rows(
     ensures { IfOk result (λ rows. (told : List RowValue) →
         IsTold (λ k. before_at k touches.now.touches) now.now.rows told → rows ≡ told) }
 {
-    let mut rows = untouched(alloc, touches, now)?;
+    let mut rows = rows_not_touched(alloc, touches, now)?;
     for touch in touches.as_slice() {
         if let Some(row) = &touch.before {
             push(&mut rows, row.copy(alloc)?)?;
@@ -31,7 +31,11 @@ pub(crate) fn told_rows(
 }
 
 /// The rows now whose keys were not touched.
-fn untouched(alloc: Global, touches: &BufferTouches, now: &Nicklist) -> Result<Vec<Row>, NoMemory>
+fn rows_not_touched(
+    alloc: Global,
+    touches: &BufferTouches,
+    now: &Nicklist,
+) -> Result<Vec<Row>, NoMemory>
     ensures rows { IfOk result (λ rows. rows.items ≡ filter (is_untouched touches.now.touches)
         now.now.rows) }
     ensures held { IfOk result (λ _. IsRows now.now.rows) }

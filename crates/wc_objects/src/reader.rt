@@ -87,7 +87,7 @@ impl<'a> Reader<'a> {
 
     /// A text of that length which keeps a rule.
     #[tactic(auto, unfolding(crate::specs::Reading::tested_at))]
-    fn tested(&mut self, alloc: Global, rule: Rule, length: u32) -> Result<Text, ReadError>
+    fn check_rule(&mut self, alloc: Global, rule: Rule, length: u32) -> Result<Text, ReadError>
         ensures { GivesValue same_value result self.new.bytes.now
             (tested_at (keeps rule) length self.old.bytes.now) }
     {
@@ -106,7 +106,7 @@ impl<'a> Reader<'a> {
             (name_by (keeps rule) self.old.bytes.now) }
     {
         let length = self.count()?;
-        self.tested(alloc, rule, length)
+        self.check_rule(alloc, rule, length)
     }
 
     #[tactic(auto, unfolding(crate::specs::Reading::some_text_at))]
@@ -119,7 +119,7 @@ impl<'a> Reader<'a> {
         ensures { GivesValue same_value result self.new.bytes.now
             (some_text_at (keeps rule) length self.old.bytes.now) }
     {
-        let text = self.tested(alloc, rule, length)?;
+        let text = self.check_rule(alloc, rule, length)?;
         Ok(Some(text))
     }
 

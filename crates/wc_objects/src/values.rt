@@ -183,7 +183,7 @@ impl Reader<'_> {
 
     /// The count and the items of an `hda` with a path and keys.
     #[tactic(auto, unfolding(crate::specs::Reading::counted_at))]
-    fn listed(
+    fn list_of(
         &mut self,
         alloc: Global,
         path: &[u8],

@@ -169,7 +169,7 @@ impl Play {
     }
 
     /// The last wait that reported a source, or 0.
-    fn reported(&self, source: Token) -> u64 {
+    fn report_of(&self, source: Token) -> u64 {
         match self.cursors.get(place_of(source)) {
             Some(cursor) => cursor.reported,
             None => 0,
@@ -190,14 +190,14 @@ impl Play {
     {
         let mut oldest = None;
         let mut since = self.waits;
-        let reported = self.reported(Token::Listener);
+        let reported = self.report_of(Token::Listener);
         if reported < since && (listening || self.seek(Token::Listener).is_some()) {
             oldest = Some(Token::Listener);
             since = reported;
         }
         for (number, row) in rows.iter().enumerate() {
             let source = Token::Link(LinkId(number as u64));
-            let reported = self.reported(source);
+            let reported = self.report_of(source);
             if row.is_open && reported < since && (row.undrained || self.seek(source).is_some()) {
                 oldest = Some(source);
                 since = reported;

@@ -10,7 +10,7 @@ use std::alloc::Global;
 use wc_text::{Items, NoMemory, Text, cut_word, read_i64, split_once};
 
 /// The word at the front of a text. None where the text is empty.
-fn leading(alloc: Global, text: &[u8]) -> Result<Option<Text>, NoMemory>
+fn leading_option(alloc: Global, text: &[u8]) -> Result<Option<Text>, NoMemory>
     ensures { IfOk result (λ word. word ≡ leading_of text.now) }
 {
     if text.is_empty() {
@@ -114,9 +114,9 @@ pub fn command(alloc: Global, word: Word, text: &[u8]) -> Result<Option<Command>
         Word::Handshake => Ok(Some(Command::Handshake(pairs(alloc, text)?))),
         Word::Init => init(alloc, text),
         Word::Hdata => hdata(alloc, text),
-        Word::Info => Ok(leading(alloc, text)?.map(Command::Info)),
-        Word::Infolist => Ok(leading(alloc, text)?.map(Command::Infolist)),
-        Word::Nicklist => Ok(Some(Command::Nicklist(leading(alloc, text)?))),
+        Word::Info => Ok(leading_option(alloc, text)?.map(Command::Info)),
+        Word::Infolist => Ok(leading_option(alloc, text)?.map(Command::Infolist)),
+        Word::Nicklist => Ok(Some(Command::Nicklist(leading_option(alloc, text)?))),
         Word::Input => input(alloc, text),
         Word::Completion => completion(alloc, text),
         Word::Sync => {

@@ -94,7 +94,7 @@ fn read_hash(alloc: Global, text: &[u8]) -> Result<Option<HashLogin>, NoMemory>
     hash_from(alloc, name, salt, hash)
 }
 
-fn copied(alloc: Global, text: Option<&Text>) -> Result<Option<Text>, NoMemory>
+fn copy_of(alloc: Global, text: Option<&Text>) -> Result<Option<Text>, NoMemory>
     ensures { IfOk result (λ copy. copy ≡ option_copied text.entry) }
 {
     match text {
@@ -110,7 +110,7 @@ fn copied(alloc: Global, text: Option<&Text>) -> Result<Option<Text>, NoMemory>
 pub fn read_login(alloc: Global, pairs: &Items<Pair>) -> Result<Option<Login>, NoMemory>
     ensures { IfOk result (λ login. login ≡ login_of pairs.now) }
 {
-    let password = copied(alloc, last_value(pairs, b"password"))?;
+    let password = copy_of(alloc, last_value(pairs, b"password"))?;
     let Some(text) = last_value(pairs, b"password_hash") else {
         return Ok(Some(Login {
             password,

@@ -155,7 +155,12 @@ fn put_after(
 
 /// A buffer after another, of which it need not be in the group. Nothing changes where that is no
 /// other buffer that is there.
-fn merged(alloc: Global, h: u64, prev: u64, groups: &Items<Group>) -> Result<Items<Group>, NoMemory>
+fn merge_groups_at(
+    alloc: Global,
+    h: u64,
+    prev: u64,
+    groups: &Items<Group>,
+) -> Result<Items<Group>, NoMemory>
     ensures { IfOk result (λ new. new ≡ merge_groups_at h prev groups.now) }
 {
     if prev == h || !has(prev, groups.as_slice()) {
@@ -238,7 +243,7 @@ fn push_groups(found: &mut Items<Group>, alloc: Global, groups: &[Group]) -> Res
 
 /// The group of a buffer at the place of this number, from 1. Nothing changes where there is no
 /// such place.
-fn moved(
+fn move_group_at(
     alloc: Global,
     h: u64,
     number: u32,
@@ -346,7 +351,7 @@ fn told_update(
 
 /// The groups after an event of a buffer that is held.
 #[tactic(auto, unfolding(crate::specs::Grouped::edited))]
-fn edited(
+fn edit_group(
     alloc: Global,
     kind: EventKind,
     told: &Carried,
@@ -357,15 +362,15 @@ fn edited(
     let h = told.buffer.handle.0;
     match kind {
         EventKind::Closing => take_out(alloc, h, groups.as_slice()),
-        EventKind::Moved => moved(alloc, h, told.number, groups),
-        EventKind::Merged => merged(alloc, h, told.prev, groups),
+        EventKind::Moved => move_group_at(alloc, h, told.number, groups),
+        EventKind::Merged => merge_groups_at(alloc, h, told.prev, groups),
         EventKind::Unmerged => unmerge(alloc, h, groups.as_slice()),
         _ => told_update(alloc, kind, &told.buffer, groups.as_slice()),
     }
 }
 
 /// A buffer in a group of its own after the others. Nothing changes where it is there.
-fn opened(
+fn open_buffer_in(
     alloc: Global,
     buffer: MirrorBuffer,
     groups: &Items<Group>,
@@ -393,10 +398,10 @@ pub(crate) fn with_event(
     ensures { IfOk result (λ new. new ≡ with_event kind told groups.now) }
 {
     if matches!(kind, EventKind::Opened) {
-        return opened(alloc, told.buffer, groups);
+        return open_buffer_in(alloc, told.buffer, groups);
     }
     if has(told.buffer.handle.0, groups.as_slice()) {
-        edited(alloc, kind, &told, groups)
+        edit_group(alloc, kind, &told, groups)
     } else {
         groups.copy(alloc)
     }

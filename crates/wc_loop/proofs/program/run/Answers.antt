@@ -17,7 +17,7 @@ returns-clause-runs g c =
     let ran = c.take_turns-then.ensures in
     let first = c.in-Ok.ensures.first in
     let fresh = Fresh-listening (seen c.args.sockets.now) (seen c.listen.new.self) new listened.told listened.taken listened.sent listened.used listened.there listened.undrained listened.listening in
-    rw c.kept.ensures (Runs-following c.args.turns (g.K.Keeper.contents c.args.keeper.now) (g.K.Keeper.faults c.args.keeper.now) (g.K.Keeper.faults c.take_turns-then.new.keeper)
+    rw c.last_state.ensures (Runs-following c.args.turns (g.K.Keeper.contents c.args.keeper.now) (g.K.Keeper.faults c.args.keeper.now) (g.K.Keeper.faults c.take_turns-then.new.keeper)
     (seen c.args.sockets.now) (seen c.take_turns-then.new.sockets) c.take_turns-then.result c.ending_of.result c.take_turns-then.new.headless
     (record {
       above = c.requires.above;

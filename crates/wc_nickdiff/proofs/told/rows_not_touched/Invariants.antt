@@ -1,7 +1,7 @@
 use Rattle.std.proofs.Common.{◌≡◌, ◌++◌}
 use Rattle.std.specs.Prelude.{filter}
 use Rattle.wc_nickdiff.specs.Held.{is_untouched}
-use Rattle.wc_nickdiff.proofs.told.untouched.Given as goal
+use Rattle.wc_nickdiff.proofs.told.rows_not_touched.Given as goal
 
 -- the rows so far whose keys were not touched
 abbrev pub invariant-loop-view : goal.invariant-loop-view

@@ -1,5 +1,5 @@
 use Rattle.wc_events.proofs.EventsFormed.{opened_formed}
-use Rattle.wc_events.proofs.events.opened.Goals as goal
+use Rattle.wc_events.proofs.events.opened_object.Goals as goal
 
 pub returns-clause-formed : goal.returns-clause-formed
 returns-clause-formed c =

@@ -1,6 +1,6 @@
 use Rattle.std.proofs.Common.{sym}
 use Rattle.std.proofs.lemmas.Result.{err_from_is_err_and}
-use Rattle.wc_nickdiff.proofs.diff.applied.Goals as goal
+use Rattle.wc_nickdiff.proofs.diff.item_applied.Goals as goal
 
 pub returns-in_err-apply_each-clause-refused : goal.returns-in_err-apply_each-clause-refused
 returns-in_err-apply_each-clause-refused c =

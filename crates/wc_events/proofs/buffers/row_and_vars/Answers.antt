@@ -1,6 +1,6 @@
 use Rattle.std.proofs.Common.{rules, ◌≡◌, Some}
 use Rattle.wc_buffers.specs.Calls.{entry_of}
-use Rattle.wc_events.proofs.buffers.standing.Goals as goal
+use Rattle.wc_events.proofs.buffers.row_and_vars.Goals as goal
 
 pub returns-clause-kept : goal.returns-clause-kept
 returns-clause-kept c =

@@ -7,8 +7,8 @@ use Rattle.wc_nicklist.specs.Rows.{find_row}
 use Rattle.wc_nickdiff.specs.Held.{before_at}
 use Rattle.wc_nickdiff.proofs.Picked.{next_untouched, row_there}
 use Rattle.wc_nickdiff.proofs.Touches.{none_some}
-use Rattle.wc_nickdiff.proofs.told.untouched.Goals as goal
-use Rattle.wc_nickdiff.proofs.told.untouched.Goals.{in-Some-2+in_ok-push, in_default}
+use Rattle.wc_nickdiff.proofs.told.rows_not_touched.Goals as goal
+use Rattle.wc_nickdiff.proofs.told.rows_not_touched.Goals.{in-Some-2+in_ok-push, in_default}
 
 pub loop-view-preserved-then-is_none : goal.loop-view-preserved-then-is_none
 loop-view-preserved-then-is_none c =

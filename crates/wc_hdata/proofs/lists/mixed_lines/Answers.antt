@@ -3,7 +3,7 @@ use Rattle.std.proofs.lemmas.List.Sorted.{IsNonDecreasingBy-from_sort_by_key, an
 use Rattle.wc_hdata.specs.Lists.{by_handle, lines_of_all}
 use Rattle.wc_hdata.specs.Reached.{held_lines}
 use Rattle.wc_hdata.proofs.Mixed.{mixed_is, number}
-use Rattle.wc_hdata.proofs.lists.mixed.Goals as goal
+use Rattle.wc_hdata.proofs.lists.mixed_lines.Goals as goal
 
 pub returns : goal.returns
 returns c =

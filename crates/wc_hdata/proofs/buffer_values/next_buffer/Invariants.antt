@@ -1,7 +1,7 @@
 use Rattle.std.proofs.Common.{◌≡◌, length}
 use Rattle.wc_model.specs.Order.{after_in}
 use Rattle.wc_world.specs.Near.{numbers}
-use Rattle.wc_hdata.proofs.buffer_values.following.Given as goal
+use Rattle.wc_hdata.proofs.buffer_values.next_buffer.Given as goal
 
 abbrev pub invariant-loop-first : goal.invariant-loop-first
 invariant-loop-first l = after_in l.buffer.0 (numbers l.all) ≡ after_in l.buffer.0 (numbers l.left)
