@@ -1,6 +1,6 @@
 use Rattle.std.proofs.Common.{ap, ◌∙◌, Err}
 use Rattle.wc_loop.specs.Configuration.{settings_in, seen_settings}
-use Rattle.wc_loop.proofs.ConfigurationLemmas.{bad-line, no-line, ok-last_state, bad-number}
+use Rattle.wc_loop.proofs.ConfigurationLemmas.{bad-line, no-line, ok-kept, bad-number}
 use Rattle.wc_loop.proofs.configuration.read_settings.Goals as goal
 
 pub returns-in_default-after_line-clause-bad_line : goal.returns-in_default-after_line-clause-bad_line
@@ -10,4 +10,4 @@ returns-in_default-after_line-clause-bad_line c = λ n e.
 
 pub returns-clause-ok : goal.returns-clause-ok
 unfolding settings_in
-returns-clause-ok c = ok-last_state _ (seen_settings c.loop-line.given) _ c.last_state.ensures.ok (no-line c.loop-line.number (seen_settings c.loop-line.given) c.loop-line.rest.now _ c.in_default.ensures.none c.loop-line.invariant.same)
+returns-clause-ok c = ok-kept _ (seen_settings c.loop-line.given) _ c.kept.ensures.ok (no-line c.loop-line.number (seen_settings c.loop-line.given) c.loop-line.rest.now _ c.in_default.ensures.none c.loop-line.invariant.same)
