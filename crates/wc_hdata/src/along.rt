@@ -4,8 +4,8 @@ ghost use Rattle.wc_hdata.specs.Along.{along};
 use crate::count::Count;
 use wc_text::NoMemory;
 
-#[tactic(auto, using(std::proofs::lemmas::List::take_all))]
 /// Puts the elements to which a count goes from a place of a list after others.
+#[tactic(auto, using(std::proofs::lemmas::List::take_all))]
 pub(crate) fn along<T: Copy>(
     out: &mut Vec<T>,
     count: Count,
@@ -32,8 +32,8 @@ fn forward<T: Copy>(out: &mut Vec<T>, most: usize, at: usize, list: &[T]) -> Res
     Ok(())
 }
 
-#[tactic(auto, using(crate::proofs::Backward::one_after))]
 /// Puts those up to a place after others, the last one first, so many at most.
+#[tactic(auto, using(crate::proofs::Backward::one_after))]
 fn backward<T: Copy>(out: &mut Vec<T>, most: usize, at: usize, list: &[T]) -> Result<(), NoMemory>
     ensures { OnOk result (out.new.items ≡ out.old.items
         ++ take most (reverse (take (at + 1) list.now))) }

@@ -130,7 +130,6 @@ fn items_of(
     Ok(items)
 }
 
-#[tactic(auto, using(crate::proofs::Refuses::walk_facts))]
 /// What a path leads to, as WeeChat's relay protocol answers `hdata`: an item for each thing that
 /// is reached, with its pointer and those of the elements on the way, and the values that the keys
 /// name. Keys are named as `read_keys` has it.
@@ -139,6 +138,7 @@ fn items_of(
 /// begins with, `TooManyVisits` where the elements of the path give more than 4,194,304 pointers
 /// together, and `TooLong` where the values have more than 2^31 - 64 bytes together. `NoMemory`
 /// where memory is asked for and not found.
+#[tactic(auto, using(crate::proofs::Refuses::walk_facts))]
 pub fn walk(alloc: Global, world: &World, path: &Path, keys: &[u8]) -> Result<Object, WalkRefused>
     ensures object { IfOk result (λ object. object ≡ walk_object world.now path.now keys.now) }
     ensures accepted { OnOk result (refusal world.now path.now keys.now ≡ None) }

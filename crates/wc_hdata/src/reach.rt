@@ -115,8 +115,8 @@ fn from_lines<'a>(
     push_lines(alloc, step.count, at, lines.as_slice(), out)
 }
 
-#[tactic(auto, using(crate::proofs::AlongMap::along_held))]
 /// Puts the lines to which a count goes from a place of a list after others.
+#[tactic(auto, using(crate::proofs::AlongMap::along_held))]
 pub(crate) fn push_lines<'a>(
     alloc: Global,
     count: Count,

@@ -7,9 +7,9 @@ use crate::keeper::ReplayKeeper;
 use crate::stage::{Kept, LINKS, Stage};
 use std::alloc::{AllocError, Global};
 use wc_loop::{Ended, run_program};
-use wc_turns::{Closed, Headless};
 use wc_outside::{MemorySink, MemorySockets, Sockets};
 use wc_text::{Items, LinkId, NoMemory};
+use wc_turns::{Closed, Headless};
 
 /// What is looked at after a run: the lines that compare, and how many links there may be.
 #[derive(Clone, Copy)]

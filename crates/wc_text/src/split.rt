@@ -15,9 +15,9 @@ fn onward(text: &[u8], byte: u8) -> &[u8]
     rest
 }
 
-#[tactic(auto, using(crate::proofs::SplitLemmas::cuts))]
 /// The text before the first such byte, and from it on. Where there is none the second part is
 /// empty.
+#[tactic(auto, using(crate::proofs::SplitLemmas::cuts))]
 pub fn cut_at(text: &[u8], byte: u8) -> (&[u8], &[u8])
     ensures front { result.0.now ≡ before byte text.now }
     ensures back { result.1.now ≡ onward byte text.now }

@@ -39,8 +39,8 @@ fn after_here(seen: bool, h: Handle, group: &[Handle]) -> Result<Handle, bool>
     Err(seen)
 }
 
-#[tactic(auto, using(crate::proofs::NearLemmas::order_handles))]
 /// The buffer before `h` in the order of buffers; null where there is none.
+#[tactic(auto, using(crate::proofs::NearLemmas::order_handles))]
 pub(crate) fn prev_of(buffers: &Buffers, h: Handle) -> Handle
     ensures { result.0 ≡ prev_of h.0 buffers.now }
 {
@@ -54,8 +54,8 @@ pub(crate) fn prev_of(buffers: &Buffers, h: Handle) -> Handle
     Handle(0)
 }
 
-#[tactic(auto, using(crate::proofs::NearLemmas::next_of_facts))]
 /// The buffer after `h` in the order of buffers; null where there is none.
+#[tactic(auto, using(crate::proofs::NearLemmas::next_of_facts))]
 pub(crate) fn next_of(buffers: &Buffers, h: Handle) -> Handle
     ensures { result.0 ≡ next_of h.0 buffers.now }
 {

@@ -7,13 +7,13 @@ use crate::clients::Client;
 use crate::diffs::show_push;
 use bytes::BytesMut;
 use std::alloc::Global;
+use wc_events::{event_id, flag_objects};
 use wc_lines::Lines;
 use wc_model::{EventKind, Notice};
 use wc_nickdiff::{Pending, Push};
 use wc_objects::{Object, append_message};
 use wc_session::BufferEvent;
 use wc_text::{Handle, Items, NoMemory};
-use wc_events::{event_id, flag_objects};
 use wc_world::World;
 
 /// The clients, and the bytes that were told last, whether or not a client follows them.

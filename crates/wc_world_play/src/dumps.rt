@@ -8,9 +8,9 @@ use crate::words::handle;
 use crate::wrong::Wrong;
 use bytes::BytesMut;
 use std::alloc::{AllocError, Global};
+use wc_events::{append_line_dump, buffer_dump, nick_dump, nick_list};
 use wc_objects::{Object, append_message};
 use wc_text::Handle;
-use wc_events::{append_line_dump, buffer_dump, nick_dump, nick_list};
 use wc_world::World;
 
 /// Shows bytes after their number.
