@@ -14,7 +14,7 @@ use Rattle.wc_objects.proofs.Messages.{one_message}
 use Rattle.wc_relaycmd.specs.declared.request.Request.{Request}
 use Rattle.wc_relaycmd.specs.Answers.{request_of}
 use Rattle.wc_relaycmd.proofs.ReadLemmas.{reads-request_of}
-use Rattle.wc_relaycmd.proofs.RequestTexts.{HasUtf8-reads}
+use Rattle.wc_relaycmd.proofs.RequestTexts.{RequestIsUtf8-reads}
 use Rattle.wc_session.specs.declared.client.Client.{Client}
 use Rattle.wc_session.specs.declared.outcome.Outcome.{Outcome}
 use Rattle.wc_session.specs.declared.outcome.Outcome.TheVariants as outcome
@@ -54,7 +54,7 @@ line_spelt limit link state k line kept = came (at_key client_link k state.clien
   served client (Some request) e =
       let answer = reply_of state.world state.password client request in
       let next : State = record state { clients = put_at client_link (client_link client) answer.client state.clients } in
-      let utf8 = HasUtf8-reads line client.escaped request (reads-request_of line client.escaped request e) in
+      let utf8 = RequestIsUtf8-reads line client.escaped request (reads-request_of line client.escaped request e) in
       subst (λ (s : Stepped). AllSpelt (messages_to link s.acts)) (sym (asked_replies state kept.told kept.world.empty client request))
       (acts_spelt link (sends (client_link client) answer.messages) (outcome_step next (client_link client) answer.outcome).acts
       (sends_spelt link (client_link client) answer.messages (answer_spelt limit state.world state.password client request kept.world utf8))

@@ -28,7 +28,7 @@ use Rattle.wc_mirror_laws.specs.Held.{HeldPart, HeldOf, fold_one, Has}
 use Rattle.wc_mirror_laws.specs.Settled.{client_on, is_following}
 use Rattle.wc_mirror_laws.specs.Kept.{IsStateKept}
 use Rattle.wc_mirror_laws.specs.Mirrors.{fold_all, mirror_after}
-use Rattle.wc_mirror_laws.proofs.ClientLemmas.{text_after-heard, first-heard, told-first, told_each, messages-sends}
+use Rattle.wc_mirror_laws.proofs.ClientLemmas.{following-heard, first-heard, told-first, told_each, messages-sends}
 use Rattle.wc_mirror_laws.proofs.IdLemmas.{id_free}
 use Rattle.wc_mirror_laws.proofs.HeldLemmas.{change_right, told_follows}
 use Rattle.wc_mirror_laws.proofs.NoticeLemmas.{telling}
@@ -77,18 +77,18 @@ clients_spelt link world n (client ∷ clients) all =
 -- What is done to the world: what always holds does so still, each message keeps the rules, and a client that follows has
 -- the lines after it.
 pub record Tells (which : HeldPart) (limit link : ℕ) (id : List ℕ) (state : State) (stepped : Stepped) : Type 0 where
-  pub text_after : is_following (client_on link stepped.state) ≡ is_following (client_on link state)
+  pub following : is_following (client_on link stepped.state) ≡ is_following (client_on link state)
   pub kept : IsStateKept limit link stepped.state
   pub spelt : AllSpelt (messages_to link stepped.acts)
   pub right : is_following (client_on link state) ≡ true → (part : HeldOf which) → Has which part state.world → Has which (mirror_after which limit link id part stepped.acts) stepped.state.world
 
 Tells-stays : (which : HeldPart) (limit link : ℕ) (id : List ℕ) (state : State) → IsStateKept limit link state → Tells which limit link id state (no_step state)
-Tells-stays which limit link id state kept = record { text_after = refl; kept = kept; spelt = tt; right = λ follows part had. had }
+Tells-stays which limit link id state kept = record { following = refl; kept = kept; spelt = tt; right = λ follows part had. had }
 
 Tells-then : (which : HeldPart) (limit link : ℕ) (id : List ℕ) (state : State) (first : Stepped) (others : State → Stepped) → Tells which limit link id state first → Tells which limit link id first.state (others first.state)
     → Tells which limit link id state (then_does first others)
 Tells-then which limit link id state first others a b = record {
-  text_after = b.following ∙ a.following;
+  following = b.following ∙ a.following;
   kept = b.kept;
   spelt = acts_spelt link first.acts (others first.state).acts a.spelt b.spelt;
   right = λ follows part had.
@@ -116,7 +116,7 @@ Tells-changes which limit link id state change free kept told good =
     let is = after_kept limit w change.buffer change.what kept.world told good in
     let refusal_step = telling limit w change.buffer change.what kept.world told good in
     record {
-      text_after = text_after-heard n.kind n.buffer.0 link state.clients;
+      following = following-heard n.kind n.buffer.0 link state.clients;
       kept = record { most = kept.most; world = is; told = ap (told_after w change.buffer change.what) kept.told ∙ told_follows w change.buffer change.what told; first = first-heard n.kind n.buffer.0 link state.clients kept.first };
       spelt = clients_spelt link v n state.clients (event_spelt limit v n is refusal_step);
       right = λ follows part had.
@@ -141,7 +141,7 @@ Tells-asks which limit link id state change free kept told = by (refusal state.w
 
 Tells-resolved : (which : HeldPart) (limit link : ℕ) (id : List ℕ) (state : State) (r : Effect) → BeginsWithout 95 id → IsStateKept limit link state → OnAsks r → Tells which limit link id state (effect_step state r)
 Tells-resolved which limit link id state Stays free kept told = Tells-stays which limit link id state kept
-Tells-resolved which limit link id state ResolvedEnds free kept told = record { text_after = refl; kept = kept; spelt = tt; right = λ follows part had. had }
+Tells-resolved which limit link id state ResolvedEnds free kept told = record { following = refl; kept = kept; spelt = tt; right = λ follows part had. had }
 Tells-resolved which limit link id state (TellsRefusal text) free kept told = Tells-tells which limit link id state text free kept
 Tells-resolved which limit link id state (Asks change) free kept told = Tells-asks which limit link id state change free kept told
 

@@ -81,9 +81,9 @@ line_right which limit link id state k line part kept free within fair after had
       let answer = reply_of state.world state.password client request in
       let own = λ (here : eqb (client_link client) link ≡ true). (subst (AllByRecursion (IsFair which id)) (asked_now link state k line client request at read here) fair).0 in
       let alone = asked_replies state kept.told kept.world.empty client request in
-      let text_after = subst (λ (s : Stepped). is_following (client_on link s.state) ≡ true) alone after in
+      let following = subst (λ (s : Stepped). is_following (client_on link s.state) ≡ true) alone after in
       subst (HasAfter which limit link id part) (sym alone)
-      (right-answers which limit link id state (client_link client) answer part (reply_link state client line request read) (reply_text state client line request read) kept free text_after
+      (right-answers which limit link id state (client_link client) answer part (reply_link state client line request read) (reply_text state client line request read) kept free following
       (sends_right which limit link id state (client_link client) answer.messages part
       (λ here. reply_right which limit link id state client line request part kept free within read (own here) had) (λ else. had)))
 
@@ -135,9 +135,9 @@ line_dumps which limit link id state k line part dump kept within e takes after 
       let whole : record { client = client; request = request } ≡ dump = cc in
       let key : eqb (client_link client) link ≡ true = ap (λ n. eqb n link) (at_key-key client_link k state.clients client at) ∙ here in
       let alone = asked_replies state kept.told kept.world.empty client request in
-      let text_after = subst (λ (s : Stepped). is_following (client_on link s.state) ≡ true) alone after in
+      let following = subst (λ (s : Stepped). is_following (client_on link s.state) ≡ true) alone after in
       subst (HasAfter which limit link id part) (sym alone)
-      (right-answers which limit link id state (client_link client) answer part (reply_link state client line request read) (reply_text state client line request read) kept free text_after
+      (right-answers which limit link id state (client_link client) answer part (reply_link state client line request read) (reply_text state client line request read) kept free following
       (sends_right which limit link id state (client_link client) answer.messages part
       (λ here. dump_right which limit link id state client line request part kept within read (subst (TakesDump which id) (sym whole) takes))
       (λ else. absurd (let h : false ≡ true = sym else ∙ key in cc))))

@@ -74,19 +74,19 @@ mirrored which limit link id state (event ∷ events) part kept free within othe
 -- ---- up to the dump
 
 -- the dump, and what was asked after it
-record IsTaken (which : HeldPart) (id : List ℕ) (dump : AskedFor) (text_after : List AskedFor) : Type 0 where
+record IsTaken (which : HeldPart) (id : List ℕ) (dump : AskedFor) (following : List AskedFor) : Type 0 where
   takes : TakesDump which id dump
-  alone : AllByRecursion (HasOther id) text_after
-  follows : AllByRecursion Follows text_after
+  alone : AllByRecursion (HasOther id) following
+  follows : AllByRecursion Follows following
 
-never : (before text_after : List AskedFor) (dump : AskedFor) → [] ≡ before ++ dump ∷ text_after → ⊥
-never [] text_after dump e = cc
-never (first ∷ before) text_after dump e = cc
+never : (before following : List AskedFor) (dump : AskedFor) → [] ≡ before ++ dump ∷ following → ⊥
+never [] following dump e = cc
+never (first ∷ before) following dump e = cc
 
-has-dump : (which : HeldPart) (limit link : ℕ) (id : List ℕ) (part : HeldOf which) (state : State) (event : Event) (events : List Event) (dump : AskedFor) (text_after : List AskedFor) → IsStateKept limit link state
-    → AllByRecursion IsShortLine (event ∷ events) → IsTaken which id dump text_after → asked_in link state event ≡ dump ∷ [] → asked_on link (step state event).state events ≡ text_after
+has-dump : (which : HeldPart) (limit link : ℕ) (id : List ℕ) (part : HeldOf which) (state : State) (event : Event) (events : List Event) (dump : AskedFor) (following : List AskedFor) → IsStateKept limit link state
+    → AllByRecursion IsShortLine (event ∷ events) → IsTaken which id dump following → asked_in link state event ≡ dump ∷ [] → asked_on link (step state event).state events ≡ following
     → is_following (client_on link (run (step state event).state events).state) ≡ true → HasAfter which limit link id part state (event ∷ events)
-has-dump which limit link id part state event events dump text_after kept within taken here is still =
+has-dump which limit link id part state event events dump following kept within taken here is still =
     let next = (step state event).state in
     let none : List AskedFor = [] in
     let then = step_keeps limit link state event kept in
@@ -97,27 +97,27 @@ has-dump which limit link id part state event events dump text_after kept within
     let shown : Has which part' next.world = dump_mirrors which limit link id state event part dump kept within.0 here taken.takes (stood limit link next events then follows still) in
     has-then which limit link id part state event events (mirrored which limit link id next events part' then free within.1 other follows still shown)
 
-settles : (which : HeldPart) (limit link : ℕ) (id : List ℕ) (state : State) (events : List Event) (part : HeldOf which) (before text_after : List AskedFor) (dump : AskedFor) → IsStateKept limit link state
-    → AllByRecursion IsShortLine events → IsTaken which id dump text_after → asked_on link state events ≡ before ++ dump ∷ text_after → is_following (client_on link (run state events).state) ≡ true
+settles : (which : HeldPart) (limit link : ℕ) (id : List ℕ) (state : State) (events : List Event) (part : HeldOf which) (before following : List AskedFor) (dump : AskedFor) → IsStateKept limit link state
+    → AllByRecursion IsShortLine events → IsTaken which id dump following → asked_on link state events ≡ before ++ dump ∷ following → is_following (client_on link (run state events).state) ≡ true
     → HasAfter which limit link id part state events
-settles which limit link id state [] part before text_after dump kept within taken e still = absurd (never before text_after dump e)
-settles which limit link id state (event ∷ events) part before text_after dump kept within taken e still =
+settles which limit link id state [] part before following dump kept within taken e still = absurd (never before following dump e)
+settles which limit link id state (event ∷ events) part before following dump kept within taken e still =
     by (asked_in link state event) before refl e
-    (λ before is. settles which limit link id (step state event).state events (mirror_after which limit link id part (step state event).acts) before text_after dump (step_keeps limit link state event kept) within.1 taken is still)
+    (λ before is. settles which limit link id (step state event).state events (mirror_after which limit link id part (step state event).acts) before following dump (step_keeps limit link state event kept) within.1 taken is still)
   where
     rest : List AskedFor
     rest = asked_on link (step state event).state events
 
-    met : (first : AskedFor) (before : List AskedFor) → asked_in link state event ≡ first ∷ [] → first ∷ rest ≡ before ++ dump ∷ text_after
-        → ((before : List AskedFor) → rest ≡ before ++ dump ∷ text_after → HasAfter which limit link id (mirror_after which limit link id part (step state event).acts) (step state event).state events)
+    met : (first : AskedFor) (before : List AskedFor) → asked_in link state event ≡ first ∷ [] → first ∷ rest ≡ before ++ dump ∷ following
+        → ((before : List AskedFor) → rest ≡ before ++ dump ∷ following → HasAfter which limit link id (mirror_after which limit link id part (step state event).acts) (step state event).state events)
         → HasAfter which limit link id part state (event ∷ events)
     met first [] here is others =
         let same : first ≡ dump = cc in
-        has-dump which limit link id part state event events dump text_after kept within taken (here ∙ ap (λ a. a ∷ []) same) (cc) still
+        has-dump which limit link id part state event events dump following kept within taken (here ∙ ap (λ a. a ∷ []) same) (cc) still
     met first (other ∷ before) here is others = has-then which limit link id part state event events (others before (cc))
 
-    by : (o before : List AskedFor) → asked_in link state event ≡ o → asked_in link state event ++ rest ≡ before ++ dump ∷ text_after
-        → ((before : List AskedFor) → rest ≡ before ++ dump ∷ text_after → HasAfter which limit link id (mirror_after which limit link id part (step state event).acts) (step state event).state events)
+    by : (o before : List AskedFor) → asked_in link state event ≡ o → asked_in link state event ++ rest ≡ before ++ dump ∷ following
+        → ((before : List AskedFor) → rest ≡ before ++ dump ∷ following → HasAfter which limit link id (mirror_after which limit link id part (step state event).acts) (step state event).state events)
         → HasAfter which limit link id part state (event ∷ events)
     by [] before here is others = has-then which limit link id part state event events (others before (sym (ap (λ o. o ++ rest) here) ∙ is))
     by (first ∷ more) before here is others =

@@ -11,7 +11,7 @@ use Rattle.wc_relaycmd.specs.declared.request.Request.{Request}
 use Rattle.wc_relaycmd.specs.Answers.{request_of}
 use Rattle.wc_text.specs.Splits.{BeginsWithout}
 use Rattle.wc_relaycmd.proofs.ReadLemmas.{reads-request_of}
-use Rattle.wc_relaycmd.proofs.RequestTexts.{HasUtf8-reads}
+use Rattle.wc_relaycmd.proofs.RequestTexts.{RequestIsUtf8-reads}
 use Rattle.wc_session.specs.declared.client.Client.{Client}
 use Rattle.wc_session.specs.declared.outcome.Outcome.{Outcome}
 use Rattle.wc_session.specs.declared.outcome.Outcome.TheVariants as outcome
@@ -27,7 +27,7 @@ use Rattle.wc_mirror_laws.specs.Held.{HeldPart, Lines, HeldOf, Has}
 use Rattle.wc_mirror_laws.specs.Settled.{asked_by, asked_with, asked_in, client_on, is_following}
 use Rattle.wc_mirror_laws.specs.Kept.{is_first_alone, IsStateKept}
 use Rattle.wc_mirror_laws.specs.Mirrors.{mirror_after, StepKeeps}
-use Rattle.wc_mirror_laws.proofs.ClientLemmas.{text_after-push, first-push, first-put, first-without}
+use Rattle.wc_mirror_laws.proofs.ClientLemmas.{following-push, first-push, first-put, first-without}
 use Rattle.wc_mirror_laws.proofs.ChangeLemmas.{mirror-append, Tells-runs}
 use Rattle.wc_mirror_laws.proofs.PushLemmas.{asked_replies}
 use Rattle.wc_mirror_laws.proofs.TypedLemmas.{parted_text}
@@ -82,12 +82,12 @@ right-answers which limit link id state k answer part here utf8 kept free after 
 -- what is typed by a request is text
 pub reply_text : (state : State) (client : Client) (line : List ℕ) (request : Request) → request_of client.escaped line ≡ Some request → OutcomeUtf8 (reply_of state.world state.password client request).outcome
 reply_text state client line request e =
-    (reply_fits state.world state.password client request (HasUtf8-reads line client.escaped request (reads-request_of line client.escaped request e))).text
+    (reply_fits state.world state.password client request (RequestIsUtf8-reads line client.escaped request (reads-request_of line client.escaped request e))).text
 
 pub reply_link : (state : State) (client : Client) (line : List ℕ) (request : Request) → request_of client.escaped line ≡ Some request
     → client_link (reply_of state.world state.password client request).client ≡ client_link client
 reply_link state client line request e =
-    ap (λ (l : LinkId). l.0) (reply_fits state.world state.password client request (HasUtf8-reads line client.escaped request (reads-request_of line client.escaped request e))).link
+    ap (λ (l : LinkId). l.0) (reply_fits state.world state.password client request (RequestIsUtf8-reads line client.escaped request (reads-request_of line client.escaped request e))).link
 
 -- ---- a line of a client
 
@@ -133,8 +133,8 @@ step_keeps limit link state ListenFails kept = kept
 
 -- ---- whether a client followed before an event
 
-text_after-leaves : (link : ℕ) (state : State) (k : ℕ) → is_following (at_key client_link link (without client_link k state.clients)) ≡ true → is_following (client_on link state) ≡ true
-text_after-leaves link state k after = by (eqb link k) refl where
+following-leaves : (link : ℕ) (state : State) (k : ℕ) → is_following (at_key client_link link (without client_link k state.clients)) ≡ true → is_following (client_on link state) ≡ true
+following-leaves link state k after = by (eqb link k) refl where
   by : (b : Bool) → eqb link k ≡ b → is_following (client_on link state) ≡ true
   by true e =
       let same : link ≡ k = grind (arith, nat_tests) in
@@ -142,28 +142,28 @@ text_after-leaves link state k after = by (eqb link k) refl where
       absurd (false≢true (sym (ap is_following gone) ∙ after))
   by false e = sym (ap is_following (at_key-without_other client_link k link state.clients (grind (arith, nat_tests)))) ∙ after
 
-text_after-lost : (link : ℕ) (state : State) (k : ℕ) (why : Cause) (o : Option Client) → is_following (client_on link (loss_step state k why o).state) ≡ true → is_following (client_on link state) ≡ true
-text_after-lost link state k why None after = after
-text_after-lost link state k why (Some client) after = text_after-leaves link state k after
+following-lost : (link : ℕ) (state : State) (k : ℕ) (why : Cause) (o : Option Client) → is_following (client_on link (loss_step state k why o).state) ≡ true → is_following (client_on link state) ≡ true
+following-lost link state k why None after = after
+following-lost link state k why (Some client) after = following-leaves link state k after
 
-text_after-follows : (limit link : ℕ) (state : State) (k : ℕ) (o : Outcome) → OutcomeUtf8 o → IsStateKept limit link state → is_following (client_on link (outcome_step state k o).state) ≡ true → is_following (client_on link state) ≡ true
-text_after-follows limit link state k outcome.Replied utf8 kept after = after
-text_after-follows limit link state k outcome.Silent utf8 kept after = after
-text_after-follows limit link state k (outcome.Input buffer text) utf8 kept after =
+following-follows : (limit link : ℕ) (state : State) (k : ℕ) (o : Outcome) → OutcomeUtf8 o → IsStateKept limit link state → is_following (client_on link (outcome_step state k o).state) ≡ true → is_following (client_on link state) ≡ true
+following-follows limit link state k outcome.Replied utf8 kept after = after
+following-follows limit link state k outcome.Silent utf8 kept after = after
+following-follows limit link state k (outcome.Input buffer text) utf8 kept after =
     sym (Tells-runs Lines limit link [] state buffer (lines_of_text text) tt kept (parted_text text utf8)).following ∙ after
-text_after-follows limit link state k (outcome.Leave why) utf8 kept after = text_after-leaves link state k after
-text_after-follows limit link state k outcome.NoMemory utf8 kept after = after
+following-follows limit link state k (outcome.Leave why) utf8 kept after = following-leaves link state k after
+following-follows limit link state k outcome.NoMemory utf8 kept after = after
 
 -- a request of another link
-text_after-answers : (limit link : ℕ) (state : State) (k : ℕ) (answer : Answer) → client_link answer.client ≡ k → link ≢ k → OutcomeUtf8 answer.outcome → IsStateKept limit link state
+following-answers : (limit link : ℕ) (state : State) (k : ℕ) (answer : Answer) → client_link answer.client ≡ k → link ≢ k → OutcomeUtf8 answer.outcome → IsStateKept limit link state
     → is_following (client_on link (answer_step state k answer).state) ≡ true → is_following (client_on link state) ≡ true
-text_after-answers limit link state k answer here other utf8 kept after =
+following-answers limit link state k answer here other utf8 kept after =
     sym (ap is_following (at_key-put_other client_link k link answer.client state.clients here other))
-    ∙ text_after-follows limit link (put state k answer.client) k answer.outcome utf8 (kept-put limit link state k answer.client here kept) after
+    ∙ following-follows limit link (put state k answer.client) k answer.outcome utf8 (kept-put limit link state k answer.client here kept) after
 
-text_after-line : (limit link : ℕ) (state : State) (k : ℕ) (line : List ℕ) → IsStateKept limit link state → asked_in link state (LineCame k line) ≡ []
+following-line : (limit link : ℕ) (state : State) (k : ℕ) (line : List ℕ) → IsStateKept limit link state → asked_in link state (LineCame k line) ≡ []
     → is_following (client_on link (step state (LineCame k line)).state) ≡ true → is_following (client_on link state) ≡ true
-text_after-line limit link state k line kept none after = came (at_key client_link k state.clients) refl after where
+following-line limit link state k line kept none after = came (at_key client_link k state.clients) refl after where
   other : (client : Client) (request : Request) → at_key client_link k state.clients ≡ Some client → request_of client.escaped line ≡ Some request → link ≢ client_link client
   other client request at e same =
       let key = at_key-key client_link k state.clients client at in
@@ -175,7 +175,7 @@ text_after-line limit link state k line kept none after = came (at_key client_li
       → is_following (client_on link (request_step state client o).state) ≡ true → is_following (client_on link state) ≡ true
   served client None at e after = after
   served client (Some request) at e after =
-      text_after-answers limit link state (client_link client) (reply_of state.world state.password client request) (reply_link state client line request e) (other client request at e) (reply_text state client line request e) kept
+      following-answers limit link state (client_link client) (reply_of state.world state.password client request) (reply_link state client line request e) (other client request at e) (reply_text state client line request e) kept
       (subst (λ (s : Stepped). is_following (client_on link s.state) ≡ true) (asked_replies state kept.told kept.world.empty client request) after)
 
   came : (o : Option Client) → at_key client_link k state.clients ≡ o → is_following (client_on link (line_step state line o).state) ≡ true → is_following (client_on link state) ≡ true
@@ -193,9 +193,9 @@ followed limit link state (Arrives k nonce) kept none after = by (nat_lt (length
 
   by : (b : Bool) → is_following (client_on link (cond b (no_step (record state { clients = state.clients ++ came ∷ [] })) (record { state = state; acts = Closes k cause.Surplus ∷ [] })).state) ≡ true
       → is_following (client_on link state) ≡ true
-  by true after = sym (text_after-push link came state.clients refl) ∙ after
+  by true after = sym (following-push link came state.clients refl) ∙ after
   by false after = after
-followed limit link state (LineCame k line) kept none after = text_after-line limit link state k line kept none after
-followed limit link state (Ends k) kept none after = text_after-lost link state k cause.Ended (at_key client_link k state.clients) after
-followed limit link state (Fails k) kept none after = text_after-lost link state k cause.Failed (at_key client_link k state.clients) after
+followed limit link state (LineCame k line) kept none after = following-line limit link state k line kept none after
+followed limit link state (Ends k) kept none after = following-lost link state k cause.Ended (at_key client_link k state.clients) after
+followed limit link state (Fails k) kept none after = following-lost link state k cause.Failed (at_key client_link k state.clients) after
 followed limit link state ListenFails kept none after = after

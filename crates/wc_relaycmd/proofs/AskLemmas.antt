@@ -47,8 +47,8 @@ pub record SameTwo (text first second rest : List ℕ) : Type 0 where
 
 pub TwoParts-same : (text first second rest : List ℕ) → TwoParts text first second rest → SameTwo text first second rest
 TwoParts-same text first second rest two =
-    let front = WordAndRest-same text first two.following two.front in
-    let back = WordAndRest-same two.following second rest two.back in
+    let front = WordAndRest-same text first two.text_after two.front in
+    let back = WordAndRest-same two.text_after second rest two.back in
     record {
       filled = text_filled text (λ none. two.filled (front.0 ∙ none));
       first_is = front.0;

@@ -36,8 +36,8 @@ pub record TwoTexts (first second rest : List ℕ) : Type 0 where
 
 two_texts : (text first second rest : List ℕ) → TwoParts text first second rest → IsUtf8 text → TwoTexts first second rest
 two_texts text first second rest two utf8 =
-    let front = parts_text text first two.following two.front utf8 in
-    let back = parts_text two.following second rest two.back front.1 in
+    let front = parts_text text first two.text_after two.front utf8 in
+    let back = parts_text two.text_after second rest two.back front.1 in
     record { first_text = front.0; second_text = back.0; rest_text = back.1 }
 
 options_text : (second : List ℕ) (options : Option (List (List ℕ))) → AreOptions second options → IsUtf8 second → OptionsUtf8 options

@@ -7,6 +7,6 @@ loop-text_after-init c = record { items = items_after-nil _ _ c.new-item.ensures
 
 pub loop-text_after-preserved : goal.loop-text_after-preserved
 loop-text_after-preserved c = record {
-  items = item_more c.loop-text_after.item _ c.loop-text_after.rest.now c.in-Goes.following.now c.args.list.now c.in-Goes.byte c.loop-text_after.invariant.items c.in-Goes.ensures.0 c.in_ok-append-in-Goes.ensures.ok;
+  items = item_more c.loop-text_after.item _ c.loop-text_after.rest.now c.in-Goes.text_after.now c.args.list.now c.in-Goes.byte c.loop-text_after.invariant.items c.in-Goes.ensures.0 c.in_ok-append-in-Goes.ensures.ok;
   shorter = omega (arith, c.in-Goes.ensures.1);
 }

@@ -10,9 +10,9 @@ returns-in_default-text_after c =
 
 pub returns-in-Some-more : goal.returns-in-Some-more
 returns-in-Some-more c =
-    hash_of-four c.args.text.now c.in-Some.following.now c.in-Some-text_after.following.now _ (rw c.in-Some.is at c.split_once.ensures.back) (rw c.in-Some-text_after.is at c.split_once-2.ensures.back) (rw c.in-Some-more.is at c.split_once-3.ensures.back)
+    hash_of-four c.args.text.now c.in-Some.text_after.now c.in-Some-text_after.text_after.now _ (rw c.in-Some.is at c.split_once.ensures.back) (rw c.in-Some-text_after.is at c.split_once-2.ensures.back) (rw c.in-Some-more.is at c.split_once-3.ensures.back)
 
 pub returns : goal.returns
 returns c =
-    hash_read _ c.args.text.now c.in-Some.following.now c.in-Some-text_after.following.now _ _ _ c.hash_from.ensures c.split_once.ensures.front c.split_once-2.ensures.front c.split_once-3.ensures.front
+    hash_read _ c.args.text.now c.in-Some.text_after.now c.in-Some-text_after.text_after.now _ _ _ c.hash_from.ensures c.split_once.ensures.front c.split_once-2.ensures.front c.split_once-3.ensures.front
     (rw c.in-Some.is at c.split_once.ensures.back) (rw c.in-Some-text_after.is at c.split_once-2.ensures.back) (rw c.in_default-more.is at c.split_once-3.ensures.back)
