@@ -226,7 +226,7 @@ impl Reader<'_> {
             (hda_after (Some path) self.old.bytes.now) }
     {
         let keys = self.name(alloc, Rule::Keys)?;
-        let items = self.listed(alloc, path.as_slice(), keys.as_slice())?;
+        let items = self.list_of(alloc, path.as_slice(), keys.as_slice())?;
         Ok(Hda {
             path: Some(path),
             keys: Some(keys),

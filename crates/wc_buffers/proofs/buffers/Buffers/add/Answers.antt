@@ -14,8 +14,8 @@ returns-in-Some-clause-refused c = λ memory.
     let v = c.as_slice.ensures in
     add_refused c.args.row c.args.vars.now c.args.self.now c.add_refusal.result c.in-Some.refused (rw v at c.add_refusal.ensures) c.in-Some.is memory
 
-pub opened-requires-clause-vars : goal.opened-requires-clause-vars
-opened-requires-clause-vars c = subst (All IsText) (sym c.as_slice-2.ensures) c.requires.vars
+pub new_entry-requires-clause-vars : goal.new_entry-requires-clause-vars
+new_entry-requires-clause-vars c = subst (All IsText) (sym c.as_slice-2.ensures) c.requires.vars
 
 pub returns-then-len-gt-MOST_VARS-clause-refused : goal.returns-then-len-gt-MOST_VARS-clause-refused
 returns-then-len-gt-MOST_VARS-clause-refused c = λ memory.
