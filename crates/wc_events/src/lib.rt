@@ -8,6 +8,7 @@ mod events;
 mod flags;
 mod line_objects;
 mod nick_objects;
+pub mod parts;
 mod values;
 
 pub use buffers::buffer_dump;

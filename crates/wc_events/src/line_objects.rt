@@ -16,20 +16,22 @@ pub const LINE_ADDED: &[u8] = b"_buffer_line_added";
 pub(crate) const LINE_KEYS: &[u8] =
     b"buffer:ptr,date:tim,date_printed:tim,displayed:chr,notify_level:chr,highlight:chr,tags_array:arr,prefix:str,message:str";
 
-pub(crate) fn truth(on: bool) -> i8
+/// 1 where it is so, and else 0.
+pub fn truth(on: bool) -> i8
     ensures { result ≡ truth on }
 {
     if on { 1 } else { 0 }
 }
 
 /// A date in seconds. One that is greater than the protocol can say counts as the greatest.
-pub(crate) fn moment(date: u64) -> i64
+pub fn moment(date: u64) -> i64
     ensures { result ≡ moment date }
 {
     i64::try_from(date).unwrap_or(i64::MAX)
 }
 
-fn texts(alloc: Global, tags: &Items<Text>) -> Result<Items<Object>, NoMemory>
+/// Texts as the values of an array.
+pub fn texts(alloc: Global, tags: &Items<Text>) -> Result<Items<Object>, NoMemory>
     ensures { IfOk result (λ values. values ≡ texts tags.now) }
 {
     let mut values = Items::new(alloc);

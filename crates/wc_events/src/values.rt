@@ -15,13 +15,14 @@ pub(crate) fn truth(on: bool) -> i32
 }
 
 /// A number. One that is greater than the protocol can say counts as the greatest.
-pub(crate) fn count(number: u64) -> i32
+pub fn count(number: u64) -> i32
     ensures { result ≡ count number }
 {
     i32::try_from(number).unwrap_or(i32::MAX)
 }
 
-pub(crate) fn text(alloc: Global, value: &Text) -> Result<Object, NoMemory>
+/// A text as an object.
+pub fn text(alloc: Global, value: &Text) -> Result<Object, NoMemory>
     ensures { IfOk result (λ object. object ≡ text value.now) }
 {
     let copy = value.copy(alloc)?;
@@ -41,7 +42,7 @@ fn pairs(alloc: Global, vars: &Vars) -> Result<Items<(Object, Object)>, NoMemory
 }
 
 /// The variables of a buffer, in order.
-pub(crate) fn table(alloc: Global, vars: &Vars) -> Result<Object, NoMemory>
+pub fn table(alloc: Global, vars: &Vars) -> Result<Object, NoMemory>
     ensures { IfOk result (λ object. object ≡ table vars.now) }
 {
     let pairs = pairs(alloc, vars)?;

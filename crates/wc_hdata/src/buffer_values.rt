@@ -9,9 +9,9 @@ ghost use Rattle.wc_events.specs.BufferObjects.{count};
 ghost use Rattle.wc_world.specs.Near.{numbers};
 
 use crate::key::Key;
-use crate::values::{count, table, text, truth};
 use std::alloc::Global;
 use wc_buffers::{BufferRow, Buffers, Vars};
+use wc_events::parts::{count, table, text, truth};
 use wc_objects::Object;
 use wc_text::{Handle, NoMemory};
 

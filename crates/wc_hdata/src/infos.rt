@@ -9,9 +9,9 @@ ghost use Rattle.wc_hdata.specs.Steps.{all_buffers};
 
 use crate::buffer_values::{number, row_and_vars};
 use crate::reach::all_buffers;
-use crate::values::{text, truth};
 use std::alloc::Global;
 use wc_buffers::{BufferRow, Buffers};
+use wc_events::parts::{text, truth};
 use wc_objects::{InlVar, Object};
 use wc_text::{Handle, Items, NoMemory, Text};
 use wc_world::World;

@@ -20,9 +20,7 @@ mod path;
 mod pointer;
 mod reach;
 mod refused;
-mod size;
 mod starts;
-mod values;
 mod variable;
 
 pub use answer::walk;

@@ -8,8 +8,8 @@ ghost use Rattle.wc_hdata.specs.Values.{first_of, last_of, line_number, of_data,
 use crate::key::Key;
 use crate::lists::lines_in;
 use crate::nodes::{HeldLine, LineList};
-use crate::values::{count, moment, text, texts, truth};
 use std::alloc::Global;
+use wc_events::parts::{count, moment, text, texts, truth};
 use wc_lines::Line;
 use wc_objects::{Kind, Object};
 use wc_text::NoMemory;

@@ -122,7 +122,8 @@ fn room_after_pointers(room: usize, pointers: &[u64]) -> Option<usize>
     Some(left)
 }
 
-fn room_after_item_values(room: usize, values: &[Object]) -> Option<usize>
+/// What is left after the values of an item of an `hda`.
+pub fn room_after_item_values(room: usize, values: &[Object]) -> Option<usize>
     ensures { FitsIn result room (flat_map value_bytes values.now) }
 {
     let mut left = room;

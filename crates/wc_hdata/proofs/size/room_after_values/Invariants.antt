@@ -1,7 +1,0 @@
-use Rattle.std.proofs.Common.{◌≡◌, ◌+◌, length, take}
-use Rattle.std.specs.List.{flat_map}
-use Rattle.wc_objects.specs.Spelling.{simple_bytes}
-use Rattle.wc_hdata.proofs.size.room_after_values.Given as goal
-
-abbrev pub invariant-loop-value : goal.invariant-loop-value
-invariant-loop-value l = l.left + length (flat_map simple_bytes (take l.value-index l.values)) ≡ l.room
