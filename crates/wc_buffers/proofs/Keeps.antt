@@ -54,7 +54,7 @@ kept_moved gs gs2 es ns same kept = record {
 
 -- ---- maps that differ under one handle
 
--- where a handle does not are, what is stored under it does not matter
+-- where a handle is not there, what is stored under it does not matter
 shown_other-in : {S : Type 0} → (h : ℕ) (g : List Handle) (es es2 : Entries S) → in_group key h g ≡ false → ((q : ℕ) → eqb h q ≡ false → at_handle es2 q ≡ at_handle es q) → map (entry_at es2) g ≡ map (entry_at es) g
 shown_other-in h [] es es2 e same = refl
 shown_other-in h (x ∷ xs) es es2 e same =

@@ -26,7 +26,7 @@ handle_of e = e.row.handle.0
 abbrev pub is_there : Handle → EntryGroups → Bool
 is_there h gs = has handle_of h.0 gs
 
--- what is of a buffer
+-- what there is of a buffer
 abbrev pub entry_of : Handle → EntryGroups → Option BufferEntry
 entry_of h gs = row_of handle_of h.0 gs
 

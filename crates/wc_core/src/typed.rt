@@ -177,7 +177,7 @@ fn print_on<'a>(tags: &'a [u8], text: &'a [u8]) -> CommandText<'a>
     print_words(Some(buffer), tags, text)
 }
 
-/// What is to be printed: a text, which words for its buffer and for its tags may are before, in
+/// What is to be printed: a text, which words for its buffer and for its tags may be before, in
 /// either order.
 pub(crate) fn print_command(text: &[u8]) -> CommandText<'_>
     ensures { meaning result ≡ print_command text.now }

@@ -11,7 +11,7 @@ use Rattle.wc_headless.specs.declared.rows.Row.{Row}
 abbrev pub number_of : Row → ℕ
 number_of row = row.link.0
 
--- what is where no row is
+-- what is there where no row is
 abbrev pub no_row : Row
 no_row = record { link = record { 0 = 0 }; undrained = false; blocked = false }
 

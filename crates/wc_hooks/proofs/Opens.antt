@@ -52,7 +52,7 @@ all_less : (p q : Slot → Bool) → ((s : Slot) → p s ≡ true → q s ≡ tr
 all_less p q more [] h = refl
 all_less p q more (x ∷ xs) h = let parts = and_parts (p x) (list_all p xs) h in and_from _ _ (more x parts.0) (all_less p q more xs parts.1)
 
--- of those that do not are before the kind and key, its slots come first
+-- of those that are not before the kind and key, its slots come first
 here_partition : (kind : HookKind) (key : List ℕ) (xs : List Slot) → falls_by slot_rank xs ≡ true → list_all (λ s. not (is_first kind key s)) xs ≡ true → IsPartitionedBy (is_slot_for kind key) xs
 here_partition kind key [] h low i j d le lt t = absurd (omega arith)
 here_partition kind key (x ∷ xs) h low zero zero d le lt t = t

@@ -129,7 +129,7 @@ neither Greater a b = absurd (false≢true (sym b))
 pub before_is_none : (kind : HookKind) (key : List ℕ) (r : Rank) → is_lt (topics r (topic_rank kind key)) ≡ true → is_topic kind key r ≡ false
 before_is_none kind key r l = false_from_ne_true _ (λ h. false≢true (sym (ap is_lt (topic_equal kind key r h)) ∙ l))
 
--- one that does not are before them, and is no higher than one of them, is one of them
+-- one that is not before them, and is no higher than one of them, is one of them
 pub between_is_one : (kind : HookKind) (key : List ℕ) (x y : Rank) → is_lt (topics x (topic_rank kind key)) ≡ false → precedes y x ≡ false → is_topic kind key y ≡ true → is_topic kind key x ≡ true
 between_is_one kind key x y low fall h =
     let up : is_gt (topics x y) ≡ false = topics_fall x y fall in

@@ -24,7 +24,7 @@ pub enum LineRefused {
     /// The line is empty, or has blanks alone.
     #[error("empty line")]
     Empty,
-    /// No command of letters or three digits is at this place, where one has to are. Places are
+    /// No command of letters or three digits is at this place, where one has to be. Places are
     /// counted in bytes from 0, in the line after it was made UTF-8.
     #[error("no command at byte {place}")]
     BadCommand { place: usize },

@@ -47,7 +47,7 @@ fn message(alloc: Global, prefix: &[u8], command: &[u8], rest: &[u8]) -> Result<
     })
 }
 
-/// Why a text without a command is refused, of which this is what is where the command has to.
+/// Why a text without a command is refused, of which this is where the command has to be.
 #[tactic(auto, using(crate::proofs::ReadLemmas::refusals))]
 fn refusal(text: &[u8], call: &[u8]) -> LineRefused
     requires { call.now ≡ call_of text.now }
@@ -78,7 +78,7 @@ fn read_text(alloc: Global, text: &[u8]) -> Result<Message, LineRefused>
 /// The message that a line spells in the grammar of RFC 1459 and RFC 2812. The line comes without
 /// its CR LF, and its bytes are made UTF-8 by `lossy` first.
 ///
-/// Blanks may are in front, and where one has to are there may be more. A first word that begins
+/// Blanks may be in front, and where one has to be there may be more. A first word that begins
 /// with `@`, the tags, is passed over. Of a prefix the nick goes up to the first `!` or `@`, the
 /// user up to the first `@`. A parameter after a `:` takes the rest of the line, and so does the
 /// fifteenth without one.

@@ -40,7 +40,7 @@ with_parts settings (Some parts) = with_value settings parts.0 parts.1
 abbrev pub with_line : Settings → List ℕ → Option Settings
 with_line settings line = if is_utf8 line then with_parts settings (parted line) else None
 
--- the version may are in the first line
+-- the version may be in the first line
 abbrev pub is_version_line : ℕ → List ℕ → Bool
 is_version_line number line = number == 1 && bytes_eq line version_line
 

@@ -85,7 +85,7 @@ fn with_line<'a>(given: Given<'a>, line: &'a [u8]) -> Option<Given<'a>>
     }
 }
 
-/// Whether a line tells the version, which may are in the first line.
+/// Whether a line tells the version, which may be in the first line.
 fn is_version_line(number: u64, line: &[u8]) -> bool
     ensures { result ≡ is_version_line number line.now }
 {

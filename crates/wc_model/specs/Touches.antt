@@ -24,7 +24,7 @@ touched_key (ChangeGroup item) = Some (key_at true item.name)
 touched_key (ChangeNick item) = Some (key_at false item.name)
 touched_key _ = None
 
--- the rows that was at the first touches, once a key is touched as well
+-- the rows that were at the first touches, once a key is touched as well
 abbrev pub touched_at : World → Handle → Option Key → (Handle → Key → Option (Option Row)) → Handle
     → Key → Option (Option Row)
 touched_at world buffer None first b k = first b k

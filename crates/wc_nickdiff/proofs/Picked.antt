@@ -266,7 +266,7 @@ module _ (ts : List FirstTouch) (now told : List Row) (once : EachOnce ts) (new 
       (keyed-filter _ now new.keyed)
       (λ k. find-picked changed_pair changing_picks now k ts once keys ∙ found_changed k)
 
-  -- the rows whose keys were not touched, and those that was at the touches
+  -- the rows whose keys were not touched, and those that were at the touches
   kept_rows : (k : Key) (o : Option FirstTouch) → touch_at k ts ≡ o → keep (is_untouched ts) (find_row k now) ≡ elim o [ None ↦ find_row k now | Some t ↦ None ]
   kept_rows k None e = by_row (find_row k now) _
       (λ n. rw n refl)

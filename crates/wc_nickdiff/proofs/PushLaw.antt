@@ -196,7 +196,7 @@ module _ (root : Item) (told now : List Row) (root_named : root.name ≡ root_na
   ins_ascending : Ascending (ins told now)
   ins_ascending = ascending-filter _ now new.ascending
 
-  -- a row of the outs: it was, it does not are now
+  -- a row of the outs: it was, it is not now
   out_parts : (q : Key) (r : Row) → find_row q (outs told now) ≡ Some r → (find_row q told ≡ Some r) × (stays_in now r ≡ false)
   out_parts q r e = let k = keep_some _ _ r (sym (find-filter (λ x. not (stays_in now x)) q told old.keyed) ∙ e) in (k.0, not-true _ k.1)
 

@@ -1,4 +1,4 @@
--- A list of rows that was sorted is the list in order that has the same rows.
+-- A list of rows that were sorted is the list in order that has the same rows.
 use Rattle.std.proofs.Common.{◌≡◌, ℕ, zero, suc, ◌+◌, ◌<◌, ◌≤◌, true, false, cond, Option, Some, None, List, [], ◌∷◌, length, get_or, refl, sym, ap, ◌∙◌, subst, arith}
 use Rattle.std.specs.List.{Contains, sum_by}
 use Rattle.std.specs.Cmp.{IsStrictWeakOrder}

@@ -14,9 +14,9 @@ use wc_nicklist::{Item, Key, NickRefused, Nicklist};
 use wc_text::{Items, NoMemory, Text};
 
 /// What a diff makes of a nicklist, which stays as it is. `BadItem` with the place of the first
-/// item that can't be applied, which is one that removes or changes what does not are under the
+/// item that can't be applied, which is one that removes or changes what is not under the
 /// group that was named last, adds what is, has a name that no row may have, removes a group that
-/// has something below it, names a group that does not are, or is before any that names one.
+/// has something below it, names a group that is not there, or is before any that names one.
 pub fn item_applied(
     alloc: Global,
     list: &Nicklist,

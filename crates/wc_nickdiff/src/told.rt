@@ -10,7 +10,7 @@ use std::alloc::Global;
 use wc_nicklist::{Nicklist, Row};
 use wc_text::{Items, NoMemory};
 
-/// The rows that were told: those that was at the first touches, and those now whose keys were not
+/// The rows that were told: those that were at the first touches, and those now whose keys were not
 /// touched.
 pub(crate) fn told_rows(
     alloc: Global,

@@ -61,7 +61,7 @@ row_here s [] n d l = absurd (omega arith)
 row_here s (x ∷ xs) zero d l = refl
 row_here s (x ∷ xs) (suc n) d l = row_here s xs n d (omega arith)
 
--- a search ends at a row that does not are before the address, or after the last
+-- a search ends at a row that is not before the address, or after the last
 pub first_not : (s : Store) (es : List Entry) (n : ℕ) (d : Entry) (a : List Key) → n < length es → is_before (entry_row s (get_or es n d)) a ≡ false → FirstNotBefore (drop n (map (entry_row s) es)) a
 first_not s [] n d a l h = absurd (omega arith)
 first_not s (x ∷ xs) zero d a l h = h

@@ -102,7 +102,7 @@ pub before_chain : (a b c : Row) → before a b ≡ true → before b c ≡ true
 unfolding before address_cmp
 before_chain a b c x y = ap is_lt (address_total.trans (address a) (address b) (address c) (is_less _ x) (is_less _ y))
 
--- `before` is to are before the other's address
+-- `before` is to be before the other's address
 pub before_is : (a b : Row) → before a b ≡ is_before a (address b)
 unfolding before
 before_is a b = refl

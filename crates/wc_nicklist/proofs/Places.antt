@@ -53,7 +53,7 @@ first_is (y ∷ ys) at k r h f e n i = by_bool (key_eq (key y) k) _
     (λ t. let j : Some y ≡ Some r = rw t at e in let same : y ≡ r = cc in (ys, (λ z. same z ∷ ys)))
     (λ t. absurd (true≢false (sym (sym (before_is y r) ∙ after_found y k ys r h.0 (rw t at e)) ∙ ap (is_before y) i ∙ f)))
 
--- a row that is found does not are before itself, so it is the first of those that come after the place
+-- a row that is found is not before itself, so it is the first of those that come after the place
 pub found_place : (a b : List Row) (at : List Key) (k : Key) (r : Row) → Ascending (a ++ b) → AllBefore a at → FirstNotBefore b at → find_row k (a ++ b) ≡ Some r → address r ≡ at → (rest : List Row) × (b ≡ r ∷ rest)
 unfolding or_row
 found_place a b at k r h l f e i =

@@ -73,7 +73,7 @@ abbrev pub AllBefore : List Row → List Key → Type 0
 AllBefore [] a = Unit {0}
 AllBefore (x ∷ xs) a = (is_before x a ≡ true) × AllBefore xs a
 
--- the first of these rows, if there is one, does not are before the address
+-- the first of these rows, if there is one, is not before the address
 abbrev pub FirstNotBefore : List Row → List Key → Type 0
 FirstNotBefore [] a = Unit {0}
 FirstNotBefore (x ∷ xs) a = is_before x a ≡ false

@@ -1,4 +1,4 @@
--- What a touch adds to the rows that was at the first touches.
+-- What a touch adds to the rows that were at the first touches.
 use Rattle.std.specs.Prelude.{◌==◌, ◌&&◌, Option, Some, None, if◌then◌else◌}
 use Rattle.wc_text.specs.declared.names.Handle.{Handle}
 use Rattle.wc_nicklist.specs.declared.item.Key.{Key}

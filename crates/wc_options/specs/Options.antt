@@ -22,7 +22,7 @@ pub record OptionsValue : Type 0 where
   pub set : List (Option (List ℕ))
   pub servers : List ServerOptions
 
--- ---- what is where none is set
+-- ---- what is there where none is set
 
 -- the option whose value a server's option takes where it has none of its own
 abbrev pub stands_for : OptionRow → Option ℕ

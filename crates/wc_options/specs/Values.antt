@@ -33,6 +33,6 @@ is_of_kind Word value = is_word value
 is_of_kind Switch value = is_switch value
 is_of_kind Endpoint value = length value == 0 || is_some (address_of value)
 
--- whether a value may are at an option of a kind
+-- whether a value may be at an option of a kind
 unfoldable pub value_fits : Kind → List ℕ → Bool
 value_fits kind value = is_storable value && is_of_kind kind value

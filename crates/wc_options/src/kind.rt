@@ -27,7 +27,7 @@ pub const LONGEST_VALUE: usize = 1024;
 impl Kind {
     ghost use Rattle.wc_options.specs.Values.{value_fits};
 
-    /// Whether a value may are at an option of this kind.
+    /// Whether a value may be at an option of this kind.
     #[tactic(auto, unfolding(crate::specs::Values::value_fits))]
     pub fn fits(self, value: &[u8]) -> bool
         ensures { result ≡ value_fits self value.now }

@@ -45,7 +45,7 @@ impl Listing {
         })
     }
 
-    /// Puts a row after the others. False where it can't are there.
+    /// Puts a row after the others. False where it can't be there.
     fn push(&mut self, alloc: Global, item: Item) -> Result<bool, NoMemory>
         requires utf8 { TextsAreUtf8 item }
         requires listing { IsListing self.old }

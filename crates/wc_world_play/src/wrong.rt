@@ -4,7 +4,7 @@ use wc_text::NoMemory;
 /// Why a line of a script is not played.
 #[derive(Clone, Copy)]
 pub enum Wrong {
-    /// A word is none of those that may are there, or one is missing.
+    /// A word is none of those that may be there, or one is missing.
     NoWord,
     /// A word is not the number that is there.
     NoNumber,

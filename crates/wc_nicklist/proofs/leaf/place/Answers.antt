@@ -19,7 +19,7 @@ loop-at-preserved c =
       left = left_grows rows _ c.loop-at.at _ c.requires.order l (row_here s c.args.entries.now c.loop-at.at _ h) (sym c.comes_before.ensures ∙ c.if-comes_before.true);
     }
 
--- the last branch: some row does not are before the address, or there is no other
+-- the last branch: some row is not before the address, or there is no other
 pub returns-else-comes_before : goal.returns-else-comes_before
 returns-else-comes_before c =
     let s = c.args.store.now in
