@@ -5,7 +5,8 @@ ghost use Rattle.wc_buffers.specs.Calls.{is_there, buffer_of, entry_of, new_entr
 ghost use Rattle.wc_buffers.specs.Calls.{without_buffer, move_group_to, merge_groups};
 ghost use Rattle.wc_buffers.specs.Calls.{unmerge_group, with_entry, with_hidden, with_full_name};
 ghost use Rattle.wc_buffers.specs.Calls.{with_short_name, with_title, with_var, without_var};
-ghost use Rattle.wc_buffers.specs.Calls.{lacks_var, no_buffer, add_refusal, close_refusal};
+ghost use Rattle.wc_buffers.specs.Calls.{lacks_var, no_buffer, close_refusal};
+ghost use Rattle.wc_buffers.specs.Calls.{add_refusal, add_refusal_so_far};
 ghost use Rattle.wc_buffers.specs.Calls.{move_refusal, merge_refusal, unmerge_refusal};
 ghost use Rattle.wc_buffers.specs.Calls.{rename_refusal, short_name_refusal, set_var_refusal};
 ghost use Rattle.wc_buffers.specs.Calls.{remove_var_refusal};
@@ -68,7 +69,23 @@ impl Buffers {
         if let Some(refused) = self.add_refusal(alloc, &row, vars.as_slice()) {
             return Err(refused);
         }
-        let entry = new_entry(alloc, row, vars.as_slice())?;
+        self.put_new(alloc, row, vars.as_slice())
+    }
+
+    /// Puts a new buffer in, where it does not have too many variables.
+    fn put_new(&mut self, alloc: Global, row: BufferRow, vars: &[Pair]) -> Result<(), BufferRefused>
+        requires handle { 0 < row.handle.0 }
+        requires absent { is_there row.handle self.old ≡ false }
+        requires text { HasUtf8Row row }
+        requires vars { All IsText vars.now }
+        requires so_far { add_refusal_so_far row vars.now self.old ≡ None }
+        ensures accepted { OnOk result (add_refusal row vars.now self.old ≡ None) }
+        ensures after { OnOk result (self.new ≡ with_buffer row vars.now self.old) }
+        ensures refused { IfErr result (λ e. e ≢ BufferRefused.NoMemory →
+            add_refusal row vars.now self.old ≡ Some e) }
+        ensures err { OnErr result (self.new ≡ self.old) }
+    {
+        let entry = new_entry(alloc, row, vars)?;
         if entry.vars.len() > MOST_VARS {
             return Err(BufferRefused::TooMany {
                 limit: MOST_VARS as u32,

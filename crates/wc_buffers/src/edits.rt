@@ -1,5 +1,6 @@
 ghost use Rattle.std.specs.Prelude.{◌≡◌, ◌==◌, ◌<◌, ◌≤◌, ◌-◌, ◌&&◌, ◌++◌, ◌∷◌};
-ghost use Rattle.std.specs.Prelude.{[], OnOk, OnErr, IfOk, Some, true, false, length};
+ghost use Rattle.std.specs.Prelude.{[], OnOk, OnErr, IfOk, Some, true, false, length, List, ℕ};
+ghost use Rattle.std.specs.HashMap.{spare};
 ghost use Rattle.std.specs.List.{list_any};
 ghost use Rattle.std.specs.Str.{IsUtf8};
 ghost use Rattle.wc_buffers.specs.Calls.{is_there, buffer_of, entry_of, without_buffer};
@@ -8,13 +9,34 @@ ghost use Rattle.wc_buffers.specs.Calls.{with_hidden, with_full_name, with_short
 ghost use Rattle.wc_buffers.specs.Calls.{with_var, without_var, lacks_var, other_named};
 ghost use Rattle.wc_buffers.specs.Calls.{are_together, is_alone, is_bad_name, is_fixed, is_full};
 ghost use Rattle.wc_buffers.specs.Groups.{rows};
-ghost use Rattle.wc_buffers.specs.Kept.{IsBuffer};
+ghost use Rattle.wc_buffers.specs.Kept.{IsBuffer, at_handle, at_name};
 
 use crate::buffers::Buffers;
+use crate::entries::Entries;
+use crate::names::Names;
 use crate::row::{BufferEntry, BufferRow};
 use crate::{entries, names};
 use std::alloc::Global;
 use wc_text::{Handle, NoMemory, Text};
+
+/// Takes the memory for one buffer more and for its name.
+fn reserve(
+    names: &mut Names,
+    entries: &mut Entries,
+    alloc: Global,
+    full_name: &[u8],
+) -> Result<Vec<u8>, NoMemory>
+    ensures names { (q : List ℕ) → at_name names.new q ≡ at_name names.old q }
+    ensures entries { (q : ℕ) → at_handle entries.new q ≡ at_handle entries.old q }
+    ensures name { IfOk result (λ name. name.items ≡ full_name.now) }
+    ensures name_room { OnOk result (0 < spare names.new) }
+    ensures entry_room { OnOk result (0 < spare entries.new) }
+{
+    let name = names::key_of(alloc, full_name)?;
+    names::reserve(names)?;
+    entries::reserve(entries)?;
+    Ok(name)
+}
 
 impl Buffers {
     /// Puts a buffer in as a group of its own at the end.
@@ -29,9 +51,8 @@ impl Buffers {
         ensures err { OnErr result (self.new ≡ self.old) }
     {
         let h = entry.row.handle;
-        let name = names::key_of(alloc, entry.row.full_name.as_slice())?;
-        names::reserve(&mut self.names)?;
-        entries::reserve(&mut self.entries)?;
+        let full_name = entry.row.full_name.as_slice();
+        let name = reserve(&mut self.names, &mut self.entries, alloc, full_name)?;
         names::insert(&mut self.names, name, h);
         entries::insert(&mut self.entries, entry);
         self.table.add(h);

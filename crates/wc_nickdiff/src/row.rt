@@ -1,12 +1,13 @@
 ghost use Rattle.std.specs.List.Sorted.{IsPermutation, IsSortedBy};
 ghost use Rattle.std.specs.Prelude.{◌≡◌, IfOk, ◌++◌, ◌∷◌, [], OnOk, OnErr};
 ghost use Rattle.wc_nickdiff.specs.NickPush.{root_item};
+ghost use Rattle.wc_nicklist.specs.Calls.{add_row};
 ghost use Rattle.wc_nicklist.specs.Order.{key_of, before};
-ghost use Rattle.wc_nicklist.specs.Rows.{parent_of};
+ghost use Rattle.wc_nicklist.specs.Rows.{parent_of, TextsAreUtf8};
 
 use crate::by_kind::add;
 use std::alloc::Global;
-use wc_nicklist::{Item, Key, Nicklist, Row, row_cmp};
+use wc_nicklist::{Item, Key, Nicklist, Row, RowView, row_cmp};
 use wc_text::{Handle, NoMemory, Text};
 
 /// The name of the root group, which is in no row.
@@ -54,15 +55,45 @@ pub(crate) fn copy_of(alloc: Global, list: &Nicklist) -> Result<Nicklist, NoMemo
     ensures rows { IfOk result (λ copy. copy.rows ≡ list.now.rows) }
 {
     let mut copy = Nicklist::new(alloc, list.root())?;
-    for row in list.rows() {
-        let parent = Text::from_slice(alloc, row.parent())?;
-        let item = row.item().copy(alloc)?;
-        match add(alloc, &mut copy, &parent, item) {
-            Ok(()) => {}
-            Err(_) => return Err(NoMemory),
-        }
-    }
+    add_rows(alloc, &mut copy, list)?;
     Ok(copy)
+}
+
+/// Adds the rows of a nicklist to one that has none.
+fn add_rows(alloc: Global, copy: &mut Nicklist, list: &Nicklist) -> Result<(), NoMemory>
+    requires { copy.old.rows ≡ [] }
+    ensures root { OnOk result (copy.new.root ≡ copy.old.root) }
+    ensures rows { OnOk result (copy.new.rows ≡ list.now.rows) }
+{
+    for row in list.rows() {
+        add_row(alloc, copy, &row)?;
+    }
+    Ok(())
+}
+
+/// Adds a row below the parent that it names.
+fn add_row(alloc: Global, list: &mut Nicklist, row: &RowView<'_>) -> Result<(), NoMemory>
+    requires { TextsAreUtf8 row.now.item }
+    ensures root { OnOk result (list.new.root ≡ list.old.root) }
+    ensures after { OnOk result (list.new.rows
+        ≡ add_row row.now.item.is_group (parent_of row.now) row.now.item list.old.rows) }
+{
+    let parent = Text::from_slice(alloc, row.parent())?;
+    add_copy(alloc, list, &parent, row.item())
+}
+
+/// Adds a copy of an item below a parent.
+fn add_copy(alloc: Global, list: &mut Nicklist, parent: &Text, item: &Item) -> Result<(), NoMemory>
+    requires { TextsAreUtf8 item.now }
+    ensures root { OnOk result (list.new.root ≡ list.old.root) }
+    ensures after { OnOk result
+        (list.new.rows ≡ add_row item.now.is_group parent.now item.now list.old.rows) }
+{
+    let item = item.copy(alloc)?;
+    match add(alloc, list, parent, item) {
+        Ok(()) => Ok(()),
+        Err(_) => Err(NoMemory),
+    }
 }
 
 /// Puts rows in canonical order.
