@@ -22,7 +22,7 @@ use crate::told::told_by;
 use std::alloc::Global;
 use wc_events::event_id;
 use wc_model::EventKind;
-use wc_nickdiff::{DiffItem, DiffRefused, applied};
+use wc_nickdiff::{DiffItem, DiffRefused, item_applied};
 use wc_nicklist::Nicklist;
 use wc_objects::WireMessage;
 use wc_text::{Handle, Items, NoMemory, Text};
@@ -174,7 +174,7 @@ fn diff_step(
         return Ok(NickStep::Nothing);
     };
     let items = diff_of(alloc, changes)?;
-    let list = applied(alloc, list, &items)?;
+    let list = item_applied(alloc, list, &items)?;
     Ok(NickStep::Becomes(BufferNicks::new(buffer, list)))
 }
 

@@ -10,7 +10,7 @@ use crate::show_nicks::show_nicks;
 use crate::words::text;
 use crate::wrong::Wrong;
 use std::alloc::{AllocError, Global};
-use wc_nickdiff::{DiffItem, DiffRefused, Mark, Push, applied, apply};
+use wc_nickdiff::{DiffItem, DiffRefused, Mark, Push, apply, item_applied};
 use wc_nicklist::{Item, Nicklist};
 use wc_text::{Handle, Items, Text};
 
@@ -105,7 +105,7 @@ fn diff_items(alloc: Global, words: &[&str]) -> Result<Items<DiffItem>, Wrong>
 /// A copy of a nicklist.
 fn copy_of(alloc: Global, list: &Nicklist) -> Result<Nicklist, Wrong> {
     let none = diff_items(alloc, &[])?;
-    match applied(alloc, list, &none) {
+    match item_applied(alloc, list, &none) {
         Ok(copy) => Ok(copy),
         Err(_) => Err(Wrong::NoMemory),
     }
