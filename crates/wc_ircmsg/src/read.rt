@@ -18,7 +18,12 @@ use wc_text::{NoMemory, Text, cut_word, lossy, past_blanks};
 
 /// The prefix at the front of a text, without its `:`, and from the command on. Tags are passed
 /// over.
-#[tactic(auto, unfolding(crate::specs::Answers::source_of, crate::specs::Answers::call_of, crate::specs::Answers::untagged_of))]
+#[rattlefmt::skip]
+#[tactic(auto, unfolding(
+    crate::specs::Answers::source_of,
+    crate::specs::Answers::call_of,
+    crate::specs::Answers::untagged_of
+))]
 fn cut_front(text: &[u8]) -> (&[u8], &[u8])
     ensures source { result.0.now ≡ source_of text.now }
     ensures call { result.1.now ≡ call_of text.now }

@@ -205,7 +205,12 @@ fn lists_are(lists: &[Items<InlVar>]) -> bool
     lists.iter().all(|list| variables_are(list.as_slice()))
 }
 
-#[tactic(auto, unfolding(crate::specs::Forms::object_is, crate::specs::Forms::value_is, crate::specs::Forms::simple_is))]
+#[rattlefmt::skip]
+#[tactic(auto, unfolding(
+    crate::specs::Forms::object_is,
+    crate::specs::Forms::value_is,
+    crate::specs::Forms::simple_is
+))]
 fn object_is(object: &Object) -> bool
     ensures { result ≡ spec.object_is object.now }
 {

@@ -92,7 +92,12 @@ fn room_after_values(room: usize, values: &[Object]) -> Option<usize>
     Some(left)
 }
 
-#[tactic(auto, unfolding(crate::specs::Spelling::value_bytes, crate::specs::Spelling::simple_bytes, crate::specs::Spelling::be32))]
+#[rattlefmt::skip]
+#[tactic(auto, unfolding(
+    crate::specs::Spelling::value_bytes,
+    crate::specs::Spelling::simple_bytes,
+    crate::specs::Spelling::be32
+))]
 fn room_after_value(room: usize, value: &Object) -> Option<usize>
     ensures { FitsIn result room (value_bytes value.now) }
 {
