@@ -11,6 +11,7 @@ mod name;
 mod nicklist;
 mod order;
 mod path;
+mod reasons;
 mod refused;
 mod room;
 mod row_tree;

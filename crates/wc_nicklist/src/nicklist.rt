@@ -1,19 +1,20 @@
-ghost use Rattle.std.specs.Prelude.{[], ◌≡◌, ◌≢◌, ◌≤◌, ◌<◌, Some, None, false, ◌&&◌, OnOk};
+ghost use Rattle.std.specs.Prelude.{[], ◌≡◌, ◌≢◌, ◌≤◌, ◌<◌, Some, None, false, OnOk};
 ghost use Rattle.std.specs.Prelude.{OnErr, IfOk, IfErr, IfSome, IsSome, length, unwrap_or};
-ghost use Rattle.std.specs.Prelude.{option_copied, is_some, IsOk, IsTrue, ◌↔◌, true, vec_capacity};
-ghost use Rattle.wc_nicklist.specs.Calls.{is_bad_name, name_refusal, add_refusal, remove_refusal};
+ghost use Rattle.std.specs.Prelude.{option_copied, IsOk, IsTrue, ◌↔◌, true, vec_capacity};
+ghost use Rattle.wc_nicklist.specs.Calls.{name_refusal, add_refusal, remove_refusal};
 ghost use Rattle.wc_nicklist.specs.Calls.{change_refusal, add_row, item_of, with_rows};
 ghost use Rattle.wc_nicklist.specs.Calls.{has_children, row_under};
 ghost use Rattle.wc_nicklist.specs.Order.{key_at};
-ghost use Rattle.wc_nicklist.specs.Rows.{find_row, remove_row, change_row, path_below, is_root};
-ghost use Rattle.wc_nicklist.specs.Rows.{has_child, below, TextsAreUtf8, IsRows, Nicks};
+ghost use Rattle.wc_nicklist.specs.Rows.{find_row, remove_row, change_row, path_below};
+ghost use Rattle.wc_nicklist.specs.Rows.{below, TextsAreUtf8, IsRows, Nicks};
 
 use crate::index::Index;
 use crate::item::{Item, Key, Row};
 use crate::iter::RowIter;
 use crate::leaf::is_below;
-use crate::name::{NAME_LIMIT, Name};
+use crate::name::NAME_LIMIT;
 use crate::path::Path;
+use crate::reasons::no_parent;
 use crate::refused::NickRefused;
 use crate::room::Room;
 use crate::row_tree::RowTree;
@@ -21,9 +22,6 @@ use crate::store::{Stored, into_item, slot, write_row};
 use std::alloc::Global;
 use std::marker::Model;
 use wc_text::{Handle, Items, NoMemory, Text};
-
-/// The name of the root, which is no group's.
-const ROOT_NAME: &[u8; 4] = b"root";
 
 /// The groups of a buffer with their nicks.
 ///
@@ -33,9 +31,9 @@ const ROOT_NAME: &[u8; 4] = b"root";
 #[derive(Drop)]
 pub struct Nicklist {
     root: Handle,
-    rows: RowTree,
-    index: Index,
-    room: Option<Room>,
+    pub(crate) rows: RowTree,
+    pub(crate) index: Index,
+    pub(crate) room: Option<Room>,
     /// The path of the row that came last. One that comes below the same group shares it.
     latest: Option<Path>,
 }
@@ -111,7 +109,7 @@ impl Nicklist {
         }
     }
 
-    fn stored(&self, is_group: bool, name: &[u8]) -> Option<&Stored>
+    pub(crate) fn stored(&self, is_group: bool, name: &[u8]) -> Option<&Stored>
         ensures row { option_copied result ≡ find_row (key_at is_group name.now) self.now.rows }
         ensures held { IsRows self.now.rows }
     {
@@ -184,50 +182,6 @@ impl Nicklist {
             }
             Err(NoMemory) => Err(NickRefused::NoMemory),
         }
-    }
-
-    /// Why a group or a nick of this name can't be added below a parent: what `add_group` and
-    /// `add_nick` answer. None where it can.
-    pub fn add_refusal(
-        &self,
-        alloc: Global,
-        is_group: bool,
-        parent: &Text,
-        name: &[u8],
-    ) -> Option<NickRefused>
-        ensures none { result ≡ None →
-            add_refusal is_group parent.now name.now self.now.rows ≡ None }
-        ensures some { IfSome result (λ e. e ≢ NickRefused.NoMemory →
-            add_refusal is_group parent.now name.now self.now.rows ≡ Some e) }
-        ensures room { self.now.room ≡ Some parent.now → result ≢ Some NickRefused.NoMemory }
-    {
-        if let Some(refused) = refusal_of_name(is_group, name) {
-            return Some(refused);
-        }
-        if !self.has_parent(parent.as_slice()) {
-            return Some(no_parent(alloc, parent));
-        }
-        if self.has(is_group, name) {
-            return Some(NickRefused::NameTaken {
-                name: Name::from_slice(name),
-            });
-        }
-        None
-    }
-
-    /// Whether a group of this name, or the root, is there.
-    fn has_parent(&self, name: &[u8]) -> bool
-        ensures exact { result ≡ is_some (path_below name.now self.now.rows) }
-        ensures room { self.now.room ≡ Some name.now → IsTrue result }
-    {
-        let _ = &self.room;
-        is_root(name) || self.has(true, name)
-    }
-
-    fn has(&self, is_group: bool, name: &[u8]) -> bool
-        ensures { result ≡ is_some (find_row (key_at is_group name.now) self.now.rows) }
-    {
-        self.index.find(is_group, name).is_some()
     }
 
     /// Takes the memory for one row more below a parent, so that adding one there does not answer
@@ -419,35 +373,6 @@ impl Nicklist {
         Ok(self.take(is_group, name))
     }
 
-    /// Why the group or the nick of this name can't be taken out: what `remove_group` and
-    /// `remove_nick` answer. None where it can.
-    pub fn remove_refusal(&self, is_group: bool, name: &[u8]) -> Option<NickRefused>
-        ensures { result ≡ remove_refusal is_group name.now self.now.rows }
-    {
-        if let Some(refused) = refusal_of_name(is_group, name) {
-            return Some(refused);
-        }
-        let Some(row) = self.stored(is_group, name) else {
-            return Some(NickRefused::NoSuch {
-                name: Name::from_slice(name),
-            });
-        };
-        if self.is_filled(is_group, row) {
-            return Some(NickRefused::NotEmpty {
-                name: Name::from_slice(name),
-            });
-        }
-        None
-    }
-
-    /// Whether it is a group, and a row is right below it.
-    fn is_filled(&self, is_group: bool, row: &Stored) -> bool
-        requires { find_row (key_at is_group row.now.item.name) self.now.rows ≡ Some row.now }
-        ensures { result ≡ (is_group && has_child (below row.now) self.now.rows) }
-    {
-        is_group && self.rows.has_child_of(row)
-    }
-
     /// Takes a row out that is there and has no children.
     fn take(&mut self, is_group: bool, name: &[u8]) -> Item
         requires stands { IsSome (find_row (key_at is_group name.now) self.old.rows) }
@@ -512,22 +437,6 @@ impl Nicklist {
         Ok(())
     }
 
-    /// Why the group or the nick of this name can't be changed: what `change_group` and
-    /// `change_nick` answer. None where it can.
-    pub fn change_refusal(&self, is_group: bool, name: &[u8]) -> Option<NickRefused>
-        ensures { result ≡ change_refusal is_group name.now self.now.rows }
-    {
-        if let Some(refused) = refusal_of_name(is_group, name) {
-            return Some(refused);
-        }
-        if !self.has(is_group, name) {
-            return Some(NickRefused::NoSuch {
-                name: Name::from_slice(name),
-            });
-        }
-        None
-    }
-
     /// Gives an item that is there other fields.
     fn write(&mut self, is_group: bool, item: Item)
         requires stands { IsSome (find_row (key_at is_group item.name) self.old.rows) }
@@ -540,49 +449,6 @@ impl Nicklist {
         };
         self.rows.change(id, item);
         self.room = None;
-    }
-}
-
-/// The first reason for which an item must not have this name.
-#[tactic(auto, unfolding(crate::specs::Calls::name_refusal))]
-fn refusal_of_name(is_group: bool, name: &[u8]) -> Option<NickRefused>
-    ensures { result ≡ name_refusal is_group name.now }
-{
-    if is_root_group(is_group, name) {
-        return Some(NickRefused::IsRoot);
-    }
-    if is_bad_name(name) {
-        return Some(NickRefused::BadName {
-            length: name.len() as u64,
-        });
-    }
-    None
-}
-
-fn is_root_group(is_group: bool, name: &[u8]) -> bool
-    ensures { result ≡ (is_group && is_root name.now) }
-{
-    is_group && is_root(name)
-}
-
-fn is_root(name: &[u8]) -> bool
-    ensures { result ≡ is_root name.now }
-{
-    name == ROOT_NAME.as_slice()
-}
-
-fn is_bad_name(name: &[u8]) -> bool
-    ensures { result ≡ is_bad_name name.now }
-{
-    name.is_empty() || name.len() > NAME_LIMIT
-}
-
-fn no_parent(alloc: Global, parent: &Text) -> NickRefused
-    ensures { result ≢ NickRefused.NoMemory → result ≡ NickRefused.NoParent parent.now }
-{
-    match parent.copy(alloc) {
-        Ok(name) => NickRefused::NoParent { name },
-        Err(NoMemory) => NickRefused::NoMemory,
     }
 }
 

@@ -105,32 +105,77 @@ fn options(alloc: Global, text: &[u8]) -> Result<Option<Items<Text>>, NoMemory>
     Ok(Some(pieces(alloc, word)?))
 }
 
+#[tactic(auto, unfolding(crate::specs::Answers::command_of))]
+fn handshake(alloc: Global, text: &[u8]) -> Result<Option<Command>, NoMemory>
+    ensures { IfOk result (λ command. command ≡ command_of Word.Handshake text.now) }
+{
+    Ok(Some(Command::Handshake(pairs(alloc, text)?)))
+}
+
+#[tactic(auto, unfolding(crate::specs::Answers::command_of))]
+fn info(alloc: Global, text: &[u8]) -> Result<Option<Command>, NoMemory>
+    ensures { IfOk result (λ command. command ≡ command_of Word.Info text.now) }
+{
+    Ok(leading_option(alloc, text)?.map(Command::Info))
+}
+
+#[tactic(auto, unfolding(crate::specs::Answers::command_of))]
+fn infolist(alloc: Global, text: &[u8]) -> Result<Option<Command>, NoMemory>
+    ensures { IfOk result (λ command. command ≡ command_of Word.Infolist text.now) }
+{
+    Ok(leading_option(alloc, text)?.map(Command::Infolist))
+}
+
+#[tactic(auto, unfolding(crate::specs::Answers::command_of))]
+fn nicklist(alloc: Global, text: &[u8]) -> Result<Option<Command>, NoMemory>
+    ensures { IfOk result (λ command. command ≡ command_of Word.Nicklist text.now) }
+{
+    Ok(Some(Command::Nicklist(leading_option(alloc, text)?)))
+}
+
+#[tactic(auto, unfolding(crate::specs::Answers::command_of))]
+fn sync(alloc: Global, text: &[u8]) -> Result<Option<Command>, NoMemory>
+    ensures { IfOk result (λ command. command ≡ command_of Word.Sync text.now) }
+{
+    let buffers = buffers(alloc, text)?;
+    let options = options(alloc, text)?;
+    Ok(Some(Command::Sync { buffers, options }))
+}
+
+#[tactic(auto, unfolding(crate::specs::Answers::command_of))]
+fn desync(alloc: Global, text: &[u8]) -> Result<Option<Command>, NoMemory>
+    ensures { IfOk result (λ command. command ≡ command_of Word.Desync text.now) }
+{
+    let buffers = buffers(alloc, text)?;
+    let options = options(alloc, text)?;
+    Ok(Some(Command::Desync { buffers, options }))
+}
+
+#[tactic(auto, unfolding(crate::specs::Answers::command_of))]
+fn ping(alloc: Global, text: &[u8]) -> Result<Option<Command>, NoMemory>
+    ensures { IfOk result (λ command. command ≡ command_of Word.Ping text.now) }
+{
+    Ok(Some(Command::Ping(Text::from_slice(alloc, text)?)))
+}
+
 /// What the arguments of a command ask. None where one that is needed is missing or is no number.
 #[tactic(auto, unfolding(crate::specs::Answers::command_of))]
 pub fn command(alloc: Global, word: Word, text: &[u8]) -> Result<Option<Command>, NoMemory>
     ensures { IfOk result (λ command. command ≡ command_of word text.now) }
 {
     match word {
-        Word::Handshake => Ok(Some(Command::Handshake(pairs(alloc, text)?))),
+        Word::Handshake => handshake(alloc, text),
         Word::Init => init(alloc, text),
         Word::Hdata => hdata(alloc, text),
-        Word::Info => Ok(leading_option(alloc, text)?.map(Command::Info)),
-        Word::Infolist => Ok(leading_option(alloc, text)?.map(Command::Infolist)),
-        Word::Nicklist => Ok(Some(Command::Nicklist(leading_option(alloc, text)?))),
+        Word::Info => info(alloc, text),
+        Word::Infolist => infolist(alloc, text),
+        Word::Nicklist => nicklist(alloc, text),
         Word::Input => input(alloc, text),
         Word::Completion => completion(alloc, text),
-        Word::Sync => {
-            let buffers = buffers(alloc, text)?;
-            let options = options(alloc, text)?;
-            Ok(Some(Command::Sync { buffers, options }))
-        }
-        Word::Desync => {
-            let buffers = buffers(alloc, text)?;
-            let options = options(alloc, text)?;
-            Ok(Some(Command::Desync { buffers, options }))
-        }
+        Word::Sync => sync(alloc, text),
+        Word::Desync => desync(alloc, text),
         Word::Test => Ok(Some(Command::Test)),
-        Word::Ping => Ok(Some(Command::Ping(Text::from_slice(alloc, text)?))),
+        Word::Ping => ping(alloc, text),
         Word::Quit => Ok(Some(Command::Quit)),
     }
 }

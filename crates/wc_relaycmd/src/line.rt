@@ -91,11 +91,17 @@ fn meant_command(
 fn request_by(alloc: Global, call: Call<'_>, escaped: bool) -> Result<Option<Request>, NoMemory>
     ensures { IfOk result (λ asked. asked ≡ asked_by escaped (call_named call.entry)) }
 {
-    let Some(command) = meant_command(alloc, call.word, call.arguments, escaped)? else {
-        return Ok(None);
-    };
-    let id = Text::from_slice(alloc, call.id)?;
-    Ok(Some(Request { id, command }))
+    match meant_command(alloc, call.word, call.arguments, escaped)? {
+        Some(command) => Ok(Some(request_under(alloc, call.id, command)?)),
+        None => Ok(None),
+    }
+}
+
+fn request_under(alloc: Global, id: &[u8], command: Command) -> Result<Request, NoMemory>
+    ensures { IfOk result (λ request. request ≡ record { id = id.now; command = command }) }
+{
+    let id = Text::from_slice(alloc, id)?;
+    Ok(Request { id, command })
 }
 
 fn is_text(line: &[u8]) -> bool
