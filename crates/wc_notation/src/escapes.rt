@@ -30,7 +30,8 @@ fn named_byte(letter: u8) -> Result<u8, Wrong> {
     }
 }
 
-/// The byte that an escape stands for, where it stands for one, and how many bytes it takes after its backslash.
+/// The byte that an escape stands for, where it stands for one, and how many bytes it takes after
+/// its backslash.
 fn escaped(rest: &[u8]) -> Result<(Option<u8>, usize), Wrong> {
     match rest {
         [b'.', ..] => Ok((None, 1)),
@@ -47,7 +48,8 @@ fn append(text: &mut Text, byte: Option<u8>) -> Result<(), Wrong> {
     }
 }
 
-/// Puts what is at the front of a text after another. How many bytes belong to it beside the first.
+/// Puts what is at the front of a text after another. How many bytes belong to it beside the
+/// first.
 fn put_front(found: &mut Text, first: u8, rest: &[u8]) -> Result<usize, Wrong> {
     if first != b'\\' {
         found.append(&[first])?;
@@ -58,8 +60,8 @@ fn put_front(found: &mut Text, first: u8, rest: &[u8]) -> Result<usize, Wrong> {
     Ok(taken)
 }
 
-/// The bytes that a text writes, in which `\n`, `\r`, `\0`, `\\`, `\s` for a blank and `\xHH` stand for one byte each,
-/// and `\.` for none: it shows where a text is empty, or ends in a blank.
+/// The bytes that a text writes, in which `\n`, `\r`, `\0`, `\\`, `\s` for a blank and `\xHH`
+/// stand for one byte each, and `\.` for none: it shows where a text is empty, or ends in a blank.
 pub fn unescape(alloc: Global, text: &str) -> Result<Text, Wrong> {
     let bytes = text.as_bytes();
     let mut found = Text::new(alloc);
@@ -86,8 +88,8 @@ fn put_byte(out: &mut String, byte: u8) -> Result<(), AllocError> {
     }
 }
 
-/// Writes bytes so that they can be read: those that print as they are, unless they are among the marks, and the
-/// others as escapes.
+/// Writes bytes so that they can be read: those that print as they are, unless they are among the
+/// marks, and the others as escapes.
 pub fn escape(out: &mut String, bytes: &[u8], marks: &[u8]) -> Result<(), AllocError> {
     for byte in bytes {
         if !marks.contains(byte) {

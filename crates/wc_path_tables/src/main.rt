@@ -1,7 +1,8 @@
 //! Plays tables of data paths and keys, and prints each line and its answer.
 //!
-//! Each word of the command line is the name of a file. Each line of it is a call: its word and its texts. Lines that
-//! are empty or begin with `#` are passed over. Nothing is claimed here: what is printed is compared.
+//! Each word of the command line is the name of a file. Each line of it is a call: its word and
+//! its texts. Lines that are empty or begin with `#` are passed over. Nothing is claimed here:
+//! what is printed is compared.
 #![tactic(auto)]
 
 mod paths;
