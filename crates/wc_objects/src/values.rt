@@ -27,14 +27,30 @@ impl Reader<'_> {
             Kind::Chr => Ok(Object::Chr(self.byte()?)),
             Kind::Int => Ok(Object::Int(self.int()?)),
             Kind::Lon => Ok(Object::Lon(self.decimal()?)),
-            Kind::Str => Ok(Object::Str(self.text(alloc, Rule::Plain)?)),
-            Kind::Buf => Ok(Object::Buf(self.text(alloc, Rule::Plain)?)),
+            Kind::Str => self.str_value(alloc),
+            Kind::Buf => self.buf_value(alloc),
             Kind::Ptr => Ok(Object::Ptr(self.pointer()?)),
             Kind::Tim => Ok(Object::Tim(self.decimal()?)),
             Kind::Htb | Kind::Hda | Kind::Inf | Kind::Inl | Kind::Arr => {
                 Err(ReadError::Broken(self.bytes.len()))
             }
         }
+    }
+
+    #[tactic(auto, unfolding(crate::specs::Reading::simple_at))]
+    fn str_value(&mut self, alloc: Global) -> Result<Object, ReadError>
+        ensures { GivesValue same_value result self.new.bytes.now
+            (simple_at Kind.Str self.old.bytes.now) }
+    {
+        Ok(Object::Str(self.text(alloc, Rule::Plain)?))
+    }
+
+    #[tactic(auto, unfolding(crate::specs::Reading::simple_at))]
+    fn buf_value(&mut self, alloc: Global) -> Result<Object, ReadError>
+        ensures { GivesValue same_value result self.new.bytes.now
+            (simple_at Kind.Buf self.old.bytes.now) }
+    {
+        Ok(Object::Buf(self.text(alloc, Rule::Plain)?))
     }
 
     #[tactic(auto, unfolding(crate::specs::Reading::pair_at))]
