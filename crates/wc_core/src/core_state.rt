@@ -1,7 +1,6 @@
 ghost use Rattle.std.specs.Prelude.{◌≡◌, ◌≢◌, ◌⊎◌, ◌∷◌, ◌≤◌, ◌^◌, ◌-◌, ◌+◌};
 ghost use Rattle.std.specs.Prelude.{◌<◌, ◌++◌, [], ℕ, min, List, length, true, false, Some, None};
 ghost use Rattle.std.specs.Prelude.{IfOk, IfSome};
-ghost use Rattle.std.specs.Option.{option_copied};
 ghost use Rattle.std.specs.Str.{IsUtf8};
 ghost use Rattle.wc_outside.specs.Keyed.{at_key, without, IsKeyPlace};
 ghost use Rattle.wc_buffers.specs.Calls.{is_there};
@@ -17,16 +16,13 @@ ghost use Rattle.wc_core.specs.Step.{step, no_step, push_step, change_step, refu
 ghost use Rattle.wc_core.specs.Step.{typed_step, is_quit, lines_step, leave_step, loss_step};
 ghost use Rattle.wc_core.specs.Step.{outcome_step, request_step, client_link};
 ghost use Rattle.wc_core.specs.Texts.{WhatUtf8};
-ghost use Rattle.wc_core.specs.Served.{connection_link, state_of, unsent_at, gone_at, is_open_at};
-ghost use Rattle.wc_core.specs.Served.{left_at, new_connection, departure_of, Absent, links_of};
+ghost use Rattle.wc_core.specs.Served.{connection_link, state_of, is_open_at};
+ghost use Rattle.wc_core.specs.Served.{left_at, new_connection, Absent, links_of};
 ghost use Rattle.wc_core.specs.Served.{FollowsUnlessStarved, AdmitsUnlessStarved, RanOutOfMemory};
 ghost use Rattle.wc_core.specs.Served.{OutcomeUtf8};
 ghost use Rattle.wc_core.specs.Inputs.{MakesChange, MayTell, GoesOn, Stops};
 
-use crate::connection::{
-    Connection, Departure, connection_place, drop_connection, first_departure, open_count,
-    tell_notice,
-};
+use crate::connection::{Connection, connection_place, open_count, tell_notice};
 use crate::nick_change::change_world;
 use crate::pushes::{forget_nicks, push_nicks};
 use crate::refusals::refusal_text;
@@ -50,12 +46,12 @@ const CLIENT_LIMIT: usize = 5;
 pub struct Core {
     alloc: Global,
     password: Text,
-    world: World,
+    pub(crate) world: World,
     pending: Pending,
-    connections: Vec<Connection>,
+    pub(crate) connections: Vec<Connection>,
     moment: u64,
-    starved: u64,
-    quits: bool,
+    pub(crate) starved: u64,
+    pub(crate) quits: bool,
 }
 
 impl Model for Core {
@@ -457,87 +453,5 @@ impl Core {
             return;
         }
         self.leave(place, link, cause);
-    }
-
-    /// The first client that is leaving.
-    pub fn departure(&self) -> Option<Departure>
-        ensures { result ≡ departure_of self.now.connections }
-    {
-        first_departure(&self.connections)
-    }
-
-    /// Forgets the client of a link, as the link is closed.
-    pub fn forget(&mut self, link: LinkId)
-        ensures { self.new ≡ record self.old {
-          connections =
-              without connection_link link.0 self.old.connections;
-        } }
-    {
-        drop_connection(&mut self.connections, link);
-    }
-
-    /// The unsent bytes of the client of a link, also while it is leaving. None where there is no
-    /// such client.
-    pub fn unsent(&self, link: LinkId) -> Option<&[u8]>
-        ensures { option_copied result
-            ≡ unsent_at (at_key connection_link link.0 self.now.connections) }
-    {
-        let place = connection_place(&self.connections, link)?;
-        Some(self.connections[place].session.unsent())
-    }
-
-    /// Takes the first unsent bytes of a client away.
-    pub fn gone(&mut self, link: LinkId, count: usize)
-        requires { IfSome (unsent_at (at_key connection_link link.0 self.old.connections))
-            (λ unsent. count ≤ length unsent) }
-        ensures { self.new ≡ record self.old {
-          connections =
-              gone_at link.0 count self.old.connections
-              (at_key connection_link link.0 self.old.connections);
-        } }
-    {
-        if let Some(place) = connection_place(&self.connections, link) {
-            self.connections[place].session.gone(count);
-        }
-    }
-
-    /// Whether a link has a client that is not leaving.
-    pub fn is_open(&self, link: LinkId) -> bool
-        ensures { result ≡ is_open_at (at_key connection_link link.0 self.now.connections) }
-    {
-        match connection_place(&self.connections, link) {
-            Some(place) => self.connections[place].is_open(),
-            None => false,
-        }
-    }
-
-    /// The clients that are open and those that are leaving, in the order in which they came.
-    pub fn connections(&self) -> &[Connection]
-        ensures { result.now ≡ self.now.connections }
-    {
-        self.connections.as_slice()
-    }
-
-    /// How often want of memory cut something short or made a client leave.
-    pub fn starved(&self) -> u64
-        ensures { result ≡ self.now.starved }
-    {
-        self.starved
-    }
-
-    /// Whether `/quit` was run.
-    pub fn quits(&self) -> bool
-        ensures { result ≡ self.now.quits }
-    {
-        self.quits
-    }
-
-    /// The buffers, with their lines and nicklists, of which a tick pushes nothing.
-    pub fn world(&self) -> &World
-        ensures world { result.now ≡ self.now.world }
-        ensures idle { (moment : ℕ) → step (state_of self.now) (Tick moment)
-            ≡ no_step (state_of (record self.now { moment = moment })) }
-    {
-        &self.world
     }
 }

@@ -2,6 +2,7 @@
 #![tactic(auto)]
 
 mod connection;
+mod core_links;
 mod core_state;
 mod nick_change;
 mod pushes;
