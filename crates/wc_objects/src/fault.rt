@@ -8,7 +8,7 @@ use crate::keys::path_depth;
 use wc_text::NoMemory;
 
 /// Why a value could not be read.
-#[derive(Debug, Drop)]
+#[derive(Clone, Copy)]
 pub enum ReadError {
     NoMemory,
     /// A field breaks a rule, and this many bytes are left where the first such field begins.

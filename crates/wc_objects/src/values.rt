@@ -24,17 +24,33 @@ impl Reader<'_> {
             (simple_at kind self.old.bytes.now) }
     {
         match kind {
-            Kind::Chr => Ok(Object::Chr(self.byte()?)),
-            Kind::Int => Ok(Object::Int(self.int()?)),
-            Kind::Lon => Ok(Object::Lon(self.decimal()?)),
-            Kind::Str => Ok(Object::Str(self.text(alloc, Rule::Plain)?)),
-            Kind::Buf => Ok(Object::Buf(self.text(alloc, Rule::Plain)?)),
-            Kind::Ptr => Ok(Object::Ptr(self.pointer()?)),
-            Kind::Tim => Ok(Object::Tim(self.decimal()?)),
+            Kind::Chr => self.byte().map(Object::Chr),
+            Kind::Int => self.int().map(Object::Int),
+            Kind::Lon => self.decimal().map(Object::Lon),
+            Kind::Str => self.str_value(alloc),
+            Kind::Buf => self.buf_value(alloc),
+            Kind::Ptr => self.pointer().map(Object::Ptr),
+            Kind::Tim => self.decimal().map(Object::Tim),
             Kind::Htb | Kind::Hda | Kind::Inf | Kind::Inl | Kind::Arr => {
                 Err(ReadError::Broken(self.bytes.len()))
             }
         }
+    }
+
+    #[tactic(auto, unfolding(crate::specs::Reading::simple_at))]
+    fn str_value(&mut self, alloc: Global) -> Result<Object, ReadError>
+        ensures { GivesValue same_value result self.new.bytes.now
+            (simple_at Kind.Str self.old.bytes.now) }
+    {
+        Ok(Object::Str(self.text(alloc, Rule::Plain)?))
+    }
+
+    #[tactic(auto, unfolding(crate::specs::Reading::simple_at))]
+    fn buf_value(&mut self, alloc: Global) -> Result<Object, ReadError>
+        ensures { GivesValue same_value result self.new.bytes.now
+            (simple_at Kind.Buf self.old.bytes.now) }
+    {
+        Ok(Object::Buf(self.text(alloc, Rule::Plain)?))
     }
 
     #[tactic(auto, unfolding(crate::specs::Reading::pair_at))]
