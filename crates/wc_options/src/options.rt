@@ -66,23 +66,42 @@ fn server_place(servers: &[Server], name: &[u8]) -> Option<usize>
     servers.iter().position(|server| server.name() == name)
 }
 
+/// The defaults of the options of the program.
+#[tactic(auto, using(crate::proofs::ReadLemmas::first_options))]
+fn first_defaults(alloc: Global) -> Result<Vec<Text>, NoMemory>
+    ensures { IfOk result (λ defaults. defaults.items ≡ map (λ row. row.default) globals) }
+{
+    let mut defaults = Vec::with_capacity(alloc, GLOBAL_COUNT)?;
+    for place in 0..GLOBAL_COUNT {
+        let default = Text::from_slice(alloc, global_row(place).default)?;
+        let Ok(()) = defaults.push(default) else {
+            return Err(NoMemory);
+        };
+    }
+    Ok(defaults)
+}
+
+/// The values of the options of the program, none of which is set.
+#[tactic(auto, using(crate::proofs::ReadLemmas::first_options))]
+fn first_values(alloc: Global) -> Result<Vec<Option<Text>>, NoMemory>
+    ensures { IfOk result (λ set. set.items ≡ map unset_at_first globals) }
+{
+    let mut set = Vec::with_capacity(alloc, GLOBAL_COUNT)?;
+    for _ in 0..GLOBAL_COUNT {
+        let Ok(()) = set.push(None) else {
+            return Err(NoMemory);
+        };
+    }
+    Ok(set)
+}
+
 impl Options {
     /// The options with each at its default, and no server.
-    #[tactic(auto, using(crate::proofs::ReadLemmas::first_options))]
     pub fn new(alloc: Global) -> Result<Options, NoMemory>
         ensures { IfOk result (λ options. options ≡ fresh) }
     {
-        let mut defaults = Vec::with_capacity(alloc, GLOBAL_COUNT)?;
-        let mut set = Vec::with_capacity(alloc, GLOBAL_COUNT)?;
-        for place in 0..GLOBAL_COUNT {
-            let default = Text::from_slice(alloc, global_row(place).default)?;
-            let Ok(()) = defaults.push(default) else {
-                return Err(NoMemory);
-            };
-            let Ok(()) = set.push(None) else {
-                return Err(NoMemory);
-            };
-        }
+        let defaults = first_defaults(alloc)?;
+        let set = first_values(alloc)?;
         Ok(Options {
             defaults,
             no_address: Text::new(alloc),
@@ -385,8 +404,7 @@ impl Options {
         }) }
         ensures unchanged { OnErr result (self.new ≡ self.old) }
     {
-        let mut server = Server::new(alloc, name)?;
-        server.put(place, Some(value));
+        let server = server_with(alloc, name, place, value)?;
         let name = Text::from_slice(alloc, name)?;
         self.servers.reserve(1)?;
         self.names.reserve(1)?;
@@ -394,6 +412,17 @@ impl Options {
         self.names.push_reserved(name);
         Ok(())
     }
+}
+
+/// A new server with a value at one of its options.
+fn server_with(alloc: Global, name: &[u8], place: usize, value: Text) -> Result<Server, NoMemory>
+    requires { place < 8 }
+    ensures { IfOk result
+        (λ server. server ≡ with_own place (Some value) (fresh_server name.now)) }
+{
+    let mut server = Server::new(alloc, name)?;
+    server.put(place, Some(value));
+    Ok(server)
 }
 
 /// The refusal of a value, with the words that tell which values the option takes.
