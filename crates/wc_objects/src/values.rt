@@ -24,13 +24,13 @@ impl Reader<'_> {
             (simple_at kind self.old.bytes.now) }
     {
         match kind {
-            Kind::Chr => Ok(Object::Chr(self.byte()?)),
-            Kind::Int => Ok(Object::Int(self.int()?)),
-            Kind::Lon => Ok(Object::Lon(self.decimal()?)),
+            Kind::Chr => self.byte().map(Object::Chr),
+            Kind::Int => self.int().map(Object::Int),
+            Kind::Lon => self.decimal().map(Object::Lon),
             Kind::Str => self.str_value(alloc),
             Kind::Buf => self.buf_value(alloc),
-            Kind::Ptr => Ok(Object::Ptr(self.pointer()?)),
-            Kind::Tim => Ok(Object::Tim(self.decimal()?)),
+            Kind::Ptr => self.pointer().map(Object::Ptr),
+            Kind::Tim => self.decimal().map(Object::Tim),
             Kind::Htb | Kind::Hda | Kind::Inf | Kind::Inl | Kind::Arr => {
                 Err(ReadError::Broken(self.bytes.len()))
             }

@@ -25,7 +25,7 @@ pub returns-clause-continues : goal.returns-clause-continues
 returns-clause-continues g c =
     let woken = OnOk-get c.wake.result _ (sym c.is_err.ensures.value ∙ c.if-is_err.false) c.wake.ensures.woken in
     let seen = g.S.Sockets.seen in
-    LoopStep-then c.serve_ready-listened.result _ c.then.result c.args.self.now c.serve_ready-listened.new.headless (seen c.args.sockets.now) (seen c.serve_ready-listened.new.sockets) c.then.ensures
+    LoopStep-then c.serve_ready-listened.result _ c.turn_end.result c.args.self.now c.serve_ready-listened.new.headless (seen c.args.sockets.now) (seen c.serve_ready-listened.new.sockets) c.turn_end.ensures
     (turn-continues c.args.self.now c.wake.new.self c.serve_ready-listened.new.headless (seen c.args.sockets.now) (seen c.wake.new.sockets) (seen c.serve_ready-listened.new.sockets) woken.continues c.serve_ready-listened.ensures.continues)
 
 pub returns-clause-causes : goal.returns-clause-causes
@@ -39,7 +39,7 @@ returns-clause-served g c = λ on.
     let woken = OnOk-get c.wake.result _ (sym c.is_err.ensures.value ∙ c.if-is_err.false) c.wake.ensures.woken in
     let e = c.serve_ready-listened.ensures in
     let seen = g.S.Sockets.seen in
-    let goes = goes-on c.serve_ready-listened.result _ c.then.result c.then.ensures on in
+    let goes = goes-on c.serve_ready-listened.result _ c.turn_end.result c.turn_end.ensures on in
     AllServed-following c.serve_ready-listened.new.headless.core.connections (seen c.args.sockets.now) (seen c.wake.new.sockets) (seen c.serve_ready-listened.new.sockets) (later-of _ _ woken.continues) (later-of _ _ e.continues)
     (OnOk-get c.serve_ready-listened.result _ goes.0 e.served (woken.continues.agrees c.requires.agrees) goes.1)
 
@@ -49,7 +49,7 @@ returns-clause-sent g c = λ quit.
     let e = c.serve_ready-listened.ensures in
     let seen = g.S.Sockets.seen in
     AllSent-following c.serve_ready-listened.new.headless.core.connections (seen c.args.sockets.now) (seen c.wake.new.sockets) (seen c.serve_ready-listened.new.sockets) (later-of _ _ woken.continues) (later-of _ _ e.continues) woken.continues.counts
-    (e.sent (quits-by c.serve_ready-listened.result _ c.then.result c.then.ensures quit))
+    (e.sent (quits-by c.serve_ready-listened.result _ c.turn_end.result c.turn_end.ensures quit))
 
 pub returns-clause-within : goal.returns-clause-within
 returns-clause-within g c =
