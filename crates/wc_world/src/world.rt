@@ -143,7 +143,6 @@ impl World {
     pub fn lines(&self, h: Handle) -> Option<&Lines>
         ensures { option_copied result ≡ held_in self.now h.0 }
     {
-        let _ = &self.buffers;
         self.held.get(&h.0)
     }
 
@@ -157,7 +156,6 @@ impl World {
         ensures held { (b : ℕ) → IsRows (rows_at self.now b) }
         ensures cut { IfSome result (λ list. AreCut list.now.rows) }
     {
-        let _ = &self.buffers;
         self.nicks.get(&h.0)
     }
 
