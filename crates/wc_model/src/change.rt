@@ -48,7 +48,7 @@ pub enum What {
 }
 
 /// A line that filters show or hide from now on.
-#[derive(Clone, Copy, Debug, PartialEq, Eq)]
+#[derive(Clone, Copy, PartialEq, Eq)]
 pub struct Flip {
     pub content: Handle,
     pub displayed: bool,

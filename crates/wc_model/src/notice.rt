@@ -1,7 +1,7 @@
 use wc_text::{Handle, Items, Text};
 
 /// What happened, as an event of the relay protocol tells it.
-#[derive(Clone, Copy, Debug, PartialEq, Eq)]
+#[derive(Clone, Copy, PartialEq, Eq)]
 pub enum EventKind {
     Opened,
     Moved,

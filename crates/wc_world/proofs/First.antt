@@ -1,8 +1,6 @@
 -- The world with the core buffer alone.
 use Rattle.std.proofs.Common.{◌≡◌, ℕ, zero, suc, ltb, ◌≤◌, Bool, true, false, cond, eqb, List, [], ◌∷◌, map, Some, None, is_some, refl, ap, sym, subst, ◌∙◌, arith, eqb-true, IsAscii}
-use Rattle.std.specs.FinMap.{FinMap, insert, empty, from_entries}
-use Rattle.std.specs.Ordering.{nat_cmp}
-use Rattle.wc_nicklist.specs.declared.item.Row.{Row}
+use Rattle.std.specs.FinMap.{insert, empty, from_entries}
 use Rattle.std.specs.HashMap.{HashMap}
 use Rattle.std.proofs.lemmas.Bool.{and_parts, ltb-true}
 use Rattle.std.specs.List.{list_all}
@@ -13,8 +11,8 @@ use Rattle.wc_lines.specs.Held.{RingView, no_lines}
 use Rattle.wc_buffers.specs.Calls.{EntryGroups, handle_of, with_buffer}
 use Rattle.wc_buffers.specs.Groups.{has}
 use Rattle.wc_buffers.proofs.GroupLaws.{by_bool}
-use Rattle.wc_model.specs.World.{core_row, first_world}
-use Rattle.wc_world.specs.Kept.{held_at, lines_map, world_of, IsWorld, IsHeldBuffer}
+use Rattle.wc_model.specs.World.{core_row}
+use Rattle.wc_world.specs.Kept.{held_at, lines_map, IsWorld, IsHeldBuffer}
 use Rattle.wc_world.proofs.HeldLemmas.{put_lines}
 use Rattle.wc_world.proofs.Done.{same_some}
 
@@ -44,11 +42,10 @@ first_kept gs n limit g c some most = subst (λ g. IsWorld g n limit 5) (sym g) 
 pub none_held : {S : Type 0} (m : HashMap ℕ RingView S) (q : ℕ) → m.entries ≡ [] → held_at m q ≡ None
 none_held m q none = ap (λ (es : List (ℕ × RingView)). lookup (eqb q) es) none
 
-pub first_is : {S T : Type 0} (gs : EntryGroups) (m : HashMap ℕ RingView S) (n : HashMap ℕ RingView T) (ms : FinMap nat_cmp (List Row)) (limit : ℕ) → m.entries ≡ [] → gs ≡ with_buffer core_row [] [] → ((q : ℕ) → held_at n q ≡ cond (eqb 1 q) (Some (no_lines limit)) (held_at m q)) → ms ≡ insert empty 1 [] → world_of gs n ms limit 5 ≡ first_world limit
-first_is gs m n ms limit none g c k =
+pub first_lines : {S T : Type 0} (m : HashMap ℕ RingView S) (n : HashMap ℕ RingView T) (limit : ℕ) → m.entries ≡ [] → ((q : ℕ) → held_at n q ≡ cond (eqb 1 q) (Some (no_lines limit)) (held_at m q)) → lines_map n ≡ insert empty 1 []
+first_lines m n limit none c =
     let nothing : lines_map m ≡ empty = ap (λ (es : List (ℕ × RingView)). from_entries (map (λ e. (e.0, e.1.lines)) es)) none in
-    let lines : lines_map n ≡ insert empty 1 [] = put_lines m n 1 (no_lines limit) c ∙ ap (λ l. insert l 1 []) nothing in
-    λ i. record { groups = g i; lines = lines i; nicks = k i; limit = limit; next = 5 }
+    put_lines m n 1 (no_lines limit) c ∙ ap (λ l. insert l 1 []) nothing
 
 ascii : (text : List ℕ) → list_all (λ b. ltb b 128) text ≡ true → IsAscii text
 ascii [] e i = omega arith

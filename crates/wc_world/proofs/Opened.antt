@@ -1,6 +1,5 @@
 -- A buffer that is added or closed.
-use Rattle.std.proofs.Common.{◌≡◌, ℕ, ◌+◌, ◌≤◌, ◌^◌, Bool, true, false, cond, ◌||◌, eqb, ltb, List, [], ◌∷◌, ◌++◌, map, length, Option, Some, None, option_map, is_some, refl, ap, sym, subst, ◌∙◌, arith, eq-eqb, eqb-true, le-ltb}
-use Rattle.std.specs.Prelude.{Result, Ok, Err, OnOk, IfErr}
+use Rattle.std.proofs.Common.{◌≡◌, ℕ, ◌+◌, ◌<◌, ◌≤◌, ◌^◌, Bool, true, false, cond, ◌||◌, eqb, ltb, List, [], ◌∷◌, ◌++◌, map, length, Option, Some, None, option_map, is_some, refl, ap, sym, subst, ◌∙◌, arith, eq-eqb, eqb-true, le-ltb}
 use Rattle.std.proofs.lemmas.Bool.Decides.{nat_tests}
 use Rattle.std.specs.FinMap.{FinMap, insert, remove}
 use Rattle.std.specs.Ordering.{nat_cmp}
@@ -13,8 +12,6 @@ use Rattle.std.proofs.lemmas.List.Folds.{list_any-append}
 use Rattle.wc_text.specs.declared.names.Handle.{Handle}
 use Rattle.wc_lines.specs.Held.{RingView, no_lines}
 use Rattle.wc_buffers.specs.declared.row.BufferEntry.{BufferEntry}
-use Rattle.wc_buffers.specs.declared.refused.BufferRefused.{BufferRefused}
-use Rattle.wc_buffers.specs.declared.row.BufferRow.{BufferRow}
 use Rattle.wc_buffers.specs.Kept.{AreBuffers}
 use Rattle.wc_buffers.specs.Calls.{EntryGroups, handle_of, buffer_of, new_entry, with_buffer, without_buffer, add_refusal, close_refusal}
 use Rattle.wc_buffers.specs.Groups.{has, in_group, row_of, without, filled_groups, take_out, AllFilled}
@@ -173,21 +170,22 @@ filled_front [] hs a = tt
 filled_front ([] ∷ gs) hs a = absurd a
 filled_front ((x ∷ xs) ∷ gs) hs a = filled_front gs hs a
 
-closed_either : (h : Handle) (a b : EntryGroups) (r : Result BufferRow BufferRefused) → OnOk r (b ≡ without_buffer h a) → IfErr r (λ e. close_refusal h a ≡ Some e) → close_refusal h a ≡ None → b ≡ without_buffer h a
-closed_either h a b (Ok row) o f n = o
-closed_either h a b (Err e) o f n = absurd (let z : None ≡ Some e = sym n ∙ f in cc)
-
 may_close : (h : Handle) (a : EntryGroups) → has handle_of h.0 a ≡ true → eqb h.0 1 ≡ false → close_refusal h a ≡ None
 unfolding close_refusal
 may_close h a t n = rw (t, n) refl
 
--- a buffer that was added and is closed at once leaves the groups as they were
-pub undone : {S : Type 0} (gs a b : EntryGroups) (m : HashMap ℕ RingView S) (limit next : ℕ) (spec : BufferSpec) (r : Result BufferRow BufferRefused) → IsWorld gs m limit next → a ≡ with_buffer (new_row next spec) spec.vars gs → AreBuffers a
-    → OnOk r (b ≡ without_buffer (record { 0 = next }) a) → IfErr r (λ e. close_refusal (record { 0 = next }) a ≡ Some e) → b ≡ gs
-undone gs a b m limit next spec r w g all o f =
-    let e = new_entry (new_row next spec) spec.vars in
-    let there : has handle_of next a ≡ true = ap (has handle_of next) g ∙ list_any-append (in_group handle_of next) gs ((e ∷ []) ∷ []) ∙ rw (is_new gs m limit next w, eq-eqb next next refl) refl in
-    let other : eqb next 1 ≡ false = (let s = w.started in grind (arith, nat_tests)) in
-    closed_either (record { 0 = next }) a b r o f (may_close (record { 0 = next }) a there other)
-    ∙ ap (take_out handle_of next) g
-    ∙ taken_back next e gs (is_new gs m limit next w) refl (filled_front gs ((e ∷ []) ∷ []) (subst AllFilled g all.filled))
+-- a buffer that was added may be closed at once, and leaves the groups as they were
+module _ (gs a : EntryGroups) (next : ℕ) (spec : BufferSpec) (new : has handle_of next gs ≡ false) (g : a ≡ with_buffer (new_row next spec) spec.vars gs) where
+  pub may_undo : 1 < next → close_refusal (record { 0 = next }) a ≡ None
+  may_undo started =
+      let e = new_entry (new_row next spec) spec.vars in
+      let there : has handle_of next a ≡ true = ap (has handle_of next) g ∙ list_any-append (in_group handle_of next) gs ((e ∷ []) ∷ []) ∙ rw (new, eq-eqb next next refl) refl in
+      let other : eqb next 1 ≡ false = (let s = started in grind (arith, nat_tests)) in
+      may_close (record { 0 = next }) a there other
+
+  pub undone : (b : EntryGroups) → AreBuffers a → b ≡ without_buffer (record { 0 = next }) a → b ≡ gs
+  undone b all closed =
+      let e = new_entry (new_row next spec) spec.vars in
+      closed
+      ∙ ap (take_out handle_of next) g
+      ∙ taken_back next e gs new refl (filled_front gs ((e ∷ []) ∷ []) (subst AllFilled g all.filled))

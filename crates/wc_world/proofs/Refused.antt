@@ -1,10 +1,11 @@
 -- From a refusal of the buffers to the clause on the world.
-use Rattle.std.proofs.Common.{◌≡◌, ◌≢◌, ℕ, ◌+◌, ◌<◌, ◌≤◌, ◌^◌, Bool, true, false, ltb, List, Option, Some, None, refl, ap, sym, subst, ◌∙◌, arith, lt-ltb, ◌-◌}
-use Rattle.std.specs.Prelude.{Result, Err}
+use Rattle.std.proofs.Common.{◌≡◌, ◌≢◌, ℕ, ◌+◌, ◌≤◌, ◌^◌, Bool, true, false, cond, ltb, List, Option, Some, None, refl, ap, sym, subst, ◌∙◌, arith, lt-ltb}
+use Rattle.std.specs.Prelude.{Result, Err, IsErrAnd}
 use Rattle.std.specs.FinMap.{FinMap}
 use Rattle.std.specs.HashMap.{HashMap}
 use Rattle.std.specs.Ordering.{nat_cmp}
 use Rattle.std.proofs.lemmas.Bool.{false≢true}
+use Rattle.std.proofs.lemmas.Result.{err_from_is_err_and}
 use Rattle.wc_text.specs.declared.names.Handle.{Handle}
 use Rattle.wc_lines.specs.Held.{RingView}
 use Rattle.wc_nicklist.specs.declared.item.Row.{Row}
@@ -18,11 +19,11 @@ use Rattle.wc_model.specs.declared.change.What.{What}
 use Rattle.wc_model.specs.declared.change.What.TheVariants.{Add, Print}
 use Rattle.wc_model.specs.declared.notice.Notice.{Notice}
 use Rattle.wc_model.specs.declared.refused.ChangeRefused.{ChangeRefused}
-use Rattle.wc_model.specs.World.{World}
-use Rattle.wc_model.specs.Apply.{refusal, refusal_of, row_of as new_row}
+use Rattle.wc_model.specs.World.{World, last_handle}
+use Rattle.wc_model.specs.Apply.{refusal, refusal_of, or_else, of_buffers, row_of as new_row}
 use Rattle.wc_model.specs.Notices.{Outcome}
+use Rattle.wc_model.specs.Refusals.{refused_by}
 use Rattle.wc_world.specs.Kept.{held_at, lines_map, world_of}
-use Rattle.wc_world.specs.Told.{refused_by}
 use Rattle.wc_world.proofs.HeldLemmas.{same_lines}
 
 abbrev is_memory : BufferRefused → Bool
@@ -73,6 +74,15 @@ out_of_memory v b c r e same = subst (λ r. Outcome v c b r) (sym e) same
 pub by_world : (w v : World) (h : Handle) (what : What) (o : Option ChangeRefused) → w ≡ v → refusal_of w h what ≡ o → refusal_of v h what ≡ o
 by_world w v h what o is e = subst (λ v. refusal_of v h what ≡ o) is e
 
+-- the same of a `?` on what the buffers answered, who are then as they were
+pub groups_refused : {S : Type 0} (gs hs : EntryGroups) (m : HashMap ℕ RingView S) (ns : FinMap nat_cmp (List Row)) (limit next : ℕ) (v : World) (h : Handle) (what : What) (e : BufferRefused) (r : Result Notice ChangeRefused) → IsErrAnd r (λ x. x ≡ refused_by e) → hs ≡ gs → world_of gs m ns limit next ≡ v → (e ≢ NoMemory → refusal_of (world_of gs m ns limit next) h what ≡ Some (ChangeRefused.Buffer e)) → Outcome v (record { buffer = h; what = what }) (world_of hs m ns limit next) r
+groups_refused gs hs m ns limit next v h what e r is same view f =
+    let p = err_from_is_err_and r is in
+    let old = world_of gs m ns limit next in
+    let new = world_of hs m ns limit next in
+    let change : Change = record { buffer = h; what = what } in
+    subst (λ r. Outcome v change new r) (sym p.1) (refusing v new change e p.0 p.2 (same_groups gs hs m ns limit next v same view) (λ n. by_world old v h what _ view (f n)))
+
 pub print_spent : (w : World) (h : Handle) (line : LineSpec) → is_there h w.groups ≡ true → 2 ^ 62 ≤ w.next → refusal_of w h (Print line) ≡ Some ChangeRefused.Spent
 unfolding refusal_of
 print_spent w h line t l = let room : ltb (2 ^ 62 + 1) (w.next + 2) ≡ true = lt-ltb (2 ^ 62 + 1) (w.next + 2) (omega arith) in rw (t, room) refl
@@ -81,10 +91,6 @@ pub print_nowhere : (w : World) (h : Handle) (line : LineSpec) (e : BufferRefuse
 unfolding refusal_of
 print_nowhere w h line e r = rw r refl
 
-pub add_spent : (w : World) (h : Handle) (spec : BufferSpec) → add_refusal (new_row w.next spec) spec.vars w.groups ≡ None → 2 ^ 62 - 3 < w.next → refusal_of w h (Add spec) ≡ Some ChangeRefused.Spent
+pub add_refused : (w v : World) (h : Handle) (spec : BufferSpec) (e : ChangeRefused) → w ≡ v → or_else (of_buffers (add_refusal (new_row w.next spec) spec.vars w.groups)) (cond (ltb (last_handle + 1) (w.next + 4)) (Some ChangeRefused.Spent) None) ≡ Some e → refusal_of v h (Add spec) ≡ Some e
 unfolding refusal_of
-add_spent w h spec r l = let room : ltb (2 ^ 62 + 1) (w.next + 4) ≡ true = lt-ltb (2 ^ 62 + 1) (w.next + 4) (omega arith) in rw (r, room) refl
-
-pub add_refused : (w : World) (h : Handle) (spec : BufferSpec) (e : BufferRefused) → add_refusal (new_row w.next spec) spec.vars w.groups ≡ Some e → refusal_of w h (Add spec) ≡ Some (ChangeRefused.Buffer e)
-unfolding refusal_of
-add_refused w h spec e r = rw r refl
+add_refused w v h spec e is r = by_world w v h (Add spec) (Some e) is r

@@ -2,12 +2,12 @@ ghost use Rattle.std.specs.Prelude.{◌≡◌, IfOk, Some, None};
 ghost use Rattle.wc_model.specs.Apply.{item_with, handle_in};
 ghost use Rattle.wc_nicklist.specs.Calls.{add_refusal, remove_refusal, change_refusal, add_row};
 ghost use Rattle.wc_nicklist.specs.Order.{key_at};
-ghost use Rattle.wc_nicklist.specs.Rows.{remove_row, change_row, TextsAreUtf8};
+ghost use Rattle.wc_nicklist.specs.Rows.{find_row, remove_row, change_row, TextsAreUtf8};
 ghost use Rattle.wc_world.specs.Nicks.{with_edit};
 
 use crate::cut::cut_text;
 use std::alloc::Global;
-use wc_nicklist::{Item, Key, Nicklist, Row};
+use wc_nicklist::{Item, Key, Nicklist};
 use wc_text::{Handle, NoMemory, Text};
 
 /// The most bytes of a colour, a prefix or the prefix's colour.
@@ -41,12 +41,12 @@ pub(crate) fn key_at(alloc: Global, is_group: bool, name: &Text) -> Result<Key, 
     Ok(Key { is_group, name })
 }
 
-/// The handle of a row; null where there is none.
-pub(crate) fn handle_in(row: &Option<Row>) -> Handle
-    ensures { result ≡ handle_in row.now }
+/// The handle of the row of a key; null where there is none.
+pub(crate) fn handle_at(list: &Nicklist, key: &Key) -> Handle
+    ensures { result ≡ handle_in (find_row key.now list.now.rows) }
 {
-    match row {
-        Some(row) => row.item.handle,
+    match list.row(key) {
+        Some(item) => item.handle,
         None => Handle(0),
     }
 }

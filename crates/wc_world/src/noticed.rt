@@ -3,12 +3,12 @@ ghost use Rattle.wc_buffers.specs.Calls.{buffer_of, is_there, no_buffer};
 ghost use Rattle.wc_buffers.specs.Kept.{AreBuffers};
 ghost use Rattle.wc_model.specs.Notices.{name_in};
 ghost use Rattle.wc_model.specs.declared.notice.EventKind.TheVariants as kinds;
-ghost use Rattle.wc_world.specs.Told.{told_at, refused_by};
+ghost use Rattle.wc_world.specs.Told.{told_at};
 
 use crate::near::{next_of, prev_of};
 use std::alloc::Global;
 use wc_buffers::{BufferRefused, Buffers};
-use wc_model::{ChangeRefused, EventKind, Notice};
+use wc_model::{EventKind, Notice};
 use wc_text::{Handle, Items, NoMemory, Text};
 
 /// The full name of a buffer in memory of its own; empty where the buffer is not there.
@@ -79,16 +79,6 @@ pub(crate) fn no_buffer(buffers: &Buffers, h: Handle) -> Option<BufferRefused>
         return None;
     }
     Some(BufferRefused::NoBuffer { handle: h })
-}
-
-/// The refusal of a change that the buffers refused.
-pub(crate) fn refused_by(refused: BufferRefused) -> ChangeRefused
-    ensures { result ≡ refused_by refused }
-{
-    match refused {
-        BufferRefused::NoMemory => ChangeRefused::NoMemory,
-        refused => ChangeRefused::Buffer(refused),
-    }
 }
 
 /// A list of one handle.

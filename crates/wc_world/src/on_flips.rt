@@ -6,7 +6,7 @@ ghost use Rattle.wc_world.specs.Flips.{Planned};
 
 use crate::all_lines::{all_differing, first_not_held, in_order, set_flags};
 use crate::flags::flags_of;
-use crate::noticed::{name_of, noticed, refused_by};
+use crate::noticed::{name_of, noticed};
 use crate::world::World;
 use std::alloc::Global;
 use wc_lines::Flags;
@@ -81,13 +81,10 @@ impl World {
             self.new result }
     {
         if let Some(refused) = self.buffers.rename_refusal(alloc, h, &name) {
-            return Err(refused_by(refused));
+            return Err(refused.into());
         }
         let plan = self.plan(alloc, flips.as_slice())?;
-        match self.buffers.rename(alloc, h, &name) {
-            Ok(()) => {}
-            Err(refused) => return Err(refused_by(refused)),
-        }
+        self.buffers.rename(alloc, h, &name)?;
         set_flags(&mut self.held, plan.order.as_slice(), &plan.flags);
         Ok(noticed(
             &self.buffers,

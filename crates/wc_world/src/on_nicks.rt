@@ -1,21 +1,24 @@
-ghost use Rattle.std.specs.Prelude.{◌≡◌, ◌≢◌, OnOk, OnErr, Some};
-ghost use Rattle.wc_model.specs.Apply.{adds_row, removes_row, changes_row};
+ghost use Rattle.std.specs.Prelude.{◌≡◌, ◌≢◌, IfOk, IsSome, OnOk, OnErr, Some, None};
+ghost use Rattle.wc_model.specs.Apply.{adds_row, removes_row, changes_row, handle_in, item_with};
 ghost use Rattle.wc_model.specs.Notices.{Outcome};
 ghost use Rattle.wc_model.specs.Touches.{touched_by};
 ghost use Rattle.wc_model.specs.declared.refused.ChangeRefused.{ChangeRefused as ChangeRefusedValue};
-ghost use Rattle.wc_nicklist.specs.Rows.{TextsAreUtf8};
+ghost use Rattle.wc_nicklist.specs.Order.{key_at};
+ghost use Rattle.wc_nicklist.specs.Rows.{find_row, TextsAreUtf8};
+ghost use Rattle.wc_nicklist.specs.Touched.{first_touch};
 ghost use Rattle.wc_nicklist.specs.declared.item.Key.{Key as KeyValue};
 ghost use Rattle.wc_text.specs.declared.names.Handle.{Handle as HandleValue};
 ghost use Rattle.wc_world.specs.Nicks.{add_of, remove_of, change_of_rows, refused_by_nicks};
+ghost use Rattle.wc_world.specs.Nicks.{list_at, with_room, IsListChangedAt, AreSameRows};
 
-use crate::nick_item::{handle_in, item_with, key_at};
-use crate::nicks;
+use crate::nick_item::{handle_at, item_with, key_at};
+use crate::nicks::{self, Lists};
 use crate::noticed::{name_of, no_buffer, told};
 use crate::world::{LAST_HANDLE, ROW_LIMIT, World};
 use std::alloc::Global;
 use wc_model::{ChangeRefused, EventKind, Notice};
-use wc_nicklist::{Item, Key, NickRefused, Touch};
-use wc_text::{Handle, Text};
+use wc_nicklist::{Item, Key, NickRefused, Nicklist, Touch};
+use wc_text::{Handle, NoMemory, Text};
 
 /// The refusal of a change that a nicklist refused.
 fn refused_by(refused: NickRefused) -> ChangeRefused
@@ -25,6 +28,71 @@ fn refused_by(refused: NickRefused) -> ChangeRefused
         NickRefused::NoMemory => ChangeRefused::NoMemory,
         refused => ChangeRefused::Nick(refused),
     }
+}
+
+/// Touches a key with the row that is there. A touch takes the last memory of a change, so nothing
+/// is told of one that is not made.
+fn touch_row<T: Touch>(
+    list: &Nicklist,
+    alloc: Global,
+    h: Handle,
+    key: &Key,
+    touch: &mut T,
+) -> Result<(), NoMemory>
+    ensures ok { OnOk result ((b : HandleValue) (k : KeyValue) → T.first touch.new b k
+        ≡ first_touch h key.now (find_row key.now list.now.rows) (T.first touch.old) b k) }
+    ensures err { OnErr result ((b : HandleValue) (k : KeyValue) → T.first touch.new b k
+        ≡ T.first touch.old b k) }
+{
+    let row = list.row_of(alloc, key)?;
+    touch.touch(h, key, row)
+}
+
+/// The item with the handle of the row of its name, which is touched.
+fn touch_item<T: Touch>(
+    list: &Nicklist,
+    alloc: Global,
+    h: Handle,
+    is_group: bool,
+    item: Item,
+    touch: &mut T,
+) -> Result<Item, NoMemory>
+    requires { TextsAreUtf8 item }
+    ensures item { IfOk result (λ cut. cut
+        ≡ item_with (handle_in (find_row (key_at is_group item.name) list.now.rows)) item) }
+    ensures ok { OnOk result ((b : HandleValue) (k : KeyValue) → T.first touch.new b k
+        ≡ first_touch h (key_at is_group item.name)
+        (find_row (key_at is_group item.name) list.now.rows) (T.first touch.old) b k) }
+    ensures err { OnErr result ((b : HandleValue) (k : KeyValue) → T.first touch.new b k
+        ≡ T.first touch.old b k) }
+{
+    let key = key_at(alloc, is_group, &item.name)?;
+    let item = item_with(alloc, handle_at(list, &key), item)?;
+    touch_row(list, alloc, h, &key, touch)?;
+    Ok(item)
+}
+
+/// Makes room below a parent for an item of this name, and touches its key, where no row is.
+fn touch_room<T: Touch>(
+    lists: &mut Lists,
+    alloc: Global,
+    h: Handle,
+    is_group: bool,
+    parent: &Text,
+    name: &Text,
+    touch: &mut T,
+) -> Result<(), NoMemory>
+    requires { IsSome (list_at lists.old h.0) }
+    ensures room { OnOk result (IsListChangedAt h.0 (with_room parent.now) lists.old lists.new) }
+    ensures same { OnErr result (AreSameRows lists.old lists.new) }
+    ensures ok { OnOk result ((b : HandleValue) (k : KeyValue) → T.first touch.new b k
+        ≡ first_touch h (key_at is_group name.now) None (T.first touch.old) b k) }
+    ensures err { OnErr result ((b : HandleValue) (k : KeyValue) → T.first touch.new b k
+        ≡ T.first touch.old b k) }
+{
+    let key = key_at(alloc, is_group, name)?;
+    nicks::make_room(lists, alloc, h, parent)?;
+    touch.touch(h, &key, None)
 }
 
 impl World {
@@ -62,28 +130,33 @@ impl World {
         alloc: Global,
         h: Handle,
         is_group: bool,
-        parent: Text,
+        parent: &Text,
         item: Item,
         touch: &mut T,
     ) -> Result<Notice, ChangeRefused>
         requires { TextsAreUtf8 item }
         ensures outcome { Outcome self.old
-            (record { buffer = h; what = add_of is_group parent item }) self.new result }
+            (record { buffer = h; what = add_of is_group parent.now item }) self.new result }
         ensures touched { OnOk result ((b : HandleValue) (k : KeyValue) → T.first touch.new b k
-            ≡ touched_by self.old h (add_of is_group parent item) (T.first touch.old) b k) }
+            ≡ touched_by self.old h (add_of is_group parent.now item) (T.first touch.old) b k) }
         ensures untouched { OnErr result ((b : HandleValue) (k : KeyValue) → T.first touch.new b k
             ≡ T.first touch.old b k) }
     {
-        if let Some(refused) = self.add_refusal(alloc, h, is_group, &parent, &item) {
+        if let Some(refused) = self.add_refusal(alloc, h, is_group, parent, &item) {
             return Err(refused);
         }
         let full_name = name_of(&self.buffers, alloc, h)?;
-        let key = key_at(alloc, is_group, &item.name)?;
         let item = item_with(alloc, Handle(self.next), item)?;
-        nicks::make_room(&mut self.nicks, alloc, h, &parent)?;
-        // The touch takes the last memory, so nothing is told of a change that is not made.
-        touch.touch(h, &key, None)?;
-        nicks::put(&mut self.nicks, alloc, h, is_group, &parent, item);
+        touch_room(
+            &mut self.nicks,
+            alloc,
+            h,
+            is_group,
+            parent,
+            &item.name,
+            touch,
+        )?;
+        nicks::put(&mut self.nicks, alloc, h, is_group, parent, item);
         self.next += 1;
         self.row_count += 1;
         Ok(told(&self.buffers, alloc, EventKind::NickTouched, h, full_name))
@@ -123,8 +196,7 @@ impl World {
         }
         let full_name = name_of(&self.buffers, alloc, h)?;
         let key = Key { is_group, name };
-        let before = nicks::at(&self.nicks, h).row_of(alloc, &key)?;
-        touch.touch(h, &key, before)?;
+        touch_row(nicks::at(&self.nicks, h), alloc, h, &key, touch)?;
         nicks::take(&mut self.nicks, h, &key);
         self.row_count -= 1;
         Ok(told(&self.buffers, alloc, EventKind::NickTouched, h, full_name))
@@ -164,10 +236,7 @@ impl World {
             return Err(refused);
         }
         let full_name = name_of(&self.buffers, alloc, h)?;
-        let key = key_at(alloc, is_group, &item.name)?;
-        let stood = nicks::at(&self.nicks, h).row_of(alloc, &key)?;
-        let item = item_with(alloc, handle_in(&stood), item)?;
-        touch.touch(h, &key, stood)?;
+        let item = touch_item(nicks::at(&self.nicks, h), alloc, h, is_group, item, touch)?;
         nicks::write(&mut self.nicks, h, is_group, item);
         Ok(told(&self.buffers, alloc, EventKind::NickTouched, h, full_name))
     }

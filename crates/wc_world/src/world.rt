@@ -1,9 +1,11 @@
 ghost use Rattle.std.specs.Prelude.{◌≡◌, ◌≤◌, ℕ, IfOk, IfSome, option_copied, option_map, is_some};
-ghost use Rattle.std.specs.FinMap.{get};
-ghost use Rattle.wc_buffers.specs.Calls.{is_there};
+ghost use Rattle.std.specs.Prelude.{Some, None, [], nat_eq, if◌then◌else◌};
+ghost use Rattle.std.specs.FinMap.{empty, get, insert};
+ghost use Rattle.wc_buffers.specs.Calls.{is_there, with_buffer};
+ghost use Rattle.wc_lines.specs.Held.{no_lines};
 ghost use Rattle.wc_nicklist.specs.Rows.{IsRows, Nicks as NicksValue};
-ghost use Rattle.wc_world.specs.Kept.{held_in};
-ghost use Rattle.wc_world.specs.Nicks.{AreCut};
+ghost use Rattle.wc_world.specs.Kept.{held_at, held_in, lines_map};
+ghost use Rattle.wc_world.specs.Nicks.{rows_map, AreCut, AreNicks};
 ghost use Rattle.wc_model.specs.World.{core_row, first_world, rows_at, root_at};
 
 use crate::held::{self, Held as HeldLines};
@@ -70,6 +72,45 @@ fn core_row(alloc: Global) -> Result<BufferRow, NoMemory>
     })
 }
 
+/// The core buffer alone.
+fn core_buffers(alloc: Global) -> Result<Buffers, NoMemory>
+    ensures { IfOk result (λ buffers. buffers ≡ with_buffer core_row [] []) }
+{
+    let mut buffers = Buffers::new(alloc)?;
+    let row = core_row(alloc)?;
+    match buffers.add(alloc, row, &Items::new(alloc)) {
+        Ok(()) => Ok(buffers),
+        Err(_) => Err(NoMemory),
+    }
+}
+
+/// No lines for the core buffer.
+fn core_lines(alloc: Global, limit: u32) -> Result<HeldLines, NoMemory>
+    requires some { 1 ≤ limit }
+    requires most { limit ≤ 4096 }
+    ensures each { IfOk result (λ held. (q : ℕ) → held_at held q
+        ≡ (if nat_eq 1 q then Some (no_lines limit) else None)) }
+    ensures all { IfOk result (λ held. lines_map held ≡ insert empty 1 []) }
+{
+    let lines = Lines::new(alloc, limit)?;
+    let mut held = HashMap::new(alloc);
+    held::reserve(&mut held)?;
+    held::insert(&mut held, Handle(1), lines);
+    Ok(held)
+}
+
+/// No nicks for the core buffer.
+fn core_nicks(alloc: Global) -> Result<Lists, NoMemory>
+    ensures held { IfOk result (λ lists. AreNicks (with_buffer core_row [] []) lists 0) }
+    ensures rows { IfOk result (λ lists. rows_map lists ≡ insert empty 1 []) }
+{
+    let list = Nicklist::new(alloc, Handle(4))?;
+    let mut lists = HashMap::new(alloc);
+    nicks::reserve(&mut lists)?;
+    nicks::insert(&mut lists, Handle(1), list);
+    Ok(lists)
+}
+
 impl World {
     /// The core buffer alone, whose handles are 1 to 4, with no rows in its nicklist. A buffer
     /// holds as many lines as the limit.
@@ -78,24 +119,13 @@ impl World {
         requires most { limit ≤ 4096 }
         ensures { IfOk result (λ world. world ≡ first_world limit) }
     {
-        let mut buffers = Buffers::new(alloc)?;
-        let row = core_row(alloc)?;
-        match buffers.add(alloc, row, &Items::new(alloc)) {
-            Ok(()) => {}
-            Err(_) => return Err(NoMemory),
-        }
-        let lines = Lines::new(alloc, limit)?;
-        let mut held = HashMap::new(alloc);
-        held::reserve(&mut held)?;
-        held::insert(&mut held, Handle(1), lines);
-        let list = Nicklist::new(alloc, Handle(4))?;
-        let mut lists = HashMap::new(alloc);
-        nicks::reserve(&mut lists)?;
-        nicks::insert(&mut lists, Handle(1), list);
+        let buffers = core_buffers(alloc)?;
+        let held = core_lines(alloc, limit)?;
+        let nicks = core_nicks(alloc)?;
         Ok(World {
             buffers,
             held,
-            nicks: lists,
+            nicks,
             row_count: 0,
             limit,
             next: 5,
@@ -113,7 +143,6 @@ impl World {
     pub fn lines(&self, h: Handle) -> Option<&Lines>
         ensures { option_copied result ≡ held_in self.now h.0 }
     {
-        let _ = &self.buffers;
         self.held.get(&h.0)
     }
 
@@ -127,7 +156,6 @@ impl World {
         ensures held { (b : ℕ) → IsRows (rows_at self.now b) }
         ensures cut { IfSome result (λ list. AreCut list.now.rows) }
     {
-        let _ = &self.buffers;
         self.nicks.get(&h.0)
     }
 

@@ -1,75 +1,58 @@
-use Rattle.std.proofs.Common.{◌∙◌, Some, Err, cond, eqb, refl, ap, arith}
+use Rattle.std.proofs.Common.{◌∙◌, Some, Err, cond, eqb, refl, ap}
 use Rattle.std.proofs.lemmas.Result.{err_from_is_err_and}
-use Rattle.wc_nicklist.specs.Rows.{Nicks}
-use Rattle.wc_buffers.specs.Calls.{new_entry}
-use Rattle.wc_model.specs.declared.change.What.TheVariants.{Add}
-use Rattle.wc_model.specs.Apply.{row_of as new_row}
 use Rattle.std.specs.FinMap.{insert}
+use Rattle.wc_buffers.specs.Calls.{new_entry}
+use Rattle.wc_nicklist.specs.Rows.{Nicks}
+use Rattle.wc_model.specs.Apply.{row_of as new_row}
 use Rattle.wc_world.specs.Kept.{world_of}
 use Rattle.wc_world.specs.Nicks.{list_at, rows_map}
 use Rattle.wc_world.proofs.Done.{kept_reserved}
+use Rattle.wc_world.proofs.FlipsDone.{not_planned}
 use Rattle.wc_world.proofs.NickLemmas.{same_rows, same_lists, put_rows, nicks_opened, no_list}
-use Rattle.wc_world.proofs.Opened.{is_new, has_opened, added_done, kept_added, undone}
-use Rattle.wc_world.proofs.Refused.{refusing, same_stored, out_of_memory, by_world, add_spent, add_refused}
+use Rattle.wc_world.proofs.Opened.{is_new, has_opened, added_done, kept_added}
+use Rattle.wc_world.proofs.Refused.{same_stored, out_of_memory, add_refused}
 use Rattle.wc_world.proofs.world.World.add.Goals as goal
 
 pub invariant_of-self : goal.invariant_of-self
-invariant_of-self c = kept_reserved c.self.inside.buffers c.self.inside.buffers c.self.inside.held c.reserve.new.held c.self.inside.nicks c.self.inside.nicks c.self.inside.limit c.self.inside.next c.self.inside.row_count refl c.in_err-reserve.ensures.same (λ q. refl) c.self.invariant
+invariant_of-self c = kept_reserved c.self.inside.buffers c.self.inside.buffers c.self.inside.held c.new_buffer.new.held c.self.inside.nicks c.new_buffer.new.lists c.self.inside.limit c.self.inside.next c.self.inside.row_count refl c.in_err-buffer.ensures.same_lines c.in_err-buffer.ensures.same_lists c.self.invariant
 
-pub returns-in_err-reserve : goal.returns-in_err-reserve
-returns-in_err-reserve c =
-    let p = err_from_is_err_and c.from_residual-in_err-reserve.result c.from_residual-in_err-reserve.ensures.1 in
-    out_of_memory c.args.self.now _ _ _ (p.1 ∙ ap Err p.2) (same_stored c.self.inside.buffers c.self.inside.buffers c.self.inside.held c.reserve.new.held (rows_map c.self.inside.nicks) (rows_map c.self.inside.nicks) c.self.inside.limit c.self.inside.next c.args.self.now refl c.in_err-reserve.ensures.same refl c.self.view_is)
+pub returns-in_err-buffer : goal.returns-in_err-buffer
+returns-in_err-buffer c =
+    let p = err_from_is_err_and c.from_residual.result c.from_residual.ensures.1 in
+    out_of_memory c.args.self.now _ _ _ (p.1 ∙ ap Err p.2) (same_stored c.self.inside.buffers c.self.inside.buffers c.self.inside.held c.new_buffer.new.held (rows_map c.self.inside.nicks) (rows_map c.new_buffer.new.lists) c.self.inside.limit c.self.inside.next c.args.self.now refl c.in_err-buffer.ensures.same_lines (same_rows c.self.inside.nicks c.new_buffer.new.lists (same_lists c.self.inside.nicks c.new_buffer.new.lists c.in_err-buffer.ensures.same_lists)) c.self.view_is)
 
-pub invariant_of-self-in_err-reserve-2 : goal.invariant_of-self-in_err-reserve-2
-invariant_of-self-in_err-reserve-2 c = kept_reserved c.self.inside.buffers c.self.inside.buffers c.self.inside.held c.reserve.new.held c.self.inside.nicks c.reserve-2.new.lists c.self.inside.limit c.self.inside.next c.self.inside.row_count refl c.in_ok-reserve.ensures.same c.in_err-reserve-2.ensures.same c.self.invariant
+pub put_row-requires-clause-absent : goal.put_row-requires-clause-absent
+put_row-requires-clause-absent c = is_new c.self.inside.buffers c.self.inside.held c.self.inside.limit c.self.inside.next c.self.invariant.0
 
-pub returns-in_err-reserve-2 : goal.returns-in_err-reserve-2
-returns-in_err-reserve-2 c =
-    let p = err_from_is_err_and c.from_residual-in_err-reserve-2.result c.from_residual-in_err-reserve-2.ensures.1 in
-    out_of_memory c.args.self.now _ _ _ (p.1 ∙ ap Err p.2) (same_stored c.self.inside.buffers c.self.inside.buffers c.self.inside.held c.reserve.new.held (rows_map c.self.inside.nicks) (rows_map c.reserve-2.new.lists) c.self.inside.limit c.self.inside.next c.args.self.now refl c.in_ok-reserve.ensures.same (same_rows c.self.inside.nicks c.reserve-2.new.lists (same_lists c.self.inside.nicks c.reserve-2.new.lists c.in_err-reserve-2.ensures.same)) c.self.view_is)
+pub invariant_of-self-in_err-put_row : goal.invariant_of-self-in_err-put_row
+invariant_of-self-in_err-put_row c = kept_reserved c.self.inside.buffers c.put_row.new.buffers c.self.inside.held c.new_buffer.new.held c.self.inside.nicks c.new_buffer.new.lists c.self.inside.limit c.self.inside.next c.self.inside.row_count c.in_err-put_row.ensures.err c.in_ok-buffer.ensures.same_lines c.in_ok-buffer.ensures.same_lists c.self.invariant
 
-pub add-requires-clause-absent : goal.add-requires-clause-absent
-add-requires-clause-absent c = is_new c.self.inside.buffers c.self.inside.held c.self.inside.limit c.self.inside.next c.self.invariant.0
-
-pub invariant_of-self-in-Err : goal.invariant_of-self-in-Err
-invariant_of-self-in-Err c = kept_reserved c.self.inside.buffers c.add.new.self c.self.inside.held c.reserve.new.held c.self.inside.nicks c.reserve-2.new.lists c.self.inside.limit c.self.inside.next c.self.inside.row_count c.in-Err.ensures.err c.in_ok-reserve.ensures.same c.in_ok-reserve-2.ensures.same c.self.invariant
-
-pub returns-in-Err : goal.returns-in-Err
-returns-in-Err c = refusing c.args.self.now _ _ c.in-Err.refused c.refused_by.result c.refused_by.ensures
-    (same_stored c.self.inside.buffers c.add.new.self c.self.inside.held c.reserve.new.held (rows_map c.self.inside.nicks) (rows_map c.reserve-2.new.lists) c.self.inside.limit c.self.inside.next c.args.self.now c.in-Err.ensures.err c.in_ok-reserve.ensures.same (same_rows c.self.inside.nicks c.reserve-2.new.lists (same_lists c.self.inside.nicks c.reserve-2.new.lists c.in_ok-reserve-2.ensures.same)) c.self.view_is)
-    (λ n. by_world (world_of c.self.inside.buffers c.self.inside.held (rows_map c.self.inside.nicks) c.self.inside.limit c.self.inside.next) c.args.self.now c.args.h (Add c.args.spec) _ c.self.view_is (add_refused (world_of c.self.inside.buffers c.self.inside.held (rows_map c.self.inside.nicks) c.self.inside.limit c.self.inside.next) c.args.h c.args.spec _ (c.in-Err.ensures.refused n)))
-
-pub invariant_of-self-then-self : goal.invariant_of-self-then-self
-invariant_of-self-then-self c = kept_reserved c.self.inside.buffers c.close.new.self c.self.inside.held c.reserve.new.held c.self.inside.nicks c.reserve-2.new.lists c.self.inside.limit c.self.inside.next c.self.inside.row_count
-    (undone c.self.inside.buffers c.add.new.self c.close.new.self c.self.inside.held c.self.inside.limit c.self.inside.next c.args.spec c.close.result c.self.invariant.0 c.in-Ok.ensures.after c.are_buffers.ensures c.close.ensures.after c.close.ensures.refused)
-    c.in_ok-reserve.ensures.same c.in_ok-reserve-2.ensures.same c.self.invariant
-
-pub returns-then-self : goal.returns-then-self
-returns-then-self c = (
-  same_stored c.self.inside.buffers c.close.new.self c.self.inside.held c.reserve.new.held (rows_map c.self.inside.nicks) (rows_map c.reserve-2.new.lists) c.self.inside.limit c.self.inside.next c.args.self.now
-      (undone c.self.inside.buffers c.add.new.self c.close.new.self c.self.inside.held c.self.inside.limit c.self.inside.next c.args.spec c.close.result c.self.invariant.0 c.in-Ok.ensures.after c.are_buffers.ensures c.close.ensures.after c.close.ensures.refused)
-      c.in_ok-reserve.ensures.same (same_rows c.self.inside.nicks c.reserve-2.new.lists (same_lists c.self.inside.nicks c.reserve-2.new.lists c.in_ok-reserve-2.ensures.same)) c.self.view_is,
-  by_world (world_of c.self.inside.buffers c.self.inside.held (rows_map c.self.inside.nicks) c.self.inside.limit c.self.inside.next) c.args.self.now c.args.h (Add c.args.spec) _ c.self.view_is (add_spent (world_of c.self.inside.buffers c.self.inside.held (rows_map c.self.inside.nicks) c.self.inside.limit c.self.inside.next) c.args.h c.args.spec c.in-Ok.ensures.accepted (omega (arith, c.if-self.true))),
-)
+pub returns-in_err-put_row : goal.returns-in_err-put_row
+returns-in_err-put_row c =
+    let w = world_of c.self.inside.buffers c.self.inside.held (rows_map c.self.inside.nicks) c.self.inside.limit c.self.inside.next in
+    let e = c.in_err-put_row.field-0.0 in
+    let p = err_from_is_err_and c.from_residual-in_err-put_row.result c.from_residual-in_err-put_row.ensures.1 in
+    not_planned c.args.self.now _ _ e c.from_residual-in_err-put_row.result (p.1 ∙ ap Err p.2)
+    (same_stored c.self.inside.buffers c.put_row.new.buffers c.self.inside.held c.new_buffer.new.held (rows_map c.self.inside.nicks) (rows_map c.new_buffer.new.lists) c.self.inside.limit c.self.inside.next c.args.self.now c.in_err-put_row.ensures.err c.in_ok-buffer.ensures.same_lines (same_rows c.self.inside.nicks c.new_buffer.new.lists (same_lists c.self.inside.nicks c.new_buffer.new.lists c.in_ok-buffer.ensures.same_lists)) c.self.view_is)
+    (λ n. add_refused w c.args.self.now c.args.h c.args.spec e c.self.view_is (c.in_err-put_row.ensures.refused n))
 
 pub invariant_of-self-2 : goal.invariant_of-self-2
 invariant_of-self-2 c =
     let next = c.self.inside.next in
     let entry = new_entry (new_row next c.args.spec) c.args.spec.vars in (
-      kept_added c.self.inside.buffers c.add.new.self c.self.inside.held c.insert.new.held (rows_map c.self.inside.nicks) (rows_map c.insert-2.new.lists) c.self.inside.limit next c.self.invariant.0 c.args.self.now c.self.view_is c.args.h c.in_ok-full_name.full_name c.told.result entry refl c.in-Ok.ensures.after
-          (λ q. c.insert.ensures q ∙ (λ i. cond (eqb next q) (Some (c.in_ok-lines.ensures i)) (c.in_ok-reserve.ensures.same q i))) (omega (arith, c.if-self.false)),
-      nicks_opened c.self.inside.buffers c.add.new.self c.self.inside.nicks c.insert-2.new.lists c.self.inside.row_count c.self.invariant.1 next c.in_ok-list.list (ap (λ (x : Nicks). x.rows) c.in_ok-list.ensures) (ap (λ (x : Nicks). x.root) c.in_ok-list.ensures)
+      kept_added c.self.inside.buffers c.put_row.new.buffers c.self.inside.held c.store-full_name.new.held (rows_map c.self.inside.nicks) (rows_map c.store-full_name.new.lists) c.self.inside.limit next c.self.invariant.0 c.args.self.now c.self.view_is c.args.h c.store-full_name.result c.told.result entry refl c.in_ok-put_row.ensures.after
+          (λ q. c.store-full_name.ensures.lines q ∙ (λ i. cond (eqb next q) (Some (c.in_ok-buffer.ensures.lines i)) (c.in_ok-buffer.ensures.same_lines q i))) c.in_ok-put_row.ensures.left,
+      nicks_opened c.self.inside.buffers c.put_row.new.buffers c.self.inside.nicks c.store-full_name.new.lists c.self.inside.row_count c.self.invariant.1 next c.in_ok-buffer.buffer.list (ap (λ (x : Nicks). x.rows) c.in_ok-buffer.ensures.list) (ap (λ (x : Nicks). x.root) c.in_ok-buffer.ensures.list)
           (no_list (list_at c.self.inside.nicks next) (c.self.invariant.1.stored next ∙ is_new c.self.inside.buffers c.self.inside.held c.self.inside.limit next c.self.invariant.0))
-          (λ q. c.insert-2.ensures q ∙ ap (cond (eqb next q) (Some c.in_ok-list.list)) (c.in_ok-reserve-2.ensures.same q))
-          (has_opened c.self.inside.buffers c.add.new.self entry next refl c.in-Ok.ensures.after),
+          (λ q. c.store-full_name.ensures.lists q ∙ ap (cond (eqb next q) (Some c.in_ok-buffer.buffer.list)) (c.in_ok-buffer.ensures.same_lists q))
+          (has_opened c.self.inside.buffers c.put_row.new.buffers entry next refl c.in_ok-put_row.ensures.after),
     )
 
 pub returns : goal.returns
 returns c =
     let next = c.self.inside.next in
-    let put = put_rows c.self.inside.nicks c.insert-2.new.lists next c.in_ok-list.list (λ q. c.insert-2.ensures q ∙ ap (cond (eqb next q) (Some c.in_ok-list.list)) (c.in_ok-reserve-2.ensures.same q)) in
-    added_done c.self.inside.buffers c.add.new.self c.self.inside.held c.insert.new.held (rows_map c.self.inside.nicks) (rows_map c.insert-2.new.lists) c.self.inside.limit next c.self.invariant.0 c.args.self.now c.self.view_is c.args.h c.in_ok-full_name.full_name c.told.result c.args.spec c.in-Ok.ensures.after c.in-Ok.ensures.accepted (omega (arith, c.if-self.false))
-    (λ q. c.insert.ensures q ∙ (λ i. cond (eqb next q) (Some (c.in_ok-lines.ensures i)) (c.in_ok-reserve.ensures.same q i)))
-    (put ∙ ap (λ (x : Nicks). insert (rows_map c.self.inside.nicks) next x.rows) c.in_ok-list.ensures)
-    c.in_ok-full_name.ensures c.told.ensures
+    let put = put_rows c.self.inside.nicks c.store-full_name.new.lists next c.in_ok-buffer.buffer.list (λ q. c.store-full_name.ensures.lists q ∙ ap (cond (eqb next q) (Some c.in_ok-buffer.buffer.list)) (c.in_ok-buffer.ensures.same_lists q)) in
+    added_done c.self.inside.buffers c.put_row.new.buffers c.self.inside.held c.store-full_name.new.held (rows_map c.self.inside.nicks) (rows_map c.store-full_name.new.lists) c.self.inside.limit next c.self.invariant.0 c.args.self.now c.self.view_is c.args.h c.store-full_name.result c.told.result c.args.spec c.in_ok-put_row.ensures.after c.in_ok-put_row.ensures.accepted c.in_ok-put_row.ensures.left
+    (λ q. c.store-full_name.ensures.lines q ∙ (λ i. cond (eqb next q) (Some (c.in_ok-buffer.ensures.lines i)) (c.in_ok-buffer.ensures.same_lines q i)))
+    (put ∙ ap (λ (x : Nicks). insert (rows_map c.self.inside.nicks) next x.rows) c.in_ok-buffer.ensures.list)
+    (c.store-full_name.ensures.name ∙ c.in_ok-buffer.ensures.name) c.told.ensures

@@ -51,5 +51,5 @@ pub returns-clause-touched : goal.returns-clause-touched
 returns-clause-touched g c =
     let w = world_of c.self.inside.buffers c.self.inside.held (rows_map c.self.inside.nicks) c.self.inside.limit c.self.inside.next in
     let own = rows_listed c.self.inside.nicks c.args.h.0 c.at.result.now c.at.ensures in
-    row_touched w c.args.self.now c.args.h (remove_of c.args.is_group c.args.name) (key_at c.args.is_group c.args.name) (key_at c.args.is_group c.args.name) c.in_ok-before.before _ _ c.self.view_is (is_removing c.args.is_group c.args.name) refl
-    (c.in_ok-before.ensures.row ∙ ap (find_row (key_at c.args.is_group c.args.name)) (sym own)) c.in_ok-touch.ensures.ok
+    row_touched w c.args.self.now c.args.h (remove_of c.args.is_group c.args.name) (key_at c.args.is_group c.args.name) (key_at c.args.is_group c.args.name) (find_row (key_at c.args.is_group c.args.name) c.at.result.now.rows) _ _ c.self.view_is (is_removing c.args.is_group c.args.name) refl
+    (ap (find_row (key_at c.args.is_group c.args.name)) (sym own)) c.in_ok-touch_row.ensures.ok

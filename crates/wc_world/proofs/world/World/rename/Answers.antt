@@ -19,7 +19,7 @@ use Rattle.wc_world.proofs.world.World.rename.Goals as goal
 pub returns-in-Some : goal.returns-in-Some
 returns-in-Some c =
     let old = world_of c.self.inside.buffers c.self.inside.held (rows_map c.self.inside.nicks) c.self.inside.limit c.self.inside.next in
-    refusing c.args.self.now _ (record { buffer = c.args.h; what = Rename c.args.name c.args.flips }) c.in-Some.refused c.refused_by.result c.refused_by.ensures refl
+    refusing c.args.self.now _ (record { buffer = c.args.h; what = Rename c.args.name c.args.flips }) c.in-Some.refused c.into.result c.into.ensures refl
     (λ n. by_world old c.args.self.now c.args.h (Rename c.args.name c.args.flips) _ c.self.view_is (rename_refused old c.args.h c.args.name c.args.flips c.in-Some.refused c.in-Some.ensures n))
 
 pub returns-in_err-plan : goal.returns-in_err-plan
@@ -33,10 +33,10 @@ pub invariant_of-self-2 : goal.invariant_of-self-2
 invariant_of-self-2 c =
     let plan : IsPlan c.args.flips c.args.self.now c.in_ok-plan.plan = subst (λ flips. IsPlan flips c.args.self.now c.in_ok-plan.plan) c.as_slice.ensures c.in_ok-plan.ensures in
     let ordered = ap numbers c.as_slice-2.ensures ∙ plan.ordered ∙ sym (ap (λ (w : World). order w.groups) c.self.view_is) in (
-      kept_renamed c.self.inside.buffers c.rename.new.self c.set_flags.new.held c.self.inside.limit c.self.inside.next c.args.h c.args.name c.in-Ok.ensures.after
+      kept_renamed c.self.inside.buffers c.rename.new.self c.set_flags.new.held c.self.inside.limit c.self.inside.next c.args.h c.args.name c.in_ok-rename.ensures.after
           (kept_set c.self.inside.buffers c.self.inside.held c.set_flags.new.held (rows_map c.self.inside.nicks) c.self.inside.limit c.self.inside.next c.self.invariant.0 c.args.flips
           (all_set c.self.inside.buffers c.self.inside.held c.set_flags.new.held c.self.inside.limit c.self.inside.next c.args.flips (flag_at c.in_ok-plan.plan.flags) _ c.self.invariant.0 ordered plan.last c.set_flags.ensures)),
-      nicks_renamed c.self.inside.buffers c.rename.new.self c.self.inside.nicks c.self.inside.row_count c.args.h c.args.name c.in-Ok.ensures.after c.self.invariant.1,
+      nicks_renamed c.self.inside.buffers c.rename.new.self c.self.inside.nicks c.self.inside.row_count c.args.h c.args.name c.in_ok-rename.ensures.after c.self.invariant.1,
     )
 
 pub returns : goal.returns
@@ -46,4 +46,4 @@ returns c =
     rename_done c.self.inside.buffers c.self.inside.held c.set_flags.new.held (rows_map c.self.inside.nicks) c.self.inside.limit c.self.inside.next c.self.invariant.0 c.args.flips
     (all_set c.self.inside.buffers c.self.inside.held c.set_flags.new.held c.self.inside.limit c.self.inside.next c.args.flips (flag_at c.in_ok-plan.plan.flags) _ c.self.invariant.0 ordered plan.last c.set_flags.ensures)
     c.args.self.now c.args.h c.self.view_is plan.all_held [] c.in_ok-plan.plan.differing c.noticed.result refl plan.found
-    c.rename.new.self c.args.name c.in-Ok.ensures.accepted c.in-Ok.ensures.after (c.noticed.ensures ∙ ap (λ lines. told_at kinds.Renamed c.args.h c.rename.new.self c.args.name lines c.in_ok-plan.plan.differing) c.new.ensures)
+    c.rename.new.self c.args.name c.in_ok-rename.ensures.accepted c.in_ok-rename.ensures.after (c.noticed.ensures ∙ ap (λ lines. told_at kinds.Renamed c.args.h c.rename.new.self c.args.name lines c.in_ok-plan.plan.differing) c.new.ensures)

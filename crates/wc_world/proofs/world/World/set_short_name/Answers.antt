@@ -7,15 +7,15 @@ use Rattle.wc_world.specs.Kept.{world_of}
 use Rattle.wc_world.specs.Nicks.{rows_map}
 use Rattle.wc_world.proofs.Done.{are_apart, kept_grouped, short_name_done}
 use Rattle.wc_world.proofs.GroupRows.{has-update}
-use Rattle.wc_world.proofs.Refused.{refusing, same_groups, by_world}
+use Rattle.wc_world.proofs.Refused.{groups_refused}
 use Rattle.wc_world.proofs.world.World.set_short_name.Goals as goal
 
-pub returns-in-Err : goal.returns-in-Err
+pub returns-in_err-set_short_name : goal.returns-in_err-set_short_name
 unfolding refusal_of
-returns-in-Err c = refusing c.args.self.now _ (record { buffer = c.args.h; what = ShortName c.args.short_name }) c.in-Err.refused c.refused_by.result c.refused_by.ensures (same_groups c.self.inside.buffers c.set_short_name.new.self c.self.inside.held (rows_map c.self.inside.nicks) c.self.inside.limit c.self.inside.next c.args.self.now c.in-Err.ensures.err c.self.view_is) (λ n. by_world (world_of c.self.inside.buffers c.self.inside.held (rows_map c.self.inside.nicks) c.self.inside.limit c.self.inside.next) c.args.self.now c.args.h (ShortName c.args.short_name) _ c.self.view_is (ap of_buffers (c.in-Err.ensures.refused n)))
+returns-in_err-set_short_name c = groups_refused c.self.inside.buffers c.set_short_name.new.self c.self.inside.held (rows_map c.self.inside.nicks) c.self.inside.limit c.self.inside.next c.args.self.now c.args.h (ShortName c.args.short_name) _ c.from_residual-in_err-set_short_name.result c.from_residual-in_err-set_short_name.ensures.1 c.in_err-set_short_name.ensures.err c.self.view_is (λ n. ap of_buffers (c.in_err-set_short_name.ensures.refused n))
 
 pub invariant_of-self-2 : goal.invariant_of-self-2
-invariant_of-self-2 c = kept_grouped c.self.inside.buffers c.set_short_name.new.self c.self.inside.held c.self.inside.nicks c.self.inside.limit c.self.inside.next c.self.inside.row_count (λ q. ap (has handle_of q) c.in-Ok.ensures.after ∙ has-update handle_of c.args.h.0 (with_short_name c.args.short_name) (λ x. refl) q c.self.inside.buffers) c.self.invariant
+invariant_of-self-2 c = kept_grouped c.self.inside.buffers c.set_short_name.new.self c.self.inside.held c.self.inside.nicks c.self.inside.limit c.self.inside.next c.self.inside.row_count (λ q. ap (has handle_of q) c.in_ok-set_short_name.ensures.after ∙ has-update handle_of c.args.h.0 (with_short_name c.args.short_name) (λ x. refl) q c.self.inside.buffers) c.self.invariant
 
 pub returns : goal.returns
-returns c = short_name_done (world_of c.self.inside.buffers c.self.inside.held (rows_map c.self.inside.nicks) c.self.inside.limit c.self.inside.next) c.args.self.now c.args.h c.set_short_name.new.self c.in_ok-full_name.full_name [] [] c.told.result c.self.view_is (are_apart c.self.inside.buffers c.self.inside.held (rows_map c.self.inside.nicks) c.self.inside.limit c.self.inside.next c.self.invariant.0) c.in_ok-full_name.ensures refl refl c.args.short_name c.in-Ok.ensures.after c.in-Ok.ensures.accepted c.told.ensures
+returns c = short_name_done (world_of c.self.inside.buffers c.self.inside.held (rows_map c.self.inside.nicks) c.self.inside.limit c.self.inside.next) c.args.self.now c.args.h c.set_short_name.new.self c.in_ok-full_name.full_name [] [] c.told.result c.self.view_is (are_apart c.self.inside.buffers c.self.inside.held (rows_map c.self.inside.nicks) c.self.inside.limit c.self.inside.next c.self.invariant.0) c.in_ok-full_name.ensures refl refl c.args.short_name c.in_ok-set_short_name.ensures.after c.in_ok-set_short_name.ensures.accepted c.told.ensures

@@ -8,15 +8,15 @@ use Rattle.wc_world.specs.Nicks.{rows_map}
 use Rattle.wc_world.specs.Told.{told_at}
 use Rattle.wc_world.proofs.Done.{are_apart, kept_grouped, set_var_done}
 use Rattle.wc_world.proofs.GroupRows.{has-update}
-use Rattle.wc_world.proofs.Refused.{refusing, same_groups, by_world}
+use Rattle.wc_world.proofs.Refused.{groups_refused}
 use Rattle.wc_world.proofs.world.World.set_var.Goals as goal
 
-pub returns-in-Err : goal.returns-in-Err
+pub returns-in_err-new : goal.returns-in_err-new
 unfolding refusal_of
-returns-in-Err c = refusing c.args.self.now _ (record { buffer = c.args.h; what = SetVar c.args.var }) c.in-Err.refused c.refused_by.result c.refused_by.ensures (same_groups c.self.inside.buffers c.set_var.new.self c.self.inside.held (rows_map c.self.inside.nicks) c.self.inside.limit c.self.inside.next c.args.self.now c.in-Err.ensures.err c.self.view_is) (λ n. by_world (world_of c.self.inside.buffers c.self.inside.held (rows_map c.self.inside.nicks) c.self.inside.limit c.self.inside.next) c.args.self.now c.args.h (SetVar c.args.var) _ c.self.view_is (ap of_buffers (c.in-Err.ensures.refused n)))
+returns-in_err-new c = groups_refused c.self.inside.buffers c.set_var.new.self c.self.inside.held (rows_map c.self.inside.nicks) c.self.inside.limit c.self.inside.next c.args.self.now c.args.h (SetVar c.args.var) _ c.from_residual-in_err-new.result c.from_residual-in_err-new.ensures.1 c.in_err-new.ensures.err c.self.view_is (λ n. ap of_buffers (c.in_err-new.ensures.refused n))
 
 pub invariant_of-self-2 : goal.invariant_of-self-2
-invariant_of-self-2 c = kept_grouped c.self.inside.buffers c.set_var.new.self c.self.inside.held c.self.inside.nicks c.self.inside.limit c.self.inside.next c.self.inside.row_count (λ q. ap (has handle_of q) c.in-Ok.ensures.after ∙ has-update handle_of c.args.h.0 (with_var c.args.var.name c.args.var.value) (λ x. refl) q c.self.inside.buffers) c.self.invariant
+invariant_of-self-2 c = kept_grouped c.self.inside.buffers c.set_var.new.self c.self.inside.held c.self.inside.nicks c.self.inside.limit c.self.inside.next c.self.inside.row_count (λ q. ap (has handle_of q) c.in_ok-new.ensures.after ∙ has-update handle_of c.args.h.0 (with_var c.args.var.name c.args.var.value) (λ x. refl) q c.self.inside.buffers) c.self.invariant
 
 pub returns : goal.returns
-returns c = set_var_done (world_of c.self.inside.buffers c.self.inside.held (rows_map c.self.inside.nicks) c.self.inside.limit c.self.inside.next) c.args.self.now c.args.h c.set_var.new.self c.in_ok-full_name.full_name [] [] c.told.result c.self.view_is (are_apart c.self.inside.buffers c.self.inside.held (rows_map c.self.inside.nicks) c.self.inside.limit c.self.inside.next c.self.invariant.0) c.in_ok-full_name.ensures refl refl c.args.var c.in-Ok.new c.in-Ok.ensures.after c.in-Ok.ensures.accepted c.in-Ok.ensures.new (c.told.ensures ∙ ap (λ k. told_at k c.args.h c.set_var.new.self c.in_ok-full_name.full_name [] []) c.var_kind.ensures)
+returns c = set_var_done (world_of c.self.inside.buffers c.self.inside.held (rows_map c.self.inside.nicks) c.self.inside.limit c.self.inside.next) c.args.self.now c.args.h c.set_var.new.self c.in_ok-full_name.full_name [] [] c.told.result c.self.view_is (are_apart c.self.inside.buffers c.self.inside.held (rows_map c.self.inside.nicks) c.self.inside.limit c.self.inside.next c.self.invariant.0) c.in_ok-full_name.ensures refl refl c.args.var c.in_ok-new.new c.in_ok-new.ensures.after c.in_ok-new.ensures.accepted c.in_ok-new.ensures.new (c.told.ensures ∙ ap (λ k. told_at k c.args.h c.set_var.new.self c.in_ok-full_name.full_name [] []) c.var_kind.ensures)
