@@ -1,5 +1,6 @@
 ghost use Rattle.std.specs.HashMap.{spare};
-ghost use Rattle.std.specs.Prelude.{◌≡◌, ◌≢◌, ◌<◌, ◌≤◌, ◌^◌, ℕ, IfOk, IfErr, OnOk, OnErr, [], None};
+ghost use Rattle.std.specs.Prelude.{◌≡◌, ◌≢◌, ◌<◌, ◌≤◌, ◌^◌, ℕ, IfOk, IfErr, OnOk, OnErr};
+ghost use Rattle.std.specs.Prelude.{[], None};
 ghost use Rattle.std.specs.Prelude.{◌+◌, Some, false, nat_eq, nat_lt, if◌then◌else◌};
 ghost use Rattle.std.specs.Str.{IsUtf8};
 ghost use Rattle.wc_buffers.specs.Calls.{add_refusal, close_refusal, handle_of, with_buffer};
