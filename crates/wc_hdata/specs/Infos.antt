@@ -22,6 +22,13 @@ info_of name =
 unfoldable pub variable : List ℕ → Object → InlVar
 variable name value = roll-InlVar (record { name = name; value = value })
 
+-- the names and the title of a buffer
+abbrev pub names_of : BufferRow → List InlVar
+names_of row =
+    variable (codes "full_name") (text row.full_name) ∷
+    variable (codes "short_name") (text row.short_name) ∷
+    variable (codes "title") (text row.title) ∷ []
+
 -- what the list of buffers has of one
 unfoldable pub variables_of : ℤ → Handle → BufferRow → List InlVar
 variables_of number buffer row =

@@ -4,7 +4,8 @@ ghost use Rattle.std.specs.Prelude.{◌≡◌, ◌++◌, ◌∷◌, [], IfOk, On
 ghost use Rattle.std.specs.Option.{option_copied};
 ghost use Rattle.wc_buffers.specs.Calls.{entry_of};
 ghost use Rattle.wc_hdata.specs.Infos.{info_of, infolist_object, buffer_item, buffer_items};
-ghost use Rattle.wc_hdata.specs.Infos.{variable, variables_of};
+ghost use Rattle.wc_hdata.specs.Infos.{names_of, variable, variables_of};
+ghost use Rattle.wc_events.specs.BufferObjects.{text};
 ghost use Rattle.wc_hdata.specs.Steps.{all_buffers};
 
 use crate::buffer_values::{number, row_and_vars};
@@ -52,6 +53,28 @@ fn push_variable(
     vars.push(InlVar { name, value })
 }
 
+/// Puts a variable that is a text after others.
+fn push_text(
+    alloc: Global,
+    vars: &mut Items<InlVar>,
+    name: &[u8],
+    value: &Text,
+) -> Result<(), NoMemory>
+    ensures { OnOk result (vars.new ≡ vars.old ++ variable name.now (text value.now) ∷ []) }
+{
+    let value = text(alloc, value)?;
+    push_variable(alloc, vars, name, value)
+}
+
+/// Puts the names and the title of a buffer after others.
+fn push_names(alloc: Global, vars: &mut Items<InlVar>, row: &BufferRow) -> Result<(), NoMemory>
+    ensures { OnOk result (vars.new ≡ vars.old ++ names_of row.now) }
+{
+    push_text(alloc, vars, b"full_name", &row.full_name)?;
+    push_text(alloc, vars, b"short_name", &row.short_name)?;
+    push_text(alloc, vars, b"title", &row.title)
+}
+
 /// What the list of buffers has of one.
 #[tactic(auto, unfolding(crate::specs::Infos::variables_of))]
 fn variables_of(
@@ -63,17 +86,10 @@ fn variables_of(
     ensures { IfOk result (λ vars. vars ≡ variables_of number buffer row.now) }
 {
     let mut vars = Items::new(alloc);
-    let hidden = Object::Int(i32::from(truth(row.hidden)));
     push_variable(alloc, &mut vars, b"pointer", Object::Ptr(buffer.0))?;
     push_variable(alloc, &mut vars, b"number", Object::Int(number))?;
-    push_variable(alloc, &mut vars, b"full_name", text(alloc, &row.full_name)?)?;
-    push_variable(
-        alloc,
-        &mut vars,
-        b"short_name",
-        text(alloc, &row.short_name)?,
-    )?;
-    push_variable(alloc, &mut vars, b"title", text(alloc, &row.title)?)?;
+    push_names(alloc, &mut vars, row)?;
+    let hidden = Object::Int(i32::from(truth(row.hidden)));
     push_variable(alloc, &mut vars, b"hidden", hidden)?;
     Ok(vars)
 }
