@@ -1,6 +1,6 @@
 //! What the loop sees of the core, and what it takes of its clients.
 
-ghost use Rattle.std.specs.Prelude.{◌≡◌, ℕ, length, IfSome};
+ghost use Rattle.std.specs.Prelude.{◌≡◌, ◌≤◌, ℕ, length, IfSome};
 ghost use Rattle.std.specs.Option.{option_copied};
 ghost use Rattle.wc_outside.specs.Keyed.{at_key, without};
 ghost use Rattle.wc_core.specs.Events.{Tick};
