@@ -15,7 +15,7 @@ pub enum CaseMap {
 
 impl CaseMap {
     /// The character that stands for all that are the same as this one.
-    fn fold(self, byte: u8) -> u8
+    pub fn fold(self, byte: u8) -> u8
         ensures { result ≡ fold_by (folded_signs self) byte }
     {
         match (self, byte) {

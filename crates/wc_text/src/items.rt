@@ -35,11 +35,26 @@ impl<T> Items<T> {
         }
     }
 
+    /// The empty list, with room for this many values.
+    pub fn with_room(alloc: Global, room: usize) -> Result<Items<T>, NoMemory>
+        ensures { IfOk result (λ items. items ≡ []) }
+    {
+        let items = Vec::with_capacity(alloc, room)?;
+        Ok(Items { items })
+    }
+
     /// The values, in order.
     pub fn as_slice(&self) -> &[T]
         ensures { result.now ≡ self.now }
     {
         self.items.as_slice()
+    }
+
+    /// The values, in order, in a vector of their own. It takes no memory.
+    pub fn into_vec(self) -> Vec<T>
+        ensures { result.items ≡ self }
+    {
+        self.items
     }
 }
 
