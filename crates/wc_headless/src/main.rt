@@ -1,21 +1,9 @@
 //! A chat core without a screen, read through relays.
 #![tactic(auto)]
 
-mod file_keeper;
-mod links;
-mod mio_sockets;
-mod report;
-mod rows;
-mod std_sink;
-mod streams;
-#[cfg(test)]
-mod tests;
-
-use file_keeper::FileKeeper;
-use mio_sockets::MioSockets;
 use std::process::ExitCode;
 use std::{env, io};
-use std_sink::StdSink;
+use wc_edge::{FileKeeper, MioSockets, StdSink};
 use wc_loop::{config_dir, run_program};
 
 fn main(rt: HostRuntime) -> io::Result<ExitCode> {

@@ -9,3 +9,4 @@ pub mod AskLemmas
 pub mod ReadLemmas
 pub mod Utf8Lemmas
 pub mod RequestTexts
+mod PadLemmas

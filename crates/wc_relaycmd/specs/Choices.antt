@@ -3,15 +3,17 @@ use Rattle.std.specs.Prelude.{ℕ, List, [], ◌∷◌, Bool, false, ◌&&◌, O
 use Rattle.std.specs.List.{slice_split, list_any}
 use Rattle.std.specs.Str.{bytes_eq}
 use Rattle.wc_relaycmd.specs.declared.algorithm.Algorithm.{Algorithm}
-use Rattle.wc_relaycmd.specs.declared.algorithm.Algorithm.TheVariants.{Plain, Sha256, Sha512}
+use Rattle.wc_relaycmd.specs.declared.algorithm.Algorithm.TheVariants as a
 use Rattle.wc_text.specs.Mask.{matches_of}
 use Rattle.wc_relaycmd.specs.Lists.{pieces_of}
 
 -- how an algorithm is written
 abbrev pub algorithm_name : Algorithm → List ℕ
-algorithm_name Plain = codes "plain"
-algorithm_name Sha256 = codes "sha256"
-algorithm_name Sha512 = codes "sha512"
+algorithm_name a.Plain = codes "plain"
+algorithm_name a.Sha256 = codes "sha256"
+algorithm_name a.Sha512 = codes "sha512"
+algorithm_name a.Pbkdf2Sha256 = codes "pbkdf2+sha256"
+algorithm_name a.Pbkdf2Sha512 = codes "pbkdf2+sha512"
 
 -- the client's list, parted at colons, has the name
 abbrev pub is_offered : List ℕ → List ℕ → Bool
@@ -28,4 +30,5 @@ is_common offered allowed algorithm = is_offered offered (algorithm_name algorit
 
 -- the first of the algorithms, from the strongest down, that is offered and allowed
 abbrev pub choice_of : List ℕ → List ℕ → Option Algorithm
-choice_of offered allowed = find (is_common offered allowed) (Sha512 ∷ Sha256 ∷ Plain ∷ [])
+choice_of offered allowed = find (is_common offered allowed)
+    (a.Pbkdf2Sha512 ∷ a.Pbkdf2Sha256 ∷ a.Sha512 ∷ a.Sha256 ∷ a.Plain ∷ [])

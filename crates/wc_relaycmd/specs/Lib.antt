@@ -6,3 +6,4 @@ pub mod Answers
 pub mod Utf8
 pub mod Choices
 pub mod Logins
+pub mod Pbkdf2

@@ -13,6 +13,10 @@ pub enum Algorithm {
     Sha256,
     /// By the SHA-512 of a salt and the password.
     Sha512,
+    /// By PBKDF2 over SHA-256, of the password and a salt.
+    Pbkdf2Sha256,
+    /// By PBKDF2 over SHA-512, of the password and a salt.
+    Pbkdf2Sha512,
 }
 
 impl Algorithm {
@@ -24,6 +28,8 @@ impl Algorithm {
             Algorithm::Plain => b"plain",
             Algorithm::Sha256 => b"sha256",
             Algorithm::Sha512 => b"sha512",
+            Algorithm::Pbkdf2Sha256 => b"pbkdf2+sha256",
+            Algorithm::Pbkdf2Sha512 => b"pbkdf2+sha512",
         }
     }
 }
@@ -55,8 +61,14 @@ fn is_common(offered: &[u8], allowed: &[u8], algorithm: Algorithm) -> bool
 pub fn choose_algorithm(offered: &[u8], allowed: &[u8]) -> Option<Algorithm>
     ensures { result ≡ choice_of offered.now allowed.now }
 {
-    [Algorithm::Sha512, Algorithm::Sha256, Algorithm::Plain]
-        .iter()
-        .copied()
-        .find(|algorithm| is_common(offered, allowed, *algorithm))
+    [
+        Algorithm::Pbkdf2Sha512,
+        Algorithm::Pbkdf2Sha256,
+        Algorithm::Sha512,
+        Algorithm::Sha256,
+        Algorithm::Plain,
+    ]
+    .iter()
+    .copied()
+    .find(|algorithm| is_common(offered, allowed, *algorithm))
 }

@@ -1,15 +1,23 @@
 ghost use Rattle.std.specs.Option.{option_copied};
 ghost use Rattle.std.specs.Prelude.{◌≡◌, ◌++◌, ◌↔◌, IsTrue, IfOk, Some};
-ghost use Rattle.wc_relaycmd.specs.Choices.{algorithm_name};
-ghost use Rattle.wc_relaycmd.specs.Logins.{hash_named, bytes_in, hash_from, hash_of, login_of};
-ghost use Rattle.wc_relaycmd.specs.Logins.{IsDigestOf, IsSalted, Proves, LetsIn};
+ghost use Rattle.sha2.specs.Sha256.{sha256};
+ghost use Rattle.sha2.specs.Sha512.{sha512};
+ghost use Rattle.wc_relaycmd.specs.declared.algorithm.Algorithm.TheVariants.{Pbkdf2Sha256, Pbkdf2Sha512};
+ghost use Rattle.wc_relaycmd.specs.Logins.{hash_named, rounds_named, rounds_in, bytes_in};
+ghost use Rattle.wc_relaycmd.specs.Logins.{hash_from, hash_of, login_of};
+ghost use Rattle.wc_relaycmd.specs.Logins.{round_count, IsDigestOf, IsSalted, Proves, LetsIn};
 
 use crate::algorithm::Algorithm;
 use crate::lists::last_value;
+use crate::rounds_sha256::pbkdf2_sha256;
+use crate::rounds_sha512::pbkdf2_sha512;
 use hex::FromHexError;
 use sha2::{Digest, Sha256, Sha512};
 use std::alloc::Global;
-use wc_text::{Items, NoMemory, Pair, Text, split_once};
+use wc_text::{Items, NoMemory, Pair, Text, read_i64, split_once};
+
+/// How many rounds PBKDF2 takes here.
+const ROUNDS: u32 = 100_000;
 
 /// What a client gives to be let in.
 #[derive(Drop)]
@@ -19,10 +27,12 @@ pub struct Login {
     pub hash: Option<HashLogin>,
 }
 
-/// A hash of a salt and the password after it. The salt and the hash are bytes, and no text.
+/// A hash of a salt and the password. The salt and the hash are bytes, and no text.
 #[derive(Drop)]
 pub struct HashLogin {
     pub algorithm: Algorithm,
+    /// How often it was hashed, where the algorithm hashes in rounds, else 0.
+    pub rounds: u32,
     pub salt: Text,
     pub hash: Text,
 }
@@ -39,6 +49,26 @@ fn hash_named(name: &[u8]) -> Option<Algorithm>
     None
 }
 
+fn rounds_named(name: &[u8]) -> Option<Algorithm>
+    ensures { result ≡ rounds_named name.now }
+{
+    if name == Algorithm::Pbkdf2Sha256.name() {
+        return Some(Algorithm::Pbkdf2Sha256);
+    }
+    if name == Algorithm::Pbkdf2Sha512.name() {
+        return Some(Algorithm::Pbkdf2Sha512);
+    }
+    None
+}
+
+/// The number of rounds that a text counts.
+#[tactic(auto, unfolding(crate::specs::Logins::rounds_in))]
+fn rounds_in(text: &[u8]) -> Option<u32>
+    ensures { result ≡ rounds_in text.now }
+{
+    u32::try_from(read_i64(text)?).ok()
+}
+
 /// The bytes that hex digits of either case write. None where they are no pairs of digits.
 fn hex_bytes(alloc: Global, digits: &[u8]) -> Result<Option<Text>, NoMemory>
     ensures { IfOk result (λ bytes. bytes ≡ bytes_in digits.now) }
@@ -53,13 +83,17 @@ fn hex_bytes(alloc: Global, digits: &[u8]) -> Result<Option<Text>, NoMemory>
 #[tactic(auto, unfolding(crate::specs::Logins::hash_from))]
 fn hash_from(
     alloc: Global,
-    name: &[u8],
+    algorithm: Option<Algorithm>,
+    rounds: Option<u32>,
     salt: &[u8],
     hash: &[u8],
 ) -> Result<Option<HashLogin>, NoMemory>
-    ensures { IfOk result (λ login. login ≡ hash_from name.now salt.now hash.now) }
+    ensures { IfOk result (λ login. login ≡ hash_from algorithm rounds salt.now hash.now) }
 {
-    let Some(algorithm) = hash_named(name) else {
+    let Some(algorithm) = algorithm else {
+        return Ok(None);
+    };
+    let Some(rounds) = rounds else {
         return Ok(None);
     };
     let Some(salt) = hex_bytes(alloc, salt)? else {
@@ -70,12 +104,14 @@ fn hash_from(
     };
     Ok(Some(HashLogin {
         algorithm,
+        rounds,
         salt,
         hash,
     }))
 }
 
-/// The hash login that a text of the form `algorithm:salt:hash` writes.
+/// The hash login that a text of the form `algorithm:salt:hash` or `algorithm:salt:rounds:hash`
+/// writes.
 fn read_hash(alloc: Global, text: &[u8]) -> Result<Option<HashLogin>, NoMemory>
     ensures { IfOk result (λ login. login ≡ hash_of text.now) }
 {
@@ -87,11 +123,15 @@ fn read_hash(alloc: Global, text: &[u8]) -> Result<Option<HashLogin>, NoMemory>
     let Some(text_after) = text_after else {
         return Ok(None);
     };
+    let (third, text_after) = split_once(text_after, b':');
+    let Some(text_after) = text_after else {
+        return hash_from(alloc, hash_named(name), Some(0), salt, third);
+    };
     let (hash, more) = split_once(text_after, b':');
     if let Some(_) = more {
         return Ok(None);
     }
-    hash_from(alloc, name, salt, hash)
+    hash_from(alloc, rounds_named(name), rounds_in(third), salt, hash)
 }
 
 fn copy_of(alloc: Global, text: Option<&Text>) -> Result<Option<Text>, NoMemory>
@@ -104,8 +144,9 @@ fn copy_of(alloc: Global, text: Option<&Text>) -> Result<Option<Text>, NoMemory>
 }
 
 /// The login that the pairs of `init` write. Of a repeated name the last counts, and unknown names
-/// are ignored. None exactly where a `password_hash` is given that is not `sha256:SALT:HASH` or
-/// `sha512:SALT:HASH`, the salt and the hash in hex.
+/// are ignored. None exactly where a `password_hash` is given that is not `sha256:SALT:HASH`,
+/// `sha512:SALT:HASH`, `pbkdf2+sha256:SALT:ROUNDS:HASH` or `pbkdf2+sha512:SALT:ROUNDS:HASH`, the
+/// salt and the hash in hex and the rounds a number of at most 32 bits.
 #[tactic(auto, unfolding(crate::specs::Logins::login_of))]
 pub fn read_login(alloc: Global, pairs: &Items<Pair>) -> Result<Option<Login>, NoMemory>
     ensures { IfOk result (λ login. login ≡ login_of pairs.now) }
@@ -126,26 +167,72 @@ pub fn read_login(alloc: Global, pairs: &Items<Pair>) -> Result<Option<Login>, N
     }))
 }
 
-/// Whether a digest is that of the salt and the password after it.
-fn is_digest(algorithm: Algorithm, salt: &[u8], password: &[u8], digest: &[u8]) -> bool
-    ensures { IsTrue result ↔ IsDigestOf algorithm (salt.now ++ password.now) digest.now }
+/// Whether a digest is the SHA-256 of the salt and the password after it.
+fn is_sha256(digest: &[u8], salt: &[u8], password: &[u8]) -> bool
+    ensures { IsTrue result ↔ (digest.now ≡ sha256 (salt.now ++ password.now)) }
 {
+    let mut hasher = Sha256::new();
+    hasher.update(salt);
+    hasher.update(password);
+    let made = hasher.finalize();
+    is_same_secret(digest, made.as_slice())
+}
+
+/// Whether a digest is the SHA-512 of the salt and the password after it.
+fn is_sha512(digest: &[u8], salt: &[u8], password: &[u8]) -> bool
+    ensures { IsTrue result ↔ (digest.now ≡ sha512 (salt.now ++ password.now)) }
+{
+    let mut hasher = Sha512::new();
+    hasher.update(salt);
+    hasher.update(password);
+    let made = hasher.finalize();
+    is_same_secret(digest, made.as_slice())
+}
+
+/// Whether a hash was made in as many rounds as are taken here.
+fn has_rounds(login: &HashLogin) -> bool
+    ensures { IsTrue result ↔ (login.now.rounds ≡ round_count) }
+{
+    login.rounds == ROUNDS
+}
+
+/// Whether a hash is that of PBKDF2 over SHA-256, in as many rounds as are taken here.
+fn is_sha256_key(login: &HashLogin, password: &[u8]) -> bool
+    ensures { IsTrue result ↔ IsDigestOf Pbkdf2Sha256 login.now.salt password.now
+        login.now.rounds login.now.hash }
+{
+    if !has_rounds(login) {
+        return false;
+    }
+    let made = pbkdf2_sha256(password, login.salt.as_slice(), login.rounds);
+    is_same_secret(login.hash.as_slice(), made.as_slice())
+}
+
+/// Whether a hash is that of PBKDF2 over SHA-512, in as many rounds as are taken here.
+fn is_sha512_key(login: &HashLogin, password: &[u8]) -> bool
+    ensures { IsTrue result ↔ IsDigestOf Pbkdf2Sha512 login.now.salt password.now
+        login.now.rounds login.now.hash }
+{
+    if !has_rounds(login) {
+        return false;
+    }
+    let made = pbkdf2_sha512(password, login.salt.as_slice(), login.rounds);
+    is_same_secret(login.hash.as_slice(), made.as_slice())
+}
+
+/// Whether the hash of a login is that of its salt and the password by an algorithm.
+fn is_digest(algorithm: Algorithm, login: &HashLogin, password: &[u8]) -> bool
+    ensures { IsTrue result ↔ IsDigestOf algorithm login.now.salt password.now login.now.rounds
+        login.now.hash }
+{
+    let salt = login.salt.as_slice();
+    let hash = login.hash.as_slice();
     match algorithm {
         Algorithm::Plain => false,
-        Algorithm::Sha256 => {
-            let mut hasher = Sha256::new();
-            hasher.update(salt);
-            hasher.update(password);
-            let made = hasher.finalize();
-            is_same_secret(digest, made.as_slice())
-        }
-        Algorithm::Sha512 => {
-            let mut hasher = Sha512::new();
-            hasher.update(salt);
-            hasher.update(password);
-            let made = hasher.finalize();
-            is_same_secret(digest, made.as_slice())
-        }
+        Algorithm::Sha256 => is_sha256(hash, salt, password),
+        Algorithm::Sha512 => is_sha512(hash, salt, password),
+        Algorithm::Pbkdf2Sha256 => is_sha256_key(login, password),
+        Algorithm::Pbkdf2Sha512 => is_sha512_key(login, password),
     }
 }
 
@@ -165,11 +252,10 @@ fn proves(login: &HashLogin, password: &[u8], nonce: &[u8], chosen: Algorithm) -
     if login.algorithm != chosen {
         return false;
     }
-    let salt = login.salt.as_slice();
-    if !is_salted(salt, nonce) {
+    if !is_salted(login.salt.as_slice(), nonce) {
         return false;
     }
-    is_digest(chosen, salt, password, login.hash.as_slice())
+    is_digest(chosen, login, password)
 }
 
 fn is_password(given: &Option<Text>, password: &[u8]) -> bool
@@ -186,8 +272,9 @@ fn is_password(given: &Option<Text>, password: &[u8]) -> bool
 ///
 /// Nobody is let in where the password that is set is empty. A hash has to be of the chosen
 /// algorithm, its salt has to begin with the nonce and have at least one byte more, and the hash
-/// has to be that of the salt's bytes followed by the password's. Without a hash the password
-/// itself has to be given, and `plain` be chosen.
+/// has to be that of the salt's bytes followed by the password's, or for `pbkdf2+sha256` and
+/// `pbkdf2+sha512` the key of the password and the salt in 100,000 rounds (RFC 8018). Without a
+/// hash the password itself has to be given, and `plain` be chosen.
 pub fn check_login(login: &Login, password: &[u8], nonce: &[u8; 16], chosen: Algorithm) -> bool
     ensures { IsTrue result ↔ LetsIn login.now password.now nonce.now chosen }
 {

@@ -15,7 +15,7 @@ use Rattle.wc_objects.specs.declared.object.Object.TheViews.{out-Object, out-rol
 use Rattle.wc_objects.specs.declared.object.Hda.{roll-Hda}
 use Rattle.wc_objects.specs.Forms.{simple_is, value_is, hda_is, object_is, well_formed}
 use Rattle.wc_relaycmd.specs.declared.algorithm.Algorithm.{Algorithm}
-use Rattle.wc_relaycmd.specs.declared.algorithm.Algorithm.TheVariants.{Plain, Sha256, Sha512}
+use Rattle.wc_relaycmd.specs.declared.algorithm.Algorithm.TheVariants as a
 use Rattle.wc_session.specs.Sending.{null_hdata}
 use Rattle.wc_session.specs.Handshakes.{name_of_choice, switch, handshake_table, handshake_objects}
 use Rattle.wc_session.specs.Reply.{test_texts, test_numbers, test_objects, info_objects, infolist_objects, pong_objects}
@@ -149,9 +149,11 @@ switch_text false = refl
 choice_text : (choice : Option Algorithm) → is_utf8 (name_of_choice choice) ≡ true
 unfolding is_utf8 chars encode
 choice_text None = refl
-choice_text (Some Plain) = refl
-choice_text (Some Sha256) = refl
-choice_text (Some Sha512) = refl
+choice_text (Some a.Plain) = refl
+choice_text (Some a.Sha256) = refl
+choice_text (Some a.Sha512) = refl
+choice_text (Some a.Pbkdf2Sha256) = refl
+choice_text (Some a.Pbkdf2Sha512) = refl
 
 ascii_from : (text : List ℕ) → list_all (λ b. nat_lt b 128) text ≡ true → IsAscii text
 ascii_from [] h = IsAscii-nil

@@ -1,5 +1,5 @@
 -- The test of a login says who is let in.
-use Rattle.std.proofs.Common.{◌≡◌, ◌≢◌, ℕ, ◌<◌, Bool, true, false, ◌&&◌, nat_lt, List, [], ◌∷◌, ◌++◌, length, take, drop, Some, None, Option, refl, sym, ap, ◌∙◌, arith}
+use Rattle.std.proofs.Common.{◌≡◌, ◌≢◌, ℕ, ◌<◌, ◌==◌, Bool, true, false, ◌&&◌, nat_lt, List, [], ◌∷◌, ◌++◌, length, take, drop, Some, None, Option, refl, sym, ap, ◌∙◌, arith}
 use Rattle.std.specs.Option.{MatchOption}
 use Rattle.std.proofs.lemmas.Bool.{false≢true}
 use Rattle.std.specs.Bool.{Decides}
@@ -10,10 +10,11 @@ use Rattle.std.proofs.lemmas.List.{take-append-drop, length-append, length-drop}
 use Rattle.sha2.specs.Sha256.{sha256}
 use Rattle.sha2.specs.Sha512.{sha512}
 use Rattle.wc_relaycmd.specs.declared.algorithm.Algorithm.{Algorithm}
-use Rattle.wc_relaycmd.specs.declared.algorithm.Algorithm.TheVariants.{Plain, Sha256, Sha512}
+use Rattle.wc_relaycmd.specs.declared.algorithm.Algorithm.TheVariants as a
 use Rattle.wc_relaycmd.specs.declared.login.Login.{Login}
 use Rattle.wc_relaycmd.specs.declared.login.HashLogin.{HashLogin}
-use Rattle.wc_relaycmd.specs.Logins.{IsDigestOf, IsSalted, Proves, LetsIn}
+use Rattle.wc_relaycmd.specs.Pbkdf2.{sha256_key, sha512_key}
+use Rattle.wc_relaycmd.specs.Logins.{round_count, IsDigestOf, IsSalted, Proves, LetsIn}
 use Rattle.wc_session.specs.Logins.{same_algorithm, is_digest, is_salted, hash_proves, is_password, login_proves, lets_in}
 
 both : (a b : Bool) (P Q : Type 0) → Decides a P → Decides b Q → Decides (a && b) (P × Q)
@@ -27,20 +28,42 @@ always : (P : Type 0) → P → Decides true P
 always P h = (λ _. h, λ _. refl)
 
 same_decides : (a b : Algorithm) → Decides (same_algorithm a b) (a ≡ b)
-same_decides Plain Plain = always _ refl
-same_decides Sha256 Sha256 = always _ refl
-same_decides Sha512 Sha512 = always _ refl
-same_decides Plain Sha256 = never _ (λ e. cc)
-same_decides Plain Sha512 = never _ (λ e. cc)
-same_decides Sha256 Plain = never _ (λ e. cc)
-same_decides Sha256 Sha512 = never _ (λ e. cc)
-same_decides Sha512 Plain = never _ (λ e. cc)
-same_decides Sha512 Sha256 = never _ (λ e. cc)
+same_decides a.Plain a.Plain = always _ refl
+same_decides a.Sha256 a.Sha256 = always _ refl
+same_decides a.Sha512 a.Sha512 = always _ refl
+same_decides a.Pbkdf2Sha256 a.Pbkdf2Sha256 = always _ refl
+same_decides a.Pbkdf2Sha512 a.Pbkdf2Sha512 = always _ refl
+same_decides a.Plain a.Sha256 = never _ (λ e. cc)
+same_decides a.Plain a.Sha512 = never _ (λ e. cc)
+same_decides a.Plain a.Pbkdf2Sha256 = never _ (λ e. cc)
+same_decides a.Plain a.Pbkdf2Sha512 = never _ (λ e. cc)
+same_decides a.Sha256 a.Plain = never _ (λ e. cc)
+same_decides a.Sha256 a.Sha512 = never _ (λ e. cc)
+same_decides a.Sha256 a.Pbkdf2Sha256 = never _ (λ e. cc)
+same_decides a.Sha256 a.Pbkdf2Sha512 = never _ (λ e. cc)
+same_decides a.Sha512 a.Plain = never _ (λ e. cc)
+same_decides a.Sha512 a.Sha256 = never _ (λ e. cc)
+same_decides a.Sha512 a.Pbkdf2Sha256 = never _ (λ e. cc)
+same_decides a.Sha512 a.Pbkdf2Sha512 = never _ (λ e. cc)
+same_decides a.Pbkdf2Sha256 a.Plain = never _ (λ e. cc)
+same_decides a.Pbkdf2Sha256 a.Sha256 = never _ (λ e. cc)
+same_decides a.Pbkdf2Sha256 a.Sha512 = never _ (λ e. cc)
+same_decides a.Pbkdf2Sha256 a.Pbkdf2Sha512 = never _ (λ e. cc)
+same_decides a.Pbkdf2Sha512 a.Plain = never _ (λ e. cc)
+same_decides a.Pbkdf2Sha512 a.Sha256 = never _ (λ e. cc)
+same_decides a.Pbkdf2Sha512 a.Sha512 = never _ (λ e. cc)
+same_decides a.Pbkdf2Sha512 a.Pbkdf2Sha256 = never _ (λ e. cc)
 
-digest_decides : (algorithm : Algorithm) (message digest : List ℕ) → Decides (is_digest algorithm message digest) (IsDigestOf algorithm message digest)
-digest_decides Plain message digest = never _ (λ h. h)
-digest_decides Sha256 message digest = bytes_eq-Decides digest (sha256 message)
-digest_decides Sha512 message digest = bytes_eq-Decides digest (sha512 message)
+count_decides : (rounds : ℕ) → Decides (rounds == round_count) (rounds ≡ round_count)
+count_decides rounds = (λ t. grind (arith, nat_tests), λ e. grind (arith, nat_tests))
+
+digest_decides : (algorithm : Algorithm) (salt password : List ℕ) (rounds : ℕ) (digest : List ℕ)
+    → Decides (is_digest algorithm salt password rounds digest) (IsDigestOf algorithm salt password rounds digest)
+digest_decides a.Plain salt password rounds digest = never _ (λ h. h)
+digest_decides a.Sha256 salt password rounds digest = bytes_eq-Decides digest (sha256 (salt ++ password))
+digest_decides a.Sha512 salt password rounds digest = bytes_eq-Decides digest (sha512 (salt ++ password))
+digest_decides a.Pbkdf2Sha256 salt password rounds digest = both _ _ _ _ (count_decides rounds) (bytes_eq-Decides digest (sha256_key password salt rounds))
+digest_decides a.Pbkdf2Sha512 salt password rounds digest = both _ _ _ _ (count_decides rounds) (bytes_eq-Decides digest (sha512_key password salt rounds))
 
 password_decides : (given : Option (List ℕ)) (password : List ℕ) → Decides (is_password given password) (given ≡ Some password)
 password_decides None password = never _ (λ e. cc)
@@ -81,12 +104,12 @@ salted_decides salt nonce =
 
 hash_decides : (login : HashLogin) (password nonce : List ℕ) (chosen : Algorithm) → Decides (hash_proves login password nonce chosen) (Proves login password nonce chosen)
 hash_decides login password nonce chosen =
-    let all = both _ _ _ _ (both _ _ _ _ (same_decides login.algorithm chosen) (salted_decides login.salt nonce)) (digest_decides chosen (login.salt ++ password) login.hash) in
+    let all = both _ _ _ _ (both _ _ _ _ (same_decides login.algorithm chosen) (salted_decides login.salt nonce)) (digest_decides chosen login.salt password login.rounds login.hash) in
     (λ t. record { algorithm = (all.0 t).0.0; salted = (all.0 t).0.1; hashed = (all.0 t).1 }, λ p. all.1 ((p.algorithm, p.salted), p.hashed))
 
 proof_decides : (given : Option (List ℕ)) (hash : Option HashLogin) (password nonce : List ℕ) (chosen : Algorithm)
-    → Decides (login_proves given hash password nonce chosen) (MatchOption hash ((chosen ≡ Plain) × (given ≡ Some password)) (λ hash. Proves hash password nonce chosen))
-proof_decides given None password nonce chosen = both _ _ _ _ (same_decides chosen Plain) (password_decides given password)
+    → Decides (login_proves given hash password nonce chosen) (MatchOption hash ((chosen ≡ a.Plain) × (given ≡ Some password)) (λ hash. Proves hash password nonce chosen))
+proof_decides given None password nonce chosen = both _ _ _ _ (same_decides chosen a.Plain) (password_decides given password)
 proof_decides given (Some hash) password nonce chosen = hash_decides hash password nonce chosen
 
 pub lets_in_decides : (login : Login) (password nonce : List ℕ) (chosen : Algorithm) → Decides (lets_in login password nonce chosen) (LetsIn login password nonce chosen)

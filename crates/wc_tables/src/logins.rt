@@ -3,7 +3,8 @@
 use std::alloc::{AllocError, Global};
 use wc_notation::{Wrong, cut_word, put_either, two_texts, unescape};
 use wc_relaycmd::{
-    Algorithm, Command, Login, Request, check_login, choose_algorithm, read_login, read_request,
+    Algorithm, Command, Login, Request, check_login, choose_algorithm, pbkdf2_sha256,
+    pbkdf2_sha512, read_login, read_request,
 };
 use wc_text::{Items, NoMemory, Pair, Text};
 
@@ -20,6 +21,8 @@ fn algorithm_named(name: &str) -> Result<Algorithm, Wrong> {
         "plain" => Ok(Algorithm::Plain),
         "sha256" => Ok(Algorithm::Sha256),
         "sha512" => Ok(Algorithm::Sha512),
+        "pbkdf2+sha256" => Ok(Algorithm::Pbkdf2Sha256),
+        "pbkdf2+sha512" => Ok(Algorithm::Pbkdf2Sha512),
         _ => Err(Wrong::Word),
     }
 }
@@ -111,6 +114,8 @@ fn put_algorithm(out: &mut String, chosen: Option<Algorithm>) -> Result<(), Allo
         Some(Algorithm::Plain) => out.push_str("plain"),
         Some(Algorithm::Sha256) => out.push_str("sha256"),
         Some(Algorithm::Sha512) => out.push_str("sha512"),
+        Some(Algorithm::Pbkdf2Sha256) => out.push_str("pbkdf2+sha256"),
+        Some(Algorithm::Pbkdf2Sha512) => out.push_str("pbkdf2+sha512"),
         None => out.push_str("none in common"),
     }
 }
@@ -120,4 +125,33 @@ pub fn algorithm(alloc: Global, rest: &str, out: &mut String) -> Result<(), Wron
     let (offered, allowed) = two_texts(alloc, rest)?;
     let chosen = choose_algorithm(offered.as_slice(), allowed.as_slice());
     Ok(put_algorithm(out, chosen)?)
+}
+
+fn put_digits(out: &mut String, bytes: &[u8]) -> Result<(), AllocError> {
+    for byte in bytes {
+        write!(out, "{byte:02x}")?;
+    }
+    Ok(())
+}
+
+fn rounds_of(word: &str) -> Result<u32, Wrong> {
+    match word.parse::<u32>() {
+        Ok(rounds) if rounds > 0 => Ok(rounds),
+        _ => Err(Wrong::Number),
+    }
+}
+
+/// The key of a password and a salt in so many rounds, in hex.
+pub fn key(alloc: Global, rest: &str, out: &mut String) -> Result<(), Wrong> {
+    let (hash, following) = cut_word(rest);
+    let (count, texts) = cut_word(following);
+    let rounds = rounds_of(count)?;
+    let (password, salt) = two_texts(alloc, texts)?;
+    let (password, salt) = (password.as_slice(), salt.as_slice());
+    match hash {
+        "sha256" => put_digits(out, &pbkdf2_sha256(password, salt, rounds))?,
+        "sha512" => put_digits(out, &pbkdf2_sha512(password, salt, rounds))?,
+        _ => return Err(Wrong::Word),
+    }
+    Ok(())
 }

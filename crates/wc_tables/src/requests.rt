@@ -1,6 +1,6 @@
 //! Calls on the lines of relay clients.
 
-use crate::logins::{algorithm, login};
+use crate::logins::{algorithm, key, login};
 use std::alloc::{AllocError, Global};
 use wc_notation::{Wrong, escape, put_named, put_quoted, unescape};
 use wc_relaycmd::{Command, Request, read_request};
@@ -120,6 +120,7 @@ pub fn answer(alloc: Global, call: &str, rest: &str, out: &mut String) -> Result
         "request_escaped" => request(alloc, rest, true, out),
         "login" => login(alloc, rest, out),
         "algorithm" => algorithm(alloc, rest, out),
+        "key" => key(alloc, rest, out),
         _ => Err(Wrong::Word),
     }
 }

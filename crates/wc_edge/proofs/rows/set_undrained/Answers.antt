@@ -1,0 +1,17 @@
+use Rattle.std.proofs.Common.{refl}
+use Rattle.wc_edge.specs.declared.rows.Row.{Row}
+use Rattle.wc_edge.specs.Rows.{has, undrained_in, blocked_in}
+use Rattle.wc_edge.proofs.RowLemmas.{edited, edited_same, numbers_edited}
+use Rattle.wc_edge.proofs.rows.set_undrained.Goals as goal
+
+pub returns-clause-undrained : goal.returns-clause-undrained
+returns-clause-undrained c = edited undrained_in (λ (row : Row). record row { undrained = c.args.undrained }) c.args.rows.now c.args.place c.args.link.0 (λ x. refl) c.requires
+
+pub returns-clause-there : goal.returns-clause-there
+returns-clause-there c = edited_same has (λ (row : Row). record row { undrained = c.args.undrained }) c.args.rows.now c.args.place c.args.link.0 (λ x. refl) (λ x. refl) c.requires
+
+pub returns-clause-blocked : goal.returns-clause-blocked
+returns-clause-blocked c = edited_same blocked_in (λ (row : Row). record row { undrained = c.args.undrained }) c.args.rows.now c.args.place c.args.link.0 (λ x. refl) (λ x. refl) c.requires
+
+pub returns-clause-numbers : goal.returns-clause-numbers
+returns-clause-numbers c = numbers_edited (λ (row : Row). record row { undrained = c.args.undrained }) c.args.rows.now c.args.place (λ x. refl)

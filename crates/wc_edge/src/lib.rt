@@ -1,0 +1,14 @@
+//! The real edge: sockets over epoll, the file of the configuration, and standard output.
+#![tactic(auto)]
+
+mod file_keeper;
+mod links;
+mod mio_sockets;
+mod report;
+mod rows;
+mod std_sink;
+mod streams;
+
+pub use file_keeper::FileKeeper;
+pub use mio_sockets::MioSockets;
+pub use std_sink::StdSink;

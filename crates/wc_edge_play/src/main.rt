@@ -1,0 +1,26 @@
+//! Plays one client over real sockets, and a file that is kept, and prints what comes back.
+//!
+//! Nothing is claimed here: what is printed is compared.
+#![tactic(auto)]
+
+mod client_story;
+mod keeper_story;
+
+use std::io;
+use wc_edge::StdSink;
+use wc_outside::Sink;
+
+/// Says whether the sink takes bytes that are no UTF-8, and none.
+fn print_to_the_sink(rt: &HostRuntime) -> io::Result<()> {
+    print!(rt; "== standard output takes any bytes\n")?;
+    let mut sink = StdSink::new(rt);
+    let is_taken = sink.write(b"written \xff\n").is_ok();
+    let is_nothing_taken = sink.write(b"").is_ok();
+    print!(rt; "{is_taken} {is_nothing_taken}\n")
+}
+
+fn main(rt: HostRuntime) -> io::Result<()> {
+    client_story::play(&rt)?;
+    keeper_story::play(&rt)?;
+    print_to_the_sink(&rt)
+}
