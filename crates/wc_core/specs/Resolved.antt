@@ -17,6 +17,7 @@ use Rattle.wc_model.specs.declared.change.What.TheVariants as what
 use Rattle.wc_model.specs.declared.change.LineSpec.{LineSpec}
 use Rattle.wc_model.specs.declared.refused.ChangeRefused.{ChangeRefused}
 use Rattle.wc_model.specs.declared.refused.ChangeRefused.TheVariants as refused
+use Rattle.wc_model.specs.Levels.{highlight_of, notify_of}
 use Rattle.wc_model.specs.World.{World}
 use Rattle.wc_session.specs.Names.{buffer_named}
 use Rattle.wc_core.specs.Typed.{TypedCommand, Nothing, Quits, Refused, Prints, Adds, Closes, Merges}
@@ -73,8 +74,8 @@ line_spec moment tags prefix message = record {
   date = moment / 1000;
   date_printed = moment / 1000;
   displayed = true;
-  notify = pos 0;
-  highlight = false;
+  notify = notify_of tags false;
+  highlight = highlight_of tags false;
   tags = tags;
   prefix = prefix;
   message = message;

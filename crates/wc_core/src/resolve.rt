@@ -14,7 +14,7 @@ use crate::refusals::joined_texts;
 use crate::typed::{CommandText, read_number, read_tags};
 use std::alloc::Global;
 use wc_buffers::{BufferRow, BufferSpec, Buffers};
-use wc_model::{Change, LineSpec, What};
+use wc_model::{Change, LineSpec, What, levels_of};
 use wc_session::buffer_named;
 use wc_text::{Handle, Items, NoMemory, Pair, Text, split_once};
 use wc_world::World;
@@ -152,12 +152,13 @@ const REFUSAL: &[u8] = b"=!=";
 fn line_spec(moment: u64, tags: Items<Text>, prefix: Text, message: Text) -> LineSpec
     ensures { result ≡ line_spec moment tags prefix message }
 {
+    let levels = levels_of(tags.as_slice(), false);
     LineSpec {
         date: moment / 1000,
         date_printed: moment / 1000,
         displayed: true,
-        notify: 0,
-        highlight: false,
+        notify: levels.notify,
+        highlight: levels.highlight,
         tags,
         prefix,
         message,

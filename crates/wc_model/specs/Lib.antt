@@ -1,5 +1,6 @@
 pub mod Apply
 pub mod Laws
+pub mod Levels
 pub mod LineCuts
 pub mod Notices
 pub mod Order

@@ -3,10 +3,12 @@
 
 mod change;
 mod laws;
+mod levels;
 mod notice;
 mod refused;
 
 pub use change::{Change, Flip, LineSpec, What};
 pub use laws::{lines_leave_buffers, notice_of_new_buffer};
+pub use levels::{LineLevels, levels_of};
 pub use notice::{EventKind, Notice};
 pub use refused::ChangeRefused;
