@@ -12,7 +12,7 @@ fn refusal(refused: WriteRefused) -> Wrong {
     }
 }
 
-fn written(alloc: Global, id: &Text, objects: &Items<Object>) -> Result<Text, Wrong> {
+fn message_bytes(alloc: Global, id: &Text, objects: &Items<Object>) -> Result<Text, Wrong> {
     if std::str::from_utf8(id.as_slice()).is_err() {
         return Err(Wrong::NoText);
     }
@@ -25,7 +25,7 @@ fn written(alloc: Global, id: &Text, objects: &Items<Object>) -> Result<Text, Wr
 fn message_of(alloc: Global, id: &str, words: &[&str]) -> Result<Text, Wrong> {
     let id = unescape(alloc, id)?;
     let objects = read_objects(alloc, words)?;
-    written(alloc, &id, &objects)
+    message_bytes(alloc, &id, &objects)
 }
 
 /// The bytes of the message whose id and objects words write.

@@ -32,7 +32,7 @@ fn named_byte(letter: u8) -> Result<u8, Wrong> {
 
 /// The byte that an escape stands for, where it stands for one, and how many bytes it takes after
 /// its backslash.
-fn escaped(rest: &[u8]) -> Result<(Option<u8>, usize), Wrong> {
+fn byte_of_escape(rest: &[u8]) -> Result<(Option<u8>, usize), Wrong> {
     match rest {
         [b'.', ..] => Ok((None, 1)),
         [b'x', high, low, ..] => Ok((Some(hex_byte(*high, *low)?), 3)),
@@ -55,7 +55,7 @@ fn put_front(found: &mut Text, first: u8, rest: &[u8]) -> Result<usize, Wrong> {
         found.append(&[first])?;
         return Ok(0);
     }
-    let (meant, taken) = escaped(rest)?;
+    let (meant, taken) = byte_of_escape(rest)?;
     append(found, meant)?;
     Ok(taken)
 }

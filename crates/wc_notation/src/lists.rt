@@ -3,7 +3,7 @@
 ghost use Rattle.std.specs.Prelude.{◌≤◌, length};
 
 use crate::escapes::unescape;
-use crate::values::{parted, pointer, simple, text_or_null, value};
+use crate::values::{kind_and_value, pointer, simple, text_or_null, value};
 use crate::wrong::Wrong;
 use std::alloc::Global;
 use wc_objects::{Hda, HdaItem, InlVar, Object};
@@ -46,7 +46,7 @@ fn pointers(alloc: Global, text: &str) -> Result<Items<u64>, Wrong> {
 }
 
 fn word_value(alloc: Global, word: &str) -> Result<Object, Wrong> {
-    let (kind, text) = parted(word)?;
+    let (kind, text) = kind_and_value(word)?;
     value(alloc, kind, text)
 }
 
@@ -99,7 +99,7 @@ fn variable(alloc: Global, word: &str) -> Result<InlVar, Wrong> {
     let Some((name, rest)) = word.split_once('=') else {
         return Err(Wrong::Word);
     };
-    let (kind, text) = parted(rest)?;
+    let (kind, text) = kind_and_value(rest)?;
     let name = unescape(alloc, name)?;
     let value = simple(alloc, kind, text)?;
     Ok(InlVar { name, value })

@@ -1,7 +1,7 @@
 ghost use Rattle.std.specs.Prelude.{◌≤◌, length};
 
 use crate::lists::{hda, inl};
-use crate::values::{parted, text_or_null, value};
+use crate::values::{kind_and_value, text_or_null, value};
 use crate::wrong::Wrong;
 use std::alloc::Global;
 use wc_objects::{Kind, Object};
@@ -55,7 +55,7 @@ fn other_words<'a, 'b>(first: &str, words: &'a [&'b str]) -> &'a [&'b str] {
 
 /// The object of a word, and of the words that go on with it.
 fn object(alloc: Global, first: &str, words: &[&str]) -> Result<Object, Wrong> {
-    let (kind, text) = parted(first)?;
+    let (kind, text) = kind_and_value(first)?;
     match kind {
         Kind::Hda => hda(alloc, text, words),
         Kind::Inl => inl(alloc, text, words),

@@ -31,7 +31,7 @@ pub fn two_texts(alloc: Global, text: &str) -> Result<(Text, Text), Wrong> {
 /// Writes what is wrong with a line, if something is, and ends its answer.
 pub fn end_answer(out: &mut String, answered: Result<(), Wrong>) -> Result<(), AllocError> {
     if let Err(wrong) = answered {
-        write!(out, "! {}", wrong.told())?;
+        write!(out, "! {}", wrong.as_str())?;
     }
     out.push('\n')
 }

@@ -181,7 +181,7 @@ pub fn value(alloc: Global, kind: Kind, text: &str) -> Result<Object, Wrong> {
 }
 
 /// The kind and the value of a word.
-pub fn parted(word: &str) -> Result<(Kind, &str), Wrong> {
+pub fn kind_and_value(word: &str) -> Result<(Kind, &str), Wrong> {
     let Some((letters, text)) = word.split_once(':') else {
         return Err(Wrong::Word);
     };

@@ -23,7 +23,7 @@ pub enum Wrong {
 
 impl Wrong {
     /// The same in words.
-    pub fn told(self) -> &'static str {
+    pub fn as_str(self) -> &'static str {
         match self {
             Wrong::NoMemory => "out of memory",
             Wrong::Escape => "no such escape",

@@ -24,7 +24,7 @@ fn turn(alloc: Global, line: &str, out: &mut String) -> Result<(), AllocError> {
 }
 
 /// What a table comes to.
-fn played(alloc: Global, text: &str) -> Result<String, AllocError> {
+fn play_text(alloc: Global, text: &str) -> Result<String, AllocError> {
     let mut out = String::new(alloc);
     for line in text.lines() {
         turn(alloc, line, &mut out)?;
@@ -34,7 +34,7 @@ fn played(alloc: Global, text: &str) -> Result<String, AllocError> {
 
 fn print_table(rt: &HostRuntime, name: &str) -> io::Result<()> {
     let text = fs::read_to_string(rt, name)?;
-    match played(rt.alloc(), text.as_str()) {
+    match play_text(rt.alloc(), text.as_str()) {
         Ok(answers) => print!(rt; "== {name}\n{answers}"),
         Err(_) => print!(rt; "== {name}\n! out of memory\n"),
     }

@@ -1,7 +1,7 @@
 -- Blocks and codes, byte by byte.
 use Rattle.std.proofs.Common.{◌≡◌, ℕ, zero, suc, ◌<◌, List, [], ◌∷◌, ◌++◌, length, get_or, bit_xor, map, refl, ap, sym, ◌∙◌, arith}
 use Rattle.std.proofs.lemmas.List.{append_assoc, append-nil, ext_get_or, length-map, get_or-map}
-use Rattle.wc_relaycmd.specs.Pbkdf2.{padded, hmac_of_block, xor_each}
+use Rattle.wc_relaycmd.specs.Pbkdf2.{with_pad, hmac_of_block, xor_each}
 
 pub length-xor_each : (xs ys : List ℕ) → length (xor_each xs ys) ≡ length xs
 unfolding xor_each
@@ -30,8 +30,8 @@ map_by_index f new xs same at =
 
 -- the code of two pieces, from the digests of the inner and of the outer hasher
 pub hmac_made : (hash : List ℕ → List ℕ) (block first second inner outer : List ℕ)
-    → inner ≡ hash (padded 54 block ++ first ++ second) → outer ≡ hash (padded 92 block ++ inner ++ [])
+    → inner ≡ hash (with_pad 54 block ++ first ++ second) → outer ≡ hash (with_pad 92 block ++ inner ++ [])
     → outer ≡ hmac_of_block hash block (first ++ second)
 unfolding hmac_of_block
 hmac_made hash block first second inner outer is_inner is_outer =
-    is_outer ∙ ap hash (append-nil (padded 92 block ++ inner) ∙ ap (λ d. padded 92 block ++ d) (is_inner ∙ ap hash (append_assoc (padded 54 block) first second)))
+    is_outer ∙ ap hash (append-nil (with_pad 92 block ++ inner) ∙ ap (λ d. with_pad 92 block ++ d) (is_inner ∙ ap hash (append_assoc (with_pad 54 block) first second)))

@@ -5,20 +5,20 @@ use Rattle.sha2.specs.Sha256.{sha256}
 use Rattle.sha2.specs.Sha512.{sha512}
 
 -- a text with zeros after it, up to a whole block
-abbrev pub filled : ℕ → List ℕ → List ℕ
-filled size text = text ++ replicate (size - length text) 0
+abbrev pub with_zeros : ℕ → List ℕ → List ℕ
+with_zeros size text = text ++ replicate (size - length text) 0
 
 -- the block of a key
 abbrev pub key_block : (List ℕ → List ℕ) → ℕ → List ℕ → List ℕ
-key_block hash size key = filled size (if nat_lt size (length key) then hash key else key)
+key_block hash size key = with_zeros size (if nat_lt size (length key) then hash key else key)
 
 -- each byte of a block with a pad
-abbrev pub padded : ℕ → List ℕ → List ℕ
-padded pad block = map (λ b. bit_xor b pad) block
+abbrev pub with_pad : ℕ → List ℕ → List ℕ
+with_pad pad block = map (λ b. bit_xor b pad) block
 
 -- the code of a text under the block of a key
 unfoldable pub hmac_of_block : (List ℕ → List ℕ) → List ℕ → List ℕ → List ℕ
-hmac_of_block hash block text = hash (padded 0x5C block ++ hash (padded 0x36 block ++ text))
+hmac_of_block hash block text = hash (with_pad 0x5C block ++ hash (with_pad 0x36 block ++ text))
 
 -- the value of the round that comes after n others
 abbrev pub round_after : (List ℕ → List ℕ) → List ℕ → List ℕ → ℕ → List ℕ

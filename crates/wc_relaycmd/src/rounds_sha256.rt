@@ -1,9 +1,9 @@
 ghost use Rattle.std.specs.Prelude.{◌≡◌, ℕ, List, ◌≤◌, ◌++◌};
 ghost use Rattle.sha2.specs.Hashers.{Holds256};
 ghost use Rattle.sha2.specs.Sha256.{sha256};
-ghost use Rattle.wc_relaycmd.specs.Pbkdf2.{key_block, padded, hmac_of_block, sha256_key};
+ghost use Rattle.wc_relaycmd.specs.Pbkdf2.{key_block, with_pad, hmac_of_block, sha256_key};
 
-use crate::pads::{filled, padded, xor_into};
+use crate::pads::{with_pad, with_zeros, xor_into};
 use sha2::{Digest, Sha256};
 
 /// The hashers that have taken the block of the key with each of the two pads.
@@ -17,19 +17,19 @@ fn block_of(key: &[u8]) -> [u8; 64]
     ensures { result ≡ key_block sha256 64 key.now }
 {
     if key.len() > 64 {
-        filled(&Sha256::digest(key))
+        with_zeros(&Sha256::digest(key))
     } else {
-        filled(key)
+        with_zeros(key)
     }
 }
 
 fn hashers_of(key: &[u8]) -> KeyHashers
-    ensures inner { Holds256 result.inner (padded 0x36 (key_block sha256 64 key.now)) }
-    ensures outer { Holds256 result.outer (padded 0x5C (key_block sha256 64 key.now)) }
+    ensures inner { Holds256 result.inner (with_pad 0x36 (key_block sha256 64 key.now)) }
+    ensures outer { Holds256 result.outer (with_pad 0x5C (key_block sha256 64 key.now)) }
 {
     let block = block_of(key);
-    let inner = Sha256::new_with_prefix(padded(&block, 0x36));
-    let outer = Sha256::new_with_prefix(padded(&block, 0x5C));
+    let inner = Sha256::new_with_prefix(with_pad(&block, 0x36));
+    let outer = Sha256::new_with_prefix(with_pad(&block, 0x5C));
     KeyHashers { inner, outer }
 }
 
@@ -55,8 +55,8 @@ fn digest_after(hasher: &Sha256, first: &[u8], second: &[u8]) -> [u8; 32]
 
 /// The code of two pieces taken as one text.
 fn code_of(hashers: &KeyHashers, first: &[u8], second: &[u8]) -> [u8; 32]
-    ensures { (block : List ℕ) → Holds256 hashers.now.inner (padded 0x36 block) →
-        Holds256 hashers.now.outer (padded 0x5C block) →
+    ensures { (block : List ℕ) → Holds256 hashers.now.inner (with_pad 0x36 block) →
+        Holds256 hashers.now.outer (with_pad 0x5C block) →
         result ≡ hmac_of_block sha256 block (first.now ++ second.now) }
 {
     let digest = digest_after(&hashers.inner, first, second);

@@ -1,9 +1,9 @@
 ghost use Rattle.std.specs.Prelude.{◌≡◌, ℕ, List, ◌≤◌, ◌++◌};
 ghost use Rattle.sha2.specs.Hashers.{Holds512};
 ghost use Rattle.sha2.specs.Sha512.{sha512};
-ghost use Rattle.wc_relaycmd.specs.Pbkdf2.{key_block, padded, hmac_of_block, sha512_key};
+ghost use Rattle.wc_relaycmd.specs.Pbkdf2.{key_block, with_pad, hmac_of_block, sha512_key};
 
-use crate::pads::{filled, padded, xor_into};
+use crate::pads::{with_pad, with_zeros, xor_into};
 use sha2::{Digest, Sha512};
 
 /// The hashers that have taken the block of the key with each of the two pads.
@@ -17,19 +17,19 @@ fn block_of(key: &[u8]) -> [u8; 128]
     ensures { result ≡ key_block sha512 128 key.now }
 {
     if key.len() > 128 {
-        filled(&Sha512::digest(key))
+        with_zeros(&Sha512::digest(key))
     } else {
-        filled(key)
+        with_zeros(key)
     }
 }
 
 fn hashers_of(key: &[u8]) -> KeyHashers
-    ensures inner { Holds512 result.inner (padded 0x36 (key_block sha512 128 key.now)) }
-    ensures outer { Holds512 result.outer (padded 0x5C (key_block sha512 128 key.now)) }
+    ensures inner { Holds512 result.inner (with_pad 0x36 (key_block sha512 128 key.now)) }
+    ensures outer { Holds512 result.outer (with_pad 0x5C (key_block sha512 128 key.now)) }
 {
     let block = block_of(key);
-    let inner = Sha512::new_with_prefix(padded(&block, 0x36));
-    let outer = Sha512::new_with_prefix(padded(&block, 0x5C));
+    let inner = Sha512::new_with_prefix(with_pad(&block, 0x36));
+    let outer = Sha512::new_with_prefix(with_pad(&block, 0x5C));
     KeyHashers { inner, outer }
 }
 
@@ -55,8 +55,8 @@ fn digest_after(hasher: &Sha512, first: &[u8], second: &[u8]) -> [u8; 64]
 
 /// The code of two pieces taken as one text.
 fn code_of(hashers: &KeyHashers, first: &[u8], second: &[u8]) -> [u8; 64]
-    ensures { (block : List ℕ) → Holds512 hashers.now.inner (padded 0x36 block) →
-        Holds512 hashers.now.outer (padded 0x5C block) →
+    ensures { (block : List ℕ) → Holds512 hashers.now.inner (with_pad 0x36 block) →
+        Holds512 hashers.now.outer (with_pad 0x5C block) →
         result ≡ hmac_of_block sha512 block (first.now ++ second.now) }
 {
     let digest = digest_after(&hashers.inner, first, second);

@@ -73,7 +73,7 @@ impl<'a> Answers<'a> {
     }
 
     /// The bytes of a link that the script has not named.
-    pub fn unnamed(&self, link: LinkId) -> &'a [u8] {
+    pub fn rest_of_link(&self, link: LinkId) -> &'a [u8] {
         let named = match self.named.get(link.0 as usize) {
             Some(named) => *named,
             None => 0,
@@ -83,7 +83,7 @@ impl<'a> Answers<'a> {
 
     /// The next message of a link, which is named by this.
     fn next(&mut self, link: LinkId) -> &'a [u8] {
-        let message = first_message(self.unnamed(link));
+        let message = first_message(self.rest_of_link(link));
         if let Some(named) = self.named.get_mut(link.0 as usize) {
             *named = named.saturating_add(message.len());
         }
@@ -118,7 +118,7 @@ impl<'a> Answers<'a> {
     /// The next message is these bytes.
     fn expect(&mut self, out: &mut String, forms: &Forms, rest: &str) -> Result<(), Wrong> {
         let (link, text) = on_link(rest)?;
-        let wanted = forms.spelled(text)?;
+        let wanted = forms.spell(text)?;
         let came = self.next(link);
         Ok(judge(out, came == wanted.as_slice(), came)?)
     }
@@ -126,22 +126,22 @@ impl<'a> Answers<'a> {
     /// The next message has this id, or none for `-`, and these objects.
     fn expect_message(&mut self, out: &mut String, forms: &Forms, rest: &str) -> Result<(), Wrong> {
         let (link, rest) = on_link(rest)?;
-        let wanted = self.framed(forms, rest)?;
+        let wanted = self.message_bytes(forms, rest)?;
         let came = self.next(link);
         Ok(judge(out, came == wanted.as_slice(), came)?)
     }
 
     /// The message of an id and objects.
-    fn framed(&self, forms: &Forms, rest: &str) -> Result<Text, Wrong> {
+    fn message_bytes(&self, forms: &Forms, rest: &str) -> Result<Text, Wrong> {
         let (id, objects) = rest.split_once(' ').unwrap_or((rest, ""));
         let mut body = Text::from_slice(self.alloc, b"\0")?;
         add_str(&mut body, meant_id(id))?;
         forms.add_spelled(&mut body, objects)?;
-        self.measured(body.as_slice())
+        self.with_length(body.as_slice())
     }
 
     /// A message, whose length counts itself.
-    fn measured(&self, body: &[u8]) -> Result<Text, Wrong> {
+    fn with_length(&self, body: &[u8]) -> Result<Text, Wrong> {
         let Ok(length) = u32::try_from(body.len().saturating_add(4)) else {
             return Err(Wrong::Number);
         };

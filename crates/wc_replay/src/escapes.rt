@@ -19,7 +19,7 @@ fn hex_byte(high: u8, low: u8) -> Result<u8, Wrong> {
 }
 
 /// The byte that an escape stands for, and how many bytes the escape takes after its backslash.
-fn escaped(rest: &[u8]) -> Result<(u8, usize), Wrong> {
+fn byte_of_escape(rest: &[u8]) -> Result<(u8, usize), Wrong> {
     match rest {
         [b'n', ..] => Ok((b'\n', 1)),
         [b'r', ..] => Ok((b'\r', 1)),
@@ -39,7 +39,9 @@ pub fn add_unescaped(bytes: &mut Text, text: &[u8]) -> Result<(), Wrong> {
         if skip > 0 {
             skip -= 1;
         } else if *byte == b'\\' {
-            let (found, taken) = escaped(text.get(place.saturating_add(1)..).unwrap_or(&[]))?;
+            let (found, taken) = byte_of_escape(
+                text.get(place.saturating_add(1)..).unwrap_or(&[]),
+            )?;
             skip = taken;
             bytes.append(&[found])?;
         } else {

@@ -86,7 +86,7 @@ impl Forms {
         };
         let pair = Pair {
             name: Text::from_slice(self.alloc, name.as_bytes())?,
-            value: self.spelled(text)?,
+            value: self.spell(text)?,
         };
         Ok(self.named.push(pair)?)
     }
@@ -102,7 +102,7 @@ impl Forms {
     }
 
     /// The bytes of a text in which there are escapes.
-    fn unescaped(&self, text: &str) -> Result<Text, Wrong> {
+    fn unescape(&self, text: &str) -> Result<Text, Wrong> {
         let mut bytes = Text::new(self.alloc);
         add_unescaped(&mut bytes, text.as_bytes())?;
         Ok(bytes)
@@ -113,7 +113,7 @@ impl Forms {
         let Some((kind, value)) = form.split_once(':') else {
             return self.add_named(bytes, form);
         };
-        let text = self.unescaped(value)?;
+        let text = self.unescape(value)?;
         add_kind(bytes, kind, value, text.as_slice())
     }
 
@@ -143,7 +143,7 @@ impl Forms {
     }
 
     /// The bytes that a text spells.
-    pub fn spelled(&self, text: &str) -> Result<Text, Wrong> {
+    pub fn spell(&self, text: &str) -> Result<Text, Wrong> {
         let mut bytes = Text::new(self.alloc);
         self.add_spelled(&mut bytes, text)?;
         Ok(bytes)

@@ -40,7 +40,7 @@ fn take_steps(
 }
 
 /// The stage that lines make.
-fn staged(
+fn stage_of(
     alloc: Global,
     forms: &mut Forms,
     lines: &str,
@@ -67,10 +67,10 @@ fn play_stage(
 }
 
 /// Plays a script.
-fn played(alloc: Global, script: &str, out: &mut String) -> Result<(), AllocError> {
+fn play_script(alloc: Global, script: &str, out: &mut String) -> Result<(), AllocError> {
     let (steps, lines) = script.split_once("\nrun\n").unwrap_or((script, ""));
     let mut forms = Forms::new(alloc);
-    let stage = staged(alloc, &mut forms, steps, out)?;
+    let stage = stage_of(alloc, &mut forms, steps, out)?;
     play_stage(alloc, stage, &mut forms, lines, out)
 }
 
@@ -80,7 +80,7 @@ fn played_all(alloc: Global, scripts: &str, out: &mut String) -> Result<(), Allo
         if place > 0 {
             out.push_str("----\n")?;
         }
-        played(alloc, script, out)?;
+        play_script(alloc, script, out)?;
     }
     Ok(())
 }

@@ -94,7 +94,7 @@ fn show_link(
     link: LinkId,
 ) -> Result<(), AllocError> {
     let number = link.0;
-    let unnamed = answers.unnamed(link);
+    let unnamed = answers.rest_of_link(link);
     let state = if sockets.is_open(link) {
         "open"
     } else {

@@ -193,7 +193,7 @@ impl Stage {
 
     /// A line of the configuration, and its end.
     fn configure(&mut self, forms: &Forms, rest: &str, end: &[u8]) -> Result<(), Wrong> {
-        let line = forms.spelled(rest)?;
+        let line = forms.spell(rest)?;
         self.kept.configuration.append(line.as_slice())?;
         Ok(self.kept.configuration.append(end)?)
     }
@@ -220,7 +220,7 @@ impl Stage {
             return Err(Wrong::Missing);
         };
         let link = link(word)?;
-        let mut bytes = forms.spelled(text)?;
+        let mut bytes = forms.spell(text)?;
         bytes.append(end)?;
         self.give_bytes(link, bytes.as_slice())
     }

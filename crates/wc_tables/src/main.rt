@@ -20,16 +20,16 @@ use wc_notation::Wrong;
 use wc_options::Options;
 
 /// What a table comes to.
-fn played(alloc: Global, text: &str) -> Result<String, Wrong> {
+fn play_text(alloc: Global, text: &str) -> Result<String, Wrong> {
     let mut options = Options::new(alloc)?;
     play(alloc, &mut options, text)
 }
 
 fn print_table(rt: &HostRuntime, name: &str) -> io::Result<()> {
     let text = fs::read_to_string(rt, name)?;
-    match played(rt.alloc(), text.as_str()) {
+    match play_text(rt.alloc(), text.as_str()) {
         Ok(answers) => print!(rt; "== {name}\n{answers}"),
-        Err(wrong) => print!(rt; "== {name}\n! {}\n", wrong.told()),
+        Err(wrong) => print!(rt; "== {name}\n! {}\n", wrong.as_str()),
     }
 }
 

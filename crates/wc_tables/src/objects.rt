@@ -51,7 +51,7 @@ fn refusal(refused: WriteRefused) -> Wrong {
 }
 
 /// The bytes of a message, where these can be its id and its objects.
-fn written(alloc: Global, id: &Text, objects: &Items<Object>) -> Result<Text, Wrong> {
+fn message_of(alloc: Global, id: &Text, objects: &Items<Object>) -> Result<Text, Wrong> {
     if std::str::from_utf8(id.as_slice()).is_err() {
         return Err(Wrong::NoText);
     }
@@ -68,7 +68,7 @@ fn put_bytes(alloc: Global, bytes: &[u8], out: &mut String) -> Result<(), AllocE
 }
 
 fn put_both(alloc: Global, message: &WireMessage, out: &mut String) -> Result<(), Wrong> {
-    let bytes = written(alloc, &message.id, &message.objects)?;
+    let bytes = message_of(alloc, &message.id, &message.objects)?;
     Ok(put_bytes(alloc, bytes.as_slice(), out)?)
 }
 
@@ -79,7 +79,7 @@ fn write(alloc: Global, rest: &str, out: &mut String) -> Result<(), Wrong> {
 }
 
 fn put_written(alloc: Global, message: &WireMessage, out: &mut String) -> Result<(), Wrong> {
-    let bytes = written(alloc, &message.id, &message.objects)?;
+    let bytes = message_of(alloc, &message.id, &message.objects)?;
     Ok(escape(out, bytes.as_slice(), &[])?)
 }
 

@@ -71,7 +71,7 @@ fn cut(alloc: Global, rest: &str, out: &mut String) -> Result<(), Wrong> {
 }
 
 /// The text of two parts that two words write.
-fn joined(alloc: Global, rest: &str) -> Result<Text, Wrong> {
+fn joined_text(alloc: Global, rest: &str) -> Result<Text, Wrong> {
     let (first, second) = two_texts(alloc, rest)?;
     let mut text = Text::from_slice(alloc, first.as_slice())?;
     text.append(second.as_slice())?;
@@ -108,7 +108,7 @@ fn put_copies(alloc: Global, pairs: &Items<Pair>, out: &mut String) -> Result<()
 
 /// Makes a text of two, copies it into a list, and shows a copy of the list.
 fn copies(alloc: Global, rest: &str, out: &mut String) -> Result<(), Wrong> {
-    let text = joined(alloc, rest)?;
+    let text = joined_text(alloc, rest)?;
     let pairs = pairs(alloc, &text)?;
     put_copies(alloc, &pairs, out)
 }

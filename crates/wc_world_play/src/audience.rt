@@ -101,7 +101,7 @@ impl Audience {
         flips: &Items<Handle>,
         lines: &Lines,
     ) -> Result<(), NoMemory> {
-        let bytes = flips_told(self.alloc, buffer, flips, lines)?;
+        let bytes = flip_event(self.alloc, buffer, flips, lines)?;
         self.tell_bytes(EventKind::LineDataChanged, buffer, bytes.as_slice())
     }
 
@@ -203,7 +203,7 @@ fn has_items(objects: &[Object; 1]) -> bool {
 }
 
 /// The event of those lines of a buffer whose flag differs. Empty where there are none.
-fn flips_told(
+fn flip_event(
     alloc: Global,
     buffer: Handle,
     flips: &Items<Handle>,

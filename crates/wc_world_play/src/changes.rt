@@ -4,8 +4,8 @@ ghost use Rattle.std.specs.Prelude.{IfOk, All};
 ghost use Rattle.wc_buffers.specs.Entries.{IsText};
 ghost use Rattle.wc_world.specs.Texts.{IsBufferText, IsChangeText};
 
-use crate::lines::{flips, flips_of, printed};
-use crate::nicks::{group_added, group_changed, nick_added, nick_changed};
+use crate::lines::{flips_of, read_flips, read_print};
+use crate::nicks::{read_add_group, read_add_nick, read_change_group, read_change_nick};
 use crate::words::{check_options, handle, option_of, options_of, small_number, text, text_option};
 use crate::wrong::Wrong;
 use std::alloc::Global;
@@ -21,7 +21,7 @@ fn one_word<'a>(words: &[&'a str]) -> Result<&'a str, Wrong> {
 }
 
 /// The changes of which nothing more is said.
-fn plain(word: &str) -> Result<What, Wrong>
+fn read_plain(word: &str) -> Result<What, Wrong>
     ensures { IfOk result IsChangeText }
 {
     match word {
@@ -80,7 +80,7 @@ fn buffer(alloc: Global, name: &str, options: &[&str]) -> Result<BufferSpec, Wro
     })
 }
 
-fn added(alloc: Global, words: &[&str]) -> Result<What, Wrong>
+fn read_add(alloc: Global, words: &[&str]) -> Result<What, Wrong>
     ensures { IfOk result IsChangeText }
 {
     let [name, options @ ..] = words else {
@@ -91,21 +91,21 @@ fn added(alloc: Global, words: &[&str]) -> Result<What, Wrong>
     Ok(What::Add(buffer))
 }
 
-fn moved(words: &[&str]) -> Result<What, Wrong>
+fn read_move(words: &[&str]) -> Result<What, Wrong>
     ensures { IfOk result IsChangeText }
 {
     let number = small_number(one_word(words)?)?;
     Ok(What::MoveTo(number))
 }
 
-fn merged(words: &[&str]) -> Result<What, Wrong>
+fn read_merge(words: &[&str]) -> Result<What, Wrong>
     ensures { IfOk result IsChangeText }
 {
     let into = handle(one_word(words)?)?;
     Ok(What::MergeInto(into))
 }
 
-fn renamed(alloc: Global, words: &[&str]) -> Result<What, Wrong>
+fn read_rename(alloc: Global, words: &[&str]) -> Result<What, Wrong>
     ensures { IfOk result IsChangeText }
 {
     let [name, options @ ..] = words else {
@@ -116,42 +116,42 @@ fn renamed(alloc: Global, words: &[&str]) -> Result<What, Wrong>
     Ok(What::Rename { name, flips })
 }
 
-fn short_named(alloc: Global, words: &[&str]) -> Result<What, Wrong>
+fn read_short_name(alloc: Global, words: &[&str]) -> Result<What, Wrong>
     ensures { IfOk result IsChangeText }
 {
     let name = text(alloc, one_word(words)?)?;
     Ok(What::ShortName(name))
 }
 
-fn titled(alloc: Global, words: &[&str]) -> Result<What, Wrong>
+fn read_title(alloc: Global, words: &[&str]) -> Result<What, Wrong>
     ensures { IfOk result IsChangeText }
 {
     let title = text(alloc, one_word(words)?)?;
     Ok(What::Title(title))
 }
 
-fn var_set(alloc: Global, words: &[&str]) -> Result<What, Wrong>
+fn read_set_var(alloc: Global, words: &[&str]) -> Result<What, Wrong>
     ensures { IfOk result IsChangeText }
 {
     let pair = pair(alloc, one_word(words)?)?;
     Ok(What::SetVar(pair))
 }
 
-fn var_removed(alloc: Global, words: &[&str]) -> Result<What, Wrong>
+fn read_remove_var(alloc: Global, words: &[&str]) -> Result<What, Wrong>
     ensures { IfOk result IsChangeText }
 {
     let name = text(alloc, one_word(words)?)?;
     Ok(What::RemoveVar(name))
 }
 
-fn group_removed(alloc: Global, words: &[&str]) -> Result<What, Wrong>
+fn read_remove_group(alloc: Global, words: &[&str]) -> Result<What, Wrong>
     ensures { IfOk result IsChangeText }
 {
     let name = text(alloc, one_word(words)?)?;
     Ok(What::RemoveGroup(name))
 }
 
-fn nick_removed(alloc: Global, words: &[&str]) -> Result<What, Wrong>
+fn read_remove_nick(alloc: Global, words: &[&str]) -> Result<What, Wrong>
     ensures { IfOk result IsChangeText }
 {
     let name = text(alloc, one_word(words)?)?;
@@ -159,38 +159,38 @@ fn nick_removed(alloc: Global, words: &[&str]) -> Result<What, Wrong>
 }
 
 /// The change that a word and what follows it ask for.
-pub fn what(alloc: Global, word: &str, words: &[&str]) -> Result<What, Wrong>
+pub fn read_change(alloc: Global, word: &str, words: &[&str]) -> Result<What, Wrong>
     ensures { IfOk result IsChangeText }
 {
     if words.is_empty() {
-        return plain(word);
+        return read_plain(word);
     }
     match word {
-        "add" => added(alloc, words),
-        "move" => moved(words),
-        "merge" => merged(words),
-        "rename" => renamed(alloc, words),
-        "short-name" => short_named(alloc, words),
-        "title" => titled(alloc, words),
-        "set-var" => var_set(alloc, words),
-        "remove-var" => var_removed(alloc, words),
-        _ => what_within(alloc, word, words),
+        "add" => read_add(alloc, words),
+        "move" => read_move(words),
+        "merge" => read_merge(words),
+        "rename" => read_rename(alloc, words),
+        "short-name" => read_short_name(alloc, words),
+        "title" => read_title(alloc, words),
+        "set-var" => read_set_var(alloc, words),
+        "remove-var" => read_remove_var(alloc, words),
+        _ => read_inner_change(alloc, word, words),
     }
 }
 
 /// The change of the lines or of the nicklist of a buffer.
-fn what_within(alloc: Global, word: &str, words: &[&str]) -> Result<What, Wrong>
+fn read_inner_change(alloc: Global, word: &str, words: &[&str]) -> Result<What, Wrong>
     ensures { IfOk result IsChangeText }
 {
     match word {
-        "print" => printed(alloc, words),
-        "flips" => flips(alloc, words),
-        "add-group" => group_added(alloc, words),
-        "add-nick" => nick_added(alloc, words),
-        "remove-group" => group_removed(alloc, words),
-        "remove-nick" => nick_removed(alloc, words),
-        "change-group" => group_changed(alloc, words),
-        "change-nick" => nick_changed(alloc, words),
+        "print" => read_print(alloc, words),
+        "flips" => read_flips(alloc, words),
+        "add-group" => read_add_group(alloc, words),
+        "add-nick" => read_add_nick(alloc, words),
+        "remove-group" => read_remove_group(alloc, words),
+        "remove-nick" => read_remove_nick(alloc, words),
+        "change-group" => read_change_group(alloc, words),
+        "change-nick" => read_change_nick(alloc, words),
         _ => Err(Wrong::NoWord),
     }
 }

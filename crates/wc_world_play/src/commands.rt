@@ -68,7 +68,7 @@ impl Stage {
             ["tell"] => self.tell(out),
             ["client", client] => self.come(client),
             ["join", client] => self.join(client),
-            ["sent", client] => self.sent(out, client),
+            ["sent", client] => self.show_sent(out, client),
             ["mirror", client] => self.mirror(out, client),
             ["push", buffer] => self.push_now(out, buffer),
             ["push", buffer, name] => self.push(buffer, name),
@@ -180,7 +180,7 @@ impl Stage {
     }
 
     /// Shows what a client was sent since it was last shown.
-    fn sent(&mut self, out: &mut String, client: &str) -> Result<(), Wrong> {
+    fn show_sent(&mut self, out: &mut String, client: &str) -> Result<(), Wrong> {
         let place = self.place(client)?;
         let Some(client) = self.audience.clients.get_mut(place) else {
             return Err(Wrong::NoClient);

@@ -55,7 +55,7 @@ pub fn show_push(out: &mut String, push: &Push) -> Result<(), AllocError> {
     }
 }
 
-fn marked(sign: char) -> Result<Mark, Wrong> {
+fn mark_of(sign: char) -> Result<Mark, Wrong> {
     match sign {
         '^' => Ok(Mark::Parent),
         '+' => Ok(Mark::Added),
@@ -86,7 +86,7 @@ fn diff_item(alloc: Global, word: &str) -> Result<DiffItem, Wrong>
     ensures { IfOk result (λ d. TextsAreUtf8 d.item) }
 {
     let mut letters = word.chars();
-    let mark = marked(letters.next().unwrap_or(' '))?;
+    let mark = mark_of(letters.next().unwrap_or(' '))?;
     let item = item(alloc, 1, letters.as_str())?;
     Ok(DiffItem { mark, item })
 }

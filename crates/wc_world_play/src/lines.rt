@@ -90,7 +90,7 @@ fn line(alloc: Global, message: &str, options: &[&str]) -> Result<LineSpec, Wron
 }
 
 /// A line whose message is the first word.
-pub fn printed(alloc: Global, words: &[&str]) -> Result<What, Wrong>
+pub fn read_print(alloc: Global, words: &[&str]) -> Result<What, Wrong>
     ensures { IfOk result IsChangeText }
 {
     let [message, options @ ..] = words else {
@@ -123,7 +123,7 @@ pub fn flips_of(alloc: Global, words: &[&str]) -> Result<Items<Flip>, Wrong> {
     Ok(flips)
 }
 
-pub fn flips(alloc: Global, words: &[&str]) -> Result<What, Wrong>
+pub fn read_flips(alloc: Global, words: &[&str]) -> Result<What, Wrong>
     ensures { IfOk result IsChangeText }
 {
     let flips = flips_of(alloc, words)?;

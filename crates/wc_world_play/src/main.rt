@@ -43,7 +43,7 @@ fn play(alloc: Global, out: &mut String, text: &str) -> Result<(), NoMemory> {
 }
 
 /// What a file comes to.
-fn played(alloc: Global, text: &str) -> Result<String, NoMemory> {
+fn play_text(alloc: Global, text: &str) -> Result<String, NoMemory> {
     let mut out = String::new(alloc);
     play(alloc, &mut out, text)?;
     Ok(out)
@@ -51,7 +51,7 @@ fn played(alloc: Global, text: &str) -> Result<String, NoMemory> {
 
 fn print_file(rt: &HostRuntime, name: &str) -> io::Result<()> {
     let text = fs::read_to_string(rt, name)?;
-    match played(rt.alloc(), text.as_str()) {
+    match play_text(rt.alloc(), text.as_str()) {
         Ok(out) => print!(rt; "== {name}\n{out}"),
         Err(NoMemory) => print!(rt; "== {name}\nno memory\n"),
     }

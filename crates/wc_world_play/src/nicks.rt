@@ -46,7 +46,7 @@ fn item_of(alloc: Global, words: &[&str]) -> Result<Item, Wrong>
 }
 
 /// A group after the name of the group above.
-pub fn group_added(alloc: Global, words: &[&str]) -> Result<What, Wrong>
+pub fn read_add_group(alloc: Global, words: &[&str]) -> Result<What, Wrong>
     ensures { IfOk result IsChangeText }
 {
     let [parent, words @ ..] = words else {
@@ -58,7 +58,7 @@ pub fn group_added(alloc: Global, words: &[&str]) -> Result<What, Wrong>
 }
 
 /// A nick after the name of its group.
-pub fn nick_added(alloc: Global, words: &[&str]) -> Result<What, Wrong>
+pub fn read_add_nick(alloc: Global, words: &[&str]) -> Result<What, Wrong>
     ensures { IfOk result IsChangeText }
 {
     let [group, words @ ..] = words else {
@@ -69,14 +69,14 @@ pub fn nick_added(alloc: Global, words: &[&str]) -> Result<What, Wrong>
     Ok(What::AddNick { group, item })
 }
 
-pub fn group_changed(alloc: Global, words: &[&str]) -> Result<What, Wrong>
+pub fn read_change_group(alloc: Global, words: &[&str]) -> Result<What, Wrong>
     ensures { IfOk result IsChangeText }
 {
     let item = item_of(alloc, words)?;
     Ok(What::ChangeGroup(item))
 }
 
-pub fn nick_changed(alloc: Global, words: &[&str]) -> Result<What, Wrong>
+pub fn read_change_nick(alloc: Global, words: &[&str]) -> Result<What, Wrong>
     ensures { IfOk result IsChangeText }
 {
     let item = item_of(alloc, words)?;

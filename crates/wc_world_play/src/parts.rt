@@ -76,7 +76,7 @@ fn number_of(buffers: &Buffers, buffer: Handle) -> Option<u64> {
     Some(u64::from(number))
 }
 
-fn named(buffers: &Buffers, name: &str) -> Option<u64> {
+fn buffer_of_name(buffers: &Buffers, name: &str) -> Option<u64> {
     let buffer = buffers.find(name.as_bytes())?;
     Some(buffer.0)
 }
@@ -85,7 +85,7 @@ fn named(buffers: &Buffers, name: &str) -> Option<u64> {
 pub fn show_of_buffers(out: &mut String, buffers: &Buffers, words: &[&str]) -> Result<(), Wrong> {
     match words {
         ["number", buffer] => show_number(out, number_of(buffers, handle(buffer)?))?,
-        ["find", name] => show_number(out, named(buffers, name))?,
+        ["find", name] => show_number(out, buffer_of_name(buffers, name))?,
         ["value", buffer, name] => show_value(out, buffers, handle(buffer)?, name)?,
         _ => return Err(Wrong::NoWord),
     }

@@ -5,7 +5,7 @@ ghost use Rattle.wc_world.specs.Texts.{IsChangeText};
 
 use crate::answers::show_notice;
 use crate::audience::Audience;
-use crate::changes::what;
+use crate::changes::read_change;
 use crate::parts::{Part, show_part};
 use crate::words::{handle, number, small_number};
 use crate::wrong::Wrong;
@@ -54,7 +54,7 @@ fn change_of(alloc: Global, words: &[&str]) -> Result<Change, Wrong>
         return Err(Wrong::NoWord);
     };
     let buffer = handle(buffer)?;
-    let what = what(alloc, word, rest)?;
+    let what = read_change(alloc, word, rest)?;
     Ok(Change { buffer, what })
 }
 

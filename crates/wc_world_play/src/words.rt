@@ -25,7 +25,7 @@ pub fn small_number(word: &str) -> Result<u32, Wrong> {
 }
 
 /// A word in which `\s` stands for a blank.
-fn blanked(alloc: Global, word: &str) -> Result<String, Wrong> {
+fn with_blanks(alloc: Global, word: &str) -> Result<String, Wrong> {
     let mut out = String::new(alloc);
     for (place, piece) in word.split("\\s").enumerate() {
         if place > 0 {
@@ -37,7 +37,7 @@ fn blanked(alloc: Global, word: &str) -> Result<String, Wrong> {
 }
 
 /// A text this many times, and what follows it.
-fn repeated(alloc: Global, unit: &str, count: u64, tail: &str) -> Result<String, Wrong> {
+fn repeat_text(alloc: Global, unit: &str, count: u64, tail: &str) -> Result<String, Wrong> {
     let mut out = String::new(alloc);
     for _ in 0..count {
         out.push_str(unit)?;
@@ -47,16 +47,16 @@ fn repeated(alloc: Global, unit: &str, count: u64, tail: &str) -> Result<String,
 }
 
 /// What a word spells: nothing for `''`, for `a~3~b` the text `aaab`, and a blank for each `\s`.
-fn spelled(alloc: Global, word: &str) -> Result<String, Wrong> {
+fn spell(alloc: Global, word: &str) -> Result<String, Wrong> {
     if word == "''" {
         return Ok(String::new(alloc));
     }
     match word.split_once('~') {
         Some((unit, rest)) => {
             let (count, tail) = rest.split_once('~').unwrap_or((rest, ""));
-            repeated(alloc, unit, number(count)?, tail)
+            repeat_text(alloc, unit, number(count)?, tail)
         }
-        None => blanked(alloc, word),
+        None => with_blanks(alloc, word),
     }
 }
 
@@ -64,7 +64,7 @@ fn spelled(alloc: Global, word: &str) -> Result<String, Wrong> {
 pub fn text(alloc: Global, word: &str) -> Result<Text, Wrong>
     ensures { IfOk result IsUtf8 }
 {
-    let spelled = spelled(alloc, word)?;
+    let spelled = spell(alloc, word)?;
     Ok(Text::from_slice(alloc, spelled.as_str().as_bytes())?)
 }
 

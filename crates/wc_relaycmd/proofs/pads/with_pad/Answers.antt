@@ -1,6 +1,6 @@
 use Rattle.std.proofs.Common.{◌<◌, ◌≢◌, length, arith, ◌∙◌, sym, refl, below_more, get_or-set_other, get_or-set_same, length-set}
 use Rattle.wc_relaycmd.proofs.PadLemmas.{map_by_index}
-use Rattle.wc_relaycmd.proofs.pads.padded.Goals as goal
+use Rattle.wc_relaycmd.proofs.pads.with_pad.Goals as goal
 
 pub bytes-preserved : goal.bytes-preserved
 bytes-preserved g c =
