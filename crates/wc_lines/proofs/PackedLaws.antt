@@ -29,7 +29,7 @@ after_cut n bytes x e =
     let rest : drop n bytes ≡ x.1 = ap (λ y. y.1) (same_Some (take n bytes, drop n bytes) x h.1) in
     omega (arith, ap length rest, length-drop n bytes)
 
-shorter : (bytes : List ℕ) (x : List ℕ × List ℕ) → first_tag bytes ≡ Some x → length x.1 < length bytes
+pub shorter : (bytes : List ℕ) (x : List ℕ × List ℕ) → first_tag bytes ≡ Some x → length x.1 < length bytes
 unfolding first_tag
 shorter bytes x e =
     let n = from_be_bytes w32 (take 4 bytes) in

@@ -1,4 +1,4 @@
-ghost use Rattle.std.specs.Prelude.{◌≡◌, IfOk};
+ghost use Rattle.std.specs.Prelude.{◌≡◌, length, IfOk};
 ghost use Rattle.wc_lines.specs.PackedLines.{line_with};
 ghost use Rattle.wc_lines.specs.TagsLeft.{tags_left};
 
@@ -110,6 +110,13 @@ impl PackedLine {
         ensures { tags_left result ≡ self.now.tags }
     {
         self.texts.tags()
+    }
+
+    /// How many tags there are.
+    pub fn tags_len(&self) -> usize
+        ensures { result ≡ length self.now.tags }
+    {
+        self.texts.tags_len()
     }
 
     pub fn prefix(&self) -> &[u8]

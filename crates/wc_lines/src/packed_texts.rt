@@ -61,6 +61,13 @@ impl PackedTexts {
         TagIter { rest }
     }
 
+    /// How many tags there are.
+    pub fn tags_len(&self) -> usize
+        ensures { result ≡ length self.now.tags }
+    {
+        count_tags(self.block.as_slice().split_at(self.tags_at as usize).1)
+    }
+
     pub fn prefix(&self) -> &[u8]
         ensures { result.now ≡ self.now.prefix }
     {
@@ -169,4 +176,17 @@ fn first_tag(bytes: &[u8]) -> Option<(&[u8], &[u8])>
         return None;
     }
     Some(rest.split_at(length))
+}
+
+/// How many tags are spelled at the front of the bytes.
+fn count_tags(bytes: &[u8]) -> usize
+    ensures { result ≡ length (tags_of bytes.now) }
+{
+    let mut count = 0;
+    let mut rest = bytes;
+    while let Some((_tag, after)) = first_tag(rest) {
+        rest = after;
+        count += 1;
+    }
+    count
 }
