@@ -1,4 +1,5 @@
+pub mod FlagLemmas
 pub mod HistoryLaws
 pub mod Newest
+pub mod PackedLaws
 pub mod RingLemmas
-pub mod FlagLemmas

@@ -1,6 +1,6 @@
 -- What the calls do to the lines, and what stays true of them.
-use Rattle.std.proofs.Common.{◌≡◌, ℕ, zero, suc, ◌+◌, ◌<◌, ◌≤◌, Bool, true, false, cond, List, [], ◌∷◌, ◌++◌, length, get_or, set, Option, Some, None, refl, sym, ap, subst, ◌∙◌, arith}
-use Rattle.std.specs.Prelude.{◌==◌, nat_lt, All, IfSome, MatchOption}
+use Rattle.std.proofs.Common.{◌≡◌, ℕ, zero, suc, ◌+◌, ◌<◌, ◌≤◌, Bool, true, false, cond, List, [], ◌∷◌, ◌++◌, length, get_or, set, Option, Some, None, Bor, refl, sym, ap, subst, ◌∙◌, arith}
+use Rattle.std.specs.Prelude.{◌==◌, nat_lt, All, IfSome, IsSome, MatchOption, ◌↔◌, option_copied}
 use Rattle.std.specs.Option.{option_to_list}
 use Rattle.std.specs.List.{position_or_len}
 use Rattle.std.proofs.lemmas.Bool.Decides.{nat_tests}
@@ -94,3 +94,9 @@ popped_len (Some line) old new cases some = cases
 pub oldest_text : (oldest : Option Line) (lines rest : List Line) → lines ≡ option_to_list oldest ++ rest → All HasUtf8Texts lines → IfSome oldest HasUtf8Texts
 oldest_text None lines rest e all = tt
 oldest_text (Some line) lines rest e all = subst (All HasUtf8Texts) e all 0 line (omega arith)
+
+-- ---- a line by its place
+pub text_at : (o : Option (Bor Line)) (lines : List Line) (count n : ℕ) → count ≡ length lines → (IsSome o ↔ (n < count))
+    → IfSome o (λ x. x.now ≡ get_or lines n x.now) → All HasUtf8Texts lines → IfSome (option_copied o) HasUtf8Texts
+text_at None lines count n same some is all = tt
+text_at (Some x) lines count n same some is all = subst HasUtf8Texts (sym is) (all n x.now (omega (arith, same, some.0 refl)))

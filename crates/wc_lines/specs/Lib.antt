@@ -1,7 +1,11 @@
+pub mod Block
 pub mod Flags
 pub mod Held
 pub mod History
 pub mod Inside
 pub mod LineText
 pub mod LinesLeft
+pub mod Packed
+pub mod PackedLines
 pub mod Ring
+pub mod TagsLeft

@@ -3,9 +3,10 @@
 
 mod line;
 mod lines;
+mod packed_line;
+mod packed_texts;
 
 pub use line::Line;
 pub use lines::{Flags, LineIter, Lines};
-
-#[cfg(test)]
-mod tests;
+pub use packed_line::{LineMarks, PackedLine};
+pub use packed_texts::{PackedTexts, TagIter};

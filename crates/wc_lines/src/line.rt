@@ -1,9 +1,6 @@
-ghost use Rattle.std.specs.Prelude.{◌≡◌, IfOk};
+use wc_text::{Handle, Items, Text};
 
-use std::alloc::Global;
-use wc_text::{Handle, Items, NoMemory, Text};
-
-/// A line of a buffer.
+/// A line of a buffer, as contracts see it.
 #[derive(Drop)]
 pub struct Line {
     /// The line's own name.
@@ -22,27 +19,4 @@ pub struct Line {
     pub tags: Items<Text>,
     pub prefix: Text,
     pub message: Text,
-}
-
-impl Line {
-    /// The same line in memory of its own.
-    pub fn copy(&self, alloc: Global) -> Result<Line, NoMemory>
-        ensures { IfOk result (λ line. line ≡ self.now) }
-    {
-        let tags = self.tags.copy(alloc)?;
-        let prefix = self.prefix.copy(alloc)?;
-        let message = self.message.copy(alloc)?;
-        Ok(Line {
-            handle: self.handle,
-            content: self.content,
-            date: self.date,
-            date_printed: self.date_printed,
-            displayed: self.displayed,
-            notify: self.notify,
-            highlight: self.highlight,
-            tags,
-            prefix,
-            message,
-        })
-    }
 }

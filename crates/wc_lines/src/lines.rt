@@ -1,5 +1,5 @@
 ghost use Rattle.std.specs.Prelude.{◌≡◌, ◌≤◌, ◌++◌, ◌∷◌, [], length, map, IfOk, IfSome, All};
-ghost use Rattle.std.specs.Prelude.{IsTrue, ◌↔◌, option_copied};
+ghost use Rattle.std.specs.Prelude.{IsTrue, ◌↔◌, option_copied, slice_get};
 ghost use Rattle.std.specs.Iterator.{YieldsFirstRef, item_count};
 ghost use Rattle.wc_lines.specs.Flags.{flag_at, with_own_flag, with_flags};
 ghost use Rattle.wc_lines.specs.Held.{no_lines};
@@ -8,7 +8,7 @@ ghost use Rattle.wc_lines.specs.Ring.{has_content, place_of, newest};
 ghost use Rattle.wc_lines.specs.LinesLeft.{lines_left};
 ghost use Rattle.wc_lines.specs.LineText.{HasUtf8Texts};
 
-use crate::line::Line;
+use crate::packed_line::PackedLine;
 use std::alloc::Global;
 use std::collections::{HashMap, VecDeque, vec_deque};
 use std::marker::Model;
@@ -24,7 +24,7 @@ pub type Flags = HashMap<u64, bool>;
 #[derive(Drop)]
 pub struct Lines {
     limit: u32,
-    queue: VecDeque<Line>,
+    queue: VecDeque<PackedLine>,
 }
 
 impl Model for Lines {
@@ -52,7 +52,7 @@ impl Lines {
 
     /// Puts a line after the others. Where as many as the limit are held, the oldest is first taken
     /// out and given back.
-    pub fn push(&mut self, line: Line) -> Option<Line>
+    pub fn push(&mut self, line: PackedLine) -> Option<PackedLine>
         requires { HasUtf8Texts line }
         ensures held { self.new ≡ with_line self.old line }
         ensures oldest { result ≡ pushed_out self.old }
@@ -102,11 +102,19 @@ impl Lines {
     }
 
     /// The newest line. None exactly where no lines are held.
-    pub fn newest(&self) -> Option<&Line>
+    pub fn newest(&self) -> Option<&PackedLine>
         ensures line { option_copied result ≡ newest self.now.lines }
         ensures text { IfSome (option_copied result) HasUtf8Texts }
     {
         self.queue.back()
+    }
+
+    /// The line at this place, counted from the oldest at 0. None exactly where there is none.
+    pub fn at(&self, place: u32) -> Option<&PackedLine>
+        ensures line { option_copied result ≡ slice_get self.now.lines place }
+        ensures text { IfSome (option_copied result) HasUtf8Texts }
+    {
+        self.queue.get(place as usize)
     }
 
     /// Sets whether the line with this content handle is displayed, the oldest such line where
@@ -118,7 +126,8 @@ impl Lines {
         let Some(place) = place_of(&self.queue, content) else {
             return false;
         };
-        self.queue[place].displayed = on;
+        let line = &mut self.queue[place];
+        line.set_displayed(on);
         true
     }
 
@@ -131,7 +140,7 @@ impl Lines {
     }
 }
 
-fn set_flags(lines: &mut [Line], flags: &Flags)
+fn set_flags(lines: &mut [PackedLine], flags: &Flags)
     ensures { lines.new ≡ map (with_own_flag (flag_at flags.now)) lines.old }
 {
     for line in lines.iter_mut() {
@@ -139,35 +148,35 @@ fn set_flags(lines: &mut [Line], flags: &Flags)
     }
 }
 
-fn set_flag(line: &mut Line, flags: &Flags)
+fn set_flag(line: &mut PackedLine, flags: &Flags)
     ensures { line.new ≡ with_own_flag (flag_at flags.now) line.old }
 {
-    if let Some(on) = flags.get(&line.content.0) {
-        line.displayed = *on;
+    if let Some(on) = flags.get(&line.content().0) {
+        line.set_displayed(*on);
     }
 }
 
 /// The place of the oldest line with this content handle.
-fn place_of(lines: &VecDeque<Line>, content: Handle) -> Option<usize>
+fn place_of(lines: &VecDeque<PackedLine>, content: Handle) -> Option<usize>
     ensures { result ≡ place_of content lines.now.items }
 {
-    lines.iter().position(|line| line.content == content)
+    lines.iter().position(|line| line.content() == content)
 }
 
 /// The lines that are still to come, from the oldest.
 #[derive(Drop)]
 pub struct LineIter<'a> {
-    lines: vec_deque::Iter<'a, Line>,
+    lines: vec_deque::Iter<'a, PackedLine>,
 }
 
 impl<'a> Iterator for LineIter<'a> {
-    type Item = &'a Line;
+    type Item = &'a PackedLine;
 
     ghost next_gives = { YieldsFirstRef lines_left };
 
     ghost remaining = { item_count lines_left };
 
-    fn next(&mut self) -> Option<&'a Line> {
+    fn next(&mut self) -> Option<&'a PackedLine> {
         self.lines.next()
     }
 }

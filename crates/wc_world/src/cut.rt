@@ -1,13 +1,13 @@
-ghost use Rattle.std.specs.Prelude.{◌≡◌, ◌≤◌, ◌<◌, ◌^◌, IfOk, length, take};
+ghost use Rattle.std.specs.Prelude.{◌≡◌, ◌<◌, ◌+◌, ◌^◌, IfOk, length};
 ghost use Rattle.std.specs.Str.{IsUtf8};
 ghost use Rattle.wc_buffers.specs.Vars.{cut_to};
 ghost use Rattle.wc_model.specs.LineCuts.{cut_tags, line_of};
 ghost use Rattle.wc_world.specs.Texts.{IsLineText};
 
 use std::alloc::Global;
-use wc_lines::Line;
+use wc_lines::{LineMarks, PackedLine};
 use wc_model::LineSpec;
-use wc_text::{Handle, Items, NoMemory, Text, cut};
+use wc_text::{Handle, NoMemory, Text, cut};
 
 /// The most bytes of a prefix.
 const PREFIX_LIMIT: usize = 128;
@@ -51,40 +51,38 @@ fn fitting(tags: &[Text]) -> usize
     count
 }
 
-/// So many tags in memory of their own.
-fn front(alloc: Global, tags: &[Text], count: usize) -> Result<Items<Text>, NoMemory>
-    requires { count ≤ length tags.now }
-    ensures { IfOk result (λ front. front ≡ take count tags.now) }
-{
-    let mut front = Items::new(alloc);
-    for tag in tags.split_at(count).0 {
-        front.push(tag.copy(alloc)?)?;
-    }
-    Ok(front)
-}
-
-/// The tags that fit. They are copied only where some do not.
+/// The tags that fit.
 #[tactic(auto, using(crate::proofs::CutTags::fitting_tags_facts))]
-fn fitting_tags(alloc: Global, tags: Items<Text>) -> Result<Items<Text>, NoMemory>
-    ensures { IfOk result (λ cut. cut ≡ cut_tags tags) }
+fn fitting_tags(tags: &[Text]) -> &[Text]
+    ensures { result.now ≡ cut_tags tags.now }
 {
-    let count = fitting(tags.as_slice());
-    if count == tags.as_slice().len() {
-        return Ok(tags);
-    }
-    front(alloc, tags.as_slice(), count)
+    tags.split_at(fitting(tags)).0
 }
 
-/// The line with this handle, and the next one for its content. What is too long is cut.
-pub(crate) fn line_of(alloc: Global, handle: u64, spec: LineSpec) -> Result<Line, NoMemory>
-    requires room { handle < 2 ^ 62 }
-    requires text { IsLineText spec }
-    ensures { IfOk result (λ line. line ≡ line_of handle spec) }
+/// The front of the text up to the limit.
+#[tactic(auto, using(wc_text::proofs::CutLemmas::cut_inside))]
+fn front(text: &Text, limit: usize) -> &[u8]
+    requires { IsUtf8 text.now }
+    ensures { result.now ≡ cut_to limit text.now }
 {
-    let tags = fitting_tags(alloc, spec.tags)?;
-    let prefix = cut_text(alloc, spec.prefix, PREFIX_LIMIT)?;
-    let message = cut_text(alloc, spec.message, MESSAGE_LIMIT)?;
-    Ok(Line {
+    let text = text.as_slice();
+    text.split_at(cut(text, limit)).0
+}
+
+/// What the line with this handle has beside its texts.
+fn marks_of(handle: u64, spec: &LineSpec) -> LineMarks
+    requires { handle < 2 ^ 62 }
+    ensures { result ≡ record {
+      handle = record { 0 = handle };
+      content = record { 0 = handle + 1 };
+      date = spec.now.date;
+      date_printed = spec.now.date_printed;
+      displayed = spec.now.displayed;
+      notify = spec.now.notify;
+      highlight = spec.now.highlight;
+    } }
+{
+    LineMarks {
         handle: Handle(handle),
         content: Handle(handle + 1),
         date: spec.date,
@@ -92,8 +90,18 @@ pub(crate) fn line_of(alloc: Global, handle: u64, spec: LineSpec) -> Result<Line
         displayed: spec.displayed,
         notify: spec.notify,
         highlight: spec.highlight,
-        tags,
-        prefix,
-        message,
-    })
+    }
+}
+
+/// The line with this handle, and the next one for its content. What is too long is cut.
+pub(crate) fn line_of(alloc: Global, handle: u64, spec: LineSpec) -> Result<PackedLine, NoMemory>
+    requires room { handle < 2 ^ 62 }
+    requires text { IsLineText spec }
+    ensures { IfOk result (λ line. line ≡ line_of handle spec) }
+{
+    let marks = marks_of(handle, &spec);
+    let tags = fitting_tags(spec.tags.as_slice());
+    let prefix = front(&spec.prefix, PREFIX_LIMIT);
+    let message = front(&spec.message, MESSAGE_LIMIT);
+    PackedLine::new(alloc, marks, tags, prefix, message)
 }

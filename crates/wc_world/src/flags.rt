@@ -6,7 +6,7 @@ ghost use Rattle.wc_world.specs.Flips.{last_flag, has_number, differs, differing
 
 use std::alloc::Global;
 use std::collections::HashMap;
-use wc_lines::{Flags, Line, Lines};
+use wc_lines::{Flags, Lines, PackedLine};
 use wc_model::Flip;
 use wc_text::{Handle, Items, NoMemory};
 
@@ -52,7 +52,7 @@ pub(crate) fn take_out(flags: &mut Flags, lines: &Lines)
         then None else flag_at flags.old content) }
 {
     for line in lines.iter() {
-        take_one(flags, line.content);
+        take_one(flags, line.content());
     }
 }
 
@@ -74,18 +74,18 @@ pub(crate) fn push_differing(
 {
     for line in lines.iter() {
         if differs(flags, line) {
-            contents.push(line.content)?;
+            contents.push(line.content())?;
         }
     }
     Ok(())
 }
 
 /// Whether a line gets another flag.
-fn differs(flags: &Flags, line: &Line) -> bool
+fn differs(flags: &Flags, line: &PackedLine) -> bool
     ensures { result ≡ differs (flag_at flags.now) line.now }
 {
-    match flags.get(&line.content.0) {
-        Some(on) => line.displayed != *on,
+    match flags.get(&line.content().0) {
+        Some(on) => line.displayed() != *on,
         None => false,
     }
 }

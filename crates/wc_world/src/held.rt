@@ -5,7 +5,7 @@ ghost use Rattle.wc_lines.specs.Ring.{with_line, without_lines};
 ghost use Rattle.wc_world.specs.Kept.{held_at, IsHeldChanged};
 
 use std::collections::HashMap;
-use wc_lines::{Line, Lines};
+use wc_lines::{Lines, PackedLine};
 use wc_text::{Handle, NoMemory};
 
 /// The lines of the buffers by the handles of these.
@@ -39,7 +39,7 @@ pub(crate) fn remove(held: &mut Held, h: Handle)
 }
 
 /// Puts a line after those of a buffer that is there.
-pub(crate) fn put_line(held: &mut Held, h: Handle, line: Line)
+pub(crate) fn put_line(held: &mut Held, h: Handle, line: PackedLine)
     requires there { IsSome (held_at held.old h.0) }
     requires text { HasUtf8Texts line }
     ensures { IsHeldChanged h.0 (λ lines. with_line lines line) held.old held.new }

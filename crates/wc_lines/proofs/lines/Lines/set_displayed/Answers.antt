@@ -1,7 +1,9 @@
 use Rattle.std.proofs.Common.{◌≡◌, ℕ, List, set, sym, subst, ◌∙◌, ap}
+use Rattle.std.specs.Prelude.{All}
 use Rattle.wc_lines.specs.declared.line.Line.{Line}
 use Rattle.wc_lines.specs.Held.{RingView}
 use Rattle.wc_lines.specs.Ring.{has_content, with_displayed}
+use Rattle.wc_lines.specs.LineText.{HasUtf8Texts}
 use Rattle.wc_lines.proofs.RingLemmas.{none_at, some_at, written, written_text}
 use Rattle.wc_lines.proofs.lines.Lines.set_displayed.Goals as goal
 
@@ -27,9 +29,9 @@ returns-clause-found c =
 pub returns-clause-lines : goal.returns-clause-lines
 returns-clause-lines c =
     let lines = c.self.inside.queue.items in
-    let changed = set lines c.in-Some.place (record c.index_mut.result.now { displayed = c.args.on }) in
+    let changed = set lines c.in-Some.place c.set_displayed.new.self in
     subst (λ held. held_at c.self.inside.limit changed ≡ with_displayed c.args.content c.args.on held) c.self.view_is
-    (ap (held_at c.self.inside.limit) (written c.args.content c.args.on lines c.in-Some.place c.index_mut.result.now c.in-Some.ensures c.index_mut.ensures.value))
+    (ap (held_at c.self.inside.limit) (ap (set lines c.in-Some.place) c.set_displayed.ensures ∙ written c.args.content c.args.on lines c.in-Some.place c.index_mut-line.result.now c.in-Some.ensures c.index_mut-line.ensures.value))
 
 pub invariant_of-self : goal.invariant_of-self
 invariant_of-self c =
@@ -39,5 +41,5 @@ invariant_of-self c =
       most = was.most;
       within = was.within;
       room = was.room;
-      text = written_text c.args.content c.args.on c.self.inside.queue.items c.in-Some.place c.index_mut.result.now c.in-Some.ensures c.index_mut.ensures.value was.text;
+      text = subst (λ line. All HasUtf8Texts (set c.self.inside.queue.items c.in-Some.place line)) (sym c.set_displayed.ensures) (written_text c.args.content c.args.on c.self.inside.queue.items c.in-Some.place c.index_mut-line.result.now c.in-Some.ensures c.index_mut-line.ensures.value was.text);
     }
