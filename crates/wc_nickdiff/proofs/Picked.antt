@@ -18,7 +18,7 @@ use Rattle.wc_nickdiff.specs.NickPush.{stays, differs, change_list, item_eq, is_
 use Rattle.wc_nickdiff.specs.Told.{told_or, told_at, IsTold}
 use Rattle.wc_nickdiff.proofs.PushLaw.{item_eq-same}
 use Rattle.wc_nickdiff.proofs.Sorted.{sorted_is}
-use Rattle.wc_nickdiff.proofs.Split.{split_of, or_row, find-append, find-filter, keyed-filter, ascending-filter, one_row, no_row}
+use Rattle.wc_nickdiff.proofs.Split.{split_of, or_row, find-append, find-filter, keyed-filter, ascending-filter, no_row}
 
 -- the touch of a key
 abbrev touch_at : Key → List FirstTouch → Option FirstTouch
@@ -137,16 +137,12 @@ keyed-append (x ∷ xs) ys kx ky h = (
 stands_there : (rows a : List Row) (r : Row) (b : List Row) → rows ≡ a ++ r ∷ b → IsRows rows → find_row (key r) rows ≡ Some r
 stands_there rows a r b e ok = (split_of rows a r b e ok.ascending ok.keyed).there
 
-pub row_there : {P : Type 0} (rows a : List Row) (r : Row) (b : List Row) → rows ≡ a ++ r ∷ b → IsRows rows → find_row (key r) rows ≡ None → P
-row_there rows a r b e ok n = no_row r (sym (stands_there rows a r b e ok) ∙ n)
-
 -- the next row whose key was not touched
-pub next_untouched : (ts : List FirstTouch) (rows a : List Row) (r : Row) (b got : List Row) (x : Row) → rows ≡ a ++ r ∷ b → IsRows rows → got ≡ filter (is_untouched ts) a → before_at (key r) ts ≡ None → find_row (key r) rows ≡ Some x
-    → got ++ x ∷ [] ≡ filter (is_untouched ts) (a ++ r ∷ [])
-next_untouched ts rows a r b got x e ok was none there =
-    let same : x ≡ r = one_row x r (sym there ∙ stands_there rows a r b e ok) in
+pub next_untouched : (ts : List FirstTouch) (rows a : List Row) (r : Row) (b got : List Row) → rows ≡ a ++ r ∷ b → IsRows rows → got ≡ filter (is_untouched ts) a → before_at (key r) ts ≡ None
+    → got ++ listed_row (find_row (key r) rows) ≡ filter (is_untouched ts) (a ++ r ∷ [])
+next_untouched ts rows a r b got e ok was none =
     let own : filter (is_untouched ts) (r ∷ []) ≡ r ∷ [] = rw none refl in
-    (λ i. was i ++ same i ∷ []) ∙ ap (λ l. filter (is_untouched ts) a ++ l) (sym own) ∙ sym (filter-append (is_untouched ts) a (r ∷ []))
+    (λ i. was i ++ listed_row (stands_there rows a r b e ok i)) ∙ ap (λ l. filter (is_untouched ts) a ++ l) (sym own) ∙ sym (filter-append (is_untouched ts) a (r ∷ []))
 
 module _ (ts : List FirstTouch) (now told : List Row) (once : EachOnce ts) (new : IsRows now) (h : IsTold (λ k. before_at k ts) now told) where
   keys : HaveKeys ts

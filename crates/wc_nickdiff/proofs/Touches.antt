@@ -5,7 +5,6 @@ use Rattle.std.specs.List.{list_any}
 use Rattle.std.proofs.lemmas.Bool.{true≢false, false≢true}
 use Rattle.wc_nicklist.specs.declared.item.Key.{Key}
 use Rattle.wc_nicklist.specs.declared.item.Row.{Row}
-use Rattle.wc_nicklist.specs.Order.{key_at}
 use Rattle.wc_nicklist.specs.Rows.{key_eq}
 use Rattle.wc_nicklist.specs.Touched.{earlier_or}
 use Rattle.wc_nicklist.proofs.OrderLaws.{by_bool, key_eq-true, key_eq-same}
@@ -105,10 +104,6 @@ place_push q (u ∷ us) t e = by_bool (key_eq u.key t.key) _
 
 pub index_push : (ts : List FirstTouch) (old new : Index) (t : FirstTouch) → before_at t.key ts ≡ None → IndexesTouches ts old → ((q : Key) → place_in new q ≡ cond (key_eq t.key q) (Some (length ts)) (place_in old q)) → IndexesTouches (ts ++ t ∷ []) new
 index_push ts old new t e h n q = n q ∙ ap (cond (key_eq t.key q) (Some (length ts))) (h q) ∙ sym (place_push q ts t e)
-
-pub insert_step : (k first : Key) (name : List ℕ) (n m : ℕ) (old mid new : Index) (q : Key) → place_in new q ≡ cond (key_eq (key_at k.is_group name) q) (Some n) (place_in mid q) → name ≡ k.name → n ≡ m → place_in mid q ≡ place_in old q → first ≡ k → place_in new q ≡ cond (key_eq first q) (Some m) (place_in old q)
-insert_step k first name n m old mid new q e named counted same is =
-    e ∙ (λ i. cond (key_eq (key_at k.is_group (named i)) q) (Some (counted i)) (same i)) ∙ ap (λ z. cond (key_eq z q) (Some m) (place_in old q)) (sym is)
 
 -- what is at first touches after one more
 pub before_touched : (k : Key) (row : Option Row) (ts : List FirstTouch) (q : Key) → before_at q (with_touch k row ts) ≡ cond (key_eq k q) (earlier_or (before_at q ts) row) (before_at q ts)

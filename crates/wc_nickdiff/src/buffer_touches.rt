@@ -1,10 +1,13 @@
-ghost use Rattle.std.specs.Prelude.{◌≡◌, ◌==◌, ◌≤◌, [], OnOk, OnErr, length, option_copied};
+ghost use Rattle.std.specs.Prelude.{◌≡◌, ◌==◌, ◌<◌, ◌++◌, ◌∷◌, [], Some, IfOk, OnOk, OnErr};
+ghost use Rattle.std.specs.Prelude.{if◌then◌else◌, length, option_copied, vec_len, vec_capacity};
+ghost use Rattle.wc_nicklist.specs.declared.item.Key.{Key as KeyValue};
 ghost use Rattle.wc_nicklist.specs.Order.{key_at};
+ghost use Rattle.wc_nicklist.specs.Rows.{key_eq};
 ghost use Rattle.wc_nickdiff.specs.Held.{before_at, with_touch, EachOnce};
+ghost use Rattle.wc_nickdiff.specs.Index.{place_in, HasTouchRoom};
 
 use crate::diff_item::FirstTouch;
 use crate::index::{Index, bytes_of};
-use crate::row::push;
 use std::alloc::Global;
 use std::marker::Model;
 use wc_nicklist::{Key, Row};
@@ -84,19 +87,53 @@ impl BufferTouches {
         }) }
         ensures err { OnErr result (self.new ≡ self.old) }
     {
-        let name = key.name.as_slice();
-        if self.index.find(key.is_group, name).is_some() {
+        if self.index.find(key.is_group, key.name.as_slice()).is_some() {
+            drop(before);
             return Ok(());
         }
-        let name = bytes_of(alloc, name)?;
-        let first = FirstTouch {
-            key: key.copy(alloc)?,
-            before,
+        let Ok((key, name)) = reserve(alloc, &mut self.touches, &mut self.index, key) else {
+            drop(before);
+            return Err(NoMemory);
         };
-        self.index.reserve()?;
-        let place = self.touches.len();
-        push(&mut self.touches, first)?;
-        self.index.insert(key.is_group, name, place);
+        put(
+            &mut self.touches,
+            &mut self.index,
+            name,
+            FirstTouch { key, before },
+        );
         Ok(())
     }
+}
+
+/// Takes the memory for one touch more, and copies its key and the bytes of its name.
+fn reserve(
+    alloc: Global,
+    touches: &mut Vec<FirstTouch>,
+    index: &mut Index,
+    key: &Key,
+) -> Result<(Key, Vec<u8>), NoMemory>
+    ensures touches { touches.new.items ≡ touches.old.items }
+    ensures places { (k : KeyValue) → place_in index.new k ≡ place_in index.old k }
+    ensures room { OnOk result (vec_len touches.new < vec_capacity touches.new) }
+    ensures index_room { OnOk result (HasTouchRoom index.new) }
+    ensures key { IfOk result (λ copies. copies.0 ≡ key.now) }
+    ensures name { IfOk result (λ copies. copies.1.items ≡ key.now.name) }
+{
+    index.reserve()?;
+    touches.reserve(1)?;
+    let name = bytes_of(alloc, key.name.as_slice())?;
+    Ok((key.copy(alloc)?, name))
+}
+
+/// Puts a touch after the others, and notes its place. It takes no memory.
+fn put(touches: &mut Vec<FirstTouch>, index: &mut Index, name: Vec<u8>, touch: FirstTouch)
+    requires room { vec_len touches.old < vec_capacity touches.old }
+    requires index_room { HasTouchRoom index.old }
+    requires named { name.items ≡ touch.key.name }
+    ensures touches { touches.new.items ≡ touches.old.items ++ touch ∷ [] }
+    ensures places { (k : KeyValue) → place_in index.new k ≡ (if key_eq touch.key k
+        then Some (length touches.old.items) else place_in index.old k) }
+{
+    index.insert(touch.key.is_group, name, touches.len());
+    touches.push_reserved(touch);
 }

@@ -88,9 +88,7 @@ impl Differences {
         if stays(told, &now) {
             return put_changed(&mut self.changed, told, now);
         }
-        if let Some(row) = told {
-            put_by_kind(&mut self.out_groups, &mut self.out_nicks, row.copy(alloc)?)?;
-        }
+        put_copy(alloc, &mut self.out_groups, &mut self.out_nicks, told)?;
         match now {
             Some(row) => put_by_kind(&mut self.in_groups, &mut self.in_nicks, row),
             None => Ok(()),
@@ -115,6 +113,24 @@ impl Differences {
         sort(&mut self.in_groups);
         sort(&mut self.in_nicks);
         sort(&mut self.changed);
+    }
+}
+
+/// Puts a copy of a row, where there is one, after the others of its kind.
+fn put_copy(
+    alloc: Global,
+    groups: &mut Vec<Row>,
+    nicks: &mut Vec<Row>,
+    row: &Option<Row>,
+) -> Result<(), NoMemory>
+    ensures groups { OnOk result (groups.new.items ≡ groups.old.items
+        ++ listed_row (keep is_group row.now)) }
+    ensures nicks { OnOk result (nicks.new.items ≡ nicks.old.items
+        ++ listed_row (keep is_nick row.now)) }
+{
+    match row {
+        Some(row) => put_by_kind(groups, nicks, row.copy(alloc)?),
+        None => Ok(()),
     }
 }
 

@@ -1,4 +1,4 @@
-ghost use Rattle.std.specs.Prelude.{◌≡◌, List, IfOk, reverse};
+ghost use Rattle.std.specs.Prelude.{◌≡◌, ◌++◌, List, [], None, IfOk, OnOk, map, reverse};
 ghost use Rattle.wc_nicklist.specs.Rows.{find_row, IsRows};
 ghost use Rattle.wc_nicklist.specs.declared.item.Row.{Row as RowValue};
 ghost use Rattle.wc_nickdiff.specs.Compared.{items_written};
@@ -65,14 +65,32 @@ fn write(
         differences.now.in_groups.items differences.now.in_nicks.items
         differences.now.changed.items) }
 {
-    let d = differences;
     let mut writer = Writer::new(alloc);
+    put_lists(alloc, &mut writer, differences, touches, now)?;
+    Ok(writer.into_items())
+}
+
+/// Puts the items of the differences into a writer that has none.
+fn put_lists(
+    alloc: Global,
+    writer: &mut Writer,
+    differences: &Differences,
+    touches: &BufferTouches,
+    now: &Nicklist,
+) -> Result<(), NoMemory>
+    requires { writer.old ≡ record { items = []; parent = None } }
+    ensures { OnOk result (writer.new.items ≡ items_written (root_item now.now.root)
+        (told_at (λ k. before_at k touches.now.touches) now.now.rows) (λ k. find_row k now.now.rows)
+        differences.now.out_nicks.items differences.now.out_groups.items
+        differences.now.in_groups.items differences.now.in_nicks.items
+        differences.now.changed.items) }
+{
+    let d = differences;
     writer.put_all(alloc, Mark::Removed, d.out_nicks.as_slice(), touches, now)?;
     writer.put_all(alloc, Mark::Removed, d.out_groups.as_slice(), touches, now)?;
     writer.put_all(alloc, Mark::Added, d.in_groups.as_slice(), touches, now)?;
     writer.put_all(alloc, Mark::Added, d.in_nicks.as_slice(), touches, now)?;
-    writer.put_all(alloc, Mark::Changed, d.changed.as_slice(), touches, now)?;
-    Ok(writer.into_items())
+    writer.put_all(alloc, Mark::Changed, d.changed.as_slice(), touches, now)
 }
 
 /// Turns rows around.
@@ -88,8 +106,16 @@ fn full_list(alloc: Global, now: &Nicklist) -> Result<Items<Item>, NoMemory>
 {
     let mut items = Items::new(alloc);
     items.push(root_item(alloc, now.root())?)?;
+    push_rows(alloc, &mut items, now)?;
+    Ok(items)
+}
+
+/// Puts all rows after the items.
+fn push_rows(alloc: Global, items: &mut Items<Item>, now: &Nicklist) -> Result<(), NoMemory>
+    ensures { OnOk result (items.new ≡ items.old ++ map (λ r. r.item) now.now.rows) }
+{
     for row in now.rows() {
         items.push(row.item().copy(alloc)?)?;
     }
-    Ok(items)
+    Ok(())
 }

@@ -1,13 +1,15 @@
-ghost use Rattle.std.specs.Prelude.{◌≡◌, List, IfOk, filter};
+ghost use Rattle.std.specs.Prelude.{◌≡◌, ◌++◌, List, IfOk, OnOk, filter};
 ghost use Rattle.wc_nicklist.specs.declared.item.Row.{Row as RowValue};
-ghost use Rattle.wc_nicklist.specs.Rows.{IsRows};
+ghost use Rattle.wc_nicklist.specs.Order.{key_of};
+ghost use Rattle.wc_nicklist.specs.Rows.{find_row, IsRows};
+ghost use Rattle.wc_nickdiff.specs.Compared.{listed_row};
 ghost use Rattle.wc_nickdiff.specs.Held.{before_at, is_untouched};
 ghost use Rattle.wc_nickdiff.specs.Told.{IsTold};
 
 use crate::buffer_touches::BufferTouches;
 use crate::row::{key_of, push, sort};
 use std::alloc::Global;
-use wc_nicklist::{Nicklist, Row};
+use wc_nicklist::{Item, Nicklist, Row};
 use wc_text::{Items, NoMemory};
 
 /// The rows that were told: those that were at the first touches, and those now whose keys were not
@@ -47,13 +49,27 @@ fn rows_not_touched(
             .before(item.is_group, item.name.as_slice())
             .is_none()
         {
-            let key = key_of(alloc, item)?;
-            if let Some(row) = now.row_of(alloc, &key)? {
-                push(&mut rows, row)?;
-            }
+            push_row_of(alloc, &mut rows, now, item)?;
         }
     }
     Ok(rows)
+}
+
+/// Puts the row of an item after others, where there is one.
+fn push_row_of(
+    alloc: Global,
+    rows: &mut Vec<Row>,
+    now: &Nicklist,
+    item: &Item,
+) -> Result<(), NoMemory>
+    ensures { OnOk result (rows.new.items ≡ rows.old.items
+        ++ listed_row (find_row (key_of item.now) now.now.rows)) }
+{
+    let key = key_of(alloc, item)?;
+    match now.row_of(alloc, &key)? {
+        Some(row) => push(rows, row),
+        None => Ok(()),
+    }
 }
 
 /// The same rows as a list.

@@ -59,8 +59,13 @@ impl Reader<'_> {
             (pair_at key value self.old.bytes.now) }
     {
         let first = self.simple(alloc, key)?;
-        let second = self.simple(alloc, value)?;
-        Ok((first, second))
+        match self.simple(alloc, value) {
+            Ok(second) => Ok((first, second)),
+            Err(error) => {
+                drop(first);
+                Err(error)
+            }
+        }
     }
 
     fn pairs(

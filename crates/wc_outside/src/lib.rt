@@ -8,8 +8,6 @@ mod keeper;
 mod memory_keeper;
 mod memory_sink;
 mod memory_sockets;
-#[cfg(test)]
-mod memory_tests;
 mod play;
 mod report;
 mod rows;

@@ -1,5 +1,5 @@
 ghost use Rattle.std.specs.Prelude.{◌≡◌, ◌+◌, ◌-◌, ◌^◌, ◌<◌, ◌≤◌, ◌++◌, ◌∷◌};
-ghost use Rattle.std.specs.Prelude.{[], true, IsTrue, IfOk, OnErr, vec_len};
+ghost use Rattle.std.specs.Prelude.{[], true, false, IsTrue, IfOk, OnErr, MatchOption, vec_len};
 ghost use Rattle.wc_outside.specs.Seen.{IsNew};
 ghost use Rattle.wc_outside.specs.Rows.{blank, row_at};
 
@@ -86,12 +86,20 @@ impl MemorySockets {
     }
 
     /// What they gave, in order, where they still tell.
-    pub fn taken(&self) -> Option<&[Happening]> {
+    pub fn taken(&self) -> Option<&[Happening]>
+        ensures { MatchOption result
+            ((⟦<MemorySockets as Sockets>⟧.seen self.now).tells ≡ false)
+            (λ taken. taken.now ≡ (⟦<MemorySockets as Sockets>⟧.seen self.now).taken) }
+    {
         self.told.tells.then_some(self.told.taken.as_slice())
     }
 
     /// What they were asked, in order, where they still tell.
-    pub fn asked(&self) -> Option<&[Asked]> {
+    pub fn asked(&self) -> Option<&[Asked]>
+        ensures { MatchOption result
+            ((⟦<MemorySockets as Sockets>⟧.seen self.now).tells ≡ false)
+            (λ asked. asked.now ≡ (⟦<MemorySockets as Sockets>⟧.seen self.now).asked) }
+    {
         self.told.tells.then_some(self.told.asked.as_slice())
     }
 

@@ -26,9 +26,7 @@ pub(crate) fn insert(held: &mut Held, h: Handle, lines: Lines)
     ensures { (q : ℕ) → held_at held.new q ≡ (if nat_eq h.0 q then Some lines
         else held_at held.old q) }
 {
-    let Ok(_) = held.insert(h.0, lines) else {
-        unreachable!()
-    };
+    drop(held.insert(h.0, lines));
 }
 
 /// Takes the lines of a buffer out.

@@ -31,9 +31,7 @@ pub(crate) fn insert(lists: &mut Lists, h: Handle, list: Nicklist)
     ensures { (q : ℕ) → list_at lists.new q ≡ (if nat_eq h.0 q then Some list
         else list_at lists.old q) }
 {
-    let Ok(_) = lists.insert(h.0, list) else {
-        unreachable!()
-    };
+    drop(lists.insert(h.0, list));
 }
 
 /// Takes the nicklist of a buffer out. The answer is how many rows it had.
@@ -43,7 +41,11 @@ pub(crate) fn remove(lists: &mut Lists, h: Handle) -> u64
     ensures count { result ≡ length (rows_of (list_at lists.old h.0)) }
 {
     match lists.remove(&h.0) {
-        Some(list) => list.count(),
+        Some(list) => {
+            let count = list.count();
+            drop(list);
+            count
+        }
         None => 0,
     }
 }

@@ -160,18 +160,23 @@ impl World {
             self.new result }
     {
         let handle = Handle(self.next);
-        let buffer = new_buffer(
-            &mut self.held,
-            &mut self.nicks,
-            alloc,
-            self.next,
-            self.limit,
-            &spec.full_name,
-        )?;
-        put_row(&mut self.buffers, alloc, self.next, spec)?;
-        let full_name = store(&mut self.held, &mut self.nicks, handle, buffer);
-        self.next += 4;
-        Ok(told(&self.buffers, alloc, EventKind::Opened, handle, full_name))
+        let (held, lists) = (&mut self.held, &mut self.nicks);
+        let name = &spec.full_name;
+        let Ok(buffer) = new_buffer(held, lists, alloc, self.next, self.limit, name) else {
+            drop(spec);
+            return Err(ChangeRefused::NoMemory);
+        };
+        match put_row(&mut self.buffers, alloc, self.next, spec) {
+            Ok(()) => {
+                let full_name = store(&mut self.held, &mut self.nicks, handle, buffer);
+                self.next += 4;
+                Ok(told(&self.buffers, alloc, EventKind::Opened, handle, full_name))
+            }
+            Err(refused) => {
+                drop(buffer);
+                Err(refused)
+            }
+        }
     }
 
     /// The buffer goes, and its lines and its nicklist with it.

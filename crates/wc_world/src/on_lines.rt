@@ -23,14 +23,22 @@ impl World {
             self.new result }
     {
         if let Some(refused) = no_buffer(&self.buffers, h) {
+            drop(spec);
             return Err(ChangeRefused::Buffer(refused));
         }
         if self.next >= LAST_HANDLE {
+            drop(spec);
             return Err(ChangeRefused::Spent);
         }
-        let full_name = name_of(&self.buffers, alloc, h)?;
+        let Ok(full_name) = name_of(&self.buffers, alloc, h) else {
+            drop(spec);
+            return Err(ChangeRefused::NoMemory);
+        };
         let line = line_of(alloc, self.next, spec)?;
-        let lines = one(alloc, Handle(self.next))?;
+        let Ok(lines) = one(alloc, Handle(self.next)) else {
+            drop(line);
+            return Err(ChangeRefused::NoMemory);
+        };
         held::put_line(&mut self.held, h, line);
         self.next += 2;
         Ok(told_line(&self.buffers, alloc, h, full_name, lines))

@@ -66,9 +66,15 @@ fn touch_item<T: Touch>(
     ensures err { OnErr result ((b : HandleValue) (k : KeyValue) → T.first touch.new b k
         ≡ T.first touch.old b k) }
 {
-    let key = key_at(alloc, is_group, &item.name)?;
+    let Ok(key) = key_at(alloc, is_group, &item.name) else {
+        drop(item);
+        return Err(NoMemory);
+    };
     let item = item_with(alloc, handle_at(list, &key), item)?;
-    touch_row(list, alloc, h, &key, touch)?;
+    let Ok(()) = touch_row(list, alloc, h, &key, touch) else {
+        drop(item);
+        return Err(NoMemory);
+    };
     Ok(item)
 }
 
@@ -143,19 +149,23 @@ impl World {
             ≡ T.first touch.old b k) }
     {
         if let Some(refused) = self.add_refusal(alloc, h, is_group, parent, &item) {
+            drop(item);
             return Err(refused);
         }
-        let full_name = name_of(&self.buffers, alloc, h)?;
-        let item = item_with(alloc, Handle(self.next), item)?;
-        touch_room(
-            &mut self.nicks,
-            alloc,
-            h,
-            is_group,
-            parent,
-            &item.name,
-            touch,
-        )?;
+        let Ok(full_name) = name_of(&self.buffers, alloc, h) else {
+            drop(item);
+            return Err(ChangeRefused::NoMemory);
+        };
+        let Ok(item) = item_with(alloc, Handle(self.next), item) else {
+            drop(full_name);
+            return Err(ChangeRefused::NoMemory);
+        };
+        let lists = &mut self.nicks;
+        let Ok(()) = touch_room(lists, alloc, h, is_group, parent, &item.name, touch) else {
+            drop(full_name);
+            drop(item);
+            return Err(ChangeRefused::NoMemory);
+        };
         nicks::put(&mut self.nicks, alloc, h, is_group, parent, item);
         self.next += 1;
         self.row_count += 1;
@@ -233,9 +243,13 @@ impl World {
             ≡ T.first touch.old b k) }
     {
         if let Some(refused) = self.change_refusal(h, is_group, &item) {
+            drop(item);
             return Err(refused);
         }
-        let full_name = name_of(&self.buffers, alloc, h)?;
+        let Ok(full_name) = name_of(&self.buffers, alloc, h) else {
+            drop(item);
+            return Err(ChangeRefused::NoMemory);
+        };
         let item = touch_item(nicks::at(&self.nicks, h), alloc, h, is_group, item, touch)?;
         nicks::write(&mut self.nicks, h, is_group, item);
         Ok(told(&self.buffers, alloc, EventKind::NickTouched, h, full_name))

@@ -47,9 +47,9 @@ returns-clause-outcome g c =
     let written : IsListChangedAt c.args.h.0 (with_edit (change_row (key_at c.args.is_group c.args.item.name) (item_with (handle_in (find_row (key_at c.args.is_group c.args.item.name) (rows_at w c.args.h.0))) c.args.item))) c.self.inside.nicks c.write.new.lists =
     subst (λ (i : Item). IsListChangedAt c.args.h.0 (with_edit (change_row (key_at c.args.is_group i.name) i)) c.self.inside.nicks c.write.new.lists) item c.write.ensures in
     nicked c.self.inside.buffers c.self.inside.held c.self.inside.nicks c.write.new.lists c.self.inside.limit c.self.inside.next c.self.inside.next c.args.self.now c.args.h (change_of_rows c.args.is_group c.args.item) (key_at c.args.is_group c.args.item.name)
-    (change_row (key_at c.args.is_group c.args.item.name) (item_with (handle_in (find_row (key_at c.args.is_group c.args.item.name) (rows_at w c.args.h.0))) c.args.item)) c.in_ok-full_name.full_name c.told.result
+    (change_row (key_at c.args.is_group c.args.item.name) (item_with (handle_in (find_row (key_at c.args.is_group c.args.item.name) (rows_at w c.args.h.0))) c.args.item)) c.in-Ok.full_name c.told.result
     c.self.invariant.0 c.self.view_is (changing_refused c.args.self.now c.args.h c.args.is_group c.args.item ∙ sym c.change_refusal.ensures ∙ c.in_default.is)
-    (is_changing c.args.is_group c.args.item) there written (after_changing w c.args.h c.args.is_group c.args.item) c.in_ok-full_name.ensures c.told.ensures
+    (is_changing c.args.is_group c.args.item) there written (after_changing w c.args.h c.args.is_group c.args.item) c.in-Ok.ensures c.told.ensures
 
 pub returns-clause-touched : goal.returns-clause-touched
 returns-clause-touched g c =

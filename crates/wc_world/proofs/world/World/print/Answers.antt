@@ -26,4 +26,4 @@ pub invariant_of-self : goal.invariant_of-self
 invariant_of-self c = (kept_printed c.self.inside.buffers c.self.inside.held c.put_line.new.held c.self.inside.limit c.self.inside.next c.args.h.0 c.in_ok-line.line (ap (λ l. l.content.0) c.in_ok-line.ensures) (omega (arith, c.if-self-ge-LAST_HANDLE.false)) c.put_line.ensures c.self.invariant.0, c.self.invariant.1)
 
 pub returns : goal.returns
-returns c = printed_done c.self.inside.buffers c.self.inside.held c.put_line.new.held (rows_map c.self.inside.nicks) c.self.inside.limit c.self.inside.next c.self.invariant.0 c.args.h c.args.self.now c.args.spec c.in_ok-full_name.full_name c.in_ok-lines.lines [] c.told_line.result c.self.view_is (there_good c.args.h c.self.inside.buffers (sym c.no_buffer.ensures ∙ c.in_default.is)) (omega (arith, c.if-self-ge-LAST_HANDLE.false)) (subst (λ l. IsHeldChanged c.args.h.0 (λ x. with_line x l) c.self.inside.held c.put_line.new.held) c.in_ok-line.ensures c.put_line.ensures) c.in_ok-full_name.ensures c.told_line.ensures c.in_ok-lines.ensures refl
+returns c = printed_done c.self.inside.buffers c.self.inside.held c.put_line.new.held (rows_map c.self.inside.nicks) c.self.inside.limit c.self.inside.next c.self.invariant.0 c.args.h c.args.self.now c.args.spec c.in-Ok.full_name c.in-Ok-one.lines [] c.told_line.result c.self.view_is (there_good c.args.h c.self.inside.buffers (sym c.no_buffer.ensures ∙ c.in_default.is)) (omega (arith, c.if-self-ge-LAST_HANDLE.false)) (subst (λ l. IsHeldChanged c.args.h.0 (λ x. with_line x l) c.self.inside.held c.put_line.new.held) c.in_ok-line.ensures c.put_line.ensures) c.in-Ok.ensures c.told_line.ensures c.in-Ok-one.ensures refl
