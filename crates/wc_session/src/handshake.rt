@@ -1,5 +1,6 @@
-ghost use Rattle.std.specs.Prelude.{◌≡◌, true, Some, IfOk, OnErr};
+ghost use Rattle.std.specs.Prelude.{◌≡◌, ◌++◌, ◌∷◌, [], true, codes, IfOk, OnOk, OnErr};
 ghost use Rattle.std.specs.Str.{IsUtf8};
+ghost use Rattle.hex.specs.Hex.{encode_upper};
 ghost use Rattle.wc_objects.specs.Forms.{well_formed};
 ghost use Rattle.wc_session.specs.Handshakes.{choice_in, asks_escapes, name_of_choice, switch};
 ghost use Rattle.wc_session.specs.Handshakes.{entry, handshake_table, handshake_objects};
@@ -63,7 +64,49 @@ fn entry(alloc: Global, name: &[u8], value: &[u8]) -> Result<(Object, Object), N
     Ok((Object::Str(Some(name)), Object::Str(Some(value))))
 }
 
+/// Puts an entry after the others.
+fn put(
+    table: &mut Items<(Object, Object)>,
+    alloc: Global,
+    name: &[u8],
+    value: &[u8],
+) -> Result<(), NoMemory>
+    ensures { OnOk result (table.new ≡ table.old ++ entry name.now value.now ∷ []) }
+{
+    table.push(entry(alloc, name, value)?)
+}
+
+fn put_nonce(
+    table: &mut Items<(Object, Object)>,
+    alloc: Global,
+    nonce: &[u8],
+) -> Result<(), NoMemory>
+    ensures { OnOk result
+        (table.new ≡ table.old ++ entry (codes "nonce") (encode_upper nonce.now) ∷ []) }
+{
+    let digits = hex::encode_upper(alloc, nonce)?;
+    put(table, alloc, b"nonce", digits.as_bytes())
+}
+
 #[tactic(auto, unfolding(crate::specs::Handshakes::handshake_table))]
+fn put_all(
+    table: &mut Items<(Object, Object)>,
+    alloc: Global,
+    nonce: &[u8],
+    choice: Option<Algorithm>,
+    escapes: bool,
+) -> Result<(), NoMemory>
+    requires { table.old ≡ [] }
+    ensures { OnOk result (table.new ≡ handshake_table nonce.now choice escapes) }
+{
+    put(table, alloc, b"password_hash_algo", name_of_choice(choice))?;
+    put(table, alloc, b"password_hash_iterations", b"100000")?;
+    put(table, alloc, b"totp", b"off")?;
+    put_nonce(table, alloc, nonce)?;
+    put(table, alloc, b"compression", b"off")?;
+    put(table, alloc, b"escape_commands", switch(escapes))
+}
+
 fn handshake_table(
     alloc: Global,
     nonce: &[u8],
@@ -72,14 +115,8 @@ fn handshake_table(
 ) -> Result<Items<(Object, Object)>, NoMemory>
     ensures { IfOk result (λ table. table ≡ handshake_table nonce.now choice escapes) }
 {
-    let digits = hex::encode_upper(alloc, nonce)?;
     let mut table = Items::new(alloc);
-    table.push(entry(alloc, b"password_hash_algo", name_of_choice(choice))?)?;
-    table.push(entry(alloc, b"password_hash_iterations", b"100000")?)?;
-    table.push(entry(alloc, b"totp", b"off")?)?;
-    table.push(entry(alloc, b"nonce", digits.as_bytes())?)?;
-    table.push(entry(alloc, b"compression", b"off")?)?;
-    table.push(entry(alloc, b"escape_commands", switch(escapes))?)?;
+    put_all(&mut table, alloc, nonce, choice, escapes)?;
     Ok(table)
 }
 

@@ -1,4 +1,4 @@
-ghost use Rattle.std.specs.Prelude.{◌≡◌, ◌∷◌, [], true, Some, IfOk, IfSome};
+ghost use Rattle.std.specs.Prelude.{◌≡◌, ◌∷◌, [], true, Some, codes, IfOk, IfSome};
 ghost use Rattle.std.specs.Str.{IsUtf8};
 ghost use Rattle.wc_objects.specs.Forms.{well_formed};
 ghost use Rattle.wc_session.specs.Names.{buffer_named};
@@ -49,27 +49,31 @@ fn test_numbers(alloc: Global) -> Result<Items<Object>, NoMemory>
     Ok(values)
 }
 
-/// One object of each kind, as WeeChat's relay protocol lists them for `test`.
+/// The objects of `test`, with these values in those that take memory.
 #[tactic(auto, unfolding(crate::specs::Reply::test_objects))]
-pub fn test_objects(alloc: Global) -> Result<[Object; 15], NoMemory>
-    ensures objects { IfOk result (λ objects. objects ≡ test_objects) }
-    ensures formed { IfOk result (λ objects. well_formed objects ≡ true) }
+fn test_list(
+    alloc: Global,
+    string: Text,
+    buffer: Text,
+    texts: Items<Object>,
+    numbers: Items<Object>,
+) -> [Object; 15]
+    requires string { string ≡ codes "a string" }
+    requires buffer { buffer ≡ codes "buffer" }
+    requires texts { texts ≡ test_texts }
+    requires numbers { numbers ≡ test_numbers }
+    ensures { result ≡ test_objects }
 {
-    let string = some_text(alloc, b"a string")?;
-    let empty = some_text(alloc, b"")?;
-    let buffer = some_text(alloc, b"buffer")?;
-    let texts = test_texts(alloc)?;
-    let numbers = test_numbers(alloc)?;
-    Ok([
+    [
         Object::Chr(65),
         Object::Int(123456),
         Object::Int(-123456),
         Object::Lon(1234567890),
         Object::Lon(-1234567890),
-        Object::Str(string),
-        Object::Str(empty),
+        Object::Str(Some(string)),
+        Object::Str(Some(Text::new(alloc))),
         Object::Str(None),
-        Object::Buf(buffer),
+        Object::Buf(Some(buffer)),
         Object::Buf(None),
         Object::Ptr(0x1234abcd),
         Object::Ptr(0),
@@ -82,7 +86,19 @@ pub fn test_objects(alloc: Global) -> Result<[Object; 15], NoMemory>
             kind: Kind::Int,
             values: numbers,
         },
-    ])
+    ]
+}
+
+/// One object of each kind, as WeeChat's relay protocol lists them for `test`.
+pub fn test_objects(alloc: Global) -> Result<[Object; 15], NoMemory>
+    ensures objects { IfOk result (λ objects. objects ≡ test_objects) }
+    ensures formed { IfOk result (λ objects. well_formed objects ≡ true) }
+{
+    let string = Text::from_slice(alloc, b"a string")?;
+    let buffer = Text::from_slice(alloc, b"buffer")?;
+    let texts = test_texts(alloc)?;
+    let numbers = test_numbers(alloc)?;
+    Ok(test_list(alloc, string, buffer, texts, numbers))
 }
 
 /// Whether a path and keys ask for all buffers.

@@ -1,11 +1,13 @@
-ghost use Rattle.std.specs.Prelude.{◌≡◌, true, IfOk, OnErr};
+ghost use Rattle.std.specs.Prelude.{◌≡◌, true, codes, IfOk, OnErr};
 ghost use Rattle.std.specs.Str.{IsUtf8};
 ghost use Rattle.wc_objects.specs.Forms.{well_formed};
 ghost use Rattle.wc_relaycmd.specs.Utf8.{RequestIsUtf8, CommandUtf8};
 ghost use Rattle.wc_session.specs.declared.client.Client.{Client};
 ghost use Rattle.wc_session.specs.Reply.{hdata_objects, nicklist_objects, replies, input_answer};
-ghost use Rattle.wc_session.specs.Reply.{is_open, served, reply_of};
-ghost use Rattle.wc_session.specs.Sending.{reply};
+ghost use Rattle.wc_session.specs.Reply.{info_objects, infolist_objects, test_objects, pong_objects};
+ghost use Rattle.wc_session.specs.Reply.{silent, is_open, served, reply_of};
+ghost use Rattle.wc_session.specs.Sending.{reply, null_hdata};
+ghost use Rattle.wc_session.specs.Sync.{synchronized, desynchronized};
 ghost use Rattle.wc_events.specs.LineObjects.{line_dump};
 ghost use Rattle.wc_session.specs.Served.{GivesAnswer, IsQuiet};
 
@@ -26,7 +28,7 @@ use wc_buffers::Buffers;
 use wc_events::{buffer_dump, nick_dump};
 use wc_objects::Object;
 use wc_relaycmd::{Command, Request};
-use wc_text::{Cause, NoMemory, Text};
+use wc_text::{Cause, Items, NoMemory, Text};
 use wc_world::World;
 
 /// Serves a request by these objects as its reply.
@@ -140,6 +142,97 @@ fn is_open(command: &Command) -> bool
     )
 }
 
+/// Serves `info`: each information is unknown.
+fn give_info(alloc: Global, out: &mut BytesMut, id: &[u8], name: Text) -> Result<Outcome, NoMemory>
+    requires id { IsUtf8 id.now }
+    requires name { IsUtf8 name }
+    ensures ok { IfOk result (λ outcome. (client : Client) →
+        GivesAnswer out.old.items out.new.items outcome client
+        (replies client (reply id.now (info_objects name)))) }
+    ensures err { OnErr result (out.new.items ≡ out.old.items) }
+{
+    give(alloc, out, id, info_objects(name).as_slice())
+}
+
+/// Serves `infolist`: each list is unknown.
+fn give_infolist(
+    alloc: Global,
+    out: &mut BytesMut,
+    id: &[u8],
+    name: Text,
+) -> Result<Outcome, NoMemory>
+    requires id { IsUtf8 id.now }
+    requires name { IsUtf8 name }
+    ensures ok { IfOk result (λ outcome. (client : Client) →
+        GivesAnswer out.old.items out.new.items outcome client
+        (replies client (reply id.now (infolist_objects name)))) }
+    ensures err { OnErr result (out.new.items ≡ out.old.items) }
+{
+    give(alloc, out, id, infolist_objects(alloc, name).as_slice())
+}
+
+/// Serves `completion`, of which there is none.
+fn give_null(alloc: Global, out: &mut BytesMut, id: &[u8]) -> Result<Outcome, NoMemory>
+    requires { IsUtf8 id.now }
+    ensures ok { IfOk result (λ outcome. (client : Client) →
+        GivesAnswer out.old.items out.new.items outcome client
+        (replies client (reply id.now null_hdata))) }
+    ensures err { OnErr result (out.new.items ≡ out.old.items) }
+{
+    give(alloc, out, id, null_hdata(alloc).as_slice())
+}
+
+fn give_test(alloc: Global, out: &mut BytesMut, id: &[u8]) -> Result<Outcome, NoMemory>
+    requires { IsUtf8 id.now }
+    ensures ok { IfOk result (λ outcome. (client : Client) →
+        GivesAnswer out.old.items out.new.items outcome client
+        (replies client (reply id.now test_objects))) }
+    ensures err { OnErr result (out.new.items ≡ out.old.items) }
+{
+    give(alloc, out, id, test_objects(alloc)?.as_slice())
+}
+
+/// Serves `ping`, whatever the id of the request.
+fn give_pong(alloc: Global, out: &mut BytesMut, text: Text) -> Result<Outcome, NoMemory>
+    requires { IsUtf8 text }
+    ensures ok { IfOk result (λ outcome. (client : Client) →
+        GivesAnswer out.old.items out.new.items outcome client
+        (replies client (reply (codes "_pong") (pong_objects text)))) }
+    ensures err { OnErr result (out.new.items ≡ out.old.items) }
+{
+    give(alloc, out, b"_pong", pong_objects(text).as_slice())
+}
+
+/// Serves `sync`, which gets no reply.
+fn serve_sync(
+    alloc: Global,
+    client: &mut Client,
+    world: &World,
+    names: &Items<Text>,
+    options: &Option<Items<Text>>,
+) -> Result<Outcome, NoMemory>
+    ensures ok { IfOk result (λ outcome. IsQuiet outcome client.new
+        (silent (synchronized world.now.groups client.old names.now options.now))) }
+    ensures err { OnErr result (client.new ≡ client.old) }
+{
+    synchronize(alloc, client, world.buffers(), names, options)?;
+    Ok(Outcome::Silent)
+}
+
+/// Serves `desync`, which gets no reply.
+fn serve_desync(
+    client: &mut Client,
+    world: &World,
+    names: &Items<Text>,
+    options: &Option<Items<Text>>,
+) -> Outcome
+    ensures { IsQuiet result client.new
+        (silent (desynchronized world.now.groups client.old names.now options.now)) }
+{
+    desynchronize(client, world.buffers(), names, options);
+    Outcome::Silent
+}
+
 /// Serves a command. Where memory is refused nothing changes.
 #[tactic(auto, unfolding(crate::specs::Reply::served))]
 fn serve_command(
@@ -164,21 +257,15 @@ fn serve_command(
         Command::Hdata { path, keys } => {
             give_hdata(alloc, out, world, id, path.as_slice(), keys.as_slice())
         }
-        Command::Info(name) => give(alloc, out, id, info_objects(name).as_slice()),
-        Command::Infolist(name) => give(alloc, out, id, infolist_objects(alloc, name).as_slice()),
+        Command::Info(name) => give_info(alloc, out, id, name),
+        Command::Infolist(name) => give_infolist(alloc, out, id, name),
         Command::Nicklist(buffer) => give_nicks(alloc, out, world, id, &buffer),
-        Command::Completion { .. } => give(alloc, out, id, null_hdata(alloc).as_slice()),
+        Command::Completion { .. } => give_null(alloc, out, id),
         Command::Input { buffer, text } => Ok(input(world.buffers(), buffer.as_slice(), text)),
-        Command::Sync { buffers, options } => {
-            synchronize(alloc, client, world.buffers(), &buffers, &options)?;
-            Ok(Outcome::Silent)
-        }
-        Command::Desync { buffers, options } => {
-            desynchronize(client, world.buffers(), &buffers, &options);
-            Ok(Outcome::Silent)
-        }
-        Command::Test => give(alloc, out, id, test_objects(alloc)?.as_slice()),
-        Command::Ping(text) => give(alloc, out, b"_pong", pong_objects(text).as_slice()),
+        Command::Sync { buffers, options } => serve_sync(alloc, client, world, &buffers, &options),
+        Command::Desync { buffers, options } => Ok(serve_desync(client, world, &buffers, &options)),
+        Command::Test => give_test(alloc, out, id),
+        Command::Ping(text) => give_pong(alloc, out, text),
         Command::Quit => Ok(Outcome::Leave(Cause::Quit)),
     }
 }

@@ -1,14 +1,14 @@
 use Rattle.wc_relaycmd.specs.Utf8.{CommandUtf8}
 use Rattle.wc_session.proofs.served.serve_command.Goals as goal
 
-pub info_objects-requires : goal.info_objects-requires
+pub give_info-requires-clause-name : goal.give_info-requires-clause-name
 unfolding CommandUtf8
-info_objects-requires c = rw c.in-Info.is at c.requires.command
+give_info-requires-clause-name c = rw c.in-Info.is at c.requires.command
 
-pub infolist_objects-requires : goal.infolist_objects-requires
+pub give_infolist-requires-clause-name : goal.give_infolist-requires-clause-name
 unfolding CommandUtf8
-infolist_objects-requires c = rw c.in-Infolist.is at c.requires.command
+give_infolist-requires-clause-name c = rw c.in-Infolist.is at c.requires.command
 
-pub pong_objects-requires : goal.pong_objects-requires
+pub give_pong-requires : goal.give_pong-requires
 unfolding CommandUtf8
-pong_objects-requires c = rw c.in-Ping.is at c.requires.command
+give_pong-requires c = rw c.in-Ping.is at c.requires.command
