@@ -3,9 +3,9 @@
 use crate::show_buffers::{mirror_buffers, world_buffers};
 use crate::show_lines::{mirror_lines, world_lines};
 use crate::show_nicks::{mirror_nicks, world_nicks};
-use crate::wrong::Wrong;
 use bytes::BytesMut;
 use std::alloc::{AllocError, Global};
+use wc_change_words::Wrong;
 use wc_relaycmd::read_request;
 use wc_session::{BufferEvent, Outcome, Session};
 use wc_text::{Cause, Handle, LinkId, NoMemory, Text};

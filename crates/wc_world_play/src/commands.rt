@@ -6,9 +6,8 @@ use crate::dumps::{show_bytes, show_dump};
 use crate::hdata::{show_info, show_infolist, show_walk};
 use crate::parts::{part_of, show_of_buffers, show_of_list, show_part};
 use crate::stage::Stage;
-use crate::words::{handle, number};
-use crate::wrong::Wrong;
 use std::alloc::AllocError;
+use wc_change_words::{Wrong, handle, number};
 
 /// What a client says that is to hold all that the world has.
 const JOINS: &[&str] = &[

@@ -7,9 +7,8 @@ ghost use Rattle.wc_events.specs.NickForms.{IsPushText};
 
 use crate::escapes::show_text;
 use crate::show_nicks::show_nicks;
-use crate::words::text;
-use crate::wrong::Wrong;
 use std::alloc::{AllocError, Global};
+use wc_change_words::{Wrong, text};
 use wc_nickdiff::{DiffItem, DiffRefused, Mark, Push, apply, item_applied};
 use wc_nicklist::{Item, Nicklist};
 use wc_text::{Handle, Items, Text};

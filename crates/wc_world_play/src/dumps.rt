@@ -4,10 +4,9 @@ ghost use Rattle.std.specs.Prelude.{◌≡◌, true};
 ghost use Rattle.wc_objects.specs.Forms.{well_formed};
 
 use crate::escapes::escape;
-use crate::words::handle;
-use crate::wrong::Wrong;
 use bytes::BytesMut;
 use std::alloc::{AllocError, Global};
+use wc_change_words::{Wrong, handle};
 use wc_events::{append_line_dump, buffer_dump, nick_dump, nick_list};
 use wc_objects::{Object, append_message};
 use wc_text::Handle;

@@ -6,22 +6,17 @@
 
 mod answers;
 mod audience;
-mod changes;
 mod clients;
 mod commands;
 mod diffs;
 mod dumps;
 mod escapes;
 mod hdata;
-mod lines;
-mod nicks;
 mod parts;
 mod show_buffers;
 mod show_lines;
 mod show_nicks;
 mod stage;
-mod words;
-mod wrong;
 
 use stage::Stage;
 use std::alloc::{AllocError, Global};

@@ -5,11 +5,9 @@ ghost use Rattle.wc_world.specs.Texts.{IsChangeText};
 
 use crate::answers::show_notice;
 use crate::audience::Audience;
-use crate::changes::read_change;
 use crate::parts::{Part, show_part};
-use crate::words::{handle, number, small_number};
-use crate::wrong::Wrong;
 use std::alloc::{AllocError, Global};
+use wc_change_words::{Wrong, handle, number, read_change, small_number};
 use wc_model::{Change, ChangeRefused, Notice, What};
 use wc_nickdiff::Pending;
 use wc_nicklist::{Key, Row, Touch};

@@ -1,6 +1,6 @@
 use Rattle.std.proofs.Common.{All}
 use Rattle.std.specs.Str.{IsUtf8}
-use Rattle.wc_world_play.proofs.lines.texts.Given as goal
+use Rattle.wc_change_words.proofs.lines.texts.Given as goal
 
 -- all so far are text
 abbrev pub invariant-loop-word : goal.invariant-loop-word

@@ -1,6 +1,6 @@
 use Rattle.std.proofs.Common.{All}
 use Rattle.wc_buffers.specs.Entries.{IsText}
-use Rattle.wc_world_play.proofs.changes.pairs.Given as goal
+use Rattle.wc_change_words.proofs.changes.pairs.Given as goal
 
 -- all so far are text
 abbrev pub invariant-loop-word : goal.invariant-loop-word
