@@ -1,5 +1,5 @@
 -- A client that settles by three lines.
-use Rattle.std.specs.Prelude.{ℕ, List, [], ◌∷◌, codes}
+use Rattle.std.specs.Prelude.{ℕ, List, [], ◌∷◌, ◌++◌, codes}
 use Rattle.wc_core.specs.Events.{Event, Arrives, Line}
 use Rattle.wc_core.specs.State.{first_state}
 use Rattle.wc_mirror_laws.specs.Settled.{Settled, SettledBuffers, SettledNicks}
@@ -11,10 +11,8 @@ abbrev pub sync_line : List ℕ
 sync_line = codes "sync"
 
 abbrev pub dump_line : List ℕ
-dump_line
-    =
-    codes
-    "(l) hdata buffer:gui_buffers(*)/own_lines/first_line(*)/data buffer,date,date_printed,displayed,notify_level,highlight,tags_array,prefix,message"
+dump_line = codes "(l) hdata buffer:gui_buffers(*)/own_lines/first_line(*)/data "
+    ++ codes "buffer,date,date_printed,displayed,notify_level,highlight,tags_array,prefix,message"
 
 abbrev pub buffers_line : List ℕ
 buffers_line
