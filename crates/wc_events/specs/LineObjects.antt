@@ -39,6 +39,19 @@ line_values buffer line =
     o.Chr (truth line.displayed) ∷ o.Chr line.notify ∷ o.Chr (truth line.highlight) ∷
     o.Arr k.Str (texts line.tags) ∷ o.Str (Some line.prefix) ∷ o.Str (Some line.message) ∷ []
 
+-- the same values, three at a time
+abbrev pub date_values : Handle → Line → List Object
+date_values buffer line =
+    o.Ptr buffer.0 ∷ o.Tim (moment line.date) ∷ o.Tim (moment line.date_printed) ∷ []
+
+abbrev pub mark_values : Line → List Object
+mark_values line =
+    o.Chr (truth line.displayed) ∷ o.Chr line.notify ∷ o.Chr (truth line.highlight) ∷ []
+
+abbrev pub text_values : Line → List Object
+text_values line =
+    o.Arr k.Str (texts line.tags) ∷ o.Str (Some line.prefix) ∷ o.Str (Some line.message) ∷ []
+
 -- items on a path, with the keys of a line
 abbrev pub on_path : List ℕ → List HdaItem → Hda
 on_path path items = roll-Hda (record { path = Some path; keys = Some line_keys; items = items })

@@ -41,7 +41,7 @@ fn dumped_values(
     ensures { IfOk result (λ values. values ≡ dumped_values number
         (record { row = row.now; vars = vars.now })) }
 {
-    let mut values = Items::new(alloc);
+    let mut values = Items::with_room(alloc, 6)?;
     values.push(Object::Int(count(u64::from(number))))?;
     values.push(text(alloc, &row.full_name)?)?;
     values.push(text(alloc, &row.short_name)?)?;
@@ -61,7 +61,7 @@ fn dumped_buffer(
     ensures { IfOk result (λ item. item ≡ dumped_buffer number
         (record { row = row.now; vars = vars.now })) }
 {
-    let mut pointers = Items::new(alloc);
+    let mut pointers = Items::with_room(alloc, 1)?;
     pointers.push(row.handle.0)?;
     let values = dumped_values(alloc, number, row, vars)?;
     Ok(HdaItem { pointers, values })

@@ -20,13 +20,13 @@ use crate::buffers::row_and_vars;
 use crate::line_objects::{LINE_KEYS, moment, truth};
 use bytes::BytesMut;
 use std::alloc::Global;
-use wc_lines::{Line, Lines};
+use wc_lines::{Lines, PackedLine};
 use wc_objects::parts::{
     MAX_MESSAGE, put_bytes, put_chr, put_count, put_decimal, put_kind, put_pointer,
     room_after_bytes, room_after_decimal, room_after_pointer,
 };
 use wc_objects::{Kind, WriteRefused};
-use wc_text::{Handle, Items, NoMemory, Text};
+use wc_text::{Handle, Items, NoMemory};
 use wc_world::World;
 
 /// The path of the dump.
@@ -34,44 +34,44 @@ const DUMP_PATH: &[u8] = b"buffer/lines/line/line_data";
 
 // ---- how much is left of a room after each part
 
-fn room_after_tags(room: usize, tags: &[Text]) -> Option<usize>
-    ensures { FitsIn result room (flat_map tag_bytes tags.now) }
+fn room_after_tags(room: usize, line: &PackedLine) -> Option<usize>
+    ensures { FitsIn result room (flat_map tag_bytes line.now.tags) }
 {
     let mut left = room;
-    for tag in tags {
-        left = room_after_bytes(left, tag.as_slice())?;
+    for tag in line.tags() {
+        left = room_after_bytes(left, tag)?;
     }
     Some(left)
 }
 
 #[tactic(auto, unfolding(wc_objects::specs::Spelling::be32))]
-fn room_after_texts(room: usize, line: &Line) -> Option<usize>
+fn room_after_texts(room: usize, line: &PackedLine) -> Option<usize>
     ensures { FitsIn result room (texts_bytes line.now) }
 {
-    let room = room_after_tags(room.checked_sub(7)?, line.tags.as_slice())?;
-    let room = room_after_bytes(room, line.prefix.as_slice())?;
-    room_after_bytes(room, line.message.as_slice())
+    let room = room_after_tags(room.checked_sub(7)?, line)?;
+    let room = room_after_bytes(room, line.prefix())?;
+    room_after_bytes(room, line.message())
 }
 
-fn room_after_dates(room: usize, line: &Line) -> Option<usize>
+fn room_after_dates(room: usize, line: &PackedLine) -> Option<usize>
     ensures { FitsIn result room (dates_bytes line.now) }
 {
     room_after_decimal(
-        room_after_decimal(room, moment(line.date))?,
-        moment(line.date_printed),
+        room_after_decimal(room, moment(line.date()))?,
+        moment(line.date_printed()),
     )
 }
 
-fn room_after_pointers(room: usize, buffer: Handle, own: Handle, line: &Line) -> Option<usize>
+fn room_after_pointers(room: usize, buffer: Handle, own: Handle, line: &PackedLine) -> Option<usize>
     ensures { FitsIn result room (pointers_bytes buffer own line.now) }
 {
     let room = room_after_pointer(room_after_pointer(room, buffer.0)?, own.0)?;
-    let room = room_after_pointer(room_after_pointer(room, line.handle.0)?, line.content.0)?;
+    let room = room_after_pointer(room_after_pointer(room, line.handle().0)?, line.content().0)?;
     room_after_pointer(room, buffer.0)
 }
 
 #[tactic(auto, unfolding(crate::specs::DumpBytes::line_bytes))]
-fn room_after_line(room: usize, buffer: Handle, own: Handle, line: &Line) -> Option<usize>
+fn room_after_line(room: usize, buffer: Handle, own: Handle, line: &PackedLine) -> Option<usize>
     ensures { FitsIn result room (line_bytes buffer own line.now) }
 {
     let room = room_after_pointers(room, buffer, own, line)?;
@@ -81,70 +81,77 @@ fn room_after_line(room: usize, buffer: Handle, own: Handle, line: &Line) -> Opt
 
 // ---- each part as bytes
 
-fn put_tags(out: &mut BytesMut, tags: &[Text])
-    requires { HasRoomFor out.old (tags_bytes tags.now) }
-    ensures { Puts out.old out.new (tags_bytes tags.now) }
+fn put_tags(out: &mut BytesMut, line: &PackedLine)
+    requires { HasRoomFor out.old (tags_bytes line.now.tags) }
+    ensures { Puts out.old out.new (tags_bytes line.now.tags) }
 {
     put_kind(out, Kind::Str);
-    put_texts(out, tags);
+    put_counted_tags(out, line);
 }
 
-fn put_tag(out: &mut BytesMut, tag: &Text)
+fn put_tag(out: &mut BytesMut, tag: &[u8])
     requires { HasRoomFor out.old (tag_bytes tag.now) }
     ensures { Puts out.old out.new (tag_bytes tag.now) }
 {
-    put_bytes(out, tag.as_slice());
+    put_bytes(out, tag);
 }
 
-fn put_texts(out: &mut BytesMut, texts: &[Text])
-    requires { HasRoomFor out.old (with_count tag_bytes texts.now) }
-    ensures { Puts out.old out.new (with_count tag_bytes texts.now) }
+fn put_counted_tags(out: &mut BytesMut, line: &PackedLine)
+    requires { HasRoomFor out.old (with_count tag_bytes line.now.tags) }
+    ensures { Puts out.old out.new (with_count tag_bytes line.now.tags) }
 {
-    put_count(out, texts.len());
-    for text in texts {
-        put_tag(out, text);
+    put_count(out, line.tags_len());
+    put_each_tag(out, line);
+}
+
+fn put_each_tag(out: &mut BytesMut, line: &PackedLine)
+    requires { HasRoomFor out.old (flat_map tag_bytes line.now.tags) }
+    ensures { Puts out.old out.new (flat_map tag_bytes line.now.tags) }
+{
+    for tag in line.tags() {
+        put_tag(out, tag);
     }
 }
 
-fn put_marks(out: &mut BytesMut, line: &Line)
+fn put_marks(out: &mut BytesMut, line: &PackedLine)
     requires { HasRoomFor out.old (marks_bytes line.now) }
     ensures { Puts out.old out.new (marks_bytes line.now) }
 {
-    put_chr(out, truth(line.displayed));
-    put_chr(out, line.notify);
-    put_chr(out, truth(line.highlight));
+    put_chr(out, truth(line.displayed()));
+    put_chr(out, line.notify());
+    put_chr(out, truth(line.highlight()));
 }
 
-fn put_dates(out: &mut BytesMut, line: &Line)
+fn put_dates(out: &mut BytesMut, line: &PackedLine)
     requires { HasRoomFor out.old (dates_bytes line.now) }
     ensures { Puts out.old out.new (dates_bytes line.now) }
 {
-    put_decimal(out, moment(line.date));
-    put_decimal(out, moment(line.date_printed));
+    put_decimal(out, moment(line.date()));
+    put_decimal(out, moment(line.date_printed()));
 }
 
-fn put_line_texts(out: &mut BytesMut, line: &Line)
+fn put_line_texts(out: &mut BytesMut, line: &PackedLine)
     requires { HasRoomFor out.old (texts_bytes line.now) }
     ensures { Puts out.old out.new (texts_bytes line.now) }
 {
-    put_tags(out, line.tags.as_slice());
-    put_bytes(out, line.prefix.as_slice());
-    put_bytes(out, line.message.as_slice());
+    put_tags(out, line);
+    put_bytes(out, line.prefix());
+    put_bytes(out, line.message());
 }
 
-fn put_pointers(out: &mut BytesMut, buffer: Handle, own: Handle, line: &Line)
+fn put_pointers(out: &mut BytesMut, buffer: Handle, own: Handle, line: &PackedLine)
     requires { HasRoomFor out.old (pointers_bytes buffer own line.now) }
     ensures { Puts out.old out.new (pointers_bytes buffer own line.now) }
 {
     put_pointer(out, buffer.0);
     put_pointer(out, own.0);
-    put_pointer(out, line.handle.0);
-    put_pointer(out, line.content.0);
+    put_pointer(out, line.handle().0);
+    put_pointer(out, line.content().0);
     put_pointer(out, buffer.0);
 }
 
 #[tactic(auto, unfolding(crate::specs::DumpBytes::line_bytes))]
-fn put_line(out: &mut BytesMut, buffer: Handle, own: Handle, line: &Line)
+fn put_line(out: &mut BytesMut, buffer: Handle, own: Handle, line: &PackedLine)
     requires { HasRoomFor out.old (line_bytes buffer own line.now) }
     ensures { Puts out.old out.new (line_bytes buffer own line.now) }
 {

@@ -4,26 +4,29 @@ ghost use Rattle.wc_events.specs.BufferObjects.{flag_item, flag_items, flag_obje
 
 use crate::line_objects::truth;
 use std::alloc::Global;
-use wc_lines::{Line, Lines};
+use wc_lines::{Lines, PackedLine};
 use wc_objects::{Hda, HdaItem, Object};
 use wc_text::{Handle, Items, NoMemory, Text};
 
 const FLAG_KEYS: &[u8] = b"buffer:ptr,displayed:chr";
 
-fn is_flipped(flips: &Items<Handle>, line: &Line) -> bool
+fn is_flipped(flips: &Items<Handle>, line: &PackedLine) -> bool
     ensures { result ≡ is_flipped flips.now line.now }
 {
-    flips.as_slice().iter().any(|flip| flip.0 == line.content.0)
+    flips
+        .as_slice()
+        .iter()
+        .any(|flip| flip.0 == line.content().0)
 }
 
-fn flag_item(alloc: Global, buffer: Handle, line: &Line) -> Result<HdaItem, NoMemory>
+fn flag_item(alloc: Global, buffer: Handle, line: &PackedLine) -> Result<HdaItem, NoMemory>
     ensures { IfOk result (λ item. item ≡ flag_item buffer line.now) }
 {
-    let mut pointers = Items::new(alloc);
-    pointers.push(line.content.0)?;
-    let mut values = Items::new(alloc);
+    let mut pointers = Items::with_room(alloc, 1)?;
+    pointers.push(line.content().0)?;
+    let mut values = Items::with_room(alloc, 2)?;
     values.push(Object::Ptr(buffer.0))?;
-    values.push(Object::Chr(truth(line.displayed)))?;
+    values.push(Object::Chr(truth(line.displayed())))?;
     Ok(HdaItem { pointers, values })
 }
 

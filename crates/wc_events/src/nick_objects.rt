@@ -33,6 +33,9 @@ const DIFF_KEYS: &[u8] =
 
 // ---- items
 
+/// How many values a group or a nick has.
+const NICK_VALUES: usize = 7;
+
 /// Puts the values of a group or a nick after others, in the order of the keys.
 #[tactic(auto, unfolding(crate::specs::NickObjects::nick_values))]
 fn push_values(alloc: Global, values: &mut Items<Object>, item: &Item) -> Result<(), NoMemory>
@@ -51,7 +54,7 @@ fn push_values(alloc: Global, values: &mut Items<Object>, item: &Item) -> Result
 fn pointers(alloc: Global, buffer: Handle, item: &Item) -> Result<Items<u64>, NoMemory>
     ensures { IfOk result (λ pointers. pointers ≡ buffer.0 ∷ item.now.handle.0 ∷ []) }
 {
-    let mut pointers = Items::new(alloc);
+    let mut pointers = Items::with_room(alloc, 2)?;
     pointers.push(buffer.0)?;
     pointers.push(item.handle.0)?;
     Ok(pointers)
@@ -61,7 +64,7 @@ fn nick_item(alloc: Global, buffer: Handle, item: &Item) -> Result<HdaItem, NoMe
     ensures { IfOk result (λ told. told ≡ nick_item buffer item.now) }
 {
     let pointers = pointers(alloc, buffer, item)?;
-    let mut values = Items::new(alloc);
+    let mut values = Items::with_room(alloc, NICK_VALUES)?;
     push_values(alloc, &mut values, item)?;
     Ok(HdaItem { pointers, values })
 }
@@ -82,7 +85,7 @@ fn diff_item(alloc: Global, buffer: Handle, diff: &DiffItem) -> Result<HdaItem, 
     ensures { IfOk result (λ told. told ≡ diff_item buffer diff.now) }
 {
     let pointers = pointers(alloc, buffer, &diff.item)?;
-    let mut values = Items::new(alloc);
+    let mut values = Items::with_room(alloc, NICK_VALUES + 1)?;
     values.push(Object::Chr(mark_code(diff.mark)))?;
     push_values(alloc, &mut values, &diff.item)?;
     Ok(HdaItem { pointers, values })
@@ -98,7 +101,7 @@ fn on_nick_path(
 {
     let path = Text::from_slice(alloc, NICK_PATH)?;
     let keys = Text::from_slice(alloc, keys)?;
-    let mut objects = Items::new(alloc);
+    let mut objects = Items::with_room(alloc, 1)?;
     objects.push(Object::Hda(Hda {
         path: Some(path),
         keys: Some(keys),
@@ -127,7 +130,7 @@ fn diff_items(
 ) -> Result<Items<HdaItem>, NoMemory>
     ensures { IfOk result (λ items. items ≡ map (diff_item buffer) diff.now) }
 {
-    let mut items = Items::new(alloc);
+    let mut items = Items::with_room(alloc, diff.as_slice().len())?;
     for item in diff.as_slice() {
         items.push(diff_item(alloc, buffer, item)?)?;
     }
@@ -137,7 +140,7 @@ fn diff_items(
 fn full_items(alloc: Global, buffer: Handle, full: &Items<Item>) -> Result<Items<HdaItem>, NoMemory>
     ensures { IfOk result (λ items. items ≡ map (nick_item buffer) full.now) }
 {
-    let mut items = Items::new(alloc);
+    let mut items = Items::with_room(alloc, full.as_slice().len())?;
     for item in full.as_slice() {
         items.push(nick_item(alloc, buffer, item)?)?;
     }

@@ -25,7 +25,14 @@ pub fn count(number: u64) -> i32
 pub fn text(alloc: Global, value: &Text) -> Result<Object, NoMemory>
     ensures { IfOk result (λ object. object ≡ text value.now) }
 {
-    let copy = value.copy(alloc)?;
+    text_of(alloc, value.as_slice())
+}
+
+/// Bytes as a text that is an object.
+pub fn text_of(alloc: Global, value: &[u8]) -> Result<Object, NoMemory>
+    ensures { IfOk result (λ object. object ≡ text value.now) }
+{
+    let copy = Text::from_slice(alloc, value)?;
     Ok(Object::Str(Some(copy)))
 }
 
@@ -62,9 +69,9 @@ pub(crate) fn about(
 ) -> Result<[Object; 1], NoMemory>
     ensures { IfOk result (λ objects. objects ≡ about keys.now buffer values) }
 {
-    let mut pointers = Items::new(alloc);
+    let mut pointers = Items::with_room(alloc, 1)?;
     pointers.push(buffer.0)?;
-    let mut items = Items::new(alloc);
+    let mut items = Items::with_room(alloc, 1)?;
     items.push(HdaItem { pointers, values })?;
     let path = Text::from_slice(alloc, b"buffer")?;
     let keys = Text::from_slice(alloc, keys)?;

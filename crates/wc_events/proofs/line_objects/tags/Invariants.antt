@@ -1,6 +1,8 @@
-use Rattle.std.proofs.Common.{◌≡◌, take}
+use Rattle.std.proofs.Common.{◌≡◌, ◌++◌}
+use Rattle.wc_lines.specs.TagsLeft.{tags_left}
 use Rattle.wc_events.specs.LineObjects.{texts}
-use Rattle.wc_events.proofs.line_objects.texts.Given as goal
+use Rattle.wc_events.proofs.line_objects.tags.Given as goal
 
+-- the values so far, and those of the tags that are left
 abbrev pub invariant-loop-tag : goal.invariant-loop-tag
-invariant-loop-tag l = (l.values ≡ texts (take l.tag-index l.tag-items)) × (l.tag-items ≡ l.tags)
+invariant-loop-tag l = l.values ++ texts (tags_left l.tag-iterator) ≡ texts l.line.tags
