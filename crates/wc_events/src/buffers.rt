@@ -7,7 +7,7 @@ ghost use Rattle.wc_events.specs.BufferObjects.{dumped_groups};
 ghost use Rattle.wc_events.specs.Dumps.{group_items};
 ghost use Rattle.wc_objects.specs.Forms.{well_formed};
 
-use crate::values::{count, table, text, truth};
+use crate::values::{count, push_described, push_int, push_text};
 use std::alloc::Global;
 use wc_buffers::{BufferRow, Buffers, Vars};
 use wc_objects::{Hda, HdaItem, Object};
@@ -42,12 +42,9 @@ fn dumped_values(
         (record { row = row.now; vars = vars.now })) }
 {
     let mut values = Items::with_room(alloc, 6)?;
-    values.push(Object::Int(count(u64::from(number))))?;
-    values.push(text(alloc, &row.full_name)?)?;
-    values.push(text(alloc, &row.short_name)?)?;
-    values.push(Object::Int(truth(row.hidden)))?;
-    values.push(text(alloc, &row.title)?)?;
-    values.push(table(alloc, vars)?)?;
+    push_int(&mut values, count(u64::from(number)))?;
+    push_text(alloc, &mut values, &row.full_name)?;
+    push_described(alloc, &mut values, row, vars)?;
     Ok(values)
 }
 

@@ -1,10 +1,11 @@
-ghost use Rattle.std.specs.Prelude.{◌≡◌, IfOk, List};
+ghost use Rattle.std.specs.Prelude.{◌≡◌, ◌++◌, ◌∷◌, [], IfOk, OnOk, List};
 ghost use Rattle.wc_text.specs.declared.names.Pair.{Pair};
 ghost use Rattle.wc_buffers.specs.declared.row.BufferRow.{BufferRow};
 ghost use Rattle.wc_events.specs.BufferObjects.{named_values, opened_values, placed_values};
 ghost use Rattle.wc_events.specs.BufferObjects.{renamed_values, title_values, vars_values};
+ghost use Rattle.wc_objects.specs.declared.object.Object.TheVariants as objects;
 
-use crate::values::{count, table, text, truth};
+use crate::values::{count, push_described, push_int, push_pointer, push_table, push_text};
 use std::alloc::Global;
 use wc_buffers::{BufferRow, Vars};
 use wc_model::Notice;
@@ -17,9 +18,18 @@ pub(crate) fn named_values(alloc: Global, notice: &Notice) -> Result<Items<Objec
     ensures { IfOk result (λ values. values ≡ named_values notice.now) }
 {
     let mut values = Items::new(alloc);
-    values.push(Object::Int(count(u64::from(notice.number))))?;
-    values.push(text(alloc, &notice.full_name)?)?;
+    push_int(&mut values, count(u64::from(notice.number)))?;
+    push_text(alloc, &mut values, &notice.full_name)?;
     Ok(values)
+}
+
+/// Puts the buffers before and after one after values.
+fn push_near(values: &mut Items<Object>, notice: &Notice) -> Result<(), NoMemory>
+    ensures { OnOk result (values.new ≡ values.old ++ objects.Ptr notice.now.prev.0
+        ∷ objects.Ptr notice.now.next.0 ∷ []) }
+{
+    push_pointer(values, notice.prev)?;
+    push_pointer(values, notice.next)
 }
 
 #[tactic(auto, unfolding(crate::specs::BufferObjects::named_values, crate::specs::BufferObjects::placed_values))]
@@ -27,8 +37,7 @@ pub(crate) fn placed_values(alloc: Global, notice: &Notice) -> Result<Items<Obje
     ensures { IfOk result (λ values. values ≡ placed_values notice.now) }
 {
     let mut values = named_values(alloc, notice)?;
-    values.push(Object::Ptr(notice.prev.0))?;
-    values.push(Object::Ptr(notice.next.0))?;
+    push_near(&mut values, notice)?;
     Ok(values)
 }
 
@@ -43,12 +52,8 @@ pub(crate) fn opened_values(
         (record { row = row.now; vars = vars.now })) }
 {
     let mut values = named_values(alloc, notice)?;
-    values.push(text(alloc, &row.short_name)?)?;
-    values.push(Object::Int(truth(row.hidden)))?;
-    values.push(text(alloc, &row.title)?)?;
-    values.push(table(alloc, vars)?)?;
-    values.push(Object::Ptr(notice.prev.0))?;
-    values.push(Object::Ptr(notice.next.0))?;
+    push_described(alloc, &mut values, row, vars)?;
+    push_near(&mut values, notice)?;
     Ok(values)
 }
 
@@ -63,8 +68,8 @@ pub(crate) fn renamed_values(
         (record { row = row.now; vars = vars.now })) }
 {
     let mut values = named_values(alloc, notice)?;
-    values.push(text(alloc, &row.short_name)?)?;
-    values.push(table(alloc, vars)?)?;
+    push_text(alloc, &mut values, &row.short_name)?;
+    push_table(alloc, &mut values, vars)?;
     Ok(values)
 }
 
@@ -78,7 +83,7 @@ pub(crate) fn title_values(
         values ≡ title_values notice.now (record { row = row.now; vars = vars })) }
 {
     let mut values = named_values(alloc, notice)?;
-    values.push(text(alloc, &row.title)?)?;
+    push_text(alloc, &mut values, &row.title)?;
     Ok(values)
 }
 
@@ -92,6 +97,6 @@ pub(crate) fn vars_values(
         values ≡ vars_values notice.now (record { row = row; vars = vars.now })) }
 {
     let mut values = named_values(alloc, notice)?;
-    values.push(table(alloc, vars)?)?;
+    push_table(alloc, &mut values, vars)?;
     Ok(values)
 }

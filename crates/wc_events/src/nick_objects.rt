@@ -12,7 +12,7 @@ ghost use Rattle.wc_events.specs.NickObjects.{push_kind, push_objects, root_and_
 ghost use Rattle.wc_events.specs.NickObjects.{nick_list};
 
 use crate::line_objects::truth;
-use crate::values::{count, text};
+use crate::values::{count, push_chr, push_int, push_text};
 use std::alloc::Global;
 use wc_model::EventKind;
 use wc_nickdiff::{DiffItem, Mark, Push};
@@ -41,13 +41,13 @@ const NICK_VALUES: usize = 7;
 fn push_values(alloc: Global, values: &mut Items<Object>, item: &Item) -> Result<(), NoMemory>
     ensures { OnOk result (values.new ≡ values.old ++ nick_values item.now) }
 {
-    values.push(Object::Chr(truth(item.is_group)))?;
-    values.push(Object::Chr(truth(item.visible)))?;
-    values.push(Object::Int(count(item.level)))?;
-    values.push(text(alloc, &item.name)?)?;
-    values.push(text(alloc, &item.color)?)?;
-    values.push(text(alloc, &item.prefix)?)?;
-    values.push(text(alloc, &item.prefix_color)?)
+    push_chr(values, truth(item.is_group))?;
+    push_chr(values, truth(item.visible))?;
+    push_int(values, count(item.level))?;
+    push_text(alloc, values, &item.name)?;
+    push_text(alloc, values, &item.color)?;
+    push_text(alloc, values, &item.prefix)?;
+    push_text(alloc, values, &item.prefix_color)
 }
 
 /// What names a group or a nick: its buffer and itself.
@@ -86,7 +86,7 @@ fn diff_item(alloc: Global, buffer: Handle, diff: &DiffItem) -> Result<HdaItem, 
 {
     let pointers = pointers(alloc, buffer, &diff.item)?;
     let mut values = Items::with_room(alloc, NICK_VALUES + 1)?;
-    values.push(Object::Chr(mark_code(diff.mark)))?;
+    push_chr(&mut values, mark_code(diff.mark))?;
     push_values(alloc, &mut values, &diff.item)?;
     Ok(HdaItem { pointers, values })
 }
@@ -142,7 +142,7 @@ fn full_items(alloc: Global, buffer: Handle, full: &Items<Item>) -> Result<Items
 {
     let mut items = Items::with_room(alloc, full.as_slice().len())?;
     for item in full.as_slice() {
-        items.push(nick_item(alloc, buffer, item)?)?;
+        push_item(alloc, &mut items, buffer, item)?;
     }
     Ok(items)
 }
@@ -189,6 +189,31 @@ fn root_item(alloc: Global, root: Handle) -> Result<Item, NoMemory>
     })
 }
 
+/// Puts a group or a nick of a buffer after the items.
+fn push_item(
+    alloc: Global,
+    items: &mut Items<HdaItem>,
+    buffer: Handle,
+    item: &Item,
+) -> Result<(), NoMemory>
+    ensures { OnOk result (items.new ≡ items.old ++ nick_item buffer item.now ∷ []) }
+{
+    items.push(nick_item(alloc, buffer, item)?)
+}
+
+/// Puts the root group of a buffer after the items.
+fn push_root(
+    alloc: Global,
+    items: &mut Items<HdaItem>,
+    buffer: Handle,
+    root: Handle,
+) -> Result<(), NoMemory>
+    ensures { OnOk result (items.new ≡ items.old ++ nick_item buffer (root_item root) ∷ []) }
+{
+    let item = root_item(alloc, root)?;
+    push_item(alloc, items, buffer, &item)
+}
+
 /// Puts the root and the rows of a buffer's nicklist after the items.
 fn push_list(
     alloc: Global,
@@ -200,10 +225,9 @@ fn push_list(
         (full_list (root_item list.now.root) list.now.rows)) }
     ensures formed { OnOk result (are_nicks items.old ≡ true → are_nicks items.new ≡ true) }
 {
-    let root = root_item(alloc, list.root())?;
-    items.push(nick_item(alloc, buffer, &root)?)?;
+    push_root(alloc, items, buffer, list.root())?;
     for row in list.rows() {
-        items.push(nick_item(alloc, buffer, row.item())?)?;
+        push_item(alloc, items, buffer, row.item())?;
     }
     Ok(())
 }

@@ -1,9 +1,10 @@
-ghost use Rattle.std.specs.Prelude.{◌≡◌, ◌++◌, map, IfOk, Some};
+ghost use Rattle.std.specs.Prelude.{◌≡◌, ◌++◌, ◌∷◌, [], map, IfOk, OnOk, Some};
 ghost use Rattle.wc_events.specs.BufferObjects.{about, count, pair_of, table, text};
 ghost use Rattle.wc_events.specs.LineObjects.{truth};
+ghost use Rattle.wc_objects.specs.declared.object.Object.TheVariants as objects;
 
 use std::alloc::Global;
-use wc_buffers::Vars;
+use wc_buffers::{BufferRow, Vars};
 use wc_objects::{Hda, HdaItem, Kind, Object};
 use wc_text::{Handle, Items, NoMemory, Text};
 
@@ -36,14 +37,21 @@ pub fn text_of(alloc: Global, value: &[u8]) -> Result<Object, NoMemory>
     Ok(Object::Str(Some(copy)))
 }
 
+/// A name and a value as objects.
+fn pair(alloc: Global, name: &Text, value: &Text) -> Result<(Object, Object), NoMemory>
+    ensures { IfOk result (λ pair. pair ≡ (text name.now, text value.now)) }
+{
+    let name = name.copy(alloc)?;
+    let value = value.copy(alloc)?;
+    Ok((Object::Str(Some(name)), Object::Str(Some(value))))
+}
+
 fn pairs(alloc: Global, vars: &Vars) -> Result<Items<(Object, Object)>, NoMemory>
     ensures { IfOk result (λ pairs. pairs ≡ map pair_of vars.now) }
 {
     let mut pairs = Items::new(alloc);
     for (name, value) in vars.iter() {
-        let name = text(alloc, name)?;
-        let value = text(alloc, value)?;
-        pairs.push((name, value))?;
+        pairs.push(pair(alloc, name, value)?)?;
     }
     Ok(pairs)
 }
@@ -58,6 +66,65 @@ pub fn table(alloc: Global, vars: &Vars) -> Result<Object, NoMemory>
         value: Kind::Str,
         pairs,
     })
+}
+
+/// Puts a text after values.
+pub(crate) fn push_text(
+    alloc: Global,
+    values: &mut Items<Object>,
+    value: &Text,
+) -> Result<(), NoMemory>
+    ensures { OnOk result (values.new ≡ values.old ++ text value.now ∷ []) }
+{
+    values.push(text(alloc, value)?)
+}
+
+/// Puts an integer after values.
+pub(crate) fn push_int(values: &mut Items<Object>, value: i32) -> Result<(), NoMemory>
+    ensures { OnOk result (values.new ≡ values.old ++ objects.Int value ∷ []) }
+{
+    values.push(Object::Int(value))
+}
+
+/// Puts a small integer after values.
+pub(crate) fn push_chr(values: &mut Items<Object>, value: i8) -> Result<(), NoMemory>
+    ensures { OnOk result (values.new ≡ values.old ++ objects.Chr value ∷ []) }
+{
+    values.push(Object::Chr(value))
+}
+
+/// Puts what a handle names after values.
+pub(crate) fn push_pointer(values: &mut Items<Object>, handle: Handle) -> Result<(), NoMemory>
+    ensures { OnOk result (values.new ≡ values.old ++ objects.Ptr handle.0 ∷ []) }
+{
+    values.push(Object::Ptr(handle.0))
+}
+
+/// Puts the variables of a buffer after values.
+pub(crate) fn push_table(
+    alloc: Global,
+    values: &mut Items<Object>,
+    vars: &Vars,
+) -> Result<(), NoMemory>
+    ensures { OnOk result (values.new ≡ values.old ++ table vars.now ∷ []) }
+{
+    values.push(table(alloc, vars)?)
+}
+
+/// Puts what is told of each new buffer beside its number and its full name after values.
+pub(crate) fn push_described(
+    alloc: Global,
+    values: &mut Items<Object>,
+    row: &BufferRow,
+    vars: &Vars,
+) -> Result<(), NoMemory>
+    ensures { OnOk result (values.new ≡ values.old ++ text row.now.short_name
+        ∷ objects.Int (truth row.now.hidden) ∷ text row.now.title ∷ table vars.now ∷ []) }
+{
+    push_text(alloc, values, &row.short_name)?;
+    push_int(values, truth(row.hidden))?;
+    push_text(alloc, values, &row.title)?;
+    push_table(alloc, values, vars)
 }
 
 /// One item of a buffer, with these keys and their values.

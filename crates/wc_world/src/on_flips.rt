@@ -24,6 +24,15 @@ pub(crate) struct Plan {
     differing: Items<Handle>,
 }
 
+impl Plan {
+    /// The contents of the lines that get another flag.
+    fn into_differing(self) -> Items<Handle>
+        ensures { result ≡ self.differing }
+    {
+        self.differing
+    }
+}
+
 impl World {
     /// Finds what flips come to. Refused where one is of a line that is not held.
     fn plan(&self, alloc: Global, flips: &[Flip]) -> Result<Plan, ChangeRefused>
@@ -43,6 +52,15 @@ impl World {
         })
     }
 
+    /// Finds what these flips come to, which are not needed any more.
+    fn planned(&self, alloc: Global, flips: Items<Flip>) -> Result<Plan, ChangeRefused>
+        ensures { Planned flips self.now result }
+    {
+        let plan = self.plan(alloc, flips.as_slice());
+        drop(flips);
+        plan
+    }
+
     /// The lines get the flags that the flips set.
     pub(crate) fn flip(
         &mut self,
@@ -53,7 +71,7 @@ impl World {
         ensures { Outcome self.old (record { buffer = h; what = WhatValue.Flips flips })
             self.new result }
     {
-        let plan = self.plan(alloc, flips.as_slice())?;
+        let plan = self.planned(alloc, flips)?;
         // Flips are of no one buffer, and no buffer has the null handle.
         let nowhere = Handle(0);
         let full_name = name_of(&self.buffers, alloc, nowhere)?;
@@ -64,7 +82,7 @@ impl World {
             nowhere,
             full_name,
             Items::new(alloc),
-            plan.differing,
+            plan.into_differing(),
         ))
     }
 
@@ -81,10 +99,16 @@ impl World {
             self.new result }
     {
         if let Some(refused) = self.buffers.rename_refusal(alloc, h, &name) {
+            drop(name);
+            drop(flips);
             return Err(refused.into());
         }
-        let plan = self.plan(alloc, flips.as_slice())?;
-        self.buffers.rename(alloc, h, &name)?;
+        let plan = self.planned(alloc, flips)?;
+        if let Err(refused) = self.buffers.rename(alloc, h, &name) {
+            drop(name);
+            drop(plan);
+            return Err(refused.into());
+        }
         set_flags(&mut self.held, plan.order.as_slice(), &plan.flags);
         Ok(noticed(
             &self.buffers,
@@ -92,7 +116,7 @@ impl World {
             h,
             name,
             Items::new(alloc),
-            plan.differing,
+            plan.into_differing(),
         ))
     }
 }

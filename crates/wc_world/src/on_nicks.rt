@@ -202,13 +202,22 @@ impl World {
             ≡ T.first touch.old b k) }
     {
         if let Some(refused) = self.remove_refusal(h, is_group, &name) {
+            drop(name);
             return Err(refused);
         }
-        let full_name = name_of(&self.buffers, alloc, h)?;
+        let Ok(full_name) = name_of(&self.buffers, alloc, h) else {
+            drop(name);
+            return Err(ChangeRefused::NoMemory);
+        };
         let key = Key { is_group, name };
-        touch_row(nicks::at(&self.nicks, h), alloc, h, &key, touch)?;
+        let Ok(()) = touch_row(nicks::at(&self.nicks, h), alloc, h, &key, touch) else {
+            drop(full_name);
+            drop(key);
+            return Err(ChangeRefused::NoMemory);
+        };
         nicks::take(&mut self.nicks, h, &key);
         self.row_count -= 1;
+        drop(key);
         Ok(told(&self.buffers, alloc, EventKind::NickTouched, h, full_name))
     }
 

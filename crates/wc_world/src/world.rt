@@ -77,10 +77,16 @@ fn core_buffers(alloc: Global) -> Result<Buffers, NoMemory>
     ensures { IfOk result (λ buffers. buffers ≡ with_buffer core_row [] []) }
 {
     let mut buffers = Buffers::new(alloc)?;
-    let row = core_row(alloc)?;
+    let Ok(row) = core_row(alloc) else {
+        drop(buffers);
+        return Err(NoMemory);
+    };
     match buffers.add(alloc, row, &Items::new(alloc)) {
         Ok(()) => Ok(buffers),
-        Err(_) => Err(NoMemory),
+        Err(_) => {
+            drop(buffers);
+            Err(NoMemory)
+        }
     }
 }
 
@@ -104,9 +110,12 @@ fn core_nicks(alloc: Global) -> Result<Lists, NoMemory>
     ensures held { IfOk result (λ lists. AreNicks (with_buffer core_row [] []) lists 0) }
     ensures rows { IfOk result (λ lists. rows_map lists ≡ insert empty 1 []) }
 {
-    let list = Nicklist::new(alloc, Handle(4))?;
     let mut lists = HashMap::new(alloc);
     nicks::reserve(&mut lists)?;
+    let Ok(list) = Nicklist::new(alloc, Handle(4)) else {
+        drop(lists);
+        return Err(NoMemory);
+    };
     nicks::insert(&mut lists, Handle(1), list);
     Ok(lists)
 }

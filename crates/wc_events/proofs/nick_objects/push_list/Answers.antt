@@ -11,9 +11,9 @@ use Rattle.wc_events.proofs.nick_objects.push_list.Goals as goal
 pub returns-clause-items : goal.returns-clause-items
 returns-clause-items c =
     let root = root_item c.args.list.now.root in
-    let first : c.push.new.self ≡ c.args.items.now ++ nick_item c.args.buffer root ∷ [] = search rules in
+    let first : c.push_root.new.items ≡ c.args.items.now ++ nick_item c.args.buffer root ∷ [] = search rules in
     let rest : List HdaItem = map (λ (r : Row). nick_item c.args.buffer r.item) c.args.list.now.rows in
-    let done : c.loop-row.items ≡ c.push.new.self ++ rest = search rules in
+    let done : c.loop-row.items ≡ c.push_root.new.items ++ rest = search rules in
     done ∙ ap (λ items. items ++ rest) first ∙ rows_after c.args.items.now c.args.buffer c.args.list.now.root c.args.list.now.rows
 
 pub returns-clause-formed : goal.returns-clause-formed

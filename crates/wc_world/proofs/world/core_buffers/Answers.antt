@@ -5,7 +5,7 @@ use Rattle.wc_world.proofs.First.{core_text}
 use Rattle.wc_world.proofs.world.core_buffers.Goals as goal
 
 pub add-requires-clause-text : goal.add-requires-clause-text
-add-requires-clause-text c = subst HasUtf8Row (sym c.in_ok-row.ensures) core_text
+add-requires-clause-text c = subst HasUtf8Row (sym c.in-Ok.ensures) core_text
 
-pub returns-in-Ok : goal.returns-in-Ok
-returns-in-Ok c = c.in-Ok.ensures.after ∙ (λ i. with_buffer (c.in_ok-row.ensures i) (c.new-2.ensures i) (c.in_ok-buffers.ensures i))
+pub returns-in-Ok-add : goal.returns-in-Ok-add
+returns-in-Ok-add c = c.in-Ok-add.ensures.after ∙ (λ i. with_buffer (c.in-Ok.ensures i) (c.new-2.ensures i) (c.in_ok-buffers.ensures i))

@@ -43,13 +43,13 @@ returns-clause-outcome g c =
     let w = world_of c.self.inside.buffers c.self.inside.held (rows_map c.self.inside.nicks) c.self.inside.limit c.self.inside.next in
     let may = may_edit w c.args.h (calls.remove_refusal c.args.is_group c.args.name (rows_at w c.args.h.0)) (ap (λ (v : World). removes_row v c.args.h c.args.is_group c.args.name) c.self.view_is ∙ sym c.remove_refusal.ensures ∙ c.in_default.is) in
     let there : is_some (list_at c.self.inside.nicks c.args.h.0) ≡ true = c.self.invariant.1.stored c.args.h.0 ∙ there_good c.args.h c.self.inside.buffers may.there in
-    nicked c.self.inside.buffers c.self.inside.held c.self.inside.nicks c.take.new.lists c.self.inside.limit c.self.inside.next c.self.inside.next c.args.self.now c.args.h (remove_of c.args.is_group c.args.name) (key_at c.args.is_group c.args.name) (remove_row (key_at c.args.is_group c.args.name)) c.in_ok-full_name.full_name c.told.result
+    nicked c.self.inside.buffers c.self.inside.held c.self.inside.nicks c.take.new.lists c.self.inside.limit c.self.inside.next c.self.inside.next c.args.self.now c.args.h (remove_of c.args.is_group c.args.name) (key_at c.args.is_group c.args.name) (remove_row (key_at c.args.is_group c.args.name)) c.in-Ok.full_name c.told.result
     c.self.invariant.0 c.self.view_is (removing_refused c.args.self.now c.args.h c.args.is_group c.args.name ∙ sym c.remove_refusal.ensures ∙ c.in_default.is)
-    (is_removing c.args.is_group c.args.name) there c.take.ensures (after_removing w c.args.h c.args.is_group c.args.name) c.in_ok-full_name.ensures c.told.ensures
+    (is_removing c.args.is_group c.args.name) there c.take.ensures (after_removing w c.args.h c.args.is_group c.args.name) c.in-Ok.ensures c.told.ensures
 
 pub returns-clause-touched : goal.returns-clause-touched
 returns-clause-touched g c =
     let w = world_of c.self.inside.buffers c.self.inside.held (rows_map c.self.inside.nicks) c.self.inside.limit c.self.inside.next in
     let own = rows_listed c.self.inside.nicks c.args.h.0 c.at.result.now c.at.ensures in
     row_touched w c.args.self.now c.args.h (remove_of c.args.is_group c.args.name) (key_at c.args.is_group c.args.name) (key_at c.args.is_group c.args.name) (find_row (key_at c.args.is_group c.args.name) c.at.result.now.rows) _ _ c.self.view_is (is_removing c.args.is_group c.args.name) refl
-    (ap (find_row (key_at c.args.is_group c.args.name)) (sym own)) c.in_ok-touch_row.ensures.ok
+    (ap (find_row (key_at c.args.is_group c.args.name)) (sym own)) c.in-Ok-touch_row.ensures.ok
