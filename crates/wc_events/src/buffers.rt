@@ -1,7 +1,7 @@
 ghost use Rattle.std.specs.Prelude.{◌≡◌, None, Some, MatchOption, IfSome, ◌+◌, ◌-◌, ◌++◌};
 ghost use Rattle.std.specs.Prelude.{◌≤◌, ◌^◌, true, IfOk, OnOk, length, pos};
 ghost use Rattle.wc_buffers.specs.Calls.{entry_of};
-ghost use Rattle.wc_buffers.specs.Kept.{IsBuffer};
+ghost use Rattle.wc_buffers.specs.Kept.{AreBuffers, IsBuffer};
 ghost use Rattle.wc_events.specs.BufferObjects.{buffer_dump, dumped_buffer, dumped_values};
 ghost use Rattle.wc_events.specs.BufferObjects.{dumped_groups};
 ghost use Rattle.wc_events.specs.Dumps.{group_items};
@@ -85,7 +85,8 @@ fn push_group(
 
 #[tactic(auto, using(crate::proofs::DumpLemmas::few_groups))]
 fn dumped_groups(alloc: Global, buffers: &Buffers) -> Result<Items<HdaItem>, NoMemory>
-    ensures { IfOk result (λ items. items ≡ dumped_groups 1 buffers.now) }
+    ensures items { IfOk result (λ items. items ≡ dumped_groups 1 buffers.now) }
+    ensures held { OnOk result (AreBuffers buffers.now) }
 {
     let mut items = Items::new(alloc);
     let mut number = 0;
@@ -103,7 +104,6 @@ pub fn buffer_dump(alloc: Global, buffers: &Buffers) -> Result<[Object; 1], NoMe
     ensures objects { IfOk result (λ objects. objects ≡ buffer_dump buffers.now) }
     ensures formed { IfOk result (λ objects. well_formed objects ≡ true) }
 {
-    let _ = buffers.groups();
     let items = dumped_groups(alloc, buffers)?;
     let path = Text::from_slice(alloc, b"buffer")?;
     let keys = Text::from_slice(alloc, DUMP_KEYS)?;

@@ -201,8 +201,12 @@ fn lies_under(alloc: Global, list: &Nicklist, parent: &Text, item: &Item) -> Res
         (find_row (key_of item.now) list.now.rows)) }
 {
     let key = key_of(alloc, item)?;
-    match list.row_of(alloc, &key)? {
-        Some(row) => Ok(parent_of(&row) == parent.as_slice()),
-        None => Ok(false),
-    }
+    let found = list.row_of(alloc, &key);
+    drop(key);
+    let Some(row) = found? else {
+        return Ok(false);
+    };
+    let lies = parent_of(&row) == parent.as_slice();
+    drop(row);
+    Ok(lies)
 }

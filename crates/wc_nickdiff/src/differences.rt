@@ -158,6 +158,7 @@ fn put_changed(changed: &mut Vec<Row>, told: &Option<Row>, now: Option<Row>) -> 
         return Ok(());
     };
     if is_same_item(&told.item, &now.item) {
+        drop(now);
         return Ok(());
     }
     push(changed, now)

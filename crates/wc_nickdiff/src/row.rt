@@ -55,7 +55,10 @@ pub(crate) fn copy_of(alloc: Global, list: &Nicklist) -> Result<Nicklist, NoMemo
     ensures rows { IfOk result (λ copy. copy.rows ≡ list.now.rows) }
 {
     let mut copy = Nicklist::new(alloc, list.root())?;
-    add_rows(alloc, &mut copy, list)?;
+    let Ok(()) = add_rows(alloc, &mut copy, list) else {
+        drop(copy);
+        return Err(NoMemory);
+    };
     Ok(copy)
 }
 

@@ -81,13 +81,15 @@ pub(crate) fn remove_item(list: &mut Nicklist, key: &Key)
     ensures { list.new ≡ with_edit (remove_row (key_at key.now.is_group key.now.name)) list.old }
 {
     if key.is_group {
-        let Ok(_) = list.remove_group(&key.name) else {
+        let Ok(item) = list.remove_group(&key.name) else {
             unreachable!()
         };
+        drop(item);
     } else {
-        let Ok(_) = list.remove_nick(&key.name) else {
+        let Ok(item) = list.remove_nick(&key.name) else {
             unreachable!()
         };
+        drop(item);
     }
 }
 

@@ -3,4 +3,4 @@ use Rattle.wc_events.proofs.buffers.buffer_dump.Goals as goal
 
 pub returns-clause-formed : goal.returns-clause-formed
 returns-clause-formed c =
-    rw (c.in_ok-path.ensures, c.in_ok-keys.ensures, c.in_ok-items.ensures) (buffers_formed c.args.buffers.now c.groups.ensures.held)
+    rw (c.in_ok-path.ensures, c.in_ok-keys.ensures, c.in_ok-items.ensures.items) (buffers_formed c.args.buffers.now c.in_ok-items.ensures.held)
