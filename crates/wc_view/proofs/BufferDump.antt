@@ -9,40 +9,40 @@ use Rattle.wc_buffers.specs.Calls.{handle_of}
 use Rattle.wc_buffers.proofs.GroupLaws.{in_group_tells}
 use Rattle.wc_objects.specs.declared.object.HdaItem.{HdaItem}
 use Rattle.wc_events.specs.BufferObjects.{dump_keys, dumped_values, dumped_buffer, dumped_groups as told_groups, buffer_dump}
-use Rattle.wc_view.specs.declared.carried.Carried.{Carried}
+use Rattle.wc_view.specs.declared.told_buffer.ToldBuffer.{ToldBuffer}
 use Rattle.wc_view.specs.Each.{each}
-use Rattle.wc_view.specs.Carried.{carry, carried_by}
-use Rattle.wc_view.specs.BufferFold.{dump_fields, is_told, are_once, in_front, runs, rows_dumped, dumped_groups}
+use Rattle.wc_view.specs.ToldBuffer.{carry, buffer_in}
+use Rattle.wc_view.specs.BufferFold.{dump_fields, is_told, are_once, in_front, runs, buffers_on, dumped_groups}
 use Rattle.wc_view.specs.BufferViews.{shown_buffer, shown_groups, BufferDumpShows}
 use Rattle.wc_view.proofs.LineTold.{number_told, text_told, items_told, same_bytes}
 use Rattle.wc_view.proofs.BufferTold.{switch_told, pairs_told}
 
 -- ---- what is read of the dump
-abbrev row : ℕ → BufferEntry → Carried
+abbrev row : ℕ → BufferEntry → ToldBuffer
 row number e = record { number = number; prev = 0; buffer = shown_buffer e }
 
-row_told : (number : ℕ) (e : BufferEntry) → carried_by dump_fields (dumped_buffer number e) ≡ Some (row number e)
-unfolding carried_by carry dumped_values
+row_told : (number : ℕ) (e : BufferEntry) → buffer_in dump_fields (dumped_buffer number e) ≡ Some (row number e)
+unfolding buffer_in carry dumped_values
 row_told number e = rw (number_told, text_told e.row.full_name, text_told e.row.short_name, switch_told, text_told e.row.title, pairs_told) refl
 
-abbrev rows_from : ℕ → List (List BufferEntry) → List Carried
+abbrev rows_from : ℕ → List (List BufferEntry) → List ToldBuffer
 rows_from number [] = []
 rows_from number (group ∷ groups) = map (row number) group ++ rows_from (number + 1) groups
 
-group_told : (number : ℕ) (group : List BufferEntry) (items : List HdaItem) (told : List Carried) → each (carried_by dump_fields) items ≡ Some told
-    → each (carried_by dump_fields) (map (dumped_buffer number) group ++ items) ≡ Some (map (row number) group ++ told)
+group_told : (number : ℕ) (group : List BufferEntry) (items : List HdaItem) (told : List ToldBuffer) → each (buffer_in dump_fields) items ≡ Some told
+    → each (buffer_in dump_fields) (map (dumped_buffer number) group ++ items) ≡ Some (map (row number) group ++ told)
 group_told number [] items told e = e
 group_told number (x ∷ group) items told e = rw (row_told number x, group_told number group items told e) refl
 
-rows_told : (number : ℕ) (groups : List (List BufferEntry)) → each (carried_by dump_fields) (told_groups number groups) ≡ Some (rows_from number groups)
+rows_told : (number : ℕ) (groups : List (List BufferEntry)) → each (buffer_in dump_fields) (told_groups number groups) ≡ Some (rows_from number groups)
 rows_told number [] = refl
 rows_told number (group ∷ groups) = group_told number group (told_groups (number + 1) groups) (rows_from (number + 1) groups) (rows_told (number + 1) groups)
 
-dump_read : (groups : List (List BufferEntry)) → rows_dumped (buffer_dump groups) ≡ Some (rows_from 1 groups)
-dump_read groups = ap (option_and_then (each (carried_by dump_fields))) (items_told (codes "buffer") dump_keys (told_groups 1 groups) refl refl) ∙ rows_told 1 groups
+dump_read : (groups : List (List BufferEntry)) → buffers_on (buffer_dump groups) ≡ Some (rows_from 1 groups)
+dump_read groups = ap (option_and_then (each (buffer_in dump_fields))) (items_told (codes "buffer") dump_keys (told_groups 1 groups) refl refl) ∙ rows_told 1 groups
 
 -- ---- no buffer is told twice
-not_told : (h number : ℕ) (group : List BufferEntry) (told : List Carried) → is_told h (map (row number) group ++ told) ≡ (in_group handle_of h group || is_told h told)
+not_told : (h number : ℕ) (group : List BufferEntry) (told : List ToldBuffer) → is_told h (map (row number) group ++ told) ≡ (in_group handle_of h group || is_told h told)
 not_told h number [] told = refl
 not_told h number (x ∷ group) told = ap (λ b. eqb (handle_of x) h || b) (not_told h number group told) ∙ assoc (eqb (handle_of x) h) (in_group handle_of h group) (is_told h told)
   where
@@ -56,7 +56,7 @@ told_there h number (group ∷ groups) n =
     let none : in_group handle_of h group ≡ false = (let z : times_in handle_of h group ≡ 0 = omega arith in grind (arith, in_group_tells handle_of h group)) in
     not_told h number group (rows_from (number + 1) groups) ∙ rw none (told_there h (number + 1) groups (omega arith))
 
-once_more : (number : ℕ) (group : List BufferEntry) (told : List Carried) → ((h : ℕ) → times_in handle_of h group ≤ 1)
+once_more : (number : ℕ) (group : List BufferEntry) (told : List ToldBuffer) → ((h : ℕ) → times_in handle_of h group ≤ 1)
     → ((h : ℕ) → 1 ≤ times_in handle_of h group → is_told h told ≡ false) → are_once told ≡ true → are_once (map (row number) group ++ told) ≡ true
 once_more number [] told few apart e = e
 once_more number (x ∷ group) told few apart e =
@@ -81,11 +81,11 @@ once_told number (group ∷ groups) few =
     (once_told (number + 1) groups (λ h. let v : times_in handle_of h group + times handle_of h groups ≤ 1 = few h in omega arith))
 
 -- ---- runs of equal numbers
-abbrev starts : ℕ → List Carried → Type 0
+abbrev starts : ℕ → List ToldBuffer → Type 0
 starts number [] = Unit {0}
 starts number (r ∷ rows) = r.number ≡ number
 
-group_runs : (number : ℕ) (x : BufferEntry) (group : List BufferEntry) (told : List Carried) (later : ℕ) → number < later → starts later told
+group_runs : (number : ℕ) (x : BufferEntry) (group : List BufferEntry) (told : List ToldBuffer) (later : ℕ) → number < later → starts later told
     → runs (map (row number) (x ∷ group) ++ told) ≡ map shown_buffer (x ∷ group) ∷ runs told
 group_runs number x [] [] later l s = refl
 group_runs number x [] (r ∷ told) later l s = let apart : eqb number r.number ≡ false = (let z = s in grind (arith, nat_tests)) in rw apart refl

@@ -29,9 +29,9 @@ use Rattle.wc_model.specs.Notices.{notice_of, notice_at, var_kind, name_in, flip
 use Rattle.wc_objects.specs.declared.object.Object.{Object}
 use Rattle.wc_events.specs.BufferObjects.{event_of, event_objects, objects_of, opened_objects, renamed_objects, title_objects, vars_objects}
 use Rattle.wc_view.specs.declared.mirror_buffer.MirrorBuffer.{MirrorBuffer}
-use Rattle.wc_view.specs.declared.carried.Carried.{Carried}
+use Rattle.wc_view.specs.declared.told_buffer.ToldBuffer.{ToldBuffer}
 use Rattle.wc_view.specs.Ids.{IsFree}
-use Rattle.wc_view.specs.Grouped.{MirrorGroups, key_of, put_after, move_group_at, merge_groups_at, with_told, edited, with_event}
+use Rattle.wc_view.specs.Grouped.{MirrorGroups, key_of, put_after, move_group_at, merge_groups_at, with_told, with_edit, with_event}
 use Rattle.wc_view.specs.BufferFold.{fold_buffers}
 use Rattle.wc_view.specs.BufferViews.{shown_buffer, shown_groups, HasBuffers, AreGrouped, fold_told_buffers, BufferNoticeShows}
 use Rattle.wc_view.proofs.NoticeLaw.{other_id, message_of}
@@ -73,7 +73,7 @@ if_there : {X : Type 0} (b : Bool) (x y : X) → b ≡ true → cond b x y ≡ x
 if_there b x y e = ap (λ b. cond b x y) e
 
 -- what an event says of one buffer
-updates : (h : ℕ) (kind : EventKind) (told : Carried) (F : BufferEntry → BufferEntry) (gs : Held) (e : BufferEntry)
+updates : (h : ℕ) (kind : EventKind) (told : ToldBuffer) (F : BufferEntry → BufferEntry) (gs : Held) (e : BufferEntry)
     → with_event kind told (shown_groups gs) ≡ cond (has key_of h (shown_groups gs)) (update key_of h (with_told kind told.buffer) (shown_groups gs)) (shown_groups gs)
     → times handle_of h gs ≤ 1 → row_of handle_of h gs ≡ Some e → has handle_of h gs ≡ true → shown_buffer (F e) ≡ with_told kind told.buffer (shown_buffer e)
     → with_event kind told (shown_groups gs) ≡ shown_groups (update handle_of h F gs)
@@ -90,7 +90,7 @@ row_name o = name_in (option_map (λ (x : BufferEntry). x.row) o)
 
 -- ---- hidden and unhidden
 hide_shows : (id : List ℕ) (world : World) (buffer : Handle) → AreGrouped world → IsFree id → refusal_of world buffer Hide ≡ None → Shown id world buffer Hide
-unfolding refusal_of after_of objects_of edited
+unfolding refusal_of after_of objects_of with_edit
 hide_shows id world buffer are free ok =
     let gs = world.groups in
     let there = there_good buffer gs (buffers_accepted _ ok) in
@@ -100,7 +100,7 @@ hide_shows id world buffer are free ok =
     ∙ ap Some (updates buffer.0 event.Hidden (placed_told told) (with_hidden true) gs r.0 refl (are.once buffer.0) r.1 there refl)
 
 unhide_shows : (id : List ℕ) (world : World) (buffer : Handle) → AreGrouped world → IsFree id → refusal_of world buffer Unhide ≡ None → Shown id world buffer Unhide
-unfolding refusal_of after_of objects_of edited
+unfolding refusal_of after_of objects_of with_edit
 unhide_shows id world buffer are free ok =
     let gs = world.groups in
     let there = there_good buffer gs (buffers_accepted _ ok) in
@@ -115,7 +115,7 @@ renamed_show : (id : List ℕ) (gs : Held) (buffer : Handle) (F : BufferEntry �
     → told.full_name ≡ row_name (entry_of buffer (update handle_of buffer.0 F gs))
     → ((F e).row.handle ≡ e.row.handle) × ((F e).row.title ≡ e.row.title) × ((F e).row.hidden ≡ e.row.hidden)
     → fold_told_buffers id (Some (shown_groups gs)) (option_map (message_of event.Renamed) (option_map (renamed_objects told) (entry_of buffer (update handle_of buffer.0 F gs)))) ≡ Some (shown_groups (update handle_of buffer.0 F gs))
-unfolding edited
+unfolding with_edit
 renamed_show id gs buffer F e told free keeps few row there is name rest =
     let entry = changed_entry buffer F gs e keeps row in
     let named : told.full_name ≡ (F e).row.full_name = name ∙ ap row_name entry in
@@ -142,7 +142,7 @@ short_name_shows id world buffer name are free ok =
     renamed_show id gs buffer (with_short_name name) r.0 (notice_of world (after_of world buffer (ShortName name)) buffer (ShortName name)) free (λ x. refl) (are.once buffer.0) r.1 there refl refl (refl, refl, refl)
 
 title_shows : (id : List ℕ) (world : World) (buffer : Handle) (title : List ℕ) → AreGrouped world → IsFree id → refusal_of world buffer (Title title) ≡ None → Shown id world buffer (Title title)
-unfolding refusal_of after_of objects_of edited
+unfolding refusal_of after_of objects_of with_edit
 title_shows id world buffer title are free ok =
     let gs = world.groups in
     let F = with_title (cut_to 1024 title) in
@@ -169,7 +169,7 @@ vars_show id gs buffer kind F e told folds is keeps few row there same =
     ∙ folds ∙ ap Some (updates buffer.0 kind (vars_told told (F e)) F gs e is few row there same)
 
 set_var_shows : (id : List ℕ) (world : World) (buffer : Handle) (var : Pair) → AreGrouped world → IsFree id → refusal_of world buffer (SetVar var) ≡ None → Shown id world buffer (SetVar var)
-unfolding refusal_of after_of objects_of edited
+unfolding refusal_of after_of objects_of with_edit
 set_var_shows id world buffer var are free ok = by (lacks_var var.name (entry_of buffer world.groups))
   where
     by : (b : Bool) → HasBuffers (fold_told_buffers id (Some (shown_groups world.groups)) (event_of (after_of world buffer (SetVar var)) (notice_at (var_kind b) buffer (with_entry buffer (with_var var.name var.value) world.groups) [] (flips_between world (after_of world buffer (SetVar var)))))) (after_of world buffer (SetVar var))
@@ -191,7 +191,7 @@ set_var_shows id world buffer var are free ok = by (lacks_var var.name (entry_of
         (λ i. record (shown_buffer r.0) { full_name = sym named i; vars = (with_var var.name var.value r.0).vars })
 
 remove_var_shows : (id : List ℕ) (world : World) (buffer : Handle) (name : List ℕ) → AreGrouped world → IsFree id → refusal_of world buffer (RemoveVar name) ≡ None → Shown id world buffer (RemoveVar name)
-unfolding refusal_of after_of objects_of edited
+unfolding refusal_of after_of objects_of with_edit
 remove_var_shows id world buffer name are free ok =
     let gs = world.groups in
     let there = (remove_var_good buffer name gs (buffers_accepted _ ok)).0 in
@@ -203,7 +203,7 @@ remove_var_shows id world buffer name are free ok =
 
 -- ---- a buffer that is closed
 close_shows : (id : List ℕ) (world : World) (buffer : Handle) → AreGrouped world → IsFree id → refusal_of world buffer Close ≡ None → Shown id world buffer Close
-unfolding refusal_of after_of objects_of edited
+unfolding refusal_of after_of objects_of with_edit
 close_shows id world buffer are free ok =
     let gs = world.groups in
     let there = close_good buffer gs (buffers_accepted _ ok) in
@@ -213,7 +213,7 @@ close_shows id world buffer are free ok =
 
 -- ---- a buffer of its own group
 unmerge_shows : (id : List ℕ) (world : World) (buffer : Handle) → AreGrouped world → IsFree id → refusal_of world buffer Unmerge ≡ None → Shown id world buffer Unmerge
-unfolding refusal_of after_of objects_of edited
+unfolding refusal_of after_of objects_of with_edit
 unmerge_shows id world buffer are free ok =
     let gs = world.groups in
     let there = (unmerge_good buffer gs (buffers_accepted _ ok)).0 in
@@ -243,7 +243,7 @@ uncut : (n : ℕ) → n ≤ 2 ^ 31 - 1 → cut n ≡ n
 uncut n l = ap (λ b. cond b n (2 ^ 31 - 1)) (le-leb n (2 ^ 31 - 1) l)
 
 move_shows : (id : List ℕ) (world : World) (buffer : Handle) (n : ℕ) → AreGrouped world → IsFree id → refusal_of world buffer (MoveTo n) ≡ None → Shown id world buffer (MoveTo n)
-unfolding refusal_of after_of objects_of edited
+unfolding refusal_of after_of objects_of with_edit
 move_shows id world buffer n are free ok =
     let gs = world.groups in
     let h = buffer.0 in
@@ -275,7 +275,7 @@ move_shows id world buffer n are free ok =
 
 -- ---- a buffer that is put to another one's group
 merge_shows : (id : List ℕ) (world : World) (buffer into : Handle) → AreGrouped world → IsFree id → refusal_of world buffer (MergeInto into) ≡ None → Shown id world buffer (MergeInto into)
-unfolding refusal_of after_of objects_of edited
+unfolding refusal_of after_of objects_of with_edit
 merge_shows id world buffer into are free ok =
     let gs = world.groups in
     let h = buffer.0 in

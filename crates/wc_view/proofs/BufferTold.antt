@@ -16,13 +16,13 @@ use Rattle.wc_model.specs.declared.notice.EventKind.{EventKind}
 use Rattle.wc_model.specs.declared.notice.EventKind.TheVariants as event
 use Rattle.wc_events.specs.LineObjects.{truth}
 use Rattle.wc_events.specs.BufferObjects.{pair_of, table, about, opened_keys, opened_values, opened_objects, placed_keys, placed_values, placed_objects, renamed_keys, renamed_values, renamed_objects, title_keys, title_values, title_objects, vars_keys, vars_values, vars_objects, named_keys, named_values, named_objects}
-use Rattle.wc_view.specs.declared.carried.Carried.{Carried}
-use Rattle.wc_view.specs.declared.carried.Field.{Field}
+use Rattle.wc_view.specs.declared.told_buffer.ToldBuffer.{ToldBuffer}
+use Rattle.wc_view.specs.declared.told_buffer.Field.{Field}
 use Rattle.wc_view.specs.Each.{each, only}
 use Rattle.wc_view.specs.Values.{switch_in, pair_in, pairs_in}
 use Rattle.wc_view.specs.Items.{items_on}
-use Rattle.wc_view.specs.Carried.{bare, carry, carry_all, carried_by}
-use Rattle.wc_view.specs.BufferFold.{fields_of, told_by, fold_buffers, changed_by}
+use Rattle.wc_view.specs.ToldBuffer.{bare, carry, carry_all, buffer_in}
+use Rattle.wc_view.specs.BufferFold.{fields_of, event_buffer, fold_buffers, changed_by}
 use Rattle.wc_view.specs.Grouped.{MirrorGroups, with_event}
 use Rattle.wc_view.specs.Ids.{IsFree}
 use Rattle.wc_view.proofs.LineTold.{pointer_told, number_told, text_told, items_told}
@@ -48,53 +48,53 @@ abbrev pub cut : ℕ → ℕ
 cut number = cond (nat_le number (2 ^ 31 - 1)) number (2 ^ 31 - 1)
 
 -- ---- what each event carries
-abbrev pub placed_told : Notice → Carried
+abbrev pub placed_told : Notice → ToldBuffer
 placed_told notice = record {
   number = cut notice.number;
   prev = notice.prev.0;
   buffer = record (bare notice.buffer.0).buffer { full_name = notice.full_name };
 }
 
-abbrev pub opened_told : Notice → BufferEntry → Carried
+abbrev pub opened_told : Notice → BufferEntry → ToldBuffer
 opened_told notice e = record {
   number = cut notice.number;
   prev = notice.prev.0;
   buffer = record { handle = notice.buffer; full_name = notice.full_name; short_name = e.row.short_name; title = e.row.title; hidden = e.row.hidden; vars = e.vars };
 }
 
-abbrev pub renamed_told : Notice → BufferEntry → Carried
+abbrev pub renamed_told : Notice → BufferEntry → ToldBuffer
 renamed_told notice e = record {
   number = cut notice.number;
   prev = 0;
   buffer = record (bare notice.buffer.0).buffer { full_name = notice.full_name; short_name = e.row.short_name; vars = e.vars };
 }
 
-abbrev pub title_told : Notice → BufferEntry → Carried
+abbrev pub title_told : Notice → BufferEntry → ToldBuffer
 title_told notice e = record {
   number = cut notice.number;
   prev = 0;
   buffer = record (bare notice.buffer.0).buffer { full_name = notice.full_name; title = e.row.title };
 }
 
-abbrev pub vars_told : Notice → BufferEntry → Carried
+abbrev pub vars_told : Notice → BufferEntry → ToldBuffer
 vars_told notice e = record {
   number = cut notice.number;
   prev = 0;
   buffer = record (bare notice.buffer.0).buffer { full_name = notice.full_name; vars = e.vars };
 }
 
-abbrev pub named_told : Notice → Carried
+abbrev pub named_told : Notice → ToldBuffer
 named_told notice = record { number = cut notice.number; prev = 0; buffer = record (bare notice.buffer.0).buffer { full_name = notice.full_name } }
 
 carried_told : (fields : List Field) (buffer : Handle) (values : List Object)
-    → carried_by fields (roll-HdaItem (record { pointers = buffer.0 ∷ []; values = values })) ≡ carry_all fields values (bare buffer.0)
-unfolding carried_by
+    → buffer_in fields (roll-HdaItem (record { pointers = buffer.0 ∷ []; values = values })) ≡ carry_all fields values (bare buffer.0)
+unfolding buffer_in
 carried_told fields buffer values = refl
 
 read_about : (fields : List Field) (keys : List ℕ) (buffer : Handle) (values : List Object) → bytes_eq keys keys ≡ true
-    → option_and_then (carried_by fields) (option_and_then only (items_on (codes "buffer") keys (about keys buffer values))) ≡ carry_all fields values (bare buffer.0)
+    → option_and_then (buffer_in fields) (option_and_then only (items_on (codes "buffer") keys (about keys buffer values))) ≡ carry_all fields values (bare buffer.0)
 read_about fields keys buffer values same =
-    ap (λ items. option_and_then (carried_by fields) (option_and_then only items)) (items_told (codes "buffer") keys (roll-HdaItem (record { pointers = buffer.0 ∷ []; values = values }) ∷ []) refl same)
+    ap (λ items. option_and_then (buffer_in fields) (option_and_then only items)) (items_told (codes "buffer") keys (roll-HdaItem (record { pointers = buffer.0 ∷ []; values = values }) ∷ []) refl same)
     ∙ carried_told fields buffer values
 
 placed_read : (notice : Notice) → carry_all (fields_of event.Moved) (placed_values notice) (bare notice.buffer.0) ≡ Some (placed_told notice)
@@ -122,14 +122,14 @@ unfolding carry named_values
 named_read notice = rw (number_told, text_told) refl
 
 -- ---- what each event makes of the groups
-abbrev Folds : List ℕ → Option MirrorGroups → EventKind → List Object → Carried → Type 0
+abbrev Folds : List ℕ → Option MirrorGroups → EventKind → List Object → ToldBuffer → Type 0
 Folds id part kind objects told = fold_buffers id part (message_of kind objects) ≡ option_map (with_event kind told) part
 
-folded : (kind : EventKind) (told : Option Carried) (part : Option MirrorGroups) (is : Carried) → told ≡ Some is → changed_by kind told part ≡ option_map (with_event kind is) part
+folded : (kind : EventKind) (told : Option ToldBuffer) (part : Option MirrorGroups) (is : ToldBuffer) → told ≡ Some is → changed_by kind told part ≡ option_map (with_event kind is) part
 folded kind told part is e = ap (λ t. changed_by kind t part) e
 
-pub opened_by : (notice : Notice) (e : BufferEntry) → told_by event.Opened (opened_objects notice e) ≡ Some (opened_told notice e)
-unfolding told_by
+pub opened_by : (notice : Notice) (e : BufferEntry) → event_buffer event.Opened (opened_objects notice e) ≡ Some (opened_told notice e)
+unfolding event_buffer
 opened_by notice e = read_about (fields_of event.Opened) opened_keys notice.buffer (opened_values notice e) refl ∙ opened_read notice e
 
 pub opened_folds : (id : List ℕ) (part : Option MirrorGroups) (notice : Notice) (e : BufferEntry) → IsFree id → Folds id part event.Opened (opened_objects notice e) (opened_told notice e)
@@ -137,57 +137,57 @@ opened_folds id part notice e free =
     rw (other_id (codes "buffer_opened") id free) (folded event.Opened _ part (opened_told notice e) (opened_by notice e))
 
 pub renamed_folds : (id : List ℕ) (part : Option MirrorGroups) (notice : Notice) (e : BufferEntry) → IsFree id → Folds id part event.Renamed (renamed_objects notice e) (renamed_told notice e)
-unfolding told_by
+unfolding event_buffer
 renamed_folds id part notice e free =
     rw (other_id (codes "buffer_renamed") id free) (folded event.Renamed _ part (renamed_told notice e)
     (read_about (fields_of event.Renamed) renamed_keys notice.buffer (renamed_values notice e) refl ∙ renamed_read notice e))
 
 pub title_folds : (id : List ℕ) (part : Option MirrorGroups) (notice : Notice) (e : BufferEntry) → IsFree id → Folds id part event.TitleChanged (title_objects notice e) (title_told notice e)
-unfolding told_by
+unfolding event_buffer
 title_folds id part notice e free =
     rw (other_id (codes "buffer_title_changed") id free) (folded event.TitleChanged _ part (title_told notice e)
     (read_about (fields_of event.TitleChanged) title_keys notice.buffer (title_values notice e) refl ∙ title_read notice e))
 
-vars_about : (notice : Notice) (e : BufferEntry) → option_and_then (carried_by (fields_of event.VarAdded)) (option_and_then only (items_on (codes "buffer") vars_keys (vars_objects notice e))) ≡ Some (vars_told notice e)
+vars_about : (notice : Notice) (e : BufferEntry) → option_and_then (buffer_in (fields_of event.VarAdded)) (option_and_then only (items_on (codes "buffer") vars_keys (vars_objects notice e))) ≡ Some (vars_told notice e)
 vars_about notice e = read_about (fields_of event.VarAdded) vars_keys notice.buffer (vars_values notice e) refl ∙ vars_read notice e
 
 pub added_folds : (id : List ℕ) (part : Option MirrorGroups) (notice : Notice) (e : BufferEntry) → IsFree id → Folds id part event.VarAdded (vars_objects notice e) (vars_told notice e)
-unfolding told_by
+unfolding event_buffer
 added_folds id part notice e free = rw (other_id (codes "buffer_localvar_added") id free) (folded event.VarAdded _ part (vars_told notice e) (vars_about notice e))
 
 pub changed_folds : (id : List ℕ) (part : Option MirrorGroups) (notice : Notice) (e : BufferEntry) → IsFree id → Folds id part event.VarChanged (vars_objects notice e) (vars_told notice e)
-unfolding told_by
+unfolding event_buffer
 changed_folds id part notice e free = rw (other_id (codes "buffer_localvar_changed") id free) (folded event.VarChanged _ part (vars_told notice e) (vars_about notice e))
 
 pub removed_folds : (id : List ℕ) (part : Option MirrorGroups) (notice : Notice) (e : BufferEntry) → IsFree id → Folds id part event.VarRemoved (vars_objects notice e) (vars_told notice e)
-unfolding told_by
+unfolding event_buffer
 removed_folds id part notice e free = rw (other_id (codes "buffer_localvar_removed") id free) (folded event.VarRemoved _ part (vars_told notice e) (vars_about notice e))
 
 pub closing_folds : (id : List ℕ) (part : Option MirrorGroups) (notice : Notice) → IsFree id → Folds id part event.Closing (named_objects notice) (named_told notice)
-unfolding told_by
+unfolding event_buffer
 closing_folds id part notice free =
     rw (other_id (codes "buffer_closing") id free) (folded event.Closing _ part (named_told notice)
     (read_about (fields_of event.Closing) named_keys notice.buffer (named_values notice) refl ∙ named_read notice))
 
-placed_about : (notice : Notice) → option_and_then (carried_by (fields_of event.Moved)) (option_and_then only (items_on (codes "buffer") placed_keys (placed_objects notice))) ≡ Some (placed_told notice)
+placed_about : (notice : Notice) → option_and_then (buffer_in (fields_of event.Moved)) (option_and_then only (items_on (codes "buffer") placed_keys (placed_objects notice))) ≡ Some (placed_told notice)
 placed_about notice = read_about (fields_of event.Moved) placed_keys notice.buffer (placed_values notice) refl ∙ placed_read notice
 
 pub moved_folds : (id : List ℕ) (part : Option MirrorGroups) (notice : Notice) → IsFree id → Folds id part event.Moved (placed_objects notice) (placed_told notice)
-unfolding told_by
+unfolding event_buffer
 moved_folds id part notice free = rw (other_id (codes "buffer_moved") id free) (folded event.Moved _ part (placed_told notice) (placed_about notice))
 
 pub merged_folds : (id : List ℕ) (part : Option MirrorGroups) (notice : Notice) → IsFree id → Folds id part event.Merged (placed_objects notice) (placed_told notice)
-unfolding told_by
+unfolding event_buffer
 merged_folds id part notice free = rw (other_id (codes "buffer_merged") id free) (folded event.Merged _ part (placed_told notice) (placed_about notice))
 
 pub unmerged_folds : (id : List ℕ) (part : Option MirrorGroups) (notice : Notice) → IsFree id → Folds id part event.Unmerged (placed_objects notice) (placed_told notice)
-unfolding told_by
+unfolding event_buffer
 unmerged_folds id part notice free = rw (other_id (codes "buffer_unmerged") id free) (folded event.Unmerged _ part (placed_told notice) (placed_about notice))
 
 pub hidden_folds : (id : List ℕ) (part : Option MirrorGroups) (notice : Notice) → IsFree id → Folds id part event.Hidden (placed_objects notice) (placed_told notice)
-unfolding told_by
+unfolding event_buffer
 hidden_folds id part notice free = rw (other_id (codes "buffer_hidden") id free) (folded event.Hidden _ part (placed_told notice) (placed_about notice))
 
 pub unhidden_folds : (id : List ℕ) (part : Option MirrorGroups) (notice : Notice) → IsFree id → Folds id part event.Unhidden (placed_objects notice) (placed_told notice)
-unfolding told_by
+unfolding event_buffer
 unhidden_folds id part notice free = rw (other_id (codes "buffer_unhidden") id free) (folded event.Unhidden _ part (placed_told notice) (placed_about notice))

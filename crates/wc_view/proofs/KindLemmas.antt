@@ -5,8 +5,8 @@ use Rattle.wc_model.specs.declared.notice.EventKind.{EventKind}
 use Rattle.wc_events.specs.BufferObjects.{id_of}
 use Rattle.wc_objects.specs.declared.object.Object.{Object}
 use Rattle.wc_objects.specs.declared.object.WireMessage.{WireMessage}
-use Rattle.wc_view.specs.declared.carried.Carried.{Carried}
-use Rattle.wc_view.specs.BufferFold.{kind_among, kind_named, told_by, changed_by, event_groups, fold_buffer_event}
+use Rattle.wc_view.specs.declared.told_buffer.ToldBuffer.{ToldBuffer}
+use Rattle.wc_view.specs.BufferFold.{kind_among, kind_named, event_buffer, changed_by, event_groups, fold_buffer_event}
 
 at_place : (ks : List EventKind) (i : ℕ) (k : EventKind) → i < length ks → k ≡ get_or ks i k → drop i ks ≡ k ∷ drop (suc i) ks
 at_place [] i k l is = absurd (omega arith)
@@ -32,13 +32,13 @@ pub kind_none : (id : List ℕ) (ks : List EventKind) (all : Option EventKind) �
 kind_none id ks all e = sym (ap (kind_among id) (nothing_left ks)) ∙ e
 
 -- before the dump events change nothing
-changed_none : (kind : EventKind) (told : Option Carried) → changed_by kind told None ≡ None
+changed_none : (kind : EventKind) (told : Option ToldBuffer) → changed_by kind told None ≡ None
 changed_none kind None = refl
 changed_none kind (Some told) = refl
 
 groups_none : (kind : Option EventKind) (objects : List Object) → event_groups kind objects None ≡ None
 groups_none None objects = refl
-groups_none (Some kind) objects = changed_none kind (told_by kind objects)
+groups_none (Some kind) objects = changed_none kind (event_buffer kind objects)
 
 pub nothing_held : (message : WireMessage) → None ≡ fold_buffer_event None message
 nothing_held message = sym (groups_none (kind_named message.id) message.objects)

@@ -13,11 +13,13 @@ use Rattle.wc_view.specs.declared.nick_rows.NickRow.{NickRow}
 use Rattle.wc_view.specs.declared.nick_rows.NickChange.{NickChange}
 use Rattle.wc_view.specs.Each.{onto, each, only, following}
 use Rattle.wc_view.specs.NickEntries.{NickEntry, nicks_at}
-use Rattle.wc_view.specs.NickFold.{NickPart, rows_listed, part_listed, new_or, listed_or, are_of, put_rows, with_full, with_full_told, changes_are_of, put_applied, apply_to, with_diff, with_diff_told, some_part}
+use Rattle.wc_view.specs.NickFold.{NickPart, rows_listed, part_listed, new_or, listed_or, are_of, put_rows, with_full, with_full_told, changes_are_of, put_applied, apply_to, with_diff, with_diff_told, some_part, with_opened}
 use Rattle.wc_view.specs.NickGroups.{Group, with_item, by_buffer, entry_listed, GroupsAreUtf8}
 use Rattle.wc_view.specs.NickLists.{ItemsAreUtf8}
 use Rattle.wc_view.specs.NickRows.{nick_rows_on, nick_changes_on}
-use Rattle.wc_view.specs.NickSteps.{buffer_of}
+use Rattle.wc_view.specs.NickSteps.{buffer_of, put_new}
+use Rattle.wc_view.specs.declared.told_buffer.ToldBuffer.{ToldBuffer}
+use Rattle.wc_view.specs.Grouped.{key_of}
 use Rattle.wc_view.proofs.EachLemmas.{after_onto}
 use Rattle.wc_view.proofs.EntryLemmas.{by_bool}
 use Rattle.wc_view.proofs.NickGroups.{one_group, more_groups, groups_utf8}
@@ -188,6 +190,20 @@ diff_refused told changes part buffer rows items place t e g i a =
     ap (λ z. some_part (with_diff_told z part)) (sym t) ∙ ap some_part (diff_of_one changes part buffer e)
     ∙ ap (λ o. some_part (apply_to buffer (diffs changes) part o)) (sym g)
     ∙ ap (λ z. some_part (put_applied buffer part z)) (ap (λ z. applied_all z rows) (sym i) ∙ a)
+
+-- ---- buffers that come
+pub opened_none : (told : Option ToldBuffer) (part : Option NickPart) → None ≡ option_map (λ (told : ToldBuffer). key_of told.buffer) told → part ≡ option_map (with_opened told) part
+opened_none None None e = refl
+opened_none None (Some part) e = refl
+opened_none (Some told) part e = absurd cc
+
+pub opened_some : (told : Option ToldBuffer) (buffer : ℕ) (part : Option NickPart) → Some buffer ≡ option_map (λ (told : ToldBuffer). key_of told.buffer) told
+    → option_map (put_new (buffer, [])) part ≡ option_map (with_opened told) part
+opened_some None buffer part e = absurd cc
+opened_some (Some told) buffer part e = let same : buffer ≡ key_of told.buffer = cc in ap (λ b. option_map (put_new (b, [])) part) same
+
+-- what `opened_step` needs
+pub ruleset opened_step_facts = (opened_none, opened_some)
 
 -- what `lists_of` needs
 pub ruleset lists_of_facts = (list_none, list_all, group_utf8)

@@ -4,7 +4,7 @@ use Rattle.std.proofs.lemmas.List.{append_assoc}
 use Rattle.std.proofs.lemmas.Bool.Decides.{nat_tests}
 use Rattle.wc_buffers.proofs.GroupLaws.{filled-some}
 use Rattle.wc_view.specs.declared.mirror_buffer.MirrorBuffer.{MirrorBuffer}
-use Rattle.wc_view.specs.declared.carried.Carried.{Carried}
+use Rattle.wc_view.specs.declared.told_buffer.ToldBuffer.{ToldBuffer}
 use Rattle.wc_view.specs.Grouped.{MirrorGroups}
 use Rattle.wc_view.specs.BufferFold.{in_front, put_in_front, runs}
 use Rattle.wc_view.specs.Runs.{GroupsSoFar, nothing_open, with_row, groups_of_open}
@@ -16,7 +16,7 @@ prepend g [] = g ∷ []
 prepend g (x ∷ groups) = (g ++ x) ∷ groups
 
 -- a group of this number in front of the groups that these rows make
-abbrev glued : ℕ → List MirrorBuffer → List Carried → MirrorGroups → MirrorGroups
+abbrev glued : ℕ → List MirrorBuffer → List ToldBuffer → MirrorGroups → MirrorGroups
 glued n g [] groups = g ∷ groups
 glued n g (row ∷ rows) groups = cond (eqb n row.number) (prepend g groups) (g ∷ groups)
 
@@ -28,14 +28,14 @@ one_front : (b : MirrorBuffer) (groups : MirrorGroups) → prepend (b ∷ []) gr
 one_front b [] = refl
 one_front b (x ∷ groups) = refl
 
-grown : (g : List MirrorBuffer) (row : Carried) (rows : List Carried) (groups : MirrorGroups) → (rows ≡ [] → groups ≡ [])
+grown : (g : List MirrorBuffer) (row : ToldBuffer) (rows : List ToldBuffer) (groups : MirrorGroups) → (rows ≡ [] → groups ≡ [])
     → glued row.number (g ++ row.buffer ∷ []) rows groups ≡ prepend g (put_in_front row rows groups)
 grown g row [] groups none = refl
 grown g row (next ∷ rows) groups none = by_bool (eqb row.number next.number) _
     (λ t. rw t (prepend-front g row.buffer groups))
     (λ t. rw t refl)
 
-begun : (row : Carried) (rows : List Carried) (groups : MirrorGroups) → glued row.number (row.buffer ∷ []) rows groups ≡ put_in_front row rows groups
+begun : (row : ToldBuffer) (rows : List ToldBuffer) (groups : MirrorGroups) → glued row.number (row.buffer ∷ []) rows groups ≡ put_in_front row rows groups
 begun row [] groups = refl
 begun row (next ∷ rows) groups = by_bool (eqb row.number next.number) _
     (λ t. rw t (one_front row.buffer groups))
@@ -44,15 +44,15 @@ begun row (next ∷ rows) groups = by_bool (eqb row.number next.number) _
 abbrev open_at : MirrorGroups → ℕ → List MirrorBuffer → GroupsSoFar
 open_at groups n g = record { groups = groups; number = n; group = g }
 
-same_number : (groups : MirrorGroups) (n : ℕ) (b : MirrorBuffer) (g : List MirrorBuffer) (row : Carried) → eqb n row.number ≡ true
+same_number : (groups : MirrorGroups) (n : ℕ) (b : MirrorBuffer) (g : List MirrorBuffer) (row : ToldBuffer) → eqb n row.number ≡ true
     → with_row (open_at groups n (b ∷ g)) row ≡ open_at groups row.number (b ∷ (g ++ row.buffer ∷ []))
 same_number groups n b g row t = let some : eqb (length (b ∷ g)) 0 ≡ false = grind (arith, nat_tests) in rw (some, t) refl
 
-next_number : (groups : MirrorGroups) (n : ℕ) (b : MirrorBuffer) (g : List MirrorBuffer) (row : Carried) → eqb n row.number ≡ false
+next_number : (groups : MirrorGroups) (n : ℕ) (b : MirrorBuffer) (g : List MirrorBuffer) (row : ToldBuffer) → eqb n row.number ≡ false
     → with_row (open_at groups n (b ∷ g)) row ≡ open_at (groups ++ (b ∷ g) ∷ []) row.number (row.buffer ∷ [])
 next_number groups n b g row t = let some : eqb (length (b ∷ g)) 0 ≡ false = grind (arith, nat_tests) in rw (some, t) refl
 
-more : (groups : MirrorGroups) (n : ℕ) (b : MirrorBuffer) (g : List MirrorBuffer) (rows : List Carried)
+more : (groups : MirrorGroups) (n : ℕ) (b : MirrorBuffer) (g : List MirrorBuffer) (rows : List ToldBuffer)
     → groups_of_open (fold with_row (open_at groups n (b ∷ g)) rows) ≡ groups ++ glued n (b ∷ g) rows (runs rows)
 more groups n b g [] = ap (λ gs. groups ++ gs) (filled-some b g [])
 more groups n b g (row ∷ rows) = by_bool (eqb n row.number) _
@@ -64,6 +64,6 @@ more groups n b g (row ∷ rows) = by_bool (eqb n row.number) _
     ∙ ap (λ gs. groups ++ (b ∷ g) ∷ gs) (begun row rows (runs rows))
     ∙ ap (λ z. groups ++ cond z (prepend (b ∷ g) (put_in_front row rows (runs rows))) ((b ∷ g) ∷ put_in_front row rows (runs rows))) (sym t))
 
-pub runs_finished : (rows : List Carried) → groups_of_open (fold with_row nothing_open rows) ≡ runs rows
+pub runs_finished : (rows : List ToldBuffer) → groups_of_open (fold with_row nothing_open rows) ≡ runs rows
 runs_finished [] = refl
 runs_finished (row ∷ rows) = more [] row.number row.buffer [] rows ∙ begun row rows (runs rows)

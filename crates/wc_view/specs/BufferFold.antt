@@ -10,13 +10,13 @@ use Rattle.wc_objects.specs.declared.object.WireMessage.{WireMessage}
 use Rattle.wc_events.specs.BufferObjects.{id_of, opened_keys, placed_keys, renamed_keys, title_keys}
 use Rattle.wc_events.specs.BufferObjects.{vars_keys, named_keys, dump_keys}
 use Rattle.wc_view.specs.declared.mirror_buffer.MirrorBuffer.{MirrorBuffer}
-use Rattle.wc_view.specs.declared.carried.Carried.{Carried}
-use Rattle.wc_view.specs.declared.carried.Field.{Field}
-use Rattle.wc_view.specs.declared.carried.Field.TheVariants.{Number, FullName, ShortName, Hidden}
-use Rattle.wc_view.specs.declared.carried.Field.TheVariants.{Title, Vars, Prev, Next}
+use Rattle.wc_view.specs.declared.told_buffer.ToldBuffer.{ToldBuffer}
+use Rattle.wc_view.specs.declared.told_buffer.Field.{Field}
+use Rattle.wc_view.specs.declared.told_buffer.Field.TheVariants.{Number, FullName, ShortName, Hidden}
+use Rattle.wc_view.specs.declared.told_buffer.Field.TheVariants.{Title, Vars, Prev, Next}
 use Rattle.wc_view.specs.Each.{each, only}
 use Rattle.wc_view.specs.Items.{items_on}
-use Rattle.wc_view.specs.Carried.{carried_by}
+use Rattle.wc_view.specs.ToldBuffer.{buffer_in}
 use Rattle.wc_view.specs.Grouped.{MirrorGroups, key_of, with_event}
 
 -- ---- the dump
@@ -24,11 +24,11 @@ use Rattle.wc_view.specs.Grouped.{MirrorGroups, key_of, with_event}
 abbrev pub dump_fields : List Field
 dump_fields = Number ∷ FullName ∷ ShortName ∷ Hidden ∷ Title ∷ Vars ∷ []
 
-abbrev pub is_told : ℕ → List Carried → Bool
-is_told h rows = list_any (λ (row : Carried). key_of row.buffer == h) rows
+abbrev pub is_told : ℕ → List ToldBuffer → Bool
+is_told h rows = list_any (λ (row : ToldBuffer). key_of row.buffer == h) rows
 
 -- no buffer is told twice
-abbrev pub are_once : List Carried → Bool
+abbrev pub are_once : List ToldBuffer → Bool
 are_once [] = true
 are_once (row ∷ rows) = not (is_told (key_of row.buffer) rows) && are_once rows
 
@@ -37,26 +37,26 @@ in_front b [] = (b ∷ []) ∷ []
 in_front b (group ∷ groups) = (b ∷ group) ∷ groups
 
 -- in front of these groups, whose first begins with this row
-abbrev pub put_in_front : Carried → List Carried → MirrorGroups → MirrorGroups
+abbrev pub put_in_front : ToldBuffer → List ToldBuffer → MirrorGroups → MirrorGroups
 put_in_front row [] groups = (row.buffer ∷ []) ∷ groups
 put_in_front row (next ∷ rows) groups = if row.number == next.number then in_front row.buffer groups
     else (row.buffer ∷ []) ∷ groups
 
 -- runs of equal numbers are groups
-abbrev pub runs : List Carried → MirrorGroups
+abbrev pub runs : List ToldBuffer → MirrorGroups
 runs [] = []
 runs (row ∷ rows) = put_in_front row rows (runs rows)
 
-abbrev pub dumped_groups : Option (List Carried) → Option MirrorGroups → Option MirrorGroups
+abbrev pub dumped_groups : Option (List ToldBuffer) → Option MirrorGroups → Option MirrorGroups
 dumped_groups None part = part
 dumped_groups (Some rows) part = if are_once rows then Some (runs rows) else part
 
-abbrev pub rows_dumped : List Object → Option (List Carried)
-rows_dumped objects = option_and_then (each (carried_by dump_fields))
+abbrev pub buffers_on : List Object → Option (List ToldBuffer)
+buffers_on objects = option_and_then (each (buffer_in dump_fields))
     (items_on (codes "buffer") dump_keys objects)
 
 abbrev pub fold_buffer_dump : Option MirrorGroups → WireMessage → Option MirrorGroups
-fold_buffer_dump part message = dumped_groups (rows_dumped message.objects) part
+fold_buffer_dump part message = dumped_groups (buffers_on message.objects) part
 
 -- ---- events
 
@@ -108,17 +108,17 @@ keys_of event.VarRemoved = vars_keys
 keys_of _ = named_keys
 
 -- what the one item of an event tells
-unfoldable pub told_by : EventKind → List Object → Option Carried
-told_by kind objects = option_and_then (carried_by (fields_of kind))
+unfoldable pub event_buffer : EventKind → List Object → Option ToldBuffer
+event_buffer kind objects = option_and_then (buffer_in (fields_of kind))
     (option_and_then only (items_on (codes "buffer") (keys_of kind) objects))
 
-abbrev pub changed_by : EventKind → Option Carried → Option MirrorGroups → Option MirrorGroups
+abbrev pub changed_by : EventKind → Option ToldBuffer → Option MirrorGroups → Option MirrorGroups
 changed_by kind None part = part
 changed_by kind (Some told) part = option_map (with_event kind told) part
 
 abbrev pub event_groups : Option EventKind → List Object → Option MirrorGroups → Option MirrorGroups
 event_groups None objects part = part
-event_groups (Some kind) objects part = changed_by kind (told_by kind objects) part
+event_groups (Some kind) objects part = changed_by kind (event_buffer kind objects) part
 
 abbrev pub fold_buffer_event : Option MirrorGroups → WireMessage → Option MirrorGroups
 fold_buffer_event part message = event_groups (kind_named message.id) message.objects part

@@ -1,5 +1,5 @@
 -- Lists of what may be missing.
-use Rattle.std.specs.Prelude.{List, [], ◌∷◌, ◌++◌, Option, Some, None}
+use Rattle.std.specs.Prelude.{Bool, true, false, List, [], ◌∷◌, ◌++◌, Option, Some, None}
 use Rattle.std.specs.Option.{option_map}
 
 abbrev pub onto : {B : Type 0} → Option B → Option (List B) → Option (List B)
@@ -19,3 +19,8 @@ only _ = None
 -- a list after another, where it is there
 abbrev pub following : {A : Type 0} → List A → Option (List A) → Option (List A)
 following front rest = option_map (λ xs. front ++ xs) rest
+
+-- a value, where it is there
+abbrev pub some_if : {A : Type 0} → Bool → A → Option A
+some_if true x = Some x
+some_if false x = None

@@ -6,7 +6,7 @@ use Rattle.wc_buffers.specs.Groups.{has, take_out, pick, others, move_group, unm
 use Rattle.wc_model.specs.declared.notice.EventKind.{EventKind}
 use Rattle.wc_model.specs.declared.notice.EventKind.TheVariants as event
 use Rattle.wc_view.specs.declared.mirror_buffer.MirrorBuffer.{MirrorBuffer}
-use Rattle.wc_view.specs.declared.carried.Carried.{Carried}
+use Rattle.wc_view.specs.declared.told_buffer.ToldBuffer.{ToldBuffer}
 
 abbrev pub MirrorGroups : Type 0
 MirrorGroups = List (List MirrorBuffer)
@@ -65,16 +65,16 @@ abbrev pub told_update : EventKind → MirrorBuffer → MirrorGroups → MirrorG
 told_update kind told groups = map (told_group kind told) groups
 
 -- the groups after an event of a buffer that is held
-unfoldable pub edited : EventKind → Carried → MirrorGroups → MirrorGroups
-edited event.Closing told groups = take_out key_of (key_of told.buffer) groups
-edited event.Moved told groups = move_group_at (key_of told.buffer) told.number groups
-edited event.Merged told groups = merge_groups_at (key_of told.buffer) told.prev groups
-edited event.Unmerged told groups = unmerge key_of (key_of told.buffer) groups
-edited kind told groups = told_update kind told.buffer groups
+unfoldable pub with_edit : EventKind → ToldBuffer → MirrorGroups → MirrorGroups
+with_edit event.Closing told groups = take_out key_of (key_of told.buffer) groups
+with_edit event.Moved told groups = move_group_at (key_of told.buffer) told.number groups
+with_edit event.Merged told groups = merge_groups_at (key_of told.buffer) told.prev groups
+with_edit event.Unmerged told groups = unmerge key_of (key_of told.buffer) groups
+with_edit kind told groups = told_update kind told.buffer groups
 
 -- an opening of a buffer that is held changes nothing, and neither does another event of one that
 -- is not
-abbrev pub with_event : EventKind → Carried → MirrorGroups → MirrorGroups
+abbrev pub with_event : EventKind → ToldBuffer → MirrorGroups → MirrorGroups
 with_event event.Opened told groups = open_buffer_in told.buffer groups
-with_event kind told groups = if has key_of (key_of told.buffer) groups then edited kind told groups
+with_event kind told groups = if has key_of (key_of told.buffer) groups then with_edit kind told groups
     else groups

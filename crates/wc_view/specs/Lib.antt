@@ -1,6 +1,5 @@
 pub mod BufferFold
 pub mod BufferViews
-pub mod Carried
 pub mod Each
 pub mod Entries
 pub mod Flags
@@ -21,5 +20,6 @@ pub mod Parts
 pub mod Rows
 pub mod Runs
 pub mod Taking
+pub mod ToldBuffer
 pub mod Values
 pub mod Views

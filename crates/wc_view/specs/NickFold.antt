@@ -18,10 +18,10 @@ use Rattle.wc_model.specs.declared.notice.EventKind.TheVariants as event
 use Rattle.wc_objects.specs.declared.object.Object.{Object}
 use Rattle.wc_objects.specs.declared.object.WireMessage.{WireMessage}
 use Rattle.wc_events.specs.BufferObjects.{id_of}
-use Rattle.wc_view.specs.declared.carried.Carried.{Carried}
+use Rattle.wc_view.specs.declared.told_buffer.ToldBuffer.{ToldBuffer}
 use Rattle.wc_view.specs.declared.nick_rows.NickRow.{NickRow}
 use Rattle.wc_view.specs.declared.nick_rows.NickChange.{NickChange}
-use Rattle.wc_view.specs.BufferFold.{told_by}
+use Rattle.wc_view.specs.BufferFold.{event_buffer}
 use Rattle.wc_view.specs.Each.{each}
 use Rattle.wc_view.specs.Grouped.{key_of}
 use Rattle.wc_view.specs.Named.{buffer_named}
@@ -157,13 +157,13 @@ fold_diff (Some part) message = some_part (with_diff_told (nick_changes_on messa
 -- ---- buffers that come and go
 
 -- a buffer that was not held comes without rows
-abbrev pub with_opened : Option Carried → NickPart → NickPart
+abbrev pub with_opened : Option ToldBuffer → NickPart → NickPart
 with_opened None part = part
 with_opened (Some told) part = if is_some (get part (key_of told.buffer)) then part
     else insert part (key_of told.buffer) []
 
 abbrev pub fold_opened : Option NickPart → WireMessage → Option NickPart
-fold_opened part message = option_map (with_opened (told_by event.Opened message.objects)) part
+fold_opened part message = option_map (with_opened (event_buffer event.Opened message.objects)) part
 
 abbrev pub without_named : Option ℕ → NickPart → NickPart
 without_named None part = part

@@ -1,6 +1,7 @@
 -- A nicklist that is read row by row.
-use Rattle.std.specs.Prelude.{◌≡◌, ℕ, ◌-◌, Bool, true, false, Result, Ok, Err, List, [], ◌∷◌}
+use Rattle.std.specs.Prelude.{◌≡◌, ℕ, ◌-◌, ◌<◌, ◌≤◌, length, Bool, true, false, Result, Ok, Err, List, [], ◌∷◌}
 use Rattle.std.specs.Prelude.{◌++◌, take, Option, Some, None, option_map, if◌then◌else◌}
+use Rattle.std.specs.List.{slice_get}
 use Rattle.std.specs.Ordering.{is_lt}
 use Rattle.wc_text.specs.Order.{fold_order}
 use Rattle.wc_nicklist.specs.declared.item.Item.{Item}
@@ -47,6 +48,13 @@ pub record IsListing (l : Listing) : Type 0 where
   pub rows : are_rows l.list.rows ≡ true
   pub path : l.path.items ≡ path_after (last_row l.list.rows)
   pub nick : l.nick ≡ nick_name (last_row l.list.rows)
+
+-- where a group can come next by its level and its name: below this many names of the path
+pub record IsDepth (l : Listing) (i : Item) (depth : ℕ) : Type 0 where
+  pub level : depth ≡ i.level - 1
+  pub some : 0 < i.level
+  pub deep : i.level - 1 ≤ length l.path.items
+  pub after : comes_after (slice_get l.path.items (i.level - 1)) i.name ≡ true
 
 abbrev pub ItemsAreUtf8 : List Item → Type 0
 ItemsAreUtf8 [] = Unit {0}

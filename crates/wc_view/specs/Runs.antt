@@ -3,7 +3,7 @@ use Rattle.std.specs.Prelude.{ℕ, ◌==◌, ◌||◌, List, [], ◌∷◌, ◌+
 use Rattle.std.specs.Prelude.{if◌then◌else◌}
 use Rattle.wc_buffers.specs.Groups.{filled_groups}
 use Rattle.wc_view.specs.declared.mirror_buffer.MirrorBuffer.{MirrorBuffer}
-use Rattle.wc_view.specs.declared.carried.Carried.{Carried}
+use Rattle.wc_view.specs.declared.told_buffer.ToldBuffer.{ToldBuffer}
 use Rattle.wc_view.specs.Grouped.{MirrorGroups}
 
 -- groups, and after them the last one, which has this number
@@ -16,7 +16,7 @@ abbrev pub nothing_open : GroupsSoFar
 nothing_open = record { groups = []; number = 0; group = [] }
 
 -- a buffer in the last group, where it has its number or is the first, and else in the next one
-abbrev pub with_row : GroupsSoFar → Carried → GroupsSoFar
+abbrev pub with_row : GroupsSoFar → ToldBuffer → GroupsSoFar
 with_row o row =
     if (length o.group == 0) || (o.number == row.number)
     then record { groups = o.groups; number = row.number; group = o.group ++ row.buffer ∷ [] }

@@ -76,8 +76,9 @@ pub(crate) fn nicklist_of(entries: &[BufferNicks], buffer: u64) -> Option<&Nickl
 pub(crate) fn replace_list(entries: &mut [BufferNicks], entry: BufferNicks)
     ensures { nicks_at entries.new ≡ put_rows entry.0 (Some entry.1) (nicks_at entries.old) }
 {
-    if let Some(place) = place_of(entries, entry.buffer()) {
-        entries[place] = entry;
+    match place_of(entries, entry.buffer()) {
+        Some(place) => drop(std::mem::replace(&mut entries[place], entry)),
+        None => drop(entry),
     }
 }
 
@@ -88,7 +89,7 @@ pub(crate) fn add_buffer(entries: &mut Vec<BufferNicks>, entry: BufferNicks)
     ensures { nicks_at entries.new.items ≡ put_new entry (nicks_at entries.old.items) }
 {
     match place_of(entries.as_slice(), entry.buffer()) {
-        Some(_) => {}
+        Some(_) => drop(entry),
         None => entries.push_reserved(entry),
     }
 }

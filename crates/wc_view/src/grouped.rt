@@ -5,12 +5,13 @@
 ghost use Rattle.std.specs.Prelude.{◌≡◌, ◌++◌, ◌∷◌, [], IfOk, OnOk};
 ghost use Rattle.wc_buffers.specs.Groups.{filled_groups, has, in_group, without, only, take_out};
 ghost use Rattle.wc_buffers.specs.Groups.{pick, others, own, move_group, part, unmerge};
+ghost use Rattle.wc_model.specs.declared.notice.EventKind.TheVariants as event;
 ghost use Rattle.wc_view.specs.Grouped.{key_of, with_after, insert_after, put_after};
 ghost use Rattle.wc_view.specs.Grouped.{open_buffer_in, move_group_at, merge_groups_at, with_told};
-ghost use Rattle.wc_view.specs.Grouped.{told_or_same, told_group, told_update, edited, with_event};
+ghost use Rattle.wc_view.specs.Grouped.{told_or_same, told_group, told_update, with_edit, with_event};
 
-use crate::carried::Carried;
 use crate::mirror_buffer::{MirrorBuffer, SharedBuffer};
+use crate::told_buffer::ToldBuffer;
 use std::alloc::Global;
 use wc_model::EventKind;
 use wc_text::{Items, NoMemory};
@@ -241,6 +242,24 @@ fn push_groups(found: &mut Items<Group>, alloc: Global, groups: &[Group]) -> Res
     Ok(())
 }
 
+/// The groups that have a buffer, between others.
+fn own_between(
+    alloc: Global,
+    h: u64,
+    front: &[Group],
+    groups: &[Group],
+    back: &[Group],
+) -> Result<Items<Group>, NoMemory>
+    ensures { IfOk result
+        (λ new. new ≡ (front.now ++ own key_of h groups.now) ++ back.now) }
+{
+    let mut new = Items::new(alloc);
+    push_groups(&mut new, alloc, front)?;
+    push_own(&mut new, alloc, h, groups)?;
+    push_groups(&mut new, alloc, back)?;
+    Ok(new)
+}
+
 /// The group of a buffer at the place of this number, from 1. Nothing changes where there is no
 /// such place.
 fn move_group_at(
@@ -257,11 +276,61 @@ fn move_group_at(
         return groups.copy(alloc);
     }
     let (front, back) = others.as_slice().split_at(place - 1);
-    let mut new = Items::new(alloc);
-    push_groups(&mut new, alloc, front)?;
-    push_own(&mut new, alloc, h, groups.as_slice())?;
-    push_groups(&mut new, alloc, back)?;
-    Ok(new)
+    own_between(alloc, h, front, groups.as_slice(), back)
+}
+
+/// The title that is told, and the full name with it.
+fn put_title(new: &mut MirrorBuffer, alloc: Global, told: &MirrorBuffer) -> Result<(), NoMemory>
+    ensures { OnOk result (new.new ≡ with_told event.TitleChanged told.now new.old) }
+{
+    new.full_name = told.full_name.copy(alloc)?;
+    new.title = told.title.copy(alloc)?;
+    Ok(())
+}
+
+/// The variables that are told, and the full name with them.
+fn put_vars(new: &mut MirrorBuffer, alloc: Global, told: &MirrorBuffer) -> Result<(), NoMemory>
+    ensures { OnOk result (new.new ≡ with_told event.VarChanged told.now new.old) }
+{
+    new.full_name = told.full_name.copy(alloc)?;
+    new.vars = told.vars.copy(alloc)?;
+    Ok(())
+}
+
+/// The names that are told, and the variables with them.
+fn put_names(new: &mut MirrorBuffer, alloc: Global, told: &MirrorBuffer) -> Result<(), NoMemory>
+    ensures { OnOk result (new.new ≡ with_told event.Renamed told.now new.old) }
+{
+    put_vars(new, alloc, told)?;
+    new.short_name = told.short_name.copy(alloc)?;
+    Ok(())
+}
+
+/// The values that the event of this kind tells of a buffer.
+fn put_told(
+    new: &mut MirrorBuffer,
+    alloc: Global,
+    kind: EventKind,
+    told: &MirrorBuffer,
+) -> Result<(), NoMemory>
+    ensures { OnOk result (new.new ≡ with_told kind told.now new.old) }
+{
+    match kind {
+        EventKind::Hidden => {
+            new.hidden = true;
+            Ok(())
+        }
+        EventKind::Unhidden => {
+            new.hidden = false;
+            Ok(())
+        }
+        EventKind::Renamed => put_names(new, alloc, told),
+        EventKind::TitleChanged => put_title(new, alloc, told),
+        EventKind::VarAdded | EventKind::VarChanged | EventKind::VarRemoved => {
+            put_vars(new, alloc, told)
+        }
+        _ => Ok(()),
+    }
 }
 
 /// A buffer with the values that the event of this kind tells of it.
@@ -274,33 +343,8 @@ fn with_told(
     ensures { IfOk result (λ b. b ≡ with_told kind told.now buffer.now) }
 {
     let mut new = buffer.copy(alloc)?;
-    match kind {
-        EventKind::Hidden => {
-            new.hidden = true;
-            Ok(new)
-        }
-        EventKind::Unhidden => {
-            new.hidden = false;
-            Ok(new)
-        }
-        EventKind::Renamed => {
-            new.full_name = told.full_name.copy(alloc)?;
-            new.short_name = told.short_name.copy(alloc)?;
-            new.vars = told.vars.copy(alloc)?;
-            Ok(new)
-        }
-        EventKind::TitleChanged => {
-            new.full_name = told.full_name.copy(alloc)?;
-            new.title = told.title.copy(alloc)?;
-            Ok(new)
-        }
-        EventKind::VarAdded | EventKind::VarChanged | EventKind::VarRemoved => {
-            new.full_name = told.full_name.copy(alloc)?;
-            new.vars = told.vars.copy(alloc)?;
-            Ok(new)
-        }
-        _ => Ok(new),
-    }
+    put_told(&mut new, alloc, kind, told)?;
+    Ok(new)
 }
 
 /// A buffer with what is told of it, and another one shared.
@@ -350,14 +394,14 @@ fn told_update(
 }
 
 /// The groups after an event of a buffer that is held.
-#[tactic(auto, unfolding(crate::specs::Grouped::edited))]
+#[tactic(auto, unfolding(crate::specs::Grouped::with_edit))]
 fn edit_group(
     alloc: Global,
     kind: EventKind,
-    told: &Carried,
+    told: &ToldBuffer,
     groups: &Items<Group>,
 ) -> Result<Items<Group>, NoMemory>
-    ensures { IfOk result (λ new. new ≡ edited kind told.now groups.now) }
+    ensures { IfOk result (λ new. new ≡ with_edit kind told.now groups.now) }
 {
     let h = told.buffer.handle.0;
     match kind {
@@ -369,6 +413,20 @@ fn edit_group(
     }
 }
 
+/// A buffer in a group of its own after the others.
+fn push_alone(
+    groups: &mut Items<Group>,
+    alloc: Global,
+    buffer: MirrorBuffer,
+) -> Result<(), NoMemory>
+    ensures { OnOk result (groups.new ≡ groups.old ++ (buffer ∷ []) ∷ []) }
+{
+    let buffer = SharedBuffer::new(alloc, buffer)?;
+    let mut group = Items::new(alloc);
+    group.push(buffer)?;
+    groups.push(group)
+}
+
 /// A buffer in a group of its own after the others. Nothing changes where it is there.
 fn open_buffer_in(
     alloc: Global,
@@ -377,13 +435,11 @@ fn open_buffer_in(
 ) -> Result<Items<Group>, NoMemory>
     ensures { IfOk result (λ new. new ≡ open_buffer_in buffer groups.now) }
 {
-    let mut new = groups.copy(alloc)?;
     if has(buffer.handle.0, groups.as_slice()) {
-        return Ok(new);
+        return groups.copy(alloc);
     }
-    let mut group = Items::new(alloc);
-    group.push(SharedBuffer::new(alloc, buffer)?)?;
-    new.push(group)?;
+    let mut new = groups.copy(alloc)?;
+    push_alone(&mut new, alloc, buffer)?;
     Ok(new)
 }
 
@@ -392,7 +448,7 @@ fn open_buffer_in(
 pub(crate) fn with_event(
     alloc: Global,
     kind: EventKind,
-    told: Carried,
+    told: ToldBuffer,
     groups: &Items<Group>,
 ) -> Result<Items<Group>, NoMemory>
     ensures { IfOk result (λ new. new ≡ with_event kind told groups.now) }

@@ -3,7 +3,6 @@
 
 mod buffer_lines;
 mod buffer_nicks;
-mod carried;
 mod flags;
 mod grouped;
 mod items;
@@ -19,6 +18,7 @@ mod nick_list;
 mod nick_rows;
 mod rows;
 mod told;
+mod told_buffer;
 mod values;
 
 pub use laws::{

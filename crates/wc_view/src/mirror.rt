@@ -1,4 +1,5 @@
-ghost use Rattle.std.specs.Prelude.{◌≡◌, ℕ, ◌≤◌, Some, None, Ok, [], true, option_map};
+ghost use Rattle.std.specs.Prelude.{◌≡◌, ℕ, ◌≤◌, ◌<◌, Some, None, Ok, [], true, option_map};
+ghost use Rattle.std.specs.Prelude.{vec_len, vec_capacity};
 ghost use Rattle.std.specs.Prelude.{slice_index_or, IfOk, IfErr, IfSome, OnOk, OnErr, IsTrue};
 ghost use Rattle.std.specs.Option.{option_and_then};
 ghost use Rattle.std.specs.FinMap.{get};
@@ -9,7 +10,11 @@ ghost use Rattle.wc_objects.specs.Reading.{GivesFirst, first_message};
 ghost use Rattle.wc_view.specs.BufferFold.{fold_buffers};
 ghost use Rattle.wc_view.specs.Runs.{or_kept};
 ghost use Rattle.wc_view.specs.Ids.{AreIds};
-ghost use Rattle.wc_view.specs.NickSteps.{RefusesDiff};
+ghost use Rattle.wc_view.specs.Entries.{part_at};
+ghost use Rattle.wc_view.specs.Fold.{fold_lines};
+ghost use Rattle.wc_view.specs.NickEntries.{nicks_at};
+ghost use Rattle.wc_view.specs.NickFold.{fold_nicks};
+ghost use Rattle.wc_view.specs.NickSteps.{after_step, RefusesDiff};
 ghost use Rattle.wc_view.specs.Parts.{lines_at};
 ghost use Rattle.wc_view.specs.Taking.{nothing_taken, parts_after, TakesMessage};
 
@@ -17,8 +22,8 @@ use crate::buffer_lines::{BufferLines, lines_of};
 use crate::buffer_nicks::{BufferNicks, nicklist_of};
 use crate::mirror_buffer::{MirrorLine, SharedBuffer};
 use crate::mirror_lines::fold_lines;
-use crate::mirror_nicks::{make_room, nick_step, take_step};
-use crate::told::{dump_told, event_told};
+use crate::mirror_nicks::{NickStep, make_room, nick_step, take_step};
+use crate::told::{groups_in_dump, groups_in_event};
 use std::alloc::Global;
 use std::marker::Model;
 use wc_nickdiff::DiffRefused;
@@ -40,6 +45,68 @@ pub enum MirrorRefused {
     NoMemory,
 }
 
+/// What a message tells of the buffers, where it tells some, and what is to be done to the nicklists.
+#[derive(Drop)]
+struct News {
+    groups: Option<Items<Items<SharedBuffer>>>,
+    step: NickStep,
+}
+
+/// What is held, once it was told.
+#[derive(Drop)]
+struct Held {
+    buffers: Option<Items<Items<SharedBuffer>>>,
+    lines: Option<Vec<BufferLines>>,
+    nicks: Option<Vec<BufferNicks>>,
+}
+
+impl Held {
+    fn none() -> Held
+        ensures buffers { result.buffers ≡ None }
+        ensures lines { result.lines ≡ None }
+        ensures nicks { result.nicks ≡ None }
+    {
+        Held {
+            buffers: None,
+            lines: None,
+            nicks: None,
+        }
+    }
+
+    /// Folds what a message tells of lines, and makes room for one buffer more among the nicklists.
+    fn fold_first(
+        &mut self,
+        alloc: Global,
+        limit: usize,
+        dump: &Text,
+        message: &WireMessage,
+    ) -> Result<(), NoMemory>
+        ensures lines { OnOk result (option_map (λ v. part_at v.items) self.new.lines ≡ fold_lines
+            limit dump.now (option_map (λ v. part_at v.items) self.old.lines) message.now) }
+        ensures room { OnOk result (IfSome self.new.nicks (λ v. vec_len v < vec_capacity v)) }
+        ensures same_buffers { self.new.buffers ≡ self.old.buffers }
+        ensures same_lines { OnErr result (option_map (λ v. v.items) self.new.lines
+            ≡ option_map (λ v. v.items) self.old.lines) }
+        ensures same_nicks { option_map (λ v. v.items) self.new.nicks
+            ≡ option_map (λ v. v.items) self.old.nicks }
+    {
+        make_room(&mut self.nicks)?;
+        fold_lines(&mut self.lines, alloc, limit, dump, message)
+    }
+
+    /// Puts what a message told of the buffers and the nicklists in the place of what is held.
+    fn put(&mut self, news: News)
+        requires { IfSome self.old.nicks (λ v. vec_len v < vec_capacity v) }
+        ensures buffers { self.new.buffers ≡ or_kept news.groups self.old.buffers }
+        ensures lines { self.new.lines ≡ self.old.lines }
+        ensures nicks { option_map (λ v. nicks_at v.items) self.new.nicks
+            ≡ after_step news.step (option_map (λ v. nicks_at v.items) self.old.nicks) }
+    {
+        take_step(&mut self.nicks, news.step);
+        put_groups(&mut self.buffers, news.groups);
+    }
+}
+
 /// A client's mirror: what it holds by the messages that a relay sent it. Contracts see the limit
 /// on the lines of a buffer, the ids of the dumps of buffers, of lines and of nicklists, and once
 /// they were taken, the buffers in groups, the lines of each buffer and the rows of its nicklist.
@@ -49,9 +116,7 @@ pub struct Mirror {
     buffer_dump: Text,
     line_dump: Text,
     nick_dump: Text,
-    buffers: Option<Items<Items<SharedBuffer>>>,
-    lines: Option<Vec<BufferLines>>,
-    nicks: Option<Vec<BufferNicks>>,
+    held: Held,
 }
 
 impl Model for Mirror {
@@ -59,6 +124,8 @@ impl Model for Mirror {
     ghost use Rattle.std.specs.Coded.{codes};
     ghost use Rattle.std.specs.FinMap as map;
     ghost use Rattle.wc_view.specs.Entries.{part_at};
+    ghost use Rattle.wc_view.specs.Entries.{part_at};
+    ghost use Rattle.wc_view.specs.Fold.{fold_lines};
     ghost use Rattle.wc_view.specs.NickEntries.{nicks_at};
     ghost use Rattle.wc_view.specs.Taking.{MirrorParts};
 
@@ -71,9 +138,9 @@ impl Model for Mirror {
       buffer_dump = m.buffer_dump;
       line_dump = m.line_dump;
       nick_dump = m.nick_dump;
-      buffers = m.buffers;
-      lines = option_map (λ v. part_at v.items) m.lines;
-      nicks = option_map (λ v. nicks_at v.items) m.nicks;
+      buffers = m.held.buffers;
+      lines = option_map (λ v. part_at v.items) m.held.lines;
+      nicks = option_map (λ v. nicks_at v.items) m.held.nicks;
     } };
 }
 
@@ -94,9 +161,7 @@ impl Mirror {
             buffer_dump,
             line_dump,
             nick_dump,
-            buffers: None,
-            lines: None,
-            nicks: None,
+            held: Held::none(),
         })
     }
 
@@ -104,7 +169,7 @@ impl Mirror {
     pub fn buffers(&self) -> Option<&Items<Items<SharedBuffer>>>
         ensures { option_map (λ groups. groups.now) result ≡ self.now.buffers }
     {
-        self.buffers.as_ref()
+        self.held.buffers.as_ref()
     }
 
     /// The lines of a buffer, from the oldest, and none of them where the buffer has none or is not
@@ -113,7 +178,7 @@ impl Mirror {
         ensures { option_map (λ lines. lines.now) result
             ≡ option_map (λ part. lines_at part buffer.0) self.now.lines }
     {
-        match &self.lines {
+        match &self.held.lines {
             Some(entries) => Some(lines_of(entries.as_slice(), buffer.0)),
             None => None,
         }
@@ -125,7 +190,7 @@ impl Mirror {
         ensures { option_map (λ list. list.now.rows) result ≡ option_and_then
             (λ part. get part buffer.0) self.now.nicks }
     {
-        match &self.nicks {
+        match &self.held.nicks {
             Some(entries) => nicklist_of(entries.as_slice(), buffer.0),
             None => None,
         }
@@ -142,12 +207,28 @@ impl Mirror {
             ≡ fold_buffers self.now.buffer_dump self.now.buffers message.now) }
     {
         if message.id.as_slice() == self.buffer_dump.as_slice() {
-            return dump_told(alloc, message);
+            return groups_in_dump(alloc, message);
         }
-        match &self.buffers {
-            Some(groups) => event_told(alloc, groups, message),
+        match &self.held.buffers {
+            Some(groups) => groups_in_event(alloc, groups, message),
             None => Ok(None),
         }
+    }
+
+    /// What a message tells of the buffers and of the nicklists. `BadItem` where it is a diff that
+    /// can't be applied.
+    fn news_in(&self, alloc: Global, message: &WireMessage) -> Result<News, DiffRefused>
+        requires { well_formed message.now.objects ≡ true }
+        ensures groups { IfOk result (λ news. or_kept news.groups self.now.buffers
+            ≡ fold_buffers self.now.buffer_dump self.now.buffers message.now) }
+        ensures step { IfOk result (λ news. fold_nicks self.now.nick_dump self.now.nicks message.now
+            ≡ Ok (after_step news.step self.now.nicks)) }
+        ensures err { IfErr result (λ e. RefusesDiff e
+            (fold_nicks self.now.nick_dump self.now.nicks message.now)) }
+    {
+        let groups = self.told_groups(alloc, message)?;
+        let step = nick_step(alloc, &self.nick_dump, &self.held.nicks, message)?;
+        Ok(News { groups, step })
     }
 
     /// Folds a message. `BadItem` where it is a diff that can't be applied. Nothing changes after a
@@ -159,13 +240,20 @@ impl Mirror {
         ensures refused { IfErr result (λ e. RefusesDiff e (parts_after self.old message.now)) }
         ensures err { OnErr result (self.new ≡ self.old) }
     {
-        let groups = self.told_groups(alloc, message)?;
-        let step = nick_step(alloc, &self.nick_dump, &self.nicks, message)?;
-        make_room(&mut self.nicks)?;
-        fold_lines(&mut self.lines, alloc, self.limit, &self.line_dump, message)?;
-        take_step(&mut self.nicks, step);
-        put_groups(&mut self.buffers, groups);
-        Ok(())
+        let news = self.news_in(alloc, message)?;
+        match self
+            .held
+            .fold_first(alloc, self.limit, &self.line_dump, message)
+        {
+            Ok(()) => {
+                self.held.put(news);
+                Ok(())
+            }
+            Err(NoMemory) => {
+                drop(news);
+                Err(DiffRefused::NoMemory)
+            }
+        }
     }
 
     /// Folds the message at the front of the bytes, as `take` does.

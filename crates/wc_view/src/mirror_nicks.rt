@@ -3,7 +3,10 @@
 ghost use Rattle.std.specs.Prelude.{◌≡◌, ◌<◌, true, Some, Ok, Option, option_map, map, IfOk, IfErr};
 ghost use Rattle.std.specs.Prelude.{OnOk, IfSome, vec_len, vec_capacity};
 ghost use Rattle.wc_objects.specs.Forms.{well_formed};
+ghost use Rattle.wc_model.specs.declared.notice.EventKind.TheVariants as event;
+ghost use Rattle.wc_view.specs.BufferFold.{event_buffer};
 ghost use Rattle.wc_view.specs.Each.{each, only};
+ghost use Rattle.wc_view.specs.Grouped.{key_of};
 ghost use Rattle.wc_view.specs.NickEntries.{nicks_at};
 ghost use Rattle.wc_view.specs.NickFold.{NickPart, fold_nick_dump, fold_full, fold_diff};
 ghost use Rattle.wc_view.specs.NickFold.{fold_opened, fold_closed, fold_nick_event, fold_nicks};
@@ -18,7 +21,7 @@ use crate::nick_groups::{BufferItems, by_buffer};
 use crate::nick_items::{nick_changes_on, nick_rows_on};
 use crate::nick_list::list_of;
 use crate::nick_rows::NickChange;
-use crate::told::told_by;
+use crate::told::event_buffer;
 use std::alloc::Global;
 use wc_events::event_id;
 use wc_model::EventKind;
@@ -178,16 +181,28 @@ fn diff_step(
     Ok(NickStep::Becomes(BufferNicks::new(buffer, list)))
 }
 
+/// The handle of the buffer that an event says to have come.
+fn opened_in(alloc: Global, message: &WireMessage) -> Result<Option<u64>, NoMemory>
+    ensures { IfOk result (λ buffer. buffer ≡ option_map (λ told. key_of told.buffer)
+        (event_buffer event.Opened message.now.objects)) }
+{
+    match event_buffer(alloc, EventKind::Opened, &message.objects)? {
+        Some(told) => Ok(Some(told.buffer.handle.0)),
+        None => Ok(None),
+    }
+}
+
 /// A buffer that comes has a nicklist without rows, whose root no message named yet.
+#[tactic(auto, using(crate::proofs::NickFolded::opened_step_facts))]
 fn opened_step(alloc: Global, message: &WireMessage) -> Result<NickStep, NoMemory>
     ensures { IfOk result (λ step. (part : Option NickPart) → after_step step part
         ≡ fold_opened part message.now) }
 {
-    let Some(told) = told_by(alloc, EventKind::Opened, &message.objects)? else {
+    let Some(buffer) = opened_in(alloc, message)? else {
         return Ok(NickStep::Nothing);
     };
     let list = Nicklist::new(alloc, Handle(0))?;
-    Ok(NickStep::Opened(BufferNicks::new(told.buffer.handle.0, list)))
+    Ok(NickStep::Opened(BufferNicks::new(buffer, list)))
 }
 
 /// The nicklist of a buffer that is closed goes.
@@ -276,6 +291,7 @@ pub(crate) fn take_step(nicks: &mut Option<Vec<BufferNicks>>, step: NickStep)
         return;
     }
     let Some(entries) = nicks else {
+        drop(step);
         return;
     };
     match step {

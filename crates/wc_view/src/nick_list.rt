@@ -1,13 +1,14 @@
 //! The nicklist that items say.
 
 ghost use Rattle.std.specs.Prelude.{◌≡◌, ◌++◌, ◌∷◌, [], true, false, option_map, option_copied};
-ghost use Rattle.std.specs.Prelude.{IfOk, IsTrue};
+ghost use Rattle.std.specs.Prelude.{IfOk, IfSome, IfNone, IsTrue};
 ghost use Rattle.std.specs.List.{slice_get};
 ghost use Rattle.std.specs.Vec.Iter.{into_iter_items};
 ghost use Rattle.wc_nicklist.specs.Rows.{last_or, root_name, TextsAreUtf8};
+ghost use Rattle.wc_view.specs.Each.{some_if};
 ghost use Rattle.wc_view.specs.NickFold.{are_rows, is_root_item, rows_listed};
 ghost use Rattle.wc_view.specs.NickLists.{next_row, comes_after, rows_after, Took, IsListing};
-ghost use Rattle.wc_view.specs.NickLists.{ItemsAreUtf8};
+ghost use Rattle.wc_view.specs.NickLists.{ItemsAreUtf8, IsDepth};
 
 use std::alloc::Global;
 use std::cmp::Ordering;
@@ -37,12 +38,21 @@ impl Listing {
         ensures listing { IfOk result IsListing }
         ensures root { IfOk result (λ listing. listing.root_name ≡ root_name) }
     {
+        let root_name = Text::from_slice(alloc, ROOT_NAME)?;
+        let list = Nicklist::new(alloc, root)?;
         Ok(Listing {
-            list: Nicklist::new(alloc, root)?,
+            list,
             path: Vec::new(alloc),
             nick: None,
-            root_name: Text::from_slice(alloc, ROOT_NAME)?,
+            root_name,
         })
+    }
+
+    /// The rows that were read.
+    fn finish(self) -> Nicklist
+        ensures { result ≡ self.list }
+    {
+        self.list
     }
 
     /// Puts a row after the others. False where it can't be there.
@@ -95,6 +105,28 @@ impl Listing {
         Ok(true)
     }
 
+    /// How many names of the path a group stays below, where it can come next by its level and its
+    /// name.
+    fn depth_of(&self, group: &Item) -> Option<usize>
+        requires kind { group.now.is_group ≡ true }
+        requires listing { IsListing self.now }
+        ensures some { IfSome result (λ depth. IsDepth self.now group.now depth) }
+        ensures none { IfNone result (false ≡ are_rows
+            (self.now.list.rows ++ next_row self.now.list.rows group.now ∷ [])) }
+    {
+        if group.level == 0 {
+            return None;
+        }
+        let depth = (group.level - 1) as usize;
+        if depth > self.path.len() {
+            return None;
+        }
+        if !comes_after(sibling_at(&self.path, depth), group.name.as_slice()) {
+            return None;
+        }
+        Some(depth)
+    }
+
     fn push_group(&mut self, alloc: Global, group: Item) -> Result<bool, NoMemory>
         requires kind { group.is_group ≡ true }
         requires utf8 { TextsAreUtf8 group }
@@ -108,16 +140,27 @@ impl Listing {
         ensures listing { IfOk result (λ fits. IsTrue fits → IsListing self.new) }
         ensures root { IfOk result (λ fits. self.new.root_name ≡ root_name) }
     {
-        if group.level == 0 {
-            return Ok(false);
+        match self.depth_of(&group) {
+            Some(depth) => self.push_at(alloc, depth, group),
+            None => Ok(false),
         }
-        let depth = (group.level - 1) as usize;
-        if depth > self.path.len() {
-            return Ok(false);
-        }
-        if !comes_after(sibling_at(&self.path, depth), group.name.as_slice()) {
-            return Ok(false);
-        }
+    }
+
+    /// Puts a group after the others, below this many names of the path.
+    fn push_at(&mut self, alloc: Global, depth: usize, group: Item) -> Result<bool, NoMemory>
+        requires kind { group.is_group ≡ true }
+        requires utf8 { TextsAreUtf8 group }
+        requires listing { IsListing self.old }
+        requires root { self.old.root_name ≡ root_name }
+        requires depth { IsDepth self.old group depth }
+        ensures fits { IfOk result
+            (λ fits. fits ≡ are_rows
+            (self.old.list.rows ++ next_row self.old.list.rows group ∷ [])) }
+        ensures after { IfOk result (λ fits. IsTrue fits → self.new.list.rows ≡ self.old.list.rows
+            ++ next_row self.old.list.rows group ∷ []) }
+        ensures listing { IfOk result (λ fits. IsTrue fits → IsListing self.new) }
+        ensures root { IfOk result (λ fits. self.new.root_name ≡ root_name) }
+    {
         let name = group.name.copy(alloc)?;
         self.path.truncate(depth);
         let parent = parent_in(&self.path, &self.root_name);
@@ -179,6 +222,50 @@ fn is_root_item(item: &Item) -> bool
     item.is_group && item.name.as_slice() == ROOT_NAME
 }
 
+/// Puts rows after the others. False where one can't be there.
+fn push_rows(listing: &mut Listing, alloc: Global, rows: IntoIter<Item>) -> Result<bool, NoMemory>
+    requires texts { ItemsAreUtf8 (into_iter_items rows) }
+    requires listing { IsListing listing.old }
+    requires root { listing.old.root_name ≡ root_name }
+    requires empty { listing.old.list.rows ≡ [] }
+    ensures { IfOk result (λ fits. some_if fits listing.new.list.rows
+        ≡ rows_after (into_iter_items rows)) }
+{
+    for item in rows {
+        let fits = listing.push(alloc, item)?;
+        if !fits {
+            return Ok(false);
+        }
+    }
+    Ok(true)
+}
+
+/// The nicklist of these rows. None where one can't be there.
+fn read_rows(
+    mut listing: Listing,
+    alloc: Global,
+    rows: IntoIter<Item>,
+) -> Result<Option<Nicklist>, NoMemory>
+    requires texts { ItemsAreUtf8 (into_iter_items rows) }
+    requires listing { IsListing listing }
+    requires root { listing.root_name ≡ root_name }
+    requires empty { listing.list.rows ≡ [] }
+    ensures { IfOk result (λ list. option_map (λ list. list.rows) list
+        ≡ rows_after (into_iter_items rows)) }
+{
+    match push_rows(&mut listing, alloc, rows) {
+        Ok(true) => Ok(Some(listing.finish())),
+        Ok(false) => {
+            drop(listing);
+            Ok(None)
+        }
+        Err(NoMemory) => {
+            drop(listing);
+            Err(NoMemory)
+        }
+    }
+}
+
 /// The nicklist of the rows after a root of this handle.
 fn list_after(
     alloc: Global,
@@ -189,14 +276,10 @@ fn list_after(
     ensures { IfOk result (λ list. option_map (λ list. list.rows) list
         ≡ rows_after (into_iter_items rows)) }
 {
-    let mut listing = Listing::new(alloc, root)?;
-    for item in rows {
-        let fits = listing.push(alloc, item)?;
-        if !fits {
-            return Ok(None);
-        }
+    match Listing::new(alloc, root) {
+        Ok(listing) => read_rows(listing, alloc, rows),
+        Err(NoMemory) => Err(NoMemory),
     }
-    Ok(Some(listing.list))
 }
 
 /// The nicklist of items. None where they are something else than one root and after it rows that a

@@ -3,16 +3,16 @@
 ghost use Rattle.std.specs.Prelude.{◌≡◌, Option, Some, option_map, IfOk, OnOk, List};
 ghost use Rattle.wc_view.specs.declared.mirror_buffer.MirrorBuffer.{MirrorBuffer};
 ghost use Rattle.wc_view.specs.Each.{each};
-ghost use Rattle.wc_view.specs.Carried.{carried_by};
-ghost use Rattle.wc_view.specs.BufferFold.{is_told, are_once, runs, dump_fields, rows_dumped};
+ghost use Rattle.wc_view.specs.ToldBuffer.{buffer_in};
+ghost use Rattle.wc_view.specs.BufferFold.{is_told, are_once, runs, dump_fields, buffers_on};
 ghost use Rattle.wc_view.specs.BufferFold.{fold_buffer_dump, kind_among, fields_of, keys_of};
-ghost use Rattle.wc_view.specs.BufferFold.{told_by, fold_buffer_event};
+ghost use Rattle.wc_view.specs.BufferFold.{event_buffer, fold_buffer_event};
 ghost use Rattle.wc_view.specs.Runs.{GroupsSoFar, nothing_open, with_row, groups_of_open, or_kept};
 
-use crate::carried::{Carried, Field, carried_by};
 use crate::grouped::{push_filled, with_event};
 use crate::items::{items_on, only_item};
 use crate::mirror_buffer::SharedBuffer;
+use crate::told_buffer::{Field, ToldBuffer, buffer_in};
 use std::alloc::Global;
 use std::marker::Model;
 use wc_events::event_id;
@@ -36,13 +36,13 @@ const DUMP_FIELDS: [Field; 6] = [
 
 /// What items of the dump tell. None where one has other values than a buffer has.
 #[tactic(auto, using(crate::proofs::EachLemmas::each_flag_facts))]
-fn each_carried(alloc: Global, items: &Items<HdaItem>) -> Result<Option<Vec<Carried>>, NoMemory>
+fn each_buffer(alloc: Global, items: &Items<HdaItem>) -> Result<Option<Vec<ToldBuffer>>, NoMemory>
     ensures { IfOk result (λ rows. option_map (λ v. v.items) rows
-        ≡ each (carried_by dump_fields) items.now) }
+        ≡ each (buffer_in dump_fields) items.now) }
 {
     let mut rows = Vec::new(alloc);
     for item in items.as_slice() {
-        let Some(row) = carried_by(alloc, &DUMP_FIELDS, item)? else {
+        let Some(row) = buffer_in(alloc, &DUMP_FIELDS, item)? else {
             return Ok(None);
         };
         if rows.push(row).is_err() {
@@ -52,17 +52,17 @@ fn each_carried(alloc: Global, items: &Items<HdaItem>) -> Result<Option<Vec<Carr
     Ok(Some(rows))
 }
 
-fn rows_dumped(alloc: Global, objects: &Items<Object>) -> Result<Option<Vec<Carried>>, NoMemory>
-    ensures { IfOk result (λ rows. option_map (λ v. v.items) rows ≡ rows_dumped objects.now) }
+fn buffers_on(alloc: Global, objects: &Items<Object>) -> Result<Option<Vec<ToldBuffer>>, NoMemory>
+    ensures { IfOk result (λ rows. option_map (λ v. v.items) rows ≡ buffers_on objects.now) }
 {
     match items_on(b"buffer", DUMP_KEYS, objects) {
-        Some(items) => each_carried(alloc, items),
+        Some(items) => each_buffer(alloc, items),
         None => Ok(None),
     }
 }
 
 /// No buffer is told twice.
-fn are_once(rows: &[Carried]) -> bool
+fn are_once(rows: &[ToldBuffer]) -> bool
     ensures { result ≡ are_once rows.now }
 {
     let mut rest = rows;
@@ -75,7 +75,7 @@ fn are_once(rows: &[Carried]) -> bool
     true
 }
 
-fn is_told(h: u64, rows: &[Carried]) -> bool
+fn is_told(h: u64, rows: &[ToldBuffer]) -> bool
     ensures { result ≡ is_told h rows.now }
 {
     rows.iter().any(|other| other.buffer.handle.0 == h)
@@ -109,7 +109,7 @@ impl OpenGroup {
     }
 
     /// Puts a buffer into the last group where it has its number, and else into the next one.
-    fn push(&mut self, alloc: Global, row: Carried) -> Result<(), NoMemory>
+    fn push(&mut self, alloc: Global, row: ToldBuffer) -> Result<(), NoMemory>
         ensures { OnOk result (self.new ≡ with_row self.old row) }
     {
         let buffer = SharedBuffer::new(alloc, row.buffer)?;
@@ -136,7 +136,7 @@ impl OpenGroup {
 
 /// Runs of equal numbers as groups.
 #[tactic(auto, using(crate::proofs::RunLemmas::runs_finished))]
-fn runs(alloc: Global, rows: Vec<Carried>) -> Result<Items<Group>, NoMemory>
+fn runs(alloc: Global, rows: Vec<ToldBuffer>) -> Result<Items<Group>, NoMemory>
     ensures { IfOk result (λ groups. groups ≡ runs rows.items) }
 {
     let mut last = OpenGroup::new(alloc);
@@ -147,14 +147,14 @@ fn runs(alloc: Global, rows: Vec<Carried>) -> Result<Items<Group>, NoMemory>
 }
 
 /// The groups of the dump. None where the message is not one that changes them.
-pub(crate) fn dump_told(
+pub(crate) fn groups_in_dump(
     alloc: Global,
     message: &WireMessage,
 ) -> Result<Option<Items<Group>>, NoMemory>
     ensures { IfOk result (λ new. (part : Option (List (List MirrorBuffer))) →
         or_kept new part ≡ fold_buffer_dump part message.now) }
 {
-    let Some(rows) = rows_dumped(alloc, &message.objects)? else {
+    let Some(rows) = buffers_on(alloc, &message.objects)? else {
         return Ok(None);
     };
     if !are_once(rows.as_slice()) {
@@ -250,13 +250,13 @@ fn keys_of(kind: EventKind) -> &'static [u8]
 }
 
 /// What the one item of an event tells. None of a message of another kind.
-#[tactic(auto, unfolding(crate::specs::BufferFold::told_by))]
-pub(crate) fn told_by(
+#[tactic(auto, unfolding(crate::specs::BufferFold::event_buffer))]
+pub(crate) fn event_buffer(
     alloc: Global,
     kind: EventKind,
     objects: &Items<Object>,
-) -> Result<Option<Carried>, NoMemory>
-    ensures { IfOk result (λ told. told ≡ told_by kind objects.now) }
+) -> Result<Option<ToldBuffer>, NoMemory>
+    ensures { IfOk result (λ told. told ≡ event_buffer kind objects.now) }
 {
     let Some(items) = items_on(b"buffer", keys_of(kind), objects) else {
         return Ok(None);
@@ -264,11 +264,11 @@ pub(crate) fn told_by(
     let Some(item) = only_item(items.as_slice()) else {
         return Ok(None);
     };
-    carried_by(alloc, fields_of(kind), item)
+    buffer_in(alloc, fields_of(kind), item)
 }
 
 /// The groups after an event. None where the message is not one that changes them.
-pub(crate) fn event_told(
+pub(crate) fn groups_in_event(
     alloc: Global,
     groups: &Items<Group>,
     message: &WireMessage,
@@ -279,7 +279,7 @@ pub(crate) fn event_told(
     let Some(kind) = kind_among(&KINDS, message.id.as_slice()) else {
         return Ok(None);
     };
-    let Some(told) = told_by(alloc, kind, &message.objects)? else {
+    let Some(told) = event_buffer(alloc, kind, &message.objects)? else {
         return Ok(None);
     };
     Ok(Some(with_event(alloc, kind, told, groups)?))

@@ -4,15 +4,15 @@ use Rattle.std.specs.Option.{option_and_then}
 use Rattle.wc_text.specs.declared.names.Pair.{Pair}
 use Rattle.wc_objects.specs.declared.object.Object.{Object}
 use Rattle.wc_objects.specs.declared.object.HdaItem.{HdaItem, out-HdaItem}
-use Rattle.wc_view.specs.declared.carried.Carried.{Carried}
-use Rattle.wc_view.specs.declared.carried.Field.{Field}
-use Rattle.wc_view.specs.declared.carried.Field.TheVariants.{Number, FullName, ShortName, Hidden}
-use Rattle.wc_view.specs.declared.carried.Field.TheVariants.{Title, Vars, Prev, Next}
+use Rattle.wc_view.specs.declared.told_buffer.ToldBuffer.{ToldBuffer}
+use Rattle.wc_view.specs.declared.told_buffer.Field.{Field}
+use Rattle.wc_view.specs.declared.told_buffer.Field.TheVariants.{Number, FullName, ShortName, Hidden}
+use Rattle.wc_view.specs.declared.told_buffer.Field.TheVariants.{Title, Vars, Prev, Next}
 use Rattle.wc_view.specs.Items.{last_pointer}
 use Rattle.wc_view.specs.Values.{number_in, pointer_in, text_in, switch_in, pairs_in}
 
 -- a buffer of which its handle alone is told
-abbrev pub bare : ℕ → Carried
+abbrev pub bare : ℕ → ToldBuffer
 bare buffer = record {
   number = 0;
   prev = 0;
@@ -26,41 +26,41 @@ bare buffer = record {
   };
 }
 
-abbrev pub with_number : ℕ → Carried → Carried
+abbrev pub with_number : ℕ → ToldBuffer → ToldBuffer
 with_number number c = record c { number = number }
 
-abbrev pub with_prev : ℕ → Carried → Carried
+abbrev pub with_prev : ℕ → ToldBuffer → ToldBuffer
 with_prev prev c = record c { prev = prev }
 
-abbrev pub with_full_name : List ℕ → Carried → Carried
+abbrev pub with_full_name : List ℕ → ToldBuffer → ToldBuffer
 with_full_name name c = record {
   number = c.number;
   prev = c.prev;
   buffer = record c.buffer { full_name = name };
 }
 
-abbrev pub with_short_name : List ℕ → Carried → Carried
+abbrev pub with_short_name : List ℕ → ToldBuffer → ToldBuffer
 with_short_name name c = record {
   number = c.number;
   prev = c.prev;
   buffer = record c.buffer { short_name = name };
 }
 
-abbrev pub with_title : List ℕ → Carried → Carried
+abbrev pub with_title : List ℕ → ToldBuffer → ToldBuffer
 with_title title c = record {
   number = c.number;
   prev = c.prev;
   buffer = record c.buffer { title = title };
 }
 
-abbrev pub with_hidden : Bool → Carried → Carried
+abbrev pub with_hidden : Bool → ToldBuffer → ToldBuffer
 with_hidden hidden c = record {
   number = c.number;
   prev = c.prev;
   buffer = record c.buffer { hidden = hidden };
 }
 
-abbrev pub with_vars : List Pair → Carried → Carried
+abbrev pub with_vars : List Pair → ToldBuffer → ToldBuffer
 with_vars vars c = record {
   number = c.number;
   prev = c.prev;
@@ -68,7 +68,7 @@ with_vars vars c = record {
 }
 
 -- one more value, where it can be that of the field
-unfoldable pub carry : Field → Object → Carried → Option Carried
+unfoldable pub carry : Field → Object → ToldBuffer → Option ToldBuffer
 carry Number value c = option_map (λ n. with_number n c) (number_in value)
 carry FullName value c = option_map (λ t. with_full_name t c) (text_in value)
 carry ShortName value c = option_map (λ t. with_short_name t c) (text_in value)
@@ -79,12 +79,12 @@ carry Prev value c = option_map (λ p. with_prev p c) (pointer_in value)
 carry Next value c = option_map (λ p. c) (pointer_in value)
 
 -- the values of these fields, each in its place and none besides
-abbrev pub carry_all : List Field → List Object → Carried → Option Carried
+abbrev pub carry_all : List Field → List Object → ToldBuffer → Option ToldBuffer
 carry_all [] [] c = Some c
 carry_all (field ∷ fields) (value ∷ values) c = option_and_then (carry_all fields values)
     (carry field value c)
 carry_all _ _ c = None
 
-unfoldable pub carried_by : List Field → HdaItem → Option Carried
-carried_by fields item = option_and_then (λ buffer. carry_all fields (out-HdaItem item).values
+unfoldable pub buffer_in : List Field → HdaItem → Option ToldBuffer
+buffer_in fields item = option_and_then (λ buffer. carry_all fields (out-HdaItem item).values
     (bare buffer)) (last_pointer item)

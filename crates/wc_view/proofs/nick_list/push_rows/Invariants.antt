@@ -4,7 +4,7 @@ use Rattle.wc_nicklist.specs.Rows.{root_name}
 use Rattle.wc_nickdiff.specs.PushLaw.{rows_from}
 use Rattle.wc_view.specs.NickLists.{IsListing, ItemsAreUtf8}
 use Rattle.wc_view.proofs.NickListing.{Reads}
-use Rattle.wc_view.proofs.nick_list.list_after.Given as goal
+use Rattle.wc_view.proofs.nick_list.push_rows.Given as goal
 
 -- the rows so far and those of the items that are left
 abbrev pub invariant-loop-item : goal.invariant-loop-item

@@ -2,7 +2,7 @@ use Rattle.std.proofs.Common.{[], sym, ◌∙◌}
 use Rattle.std.specs.Vec.Iter.{into_iter_items}
 use Rattle.wc_nickdiff.specs.PushLaw.{rows_from}
 use Rattle.wc_view.proofs.NickListing.{read_more, read_refused, rest_utf8}
-use Rattle.wc_view.proofs.nick_list.list_after.Goals as goal
+use Rattle.wc_view.proofs.nick_list.push_rows.Goals as goal
 
 pub returns-then-not-fits : goal.returns-then-not-fits
 returns-then-not-fits c =
