@@ -9,8 +9,8 @@ use crate::key::Key;
 use crate::lists::lines_in;
 use crate::nodes::{HeldLine, LineList};
 use std::alloc::Global;
-use wc_events::parts::{count, moment, text, texts, truth};
-use wc_lines::Line;
+use wc_events::parts::{count, moment, tags, text_of, truth};
+use wc_lines::PackedLine;
 use wc_objects::{Kind, Object};
 use wc_text::NoMemory;
 use wc_world::World;
@@ -43,7 +43,7 @@ fn first_pointer(lines: &[HeldLine<'_>]) -> u64
     ensures { result ≡ line_number (first_of (held_lines lines.now)) }
 {
     match lines.first() {
-        Some(held) => held.line.handle.0,
+        Some(held) => held.line.handle().0,
         None => 0,
     }
 }
@@ -53,17 +53,17 @@ fn last_pointer(lines: &[HeldLine<'_>]) -> u64
     ensures { result ≡ line_number (last_of (held_lines lines.now)) }
 {
     match lines.split_last() {
-        Some((held, _)) => held.line.handle.0,
+        Some((held, _)) => held.line.handle().0,
         None => 0,
     }
 }
 
 /// The value of a line that a key names. None for other keys than that of lines.
-pub(crate) fn of_line(line: &Line, key: Key) -> Option<Object>
+pub(crate) fn of_line(line: &PackedLine, key: Key) -> Option<Object>
     ensures { result ≡ of_line key line.now }
 {
     match key {
-        Key::Data => Some(Object::Ptr(line.content.0)),
+        Key::Data => Some(Object::Ptr(line.content().0)),
         _ => None,
     }
 }
@@ -79,17 +79,17 @@ pub(crate) fn of_data(
     let HeldLine { buffer, line } = held;
     let value = match key {
         Key::Buffer => Object::Ptr(buffer.0),
-        Key::Date => Object::Tim(moment(line.date)),
-        Key::DatePrinted => Object::Tim(moment(line.date_printed)),
-        Key::Displayed => Object::Chr(truth(line.displayed)),
-        Key::NotifyLevel => Object::Chr(line.notify),
-        Key::Highlight => Object::Chr(truth(line.highlight)),
+        Key::Date => Object::Tim(moment(line.date())),
+        Key::DatePrinted => Object::Tim(moment(line.date_printed())),
+        Key::Displayed => Object::Chr(truth(line.displayed())),
+        Key::NotifyLevel => Object::Chr(line.notify()),
+        Key::Highlight => Object::Chr(truth(line.highlight())),
         Key::TagsArray => Object::Arr {
             kind: Kind::Str,
-            values: texts(alloc, &line.tags)?,
+            values: tags(alloc, line)?,
         },
-        Key::Prefix => text(alloc, &line.prefix)?,
-        Key::Message => text(alloc, &line.message)?,
+        Key::Prefix => text_of(alloc, line.prefix())?,
+        Key::Message => text_of(alloc, line.message())?,
         _ => return Ok(None),
     };
     Ok(Some(value))

@@ -45,7 +45,7 @@ fn mixed_lines<'a>(
 {
     let mut lines = Vec::new(alloc);
     push_all(&mut lines, world, buffers)?;
-    lines.sort_by_key(|held| held.line.handle.0)?;
+    lines.sort_by_key(|held| held.line.handle().0)?;
     Ok(lines)
 }
 

@@ -13,7 +13,7 @@ use crate::reach::reach;
 use crate::refused::WalkRefused;
 use std::alloc::Global;
 use wc_buffers::Buffers;
-use wc_lines::Line;
+use wc_lines::PackedLine;
 use wc_text::{Handle, Items, NoMemory};
 use wc_world::World;
 
@@ -21,7 +21,7 @@ use wc_world::World;
 #[derive(Clone, Copy)]
 pub(crate) struct HeldLine<'a> {
     pub(crate) buffer: Handle,
-    pub(crate) line: &'a Line,
+    pub(crate) line: &'a PackedLine,
 }
 
 /// A list of lines.
@@ -75,8 +75,8 @@ fn pointer_of(buffers: &Buffers, place: Place<'_>) -> u64
     match place {
         Place::Buffer(buffer) => buffer.0,
         Place::Lines(list) => list_pointer(buffers, list),
-        Place::Line(held) => held.line.handle.0,
-        Place::LineData(held) => held.line.content.0,
+        Place::Line(held) => held.line.handle().0,
+        Place::LineData(held) => held.line.content().0,
     }
 }
 

@@ -20,7 +20,7 @@ use crate::path::Start;
 use crate::reach::{place_in, push, push_buffers, push_lines};
 use std::alloc::Global;
 use wc_buffers::Buffers;
-use wc_lines::{Line, Lines};
+use wc_lines::{Lines, PackedLine};
 use wc_text::{Handle, NoMemory};
 use wc_world::World;
 
@@ -86,12 +86,12 @@ fn list_at(buffers: &Buffers, all: &[Handle], pointer: u64) -> Option<LineList>
 // ---- lines by their pointers
 
 /// Whether a pointer names a line, or the data of one.
-fn is_named(element: Element, pointer: u64, line: &Line) -> bool
+fn is_named(element: Element, pointer: u64, line: &PackedLine) -> bool
     ensures { result ≡ is_named element pointer line.now }
 {
     match element {
-        Element::Line => line.handle.0 == pointer,
-        Element::LineData => line.content.0 == pointer,
+        Element::Line => line.handle().0 == pointer,
+        Element::LineData => line.content().0 == pointer,
         Element::Buffer | Element::Lines => false,
     }
 }
@@ -137,7 +137,7 @@ fn place_of_line(lines: &[HeldLine<'_>], pointer: u64) -> usize
     ensures { result ≡ place_of_line pointer (held_lines lines.now) }
 {
     for at in 0..lines.len() {
-        if lines[at].line.handle.0 == pointer {
+        if lines[at].line.handle().0 == pointer {
             return at;
         }
     }
@@ -158,7 +158,7 @@ fn push_from_line<'a>(
         ++ lines_from world.now count (held_line held.entry)) }
 {
     let lines = lines_in(alloc, world, LineList::Own(held.buffer))?;
-    let at = place_of_line(lines.as_slice(), held.line.handle.0);
+    let at = place_of_line(lines.as_slice(), held.line.handle().0);
     push_lines(alloc, count, at, lines.as_slice(), out)
 }
 

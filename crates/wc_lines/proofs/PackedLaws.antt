@@ -70,6 +70,9 @@ tag_at_front bytes tag rest e =
 pub no_tag : (bytes : List ℕ) → first_tag bytes ≡ None → tags_of bytes ≡ []
 no_tag bytes e = one_more bytes None e
 
+-- what `next` needs
+pub ruleset tag_facts = (tag_at_front, no_tag)
+
 -- ---- what was spelled is read
 cut_front : (tag rest : List ℕ) → cut_at (length tag) (tag ++ rest) ≡ Some (tag, rest)
 cut_front tag rest =

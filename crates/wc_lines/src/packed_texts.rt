@@ -32,7 +32,6 @@ impl Model for PackedTexts {
 
 impl PackedTexts {
     /// These texts. It takes memory once, as much as they need.
-
     pub fn new(
         alloc: Global,
         tags: &[Text],
@@ -153,7 +152,7 @@ impl<'a> Iterator for TagIter<'a> {
 
     ghost remaining = { item_count tags_left };
 
-    #[tactic(auto, using(crate::proofs::PackedLaws::tag_at_front, crate::proofs::PackedLaws::no_tag))]
+    #[tactic(auto, using(crate::proofs::PackedLaws::tag_facts))]
     fn next(&mut self) -> Option<&'a [u8]> {
         let (tag, rest) = first_tag(self.rest)?;
         self.rest = rest;

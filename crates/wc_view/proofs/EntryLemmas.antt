@@ -1,7 +1,6 @@
 -- A list of entries seen as the lines of each buffer.
 use Rattle.std.proofs.Common.{◌≡◌, ℕ, zero, suc, ◌+◌, ◌-◌, ◌<◌, ◌≤◌, Bool, true, false, cond, Some, None, List, [], ◌∷◌, ◌++◌, length, take, drop, get_or, set, refl, sym, ap, ◌∙◌, arith, eqb}
 use Rattle.std.specs.Prelude.{unwrap_or}
-use Rattle.std.specs.List.{remove as remove_at}
 use Rattle.std.proofs.lemmas.List.{take_more}
 use Rattle.std.proofs.lemmas.Bool.{eq-eqb}
 use Rattle.std.proofs.lemmas.Bool.Decides.{nat_tests}
@@ -21,7 +20,7 @@ by_bool false P at_true at_false = at_false refl
 pub last_all : {X : Type 0} (n : ℕ) (xs : List X) → length xs ≤ n → last_of n xs ≡ xs
 last_all n xs l = let e : length xs - n ≡ 0 = omega arith in ap (λ k. drop k xs) e
 
-pub last_shorter : {X : Type 0} (n : ℕ) (xs : List X) → n < length xs → last_of n (remove_at xs 0) ≡ last_of n xs
+pub last_shorter : {X : Type 0} (n : ℕ) (xs : List X) → n < length xs → last_of n (drop 1 xs) ≡ last_of n xs
 last_shorter n [] l = absurd (omega arith)
 last_shorter n (x ∷ xs) l = let e : length (x ∷ xs) - n ≡ suc (length xs - n) = omega arith in ap (λ k. drop k (x ∷ xs)) (sym e)
 

@@ -8,6 +8,7 @@ pub mod Fold
 pub mod Grouped
 pub mod Ids
 pub mod Items
+pub mod LinesLeft
 pub mod Named
 pub mod NickEntries
 pub mod NickFold

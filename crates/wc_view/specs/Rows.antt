@@ -1,12 +1,12 @@
 -- The lines that a message tells.
 use Rattle.std.specs.Prelude.{ℕ, List, [], ◌∷◌, Option, Some, None}
 use Rattle.std.specs.Option.{option_and_then}
+use Rattle.wc_lines.specs.Packed.{LineTexts}
 use Rattle.wc_objects.specs.declared.object.Object.{Object}
 use Rattle.wc_objects.specs.declared.object.HdaItem.{HdaItem, out-HdaItem}
 use Rattle.wc_events.specs.LineObjects.{line_keys}
 use Rattle.wc_view.specs.declared.rows.LineMarks.{LineMarks}
 use Rattle.wc_view.specs.declared.rows.LineRow.{LineRow}
-use Rattle.wc_view.specs.declared.rows.LineTexts.{LineTexts}
 use Rattle.wc_view.specs.Each.{each}
 use Rattle.wc_view.specs.Items.{items_on, last_pointer}
 use Rattle.wc_view.specs.Values.{pointer_in, date_in, level_in, truth_in, text_in, texts_in}

@@ -6,13 +6,15 @@ ghost use Rattle.std.specs.FinMap.{find};
 ghost use Rattle.std.specs.Ordering.{nat_cmp};
 ghost use Rattle.wc_lines.specs.Ring.{last_of};
 ghost use Rattle.wc_view.specs.Entries.{part_at, IsEntry};
+ghost use Rattle.wc_view.specs.LinesLeft.{mirror_lines_left};
 ghost use Rattle.wc_view.specs.Parts.{lines_at, with_row, part_of, without, flagged_line};
 ghost use Rattle.wc_view.specs.Parts.{with_line_flag, with_flag, with_flags};
 
 use crate::flags::LineFlag;
-use crate::mirror_buffer::MirrorLine;
+use crate::mirror_line::{MirrorLineIter, PackedMirrorLine};
 use crate::rows::LineRow;
 use std::alloc::Global;
+use std::collections::VecDeque;
 use std::marker::Model;
 use wc_text::NoMemory;
 
@@ -20,7 +22,7 @@ use wc_text::NoMemory;
 #[derive(Drop)]
 pub(crate) struct BufferLines {
     buffer: u64,
-    lines: Vec<MirrorLine>,
+    lines: VecDeque<PackedMirrorLine>,
 }
 
 impl Model for BufferLines {
@@ -38,7 +40,7 @@ impl BufferLines {
     {
         BufferLines {
             buffer,
-            lines: Vec::new(alloc),
+            lines: VecDeque::new(alloc),
         }
     }
 
@@ -48,20 +50,20 @@ impl BufferLines {
         self.buffer
     }
 
-    fn lines(&self) -> &[MirrorLine]
-        ensures { result.now ≡ self.now.1 }
+    fn lines(&self) -> MirrorLineIter<'_>
+        ensures { mirror_lines_left result ≡ self.now.1 }
     {
-        self.lines.as_slice()
+        MirrorLineIter::new(&self.lines)
     }
 
     /// Puts a line after the others, of which the oldest go above the limit. Where memory is
     /// refused, all stay.
-    fn push(&mut self, line: MirrorLine, limit: usize) -> Result<(), NoMemory>
+    fn push(&mut self, line: PackedMirrorLine, limit: usize) -> Result<(), NoMemory>
         ensures ok { OnOk result
             (self.new ≡ (self.old.0, last_of limit (self.old.1 ++ line ∷ []))) }
         ensures err { OnErr result (self.new ≡ self.old) }
     {
-        match self.lines.push(line) {
+        match self.lines.push_back(line) {
             Ok(()) => {
                 keep_last(&mut self.lines, limit);
                 Ok(())
@@ -74,21 +76,21 @@ impl BufferLines {
     fn set_flag(&mut self, flag: LineFlag)
         ensures { self.new ≡ (self.old.0, with_line_flag flag self.old.1) }
     {
-        flag_lines(self.lines.as_mut_slice(), flag);
+        flag_lines(self.lines.make_contiguous(), flag);
     }
 }
 
 /// Sets the flag in a line, where it has the content of the flag.
-fn flag_line(line: &mut MirrorLine, flag: LineFlag)
+fn flag_line(line: &mut PackedMirrorLine, flag: LineFlag)
     ensures { line.new ≡ flagged_line flag line.old }
 {
-    if line.content.0 == flag.content {
-        line.displayed = flag.displayed;
+    if line.content().0 == flag.content {
+        line.set_displayed(flag.displayed);
     }
 }
 
 /// Sets the flag in the lines of its content.
-fn flag_lines(lines: &mut [MirrorLine], flag: LineFlag)
+fn flag_lines(lines: &mut [PackedMirrorLine], flag: LineFlag)
     ensures { lines.new ≡ with_line_flag flag lines.old }
 {
     for line in lines.iter_mut() {
@@ -97,11 +99,11 @@ fn flag_lines(lines: &mut [MirrorLine], flag: LineFlag)
 }
 
 #[tactic(auto, using(crate::proofs::EntryLemmas::keep_last_facts))]
-fn keep_last(lines: &mut Vec<MirrorLine>, limit: usize)
+fn keep_last(lines: &mut VecDeque<PackedMirrorLine>, limit: usize)
     ensures { lines.new.items ≡ last_of limit lines.old.items }
 {
     while lines.len() > limit {
-        let _ = lines.remove(0);
+        let _ = lines.pop_front();
     }
 }
 
@@ -120,12 +122,12 @@ fn place_of(entries: &[BufferLines], buffer: u64) -> Option<usize>
 
 /// The lines of a buffer, none where it is not there.
 #[tactic(auto, using(crate::proofs::EntryLemmas::lines_of_facts))]
-pub(crate) fn lines_of(entries: &[BufferLines], buffer: u64) -> &[MirrorLine]
-    ensures { result.now ≡ lines_at (part_at entries.now) buffer }
+pub(crate) fn lines_of(entries: &[BufferLines], buffer: u64) -> MirrorLineIter<'_>
+    ensures { mirror_lines_left result ≡ lines_at (part_at entries.now) buffer }
 {
     match place_of(entries, buffer) {
         Some(place) => entries[place].lines(),
-        None => &[],
+        None => MirrorLineIter::none(),
     }
 }
 

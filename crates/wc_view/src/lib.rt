@@ -9,6 +9,7 @@ mod items;
 mod laws;
 mod mirror;
 mod mirror_buffer;
+mod mirror_line;
 mod mirror_lines;
 mod mirror_nicks;
 mod named;
@@ -27,3 +28,4 @@ pub use laws::{
 };
 pub use mirror::{Mirror, MirrorRefused};
 pub use mirror_buffer::{MirrorBuffer, MirrorLine, SharedBuffer};
+pub use mirror_line::{MirrorLineIter, PackedMirrorLine};

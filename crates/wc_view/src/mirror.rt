@@ -12,6 +12,7 @@ ghost use Rattle.wc_view.specs.Runs.{or_kept};
 ghost use Rattle.wc_view.specs.Ids.{AreIds};
 ghost use Rattle.wc_view.specs.Entries.{part_at};
 ghost use Rattle.wc_view.specs.Fold.{fold_lines};
+ghost use Rattle.wc_view.specs.LinesLeft.{mirror_lines_left};
 ghost use Rattle.wc_view.specs.NickEntries.{nicks_at};
 ghost use Rattle.wc_view.specs.NickFold.{fold_nicks};
 ghost use Rattle.wc_view.specs.NickSteps.{after_step, RefusesDiff};
@@ -20,7 +21,8 @@ ghost use Rattle.wc_view.specs.Taking.{nothing_taken, parts_after, TakesMessage}
 
 use crate::buffer_lines::{BufferLines, lines_of};
 use crate::buffer_nicks::{BufferNicks, nicklist_of};
-use crate::mirror_buffer::{MirrorLine, SharedBuffer};
+use crate::mirror_buffer::SharedBuffer;
+use crate::mirror_line::MirrorLineIter;
 use crate::mirror_lines::fold_lines;
 use crate::mirror_nicks::{NickStep, make_room, nick_step, take_step};
 use crate::told::{groups_in_dump, groups_in_event};
@@ -174,8 +176,8 @@ impl Mirror {
 
     /// The lines of a buffer, from the oldest, and none of them where the buffer has none or is not
     /// there. None where the line dump was not taken.
-    pub fn lines(&self, buffer: Handle) -> Option<&[MirrorLine]>
-        ensures { option_map (λ lines. lines.now) result
+    pub fn lines(&self, buffer: Handle) -> Option<MirrorLineIter<'_>>
+        ensures { option_map mirror_lines_left result
             ≡ option_map (λ part. lines_at part buffer.0) self.now.lines }
     {
         match &self.held.lines {

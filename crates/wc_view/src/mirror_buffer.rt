@@ -5,7 +5,7 @@ use std::marker::Model;
 use std::rc::Rc;
 use wc_text::{Duplicate, Handle, Items, NoMemory, Pair, Text};
 
-/// A line of a buffer as a client has it, without the line's own handle.
+/// A line of a buffer as a client has it, without the line's own handle, as contracts see it.
 #[derive(Drop)]
 pub struct MirrorLine {
     /// The name of what the line says, which a mixed buffer's line shares.

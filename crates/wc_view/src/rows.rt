@@ -5,11 +5,12 @@ ghost use Rattle.wc_view.specs.Each.{each, only};
 ghost use Rattle.wc_view.specs.Rows.{marks_in, line_texts_in, row_with, row_in, rows_on};
 
 use crate::items::{items_on, last_pointer};
-use crate::mirror_buffer::MirrorLine;
-use crate::values::{date_in, level_in, pointer_in, text_copy, texts_in, truth_in};
+use crate::mirror_line::PackedMirrorLine;
+use crate::values::{date_in, level_in, pointer_in, text_in, texts_in, truth_in};
 use std::alloc::Global;
+use wc_lines::PackedTexts;
 use wc_objects::{HdaItem, Object};
-use wc_text::{Handle, Items, NoMemory, Text};
+use wc_text::{Items, NoMemory};
 
 /// The keys of a line, in the event and in the dump.
 const LINE_KEYS: &[u8] =
@@ -19,7 +20,7 @@ const LINE_KEYS: &[u8] =
 #[derive(Drop)]
 pub(crate) struct LineRow {
     pub buffer: u64,
-    pub line: MirrorLine,
+    pub line: PackedMirrorLine,
 }
 
 /// What a line's numbers say.
@@ -31,14 +32,6 @@ pub(crate) struct LineMarks {
     pub displayed: bool,
     pub notify: i8,
     pub highlight: bool,
-}
-
-/// What a line's texts say.
-#[derive(Drop)]
-pub(crate) struct LineTexts {
-    pub tags: Items<Text>,
-    pub prefix: Text,
-    pub message: Text,
 }
 
 /// What the values say that are numbers. None where one can not be that of a line.
@@ -89,42 +82,33 @@ fn line_texts_in(
     tags: &Object,
     prefix: &Object,
     message: &Object,
-) -> Result<Option<LineTexts>, NoMemory>
+) -> Result<Option<PackedTexts>, NoMemory>
     ensures { IfOk result (λ texts. texts ≡ line_texts_in tags.now prefix.now message.now) }
 {
     let Some(tags) = texts_in(alloc, tags)? else {
         return Ok(None);
     };
-    let Some(prefix) = text_copy(alloc, prefix)? else {
+    let Some(prefix) = text_in(prefix) else {
         return Ok(None);
     };
-    let Some(message) = text_copy(alloc, message)? else {
+    let Some(message) = text_in(message) else {
         return Ok(None);
     };
-    Ok(Some(LineTexts {
-        tags,
-        prefix,
-        message,
-    }))
+    let texts = PackedTexts::new(
+        alloc,
+        tags.as_slice(),
+        prefix.as_slice(),
+        message.as_slice(),
+    )?;
+    Ok(Some(texts))
 }
 
-fn row_with(content: u64, marks: LineMarks, texts: LineTexts) -> LineRow
+fn row_with(content: u64, marks: LineMarks, texts: PackedTexts) -> LineRow
     ensures { result ≡ row_with content marks texts }
 {
-    let line = MirrorLine {
-        content: Handle(content),
-        date: marks.date,
-        date_printed: marks.date_printed,
-        displayed: marks.displayed,
-        notify: marks.notify,
-        highlight: marks.highlight,
-        tags: texts.tags,
-        prefix: texts.prefix,
-        message: texts.message,
-    };
     LineRow {
         buffer: marks.buffer,
-        line,
+        line: PackedMirrorLine::new(content, marks, texts),
     }
 }
 

@@ -1,4 +1,5 @@
-use Rattle.std.proofs.Common.{◌≡◌, vec_len}
+use Rattle.std.proofs.Common.{◌≡◌}
+use Rattle.std.specs.VecDeque.{deque_len}
 use Rattle.wc_lines.specs.Ring.{last_of}
 use Rattle.wc_view.proofs.buffer_lines.keep_last.Given as goal
 
@@ -6,4 +7,4 @@ abbrev pub invariant-loop-lines : goal.invariant-loop-lines
 invariant-loop-lines l = last_of l.limit l.lines.items ≡ last_of l.limit l.initial.lines.items
 
 abbrev pub decreases-loop-lines : goal.decreases-loop-lines
-decreases-loop-lines l = vec_len l.lines
+decreases-loop-lines l = deque_len l.lines
