@@ -1,6 +1,6 @@
 -- What a client is told of lines: the event of a new line, and the dump of the lines that are held.
 use Rattle.std.specs.Prelude.{ℕ, ◌^◌, ◌-◌, ℤ, pos, Bool, nat_le, List, [], ◌∷◌, map, Some, codes}
-use Rattle.std.specs.Prelude.{if◌then◌else◌}
+use Rattle.std.specs.Prelude.{◌++◌, if◌then◌else◌}
 use Rattle.wc_text.specs.declared.names.Handle.{Handle}
 use Rattle.std.specs.List.{flat_map}
 use Rattle.wc_lines.specs.declared.line.Line.{Line}
@@ -27,10 +27,8 @@ texts tags = map (λ text. o.Str (Some text)) tags
 
 -- the keys of a line, in the event and in the dump
 abbrev pub line_keys : List ℕ
-line_keys
-    =
-    codes
-    "buffer:ptr,date:tim,date_printed:tim,displayed:chr,notify_level:chr,highlight:chr,tags_array:arr,prefix:str,message:str"
+line_keys = codes "buffer:ptr,date:tim,date_printed:tim,displayed:chr,notify_level:chr,"
+    ++ codes "highlight:chr,tags_array:arr,prefix:str,message:str"
 
 -- the values of a line of a buffer, in the order of the keys
 unfoldable pub line_values : Handle → Line → List Object

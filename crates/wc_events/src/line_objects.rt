@@ -16,7 +16,8 @@ pub const LINE_ADDED: &[u8] = b"_buffer_line_added";
 
 /// The keys of a line, in the event and in the dump.
 pub(crate) const LINE_KEYS: &[u8] =
-    b"buffer:ptr,date:tim,date_printed:tim,displayed:chr,notify_level:chr,highlight:chr,tags_array:arr,prefix:str,message:str";
+    b"buffer:ptr,date:tim,date_printed:tim,displayed:chr,notify_level:chr,highlight:chr,\
+tags_array:arr,prefix:str,message:str";
 
 /// How many values a line has.
 const LINE_VALUES: usize = 9;

@@ -1,5 +1,6 @@
 -- A nicklist that is read row by row.
-use Rattle.std.specs.Prelude.{◌≡◌, ℕ, ◌-◌, ◌<◌, ◌≤◌, length, Bool, true, false, Result, Ok, Err, List, [], ◌∷◌}
+use Rattle.std.specs.Prelude.{◌≡◌, ℕ, ◌-◌, ◌<◌, ◌≤◌, length, Bool, true, false, Result}
+use Rattle.std.specs.Prelude.{Ok, Err, List, [], ◌∷◌}
 use Rattle.std.specs.Prelude.{◌++◌, take, Option, Some, None, option_map, if◌then◌else◌}
 use Rattle.std.specs.List.{slice_get}
 use Rattle.std.specs.Ordering.{is_lt}

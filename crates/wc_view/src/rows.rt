@@ -14,7 +14,8 @@ use wc_text::{Items, NoMemory};
 
 /// The keys of a line, in the event and in the dump.
 const LINE_KEYS: &[u8] =
-    b"buffer:ptr,date:tim,date_printed:tim,displayed:chr,notify_level:chr,highlight:chr,tags_array:arr,prefix:str,message:str";
+    b"buffer:ptr,date:tim,date_printed:tim,displayed:chr,notify_level:chr,highlight:chr,\
+tags_array:arr,prefix:str,message:str";
 
 /// A line and the handle of its buffer.
 #[derive(Drop)]

@@ -233,7 +233,8 @@ fn keys_of(kind: EventKind) -> &'static [u8]
 {
     match kind {
         EventKind::Opened => {
-            b"number:int,full_name:str,short_name:str,hidden:int,title:str,local_variables:htb,prev_buffer:ptr,next_buffer:ptr"
+            b"number:int,full_name:str,short_name:str,hidden:int,title:str,local_variables:htb,\
+prev_buffer:ptr,next_buffer:ptr"
         }
         EventKind::Moved
         | EventKind::Merged
