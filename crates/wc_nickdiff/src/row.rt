@@ -55,10 +55,7 @@ pub(crate) fn copy_of(alloc: Global, list: &Nicklist) -> Result<Nicklist, NoMemo
     ensures rows { IfOk result (λ copy. copy.rows ≡ list.now.rows) }
 {
     let mut copy = Nicklist::new(alloc, list.root())?;
-    let Ok(()) = add_rows(alloc, &mut copy, list) else {
-        drop(copy);
-        return Err(NoMemory);
-    };
+    add_rows(alloc, &mut copy, list)?;
     Ok(copy)
 }
 

@@ -100,10 +100,7 @@ fn request_by(alloc: Global, call: Call<'_>, escaped: bool) -> Result<Option<Req
 fn request_under(alloc: Global, id: &[u8], command: Command) -> Result<Request, NoMemory>
     ensures { IfOk result (λ request. request ≡ record { id = id.now; command = command }) }
 {
-    let Ok(id) = Text::from_slice(alloc, id) else {
-        drop(command);
-        return Err(NoMemory);
-    };
+    let id = Text::from_slice(alloc, id)?;
     Ok(Request { id, command })
 }
 
