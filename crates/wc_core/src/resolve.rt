@@ -1,14 +1,16 @@
 ghost use Rattle.std.specs.Option.{option_copied};
-ghost use Rattle.std.specs.Prelude.{◌≡◌, IfOk, IfErr, false, ◌++◌, ℕ, ◌^◌, ◌-◌, min};
+ghost use Rattle.std.specs.Prelude.{◌≡◌, IfOk, IfErr, false, ◌++◌, [], ℕ, ◌^◌, ◌-◌, min};
 ghost use Rattle.wc_core.specs.Resolved.{Asks, Tells, no_such_buffer, change_of, buffer_meant};
 ghost use Rattle.wc_core.specs.Resolved.{of_meant, of_named, effect_of, line_spec, core_spec};
 ghost use Rattle.wc_core.specs.Resolved.{plugin_in, rename_of, told_refusal, first_of_number};
-ghost use Rattle.wc_core.specs.Resolved.{first_in};
+ghost use Rattle.wc_core.specs.Resolved.{first_in, null};
 ghost use Rattle.wc_core.specs.ResolvedSeen.{outcome_of};
 ghost use Rattle.wc_core.specs.Step.{is_quit};
 ghost use Rattle.wc_core.specs.Typed.{Merges, tags_of};
 ghost use Rattle.wc_core.specs.TypedSeen.{meaning, word_in};
+ghost use Rattle.wc_model.specs.declared.change.Change.{Change};
 ghost use Rattle.wc_model.specs.declared.change.What.TheVariants as what;
+ghost use Rattle.wc_text.specs.declared.names.Handle.{Handle};
 
 use crate::refusals::joined_texts;
 use crate::typed::{CommandText, read_number, read_tags};
@@ -45,50 +47,80 @@ fn no_such_buffer(alloc: Global) -> Result<Resolution, NoMemory>
     Ok(Resolution::Tells(text))
 }
 
-/// What is asked of the buffer that is named, or else of the one into which the line was typed.
-fn of_named(
-    alloc: Global,
-    buffers: &Buffers,
-    buffer: Handle,
-    name: Option<&[u8]>,
-    what: What,
-) -> Result<Resolution, NoMemory>
-    ensures { IfOk result (λ r. outcome_of r ≡ of_named buffers.now buffer (λ b. change_of b what)
-        (word_in name.entry)) }
+/// The buffer that is named, or else the one into which the line was typed. None where there is no
+/// such buffer.
+fn target(buffers: &Buffers, buffer: Handle, name: Option<&[u8]>) -> Option<Handle>
+    ensures { (change : Handle → Change) → of_meant change result
+        ≡ of_named buffers.now buffer change (word_in name.entry) }
 {
-    let Some(word) = name else {
-        return Ok(asks(buffer, what));
-    };
-    match buffer_meant(buffers, word) {
-        Some(buffer) => Ok(asks(buffer, what)),
-        None => no_such_buffer(alloc),
+    match name {
+        Some(word) => buffer_meant(buffers, word),
+        None => Some(buffer),
     }
 }
 
-/// The merge into the buffer that is named.
-fn merge(
-    alloc: Global,
-    buffers: &Buffers,
-    buffer: Handle,
-    name: &[u8],
-) -> Result<Resolution, NoMemory>
-    ensures { IfOk result (λ r. outcome_of r
-        ≡ of_meant (λ into. change_of buffer (what.MergeInto into))
-        (buffer_meant buffers.now name.now)) }
+/// What is asked of a buffer, where it is there.
+fn asks_there(alloc: Global, buffer: Option<Handle>, what: What) -> Result<Resolution, NoMemory>
+    ensures { IfOk result (λ r. outcome_of r ≡ of_meant (λ b. change_of b what) buffer) }
 {
-    match buffer_meant(buffers, name) {
+    match buffer {
+        Some(buffer) => Ok(asks(buffer, what)),
+        None => {
+            drop(what);
+            no_such_buffer(alloc)
+        }
+    }
+}
+
+/// The merge into another buffer, where that one is there.
+fn merge(alloc: Global, buffer: Handle, into: Option<Handle>) -> Result<Resolution, NoMemory>
+    ensures { IfOk result (λ r. outcome_of r
+        ≡ of_meant (λ into. change_of buffer (what.MergeInto into)) into) }
+{
+    match into {
         Some(into) => Ok(asks(buffer, What::MergeInto(into))),
         None => no_such_buffer(alloc),
     }
 }
 
-/// The change of a variable.
-fn set_var(alloc: Global, name: &[u8], value: &[u8]) -> Result<What, NoMemory>
-    ensures { IfOk result (λ w. w ≡ what.SetVar (record { name = name.now; value = value.now })) }
+/// The refusal whose text is these two.
+fn refuse(alloc: Global, front: &[u8], name: &[u8]) -> Result<Resolution, NoMemory>
+    ensures { IfOk result (λ r. outcome_of r ≡ Tells (front.now ++ name.now)) }
+{
+    let text = joined_texts(alloc, front, name)?;
+    Ok(Resolution::Tells(text))
+}
+
+fn set_short_name(alloc: Global, buffer: Handle, name: &[u8]) -> Result<Resolution, NoMemory>
+    ensures { IfOk result
+        (λ r. outcome_of r ≡ Asks (change_of buffer (what.ShortName name.now))) }
+{
+    let name = Text::from_slice(alloc, name)?;
+    Ok(asks(buffer, What::ShortName(name)))
+}
+
+fn set_title(alloc: Global, buffer: Handle, title: &[u8]) -> Result<Resolution, NoMemory>
+    ensures { IfOk result (λ r. outcome_of r ≡ Asks (change_of buffer (what.Title title.now))) }
+{
+    let title = Text::from_slice(alloc, title)?;
+    Ok(asks(buffer, What::Title(title)))
+}
+
+fn set_var(alloc: Global, buffer: Handle, name: &[u8], value: &[u8]) -> Result<Resolution, NoMemory>
+    ensures { IfOk result (λ r. outcome_of r ≡ Asks (change_of buffer
+        (what.SetVar (record { name = name.now; value = value.now })))) }
 {
     let name = Text::from_slice(alloc, name)?;
     let value = Text::from_slice(alloc, value)?;
-    Ok(What::SetVar(Pair { name, value }))
+    Ok(asks(buffer, What::SetVar(Pair { name, value })))
+}
+
+fn remove_var(alloc: Global, buffer: Handle, name: &[u8]) -> Result<Resolution, NoMemory>
+    ensures { IfOk result
+        (λ r. outcome_of r ≡ Asks (change_of buffer (what.RemoveVar name.now))) }
+{
+    let name = Text::from_slice(alloc, name)?;
+    Ok(asks(buffer, What::RemoveVar(name)))
 }
 
 /// What a line that was typed into a buffer at this moment, in milliseconds since 1970, comes to.
@@ -108,37 +140,35 @@ pub(crate) fn resolve(
     match asked {
         CommandText::Nothing => Ok(Resolution::Stays),
         CommandText::Quit => Ok(Resolution::Ends),
-        CommandText::Refused { front, name } => Ok(Resolution::Tells(joined_texts(
-            alloc, front, name,
-        )?)),
+        CommandText::Refused { front, name } => refuse(alloc, front, name),
         CommandText::Print {
             buffer: name,
             tags,
             prefix,
             message,
-        } => {
-            let line = print(alloc, moment, tags, prefix, message)?;
-            of_named(alloc, buffers, buffer, name, line)
+        } => print(
+            alloc,
+            target(buffers, buffer, name),
+            moment,
+            tags,
+            prefix,
+            message,
+        ),
+        CommandText::Add(name) => add(alloc, name),
+        CommandText::Close(name) => {
+            asks_there(alloc, target(buffers, buffer, name), What::Close)
         }
-        CommandText::Add(name) => Ok(asks(NULL, add(alloc, name)?)),
-        CommandText::Close(name) => of_named(alloc, buffers, buffer, name, What::Close),
         CommandText::MoveTo(number) => Ok(asks(buffer, What::MoveTo(number))),
-        CommandText::Merge(name) => merge(alloc, buffers, buffer, name),
+        CommandText::Merge(name) => merge(alloc, buffer, buffer_meant(buffers, name)),
         CommandText::Unmerge => Ok(asks(buffer, What::Unmerge)),
         CommandText::Hide => Ok(asks(buffer, What::Hide)),
         CommandText::Unhide => Ok(asks(buffer, What::Unhide)),
         CommandText::Clear => Ok(asks(buffer, What::Clear)),
-        CommandText::Name(name) => Ok(asks(buffer, rename(alloc, buffers, buffer, name)?)),
-        CommandText::ShortName(name) => Ok(asks(
-            buffer,
-            What::ShortName(Text::from_slice(alloc, name)?),
-        )),
-        CommandText::Title(title) => Ok(asks(buffer, What::Title(Text::from_slice(alloc, title)?))),
-        CommandText::SetVar { name, value } => Ok(asks(buffer, set_var(alloc, name, value)?)),
-        CommandText::RemoveVar(name) => Ok(asks(
-            buffer,
-            What::RemoveVar(Text::from_slice(alloc, name)?),
-        )),
+        CommandText::Name(name) => rename(alloc, buffers, buffer, name),
+        CommandText::ShortName(name) => set_short_name(alloc, buffer, name),
+        CommandText::Title(title) => set_title(alloc, buffer, title),
+        CommandText::SetVar { name, value } => set_var(alloc, buffer, name, value),
+        CommandText::RemoveVar(name) => remove_var(alloc, buffer, name),
     }
 }
 
@@ -165,21 +195,38 @@ fn line_spec(moment: u64, tags: Items<Text>, prefix: Text, message: Text) -> Lin
     }
 }
 
-/// The print of a line at this moment, in milliseconds since 1970. Commas part its tags.
-pub(crate) fn print(
+/// A line at this moment, in milliseconds since 1970. Commas part its tags.
+fn read_line_spec(
     alloc: Global,
     moment: u64,
     tags: &[u8],
     prefix: &[u8],
     message: &[u8],
-) -> Result<What, NoMemory>
-    ensures { IfOk result (λ w. w
-        ≡ what.Print (line_spec moment (tags_of tags.now) prefix.now message.now)) }
+) -> Result<LineSpec, NoMemory>
+    ensures { IfOk result
+        (λ line. line ≡ line_spec moment (tags_of tags.now) prefix.now message.now) }
 {
     let tags = read_tags(alloc, tags)?;
     let prefix = Text::from_slice(alloc, prefix)?;
     let message = Text::from_slice(alloc, message)?;
-    Ok(What::Print(line_spec(moment, tags, prefix, message)))
+    Ok(line_spec(moment, tags, prefix, message))
+}
+
+/// The print of a line on a buffer at this moment, in milliseconds since 1970, where the buffer is
+/// there.
+fn print(
+    alloc: Global,
+    buffer: Option<Handle>,
+    moment: u64,
+    tags: &[u8],
+    prefix: &[u8],
+    message: &[u8],
+) -> Result<Resolution, NoMemory>
+    ensures { IfOk result (λ r. outcome_of r ≡ of_meant (λ b. change_of b
+        (what.Print (line_spec moment (tags_of tags.now) prefix.now message.now))) buffer) }
+{
+    let line = read_line_spec(alloc, moment, tags, prefix, message)?;
+    asks_there(alloc, buffer, What::Print(line))
 }
 
 /// The print that tells a refusal: a line of the core buffer.
@@ -194,17 +241,25 @@ pub(crate) fn told_refusal(alloc: Global, moment: u64, text: Text) -> Result<Cha
 }
 
 /// A new buffer of the core.
-pub(crate) fn add(alloc: Global, name: &[u8]) -> Result<What, NoMemory>
-    ensures { IfOk result (λ w. w ≡ what.Add (core_spec name.now)) }
+fn read_core_spec(alloc: Global, name: &[u8]) -> Result<BufferSpec, NoMemory>
+    ensures { IfOk result (λ spec. spec ≡ core_spec name.now) }
 {
     let full_name = joined_texts(alloc, b"core.", name)?;
     let short_name = Text::from_slice(alloc, name)?;
-    Ok(What::Add(BufferSpec {
+    Ok(BufferSpec {
         full_name,
         short_name,
         title: Text::new(alloc),
         vars: Items::new(alloc),
-    }))
+    })
+}
+
+fn add(alloc: Global, name: &[u8]) -> Result<Resolution, NoMemory>
+    ensures { IfOk result
+        (λ r. outcome_of r ≡ Asks (change_of null (what.Add (core_spec name.now)))) }
+{
+    let spec = read_core_spec(alloc, name)?;
+    Ok(asks(NULL, What::Add(spec)))
 }
 
 /// What is before the first dot of a buffer's full name, or all of it.
@@ -218,21 +273,34 @@ fn plugin_in(row: Option<&BufferRow>) -> &[u8]
     }
 }
 
-/// Another name after the first dot of a buffer's full name.
-pub(crate) fn rename(
+/// A buffer's full name with another name after the first dot.
+fn renamed_text(
     alloc: Global,
     buffers: &Buffers,
     buffer: Handle,
     name: &[u8],
-) -> Result<What, NoMemory>
-    ensures { IfOk result (λ w. w ≡ rename_of buffers.now buffer name.now) }
+) -> Result<Text, NoMemory>
+    ensures { IfOk result
+        (λ text. what.Rename text [] ≡ rename_of buffers.now buffer name.now) }
 {
     let mut full_name = joined_texts(alloc, plugin_in(buffers.get(buffer)), b".")?;
     full_name.append(name)?;
-    Ok(What::Rename {
-        name: full_name,
-        flips: Items::new(alloc),
-    })
+    Ok(full_name)
+}
+
+/// Another name after the first dot of a buffer's full name.
+fn rename(
+    alloc: Global,
+    buffers: &Buffers,
+    buffer: Handle,
+    name: &[u8],
+) -> Result<Resolution, NoMemory>
+    ensures { IfOk result
+        (λ r. outcome_of r ≡ Asks (change_of buffer (rename_of buffers.now buffer name.now))) }
+{
+    let name = renamed_text(alloc, buffers, buffer, name)?;
+    let flips = Items::new(alloc);
+    Ok(asks(buffer, What::Rename { name, flips }))
 }
 
 /// The first buffer of the group of a number, which may be larger than the largest of its type.

@@ -105,12 +105,12 @@ fn give_nicks(
     out: &mut BytesMut,
     world: &World,
     id: &[u8],
-    buffer: &Option<Text>,
+    buffer: Option<Text>,
 ) -> Result<Outcome, NoMemory>
     requires { IsUtf8 id.now }
     ensures ok { IfOk result (λ outcome. (client : Client) →
         GivesAnswer out.old.items out.new.items outcome client
-        (replies client (reply id.now (nicklist_objects world.now buffer.now)))) }
+        (replies client (reply id.now (nicklist_objects world.now buffer)))) }
     ensures err { OnErr result (out.new.items ≡ out.old.items) }
 {
     let Some(name) = buffer else {
@@ -208,14 +208,16 @@ fn serve_sync(
     alloc: Global,
     client: &mut Client,
     world: &World,
-    names: &Items<Text>,
-    options: &Option<Items<Text>>,
+    names: Items<Text>,
+    options: Option<Items<Text>>,
 ) -> Result<Outcome, NoMemory>
     ensures ok { IfOk result (λ outcome. IsQuiet outcome client.new
-        (silent (synchronized world.now.groups client.old names.now options.now))) }
+        (silent (synchronized world.now.groups client.old names options))) }
     ensures err { OnErr result (client.new ≡ client.old) }
 {
-    synchronize(alloc, client, world.buffers(), names, options)?;
+    let made = synchronize(alloc, client, world.buffers(), &names, &options);
+    drop(options);
+    made?;
     Ok(Outcome::Silent)
 }
 
@@ -223,13 +225,14 @@ fn serve_sync(
 fn serve_desync(
     client: &mut Client,
     world: &World,
-    names: &Items<Text>,
-    options: &Option<Items<Text>>,
+    names: Items<Text>,
+    options: Option<Items<Text>>,
 ) -> Outcome
     ensures { IsQuiet result client.new
-        (silent (desynchronized world.now.groups client.old names.now options.now)) }
+        (silent (desynchronized world.now.groups client.old names options)) }
 {
-    desynchronize(client, world.buffers(), names, options);
+    desynchronize(client, world.buffers(), &names, &options);
+    drop(options);
     Outcome::Silent
 }
 
@@ -259,11 +262,11 @@ fn serve_command(
         }
         Command::Info(name) => give_info(alloc, out, id, name),
         Command::Infolist(name) => give_infolist(alloc, out, id, name),
-        Command::Nicklist(buffer) => give_nicks(alloc, out, world, id, &buffer),
+        Command::Nicklist(buffer) => give_nicks(alloc, out, world, id, buffer),
         Command::Completion { .. } => give_null(alloc, out, id),
         Command::Input { buffer, text } => Ok(input(world.buffers(), buffer.as_slice(), text)),
-        Command::Sync { buffers, options } => serve_sync(alloc, client, world, &buffers, &options),
-        Command::Desync { buffers, options } => Ok(serve_desync(client, world, &buffers, &options)),
+        Command::Sync { buffers, options } => serve_sync(alloc, client, world, buffers, options),
+        Command::Desync { buffers, options } => Ok(serve_desync(client, world, buffers, options)),
         Command::Test => give_test(alloc, out, id),
         Command::Ping(text) => give_pong(alloc, out, text),
         Command::Quit => Ok(Outcome::Leave(Cause::Quit)),
@@ -287,9 +290,10 @@ pub fn serve(
     ensures err { OnErr result (out.new.items ≡ out.old.items) }
     ensures still { OnErr result (client.new ≡ client.old) }
 {
-    let Request { id, command } = request;
-    if !client.logged_in && !is_open(&command) {
+    if !client.logged_in && !is_open(&request.command) {
+        drop(request);
         return Ok(Outcome::Leave(Cause::LoginFailed));
     }
+    let Request { id, command } = request;
     serve_command(alloc, out, client, world, password, id.as_slice(), command)
 }
