@@ -26,6 +26,7 @@ pub(crate) fn insert(held: &mut Held, h: Handle, lines: Lines)
     ensures { (q : ℕ) → held_at held.new q ≡ (if nat_eq h.0 q then Some lines
         else held_at held.old q) }
 {
+    // There is room, so that it is put in.
     drop(held.insert(h.0, lines));
 }
 

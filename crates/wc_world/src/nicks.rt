@@ -31,6 +31,7 @@ pub(crate) fn insert(lists: &mut Lists, h: Handle, list: Nicklist)
     ensures { (q : ℕ) → list_at lists.new q ≡ (if nat_eq h.0 q then Some list
         else list_at lists.old q) }
 {
+    // There is room, so that it is put in.
     drop(lists.insert(h.0, list));
 }
 
