@@ -2,9 +2,9 @@
 
 use crate::escapes::show_text;
 use std::alloc::{AllocError, Global};
-use wc_lines::{Line, Lines};
-use wc_text::{Handle, Text};
-use wc_view::{Mirror, MirrorLine};
+use wc_lines::{Lines, PackedLine, TagIter};
+use wc_text::Handle;
+use wc_view::{Mirror, MirrorLineIter, PackedMirrorLine};
 use wc_world::World;
 
 /// Handles are shown up to this one: those of 256 buffers and of some lines.
@@ -34,28 +34,28 @@ fn show_line(out: &mut String, buffer: Handle, line: &LineView<'_>) -> Result<()
     out.push_str(if line.highlight { ", highlight" } else { "" })
 }
 
-fn show_tags(out: &mut String, tags: &[Text]) -> Result<(), AllocError> {
-    write!(out, ", {} tags", tags.len())?;
+fn show_tags(out: &mut String, count: usize, tags: TagIter<'_>) -> Result<(), AllocError> {
+    write!(out, ", {count} tags")?;
     for tag in tags {
         out.push(' ')?;
-        show_text(out, tag.as_slice())?;
+        show_text(out, tag)?;
     }
     out.push('\n')
 }
 
-fn show_of_world(out: &mut String, buffer: Handle, line: &Line) -> Result<(), AllocError> {
+fn show_of_world(out: &mut String, buffer: Handle, line: &PackedLine) -> Result<(), AllocError> {
     let view = LineView {
-        content: line.content,
-        date: line.date,
-        date_printed: line.date_printed,
-        displayed: line.displayed,
-        notify: line.notify,
-        highlight: line.highlight,
-        prefix: line.prefix.as_slice(),
-        message: line.message.as_slice(),
+        content: line.content(),
+        date: line.date(),
+        date_printed: line.date_printed(),
+        displayed: line.displayed(),
+        notify: line.notify(),
+        highlight: line.highlight(),
+        prefix: line.prefix(),
+        message: line.message(),
     };
     show_line(out, buffer, &view)?;
-    show_tags(out, line.tags.as_slice())
+    show_tags(out, line.tags_len(), line.tags())
 }
 
 fn show_lines_of_world(out: &mut String, buffer: Handle, lines: &Lines) -> Result<(), AllocError> {
@@ -85,25 +85,29 @@ pub fn world_lines(alloc: Global, world: &World) -> Result<String, AllocError> {
     Ok(out)
 }
 
-fn show_of_mirror(out: &mut String, buffer: Handle, line: &MirrorLine) -> Result<(), AllocError> {
+fn show_of_mirror(
+    out: &mut String,
+    buffer: Handle,
+    line: &PackedMirrorLine,
+) -> Result<(), AllocError> {
     let view = LineView {
-        content: line.content,
-        date: line.date,
-        date_printed: line.date_printed,
-        displayed: line.displayed,
-        notify: line.notify,
-        highlight: line.highlight,
-        prefix: line.prefix.as_slice(),
-        message: line.message.as_slice(),
+        content: line.content(),
+        date: line.date(),
+        date_printed: line.date_printed(),
+        displayed: line.displayed(),
+        notify: line.notify(),
+        highlight: line.highlight(),
+        prefix: line.prefix(),
+        message: line.message(),
     };
     show_line(out, buffer, &view)?;
-    show_tags(out, line.tags.as_slice())
+    show_tags(out, line.tags_len(), line.tags())
 }
 
 fn show_lines_of_mirror(
     out: &mut String,
     buffer: Handle,
-    lines: &[MirrorLine],
+    lines: MirrorLineIter<'_>,
 ) -> Result<(), AllocError> {
     for line in lines {
         show_of_mirror(out, buffer, line)?;
