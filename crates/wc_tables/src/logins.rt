@@ -1,5 +1,7 @@
 //! Calls on the logins of relay clients.
 
+ghost use Rattle.std.specs.Prelude.{◌≤◌, IfOk};
+
 use std::alloc::{AllocError, Global};
 use wc_notation::{Wrong, cut_word, put_either, two_texts, unescape};
 use wc_relaycmd::{
@@ -134,7 +136,9 @@ fn put_digits(out: &mut String, bytes: &[u8]) -> Result<(), AllocError> {
     Ok(())
 }
 
-fn rounds_of(word: &str) -> Result<u32, Wrong> {
+fn rounds_of(word: &str) -> Result<u32, Wrong>
+    ensures { IfOk result (λ rounds. 1 ≤ rounds) }
+{
     match word.parse::<u32>() {
         Ok(rounds) if rounds > 0 => Ok(rounds),
         _ => Err(Wrong::Number),
