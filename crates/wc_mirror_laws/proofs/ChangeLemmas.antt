@@ -32,6 +32,7 @@ use Rattle.wc_mirror_laws.proofs.ClientLemmas.{following-heard, first-heard, tol
 use Rattle.wc_mirror_laws.proofs.IdLemmas.{id_free}
 use Rattle.wc_mirror_laws.proofs.HeldLemmas.{change_right, told_follows}
 use Rattle.wc_mirror_laws.proofs.NoticeLemmas.{telling}
+use Rattle.wc_mirror_laws.proofs.PrintLemmas.{level_fits}
 use Rattle.wc_mirror_laws.proofs.TellingLemmas.{AllSpelt, event_spelt}
 use Rattle.wc_mirror_laws.proofs.TypedLemmas.{OnAsks, typed_text, resolved_told}
 use Rattle.wc_mirror_laws.proofs.WorldLemmas.{IsTold, after_kept}
@@ -128,7 +129,7 @@ Tells-changes which limit link id state change free kept told good =
 Tells-tells : (which : HeldPart) (limit link : ℕ) (id : List ℕ) (state : State) (text : List ℕ) → BeginsWithout 95 id → IsStateKept limit link state → Tells which limit link id state (refusal_step state text)
 Tells-tells which limit link id state text free kept = by (refusal state.world (told_refusal state.moment text)) refl where
   by : (o : Option ChangeRefused) → refusal state.world (told_refusal state.moment text) ≡ o → Tells which limit link id state (change_step_if state (told_refusal state.moment text) o)
-  by None good = Tells-changes which limit link id state (told_refusal state.moment text) free kept (All-nil IsUtf8, refl) good
+  by None good = Tells-changes which limit link id state (told_refusal state.moment text) free kept (All-nil IsUtf8, level_fits [] false) good
   by (Some reason) good = Tells-stays which limit link id state kept
 
 -- ---- what is typed

@@ -1,6 +1,8 @@
 -- A line that is printed is short.
 use Rattle.std.proofs.Common.{◌≡◌, ℕ, ◌+◌, ◌≤◌, ◌^◌, Bool, true, false, cond, ◌||◌, ltb, List, [], ◌∷◌, length, sum_by, All, refl, sym, subst, arith, IsUtf8}
-use Rattle.std.specs.Prelude.{pos}
+use Rattle.std.specs.Prelude.{ℤ, pos, negsuc, codes}
+use Rattle.std.specs.Int.{w8}
+use Rattle.std.specs.Int.RustNames.{FitsSigned}
 use Rattle.std.proofs.lemmas.Bool.Decides.{nat_tests}
 use Rattle.std.proofs.lemmas.List.{length-take}
 use Rattle.std.proofs.lemmas.List.Elements.{All-take}
@@ -11,6 +13,7 @@ use Rattle.wc_buffers.specs.Vars.{cut_to}
 use Rattle.wc_world.proofs.CutTags.{cut_tags_front}
 use Rattle.wc_model.specs.declared.change.LineSpec.{LineSpec}
 use Rattle.wc_model.specs.LineCuts.{tags_from, cut_tags, line_of}
+use Rattle.wc_model.specs.Levels.{has_tag, highlight_of, notify_of}
 use Rattle.wc_mirror_laws.specs.Printed.{IsPrinted}
 
 tags_few : (count size : ℕ) (tags : List (List ℕ)) → count ≤ 32 → count + length (tags_from count size tags) ≤ 32
@@ -40,7 +43,7 @@ tags_short count size (tag ∷ tags) most = by (ltb 32 (count + 1)) (ltb 256 (si
 cut_size : (text : List ℕ) (limit : ℕ) → length (cut_to limit text) ≤ limit
 cut_size text limit = omega (arith, length-take (cut_of text limit) text, cut_within text limit)
 
-pub line_printed : (next : ℕ) (spec : LineSpec) → next ≤ 2 ^ 62 → All IsUtf8 spec.tags → spec.notify ≡ pos 0 → IsPrinted (line_of next spec)
+pub line_printed : (next : ℕ) (spec : LineSpec) → next ≤ 2 ^ 62 → All IsUtf8 spec.tags → FitsSigned w8 spec.notify → IsPrinted (line_of next spec)
 line_printed next spec below tags level = record {
   handle = omega arith;
   content = omega arith;
@@ -55,3 +58,17 @@ line_printed next spec below tags level = record {
     message = cut_utf8 spec.message 1024;
   };
 }
+
+-- ---- the levels
+
+level_by : (highlight none message private : Bool) → FitsSigned w8 (cond highlight (pos 3) (cond none (negsuc 0) (cond message (pos 1) (cond private (pos 2) (pos 0)))))
+level_by true none message private = record { sfits = omega arith }
+level_by false true message private = record { sfits = omega arith }
+level_by false false true private = record { sfits = omega arith }
+level_by false false false true = record { sfits = omega arith }
+level_by false false false false = record { sfits = omega arith }
+
+pub level_fits : (tags : List (List ℕ)) (calls_user : Bool) → FitsSigned w8 (notify_of tags calls_user)
+unfolding notify_of
+level_fits tags calls_user =
+    level_by (highlight_of tags calls_user) (has_tag (codes "notify_none") tags) (has_tag (codes "notify_message") tags) (has_tag (codes "notify_private") tags)

@@ -25,6 +25,7 @@ use Rattle.wc_core.specs.Typed.{TypedCommand, Nothing, Quits, Refused, Prints, A
 use Rattle.wc_mirror_laws.specs.Worlds.{IsBufferKept, IsWorldKept}
 use Rattle.wc_mirror_laws.proofs.ListLemmas.{all_filter}
 use Rattle.wc_mirror_laws.proofs.RowLemmas.{row_has}
+use Rattle.wc_mirror_laws.proofs.PrintLemmas.{level_fits}
 use Rattle.wc_mirror_laws.proofs.WorldLemmas.{IsTold}
 
 -- ---- parts of a text
@@ -271,7 +272,7 @@ resolved_told limit w moment buffer Nothing is text = tt
 resolved_told limit w moment buffer Quits is text = tt
 resolved_told limit w moment buffer (Refused told) is text = tt
 resolved_told limit w moment buffer (Prints name tags prefix message) is text =
-    named_told w.groups buffer (λ b. change_of b (what.Print (line_spec moment tags prefix message))) name (λ h. (All-from_recursion IsUtf8 tags text, refl))
+    named_told w.groups buffer (λ b. change_of b (what.Print (line_spec moment tags prefix message))) name (λ h. (All-from_recursion IsUtf8 tags text, level_fits tags false))
 resolved_told limit w moment buffer (Adds name) is text = (IsUtf8-append (codes "core.") name core_text text, text, IsUtf8-nil, All-nil IsText)
 resolved_told limit w moment buffer (Closes name) is text = named_told w.groups buffer (λ b. change_of b what.Close) name (λ h. tt)
 resolved_told limit w moment buffer (Merges name) is text = meant_told (λ into. change_of buffer (what.MergeInto into)) (buffer_meant w.groups name) (λ h. tt)

@@ -53,9 +53,6 @@ flag_within : (on : Bool) → FitsSigned w32 (truth on)
 flag_within true = record { sfits = omega arith }
 flag_within false = record { sfits = omega arith }
 
-notify_within : (n : ℤ) → n ≡ pos 0 → FitsSigned w8 n
-notify_within n e = subst (FitsSigned w8) (sym e) (record { sfits = omega arith })
-
 -- ---- values
 
 value_tim : (n : ℤ) → FitsSigned w64 n → ValueWithin (o.Tim n)
@@ -124,7 +121,7 @@ values_within buffer line small is = (
       (
         value_chr (truth line.displayed) (truth_within line.displayed),
         (
-          value_chr line.notify (notify_within line.notify is.notify),
+          value_chr line.notify is.notify,
           (value_chr (truth line.highlight) (truth_within line.highlight), (value_texts line.tags, (value_str line.prefix, (value_str line.message, tt)))),
         ),
       ),

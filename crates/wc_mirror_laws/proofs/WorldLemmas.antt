@@ -1,6 +1,7 @@
 -- What always holds of the world holds still after a change.
 use Rattle.std.proofs.Common.{◌≡◌, ℕ, ◌+◌, ◌-◌, ◌<◌, ◌≤◌, ◌^◌, Bool, true, false, cond, ◌&&◌, eqb, ltb, List, [], ◌∷◌, ◌++◌, length, map, All, Option, Some, None, unwrap_or, is_some, refl, sym, ap, subst, ◌∙◌, arith, eq-eqb, eqb-true, IsUtf8, map-id}
-use Rattle.std.specs.Prelude.{pos}
+use Rattle.std.specs.Int.{w8}
+use Rattle.std.specs.Int.RustNames.{FitsSigned}
 use Rattle.std.specs.List.{AllByRecursion}
 use Rattle.std.specs.FinMap.{find as find_entry, get, insert, remove, empty, entries, get-insert, get-remove, get-empty, get-entries, get-from_entries}
 use Rattle.std.specs.Ordering.{nat_cmp, eq_by_cmp}
@@ -63,7 +64,7 @@ IsTold (ShortName name) = IsUtf8 name
 IsTold (Title title) = Unit {0}
 IsTold (SetVar var) = IsUtf8 var.name
 IsTold (RemoveVar name) = Unit {0}
-IsTold (Print line) = All IsUtf8 line.tags × (line.notify ≡ pos 0)
+IsTold (Print line) = All IsUtf8 line.tags × FitsSigned w8 line.notify
 IsTold Clear = Unit {0}
 IsTold (Flips flips) = ⊥
 IsTold (AddGroup parent item) = ⊥
@@ -210,7 +211,7 @@ there_or_none w limit k ms is there q lacks = by (eqb q k) refl where
 last_within : {X : Type 0} (n : ℕ) (xs : List X) → length (last_of n xs) ≤ n
 last_within n xs = omega (arith, length-drop (length xs - n) xs)
 
-print_kept : (limit : ℕ) (w : World) (h : Handle) (spec : LineSpec) → IsWorldKept limit w → is_there h w.groups ≡ true → w.next + 2 ≤ 2 ^ 62 + 1 → All IsUtf8 spec.tags → spec.notify ≡ pos 0
+print_kept : (limit : ℕ) (w : World) (h : Handle) (spec : LineSpec) → IsWorldKept limit w → is_there h w.groups ≡ true → w.next + 2 ≤ 2 ^ 62 + 1 → All IsUtf8 spec.tags → FitsSigned w8 spec.notify
     → IsWorldKept limit (record (with_lines w h (last_of w.limit (lines_at w h.0 ++ line_of w.next spec ∷ []))) { next = w.next + 2 })
 print_kept limit w h spec is there room tags level =
     let all = lines_at w h.0 ++ line_of w.next spec ∷ [] in
