@@ -1,0 +1,192 @@
+-- Verdicts as they are kept, each under the bytes of its text.
+use Rattle.std.proofs.Common.{◌-◌, ◌^◌, ◌<◌, length, Bor, Result, Ok, Err, IsOk, OnOk, option_copied, ◌≡◌, ◌≤◌, ◌+◌, ℕ, suc, Bool, true, false, cond, List, [], ◌∷◌, ◌++◌, map, Option, Some, None, option_map, refl, ap, sym, subst, ◌∙◌, bytes_eq, is_some, IfSome, arith}
+use Rattle.std.proofs.lemmas.Option.{none-some, same_Some}
+use Rattle.std.proofs.lemmas.Bool.{false≢true}
+use Rattle.std.proofs.lemmas.List.{length-map, length-append}
+use Rattle.std.specs.Map.{lookup}
+use Rattle.std.specs.Cmp.Lexicographic.{bytes_decides}
+use Rattle.std.specs.declared.alloc.Global.{Global}
+use Rattle.std.specs.declared.vec.Vec.{Vec}
+use Rattle.indexmap.specs.IndexMap.{insert_entry}
+use Rattle.regex.specs.declared.string.regex.Regex.{Regex}
+use Rattle.wc_eval.specs.declared.verdict.Verdict.{Verdict}
+use Rattle.wc_eval.specs.declared.verdict.Verdict.TheVariants.{Fine, Syntax, Other}
+use Rattle.wc_eval.specs.declared.verdict.Judgement.{Judgement}
+use Rattle.wc_eval.specs.declared.verdict.Judgement.TheVariants as judged
+use Rattle.wc_eval.specs.Verdicts.{VerdictsView, Judges, Stay, IsCaused, verdict_on, verdict_in, others_in, one_if_other, AreOnce, is_fine, is_fine_by}
+use Rattle.wc_eval.specs.Built.{Kept, AreBuilt, IsJudgementOf, IsBuiltOf, rows_of, verdict_of, regex_of}
+
+abbrev pub Rows : Type 0
+Rows = List (List ℕ × Verdict)
+
+by_bool : (b : Bool) (P : Type 0) → (b ≡ true → P) → (b ≡ false → P) → P
+by_bool true P t f = t refl
+by_bool false P t f = f refl
+
+-- ---- looking up
+
+pub found_verdict : (text : List ℕ) (es : Kept) →
+    option_map verdict_of (lookup (λ k. bytes_eq text k.items) es) ≡ verdict_in text (rows_of es)
+found_verdict text [] = refl
+found_verdict text (e ∷ es) = by_bool (bytes_eq text e.0.items) _
+    (λ t. rw t refl)
+    (λ t. rw t (found_verdict text es))
+
+pub found_built : (text : List ℕ) (es : Kept) (j : Judgement) → AreBuilt es →
+    lookup (λ k. bytes_eq text k.items) es ≡ Some j → IsJudgementOf text j
+found_built text [] j built e = absurd (none-some j e)
+found_built text (e ∷ es) j built found = by_bool (bytes_eq text e.0.items) _
+    (λ t. let is : e.1 ≡ j = same_Some _ _ (rw t at found) in
+    subst (λ x. IsJudgementOf text x) is (subst (λ x. IsJudgementOf x e.1) (sym ((bytes_decides text e.0.items).0 t)) built.0))
+    (λ t. found_built text es j built.1 (rw t at found))
+
+pub regex_built : (text : List ℕ) (j : Judgement) → IsJudgementOf text j → IfSome (regex_of j) (IsBuiltOf text)
+regex_built text (judged.Built r) built = built
+regex_built text judged.Syntax built = tt
+regex_built text judged.Other built = tt
+
+pub regex_there : (j : Judgement) → is_some (regex_of j) ≡ is_fine (verdict_of j)
+regex_there (judged.Built r) = refl
+regex_there judged.Syntax = refl
+regex_there judged.Other = refl
+
+-- ---- one more at the end
+
+pub entry_new : (key : Vec ℕ Global) (j : Judgement) (es : Kept) → verdict_in key.items (rows_of es) ≡ None →
+    insert_entry (λ a b. bytes_eq a.items b.items) es key j ≡ es ++ (key, j) ∷ []
+entry_new key j [] new = refl
+entry_new key j (e ∷ es) new = by_bool (bytes_eq key.items e.0.items) _
+    (λ t. absurd (none-some _ (sym (rw t at new))))
+    (λ t. rw t (ap (λ l. e ∷ l) (entry_new key j es (rw t at new))))
+
+pub rows_push : (es : Kept) (key : Vec ℕ Global) (j : Judgement) →
+    rows_of (es ++ (key, j) ∷ []) ≡ rows_of es ++ (key.items, verdict_of j) ∷ []
+rows_push [] key j = refl
+rows_push (e ∷ es) key j = ap (λ l. (e.0.items, verdict_of e.1) ∷ l) (rows_push es key j)
+
+pub built_push : (es : Kept) (key : Vec ℕ Global) (j : Judgement) → AreBuilt es → IsJudgementOf key.items j →
+    AreBuilt (es ++ (key, j) ∷ [])
+built_push [] key j built one = (one, tt)
+built_push (e ∷ es) key j built one = (built.0, built_push es key j built.1 one)
+
+pub others_push : (rows : Rows) (text : List ℕ) (v : Verdict) →
+    others_in (rows ++ (text, v) ∷ []) ≡ others_in rows + one_if_other v
+others_push [] text v = omega arith
+others_push (r ∷ rows) text v = let e = others_push rows text v in omega (arith, e)
+
+-- the verdict on a text, after another text got one
+pub verdict_new : (rows : Rows) (text : List ℕ) (v : Verdict) → verdict_in text rows ≡ None →
+    verdict_in text (rows ++ (text, v) ∷ []) ≡ Some v
+verdict_new [] text v none = rw ((bytes_decides text text).1 refl) refl
+verdict_new (r ∷ rows) text v none = by_bool (bytes_eq text r.0) _
+    (λ t. absurd (none-some _ (sym (rw t at none))))
+    (λ t. rw t (verdict_new rows text v (rw t at none)))
+
+pub verdict_stays : (rows : Rows) (row : List ℕ × Verdict) (text : List ℕ) →
+    IfSome (verdict_in text rows) (λ v. verdict_in text (rows ++ row ∷ []) ≡ Some v)
+verdict_stays [] row text = tt
+verdict_stays (r ∷ rows) row text = by_bool (bytes_eq text r.0) _
+    (λ t. rw t refl)
+    (λ t. rw t (verdict_stays rows row text))
+
+-- a text without a verdict that is not the new one has none
+none_more : (rows : Rows) (row : List ℕ × Verdict) (text : List ℕ) → verdict_in text rows ≡ None →
+    bytes_eq text row.0 ≡ false → verdict_in text (rows ++ row ∷ []) ≡ None
+none_more [] row text none other = rw other refl
+none_more (r ∷ rows) row text none other = by_bool (bytes_eq text r.0) _
+    (λ t. absurd (none-some _ (sym (rw t at none))))
+    (λ t. rw t (none_more rows row text (rw t at none) other))
+
+other_text : (rows : Rows) (r : List ℕ × Verdict) (text : List ℕ) → verdict_in text (r ∷ rows) ≡ None → bytes_eq r.0 text ≡ false
+other_text rows r text none = by_bool (bytes_eq r.0 text) _
+    (λ t. let back : bytes_eq text r.0 ≡ true = (bytes_decides text r.0).1 (sym ((bytes_decides r.0 text).0 t)) in
+    absurd (none-some _ (sym (rw back at none))))
+    (λ t. t)
+
+none_after : (rows : Rows) (r : List ℕ × Verdict) (text : List ℕ) → verdict_in text (r ∷ rows) ≡ None → verdict_in text rows ≡ None
+none_after rows r text none = by_bool (bytes_eq text r.0) _
+    (λ t. absurd (none-some _ (sym (rw t at none))))
+    (λ t. rw t at none)
+
+pub once_push : (rows : Rows) (text : List ℕ) (v : Verdict) → AreOnce rows → verdict_in text rows ≡ None →
+    AreOnce (rows ++ (text, v) ∷ [])
+once_push [] text v once none = (refl, tt)
+once_push (r ∷ rows) text v once none =
+    (none_more rows (text, v) r.0 once.0 (other_text rows r text none), once_push rows text v once.1 (none_after rows r text none))
+
+-- ---- what the look-ups answer
+
+pub got_verdict : (text key : List ℕ) (es : Kept) (o : Option Judgement) (found : Option Verdict) →
+    o ≡ lookup (λ k. bytes_eq key k.items) es → key ≡ text → found ≡ option_map verdict_of o →
+    found ≡ verdict_in text (rows_of es)
+got_verdict text key es o found is same e =
+    e ∙ ap (option_map verdict_of) (is ∙ ap (λ t. lookup (λ k. bytes_eq t k.items) es) same) ∙ found_verdict text es
+
+pub lent_built : (text key : List ℕ) (es : Kept) (j : Judgement) (r : Option (Bor Regex)) →
+    Some j ≡ lookup (λ k. bytes_eq key k.items) es → key ≡ text → AreBuilt es → option_copied r ≡ regex_of j →
+    IfSome r (λ x. IsBuiltOf text x.now)
+lent_built text key es j r is same built e =
+    lent r (subst (λ o. IfSome o (IsBuiltOf text)) (sym e)
+    (regex_built text j (found_built text es j built (sym (is ∙ ap (λ t. lookup (λ k. bytes_eq t k.items) es) same)))))
+  where
+    lent : (r : Option (Bor Regex)) → IfSome (option_copied r) (IsBuiltOf text) → IfSome r (λ x. IsBuiltOf text x.now)
+    lent None built = tt
+    lent (Some x) built = built
+
+pub lent_there : (text key : List ℕ) (es : Kept) (j : Judgement) (r : Option (Bor Regex)) →
+    Some j ≡ lookup (λ k. bytes_eq key k.items) es → key ≡ text → option_copied r ≡ regex_of j →
+    is_some r ≡ is_fine_by (verdict_in text (rows_of es))
+lent_there text key es j r is same e =
+    lent r ∙ ap is_some e ∙ regex_there j ∙ ap is_fine_by (got_verdict text key es (Some j) (Some (verdict_of j)) is same refl)
+  where
+    lent : (r : Option (Bor Regex)) → is_some r ≡ is_some (option_copied r)
+    lent None = refl
+    lent (Some x) = refl
+
+pub ok_holds : {A E X : Type 0} (r : Result A E) → IsOk r → OnOk r X → X
+ok_holds (Ok x) ok holds = holds
+ok_holds (Err x) ok holds = absurd (false≢true ok)
+
+-- ---- a text is judged
+
+others_few : (rows : Rows) → others_in rows ≤ length rows
+others_few [] = omega arith
+others_few (r ∷ rows) = by r.1 (others_few rows)
+  where
+    by : (v : Verdict) → others_in rows ≤ length rows → one_if_other v + others_in rows ≤ suc (length rows)
+    by Fine few = omega (arith, few)
+    by Syntax few = omega (arith, few)
+    by Other few = omega (arith, few)
+
+counted : (rows : Rows) (v : Verdict) (text : List ℕ) (before now : ℕ) → others_in rows ≤ before → length rows + 1 < 2 ^ 64 →
+    before ≤ now → IsCaused before now text v → others_in rows + one_if_other v ≤ now
+counted rows Fine text before now most few later caused = omega (arith, most, later)
+counted rows Syntax text before now most few later caused = omega (arith, most, later)
+counted rows Other text before now most few later caused = let all = others_few rows in omega (arith, most, few, caused, all)
+
+pub others_kept : (es : Kept) (key : Vec ℕ Global) (j : Judgement) (text : List ℕ) (before now : ℕ) →
+    others_in (rows_of es) ≤ before → length (es ++ (key, j) ∷ []) < 2 ^ 64 → before ≤ now →
+    IsCaused before now text (verdict_of j) → others_in (rows_of (es ++ (key, j) ∷ [])) ≤ now
+others_kept es key j text before now most few later caused =
+    let long : length (rows_of es) ≡ length es = length-map _ _ in
+    let more : length (es ++ (key, j) ∷ []) ≡ length es + 1 = length-append es _ in
+    rw (rows_push es key j, others_push (rows_of es) key.items (verdict_of j))
+    (counted (rows_of es) (verdict_of j) text before now most (omega (arith, few, long, more)) later caused)
+
+stay_push : (old new : VerdictsView) (row : List ℕ × Verdict) → new.rows ≡ old.rows ++ row ∷ [] → old.others ≤ new.others → Stay old new
+stay_push old new row is later = record {
+  rows = λ text. subst (λ rows. IfSome (verdict_in text old.rows) (λ v. verdict_in text rows ≡ Some v)) (sym is) (verdict_stays old.rows row text);
+  others = later;
+}
+
+pub judges_new : (old new : VerdictsView) (key text : List ℕ) (v : Verdict) → key ≡ text → verdict_on text old ≡ None →
+    new.rows ≡ old.rows ++ (key, v) ∷ [] → old.others ≤ new.others → IsCaused old.others new.others text v →
+    Judges text old new v
+judges_new old new key text v is none pushed later caused =
+    let grown : new.rows ≡ old.rows ++ (text, v) ∷ [] = pushed ∙ ap (λ t. old.rows ++ (t, v) ∷ []) is in
+    record {
+      answer = ap (verdict_in text) grown ∙ verdict_new old.rows text v none;
+      known = subst (λ o. IfSome o (λ _. new ≡ old)) (sym none) tt;
+      caused = λ _. caused;
+      stay = stay_push old new (text, v) grown later;
+    }
