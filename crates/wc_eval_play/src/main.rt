@@ -23,7 +23,7 @@ fn print_table(rt: &HostRuntime, name: &str) -> io::Result<()> {
     let text = fs::read_to_string(rt, name)?;
     match played(rt.alloc(), text.as_str()) {
         Ok(answers) => print!(rt; "== {name}\n{answers}"),
-        Err(wrong) => print!(rt; "== {name}\n! {}\n", wrong.told()),
+        Err(wrong) => print!(rt; "== {name}\n! {}\n", wrong.as_str()),
     }
 }
 
