@@ -1,5 +1,6 @@
 -- The signs at the front of what is left of an expression.
-use Rattle.std.specs.Prelude.{ℕ, List, [], ◌∷◌, ◌==◌, ◌&&◌, if◌then◌else◌, drop, Option, Some, None}
+use Rattle.std.specs.Prelude.{ℕ, List, [], ◌∷◌, ◌==◌, ◌&&◌, if◌then◌else◌}
+use Rattle.std.specs.Prelude.{drop, Option, Some, None}
 use Rattle.wc_text.specs.Splits.{begins_with}
 use Rattle.wc_eval.specs.declared.operator.Operator.{Operator}
 use Rattle.wc_eval.specs.declared.operator.Operator.TheVariants.{Add, Subtract, Multiply, Divide}

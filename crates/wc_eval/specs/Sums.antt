@@ -1,7 +1,8 @@
 -- Expressions of whole numbers: how they are written, and what they are worth.
 use Rattle.std.specs.Prelude.{◌≡◌, ℕ, zero, suc, ◌≤◌, ◌^◌}
 use Rattle.std.specs.Prelude.{List, [], ◌∷◌, ◌++◌, IsTrue, Option, Some, None, option_and_then}
-use Rattle.std.specs.Prelude.{if◌then◌else◌, ℤ, pos, negsuc, neg_ℤ, ◌+ℤ◌, ◌-ℤ◌, ◌*ℤ◌, int_lt}
+use Rattle.std.specs.Prelude.{if◌then◌else◌, ℤ, pos, negsuc, neg_ℤ, ◌+ℤ◌}
+use Rattle.std.specs.Prelude.{◌-ℤ◌, ◌*ℤ◌, int_lt}
 use Rattle.std.specs.Prelude.{int_div, int_rem}
 use Rattle.std.specs.List.{list_all}
 use Rattle.wc_text.specs.Integer.{positive_of}

@@ -1,5 +1,6 @@
 -- The verdicts on patterns, in the order in which they were given.
-use Rattle.std.specs.Prelude.{◌≡◌, ℕ, ◌+◌, ◌-◌, ◌^◌, ◌≤◌, min, Bool, true, false, List, [], ◌∷◌}
+use Rattle.std.specs.Prelude.{◌≡◌, ℕ, ◌+◌, ◌-◌, ◌^◌, ◌≤◌, min, Bool}
+use Rattle.std.specs.Prelude.{true, false, List, [], ◌∷◌}
 use Rattle.std.specs.Prelude.{Option, None, Some, IfSome, bytes_eq, if◌then◌else◌}
 use Rattle.regex.specs.Failures.{IsPattern}
 use Rattle.wc_eval.specs.declared.verdict.Verdict.{Verdict}

@@ -1,5 +1,6 @@
 //! A link: its stage, its connection, and the bytes of both ways.
-ghost use Rattle.std.specs.Prelude.{◌≡◌, ◌≤◌, ◌++◌, ◌↔◌, length, drop, false, Ok, Err, OnOk, OnErr};
+ghost use Rattle.std.specs.Prelude.{◌≡◌, ◌≤◌, ◌++◌, ◌↔◌, length, drop, false};
+ghost use Rattle.std.specs.Prelude.{Ok, Err, OnOk, OnErr};
 ghost use Rattle.wc_ws.specs.Link.{fresh_link, binary_frame, takes_messages};
 
 use crate::names::{PutRefused, WsStage};
