@@ -1,0 +1,9 @@
+pub mod TypedLemmas
+pub mod TextLemmas
+pub mod FeatureLemmas
+pub mod PieceLemmas
+pub mod KeptLemmas
+pub mod MemberLemmas
+pub mod ListedLemmas
+pub mod ChannelLemmas
+pub mod MergedLemmas

@@ -1,0 +1,49 @@
+-- Names as 353 lists them: signs, of which none need be, and after them a nick.
+use Rattle.std.specs.Prelude.{◌≡◌, ℕ, suc, ◌<◌, Bool, ◌==◌, List, [], ◌∷◌}
+use Rattle.std.specs.Prelude.{Option, Some, None, option_map, bytes_eq, if◌then◌else◌}
+use Rattle.std.specs.List.{concat, list_any}
+use Rattle.std.specs.Int.{bit_at}
+use Rattle.wc_ircmsg.specs.declared.prefixes.Prefixes.{Prefixes}
+use Rattle.wc_irc.specs.Texts.{char_texts}
+
+abbrev pub signs_of : Prefixes → List (List ℕ)
+signs_of prefixes = char_texts prefixes.chars
+
+-- the place of a character among signs
+abbrev pub place_among : List (List ℕ) → List ℕ → Option ℕ
+place_among [] character = None
+place_among (sign ∷ signs) character = if bytes_eq character sign then Some 0
+    else option_map suc (place_among signs character)
+
+abbrev pub one_more : Option ℕ → List ℕ → List ℕ
+one_more None places = []
+one_more (Some place) places = place ∷ places
+
+-- the places of the signs at the front of a name, whose characters these are
+abbrev pub front_signs : List (List ℕ) → List (List ℕ) → List ℕ
+front_signs signs [] = []
+front_signs signs (character ∷ characters) = one_more (place_among signs character)
+    (front_signs signs characters)
+
+abbrev pub past_sign : Option ℕ → List (List ℕ) → List (List ℕ) → List (List ℕ)
+past_sign None whole others = whole
+past_sign (Some place) whole others = others
+
+-- the characters after those signs
+abbrev pub after_signs : List (List ℕ) → List (List ℕ) → List (List ℕ)
+after_signs signs [] = []
+after_signs signs (character ∷ characters) = past_sign (place_among signs character)
+    (character ∷ characters) (after_signs signs characters)
+
+abbrev pub listed_nick : Prefixes → List ℕ → List ℕ
+listed_nick prefixes name = concat (after_signs (signs_of prefixes) (char_texts name))
+
+abbrev pub listed_places : Prefixes → List ℕ → List ℕ
+listed_places prefixes name = front_signs (signs_of prefixes) (char_texts name)
+
+abbrev pub has_place : ℕ → List ℕ → Bool
+has_place place places = list_any (λ other. other == place) places
+
+-- the bits that are set are those of the places
+abbrev pub AreBitsOf : ℕ → List ℕ → Type 0
+AreBitsOf bits places = (place : ℕ) → place < 64 → (bit_at bits place == 1) ≡ has_place place places

@@ -1,0 +1,39 @@
+//! What one IRC server is told and tells: what a user types for it, and the texts and lists that
+//! its messages make.
+#![tactic(auto)]
+
+mod autojoin;
+mod channel;
+mod command_word;
+mod features;
+mod folded;
+mod formatting;
+mod groups;
+mod kind;
+mod line_text;
+mod listed;
+mod members;
+mod modes;
+mod names;
+mod nick_index;
+mod overlay;
+mod places;
+mod seat;
+mod typed;
+mod typed_server;
+mod typed_words;
+
+pub use autojoin::autojoin_lines;
+pub use channel::{Channel, channel_of, quit};
+pub use features::Features;
+pub use formatting::plain;
+pub use groups::{group_at, group_names, sign_at};
+pub use kind::{MessageKind, kind_of};
+pub use line_text::{in_one_line, reason_text, source_text, spaced};
+pub use listed::{ListedName, listed_name};
+pub use members::{Members, NewNick, SeatIter};
+pub use modes::{ModeChange, mode_changes};
+pub use names::{is_channel, is_nick};
+pub use overlay::{FoundNick, Overlay};
+pub use seat::{ModeSet, Seat};
+pub use typed::{ServerCommand, read_server_command};

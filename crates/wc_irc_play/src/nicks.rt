@@ -1,0 +1,122 @@
+//! The nicks of a channel.
+
+use std::alloc::{AllocError, Global};
+use wc_irc::{Members, ModeSet, NewNick, Seat};
+use wc_notation::{Wrong, put_quoted, two_texts, unescape};
+use wc_text::Text;
+
+/// The most bytes of a nick.
+const LONGEST: usize = 64;
+
+/// The modes whose places digits name.
+fn modes_of(digits: &Text) -> Result<ModeSet, Wrong> {
+    let mut modes = ModeSet::NONE;
+    for digit in digits.as_slice() {
+        if !digit.is_ascii_digit() {
+            return Err(Wrong::Number);
+        }
+        modes = modes.with((*digit - b'0') as usize);
+    }
+    Ok(modes)
+}
+
+fn put_modes(out: &mut String, modes: ModeSet) -> Result<(), AllocError> {
+    for place in 0..10 {
+        if modes.has(place) {
+            write!(out, "{place}")?;
+        }
+    }
+    match modes.highest() {
+        Some(place) => write!(out, " highest {place}"),
+        None => Ok(()),
+    }
+}
+
+fn put_seat(out: &mut String, seat: &Seat) -> Result<(), AllocError> {
+    put_quoted(out, seat.nick.as_slice())?;
+    put_modes(out, seat.modes)
+}
+
+fn put_all(out: &mut String, members: &Members) -> Result<(), AllocError> {
+    write!(out, "{}", members.count())?;
+    for seat in members.iter() {
+        out.push(' ')?;
+        put_seat(out, seat)?;
+    }
+    Ok(())
+}
+
+fn put_found(out: &mut String, members: &Members, nick: &Text) -> Result<(), AllocError> {
+    match members.find(nick.as_slice()) {
+        Some(seat) => put_seat(out, seat),
+        None => out.push_str("not there"),
+    }
+}
+
+/// Puts a nick to the end, unless it is there or is too long.
+fn come(alloc: Global, members: &mut Members, nick: &Text) -> Result<(), Wrong> {
+    members.reserve(1)?;
+    if nick.as_slice().len() > LONGEST || members.has(nick.as_slice()) {
+        return Err(Wrong::Word);
+    }
+    let new = NewNick::new(alloc, members.case_map(), nick.as_slice())?;
+    members.push(new, ModeSet::NONE);
+    Ok(())
+}
+
+/// Gives a nick that is there another name, where that may be.
+fn rename(alloc: Global, members: &mut Members, old: &Text, new: &Text) -> Result<(), Wrong> {
+    let (old, new) = (old.as_slice(), new.as_slice());
+    members.reserve(1)?;
+    if new.len() > LONGEST || !members.has(old) || !members.may_rename(old, new) {
+        return Err(Wrong::Word);
+    }
+    let new = NewNick::new(alloc, members.case_map(), new)?;
+    members.rename(old, new);
+    Ok(())
+}
+
+fn name(alloc: Global, members: &mut Members, rest: &str) -> Result<(), Wrong> {
+    let (old, new) = two_texts(alloc, rest)?;
+    rename(alloc, members, &old, &new)
+}
+
+fn give(alloc: Global, members: &mut Members, rest: &str) -> Result<(), Wrong> {
+    let (nick, digits) = two_texts(alloc, rest)?;
+    let modes = modes_of(&digits)?;
+    members.put_modes(nick.as_slice(), modes);
+    Ok(())
+}
+
+fn come_or_go(alloc: Global, members: &mut Members, comes: bool, rest: &str) -> Result<(), Wrong> {
+    let nick = unescape(alloc, rest)?;
+    if comes {
+        return come(alloc, members, &nick);
+    }
+    members.remove(nick.as_slice());
+    Ok(())
+}
+
+fn find(alloc: Global, members: &Members, rest: &str, out: &mut String) -> Result<(), Wrong> {
+    let nick = unescape(alloc, rest)?;
+    Ok(put_found(out, members, &nick)?)
+}
+
+/// Writes the answer of a call on the nicks of a channel.
+pub fn nicks_answer(
+    alloc: Global,
+    members: &mut Members,
+    call: &str,
+    rest: &str,
+    out: &mut String,
+) -> Result<(), Wrong> {
+    match call {
+        "come" => come_or_go(alloc, members, true, rest),
+        "go" => come_or_go(alloc, members, false, rest),
+        "name" => name(alloc, members, rest),
+        "give" => give(alloc, members, rest),
+        "find" => find(alloc, members, rest, out),
+        "nicks" => Ok(put_all(out, members)?),
+        _ => Err(Wrong::Word),
+    }
+}

@@ -1,0 +1,62 @@
+use crate::nicks::nicks_answer;
+use crate::rows::rows_answer;
+use crate::texts::texts_answer;
+use crate::typed::typed;
+use std::alloc::{AllocError, Global};
+use wc_irc::Members;
+use wc_ircmsg::CaseMap;
+use wc_notation::{Wrong, cut_word, end_answer, is_passed_over};
+
+/// The nicks of a channel, which the lines of a table change.
+#[derive(Drop)]
+pub struct Player {
+    members: Members,
+}
+
+impl Player {
+    /// No nicks.
+    pub fn new(alloc: Global) -> Player {
+        Player {
+            members: Members::new(alloc, CaseMap::Rfc1459),
+        }
+    }
+
+    fn answer(
+        &mut self,
+        alloc: Global,
+        call: &str,
+        rest: &str,
+        out: &mut String,
+    ) -> Result<(), Wrong> {
+        match call {
+            "typed" => typed(alloc, rest, out),
+            "kind" | "registered" | "tokens" | "modes" | "groups" | "listed" => {
+                rows_answer(alloc, call, rest, out)
+            }
+            "come" | "go" | "name" | "give" | "find" | "nicks" => {
+                nicks_answer(alloc, &mut self.members, call, rest, out)
+            }
+            _ => texts_answer(alloc, call, rest, out),
+        }
+    }
+
+    /// Writes a line and its answer.
+    fn turn(&mut self, alloc: Global, line: &str, out: &mut String) -> Result<(), AllocError> {
+        if is_passed_over(line) {
+            return Ok(());
+        }
+        write!(out, "> {line}\n")?;
+        let (call, rest) = cut_word(line);
+        let answered = self.answer(alloc, call, rest, out);
+        end_answer(out, answered)
+    }
+
+    /// The lines of a table, each with its answer.
+    pub fn play(&mut self, alloc: Global, text: &str) -> Result<String, Wrong> {
+        let mut out = String::new(alloc);
+        for line in text.lines() {
+            self.turn(alloc, line, &mut out)?;
+        }
+        Ok(out)
+    }
+}
