@@ -4,3 +4,14 @@ pub mod Built
 pub mod Texts
 pub mod Sums
 pub mod Signs
+pub mod Tokens
+pub mod Answers
+pub mod Fronts
+pub mod Comparisons
+pub mod Pieces
+pub mod Walks
+pub mod Parts
+pub mod Reading
+pub mod Kinds
+pub mod Branches
+pub mod Values

@@ -2,8 +2,8 @@ ghost use Rattle.std.specs.Prelude.{IfOk};
 ghost use Rattle.std.specs.Str.{IsUtf8};
 
 use std::alloc::Global;
-use wc_eval::Verdicts;
-use wc_notation::{Wrong, put_either, unescape};
+use wc_eval::{Comparison, Verdicts, calc, compare};
+use wc_notation::{Wrong, cut_word, put_either, unescape};
 use wc_text::Text;
 
 /// The text that the rest of a line writes.
@@ -26,8 +26,39 @@ fn put_verdict(verdicts: &mut Verdicts, text: &Text, out: &mut String) -> Result
     Ok(write!(out, ", others {}", verdicts.others())?)
 }
 
-/// Writes the answer of a call.
-pub fn answer(
+fn put_number(text: &Text, out: &mut String) -> Result<(), Wrong> {
+    match calc(text.as_slice()) {
+        Some(value) => Ok(write!(out, "{value}")?),
+        None => Ok(out.push_str("no number")?),
+    }
+}
+
+/// The comparison whose sign is a whole word.
+fn comparison_of(word: &str) -> Result<Comparison, Wrong> {
+    match Comparison::cut(word.as_bytes()) {
+        Some((comparison, rest)) if rest.is_empty() => Ok(comparison),
+        _ => Err(Wrong::Word),
+    }
+}
+
+/// Whether a comparison of two words holds, of which the second may have blanks.
+fn put_comparison(
+    alloc: Global,
+    verdicts: &mut Verdicts,
+    rest: &str,
+    out: &mut String,
+) -> Result<(), Wrong> {
+    let (sign, sides) = cut_word(rest);
+    let comparison = comparison_of(sign)?;
+    let (left, right) = cut_word(sides);
+    let left = text_of(alloc, left)?;
+    let right = text_of(alloc, right)?;
+    let holds = compare(alloc, verdicts, comparison, &left, &right)?;
+    Ok(put_either(out, holds, "holds", "does not hold")?)
+}
+
+/// Writes the answer of a call on one text.
+fn answer_on_text(
     alloc: Global,
     verdicts: &mut Verdicts,
     call: &str,
@@ -36,7 +67,22 @@ pub fn answer(
 ) -> Result<(), Wrong> {
     let text = text_of(alloc, rest)?;
     match call {
+        "calc" => put_number(&text, out),
         "judge" => put_verdict(verdicts, &text, out),
         _ => Err(Wrong::Word),
+    }
+}
+
+/// Writes the answer of a call.
+pub fn answer(
+    alloc: Global,
+    verdicts: &mut Verdicts,
+    call: &str,
+    rest: &str,
+    out: &mut String,
+) -> Result<(), Wrong> {
+    match call {
+        "compare" => put_comparison(alloc, verdicts, rest, out),
+        _ => answer_on_text(alloc, verdicts, call, rest, out),
     }
 }

@@ -1,0 +1,9 @@
+use Rattle.std.proofs.Common.{◌∙◌}
+use Rattle.std.proofs.lemmas.Iterator.{YieldsList-from_chars}
+use Rattle.std.proofs.lemmas.Iterator.Consumers.{count_from_yields_List}
+use Rattle.wc_eval.proofs.characters.character_count.Goals as goal
+
+pub returns-clause-count : goal.returns-clause-count
+returns-clause-count c =
+    count_from_yields_List c.chars.result c.count.result c.count.ensures.ran
+    (YieldsList-from_chars c.args.text.now c.requires cc)
