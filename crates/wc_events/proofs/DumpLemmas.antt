@@ -12,7 +12,7 @@ use Rattle.wc_model.specs.World.{World}
 use Rattle.wc_objects.specs.declared.object.HdaItem.{HdaItem}
 use Rattle.wc_events.specs.BufferObjects.{dumped_buffer, dumped_groups}
 use Rattle.wc_events.specs.LineObjects.{dumped_lines, line_dump, dump_of}
-use Rattle.wc_events.specs.Dumps.{if_there, each_told, all_items, all_lines}
+use Rattle.wc_events.specs.Dumps.{if_there, each_told}
 
 -- ---- each buffer is found by its handle
 
@@ -45,19 +45,16 @@ each_found es (e ∷ others) once =
       subst (λ all. AllByRecursion (found_in all) others) (sym shift) (each_found (es ++ e ∷ []) others (subst (λ all. (h : ℕ) → times_in handle_of h all ≤ 1) shift once)),
     )
 
+-- each handle is that of one buffer at most
+pub rows_once : (gs : EntryGroups) → ((h : ℕ) → times handle_of h gs ≤ 1) → AllByRecursion (λ e. entry_of e.row.handle gs ≡ Some e) (rows gs)
+rows_once gs once = each_found [] (rows gs) (λ h. let one = once h in omega (arith, times-rows h gs))
+
 pub rows_found : (gs : EntryGroups) → AreBuffers gs → AllByRecursion (λ e. entry_of e.row.handle gs ≡ Some e) (rows gs)
-rows_found gs are = each_found [] (rows gs) (λ h. let one = are.once h in omega (arith, times-rows h gs))
+rows_found gs are = rows_once gs are.once
 
 pub all_parts : (P : BufferEntry → Type 0) (xs ys : List BufferEntry) → AllByRecursion P (xs ++ ys) → AllByRecursion P xs × AllByRecursion P ys
 all_parts P [] ys all = (tt, all)
 all_parts P (x ∷ xs) ys all = let r = all_parts P xs ys all.1 in ((all.0, r.0), r.1)
-
-pub rows_kept : (gs : EntryGroups) → AreBuffers gs → AllByRecursion IsBuffer (rows gs)
-rows_kept gs are = each (rows gs) (rows_found gs are)
-  where
-    each : (es : List BufferEntry) → AllByRecursion (λ e. entry_of e.row.handle gs ≡ Some e) es → AllByRecursion IsBuffer es
-    each [] all = tt
-    each (e ∷ es) all = (are.fit e.row.handle e all.0, each es all.1)
 
 -- ---- what is told by handles is told by buffers
 
@@ -65,19 +62,6 @@ group_told : (gs : EntryGroups) (told : BufferEntry → List HdaItem) (es : List
     → each_told gs told (map (λ (e : BufferEntry). e.row.handle) es) ≡ flat_map told es
 group_told gs told [] all = refl
 group_told gs told (e ∷ es) all = λ i. if_there told (all.0 i) ++ group_told gs told es all.1 i
-
-one_each : (number : ℕ) (es : List BufferEntry) → flat_map (λ e. dumped_buffer number e ∷ []) es ≡ map (dumped_buffer number) es
-one_each number [] = refl
-one_each number (e ∷ es) = ap (λ items. dumped_buffer number e ∷ items) (one_each number es)
-
-from : (all gs : EntryGroups) (number : ℕ) → AllByRecursion (λ e. entry_of e.row.handle all ≡ Some e) (rows gs) → all_items all number (handles gs) ≡ dumped_groups number gs
-from all [] number found = refl
-from all (g ∷ gs) number found =
-    let parts = all_parts _ g (rows gs) found in
-    λ i. (group_told all (λ e. dumped_buffer number e ∷ []) g parts.0 ∙ one_each number g) i ++ from all gs (number + 1) parts.1 i
-
-pub groups_dumped : (gs : EntryGroups) → AreBuffers gs → all_items gs 1 (handles gs) ≡ dumped_groups 1 gs
-groups_dumped gs are = from gs gs 1 (rows_found gs are)
 
 each_from : (all : EntryGroups) (told : BufferEntry → List HdaItem) (gs : EntryGroups) → AllByRecursion (λ e. entry_of e.row.handle all ≡ Some e) (rows gs)
     → flat_map (each_told all told) (handles gs) ≡ flat_map told (rows gs)
@@ -89,9 +73,6 @@ each_from all told (g ∷ gs) found =
 -- what is told of all buffers
 pub told_of_all : (gs : EntryGroups) (told : BufferEntry → List HdaItem) → AreBuffers gs → flat_map (each_told gs told) (handles gs) ≡ flat_map told (rows gs)
 told_of_all gs told are = each_from gs told gs (rows_found gs are)
-
-pub lines_dumped : (world : World) → AreBuffers world.groups → line_dump world ≡ dump_of (all_lines world (handles world.groups))
-lines_dumped world are = ap dump_of (sym (told_of_all world.groups (dumped_lines world) are))
 
 -- ---- there are as many groups as buffers, or fewer
 

@@ -1,11 +1,9 @@
 -- What is told of lines keeps the rules of messages.
-use Rattle.std.proofs.Common.{◌≡◌, ℕ, ℤ, true, ◌&&◌, List, [], ◌∷◌, ◌++◌, map, length, codes, Some, refl, ◌∙◌, All}
+use Rattle.std.proofs.Common.{◌≡◌, ℕ, ℤ, true, List, [], ◌∷◌, length, Some, refl, All}
 use Rattle.std.specs.List.{list_all, AllByRecursion}
-use Rattle.std.specs.Str.{IsUtf8, is_utf8, chars}
+use Rattle.std.specs.Str.{IsUtf8, is_utf8}
 use Rattle.std.proofs.lemmas.Str.{is_utf8-from_IsUtf8}
-use Rattle.std.proofs.lemmas.List.Folds.{list_all-append}
 use Rattle.std.proofs.lemmas.List.Elements.{recursion_from_All}
-use lib.Utf8.{encode}
 use denote.Hole.Carrier.{out}
 use Rattle.wc_text.specs.declared.names.Handle.{Handle}
 use Rattle.wc_lines.specs.declared.line.Line.{Line}
@@ -14,17 +12,12 @@ use Rattle.wc_objects.specs.declared.kind.Kind.TheVariants as k
 use Rattle.wc_objects.specs.declared.object.Object.TheVariants as o
 use Rattle.wc_objects.specs.declared.object.Object.TheViews.{out-Object, out-roll-Object, out-roll-Hda}
 use Rattle.wc_objects.specs.declared.object.HdaItem.{HdaItem}
-use Rattle.wc_objects.specs.Forms.{kinds_of, key_kind, named_kind, simple_is, value_is, values_are, item_of, hda_is, object_is, well_formed, is_path, names_of, hda_parts_are}
-use Rattle.wc_events.specs.LineObjects.{line_keys, texts, line_values, added_item, added_objects, dumped_item, on_path, dump_of}
-use Rattle.wc_events.specs.Dumps.{line_kinds, are_lines}
-
-pub kinds_of-line_keys : kinds_of line_keys ≡ Some line_kinds
-unfolding kinds_of key_kind named_kind
-kinds_of-line_keys = refl
-
-keys_are_text : is_utf8 line_keys ≡ true
-unfolding is_utf8 chars encode
-keys_are_text = refl
+use Rattle.wc_objects.specs.Forms.{simple_is, value_is, values_are, item_of, hda_is, object_is, well_formed, is_path, names_of, hda_parts_are}
+use Rattle.wc_keys.specs.declared.key.KeyList.TheVariants as l
+use Rattle.wc_keys.specs.Events.{line_path}
+use Rattle.wc_keys.proofs.ListTexts.{list_is_text, list_names_kinds, line_path_is_text}
+use Rattle.wc_events.specs.LineObjects.{line_keys, texts, line_values, added_item, added_objects, on_path}
+use Rattle.wc_events.specs.Dumps.{line_kinds}
 
 pub ptr_formed : (n : ℕ) → value_is k.Ptr (o.Ptr n) ≡ true
 unfolding value_is simple_is out-Object out
@@ -63,39 +56,12 @@ items_formed : (path : List ℕ) (items : List HdaItem) → is_utf8 path ≡ tru
     → list_all (λ item. item_of (length (names_of path)) (Some line_kinds) item) items ≡ true → well_formed (o.Hda (on_path path items) ∷ []) ≡ true
 unfolding well_formed object_is
 items_formed path items text named each =
-    rw (← o.rolls-Hda (on_path path items), out-roll-Object, hda_parts, text, named, keys_are_text, kinds_of-line_keys, each) refl
+    rw (← o.rolls-Hda (on_path path items), out-roll-Object, hda_parts, text, named, list_is_text l.LineData, list_names_kinds l.LineData, each) refl
 
 added_item_formed : (buffer : Handle) (line : Line) → HasUtf8Texts line → item_of 1 (Some line_kinds) (added_item buffer line) ≡ true
 unfolding item_of added_item
 added_item_formed buffer line h = values_formed buffer line h
 
-added_path_is_text : is_utf8 (codes "line_data") ≡ true
-unfolding is_utf8 chars encode
-added_path_is_text = refl
-
 pub added_formed : (buffer : Handle) (line : Line) → HasUtf8Texts line → well_formed (added_objects buffer line) ≡ true
 added_formed buffer line h =
-    items_formed (codes "line_data") (added_item buffer line ∷ []) added_path_is_text refl (rw (added_item_formed buffer line h) refl)
-
-dumped_item_formed : (buffer own : Handle) (line : Line) → HasUtf8Texts line → item_of 4 (Some line_kinds) (dumped_item buffer own line) ≡ true
-unfolding item_of dumped_item
-dumped_item_formed buffer own line h = values_formed buffer line h
-
-dumped_items_formed : (buffer own : Handle) (lines : List Line) → AllByRecursion HasUtf8Texts lines → are_lines (map (dumped_item buffer own) lines) ≡ true
-dumped_items_formed buffer own [] _ = refl
-dumped_items_formed buffer own (line ∷ lines) h = rw (dumped_item_formed buffer own line h.0) (dumped_items_formed buffer own lines h.1)
-
-are_lines-append : (xs ys : List HdaItem) → are_lines xs ≡ true → are_lines ys ≡ true → are_lines (xs ++ ys) ≡ true
-are_lines-append xs ys a b = list_all-append (λ item. item_of 4 (Some line_kinds) item) xs ys ∙ (λ i. a i && b i)
-
--- lines after items
-pub more_lines : (items : List HdaItem) (buffer own : Handle) (lines : List Line) → All HasUtf8Texts lines → are_lines items ≡ true
-    → are_lines (items ++ map (dumped_item buffer own) lines) ≡ true
-more_lines items buffer own lines h are = are_lines-append items _ are (dumped_items_formed buffer own lines (recursion_from_All HasUtf8Texts lines h))
-
-dump_path_is_text : is_utf8 (codes "buffer/lines/line/line_data") ≡ true
-unfolding is_utf8 chars encode
-dump_path_is_text = refl
-
-pub dump_formed : (items : List HdaItem) → are_lines items ≡ true → well_formed (dump_of items) ≡ true
-dump_formed items each = items_formed (codes "buffer/lines/line/line_data") items dump_path_is_text refl each
+    items_formed line_path (added_item buffer line ∷ []) line_path_is_text refl (rw (added_item_formed buffer line h) refl)

@@ -1,10 +1,6 @@
-pub mod Counts
 pub mod DumpLemmas
-pub mod DumpRoom
 pub mod EventsFormed
 pub mod Formed
-pub mod LineBytes
-pub mod PartLemmas
 pub mod NickLemmas
 pub mod NicksFormed
 pub mod PushTexts

@@ -19,7 +19,9 @@ use Rattle.wc_objects.specs.declared.object.Object.TheVariants as o
 use Rattle.wc_objects.specs.declared.object.Object.TheViews.{out-roll-Object, out-roll-Hda}
 use Rattle.wc_objects.specs.declared.object.Hda.{roll-Hda}
 use Rattle.wc_objects.specs.declared.object.HdaItem.{HdaItem}
-use Rattle.wc_objects.specs.Forms.{kinds_of, key_kind, named_kind, values_are, item_of, hda_is, object_is, well_formed}
+use Rattle.wc_objects.specs.Forms.{values_are, item_of, hda_is, object_is, well_formed}
+use Rattle.wc_keys.specs.declared.key.KeyList.TheVariants as l
+use Rattle.wc_keys.proofs.ListTexts.{list_is_text, list_names_kinds, nick_path_is_text}
 use Rattle.wc_events.specs.NickObjects.{nick_path, nick_keys, diff_keys, nick_values, nick_item, diff_item}
 use Rattle.wc_events.specs.NickForms.{on_nick_path, nick_kinds, diff_kinds, are_nicks, are_diffs}
 use Rattle.wc_events.proofs.Formed.{chr_formed, str_formed}
@@ -27,35 +29,15 @@ use Rattle.wc_events.proofs.EventsFormed.{int_formed}
 
 -- ---- paths and keys
 
-path_text : is_utf8 nick_path ≡ true
-unfolding is_utf8 chars encode
-path_text = refl
-
-nick_keys_text : is_utf8 nick_keys ≡ true
-unfolding is_utf8 chars encode
-nick_keys_text = refl
-
-nick_keys_kinds : kinds_of nick_keys ≡ Some nick_kinds
-unfolding kinds_of key_kind named_kind
-nick_keys_kinds = refl
-
-diff_keys_text : is_utf8 diff_keys ≡ true
-unfolding is_utf8 chars encode
-diff_keys_text = refl
-
-diff_keys_kinds : kinds_of diff_keys ≡ Some diff_kinds
-unfolding kinds_of key_kind named_kind
-diff_keys_kinds = refl
-
 pub nicks_formed : (items : List HdaItem) → are_nicks items ≡ true → well_formed (on_nick_path nick_keys items) ≡ true
 unfolding well_formed object_is hda_is
 nicks_formed items each =
-    rw (← o.rolls-Hda (roll-Hda (record { path = Some nick_path; keys = Some nick_keys; items = items })), out-roll-Object, out-roll-Hda, path_text, nick_keys_text, nick_keys_kinds, each) refl
+    rw (← o.rolls-Hda (roll-Hda (record { path = Some nick_path; keys = Some nick_keys; items = items })), out-roll-Object, out-roll-Hda, nick_path_is_text, list_is_text l.Nicks, list_names_kinds l.Nicks, each) refl
 
 diffs_formed : (items : List HdaItem) → are_diffs items ≡ true → well_formed (on_nick_path diff_keys items) ≡ true
 unfolding well_formed object_is hda_is
 diffs_formed items each =
-    rw (← o.rolls-Hda (roll-Hda (record { path = Some nick_path; keys = Some diff_keys; items = items })), out-roll-Object, out-roll-Hda, path_text, diff_keys_text, diff_keys_kinds, each) refl
+    rw (← o.rolls-Hda (roll-Hda (record { path = Some nick_path; keys = Some diff_keys; items = items })), out-roll-Object, out-roll-Hda, nick_path_is_text, list_is_text l.Diff, list_names_kinds l.Diff, each) refl
 
 -- ---- items
 

@@ -1,8 +1,9 @@
 -- What a client is told of buffers: the event of each notice, and the dump of all buffers.
 use Rattle.std.specs.Prelude.{ℕ, ◌+◌, ◌-◌, ◌^◌, ◌==◌, ℤ, pos, Bool, nat_le, List, [], ◌∷◌}
-use Rattle.std.specs.Prelude.{◌++◌, map, filter, Option, Some, None, codes, option_map}
+use Rattle.std.specs.Prelude.{◌++◌, map, filter, Option, Some, None, option_map}
 use Rattle.std.specs.Prelude.{if◌then◌else◌}
-use Rattle.std.specs.List.{list_any}
+use Rattle.std.specs.List.{filter_map, list_any}
+use Rattle.std.specs.Option.{option_or}
 use Rattle.wc_text.specs.declared.names.Handle.{Handle}
 use Rattle.wc_text.specs.declared.names.Pair.{Pair}
 use Rattle.wc_lines.specs.declared.line.Line.{Line}
@@ -19,29 +20,13 @@ use Rattle.wc_objects.specs.declared.object.Object.TheVariants as o
 use Rattle.wc_objects.specs.declared.object.Hda.{roll-Hda}
 use Rattle.wc_objects.specs.declared.object.HdaItem.{HdaItem, roll-HdaItem}
 use Rattle.wc_objects.specs.declared.object.WireMessage.{WireMessage}
-use Rattle.wc_events.specs.LineObjects.{truth, added_objects}
-
--- ---- the ids of events
-
-abbrev pub id_of : EventKind → List ℕ
-id_of kind.Opened = codes "_buffer_opened"
-id_of kind.Moved = codes "_buffer_moved"
-id_of kind.Merged = codes "_buffer_merged"
-id_of kind.Unmerged = codes "_buffer_unmerged"
-id_of kind.Hidden = codes "_buffer_hidden"
-id_of kind.Unhidden = codes "_buffer_unhidden"
-id_of kind.Renamed = codes "_buffer_renamed"
-id_of kind.TitleChanged = codes "_buffer_title_changed"
-id_of kind.VarAdded = codes "_buffer_localvar_added"
-id_of kind.VarChanged = codes "_buffer_localvar_changed"
-id_of kind.VarRemoved = codes "_buffer_localvar_removed"
-id_of kind.Cleared = codes "_buffer_cleared"
-id_of kind.Closing = codes "_buffer_closing"
-id_of kind.LineAdded = codes "_buffer_line_added"
-id_of kind.LineDataChanged = codes "_buffer_line_data_changed"
-id_of kind.Nicklist = codes "_nicklist"
-id_of kind.NicklistDiff = codes "_nicklist_diff"
-id_of kind.NickTouched = []
+use Rattle.wc_keys.specs.declared.key.KeyList.TheVariants as l
+use Rattle.wc_keys.specs.declared.key.Key.{Key}
+use Rattle.wc_keys.specs.declared.key.Key.TheVariants as key
+use Rattle.wc_keys.specs.Keys.{keys_in, list_text}
+use Rattle.wc_keys.specs.Events.{buffer_path, line_path}
+use Rattle.wc_events.specs.LineObjects.{truth, line_value, added_objects}
+pub use Rattle.wc_keys.specs.Events.{id_of}
 
 -- ---- values
 
@@ -66,56 +51,76 @@ number_of notice = o.Int (count notice.number)
 abbrev pub about : List ℕ → Handle → List Object → List Object
 about keys buffer values =
     o.Hda (roll-Hda (record {
-      path = Some (codes "buffer");
+      path = Some buffer_path;
       keys = Some keys;
       items = roll-HdaItem (record { pointers = buffer.0 ∷ []; values = values }) ∷ [];
     })) ∷ []
 
+-- ---- the value of a buffer under each key
+
+-- what a notice says of it
+abbrev pub noticed_value : Notice → Key → Option Object
+noticed_value notice key.Number = Some (number_of notice)
+noticed_value notice key.FullName = Some (text notice.full_name)
+noticed_value notice key.PrevBuffer = Some (o.Ptr notice.prev.0)
+noticed_value notice key.NextBuffer = Some (o.Ptr notice.next.0)
+noticed_value notice _ = None
+
+-- what it has where it is there
+abbrev pub entry_value : BufferEntry → Key → Option Object
+entry_value e key.FullName = Some (text e.row.full_name)
+entry_value e key.ShortName = Some (text e.row.short_name)
+entry_value e key.Hidden = Some (o.Int (truth e.row.hidden))
+entry_value e key.Title = Some (text e.row.title)
+entry_value e key.LocalVariables = Some (table e.vars)
+entry_value e _ = None
+
+-- its number beside that
+abbrev pub numbered_value : ℤ → BufferEntry → Key → Option Object
+numbered_value number e key.Number = Some (o.Int number)
+numbered_value number e name = entry_value e name
+
+-- what is told of it after a change
+abbrev pub told_value : Notice → BufferEntry → Key → Option Object
+told_value notice e name = option_or (noticed_value notice name) (entry_value e name)
+
 -- ---- the keys and the values of each event, by what is noticed and by what is of the buffer after the change
 
 abbrev pub opened_keys : List ℕ
-opened_keys
-    =
-    codes
-    "number:int,full_name:str,short_name:str,hidden:int,title:str,local_variables:htb,prev_buffer:ptr,next_buffer:ptr"
+opened_keys = list_text l.Opened
 
 abbrev pub placed_keys : List ℕ
-placed_keys = codes "number:int,full_name:str,prev_buffer:ptr,next_buffer:ptr"
+placed_keys = list_text l.Placed
 
 abbrev pub renamed_keys : List ℕ
-renamed_keys = codes "number:int,full_name:str,short_name:str,local_variables:htb"
+renamed_keys = list_text l.Renamed
 
 abbrev pub title_keys : List ℕ
-title_keys = codes "number:int,full_name:str,title:str"
+title_keys = list_text l.Titled
 
 abbrev pub vars_keys : List ℕ
-vars_keys = codes "number:int,full_name:str,local_variables:htb"
+vars_keys = list_text l.Variables
 
 abbrev pub named_keys : List ℕ
-named_keys = codes "number:int,full_name:str"
+named_keys = list_text l.Named
 
 unfoldable pub opened_values : Notice → BufferEntry → List Object
-opened_values notice e =
-    number_of notice ∷ text notice.full_name ∷ text e.row.short_name ∷ o.Int (truth e.row.hidden) ∷
-    text e.row.title ∷ table e.vars ∷
-    o.Ptr notice.prev.0 ∷ o.Ptr notice.next.0 ∷ []
+opened_values notice e = filter_map (told_value notice e) (keys_in l.Opened)
 
 unfoldable pub placed_values : Notice → List Object
-placed_values notice = number_of notice ∷ text notice.full_name ∷ o.Ptr notice.prev.0 ∷ o.Ptr
-    notice.next.0 ∷ []
+placed_values notice = filter_map (noticed_value notice) (keys_in l.Placed)
 
 unfoldable pub renamed_values : Notice → BufferEntry → List Object
-renamed_values notice e = number_of notice ∷ text notice.full_name ∷ text e.row.short_name ∷ table
-    e.vars ∷ []
+renamed_values notice e = filter_map (told_value notice e) (keys_in l.Renamed)
 
 unfoldable pub title_values : Notice → BufferEntry → List Object
-title_values notice e = number_of notice ∷ text notice.full_name ∷ text e.row.title ∷ []
+title_values notice e = filter_map (told_value notice e) (keys_in l.Titled)
 
 unfoldable pub vars_values : Notice → BufferEntry → List Object
-vars_values notice e = number_of notice ∷ text notice.full_name ∷ table e.vars ∷ []
+vars_values notice e = filter_map (told_value notice e) (keys_in l.Variables)
 
 unfoldable pub named_values : Notice → List Object
-named_values notice = number_of notice ∷ text notice.full_name ∷ []
+named_values notice = filter_map (noticed_value notice) (keys_in l.Named)
 
 abbrev pub opened_objects : Notice → BufferEntry → List Object
 opened_objects notice e = about opened_keys notice.buffer (opened_values notice e)
@@ -175,7 +180,7 @@ event_of world notice = option_map (λ objects. record { id = id_of notice.kind;
 -- ---- the lines of one buffer whose flags differ
 
 abbrev pub flag_keys : List ℕ
-flag_keys = codes "buffer:ptr,displayed:chr"
+flag_keys = list_text l.Flags
 
 abbrev pub is_flipped : List Handle → Line → Bool
 is_flipped flips line = list_any (λ (flip : Handle). flip.0 == line.content.0) flips
@@ -184,7 +189,7 @@ abbrev pub flag_item : Handle → Line → HdaItem
 flag_item buffer line = roll-HdaItem
     (record {
       pointers = line.content.0 ∷ [];
-      values = o.Ptr buffer.0 ∷ o.Chr (truth line.displayed) ∷ [];
+      values = filter_map (line_value buffer line) (keys_in l.Flags);
     })
 
 abbrev pub flag_items : Handle → List Handle → List Line → List HdaItem
@@ -193,7 +198,7 @@ flag_items buffer flips lines = map (flag_item buffer) (filter (is_flipped flips
 abbrev pub flag_objects : Handle → List Handle → List Line → List Object
 flag_objects buffer flips lines =
     o.Hda (roll-Hda (record {
-      path = Some (codes "line_data");
+      path = Some line_path;
       keys = Some flag_keys;
       items = flag_items buffer flips lines;
     })) ∷ []
@@ -201,12 +206,10 @@ flag_objects buffer flips lines =
 -- ---- the dump of all buffers
 
 abbrev pub dump_keys : List ℕ
-dump_keys = codes "number:int,full_name:str,short_name:str,hidden:int,title:str,local_variables:htb"
+dump_keys = list_text l.Dump
 
 unfoldable pub dumped_values : ℕ → BufferEntry → List Object
-dumped_values number e =
-    o.Int (pos number) ∷ text e.row.full_name ∷ text e.row.short_name ∷ o.Int (truth e.row.hidden) ∷
-    text e.row.title ∷ table e.vars ∷ []
+dumped_values number e = filter_map (numbered_value (pos number) e) (keys_in l.Dump)
 
 abbrev pub dumped_buffer : ℕ → BufferEntry → HdaItem
 dumped_buffer number e = roll-HdaItem
@@ -220,7 +223,7 @@ dumped_groups number (group ∷ groups) = map (dumped_buffer number) group
 
 abbrev pub buffer_dump : EntryGroups → List Object
 buffer_dump groups = o.Hda (roll-Hda (record {
-  path = Some (codes "buffer");
+  path = Some buffer_path;
   keys = Some dump_keys;
   items = dumped_groups 1 groups;
 })) ∷ []

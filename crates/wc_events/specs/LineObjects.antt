@@ -1,8 +1,8 @@
 -- What a client is told of lines: the event of a new line, and the dump of the lines that are held.
-use Rattle.std.specs.Prelude.{ℕ, ◌^◌, ◌-◌, ℤ, pos, Bool, nat_le, List, [], ◌∷◌, map, Some, codes}
-use Rattle.std.specs.Prelude.{◌++◌, if◌then◌else◌}
+use Rattle.std.specs.Prelude.{ℕ, ◌^◌, ◌-◌, ℤ, pos, Bool, nat_le, List, [], ◌∷◌, map, Option, Some, None}
+use Rattle.std.specs.Prelude.{if◌then◌else◌}
 use Rattle.wc_text.specs.declared.names.Handle.{Handle}
-use Rattle.std.specs.List.{flat_map}
+use Rattle.std.specs.List.{filter_map, flat_map}
 use Rattle.wc_lines.specs.declared.line.Line.{Line}
 use Rattle.wc_buffers.specs.declared.row.BufferEntry.{BufferEntry}
 use Rattle.wc_buffers.specs.Groups.{rows}
@@ -13,6 +13,12 @@ use Rattle.wc_objects.specs.declared.object.Object.TheVariants as o
 use Rattle.wc_objects.specs.declared.object.Hda.{Hda, roll-Hda}
 use Rattle.wc_objects.specs.declared.object.HdaItem.{HdaItem, roll-HdaItem}
 use Rattle.wc_objects.specs.declared.object.WireMessage.{WireMessage}
+use Rattle.wc_model.specs.declared.notice.EventKind.TheVariants as kind
+use Rattle.wc_keys.specs.declared.key.KeyList.TheVariants as l
+use Rattle.wc_keys.specs.declared.key.Key.{Key}
+use Rattle.wc_keys.specs.declared.key.Key.TheVariants as key
+use Rattle.wc_keys.specs.Keys.{keys_in, list_text}
+use Rattle.wc_keys.specs.Events.{line_path, lines_path, id_of}
 
 -- truth is 1 and 0
 abbrev pub truth : Bool → ℤ
@@ -27,28 +33,24 @@ texts tags = map (λ text. o.Str (Some text)) tags
 
 -- the keys of a line, in the event and in the dump
 abbrev pub line_keys : List ℕ
-line_keys = codes "buffer:ptr,date:tim,date_printed:tim,displayed:chr,notify_level:chr,"
-    ++ codes "highlight:chr,tags_array:arr,prefix:str,message:str"
+line_keys = list_text l.LineData
 
--- the values of a line of a buffer, in the order of the keys
+-- the value of a line of a buffer under each key
+abbrev pub line_value : Handle → Line → Key → Option Object
+line_value buffer line key.Buffer = Some (o.Ptr buffer.0)
+line_value buffer line key.Date = Some (o.Tim (moment line.date))
+line_value buffer line key.DatePrinted = Some (o.Tim (moment line.date_printed))
+line_value buffer line key.Displayed = Some (o.Chr (truth line.displayed))
+line_value buffer line key.NotifyLevel = Some (o.Chr line.notify)
+line_value buffer line key.Highlight = Some (o.Chr (truth line.highlight))
+line_value buffer line key.TagsArray = Some (o.Arr k.Str (texts line.tags))
+line_value buffer line key.Prefix = Some (o.Str (Some line.prefix))
+line_value buffer line key.Message = Some (o.Str (Some line.message))
+line_value buffer line _ = None
+
+-- the values of a line, in the order of the keys
 unfoldable pub line_values : Handle → Line → List Object
-line_values buffer line =
-    o.Ptr buffer.0 ∷ o.Tim (moment line.date) ∷ o.Tim (moment line.date_printed) ∷
-    o.Chr (truth line.displayed) ∷ o.Chr line.notify ∷ o.Chr (truth line.highlight) ∷
-    o.Arr k.Str (texts line.tags) ∷ o.Str (Some line.prefix) ∷ o.Str (Some line.message) ∷ []
-
--- the same values, three at a time
-abbrev pub date_values : Handle → Line → List Object
-date_values buffer line =
-    o.Ptr buffer.0 ∷ o.Tim (moment line.date) ∷ o.Tim (moment line.date_printed) ∷ []
-
-abbrev pub mark_values : Line → List Object
-mark_values line =
-    o.Chr (truth line.displayed) ∷ o.Chr line.notify ∷ o.Chr (truth line.highlight) ∷ []
-
-abbrev pub text_values : Line → List Object
-text_values line =
-    o.Arr k.Str (texts line.tags) ∷ o.Str (Some line.prefix) ∷ o.Str (Some line.message) ∷ []
+line_values buffer line = filter_map (line_value buffer line) (keys_in l.LineData)
 
 -- items on a path, with the keys of a line
 abbrev pub on_path : List ℕ → List HdaItem → Hda
@@ -60,12 +62,12 @@ added_item buffer line = roll-HdaItem
     (record { pointers = line.content.0 ∷ []; values = line_values buffer line })
 
 abbrev pub added_objects : Handle → Line → List Object
-added_objects buffer line = o.Hda (on_path (codes "line_data") (added_item buffer line ∷ [])) ∷ []
+added_objects buffer line = o.Hda (on_path line_path (added_item buffer line ∷ [])) ∷ []
 
 -- the event of a new line of a buffer
 abbrev pub line_added : Handle → Line → WireMessage
 line_added buffer line = record {
-  id = codes "_buffer_line_added";
+  id = id_of kind.LineAdded;
   objects = added_objects buffer line;
 }
 
@@ -79,7 +81,7 @@ dumped_item buffer own line =
 
 -- the dump of lines, of whichever buffers these items are
 abbrev pub dump_of : List HdaItem → List Object
-dump_of items = o.Hda (on_path (codes "buffer/lines/line/line_data") items) ∷ []
+dump_of items = o.Hda (on_path lines_path items) ∷ []
 
 -- the lines of one buffer, from the oldest
 abbrev pub dumped_lines : World → BufferEntry → List HdaItem

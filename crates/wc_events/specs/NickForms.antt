@@ -8,7 +8,8 @@ use Rattle.wc_nickdiff.specs.declared.diff_item.Push.{Push}
 use Rattle.wc_nickdiff.specs.declared.diff_item.Push.TheVariants.{Nothing, Diff, Full}
 use Rattle.wc_model.specs.World.{World}
 use Rattle.wc_objects.specs.declared.kind.Kind.{Kind}
-use Rattle.wc_objects.specs.declared.kind.Kind.TheVariants as k
+use Rattle.wc_keys.specs.declared.key.KeyList.TheVariants as l
+use Rattle.wc_keys.specs.Keys.{kinds_in}
 use Rattle.wc_objects.specs.declared.object.Object.{Object}
 use Rattle.wc_objects.specs.declared.object.Object.TheVariants as o
 use Rattle.wc_objects.specs.declared.object.Hda.{roll-Hda}
@@ -32,10 +33,10 @@ all_nicks world groups = flat_map (nick_group world) groups
 
 -- the types of the keys of a group or a nick, and of an item of a diff
 abbrev pub nick_kinds : List Kind
-nick_kinds = k.Chr ∷ k.Chr ∷ k.Int ∷ k.Str ∷ k.Str ∷ k.Str ∷ k.Str ∷ []
+nick_kinds = kinds_in l.Nicks
 
 abbrev pub diff_kinds : List Kind
-diff_kinds = k.Chr ∷ nick_kinds
+diff_kinds = kinds_in l.Diff
 
 -- each item keeps the rules of the list, or of the diff
 abbrev pub are_nicks : List HdaItem → Bool

@@ -1,6 +1,6 @@
 -- What a client is told of nicklists: the pushes, and the lists of one buffer or of all.
-use Rattle.std.specs.Prelude.{ℕ, ℤ, pos, List, [], ◌∷◌, map, Option, Some, None, codes, option_map}
-use Rattle.std.specs.List.{flat_map}
+use Rattle.std.specs.Prelude.{ℕ, ℤ, pos, List, [], ◌∷◌, map, Option, Some, None, option_map}
+use Rattle.std.specs.List.{filter_map, flat_map}
 use Rattle.wc_text.specs.declared.names.Handle.{Handle}
 use Rattle.wc_nicklist.specs.declared.item.Item.{Item}
 use Rattle.wc_nickdiff.specs.declared.diff_item.DiffItem.{DiffItem}
@@ -21,24 +21,34 @@ use Rattle.wc_objects.specs.declared.object.Hda.{roll-Hda}
 use Rattle.wc_objects.specs.declared.object.HdaItem.{HdaItem, roll-HdaItem}
 use Rattle.wc_objects.specs.declared.object.WireMessage.{WireMessage}
 use Rattle.wc_events.specs.LineObjects.{truth}
-use Rattle.wc_events.specs.BufferObjects.{id_of, count, text}
-
-abbrev pub nick_path : List ℕ
-nick_path = codes "buffer/nicklist_item"
+use Rattle.wc_keys.specs.declared.key.KeyList.TheVariants as l
+use Rattle.wc_keys.specs.declared.key.Key.{Key}
+use Rattle.wc_keys.specs.declared.key.Key.TheVariants as key
+use Rattle.wc_keys.specs.Keys.{keys_in, list_text}
+use Rattle.wc_keys.specs.Events.{id_of}
+use Rattle.wc_events.specs.BufferObjects.{count, text}
+pub use Rattle.wc_keys.specs.Events.{nick_path}
 
 abbrev pub nick_keys : List ℕ
-nick_keys = codes "group:chr,visible:chr,level:int,name:str,color:str,prefix:str,prefix_color:str"
+nick_keys = list_text l.Nicks
 
 abbrev pub diff_keys : List ℕ
-diff_keys
-    =
-    codes "_diff:chr,group:chr,visible:chr,level:int,name:str,color:str,prefix:str,prefix_color:str"
+diff_keys = list_text l.Diff
+
+-- the value of a group or a nick under each key
+abbrev pub nick_value : Item → Key → Option Object
+nick_value i key.Group = Some (o.Chr (truth i.is_group))
+nick_value i key.Visible = Some (o.Chr (truth i.visible))
+nick_value i key.Level = Some (o.Int (count i.level))
+nick_value i key.Name = Some (text i.name)
+nick_value i key.Color = Some (text i.color)
+nick_value i key.Prefix = Some (text i.prefix)
+nick_value i key.PrefixColor = Some (text i.prefix_color)
+nick_value i _ = None
 
 -- the values of a group or a nick, in the order of the keys
 unfoldable pub nick_values : Item → List Object
-nick_values i =
-    o.Chr (truth i.is_group) ∷ o.Chr (truth i.visible) ∷ o.Int (count i.level) ∷
-    text i.name ∷ text i.color ∷ text i.prefix ∷ text i.prefix_color ∷ []
+nick_values i = filter_map (nick_value i) (keys_in l.Nicks)
 
 -- a group or a nick of a buffer's nicklist
 abbrev pub nick_item : Handle → Item → HdaItem

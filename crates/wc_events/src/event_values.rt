@@ -1,102 +1,141 @@
-ghost use Rattle.std.specs.Prelude.{◌≡◌, ◌++◌, ◌∷◌, [], IfOk, OnOk, List};
-ghost use Rattle.wc_text.specs.declared.names.Pair.{Pair};
-ghost use Rattle.wc_buffers.specs.declared.row.BufferRow.{BufferRow};
-ghost use Rattle.wc_events.specs.BufferObjects.{named_values, opened_values, placed_values};
-ghost use Rattle.wc_events.specs.BufferObjects.{renamed_values, title_values, vars_values};
-ghost use Rattle.wc_objects.specs.declared.object.Object.TheVariants as objects;
+//! The values of a buffer, by their keys.
 
-use crate::values::{count, push_described, push_int, push_pointer, push_table, push_text};
+ghost use Rattle.std.specs.Prelude.{◌≡◌, IfOk};
+ghost use Rattle.std.specs.List.{filter_map};
+ghost use Rattle.wc_events.specs.BufferObjects.{noticed_value, entry_value, numbered_value};
+ghost use Rattle.wc_events.specs.BufferObjects.{told_value};
+
+use crate::values::{count, table, text, truth};
 use std::alloc::Global;
 use wc_buffers::{BufferRow, Vars};
+use wc_keys::Key;
 use wc_model::Notice;
 use wc_objects::Object;
 use wc_text::{Items, NoMemory};
 
-/// The number and the full name, with which the values of each event of a buffer begin.
-#[tactic(auto, unfolding(crate::specs::BufferObjects::named_values))]
-pub(crate) fn named_values(alloc: Global, notice: &Notice) -> Result<Items<Object>, NoMemory>
-    ensures { IfOk result (λ values. values ≡ named_values notice.now) }
+/// What a notice says of its buffer under a key. None under another key.
+fn noticed_value(alloc: Global, notice: &Notice, key: Key) -> Result<Option<Object>, NoMemory>
+    ensures { IfOk result (λ value. value ≡ noticed_value notice.now key) }
 {
-    let mut values = Items::new(alloc);
-    push_int(&mut values, count(u64::from(notice.number)))?;
-    push_text(alloc, &mut values, &notice.full_name)?;
-    Ok(values)
+    let value = match key {
+        Key::Number => Object::Int(count(u64::from(notice.number))),
+        Key::FullName => text(alloc, &notice.full_name)?,
+        Key::PrevBuffer => Object::Ptr(notice.prev.0),
+        Key::NextBuffer => Object::Ptr(notice.next.0),
+        _ => return Ok(None),
+    };
+    Ok(Some(value))
 }
 
-/// Puts the buffers before and after one after values.
-fn push_near(values: &mut Items<Object>, notice: &Notice) -> Result<(), NoMemory>
-    ensures { OnOk result (values.new ≡ values.old ++ objects.Ptr notice.now.prev.0
-        ∷ objects.Ptr notice.now.next.0 ∷ []) }
+/// What a buffer has under a key, by its row and its variables. None under a key that is of no
+/// buffer, and under those that say where it is among the others.
+pub fn entry_value(
+    alloc: Global,
+    row: &BufferRow,
+    vars: &Vars,
+    key: Key,
+) -> Result<Option<Object>, NoMemory>
+    ensures { IfOk result (λ value. value
+        ≡ entry_value (record { row = row.now; vars = vars.now }) key) }
 {
-    push_pointer(values, notice.prev)?;
-    push_pointer(values, notice.next)
+    let value = match key {
+        Key::FullName => text(alloc, &row.full_name)?,
+        Key::ShortName => text(alloc, &row.short_name)?,
+        Key::Hidden => Object::Int(truth(row.hidden)),
+        Key::Title => text(alloc, &row.title)?,
+        Key::LocalVariables => table(alloc, vars)?,
+        _ => return Ok(None),
+    };
+    Ok(Some(value))
 }
 
-#[tactic(auto, unfolding(crate::specs::BufferObjects::named_values, crate::specs::BufferObjects::placed_values))]
-pub(crate) fn placed_values(alloc: Global, notice: &Notice) -> Result<Items<Object>, NoMemory>
-    ensures { IfOk result (λ values. values ≡ placed_values notice.now) }
+/// The same with the number of the buffer.
+fn numbered_value(
+    alloc: Global,
+    number: i32,
+    row: &BufferRow,
+    vars: &Vars,
+    key: Key,
+) -> Result<Option<Object>, NoMemory>
+    ensures { IfOk result (λ value. value
+        ≡ numbered_value number (record { row = row.now; vars = vars.now }) key) }
 {
-    let mut values = named_values(alloc, notice)?;
-    push_near(&mut values, notice)?;
-    Ok(values)
+    match key {
+        Key::Number => Ok(Some(Object::Int(number))),
+        _ => entry_value(alloc, row, vars, key),
+    }
 }
 
-#[tactic(auto, unfolding(crate::specs::BufferObjects::named_values, crate::specs::BufferObjects::opened_values))]
-pub(crate) fn opened_values(
+/// What is told of a buffer after a change under a key.
+fn told_value(
     alloc: Global,
     notice: &Notice,
     row: &BufferRow,
     vars: &Vars,
-) -> Result<Items<Object>, NoMemory>
-    ensures { IfOk result (λ values. values ≡ opened_values notice.now
-        (record { row = row.now; vars = vars.now })) }
+    key: Key,
+) -> Result<Option<Object>, NoMemory>
+    ensures { IfOk result (λ value. value
+        ≡ told_value notice.now (record { row = row.now; vars = vars.now }) key) }
 {
-    let mut values = named_values(alloc, notice)?;
-    push_described(alloc, &mut values, row, vars)?;
-    push_near(&mut values, notice)?;
+    match noticed_value(alloc, notice, key)? {
+        Some(value) => Ok(Some(value)),
+        None => entry_value(alloc, row, vars, key),
+    }
+}
+
+/// What a notice says of its buffer under these keys.
+pub(crate) fn noticed_values(
+    alloc: Global,
+    notice: &Notice,
+    keys: &[Key],
+) -> Result<Items<Object>, NoMemory>
+    ensures { IfOk result (λ values. values ≡ filter_map (noticed_value notice.now) keys.now) }
+{
+    let mut values = Items::with_room(alloc, keys.len())?;
+    for key in keys {
+        if let Some(value) = noticed_value(alloc, notice, *key)? {
+            values.push(value)?;
+        }
+    }
     Ok(values)
 }
 
-#[tactic(auto, unfolding(crate::specs::BufferObjects::named_values, crate::specs::BufferObjects::renamed_values))]
-pub(crate) fn renamed_values(
+/// What is told of a buffer after a change under these keys.
+pub(crate) fn told_values(
     alloc: Global,
     notice: &Notice,
     row: &BufferRow,
     vars: &Vars,
+    keys: &[Key],
 ) -> Result<Items<Object>, NoMemory>
-    ensures { IfOk result (λ values. values ≡ renamed_values notice.now
-        (record { row = row.now; vars = vars.now })) }
+    ensures { IfOk result (λ values. values
+        ≡ filter_map (told_value notice.now (record { row = row.now; vars = vars.now })) keys.now) }
 {
-    let mut values = named_values(alloc, notice)?;
-    push_text(alloc, &mut values, &row.short_name)?;
-    push_table(alloc, &mut values, vars)?;
+    let mut values = Items::with_room(alloc, keys.len())?;
+    for key in keys {
+        if let Some(value) = told_value(alloc, notice, row, vars, *key)? {
+            values.push(value)?;
+        }
+    }
     Ok(values)
 }
 
-#[tactic(auto, unfolding(crate::specs::BufferObjects::named_values, crate::specs::BufferObjects::title_values))]
-pub(crate) fn title_values(
+/// What a buffer of this number has under these keys.
+pub(crate) fn numbered_values(
     alloc: Global,
-    notice: &Notice,
+    number: i32,
     row: &BufferRow,
-) -> Result<Items<Object>, NoMemory>
-    ensures { IfOk result (λ values. (vars : List Pair) →
-        values ≡ title_values notice.now (record { row = row.now; vars = vars })) }
-{
-    let mut values = named_values(alloc, notice)?;
-    push_text(alloc, &mut values, &row.title)?;
-    Ok(values)
-}
-
-#[tactic(auto, unfolding(crate::specs::BufferObjects::named_values, crate::specs::BufferObjects::vars_values))]
-pub(crate) fn vars_values(
-    alloc: Global,
-    notice: &Notice,
     vars: &Vars,
+    keys: &[Key],
 ) -> Result<Items<Object>, NoMemory>
-    ensures { IfOk result (λ values. (row : BufferRow) →
-        values ≡ vars_values notice.now (record { row = row; vars = vars.now })) }
+    ensures { IfOk result (λ values. values
+        ≡ filter_map (numbered_value number (record { row = row.now; vars = vars.now })) keys.now) }
 {
-    let mut values = named_values(alloc, notice)?;
-    push_table(alloc, &mut values, vars)?;
+    let mut values = Items::with_room(alloc, keys.len())?;
+    for key in keys {
+        if let Some(value) = numbered_value(alloc, number, row, vars, *key)? {
+            values.push(value)?;
+        }
+    }
     Ok(values)
 }

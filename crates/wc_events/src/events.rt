@@ -3,56 +3,42 @@ ghost use Rattle.std.specs.Str.{IsUtf8};
 ghost use Rattle.wc_buffers.specs.Calls.{entry_of};
 ghost use Rattle.wc_events.specs.BufferObjects.{named_objects, placed_objects, opened_objects};
 ghost use Rattle.wc_events.specs.BufferObjects.{renamed_objects, title_objects, vars_objects};
-ghost use Rattle.wc_events.specs.BufferObjects.{objects_of, event_objects, id_of};
+ghost use Rattle.wc_events.specs.BufferObjects.{objects_of, event_objects};
 ghost use Rattle.wc_events.specs.LineObjects.{added_objects};
 ghost use Rattle.wc_lines.specs.Ring.{newest};
 ghost use Rattle.wc_model.specs.World.{lines_at};
 ghost use Rattle.wc_objects.specs.Forms.{well_formed};
 
 use crate::buffers::row_and_vars;
-use crate::event_values::{
-    named_values, opened_values, placed_values, renamed_values, title_values, vars_values,
-};
+use crate::event_values::{noticed_values, told_values};
 use crate::line_objects::line_added;
 use crate::values::about;
 use std::alloc::Global;
 use wc_buffers::Buffers;
+use wc_keys::KeyList;
 use wc_model::{EventKind, Notice};
 use wc_objects::Object;
 use wc_text::{Handle, NoMemory};
 use wc_world::World;
 
-const NAMED_KEYS: &[u8] = b"number:int,full_name:str";
-
-const PLACED_KEYS: &[u8] = b"number:int,full_name:str,prev_buffer:ptr,next_buffer:ptr";
-
-const OPENED_KEYS: &[u8] =
-    b"number:int,full_name:str,short_name:str,hidden:int,title:str,local_variables:htb,prev_buffer:ptr,next_buffer:ptr";
-
-const RENAMED_KEYS: &[u8] = b"number:int,full_name:str,short_name:str,local_variables:htb";
-
-const TITLE_KEYS: &[u8] = b"number:int,full_name:str,title:str";
-
-const VARS_KEYS: &[u8] = b"number:int,full_name:str,local_variables:htb";
-
-#[tactic(auto, using(crate::proofs::EventsFormed::named_formed))]
+#[tactic(auto, using(crate::proofs::EventsFormed::named_formed), unfolding(crate::specs::BufferObjects::named_values))]
 fn named_object(alloc: Global, notice: &Notice) -> Result<[Object; 1], NoMemory>
     requires text { IsUtf8 notice.now.full_name }
     ensures objects { IfOk result (λ objects. objects ≡ named_objects notice.now) }
     ensures formed { IfOk result (λ objects. well_formed objects ≡ true) }
 {
-    let values = named_values(alloc, notice)?;
-    about(alloc, NAMED_KEYS, notice.buffer, values)
+    let values = noticed_values(alloc, notice, KeyList::Named.keys())?;
+    about(alloc, KeyList::Named, notice.buffer, values)
 }
 
-#[tactic(auto, using(crate::proofs::EventsFormed::placed_formed))]
+#[tactic(auto, using(crate::proofs::EventsFormed::placed_formed), unfolding(crate::specs::BufferObjects::placed_values))]
 fn placed_object(alloc: Global, notice: &Notice) -> Result<[Object; 1], NoMemory>
     requires text { IsUtf8 notice.now.full_name }
     ensures objects { IfOk result (λ objects. objects ≡ placed_objects notice.now) }
     ensures formed { IfOk result (λ objects. well_formed objects ≡ true) }
 {
-    let values = placed_values(alloc, notice)?;
-    about(alloc, PLACED_KEYS, notice.buffer, values)
+    let values = noticed_values(alloc, notice, KeyList::Placed.keys())?;
+    about(alloc, KeyList::Placed, notice.buffer, values)
 }
 
 fn opened_object(
@@ -68,11 +54,11 @@ fn opened_object(
     let Some((row, vars)) = row_and_vars(buffers, notice.buffer) else {
         return Ok(None);
     };
-    let values = opened_values(alloc, notice, row, vars)?;
-    Ok(Some(about(alloc, OPENED_KEYS, notice.buffer, values)?))
+    let values = told_values(alloc, notice, row, vars, KeyList::Opened.keys())?;
+    Ok(Some(about(alloc, KeyList::Opened, notice.buffer, values)?))
 }
 
-#[tactic(auto, using(crate::proofs::EventsFormed::renamed_formed))]
+#[tactic(auto, unfolding(crate::specs::BufferObjects::renamed_values))]
 fn renamed_object(
     alloc: Global,
     buffers: &Buffers,
@@ -86,10 +72,11 @@ fn renamed_object(
     let Some((row, vars)) = row_and_vars(buffers, notice.buffer) else {
         return Ok(None);
     };
-    let values = renamed_values(alloc, notice, row, vars)?;
-    Ok(Some(about(alloc, RENAMED_KEYS, notice.buffer, values)?))
+    let values = told_values(alloc, notice, row, vars, KeyList::Renamed.keys())?;
+    Ok(Some(about(alloc, KeyList::Renamed, notice.buffer, values)?))
 }
 
+#[tactic(auto, unfolding(crate::specs::BufferObjects::title_values))]
 fn title_changed(
     alloc: Global,
     buffers: &Buffers,
@@ -100,13 +87,14 @@ fn title_changed(
         (entry_of notice.now.buffer buffers.now)) }
     ensures formed { IfOk result (λ told. IfSome told (λ objects. well_formed objects ≡ true)) }
 {
-    let Some((row, _)) = row_and_vars(buffers, notice.buffer) else {
+    let Some((row, vars)) = row_and_vars(buffers, notice.buffer) else {
         return Ok(None);
     };
-    let values = title_values(alloc, notice, row)?;
-    Ok(Some(about(alloc, TITLE_KEYS, notice.buffer, values)?))
+    let values = told_values(alloc, notice, row, vars, KeyList::Titled.keys())?;
+    Ok(Some(about(alloc, KeyList::Titled, notice.buffer, values)?))
 }
 
+#[tactic(auto, unfolding(crate::specs::BufferObjects::vars_values))]
 fn vars_changed(
     alloc: Global,
     buffers: &Buffers,
@@ -117,11 +105,11 @@ fn vars_changed(
         (entry_of notice.now.buffer buffers.now)) }
     ensures formed { IfOk result (λ told. IfSome told (λ objects. well_formed objects ≡ true)) }
 {
-    let Some((_, vars)) = row_and_vars(buffers, notice.buffer) else {
+    let Some((row, vars)) = row_and_vars(buffers, notice.buffer) else {
         return Ok(None);
     };
-    let values = vars_values(alloc, notice, vars)?;
-    Ok(Some(about(alloc, VARS_KEYS, notice.buffer, values)?))
+    let values = told_values(alloc, notice, row, vars, KeyList::Variables.keys())?;
+    Ok(Some(about(alloc, KeyList::Variables, notice.buffer, values)?))
 }
 
 /// The newest line of a buffer, where it has one.
@@ -174,32 +162,5 @@ pub fn event_objects(
         | EventKind::Nicklist
         | EventKind::NicklistDiff
         | EventKind::NickTouched => Ok(None),
-    }
-}
-
-/// The id under which an event is told. A touch of a nicklist is told under none.
-pub fn event_id(kind: EventKind) -> &'static [u8]
-    ensures id { result.now ≡ id_of kind }
-    ensures text { IsUtf8 result.now }
-{
-    match kind {
-        EventKind::Opened => b"_buffer_opened",
-        EventKind::Moved => b"_buffer_moved",
-        EventKind::Merged => b"_buffer_merged",
-        EventKind::Unmerged => b"_buffer_unmerged",
-        EventKind::Hidden => b"_buffer_hidden",
-        EventKind::Unhidden => b"_buffer_unhidden",
-        EventKind::Renamed => b"_buffer_renamed",
-        EventKind::TitleChanged => b"_buffer_title_changed",
-        EventKind::VarAdded => b"_buffer_localvar_added",
-        EventKind::VarChanged => b"_buffer_localvar_changed",
-        EventKind::VarRemoved => b"_buffer_localvar_removed",
-        EventKind::Cleared => b"_buffer_cleared",
-        EventKind::Closing => b"_buffer_closing",
-        EventKind::LineAdded => b"_buffer_line_added",
-        EventKind::LineDataChanged => b"_buffer_line_data_changed",
-        EventKind::Nicklist => b"_nicklist",
-        EventKind::NicklistDiff => b"_nicklist_diff",
-        EventKind::NickTouched => b"",
     }
 }

@@ -2,13 +2,12 @@ ghost use Rattle.std.specs.Prelude.{◌≡◌, true, IfOk};
 ghost use Rattle.wc_objects.specs.Forms.{well_formed};
 ghost use Rattle.wc_events.specs.BufferObjects.{flag_item, flag_items, flag_objects, is_flipped};
 
-use crate::line_objects::truth;
+use crate::line_objects::values_under;
 use std::alloc::Global;
+use wc_keys::{KeyList, LINE_PATH};
 use wc_lines::{Lines, PackedLine};
 use wc_objects::{Hda, HdaItem, Object};
 use wc_text::{Handle, Items, NoMemory, Text};
-
-const FLAG_KEYS: &[u8] = b"buffer:ptr,displayed:chr";
 
 fn is_flipped(flips: &Items<Handle>, line: &PackedLine) -> bool
     ensures { result ≡ is_flipped flips.now line.now }
@@ -24,9 +23,7 @@ fn flag_item(alloc: Global, buffer: Handle, line: &PackedLine) -> Result<HdaItem
 {
     let mut pointers = Items::with_room(alloc, 1)?;
     pointers.push(line.content().0)?;
-    let mut values = Items::with_room(alloc, 2)?;
-    values.push(Object::Ptr(buffer.0))?;
-    values.push(Object::Chr(truth(line.displayed())))?;
+    let values = values_under(alloc, buffer, line, KeyList::Flags.keys())?;
     Ok(HdaItem { pointers, values })
 }
 
@@ -61,8 +58,8 @@ pub fn flag_objects(
     ensures formed { IfOk result (λ objects. well_formed objects ≡ true) }
 {
     let items = flag_items(alloc, buffer, flips, lines)?;
-    let path = Text::from_slice(alloc, b"line_data")?;
-    let keys = Text::from_slice(alloc, FLAG_KEYS)?;
+    let path = Text::from_slice(alloc, LINE_PATH)?;
+    let keys = Text::from_slice(alloc, KeyList::Flags.text())?;
     Ok([Object::Hda(Hda {
         path: Some(path),
         keys: Some(keys),

@@ -2,7 +2,6 @@
 #![tactic(auto)]
 
 mod buffers;
-mod dump_writer;
 mod event_values;
 mod events;
 mod flags;
@@ -11,9 +10,8 @@ mod nick_objects;
 pub mod parts;
 mod values;
 
-pub use buffers::buffer_dump;
-pub use dump_writer::append_line_dump;
-pub use events::{event_id, event_objects};
+pub use events::event_objects;
 pub use flags::flag_objects;
-pub use line_objects::{LINE_ADDED, line_added};
+pub use line_objects::line_added;
 pub use nick_objects::{nick_dump, nick_list, push_kind, push_objects};
+pub use wc_keys::event_id;

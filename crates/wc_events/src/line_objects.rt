@@ -1,26 +1,16 @@
-ghost use Rattle.std.specs.Prelude.{◌≡◌, ◌++◌, true, IfOk, OnOk, codes};
+ghost use Rattle.std.specs.Prelude.{◌≡◌, true, IfOk};
+ghost use Rattle.std.specs.List.{filter_map};
 ghost use Rattle.wc_lines.specs.LineText.{HasUtf8Texts};
 ghost use Rattle.wc_objects.specs.Forms.{well_formed};
-ghost use Rattle.wc_events.specs.LineObjects.{truth, moment, texts, line_values};
-ghost use Rattle.wc_events.specs.LineObjects.{date_values, mark_values, text_values};
+ghost use Rattle.wc_events.specs.LineObjects.{truth, moment, texts, line_value};
 ghost use Rattle.wc_events.specs.LineObjects.{on_path, added_item, added_objects};
 
 use crate::values::text_of;
 use std::alloc::Global;
+use wc_keys::{Key, KeyList, LINE_PATH};
 use wc_lines::PackedLine;
 use wc_objects::{Hda, HdaItem, Kind, Object};
 use wc_text::{Handle, Items, NoMemory, Text};
-
-/// The id of the event of a new line.
-pub const LINE_ADDED: &[u8] = b"_buffer_line_added";
-
-/// The keys of a line, in the event and in the dump.
-pub(crate) const LINE_KEYS: &[u8] =
-    b"buffer:ptr,date:tim,date_printed:tim,displayed:chr,notify_level:chr,highlight:chr,\
-tags_array:arr,prefix:str,message:str";
-
-/// How many values a line has.
-const LINE_VALUES: usize = 9;
 
 /// 1 where it is so, and else 0.
 pub fn truth(on: bool) -> i8
@@ -47,45 +37,48 @@ pub fn tags(alloc: Global, line: &PackedLine) -> Result<Items<Object>, NoMemory>
     Ok(values)
 }
 
-/// Puts the buffer of a line and its dates after the values.
-fn push_dates(values: &mut Items<Object>, buffer: Handle, line: &PackedLine) -> Result<(), NoMemory>
-    ensures { OnOk result (values.new ≡ values.old ++ date_values buffer line.now) }
+/// The value of a line of a buffer under a key. None under a key that is of no line.
+pub fn line_value(
+    alloc: Global,
+    buffer: Handle,
+    line: &PackedLine,
+    key: Key,
+) -> Result<Option<Object>, NoMemory>
+    ensures { IfOk result (λ value. value ≡ line_value buffer line.now key) }
 {
-    values.push(Object::Ptr(buffer.0))?;
-    values.push(Object::Tim(moment(line.date())))?;
-    values.push(Object::Tim(moment(line.date_printed())))
+    let value = match key {
+        Key::Buffer => Object::Ptr(buffer.0),
+        Key::Date => Object::Tim(moment(line.date())),
+        Key::DatePrinted => Object::Tim(moment(line.date_printed())),
+        Key::Displayed => Object::Chr(truth(line.displayed())),
+        Key::NotifyLevel => Object::Chr(line.notify()),
+        Key::Highlight => Object::Chr(truth(line.highlight())),
+        Key::TagsArray => Object::Arr {
+            kind: Kind::Str,
+            values: tags(alloc, line)?,
+        },
+        Key::Prefix => text_of(alloc, line.prefix())?,
+        Key::Message => text_of(alloc, line.message())?,
+        _ => return Ok(None),
+    };
+    Ok(Some(value))
 }
 
-/// Puts the marks of a line after the values.
-fn push_marks(values: &mut Items<Object>, line: &PackedLine) -> Result<(), NoMemory>
-    ensures { OnOk result (values.new ≡ values.old ++ mark_values line.now) }
+/// The values of a line of a buffer under these keys.
+pub(crate) fn values_under(
+    alloc: Global,
+    buffer: Handle,
+    line: &PackedLine,
+    keys: &[Key],
+) -> Result<Items<Object>, NoMemory>
+    ensures { IfOk result (λ values. values ≡ filter_map (line_value buffer line.now) keys.now) }
 {
-    values.push(Object::Chr(truth(line.displayed())))?;
-    values.push(Object::Chr(line.notify()))?;
-    values.push(Object::Chr(truth(line.highlight())))
-}
-
-/// Puts the texts of a line after the values.
-fn push_texts(values: &mut Items<Object>, alloc: Global, line: &PackedLine) -> Result<(), NoMemory>
-    ensures { OnOk result (values.new ≡ values.old ++ text_values line.now) }
-{
-    values.push(Object::Arr {
-        kind: Kind::Str,
-        values: tags(alloc, line)?,
-    })?;
-    values.push(text_of(alloc, line.prefix())?)?;
-    values.push(text_of(alloc, line.message())?)
-}
-
-/// The values of a line, in the order of the keys.
-#[tactic(auto, unfolding(crate::specs::LineObjects::line_values))]
-fn line_values(alloc: Global, buffer: Handle, line: &PackedLine) -> Result<Items<Object>, NoMemory>
-    ensures { IfOk result (λ values. values ≡ line_values buffer line.now) }
-{
-    let mut values = Items::with_room(alloc, LINE_VALUES)?;
-    push_dates(&mut values, buffer, line)?;
-    push_marks(&mut values, line)?;
-    push_texts(&mut values, alloc, line)?;
+    let mut values = Items::with_room(alloc, keys.len())?;
+    for key in keys {
+        if let Some(value) = line_value(alloc, buffer, line, *key)? {
+            values.push(value)?;
+        }
+    }
     Ok(values)
 }
 
@@ -94,7 +87,7 @@ pub(crate) fn on_path(alloc: Global, path: &[u8], items: Items<HdaItem>) -> Resu
     ensures { IfOk result (λ hda. hda ≡ on_path path.now items) }
 {
     let path = Text::from_slice(alloc, path)?;
-    let keys = Text::from_slice(alloc, LINE_KEYS)?;
+    let keys = Text::from_slice(alloc, KeyList::LineData.text())?;
     Ok(Hda {
         path: Some(path),
         keys: Some(keys),
@@ -102,13 +95,13 @@ pub(crate) fn on_path(alloc: Global, path: &[u8], items: Items<HdaItem>) -> Resu
     })
 }
 
-#[tactic(auto, unfolding(crate::specs::LineObjects::added_item))]
+#[tactic(auto, unfolding(crate::specs::LineObjects::added_item, crate::specs::LineObjects::line_values))]
 fn added_item(alloc: Global, buffer: Handle, line: &PackedLine) -> Result<HdaItem, NoMemory>
     ensures { IfOk result (λ item. item ≡ added_item buffer line.now) }
 {
     let mut pointers = Items::with_room(alloc, 1)?;
     pointers.push(line.content().0)?;
-    let values = line_values(alloc, buffer, line)?;
+    let values = values_under(alloc, buffer, line, KeyList::LineData.keys())?;
     Ok(HdaItem { pointers, values })
 }
 
@@ -121,6 +114,6 @@ pub fn line_added(alloc: Global, buffer: Handle, line: &PackedLine) -> Result<[O
 {
     let mut items = Items::with_room(alloc, 1)?;
     items.push(added_item(alloc, buffer, line)?)?;
-    let hda = on_path(alloc, b"line_data", items)?;
+    let hda = on_path(alloc, LINE_PATH, items)?;
     Ok([Object::Hda(hda)])
 }

@@ -2,18 +2,21 @@
 
 ghost use Rattle.std.specs.Prelude.{◌≡◌, ◌++◌, ◌∷◌, [], true, map, Some, IfOk, IfSome, OnOk};
 ghost use Rattle.std.specs.Prelude.{option_map};
+ghost use Rattle.std.specs.List.{filter_map};
 ghost use Rattle.wc_buffers.specs.Calls.{entry_of};
 ghost use Rattle.wc_nickdiff.specs.NickPush.{full_list, root_item};
+ghost use Rattle.wc_keys.specs.Keys.{list_text};
 ghost use Rattle.wc_objects.specs.Forms.{well_formed};
 ghost use Rattle.wc_events.specs.Dumps.{if_there};
 ghost use Rattle.wc_events.specs.NickForms.{are_nicks, nick_group, on_nick_path, IsPushText};
-ghost use Rattle.wc_events.specs.NickObjects.{nick_values, nick_item, mark_code, diff_item};
+ghost use Rattle.wc_events.specs.NickObjects.{nick_value, nick_values, nick_item, mark_code, diff_item};
 ghost use Rattle.wc_events.specs.NickObjects.{push_kind, push_objects, root_and_rows, nick_dump};
 ghost use Rattle.wc_events.specs.NickObjects.{nick_list};
 
 use crate::line_objects::truth;
-use crate::values::{count, push_chr, push_int, push_text};
+use crate::values::{count, push_chr, text};
 use std::alloc::Global;
+use wc_keys::{Key, KeyList, NICK_PATH};
 use wc_model::EventKind;
 use wc_nickdiff::{DiffItem, Mark, Push};
 use wc_nicklist::{Item, Nicklist};
@@ -21,33 +24,48 @@ use wc_objects::{Hda, HdaItem, Object};
 use wc_text::{Handle, Items, NoMemory, Text};
 use wc_world::World;
 
-const NICK_PATH: &[u8] = b"buffer/nicklist_item";
-
-/// The keys of a group or a nick.
-const NICK_KEYS: &[u8] =
-    b"group:chr,visible:chr,level:int,name:str,color:str,prefix:str,prefix_color:str";
-
-/// The keys of an item of a diff.
-const DIFF_KEYS: &[u8] =
-    b"_diff:chr,group:chr,visible:chr,level:int,name:str,color:str,prefix:str,prefix_color:str";
-
 // ---- items
 
-/// How many values a group or a nick has.
-const NICK_VALUES: usize = 7;
+/// The value of a group or a nick under a key. None under a key that is of neither.
+fn nick_value(alloc: Global, item: &Item, key: Key) -> Result<Option<Object>, NoMemory>
+    ensures { IfOk result (λ value. value ≡ nick_value item.now key) }
+{
+    let value = match key {
+        Key::Group => Object::Chr(truth(item.is_group)),
+        Key::Visible => Object::Chr(truth(item.visible)),
+        Key::Level => Object::Int(count(item.level)),
+        Key::Name => text(alloc, &item.name)?,
+        Key::Color => text(alloc, &item.color)?,
+        Key::Prefix => text(alloc, &item.prefix)?,
+        Key::PrefixColor => text(alloc, &item.prefix_color)?,
+        _ => return Ok(None),
+    };
+    Ok(Some(value))
+}
+
+/// Puts the values of a group or a nick under these keys after others.
+fn push_under(
+    alloc: Global,
+    values: &mut Items<Object>,
+    item: &Item,
+    keys: &[Key],
+) -> Result<(), NoMemory>
+    ensures { OnOk result (values.new ≡ values.old ++ filter_map (nick_value item.now) keys.now) }
+{
+    for key in keys {
+        if let Some(value) = nick_value(alloc, item, *key)? {
+            values.push(value)?;
+        }
+    }
+    Ok(())
+}
 
 /// Puts the values of a group or a nick after others, in the order of the keys.
 #[tactic(auto, unfolding(crate::specs::NickObjects::nick_values))]
 fn push_values(alloc: Global, values: &mut Items<Object>, item: &Item) -> Result<(), NoMemory>
     ensures { OnOk result (values.new ≡ values.old ++ nick_values item.now) }
 {
-    push_chr(values, truth(item.is_group))?;
-    push_chr(values, truth(item.visible))?;
-    push_int(values, count(item.level))?;
-    push_text(alloc, values, &item.name)?;
-    push_text(alloc, values, &item.color)?;
-    push_text(alloc, values, &item.prefix)?;
-    push_text(alloc, values, &item.prefix_color)
+    push_under(alloc, values, item, KeyList::Nicks.keys())
 }
 
 /// What names a group or a nick: its buffer and itself.
@@ -64,7 +82,7 @@ fn nick_item(alloc: Global, buffer: Handle, item: &Item) -> Result<HdaItem, NoMe
     ensures { IfOk result (λ told. told ≡ nick_item buffer item.now) }
 {
     let pointers = pointers(alloc, buffer, item)?;
-    let mut values = Items::with_room(alloc, NICK_VALUES)?;
+    let mut values = Items::with_room(alloc, KeyList::Nicks.keys().len())?;
     push_values(alloc, &mut values, item)?;
     Ok(HdaItem { pointers, values })
 }
@@ -85,7 +103,7 @@ fn diff_item(alloc: Global, buffer: Handle, diff: &DiffItem) -> Result<HdaItem, 
     ensures { IfOk result (λ told. told ≡ diff_item buffer diff.now) }
 {
     let pointers = pointers(alloc, buffer, &diff.item)?;
-    let mut values = Items::with_room(alloc, NICK_VALUES + 1)?;
+    let mut values = Items::with_room(alloc, KeyList::Diff.keys().len())?;
     push_chr(&mut values, mark_code(diff.mark))?;
     push_values(alloc, &mut values, &diff.item)?;
     Ok(HdaItem { pointers, values })
@@ -94,13 +112,13 @@ fn diff_item(alloc: Global, buffer: Handle, diff: &DiffItem) -> Result<HdaItem, 
 /// The object of these items.
 fn on_nick_path(
     alloc: Global,
-    keys: &[u8],
+    keys: KeyList,
     items: Items<HdaItem>,
 ) -> Result<Items<Object>, NoMemory>
-    ensures { IfOk result (λ objects. objects ≡ on_nick_path keys.now items) }
+    ensures { IfOk result (λ objects. objects ≡ on_nick_path (list_text keys) items) }
 {
     let path = Text::from_slice(alloc, NICK_PATH)?;
-    let keys = Text::from_slice(alloc, keys)?;
+    let keys = Text::from_slice(alloc, keys.text())?;
     let mut objects = Items::with_room(alloc, 1)?;
     objects.push(Object::Hda(Hda {
         path: Some(path),
@@ -162,11 +180,11 @@ pub fn push_objects(
         Push::Nothing => Ok(None),
         Push::Diff(diff) => {
             let items = diff_items(alloc, buffer, diff)?;
-            Ok(Some(on_nick_path(alloc, DIFF_KEYS, items)?))
+            Ok(Some(on_nick_path(alloc, KeyList::Diff, items)?))
         }
         Push::Full(full) => {
             let items = full_items(alloc, buffer, full)?;
-            Ok(Some(on_nick_path(alloc, NICK_KEYS, items)?))
+            Ok(Some(on_nick_path(alloc, KeyList::Nicks, items)?))
         }
     }
 }
@@ -275,7 +293,7 @@ pub fn nick_dump(alloc: Global, world: &World) -> Result<Items<Object>, NoMemory
     for group in world.buffers().groups() {
         push_group(alloc, &mut items, world, group)?;
     }
-    on_nick_path(alloc, NICK_KEYS, items)
+    on_nick_path(alloc, KeyList::Nicks, items)
 }
 
 /// The object that holds the nicklist of a buffer, the root and its rows. None where the buffer is
@@ -293,5 +311,5 @@ pub fn nick_list(
     };
     let mut items = Items::new(alloc);
     push_list(alloc, &mut items, buffer, list)?;
-    Ok(Some(on_nick_path(alloc, NICK_KEYS, items)?))
+    Ok(Some(on_nick_path(alloc, KeyList::Nicks, items)?))
 }

@@ -1,10 +1,12 @@
 ghost use Rattle.std.specs.Prelude.{◌≡◌, ◌++◌, ◌∷◌, [], map, IfOk, OnOk, Some};
 ghost use Rattle.wc_events.specs.BufferObjects.{about, count, pair_of, table, text};
 ghost use Rattle.wc_events.specs.LineObjects.{truth};
+ghost use Rattle.wc_keys.specs.Keys.{list_text};
 ghost use Rattle.wc_objects.specs.declared.object.Object.TheVariants as objects;
 
 use std::alloc::Global;
-use wc_buffers::{BufferRow, Vars};
+use wc_buffers::Vars;
+use wc_keys::{BUFFER_PATH, KeyList};
 use wc_objects::{Hda, HdaItem, Kind, Object};
 use wc_text::{Handle, Items, NoMemory, Text};
 
@@ -68,24 +70,6 @@ pub fn table(alloc: Global, vars: &Vars) -> Result<Object, NoMemory>
     })
 }
 
-/// Puts a text after values.
-pub(crate) fn push_text(
-    alloc: Global,
-    values: &mut Items<Object>,
-    value: &Text,
-) -> Result<(), NoMemory>
-    ensures { OnOk result (values.new ≡ values.old ++ text value.now ∷ []) }
-{
-    values.push(text(alloc, value)?)
-}
-
-/// Puts an integer after values.
-pub(crate) fn push_int(values: &mut Items<Object>, value: i32) -> Result<(), NoMemory>
-    ensures { OnOk result (values.new ≡ values.old ++ objects.Int value ∷ []) }
-{
-    values.push(Object::Int(value))
-}
-
 /// Puts a small integer after values.
 pub(crate) fn push_chr(values: &mut Items<Object>, value: i8) -> Result<(), NoMemory>
     ensures { OnOk result (values.new ≡ values.old ++ objects.Chr value ∷ []) }
@@ -93,55 +77,21 @@ pub(crate) fn push_chr(values: &mut Items<Object>, value: i8) -> Result<(), NoMe
     values.push(Object::Chr(value))
 }
 
-/// Puts what a handle names after values.
-pub(crate) fn push_pointer(values: &mut Items<Object>, handle: Handle) -> Result<(), NoMemory>
-    ensures { OnOk result (values.new ≡ values.old ++ objects.Ptr handle.0 ∷ []) }
-{
-    values.push(Object::Ptr(handle.0))
-}
-
-/// Puts the variables of a buffer after values.
-pub(crate) fn push_table(
-    alloc: Global,
-    values: &mut Items<Object>,
-    vars: &Vars,
-) -> Result<(), NoMemory>
-    ensures { OnOk result (values.new ≡ values.old ++ table vars.now ∷ []) }
-{
-    values.push(table(alloc, vars)?)
-}
-
-/// Puts what is told of each new buffer beside its number and its full name after values.
-pub(crate) fn push_described(
-    alloc: Global,
-    values: &mut Items<Object>,
-    row: &BufferRow,
-    vars: &Vars,
-) -> Result<(), NoMemory>
-    ensures { OnOk result (values.new ≡ values.old ++ text row.now.short_name
-        ∷ objects.Int (truth row.now.hidden) ∷ text row.now.title ∷ table vars.now ∷ []) }
-{
-    push_text(alloc, values, &row.short_name)?;
-    push_int(values, truth(row.hidden))?;
-    push_text(alloc, values, &row.title)?;
-    push_table(alloc, values, vars)
-}
-
 /// One item of a buffer, with these keys and their values.
 pub(crate) fn about(
     alloc: Global,
-    keys: &[u8],
+    keys: KeyList,
     buffer: Handle,
     values: Items<Object>,
 ) -> Result<[Object; 1], NoMemory>
-    ensures { IfOk result (λ objects. objects ≡ about keys.now buffer values) }
+    ensures { IfOk result (λ objects. objects ≡ about (list_text keys) buffer values) }
 {
     let mut pointers = Items::with_room(alloc, 1)?;
     pointers.push(buffer.0)?;
     let mut items = Items::with_room(alloc, 1)?;
     items.push(HdaItem { pointers, values })?;
-    let path = Text::from_slice(alloc, b"buffer")?;
-    let keys = Text::from_slice(alloc, keys)?;
+    let path = Text::from_slice(alloc, BUFFER_PATH)?;
+    let keys = Text::from_slice(alloc, keys.text())?;
     Ok([Object::Hda(Hda {
         path: Some(path),
         keys: Some(keys),

@@ -18,16 +18,17 @@ use Rattle.wc_objects.specs.declared.object.Hda.{roll-Hda}
 use Rattle.wc_objects.specs.declared.object.HdaItem.{HdaItem, roll-HdaItem}
 use Rattle.wc_events.specs.BufferObjects.{text, table, count, dump_keys, dumped_values, dumped_buffer, dumped_groups, buffer_dump}
 use Rattle.wc_events.specs.LineObjects.{truth, line_keys, line_values, dumped_item, dumped_lines, line_dump}
-use Rattle.wc_events.proofs.DumpLemmas.{rows_found, all_parts, few_groups}
-use Rattle.wc_hdata.specs.declared.key.Key.{Key}
-use Rattle.wc_hdata.specs.declared.key.Key.TheVariants as k
+use Rattle.wc_events.proofs.DumpLemmas.{rows_once, all_parts, few_groups}
+use Rattle.wc_keys.specs.declared.key.Key.{Key}
+use Rattle.wc_keys.specs.declared.key.Key.TheVariants as k
 use Rattle.wc_hdata.specs.declared.path.Step.{Step}
 use Rattle.wc_hdata.specs.Answers.{path_of, head_of, place_of, step_of, count_inside}
 use Rattle.wc_hdata.specs.declared.count.Count.TheVariants.{One, All}
 use Rattle.wc_hdata.specs.declared.variable.Variable.TheVariants.{OwnLines, FirstLine, Data}
 use Rattle.wc_hdata.specs.Dumps.{buffers_text, buffers_path, buffers_keys, lines_text, lines_path, lines_keys}
 use Rattle.wc_hdata.specs.Hdata.{keys_asked, walk_object}
-use Rattle.wc_hdata.specs.Keys.{named_keys, keys_text}
+use Rattle.wc_hdata.specs.Keys.{named_keys}
+use Rattle.wc_keys.specs.Keys.{keys_text}
 use Rattle.wc_hdata.specs.Lists.{held_by}
 use Rattle.wc_hdata.specs.Paths.{h_path_of}
 use Rattle.wc_hdata.specs.Reached.{Buffer, Line_at, Data_at}
@@ -47,31 +48,31 @@ pub lines_read : path_of lines_text ≡ Some lines_path
 unfolding path_of head_of place_of step_of count_inside
 lines_read = refl
 
-abbrev buffer_keys : List Key
+abbrev pub buffer_keys : List Key
 buffer_keys = k.Number ∷ k.FullName ∷ k.ShortName ∷ k.Hidden ∷ k.Title ∷ k.LocalVariables ∷ []
 
-abbrev data_keys : List Key
+abbrev pub data_keys : List Key
 data_keys = k.Buffer ∷ k.Date ∷ k.DatePrinted ∷ k.Displayed ∷ k.NotifyLevel ∷ k.Highlight ∷ k.TagsArray ∷ k.Prefix ∷ k.Message ∷ []
 
-buffer_keys_asked : keys_asked buffers_path buffers_keys ≡ buffer_keys
+pub buffer_keys_asked : keys_asked buffers_path buffers_keys ≡ buffer_keys
 unfolding named_keys
 buffer_keys_asked = refl
 
-data_keys_asked : keys_asked lines_path lines_keys ≡ data_keys
+pub data_keys_asked : keys_asked lines_path lines_keys ≡ data_keys
 unfolding named_keys
 data_keys_asked = refl
 
-buffer_keys_written : keys_text buffer_keys ≡ dump_keys
+pub buffer_keys_written : keys_text buffer_keys ≡ dump_keys
 unfolding keys_text
 buffer_keys_written = refl
 
-data_keys_written : keys_text data_keys ≡ line_keys
+pub data_keys_written : keys_text data_keys ≡ line_keys
 unfolding keys_text
 data_keys_written = refl
 
 -- ---- the buffers in their order
 
-abbrev handle : BufferEntry → Handle
+abbrev pub handle : BufferEntry → Handle
 handle e = e.row.handle
 
 -- what is found under the handle of a buffer
@@ -177,34 +178,38 @@ from_group world once done (group ∷ groups) n few same is found =
     ∙ (λ i. group_items n world group parts.0 (group_numbers world.groups done groups group [] group n once same is refl) small i
     ++ from_group world once (done ++ group ∷ []) groups (n + 1) few regrouped more parts.1 i)
 
-few_of : (groups : EntryGroups) → AreBuffers groups → length groups ≤ 256
+pub few_of : (groups : EntryGroups) → AreBuffers groups → length groups ≤ 256
 few_of groups are = let few = few_groups groups are in omega (arith, few, length-map groups (map handle))
+
+-- each handle is that of one buffer at most
+abbrev pub AreOnce : EntryGroups → Type 0
+AreOnce groups = (h : ℕ) → times handle_of h groups ≤ 1
 
 items_at : (world : World) (buffers : List Handle) → map (item_of world buffer_keys) (nodes_at world.groups [] (map Buffer buffers)) ≡ map (buffer_item world) buffers
 items_at world [] = refl
 items_at world (buffer ∷ buffers) = ap (λ items. buffer_item world buffer ∷ items) (items_at world buffers)
 
-all_items : (world : World) → AreBuffers world.groups → map (item_of world buffer_keys) (nodes_at world.groups [] (map Buffer (all_buffers world.groups))) ≡ dumped_groups 1 world.groups
-all_items world are =
+all_items : (world : World) → AreOnce world.groups → length world.groups ≤ 256 → map (item_of world buffer_keys) (nodes_at world.groups [] (map Buffer (all_buffers world.groups))) ≡ dumped_groups 1 world.groups
+all_items world once few =
     items_at world (all_buffers world.groups) ∙ ap (map (buffer_item world)) (all_handles world.groups)
-    ∙ from_group world are.once [] world.groups 1 (few_of world.groups are) refl refl (rows_found world.groups are)
+    ∙ from_group world once [] world.groups 1 few refl refl (rows_once world.groups once)
 
 -- the walk of all buffers is their dump
-pub buffers_walked : (world : World) → AreBuffers world.groups → walk_object world buffers_path buffers_keys ∷ [] ≡ buffer_dump world.groups
+pub buffers_walked : (world : World) → AreOnce world.groups → length world.groups ≤ 256 → walk_object world buffers_path buffers_keys ∷ [] ≡ buffer_dump world.groups
 unfolding walk_object reached starts
-buffers_walked world are =
+buffers_walked world once few =
     (λ i. o.Hda (roll-Hda (record { path = Some (h_path_of buffers_path); keys = Some (keys_text (buffer_keys_asked i)); items = map (item_of world (buffer_keys_asked i)) (nodes_at world.groups [] (map Buffer (all_buffers world.groups))) })) ∷ [])
-    ∙ (λ i. o.Hda (roll-Hda (record { path = Some (h_path_of buffers_path); keys = Some (buffer_keys_written i); items = all_items world are i })) ∷ [])
+    ∙ (λ i. o.Hda (roll-Hda (record { path = Some (h_path_of buffers_path); keys = Some (buffer_keys_written i); items = all_items world once few i })) ∷ [])
 
 -- ---- the items of the lines
 
-abbrev to_list : Step
+abbrev pub to_list : Step
 to_list = record { variable = OwnLines; count = One }
 
-abbrev to_lines : Step
+abbrev pub to_lines : Step
 to_lines = record { variable = FirstLine; count = All }
 
-abbrev to_data : Step
+abbrev pub to_data : Step
 to_data = record { variable = Data; count = One }
 
 abbrev line_nodes : World → List Handle → List Node
@@ -246,8 +251,8 @@ line_items world (e ∷ es) found =
     ∙ ap (λ items. items ++ flat_map (dumped_lines world) es) (data_items world e.row.handle e.row.own_lines (lines_at world e.row.handle.0))
 
 -- the walk of all lines is their dump
-pub lines_walked : (world : World) → AreBuffers world.groups → walk_object world lines_path lines_keys ∷ [] ≡ line_dump world
+pub lines_walked : (world : World) → AreOnce world.groups → walk_object world lines_path lines_keys ∷ [] ≡ line_dump world
 unfolding walk_object reached starts
-lines_walked world are =
+lines_walked world once =
     (λ i. o.Hda (roll-Hda (record { path = Some (h_path_of lines_path); keys = Some (keys_text (data_keys_asked i)); items = map (item_of world (data_keys_asked i)) (line_nodes world (all_handles world.groups i)) })) ∷ [])
-    ∙ (λ i. o.Hda (roll-Hda (record { path = Some (h_path_of lines_path); keys = Some (data_keys_written i); items = line_items world (rows world.groups) (rows_found world.groups are) i })) ∷ [])
+    ∙ (λ i. o.Hda (roll-Hda (record { path = Some (h_path_of lines_path); keys = Some (data_keys_written i); items = line_items world (rows world.groups) (rows_once world.groups once) i })) ∷ [])

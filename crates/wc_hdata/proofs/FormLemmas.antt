@@ -13,13 +13,14 @@ use Rattle.wc_objects.specs.Forms as forms
 use Rattle.wc_objects.specs.Forms.{pieces_of, names_of, is_path, named_kind, key_kind, with_kind, kinds_of_keys, kinds_of}
 use Rattle.wc_hdata.specs.declared.element.Element.{Element}
 use Rattle.wc_hdata.specs.declared.element.Element.TheVariants as Elements
-use Rattle.wc_hdata.specs.declared.key.Key.{Key}
-use Rattle.wc_hdata.specs.declared.key.Key.TheVariants as k
+use Rattle.wc_keys.specs.declared.key.Key.{Key}
+use Rattle.wc_keys.specs.declared.key.Key.TheVariants as k
 use Rattle.wc_hdata.specs.declared.path.Path.{Path}
 use Rattle.wc_hdata.specs.declared.path.Step.{Step}
-use Rattle.wc_hdata.specs.Names.{element_name, key_name}
+use Rattle.wc_hdata.specs.Names.{element_name}
+use Rattle.wc_keys.specs.Keys.{key_name}
 use Rattle.wc_hdata.specs.Paths.{target, element_of, elements_of, h_path_of}
-use Rattle.wc_hdata.specs.Keys.{kind_of_key, key_text, keys_text}
+use Rattle.wc_keys.specs.Keys.{kind_of_key, key_text, keys_text}
 use Rattle.wc_hdata.proofs.CutLemmas.{lacks, pieces_joined}
 
 -- ---- pieces of joined texts
@@ -139,6 +140,13 @@ keyed k.Highlight = record { whole = refl; kind = refl; small = refl }
 keyed k.TagsArray = record { whole = refl; kind = refl; small = refl }
 keyed k.Prefix = record { whole = refl; kind = refl; small = refl }
 keyed k.Message = record { whole = refl; kind = refl; small = refl }
+keyed k.Diff = record { whole = refl; kind = refl; small = refl }
+keyed k.Group = record { whole = refl; kind = refl; small = refl }
+keyed k.Visible = record { whole = refl; kind = refl; small = refl }
+keyed k.Level = record { whole = refl; kind = refl; small = refl }
+keyed k.Name = record { whole = refl; kind = refl; small = refl }
+keyed k.Color = record { whole = refl; kind = refl; small = refl }
+keyed k.PrefixColor = record { whole = refl; kind = refl; small = refl }
 
 key_whole : (key : Key) → lacks 44 (key_text key) ≡ true
 key_whole key = (keyed key).whole

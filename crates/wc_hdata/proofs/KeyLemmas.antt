@@ -1,12 +1,14 @@
 -- The keys that a text names, as they are read one by one.
-use Rattle.std.proofs.Common.{◌≡◌, ℕ, List, [], ◌∷◌, ◌++◌, Option, Some, None, Bool, true, false, cond, not, ◌&&◌, ◌||◌, eqb, refl, sym, ap, ◌∙◌, append_assoc, append-nil}
+use Rattle.std.proofs.Common.{◌≡◌, ℕ, List, [], ◌∷◌, ◌++◌, Option, Some, None, Bool, true, false, cond, not, ◌&&◌, ◌||◌, refl, sym, ap, ◌∙◌, append_assoc, append-nil}
 use Rattle.std.specs.List.{filter, filter_map, list_any, cons_option}
-use Rattle.std.proofs.lemmas.Bool.{eqb-true}
+use Rattle.std.specs.Prelude.{bytes_eq}
+use Rattle.std.proofs.lemmas.Slice.Eq.{bytes_eq-Decides}
 use Rattle.wc_hdata.specs.declared.element.Element.{Element}
-use Rattle.wc_hdata.specs.declared.key.Key.{Key}
+use Rattle.wc_keys.specs.declared.key.Key.{Key}
 use Rattle.wc_text.specs.Splits.{before, text_after}
 use Rattle.wc_hdata.specs.Pieces.{pieces_at}
-use Rattle.wc_hdata.specs.Keys.{index, same_key, has_key, key_named, firsts, named_keys, with_key, keys_of}
+use Rattle.wc_keys.specs.Keys.{key_name, same_key}
+use Rattle.wc_hdata.specs.Keys.{has_key, key_named, firsts, named_keys, with_key, keys_of}
 use Rattle.wc_hdata.proofs.CutLemmas.{pieces_cut}
 
 -- keys with more of them, one by one
@@ -45,7 +47,8 @@ has_push (first ∷ keys) key other = by (same_key first other) (has_push keys k
   by false e = e
 
 has_same : (keys : List Key) (key other : Key) → same_key key other ≡ true → has_key keys key ≡ has_key keys other
-has_same keys key other same = ap (λ (n : ℕ). list_any (λ (k : Key). eqb (index k) n) keys) (eqb-true (index key) (index other) same)
+has_same keys key other same =
+    ap (λ (n : List ℕ). list_any (λ (k : Key). bytes_eq (key_name k) n) keys) ((bytes_eq-Decides (key_name key) (key_name other)).0 same)
 
 left_out : (keys : List Key) (key other : Key) → has_key keys key ≡ true → not (has_key keys other) ≡ (not (same_key key other) && not (has_key keys other))
 left_out keys key other there = by (same_key key other) refl where

@@ -1,6 +1,6 @@
 -- The last of some lines.
 use Rattle.std.proofs.Common.{◌≡◌, Some, None, List, [], ◌∷◌, ◌++◌, refl}
-use Rattle.wc_hdata.specs.declared.nodes.HeldLine.{HeldLine as Lent}
+use Rattle.wc_hdata.specs.declared.place.HeldLine.{HeldLine as Lent}
 use Rattle.wc_hdata.specs.Reached.{held_line, held_lines}
 use Rattle.wc_hdata.specs.Values.{last_of}
 

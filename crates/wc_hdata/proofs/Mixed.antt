@@ -4,7 +4,7 @@ use Rattle.std.specs.Prelude.{filter, nat_le, nat_lt, ◌==◌, ◌&&◌, not}
 use Rattle.std.specs.Ordering.{nat_cmp, is_lt}
 use Rattle.std.specs.List.Sorted.{IsNonDecreasingBy, IsStableByKey, ties}
 use Rattle.std.proofs.lemmas.Bool.Decides.{nat_tests}
-use Rattle.wc_hdata.specs.declared.nodes.HeldLine.{HeldLine as Lent}
+use Rattle.wc_hdata.specs.declared.place.HeldLine.{HeldLine as Lent}
 use Rattle.wc_hdata.specs.Reached.{held_line, held_lines}
 use Rattle.wc_hdata.specs.Lists.{put_line, by_handle}
 use Rattle.wc_hdata.proofs.Sorts.{by_bool, is, put, sorted, sorted_is}

@@ -2,8 +2,8 @@
 use Rattle.std.proofs.Common.{◌≡◌, ℕ, ◌+◌, ◌<◌, List, [], ◌∷◌, ◌++◌, length, get_or, take, map, sym, ap, ◌∙◌, append_assoc}
 use Rattle.std.specs.List.{join_with_byte}
 use Rattle.std.proofs.lemmas.List.{take_more, map-append}
-use Rattle.wc_hdata.specs.declared.key.Key.{Key}
-use Rattle.wc_hdata.specs.Keys.{key_text}
+use Rattle.wc_keys.specs.declared.key.Key.{Key}
+use Rattle.wc_keys.specs.Keys.{key_text}
 use Rattle.wc_hdata.proofs.EndLemmas.{joined-push}
 
 -- the text of a first key and of others

@@ -1,5 +1,6 @@
 -- The paths and the keys that ask for what the dumps tell.
-use Rattle.std.specs.Prelude.{ℕ, List, [], ◌∷◌, codes}
+use Rattle.std.specs.Prelude.{ℕ, ◌≤◌, List, [], ◌∷◌, length, codes}
+use Rattle.wc_model.specs.World.{World, lines_at}
 use Rattle.wc_hdata.specs.declared.count.Count.TheVariants.{One, All}
 use Rattle.wc_hdata.specs.declared.path.Path.{Path}
 use Rattle.wc_hdata.specs.declared.path.Start.TheVariants.{FirstBuffer}
@@ -30,3 +31,7 @@ lines_path = record {
 abbrev pub lines_keys : List ℕ
 lines_keys
     = codes "buffer,date,date_printed,displayed,notify_level,highlight,tags_array,prefix,message"
+
+-- no buffer has more lines than its list may hold
+abbrev pub AreShort : World → Type 0
+AreShort world = (h : ℕ) → length (lines_at world h) ≤ 4096

@@ -1,16 +1,19 @@
 -- The answer to the request `hdata`, and why there is none.
-use Rattle.std.specs.Prelude.{ℕ, ◌-◌, ◌^◌, nat_lt, List, Option, Some, None, length, if◌then◌else◌}
+use Rattle.std.specs.Prelude.{ℕ, ◌-◌, ◌^◌, nat_lt, List, [], ◌∷◌, Option, Some, None, length}
+use Rattle.std.specs.Prelude.{if◌then◌else◌}
 use Rattle.std.specs.List.{flat_map}
 use Rattle.wc_model.specs.World.{World}
 use Rattle.wc_objects.specs.declared.object.Object.{Object}
 use Rattle.wc_objects.specs.declared.object.Object.TheVariants as o
 use Rattle.wc_objects.specs.declared.object.Hda.{roll-Hda}
-use Rattle.wc_objects.specs.Spelling.{value_bytes}
-use Rattle.wc_hdata.specs.declared.key.Key.{Key}
+use Rattle.wc_objects.specs.declared.object.HdaItem.{HdaItem}
+use Rattle.wc_objects.specs.Spelling.{value_bytes, message_bytes}
+use Rattle.wc_keys.specs.declared.key.Key.{Key}
 use Rattle.wc_hdata.specs.declared.path.Path.{Path}
 use Rattle.wc_hdata.specs.declared.refused.WalkRefused.{WalkRefused}
 use Rattle.wc_hdata.specs.declared.refused.WalkRefused.TheVariants.{TooLong}
-use Rattle.wc_hdata.specs.Keys.{keys_of, keys_text}
+use Rattle.wc_hdata.specs.Keys.{keys_of}
+use Rattle.wc_keys.specs.Keys.{keys_text}
 use Rattle.wc_hdata.specs.Paths.{element_at, h_path_of}
 use Rattle.wc_hdata.specs.Refusals.{reached, walk_refusal}
 use Rattle.wc_hdata.specs.Starts.{or_else}
@@ -49,4 +52,19 @@ walk_object world path keys =
       path = Some (h_path_of path);
       keys = Some (keys_text (keys_asked path keys));
       items = items_of world (keys_asked path keys) (reached world path);
+    }))
+
+-- the same, and last a message with this id that is too long
+unfoldable pub message_refusal : List ℕ → World → Path → List ℕ → Option WalkRefused
+message_refusal id world path keys = or_else (refusal world path keys)
+    (if nat_lt (2 ^ 31 - 1) (length (message_bytes id (walk_object world path keys ∷ [])))
+    then Some too_long else None)
+
+-- the answer with these keys and items
+abbrev pub object_of : Path → List Key → List HdaItem → Object
+object_of path keys items =
+    o.Hda (roll-Hda (record {
+      path = Some (h_path_of path);
+      keys = Some (keys_text keys);
+      items = items;
     }))

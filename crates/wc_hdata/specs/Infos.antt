@@ -8,6 +8,8 @@ use Rattle.wc_buffers.specs.Calls.{EntryGroups, entry_of, number}
 use Rattle.wc_objects.specs.declared.object.InlVar.{InlVar, roll-InlVar}
 use Rattle.wc_objects.specs.declared.object.Object.{Object}
 use Rattle.wc_objects.specs.declared.object.Object.TheVariants as o
+use Rattle.wc_keys.specs.declared.key.Key.TheVariants as k
+use Rattle.wc_keys.specs.Keys.{key_name}
 use Rattle.wc_events.specs.BufferObjects.{count, text}
 use Rattle.wc_events.specs.LineObjects.{truth}
 use Rattle.wc_hdata.specs.Steps.{all_buffers}
@@ -25,19 +27,19 @@ variable name value = roll-InlVar (record { name = name; value = value })
 -- the names and the title of a buffer
 abbrev pub names_of : BufferRow → List InlVar
 names_of row =
-    variable (codes "full_name") (text row.full_name) ∷
-    variable (codes "short_name") (text row.short_name) ∷
-    variable (codes "title") (text row.title) ∷ []
+    variable (key_name k.FullName) (text row.full_name) ∷
+    variable (key_name k.ShortName) (text row.short_name) ∷
+    variable (key_name k.Title) (text row.title) ∷ []
 
 -- what the list of buffers has of one
 unfoldable pub variables_of : ℤ → Handle → BufferRow → List InlVar
 variables_of number buffer row =
     variable (codes "pointer") (o.Ptr buffer.0) ∷
-    variable (codes "number") (o.Int number) ∷
-    variable (codes "full_name") (text row.full_name) ∷
-    variable (codes "short_name") (text row.short_name) ∷
-    variable (codes "title") (text row.title) ∷
-    variable (codes "hidden") (o.Int (truth row.hidden)) ∷ []
+    variable (key_name k.Number) (o.Int number) ∷
+    variable (key_name k.FullName) (text row.full_name) ∷
+    variable (key_name k.ShortName) (text row.short_name) ∷
+    variable (key_name k.Title) (text row.title) ∷
+    variable (key_name k.Hidden) (o.Int (truth row.hidden)) ∷ []
 
 abbrev pub buffer_item : EntryGroups → Handle → Option BufferEntry → List (List InlVar)
 buffer_item groups buffer None = []

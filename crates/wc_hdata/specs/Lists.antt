@@ -7,8 +7,8 @@ use Rattle.wc_buffers.specs.Calls.{EntryGroups}
 use Rattle.wc_buffers.specs.Kept.{handles}
 use Rattle.wc_model.specs.World.{World, lines_at}
 use Rattle.wc_hdata.specs.Reached.{HeldLine}
-use Rattle.wc_hdata.specs.declared.nodes.LineList.{LineList}
-use Rattle.wc_hdata.specs.declared.nodes.LineList.TheVariants.{Own, Mixed}
+use Rattle.wc_hdata.specs.declared.place.LineList.{LineList}
+use Rattle.wc_hdata.specs.declared.place.LineList.TheVariants.{Own, Mixed}
 
 abbrev pub held_by : Handle → Line → HeldLine
 held_by buffer line = record { buffer = buffer; line = line }

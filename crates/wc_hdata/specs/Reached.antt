@@ -1,13 +1,11 @@
 -- What an element of a path leads to.
 use Rattle.std.specs.Prelude.{List, map}
-use Rattle.std.specs.declared.alloc.Global.{Global}
-use Rattle.std.specs.declared.vec.Vec.{Vec}
 use Rattle.wc_text.specs.declared.names.Handle.{Handle}
 use Rattle.wc_lines.specs.declared.line.Line.{Line}
-use Rattle.wc_hdata.specs.declared.nodes.HeldLine.{HeldLine as Lent}
-use Rattle.wc_hdata.specs.declared.nodes.LineList.{LineList}
-use Rattle.wc_hdata.specs.declared.nodes.Place.{Place as LentPlace}
-use Rattle.wc_hdata.specs.declared.nodes.Place.TheVariants as lent
+use Rattle.wc_hdata.specs.declared.place.HeldLine.{HeldLine as Lent}
+use Rattle.wc_hdata.specs.declared.place.LineList.{LineList}
+use Rattle.wc_hdata.specs.declared.place.Place.{Place as LentPlace}
+use Rattle.wc_hdata.specs.declared.place.Place.TheVariants as lent
 
 -- a line, and the buffer that holds it
 pub record HeldLine : Type 0 where
@@ -32,9 +30,3 @@ place_of (lent.Buffer buffer) = Buffer buffer
 place_of (lent.Lines list) = Lines list
 place_of (lent.Line held) = Line_at (held_line held)
 place_of (lent.LineData held) = Data_at (held_line held)
-
-abbrev pub places_of : List LentPlace → List Place
-places_of places = map place_of places
-
-abbrev pub begun_places : Vec LentPlace Global → List Place
-begun_places places = places_of places.items

@@ -12,8 +12,8 @@ use Rattle.wc_hdata.specs.declared.element.Element.{Element}
 use Rattle.wc_hdata.specs.declared.element.Element.TheVariants as element
 use Rattle.wc_hdata.specs.declared.path.Start.{Start}
 use Rattle.wc_hdata.specs.declared.path.Start.TheVariants as start
-use Rattle.wc_hdata.specs.declared.nodes.LineList.{LineList}
-use Rattle.wc_hdata.specs.declared.nodes.LineList.TheVariants.{Own, Mixed}
+use Rattle.wc_hdata.specs.declared.place.LineList.{LineList}
+use Rattle.wc_hdata.specs.declared.place.LineList.TheVariants.{Own, Mixed}
 use Rattle.wc_hdata.specs.Along.{along}
 use Rattle.wc_hdata.specs.Lists.{own_lines}
 use Rattle.wc_hdata.specs.Reached.{Place, HeldLine, Buffer, Lines, Line_at, Data_at}

@@ -9,8 +9,8 @@ use Rattle.wc_hdata.specs.declared.count.Count.{Count}
 use Rattle.wc_hdata.specs.declared.path.Step.{Step}
 use Rattle.wc_hdata.specs.declared.variable.Variable.{Variable}
 use Rattle.wc_hdata.specs.declared.variable.Variable.TheVariants as by
-use Rattle.wc_hdata.specs.declared.nodes.LineList.{LineList}
-use Rattle.wc_hdata.specs.declared.nodes.LineList.TheVariants.{Own}
+use Rattle.wc_hdata.specs.declared.place.LineList.{LineList}
+use Rattle.wc_hdata.specs.declared.place.LineList.TheVariants.{Own}
 use Rattle.wc_hdata.specs.Along.{along}
 use Rattle.wc_hdata.specs.Lists.{lines_in, shown_list}
 use Rattle.wc_hdata.specs.Reached.{Place, HeldLine, Buffer, Lines, Line_at, Data_at}

@@ -7,14 +7,13 @@ use Rattle.wc_buffers.specs.declared.row.BufferEntry.{BufferEntry}
 use Rattle.wc_buffers.specs.Calls.{EntryGroups, entry_of, number}
 use Rattle.wc_model.specs.Order.{prev_of, next_of}
 use Rattle.wc_model.specs.World.{World}
-use Rattle.wc_objects.specs.declared.kind.Kind.TheVariants as Kinds
 use Rattle.wc_objects.specs.declared.object.Object.{Object}
 use Rattle.wc_objects.specs.declared.object.Object.TheVariants as o
 use Rattle.wc_objects.specs.declared.object.HdaItem.{HdaItem, roll-HdaItem}
-use Rattle.wc_events.specs.BufferObjects.{count, table, text}
-use Rattle.wc_events.specs.LineObjects.{moment, texts, truth}
-use Rattle.wc_hdata.specs.declared.key.Key.{Key}
-use Rattle.wc_hdata.specs.declared.key.Key.TheVariants as k
+use Rattle.wc_events.specs.BufferObjects.{count, entry_value}
+use Rattle.wc_events.specs.LineObjects.{line_value}
+use Rattle.wc_keys.specs.declared.key.Key.{Key}
+use Rattle.wc_keys.specs.declared.key.Key.TheVariants as k
 use Rattle.wc_hdata.specs.Lists.{lines_in}
 use Rattle.wc_hdata.specs.Reached.{HeldLine, Place, Buffer, Lines, Line_at, Data_at}
 use Rattle.wc_hdata.specs.Walk.{Node}
@@ -22,14 +21,9 @@ use Rattle.wc_hdata.specs.Walk.{Node}
 -- of a buffer
 abbrev pub of_entry : EntryGroups → Handle → Key → BufferEntry → Option Object
 of_entry groups buffer k.Number e = Some (o.Int (count (unwrap_or (number buffer groups) 0)))
-of_entry groups buffer k.FullName e = Some (text e.row.full_name)
-of_entry groups buffer k.ShortName e = Some (text e.row.short_name)
-of_entry groups buffer k.Hidden e = Some (o.Int (truth e.row.hidden))
-of_entry groups buffer k.Title e = Some (text e.row.title)
-of_entry groups buffer k.LocalVariables e = Some (table e.vars)
 of_entry groups buffer k.PrevBuffer e = Some (o.Ptr (prev_of buffer.0 groups))
 of_entry groups buffer k.NextBuffer e = Some (o.Ptr (next_of buffer.0 groups))
-of_entry groups buffer _ e = None
+of_entry groups buffer key e = entry_value e key
 
 abbrev pub of_buffer : EntryGroups → Handle → Key → Option BufferEntry → Option Object
 of_buffer groups buffer key None = None
@@ -62,16 +56,7 @@ of_line k.Data line = Some (o.Ptr line.content.0)
 of_line _ line = None
 
 abbrev pub of_data : Key → HeldLine → Option Object
-of_data k.Buffer held = Some (o.Ptr held.buffer.0)
-of_data k.Date held = Some (o.Tim (moment held.line.date))
-of_data k.DatePrinted held = Some (o.Tim (moment held.line.date_printed))
-of_data k.Displayed held = Some (o.Chr (truth held.line.displayed))
-of_data k.NotifyLevel held = Some (o.Chr held.line.notify)
-of_data k.Highlight held = Some (o.Chr (truth held.line.highlight))
-of_data k.TagsArray held = Some (o.Arr Kinds.Str (texts held.line.tags))
-of_data k.Prefix held = Some (text held.line.prefix)
-of_data k.Message held = Some (text held.line.message)
-of_data _ held = None
+of_data key held = line_value held.buffer held.line key
 
 -- of a place
 unfoldable pub value_of : World → Place → Key → Option Object

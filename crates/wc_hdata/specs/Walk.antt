@@ -5,10 +5,9 @@ use Rattle.wc_buffers.specs.Calls.{EntryGroups, buffer_of}
 use Rattle.wc_buffers.specs.declared.row.BufferRow.{BufferRow}
 use Rattle.wc_model.specs.World.{World}
 use Rattle.wc_hdata.specs.declared.path.Step.{Step}
-use Rattle.wc_hdata.specs.declared.nodes.LineList.{LineList}
-use Rattle.wc_hdata.specs.declared.nodes.LineList.TheVariants.{Own, Mixed}
-use Rattle.wc_hdata.specs.declared.nodes.Node.{Node as LentNode}
-use Rattle.wc_hdata.specs.Reached.{Place, Buffer, Lines, Line_at, Data_at, place_of}
+use Rattle.wc_hdata.specs.declared.place.LineList.{LineList}
+use Rattle.wc_hdata.specs.declared.place.LineList.TheVariants.{Own, Mixed}
+use Rattle.wc_hdata.specs.Reached.{Place, Buffer, Lines, Line_at, Data_at}
 use Rattle.wc_hdata.specs.Steps.{reach}
 
 -- ---- pointers
@@ -34,12 +33,6 @@ pointer_of groups (Data_at held) = held.line.content.0
 pub record Node : Type 0 where
   pub pointers : List ℕ
   pub place : Place
-
-abbrev pub node_of : LentNode → Node
-node_of node = record { pointers = node.pointers; place = place_of node.place }
-
-abbrev pub nodes_of : List LentNode → List Node
-nodes_of nodes = map node_of nodes
 
 abbrev pub node_at : EntryGroups → List ℕ → Place → Node
 node_at groups pointers place = record {

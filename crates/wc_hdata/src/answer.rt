@@ -3,26 +3,28 @@
 ghost use Rattle.std.specs.Prelude.{◌≡◌, ◌≢◌, ◌++◌, ◌∷◌, [], ◌+◌, ◌<◌, ◌≤◌, None};
 ghost use Rattle.std.specs.Prelude.{Some, IfOk, OnOk, IfErr, length};
 ghost use Rattle.std.specs.List.{flat_map};
-ghost use Rattle.wc_hdata.specs.Hdata.{bytes_of, most_bytes, refusal, too_long, walk_object};
+ghost use Rattle.wc_hdata.specs.Hdata.{bytes_of, most_bytes, object_of, refusal, too_long};
+ghost use Rattle.wc_hdata.specs.Hdata.{walk_object};
+ghost use Rattle.wc_hdata.specs.Kept.{IsFor, IsKept};
 ghost use Rattle.wc_hdata.specs.Reached.{place_of};
-ghost use Rattle.wc_hdata.specs.Steps.{all_buffers};
+ghost use Rattle.wc_hdata.specs.Refusals.{reached, walk_refusal};
 ghost use Rattle.wc_hdata.specs.Values.{item_of, items_of, value_of, values_of};
-ghost use Rattle.wc_hdata.specs.Walk.{node_of, nodes_of};
 ghost use Rattle.wc_hdata.specs.declared.refused.WalkRefused.TheVariants as Refused;
 
 use crate::buffer_values::of_buffer;
-use crate::follow::reached;
 use crate::key::Key;
 use crate::keys::{keys_text, read_keys};
 use crate::line_values::{of_data, of_line, of_lines};
-use crate::nodes::{Node, Place};
+use crate::lists::Lists;
 use crate::path::{Path, h_path};
-use crate::reach::all_buffers;
+use crate::place::Place;
 use crate::refused::WalkRefused;
+use crate::visits::{check_visits, pointer_of};
+use crate::walker::Walker;
 use std::alloc::Global;
 use wc_objects::parts::room_after_item_values;
 use wc_objects::{Hda, HdaItem, Object};
-use wc_text::{Handle, Items, NoMemory};
+use wc_text::{Items, NoMemory};
 use wc_world::World;
 
 /// How many bytes the values may take together.
@@ -32,17 +34,18 @@ const BYTES: usize = 0x7fff_ffc0;
 #[tactic(auto, unfolding(crate::specs::Values::value_of))]
 fn value_of(
     alloc: Global,
-    world: &World,
-    buffers: &[Handle],
+    lists: &Lists<'_>,
     place: Place<'_>,
     key: Key,
 ) -> Result<Option<Object>, NoMemory>
-    requires { buffers.now ≡ all_buffers world.now.groups }
-    ensures { IfOk result (λ value. value ≡ value_of world.now (place_of place.entry) key) }
+    requires { IsKept lists.now (place_of place) }
+    ensures { IfOk result (λ value. value ≡ value_of lists.now.world (place_of place.entry) key) }
 {
     match place {
-        Place::Buffer(buffer) => of_buffer(alloc, world.buffers(), buffers, buffer, key),
-        Place::Lines(list) => of_lines(alloc, world, list, key),
+        Place::Buffer(buffer) => {
+            of_buffer(alloc, lists.world().buffers(), lists.buffers(), buffer, key)
+        }
+        Place::Lines(list) => Ok(of_lines(lists, list, key)),
         Place::Line(held) => Ok(of_line(held.line, key)),
         Place::LineData(held) => of_data(alloc, held, key),
     }
@@ -51,83 +54,160 @@ fn value_of(
 /// The values of a place that the keys name, in their order.
 fn values_of(
     alloc: Global,
-    world: &World,
-    buffers: &[Handle],
+    lists: &Lists<'_>,
     keys: &[Key],
     place: Place<'_>,
 ) -> Result<Items<Object>, NoMemory>
-    requires { buffers.now ≡ all_buffers world.now.groups }
-    ensures { IfOk result (λ values. values ≡ values_of world.now keys.now (place_of place.entry)) }
+    requires { IsKept lists.now (place_of place) }
+    ensures { IfOk result (λ values. values
+        ≡ values_of lists.now.world keys.now (place_of place.entry)) }
 {
     let mut values = Items::new(alloc);
     for key in keys {
-        if let Some(value) = value_of(alloc, world, buffers, place, *key)? {
+        if let Some(value) = value_of(alloc, lists, place, *key)? {
             values.push(value)?;
         }
     }
     Ok(values)
 }
 
+fn copy(alloc: Global, pointers: &[u64]) -> Result<Items<u64>, NoMemory>
+    ensures { IfOk result (λ copy. copy ≡ pointers.now) }
+{
+    let mut copy = Items::with_room(alloc, pointers.len())?;
+    for pointer in pointers {
+        copy.push(*pointer)?;
+    }
+    Ok(copy)
+}
+
 /// Puts the item of a place after others, where its values fit into what is left of the room.
 fn push_item(
     alloc: Global,
     items: &mut Items<HdaItem>,
-    world: &World,
-    buffers: &[Handle],
+    lists: &Lists<'_>,
     keys: &[Key],
-    node: Node<'_>,
+    pointers: &[u64],
+    place: Place<'_>,
     left: &mut usize,
 ) -> Result<(), WalkRefused>
-    requires { buffers.now ≡ all_buffers world.now.groups }
-    ensures ok { OnOk result (items.new ≡ items.old ++ item_of world.now keys.now
-        (node_of node.entry) ∷ []) }
-    ensures left { OnOk result (left.new + length (bytes_of world.now keys.now (node_of node.entry))
-        ≡ left.old) }
+    requires { IsKept lists.now (place_of place) }
+    ensures ok { OnOk result (items.new ≡ items.old ++ item_of lists.now.world keys.now
+        (record { pointers = pointers.now; place = place_of place.entry }) ∷ []) }
+    ensures left { OnOk result (left.new + length (bytes_of lists.now.world keys.now
+        (record { pointers = pointers.now; place = place_of place.entry })) ≡ left.old) }
     ensures err { IfErr result (λ e. e ≢ Refused.NoMemory → (e ≡ too_long)
-        × (left.old < length (bytes_of world.now keys.now (node_of node.entry)))) }
+        × (left.old < length (bytes_of lists.now.world keys.now
+        (record { pointers = pointers.now; place = place_of place.entry })))) }
 {
-    let Node { pointers, place } = node;
-    let values = values_of(alloc, world, buffers, keys, place)?;
+    let values = values_of(alloc, lists, keys, place)?;
     let Some(rest) = room_after_item_values(*left, values.as_slice()) else {
         return Err(WalkRefused::TooLong {
             limit: BYTES as u32,
         });
     };
     *left = rest;
+    let pointers = copy(alloc, pointers)?;
     items.push(HdaItem { pointers, values })?;
     Ok(())
 }
 
-/// The items of what was reached.
-fn items_of(
+/// The items of what is still to come of a walk.
+fn items_along(
     alloc: Global,
-    world: &World,
+    lists: &Lists<'_>,
     keys: &[Key],
-    nodes: Vec<Node<'_>>,
+    walker: &mut Walker<'_, '_>,
 ) -> Result<Items<HdaItem>, WalkRefused>
-    ensures ok { IfOk result (λ items. items ≡ items_of world.now keys.now
-        (nodes_of nodes.entry.items)) }
+    requires { walker.old.lists ≡ lists.now }
+    ensures ok { IfOk result (λ items. items ≡ items_of lists.now.world keys.now
+        walker.old.left) }
     ensures fits { OnOk result (length
-        (flat_map (bytes_of world.now keys.now) (nodes_of nodes.entry.items)) ≤ most_bytes) }
+        (flat_map (bytes_of lists.now.world keys.now) walker.old.left) ≤ most_bytes) }
     ensures err { IfErr result (λ e. e ≢ Refused.NoMemory → (e ≡ too_long)
         × (most_bytes < length
-        (flat_map (bytes_of world.now keys.now) (nodes_of nodes.entry.items)))) }
+        (flat_map (bytes_of lists.now.world keys.now) walker.old.left))) }
 {
-    let buffers = all_buffers(alloc, world.buffers())?;
     let mut items = Items::new(alloc);
     let mut left = BYTES;
-    for node in nodes {
+    while let Some(place) = walker.next() {
         push_item(
             alloc,
             &mut items,
-            world,
-            buffers.as_slice(),
+            lists,
             keys,
-            node,
+            walker.pointers(),
+            place,
             &mut left,
         )?;
     }
     Ok(items)
+}
+
+/// The items of what a path reaches, of which the visits were counted.
+#[tactic(auto, using(crate::proofs::Refuses::not_dead))]
+fn items_of(
+    alloc: Global,
+    lists: &Lists<'_>,
+    path: &Path,
+    keys: &[Key],
+) -> Result<Items<HdaItem>, WalkRefused>
+    requires made { IsFor lists.now path.now }
+    requires counted { walk_refusal lists.now.world path.now ≡ None }
+    ensures ok { IfOk result (λ items. items ≡ items_of lists.now.world keys.now
+        (reached lists.now.world path.now)) }
+    ensures fits { OnOk result (length (flat_map (bytes_of lists.now.world keys.now)
+        (reached lists.now.world path.now)) ≤ most_bytes) }
+    ensures err { IfErr result (λ e. e ≢ Refused.NoMemory → (e ≡ too_long)
+        × (most_bytes < length (flat_map (bytes_of lists.now.world keys.now)
+        (reached lists.now.world path.now)))) }
+{
+    let Some(mut walker) = Walker::begin(alloc, lists, path)? else {
+        return Err(WalkRefused::DeadPointer {
+            pointer: pointer_of(path.start),
+        });
+    };
+    items_along(alloc, lists, keys, &mut walker)
+}
+
+/// What a path leads to, in lists that were made for it.
+#[tactic(auto, using(crate::proofs::Refuses::walk_facts))]
+fn walk_in(
+    alloc: Global,
+    lists: &Lists<'_>,
+    path: &Path,
+    keys: &[u8],
+) -> Result<Object, WalkRefused>
+    requires { IsFor lists.now path.now }
+    ensures object { IfOk result (λ object. object
+        ≡ walk_object lists.now.world path.now keys.now) }
+    ensures accepted { OnOk result (refusal lists.now.world path.now keys.now ≡ None) }
+    ensures refused { IfErr result (λ e. e ≢ Refused.NoMemory →
+        refusal lists.now.world path.now keys.now ≡ Some e) }
+{
+    check_visits(alloc, lists, path)?;
+    let asked = read_keys(alloc, path.element(), keys)?;
+    let items = items_of(alloc, lists, path, asked.as_slice())?;
+    let object = object_of(alloc, path, asked.as_slice(), items)?;
+    Ok(object)
+}
+
+/// The answer that has these keys and items.
+fn object_of(
+    alloc: Global,
+    path: &Path,
+    keys: &[Key],
+    items: Items<HdaItem>,
+) -> Result<Object, NoMemory>
+    ensures { IfOk result (λ object. object ≡ object_of path.now keys.now items) }
+{
+    let names = h_path(alloc, path)?;
+    let keys = keys_text(alloc, keys)?;
+    Ok(Object::Hda(Hda {
+        path: Some(names),
+        keys: Some(keys),
+        items,
+    }))
 }
 
 /// What a path leads to, as WeeChat's relay protocol answers `hdata`: an item for each thing that
@@ -138,21 +218,12 @@ fn items_of(
 /// begins with, `TooManyVisits` where the elements of the path give more than 4,194,304 pointers
 /// together, and `TooLong` where the values have more than 2^31 - 64 bytes together. `NoMemory`
 /// where memory is asked for and not found.
-#[tactic(auto, using(crate::proofs::Refuses::walk_facts))]
 pub fn walk(alloc: Global, world: &World, path: &Path, keys: &[u8]) -> Result<Object, WalkRefused>
     ensures object { IfOk result (λ object. object ≡ walk_object world.now path.now keys.now) }
     ensures accepted { OnOk result (refusal world.now path.now keys.now ≡ None) }
     ensures refused { IfErr result (λ e. e ≢ Refused.NoMemory → refusal world.now path.now keys.now
         ≡ Some e) }
 {
-    let nodes = reached(alloc, world, path)?;
-    let asked = read_keys(alloc, path.element(), keys)?;
-    let items = items_of(alloc, world, asked.as_slice(), nodes)?;
-    let names = h_path(alloc, path)?;
-    let keys = keys_text(alloc, asked.as_slice())?;
-    Ok(Object::Hda(Hda {
-        path: Some(names),
-        keys: Some(keys),
-        items,
-    }))
+    let lists = Lists::new(alloc, world, path)?;
+    walk_in(alloc, &lists, path, keys)
 }

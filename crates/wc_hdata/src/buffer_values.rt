@@ -11,12 +11,12 @@ ghost use Rattle.wc_world.specs.Near.{numbers};
 use crate::key::Key;
 use std::alloc::Global;
 use wc_buffers::{BufferRow, Buffers, Vars};
-use wc_events::parts::{count, table, text, truth};
+use wc_events::parts::{count, entry_value};
 use wc_objects::Object;
 use wc_text::{Handle, NoMemory};
 
 /// The buffer before another among all, or 0.
-fn before(all: &[Handle], buffer: Handle) -> u64
+pub(crate) fn before(all: &[Handle], buffer: Handle) -> u64
     ensures { result ≡ before_in 0 buffer.0 (numbers all.now) }
 {
     let mut before = 0;
@@ -30,7 +30,7 @@ fn before(all: &[Handle], buffer: Handle) -> u64
 }
 
 /// The buffer after another among all, or 0.
-fn next_buffer(all: &[Handle], buffer: Handle) -> u64
+pub(crate) fn next_buffer(all: &[Handle], buffer: Handle) -> u64
     ensures { result ≡ after_in buffer.0 (numbers all.now) }
 {
     let mut left = all;
@@ -81,18 +81,12 @@ pub(crate) fn of_buffer(
     let Some((row, vars)) = row_and_vars(buffers, buffer) else {
         return Ok(None);
     };
-    let value = match key {
-        Key::Number => Object::Int(number(buffers, buffer)),
-        Key::FullName => text(alloc, &row.full_name)?,
-        Key::ShortName => text(alloc, &row.short_name)?,
-        Key::Hidden => Object::Int(i32::from(truth(row.hidden))),
-        Key::Title => text(alloc, &row.title)?,
-        Key::LocalVariables => table(alloc, vars)?,
-        Key::PrevBuffer => Object::Ptr(before(all, buffer)),
-        Key::NextBuffer => Object::Ptr(next_buffer(all, buffer)),
-        _ => return Ok(None),
-    };
-    Ok(Some(value))
+    match key {
+        Key::Number => Ok(Some(Object::Int(number(buffers, buffer)))),
+        Key::PrevBuffer => Ok(Some(Object::Ptr(before(all, buffer)))),
+        Key::NextBuffer => Ok(Some(Object::Ptr(next_buffer(all, buffer)))),
+        _ => entry_value(alloc, row, vars, key),
+    }
 }
 
 /// The number of a buffer, as a message has it.

@@ -4,6 +4,7 @@ ghost use Rattle.wc_hdata.specs.Paths.{leads, target};
 ghost use Rattle.wc_hdata.specs.Answers.{element_named};
 
 use crate::variable::Variable;
+use wc_keys::{BUFFER_PATH, LINE_PATH};
 
 /// What a data path leads to: an hdata of WeeChat's plugin API.
 #[derive(Clone, Copy, Debug, PartialEq, Eq)]
@@ -31,10 +32,10 @@ impl Element {
         ensures { result.now ≡ element_name self }
     {
         match self {
-            Element::Buffer => b"buffer",
+            Element::Buffer => BUFFER_PATH,
             Element::Lines => b"lines",
             Element::Line => b"line",
-            Element::LineData => b"line_data",
+            Element::LineData => LINE_PATH,
         }
     }
 

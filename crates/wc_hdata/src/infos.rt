@@ -3,16 +3,18 @@
 ghost use Rattle.std.specs.Prelude.{◌≡◌, ◌++◌, ◌∷◌, [], IfOk, OnOk};
 ghost use Rattle.std.specs.Option.{option_copied};
 ghost use Rattle.wc_buffers.specs.Calls.{entry_of};
+ghost use Rattle.wc_keys.specs.Keys.{key_name};
 ghost use Rattle.wc_hdata.specs.Infos.{info_of, infolist_object, buffer_item, buffer_items};
 ghost use Rattle.wc_hdata.specs.Infos.{names_of, variable, variables_of};
 ghost use Rattle.wc_events.specs.BufferObjects.{text};
 ghost use Rattle.wc_hdata.specs.Steps.{all_buffers};
 
 use crate::buffer_values::{number, row_and_vars};
-use crate::reach::all_buffers;
+use crate::lists::all_buffers;
 use std::alloc::Global;
 use wc_buffers::{BufferRow, Buffers};
 use wc_events::parts::{text, truth};
+use wc_keys::Key;
 use wc_objects::{InlVar, Object};
 use wc_text::{Handle, Items, NoMemory, Text};
 use wc_world::World;
@@ -53,26 +55,38 @@ fn push_variable(
     vars.push(InlVar { name, value })
 }
 
+/// Puts a variable of the name of a key after others.
+fn push_keyed(
+    alloc: Global,
+    vars: &mut Items<InlVar>,
+    key: Key,
+    value: Object,
+) -> Result<(), NoMemory>
+    ensures { OnOk result (vars.new ≡ vars.old ++ variable (key_name key) value ∷ []) }
+{
+    push_variable(alloc, vars, key.name(), value)
+}
+
 /// Puts a variable that is a text after others.
 fn push_text(
     alloc: Global,
     vars: &mut Items<InlVar>,
-    name: &[u8],
+    key: Key,
     value: &Text,
 ) -> Result<(), NoMemory>
-    ensures { OnOk result (vars.new ≡ vars.old ++ variable name.now (text value.now) ∷ []) }
+    ensures { OnOk result (vars.new ≡ vars.old ++ variable (key_name key) (text value.now) ∷ []) }
 {
     let value = text(alloc, value)?;
-    push_variable(alloc, vars, name, value)
+    push_keyed(alloc, vars, key, value)
 }
 
 /// Puts the names and the title of a buffer after others.
 fn push_names(alloc: Global, vars: &mut Items<InlVar>, row: &BufferRow) -> Result<(), NoMemory>
     ensures { OnOk result (vars.new ≡ vars.old ++ names_of row.now) }
 {
-    push_text(alloc, vars, b"full_name", &row.full_name)?;
-    push_text(alloc, vars, b"short_name", &row.short_name)?;
-    push_text(alloc, vars, b"title", &row.title)
+    push_text(alloc, vars, Key::FullName, &row.full_name)?;
+    push_text(alloc, vars, Key::ShortName, &row.short_name)?;
+    push_text(alloc, vars, Key::Title, &row.title)
 }
 
 /// What the list of buffers has of one.
@@ -87,10 +101,10 @@ fn variables_of(
 {
     let mut vars = Items::new(alloc);
     push_variable(alloc, &mut vars, b"pointer", Object::Ptr(buffer.0))?;
-    push_variable(alloc, &mut vars, b"number", Object::Int(number))?;
+    push_keyed(alloc, &mut vars, Key::Number, Object::Int(number))?;
     push_names(alloc, &mut vars, row)?;
     let hidden = Object::Int(i32::from(truth(row.hidden)));
-    push_variable(alloc, &mut vars, b"hidden", hidden)?;
+    push_keyed(alloc, &mut vars, Key::Hidden, hidden)?;
     Ok(vars)
 }
 

@@ -1,5 +1,6 @@
 ghost use Rattle.std.specs.Prelude.{◌≡◌, ◌++◌, IfOk, OnOk, Option};
-ghost use Rattle.wc_hdata.specs.Keys.{keys_of, keys_text, has_key, with_key, key_text};
+ghost use Rattle.wc_hdata.specs.Keys.{keys_of, has_key, with_key};
+ghost use Rattle.wc_keys.specs.Keys.{keys_text, key_text};
 
 use crate::element::Element;
 use crate::key::Key;
@@ -19,7 +20,7 @@ pub fn read_keys(alloc: Global, element: Element, text: &[u8]) -> Result<Items<K
     let mut rest = Some(text);
     while let Some(names) = rest {
         let (name, following) = split_once(names, b',');
-        push_key(&mut keys, Key::named(element, name))?;
+        push_key(&mut keys, element.key_named(name))?;
         rest = following;
     }
     Ok(keys)
@@ -56,7 +57,7 @@ fn has_key(keys: &[Key], key: Key) -> bool
 
 /// The keys as a message names them: each name, a colon and the letters of its type, which commas
 /// join.
-#[tactic(auto, unfolding(crate::specs::Keys::keys_text))]
+#[tactic(auto, unfolding(wc_keys::specs::Keys::keys_text))]
 pub fn keys_text(alloc: Global, keys: &[Key]) -> Result<Text, NoMemory>
     ensures { IfOk result (λ text. text ≡ keys_text keys.now) }
 {

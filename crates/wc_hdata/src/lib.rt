@@ -2,26 +2,32 @@
 //! to.
 #![tactic(auto)]
 
-mod along;
 mod answer;
+mod buffer_bytes;
 mod buffer_values;
 mod count;
+mod cursor;
 mod element;
-mod follow;
 mod grammar;
 mod infos;
+mod item_bytes;
 mod key;
 mod keys;
 mod laws;
+mod line_bytes;
 mod line_values;
 mod lists;
-mod nodes;
 mod path;
+mod place;
 mod pointer;
 mod reach;
 mod refused;
 mod starts;
+mod value_bytes;
 mod variable;
+mod visits;
+mod walker;
+mod writer;
 
 pub use answer::walk;
 pub use count::Count;
@@ -30,7 +36,11 @@ pub use grammar::read_path;
 pub use infos::{info, infolist};
 pub use key::Key;
 pub use keys::{keys_text, read_keys};
-pub use laws::{buffer_dump_is_walk, dump_paths, line_dump_is_walk, one_path};
+pub use laws::{
+    buffer_dump_is_walk, dump_paths, dumps_give_few_pointers, line_dump_is_walk, one_path,
+    walks_are_sound,
+};
 pub use path::{Path, Start, Step, h_path};
 pub use refused::WalkRefused;
 pub use variable::Variable;
+pub use writer::write_walk;

@@ -1,187 +1,159 @@
 //! Where a step of a path leads.
 
-ghost use Rattle.std.specs.Prelude.{◌≡◌, ◌++◌, ◌∷◌, [], map, position, ◌==◌, IfOk, OnOk};
-ghost use Rattle.wc_hdata.specs.Along.{along};
-ghost use Rattle.wc_hdata.specs.Lists.{shown_list};
-ghost use Rattle.wc_hdata.specs.Reached.{held_line, held_lines, place_of, places_of};
-ghost use Rattle.wc_hdata.specs.Reached.{Buffer as At_buffer, Line_at};
-ghost use Rattle.wc_hdata.specs.Steps.{all_buffers, buffers_from, from_buffer, from_data};
+ghost use Rattle.std.specs.Prelude.{◌≡◌, position, ◌==◌, true, false, ◌-◌};
+ghost use Rattle.wc_buffers.specs.Calls.{is_there};
+ghost use Rattle.wc_hdata.specs.Kept.{AreKept, IsHeld, IsKept, IsKeptList, IsReady, Listed};
+ghost use Rattle.wc_hdata.specs.Lists.{lines_in, own_lines};
+ghost use Rattle.wc_hdata.specs.Reached.{held_line, place_of};
+ghost use Rattle.wc_hdata.specs.Steps.{buffers_from, from_buffer, from_data, from_first, from_last};
 ghost use Rattle.wc_hdata.specs.Steps.{from_line, from_lines, place_in, reach};
 ghost use Rattle.wc_text.specs.declared.names.Handle.{Handle as HandleValue};
 
-use crate::along::along;
 use crate::count::Count;
-use crate::lists::{group_of, lines_in};
-use crate::nodes::{HeldLine, LineList, Place};
+use crate::cursor::Cursor;
+use crate::lists::{Lists, own_lines, shown_list};
 use crate::path::Step;
+use crate::place::{HeldLine, LineList, Place};
 use crate::variable::Variable;
-use std::alloc::Global;
-use wc_buffers::Buffers;
-use wc_text::{Handle, NoMemory};
-use wc_world::World;
+use wc_text::Handle;
 
-/// The buffers in their order, group by group.
-pub(crate) fn all_buffers(alloc: Global, buffers: &Buffers) -> Result<Vec<Handle>, NoMemory>
-    ensures { IfOk result (λ all. all.items ≡ all_buffers buffers.now) }
-{
-    let mut all = Vec::new(alloc);
-    for group in buffers.groups() {
-        all.extend_from_slice(group)?;
-    }
-    Ok(all)
-}
-
-/// Puts the places to which a step leads from one after others. `buffers` are all buffers in their
-/// order.
+/// The places to which a step leads from one. No memory is taken.
 #[tactic(auto, unfolding(crate::specs::Steps::reach))]
-pub(crate) fn reach<'a>(
-    alloc: Global,
-    world: &'a World,
-    buffers: &[Handle],
-    step: Step,
-    place: Place<'a>,
-    out: &mut Vec<Place<'a>>,
-) -> Result<(), NoMemory>
-    requires { buffers.now ≡ all_buffers world.now.groups }
-    ensures { OnOk result (places_of out.new.items ≡ places_of out.old.items ++ reach world.now step
-        (place_of place.entry)) }
+pub(crate) fn reach<'b, 'a>(lists: &'b Lists<'a>, step: Step, place: Place<'a>) -> Cursor<'b, 'a>
+    requires kept { IsKept lists.now (place_of place) }
+    requires ready { IsReady lists.now step }
+    ensures places { result ≡ reach lists.now.world step (place_of place.entry) }
+    ensures kept { AreKept lists.now result }
 {
     match place {
-        Place::Buffer(buffer) => from_buffer(world, step.variable, buffer, out),
-        Place::Lines(list) => from_lines(alloc, world, step, list, out),
-        Place::Line(held) => from_line(step.variable, held, out),
-        Place::LineData(held) => from_data(alloc, world, buffers, step, held, out),
+        Place::Buffer(buffer) => from_buffer(lists, step, buffer),
+        Place::Lines(list) => from_lines(lists, step, list),
+        // This borrows nothing of the lists, as the others may.
+        Place::Line(held) => return from_line(step.variable, held),
+        Place::LineData(held) => from_data(lists, step, held),
     }
 }
 
-pub(crate) fn push<'a>(out: &mut Vec<Place<'a>>, place: Place<'a>) -> Result<(), NoMemory>
-    ensures { OnOk result (places_of out.new.items ≡ places_of out.old.items
-        ++ place_of place.entry ∷ []) }
+fn from_buffer<'b, 'a>(lists: &'b Lists<'a>, step: Step, buffer: Handle) -> Cursor<'b, 'a>
+    requires there { is_there buffer lists.now.world.groups ≡ true }
+    requires ready { IsReady lists.now step }
+    ensures places { result ≡ from_buffer lists.now.world step.variable buffer }
+    ensures kept { AreKept lists.now result }
 {
-    match out.push(place) {
-        Ok(()) => Ok(()),
-        Err(_) => Err(NoMemory),
+    match step.variable {
+        Variable::OwnLines => Cursor::one(Place::Lines(LineList::Own(buffer))),
+        Variable::Lines => Cursor::one(Place::Lines(shown_list(lists.world().buffers(), buffer))),
+        _ => Cursor::none(),
     }
 }
 
-fn from_buffer<'a>(
-    world: &'a World,
-    variable: Variable,
-    buffer: Handle,
-    out: &mut Vec<Place<'a>>,
-) -> Result<(), NoMemory>
-    ensures { OnOk result (places_of out.new.items ≡ places_of out.old.items
-        ++ from_buffer world.now variable buffer) }
-{
-    match variable {
-        Variable::OwnLines => push(out, Place::Lines(LineList::Own(buffer))),
-        Variable::Lines => push(out, Place::Lines(shown_list(world.buffers(), buffer))),
-        _ => Ok(()),
-    }
-}
-
-/// The list of lines that a buffer shows: its own where it is alone in its group, and else the
-/// mixed one of the group.
-fn shown_list(buffers: &Buffers, buffer: Handle) -> LineList
-    ensures { result ≡ shown_list buffers.now buffer }
-{
-    match group_of(buffers, buffer) {
-        [first, _, ..] => LineList::Mixed(*first),
-        _ => LineList::Own(buffer),
-    }
-}
-
-fn from_lines<'a>(
-    alloc: Global,
-    world: &'a World,
-    step: Step,
-    list: LineList,
-    out: &mut Vec<Place<'a>>,
-) -> Result<(), NoMemory>
-    ensures { OnOk result (places_of out.new.items ≡ places_of out.old.items
-        ++ from_lines world.now step.variable step.count list) }
+fn from_lines<'b, 'a>(lists: &'b Lists<'a>, step: Step, list: LineList) -> Cursor<'b, 'a>
+    requires { IsKeptList lists.now list }
+    ensures places { result ≡ from_lines lists.now.world step.variable step.count list }
+    ensures kept { AreKept lists.now result }
 {
     let is_last = match step.variable {
         Variable::FirstLine => false,
         Variable::LastLine => true,
-        _ => return Ok(()),
+        _ => return Cursor::none(),
     };
-    let lines = lines_in(alloc, world, list)?;
-    let at = if is_last {
-        lines.len().saturating_sub(1)
-    } else {
-        0
-    };
-    push_lines(alloc, step.count, at, lines.as_slice(), out)
+    lines_from(lists, step.count, is_last, list)
 }
 
-/// Puts the lines to which a count goes from a place of a list after others.
-#[tactic(auto, using(crate::proofs::AlongMap::along_held))]
-pub(crate) fn push_lines<'a>(
-    alloc: Global,
+/// The lines to which a count goes from the first or the last of a list.
+fn lines_from<'b, 'a>(
+    lists: &'b Lists<'a>,
     count: Count,
-    at: usize,
-    lines: &[HeldLine<'a>],
-    out: &mut Vec<Place<'a>>,
-) -> Result<(), NoMemory>
-    ensures { OnOk result (places_of out.new.items ≡ places_of out.old.items
-        ++ map Line_at (along count at (held_lines lines.now))) }
+    is_last: bool,
+    list: LineList,
+) -> Cursor<'b, 'a>
+    requires { IsKeptList lists.now list }
+    ensures first { is_last ≡ false →
+        result ≡ from_first count (lines_in lists.now.world list) }
+    ensures last { is_last ≡ true →
+        result ≡ from_last count (lines_in lists.now.world list) }
+    ensures kept { AreKept lists.now result }
 {
-    let mut some = Vec::new(alloc);
-    along(&mut some, count, at, lines)?;
-    push_held(some.as_slice(), out)
-}
-
-fn push_held<'a>(lines: &[HeldLine<'a>], out: &mut Vec<Place<'a>>) -> Result<(), NoMemory>
-    ensures { OnOk result (places_of out.new.items ≡ places_of out.old.items
-        ++ map Line_at (held_lines lines.now)) }
-{
-    for held in lines {
-        push(out, Place::Line(*held))?;
-    }
-    Ok(())
-}
-
-fn from_line<'a>(
-    variable: Variable,
-    held: HeldLine<'a>,
-    out: &mut Vec<Place<'a>>,
-) -> Result<(), NoMemory>
-    ensures { OnOk result (places_of out.new.items ≡ places_of out.old.items ++ from_line variable
-        (held_line held.entry)) }
-{
-    match variable {
-        Variable::Data => push(out, Place::LineData(held)),
-        _ => Ok(()),
+    match list {
+        LineList::Own(buffer) => own_from(lists, count, is_last, buffer),
+        LineList::Mixed(first) => {
+            let lines = lists.mixed(first);
+            Cursor::of_held(lines, count, end_of(is_last, lines.len()))
+        }
     }
 }
 
-fn from_data<'a>(
-    alloc: Global,
-    world: &'a World,
-    buffers: &[Handle],
-    step: Step,
-    held: HeldLine<'a>,
-    out: &mut Vec<Place<'a>>,
-) -> Result<(), NoMemory>
-    requires { buffers.now ≡ all_buffers world.now.groups }
-    ensures { OnOk result (places_of out.new.items ≡ places_of out.old.items
-        ++ from_data world.now step.variable step.count (held_line held.entry)) }
+fn own_from<'b, 'a>(
+    lists: &'b Lists<'a>,
+    count: Count,
+    is_last: bool,
+    buffer: Handle,
+) -> Cursor<'b, 'a>
+    requires { is_there buffer lists.now.world.groups ≡ true }
+    ensures first { is_last ≡ false →
+        result ≡ from_first count (own_lines lists.now.world buffer) }
+    ensures last { is_last ≡ true →
+        result ≡ from_last count (own_lines lists.now.world buffer) }
+    ensures kept { AreKept lists.now result }
 {
-    match step.variable {
-        Variable::Buffer => push_buffers(
-            alloc,
-            step.count,
-            place_in(buffers, held.buffer),
-            buffers,
-            out,
-        ),
-        _ => Ok(()),
+    let Some(lines) = own_lines(lists.world(), buffer) else {
+        return Cursor::none();
+    };
+    let at = end_of(is_last, lines.len() as usize);
+    Cursor::of_own(buffer, lines, count, at)
+}
+
+/// The place of the first or the last of so many lines.
+fn end_of(is_last: bool, lines: usize) -> usize
+    ensures first { is_last ≡ false → result ≡ 0 }
+    ensures last { is_last ≡ true → result ≡ lines - 1 }
+{
+    if is_last { lines.saturating_sub(1) } else { 0 }
+}
+
+fn from_line<'b, 'a>(variable: Variable, held: HeldLine<'a>) -> Cursor<'b, 'a>
+    ensures places { result ≡ from_line variable (held_line held.entry) }
+    ensures kept { (listed : Listed) → IsHeld listed.world (held_line held.entry) →
+        AreKept listed result }
+{
+    let Variable::Data = variable else {
+        return Cursor::none();
+    };
+    Cursor::one(Place::LineData(held))
+}
+
+fn from_data<'b, 'a>(lists: &'b Lists<'a>, step: Step, held: HeldLine<'a>) -> Cursor<'b, 'a>
+    requires { IsHeld lists.now.world (held_line held) }
+    ensures places { result ≡ from_data lists.now.world step.variable step.count
+        (held_line held.entry) }
+    ensures kept { AreKept lists.now result }
+{
+    let Variable::Buffer = step.variable else {
+        return Cursor::none();
+    };
+    buffers_from(lists, step.count, held.buffer)
+}
+
+/// The buffers to which a count goes from one.
+pub(crate) fn buffers_from<'b, 'a>(
+    lists: &'b Lists<'a>,
+    count: Count,
+    buffer: Handle,
+) -> Cursor<'b, 'a>
+    requires { is_there buffer lists.now.world.groups ≡ true }
+    ensures places { result ≡ buffers_from lists.now.world.groups count buffer }
+    ensures kept { AreKept lists.now result }
+{
+    // A buffer that is there is the one at its own place: it need not be looked for.
+    if let Count::One = count {
+        return Cursor::one(Place::Buffer(buffer));
     }
+    let buffers = lists.buffers();
+    Cursor::of_buffers(buffers, count, place_in(buffers, buffer))
 }
 
 /// The place of a buffer among all.
-pub(crate) fn place_in(buffers: &[Handle], buffer: Handle) -> usize
+fn place_in(buffers: &[Handle], buffer: Handle) -> usize
     ensures { result ≡ place_in buffer buffers.now }
 {
     match position(buffers, buffer) {
@@ -194,23 +166,4 @@ fn position(buffers: &[Handle], buffer: Handle) -> Option<usize>
     ensures { result ≡ position (λ (h : HandleValue). h.0 == buffer.0) buffers.now }
 {
     buffers.iter().position(|other| other.0 == buffer.0)
-}
-
-/// Puts the buffers to which a count goes from a place of a list after others.
-pub(crate) fn push_buffers<'a>(
-    alloc: Global,
-    count: Count,
-    at: usize,
-    buffers: &[Handle],
-    out: &mut Vec<Place<'a>>,
-) -> Result<(), NoMemory>
-    ensures { OnOk result (places_of out.new.items ≡ places_of out.old.items
-        ++ map At_buffer (along count at buffers.now)) }
-{
-    let mut some = Vec::new(alloc);
-    along(&mut some, count, at, buffers)?;
-    for buffer in some.as_slice() {
-        push(out, Place::Buffer(*buffer))?;
-    }
-    Ok(())
 }

@@ -1,27 +1,29 @@
 //! Where a path begins.
 
-ghost use Rattle.std.specs.Prelude.{◌≡◌, ◌++◌, ◌∷◌, [], map, Some, IfOk, OnOk, option_map, find};
+ghost use Rattle.std.specs.Prelude.{◌≡◌, map, option_map, IfSome, true};
+ghost use Rattle.std.specs.List.{AllByRecursion};
 ghost use Rattle.wc_buffers.specs.Calls.{is_there};
 ghost use Rattle.wc_buffers.specs.Kept.{handles};
-ghost use Rattle.wc_hdata.specs.Along.{along};
+ghost use Rattle.wc_hdata.specs.declared.element.Element.TheVariants as elements;
+ghost use Rattle.wc_hdata.specs.Kept.{AllMade, AreKept, IsFor, IsHeld, IsThere};
 ghost use Rattle.wc_hdata.specs.Lists.{held_by, own_lines};
-ghost use Rattle.wc_hdata.specs.Reached.{held_line, held_lines, place_of, places_of, begun_places};
-ghost use Rattle.wc_hdata.specs.Reached.{Buffer as At_buffer};
+ghost use Rattle.wc_hdata.specs.Reached.{held_line};
 ghost use Rattle.wc_hdata.specs.Starts.{at_buffer, at_data, at_line, at_list, at_pointer, has_own};
-ghost use Rattle.wc_hdata.specs.Starts.{is_named, line_among, lines_from, list_at, mixed_among};
+ghost use Rattle.wc_hdata.specs.Starts.{is_named, line_among, line_at, lines_from, list_at};
+ghost use Rattle.wc_hdata.specs.Starts.{mixed_among};
 ghost use Rattle.wc_hdata.specs.Starts.{mixed_of, named_in, own_at, place_of_line, starts};
 ghost use Rattle.wc_hdata.specs.Steps.{all_buffers};
 
 use crate::count::Count;
+use crate::cursor::Cursor;
 use crate::element::Element;
-use crate::lists::lines_in;
-use crate::nodes::{HeldLine, LineList, Place};
-use crate::path::Start;
-use crate::reach::{place_in, push, push_buffers, push_lines};
-use std::alloc::Global;
+use crate::lists::{Lists, own_lines};
+use crate::path::{Path, Start};
+use crate::place::{HeldLine, LineList, Place};
+use crate::reach::buffers_from;
 use wc_buffers::Buffers;
-use wc_lines::{Lines, PackedLine};
-use wc_text::{Handle, NoMemory};
+use wc_lines::{Lines as OwnLines, PackedLine};
+use wc_text::Handle;
 use wc_world::World;
 
 // ---- lists of lines by their pointers
@@ -97,7 +99,7 @@ fn is_named(element: Element, pointer: u64, line: &PackedLine) -> bool
 }
 
 /// The first line of a buffer that a pointer names.
-fn line_in(lines: &Lines, buffer: Handle, element: Element, pointer: u64) -> Option<HeldLine<'_>>
+fn line_in(lines: &OwnLines, buffer: Handle, element: Element, pointer: u64) -> Option<HeldLine<'_>>
     ensures { option_map held_line result ≡ named_in element pointer
         (map (held_by buffer) lines.now.lines) }
 {
@@ -116,7 +118,10 @@ fn line_among<'a>(
     element: Element,
     pointer: u64,
 ) -> Option<HeldLine<'a>>
-    ensures { option_map held_line result ≡ line_among world.now element pointer buffers.now }
+    requires { AllByRecursion (IsThere world.now.groups) buffers.now }
+    ensures line { option_map held_line result
+        ≡ line_among world.now element pointer buffers.now }
+    ensures held { IfSome result (λ held. IsHeld world.now (held_line held)) }
 {
     for buffer in buffers {
         if let Some(held) = line_of(world, *buffer, element, pointer) {
@@ -127,115 +132,99 @@ fn line_among<'a>(
 }
 
 fn line_of(world: &World, buffer: Handle, element: Element, pointer: u64) -> Option<HeldLine<'_>>
-    ensures { option_map held_line result ≡ named_in element pointer (own_lines world.now buffer) }
+    requires { is_there buffer world.now.groups ≡ true }
+    ensures line { option_map held_line result
+        ≡ named_in element pointer (own_lines world.now buffer) }
+    ensures held { IfSome result (λ held. IsHeld world.now (held_line held)) }
 {
-    line_in(world.lines(buffer)?, buffer, element, pointer)
+    line_in(own_lines(world, buffer)?, buffer, element, pointer)
+}
+
+/// The first line that a pointer names.
+fn line_at<'a>(lists: &Lists<'a>, element: Element, pointer: u64) -> Option<HeldLine<'a>>
+    ensures line { option_map held_line result ≡ line_at lists.now.world element pointer }
+    ensures held { IfSome result (λ held. IsHeld lists.now.world (held_line held)) }
+{
+    line_among(lists.world(), lists.buffers(), element, pointer)
 }
 
 /// The place of a line among those of its buffer.
-fn place_of_line(lines: &[HeldLine<'_>], pointer: u64) -> usize
-    ensures { result ≡ place_of_line pointer (held_lines lines.now) }
+fn place_of_line(buffer: Handle, lines: &OwnLines, pointer: u64) -> usize
+    ensures { result ≡ place_of_line pointer (map (held_by buffer) lines.now.lines) }
 {
-    for at in 0..lines.len() {
-        if lines[at].line.handle().0 == pointer {
+    let count = lines.len() as usize;
+    let mut at = 0;
+    for line in lines.iter() {
+        if line.handle().0 == pointer {
             return at;
         }
+        at += 1;
     }
-    lines.len()
+    count
 }
 
 // ---- the beginning
 
-/// Puts the lines to which a count goes from one after others, along the buffer's own.
-fn push_from_line<'a>(
-    alloc: Global,
-    world: &'a World,
-    count: Count,
-    held: HeldLine<'a>,
-    out: &mut Vec<Place<'a>>,
-) -> Result<(), NoMemory>
-    ensures { OnOk result (places_of out.new.items ≡ places_of out.old.items
-        ++ lines_from world.now count (held_line held.entry)) }
+/// The lines to which a count goes from one, along the buffer's own.
+fn lines_from<'b, 'a>(lists: &'b Lists<'a>, count: Count, held: HeldLine<'a>) -> Cursor<'b, 'a>
+    requires { IsHeld lists.now.world (held_line held) }
+    ensures places { result ≡ lines_from lists.now.world count (held_line held.entry) }
+    ensures kept { AreKept lists.now result }
 {
-    let lines = lines_in(alloc, world, LineList::Own(held.buffer))?;
-    let at = place_of_line(lines.as_slice(), held.line.handle().0);
-    push_lines(alloc, count, at, lines.as_slice(), out)
+    let HeldLine { buffer, line } = held;
+    let Some(lines) = own_lines(lists.world(), buffer) else {
+        return Cursor::none();
+    };
+    let at = place_of_line(buffer, lines, line.handle().0);
+    Cursor::of_own(buffer, lines, count, at)
 }
 
-/// Where a path begins. None where its pointer is dead. `buffers` are all buffers in their order.
+/// Where a path begins. None where its pointer is dead. No memory is taken.
 #[tactic(auto, unfolding(crate::specs::Starts::starts))]
-pub(crate) fn starts<'a>(
-    alloc: Global,
-    world: &'a World,
-    buffers: &[Handle],
-    start: Start,
-    count: Count,
-) -> Result<Option<Vec<Place<'a>>>, NoMemory>
-    requires { buffers.now ≡ all_buffers world.now.groups }
-    ensures { IfOk result (λ begun. option_map begun_places begun ≡ starts world.now count start) }
+pub(crate) fn starts<'b, 'a>(lists: &'b Lists<'a>, path: &Path) -> Option<Cursor<'b, 'a>>
+    requires { IsFor lists.now path.now }
+    ensures places { result ≡ starts lists.now.world path.now.count path.now.start }
+    ensures kept { IfSome result (AreKept lists.now) }
 {
-    match start {
-        Start::FirstBuffer => buffers_from(alloc, buffers, count, 0),
+    match path.start {
+        Start::FirstBuffer => Some(Cursor::of_buffers(lists.buffers(), path.count, 0)),
         Start::LastBuffer => {
-            buffers_from(alloc, buffers, count, buffers.len().saturating_sub(1))
+            let buffers = lists.buffers();
+            let at = buffers.len().saturating_sub(1);
+            Some(Cursor::of_buffers(buffers, path.count, at))
         }
-        Start::Pointer { element, pointer } => {
-            at_pointer(alloc, world, buffers, count, element, pointer)
-        }
+        Start::Pointer { element, pointer } => at_pointer(lists, path.count, element, pointer),
     }
-}
-
-fn buffers_from<'a>(
-    alloc: Global,
-    buffers: &[Handle],
-    count: Count,
-    at: usize,
-) -> Result<Option<Vec<Place<'a>>>, NoMemory>
-    ensures { IfOk result (λ begun. option_map begun_places begun
-        ≡ Some (map At_buffer (along count at buffers.now))) }
-{
-    let mut places = Vec::new(alloc);
-    push_buffers(alloc, count, at, buffers, &mut places)?;
-    Ok(Some(places))
 }
 
 /// The places of a pointer. None where it is dead.
-fn at_pointer<'a>(
-    alloc: Global,
-    world: &'a World,
-    buffers: &[Handle],
+fn at_pointer<'b, 'a>(
+    lists: &'b Lists<'a>,
     count: Count,
     element: Element,
     pointer: u64,
-) -> Result<Option<Vec<Place<'a>>>, NoMemory>
-    requires { buffers.now ≡ all_buffers world.now.groups }
-    ensures { IfOk result (λ begun. option_map begun_places begun
-        ≡ at_pointer world.now count element pointer) }
+) -> Option<Cursor<'b, 'a>>
+    requires { element ≡ elements.Lines → AllMade lists.now }
+    ensures places { result ≡ at_pointer lists.now.world count element pointer }
+    ensures kept { IfSome result (AreKept lists.now) }
 {
     match element {
-        Element::Buffer => at_buffer(alloc, world, buffers, count, pointer),
-        Element::Lines => at_list(alloc, world, buffers, pointer),
-        Element::Line => at_line(alloc, world, buffers, count, pointer),
-        Element::LineData => at_data(alloc, world, buffers, pointer),
+        Element::Buffer => at_buffer(lists, count, pointer),
+        Element::Lines => at_list(lists, pointer),
+        Element::Line => at_line(lists, count, pointer),
+        Element::LineData => at_data(lists, pointer),
     }
 }
 
-fn at_buffer<'a>(
-    alloc: Global,
-    world: &'a World,
-    buffers: &[Handle],
-    count: Count,
-    pointer: u64,
-) -> Result<Option<Vec<Place<'a>>>, NoMemory>
-    requires { buffers.now ≡ all_buffers world.now.groups }
-    ensures { IfOk result (λ begun. option_map begun_places begun
-        ≡ at_buffer world.now.groups count pointer) }
+fn at_buffer<'b, 'a>(lists: &'b Lists<'a>, count: Count, pointer: u64) -> Option<Cursor<'b, 'a>>
+    ensures places { result ≡ at_buffer lists.now.world.groups count pointer }
+    ensures kept { IfSome result (AreKept lists.now) }
 {
     let buffer = Handle(pointer);
-    if !is_there(world.buffers(), buffer) {
-        return Ok(None);
+    if !is_there(lists.world().buffers(), buffer) {
+        return None;
     }
-    buffers_from(alloc, buffers, count, place_in(buffers, buffer))
+    Some(buffers_from(lists, count, buffer))
 }
 
 fn is_there(buffers: &Buffers, buffer: Handle) -> bool
@@ -247,61 +236,33 @@ fn is_there(buffers: &Buffers, buffer: Handle) -> bool
     }
 }
 
-fn at_list<'a>(
-    alloc: Global,
-    world: &'a World,
-    buffers: &[Handle],
-    pointer: u64,
-) -> Result<Option<Vec<Place<'a>>>, NoMemory>
-    requires { buffers.now ≡ all_buffers world.now.groups }
-    ensures { IfOk result (λ begun. option_map begun_places begun
-        ≡ at_list world.now.groups pointer) }
+fn at_list<'b, 'a>(lists: &'b Lists<'a>, pointer: u64) -> Option<Cursor<'b, 'a>>
+    requires { AllMade lists.now }
+    ensures places { result ≡ at_list lists.now.world.groups pointer }
+    ensures kept { IfSome result (AreKept lists.now) }
 {
-    match list_at(world.buffers(), buffers, pointer) {
-        Some(list) => only(alloc, Place::Lines(list)),
-        None => Ok(None),
+    match list_at(lists.world().buffers(), lists.buffers(), pointer) {
+        Some(list) => Some(Cursor::one(Place::Lines(list))),
+        None => None,
     }
 }
 
-fn at_line<'a>(
-    alloc: Global,
-    world: &'a World,
-    buffers: &[Handle],
-    count: Count,
-    pointer: u64,
-) -> Result<Option<Vec<Place<'a>>>, NoMemory>
-    requires { buffers.now ≡ all_buffers world.now.groups }
-    ensures { IfOk result (λ begun. option_map begun_places begun
-        ≡ at_line world.now count pointer) }
+fn at_line<'b, 'a>(lists: &'b Lists<'a>, count: Count, pointer: u64) -> Option<Cursor<'b, 'a>>
+    ensures places { result ≡ at_line lists.now.world count pointer }
+    ensures kept { IfSome result (AreKept lists.now) }
 {
-    let Some(held) = line_among(world, buffers, Element::Line, pointer) else {
-        return Ok(None);
-    };
-    let mut places = Vec::new(alloc);
-    push_from_line(alloc, world, count, held, &mut places)?;
-    Ok(Some(places))
-}
-
-fn at_data<'a>(
-    alloc: Global,
-    world: &'a World,
-    buffers: &[Handle],
-    pointer: u64,
-) -> Result<Option<Vec<Place<'a>>>, NoMemory>
-    requires { buffers.now ≡ all_buffers world.now.groups }
-    ensures { IfOk result (λ begun. option_map begun_places begun ≡ at_data world.now pointer) }
-{
-    match line_among(world, buffers, Element::LineData, pointer) {
-        Some(held) => only(alloc, Place::LineData(held)),
-        None => Ok(None),
+    match line_at(lists, Element::Line, pointer) {
+        Some(held) => Some(lines_from(lists, count, held)),
+        None => None,
     }
 }
 
-fn only<'a>(alloc: Global, place: Place<'a>) -> Result<Option<Vec<Place<'a>>>, NoMemory>
-    ensures { IfOk result (λ begun. option_map begun_places begun
-        ≡ Some (place_of place.entry ∷ [])) }
+fn at_data<'b, 'a>(lists: &'b Lists<'a>, pointer: u64) -> Option<Cursor<'b, 'a>>
+    ensures places { result ≡ at_data lists.now.world pointer }
+    ensures kept { IfSome result (AreKept lists.now) }
 {
-    let mut places = Vec::new(alloc);
-    push(&mut places, place)?;
-    Ok(Some(places))
+    match line_at(lists, Element::LineData, pointer) {
+        Some(held) => Some(Cursor::one(Place::LineData(held))),
+        None => None,
+    }
 }

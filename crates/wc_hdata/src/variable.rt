@@ -4,6 +4,7 @@ ghost use Rattle.wc_hdata.specs.Paths.{target};
 ghost use Rattle.wc_hdata.specs.Answers.{variable_named};
 
 use crate::element::Element;
+use crate::key::Key;
 
 /// A pointer that an element holds, by which a path goes on.
 #[derive(Clone, Copy, Debug, PartialEq, Eq)]
@@ -39,10 +40,10 @@ impl Variable {
         match self {
             Variable::OwnLines => b"own_lines",
             Variable::Lines => b"lines",
-            Variable::FirstLine => b"first_line",
-            Variable::LastLine => b"last_line",
-            Variable::Data => b"data",
-            Variable::Buffer => b"buffer",
+            Variable::FirstLine => Key::FirstLine.name(),
+            Variable::LastLine => Key::LastLine.name(),
+            Variable::Data => Key::Data.name(),
+            Variable::Buffer => Key::Buffer.name(),
         }
     }
 

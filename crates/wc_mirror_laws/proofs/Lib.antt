@@ -25,3 +25,4 @@ mod TypedLemmas
 mod VarLemmas
 mod WithinLemmas
 mod WorldLemmas
+mod WorldSound

@@ -12,13 +12,14 @@ use Rattle.wc_relaycmd.specs.declared.request.Command.TheVariants as ask
 use Rattle.wc_relaycmd.specs.declared.request.Request.{Request}
 use Rattle.wc_relaycmd.specs.Answers.{request_of}
 use Rattle.wc_text.specs.Splits.{BeginsWithout}
-use Rattle.wc_events.specs.NickObjects.{nick_dump}
+use Rattle.wc_hdata.specs.Dumps.{buffers_text}
 use Rattle.wc_session.specs.declared.client.Client.{Client}
 use Rattle.wc_session.specs.OneReply.{AtMostOne, id_of_reply}
-use Rattle.wc_session.specs.Reply.{is_line_dump, is_open, replies, leaves, hdata_objects, nicklist_objects, served, reply_of}
+use Rattle.wc_session.specs.Reply.{dump_asked, is_line_dump, is_open, leaves, served, reply_of}
 use Rattle.wc_session.specs.Sending.{message, fits, reply}
 use Rattle.wc_session.proofs.OneReplyLaws.{one_reply}
 use Rattle.wc_session.proofs.SendingLemmas.{fits_within}
+use Rattle.wc_session.proofs.DumpReplies.{IsWalkable, dump_told}
 use Rattle.wc_view.specs.BufferFold.{kind_named}
 use Rattle.wc_core.specs.State.{State}
 use Rattle.wc_core.specs.Step.{sends}
@@ -26,9 +27,13 @@ use Rattle.wc_mirror_laws.specs.Held.{HeldPart, Lines, Buffers, Nicks, HeldOf, a
 use Rattle.wc_mirror_laws.specs.Settled.{TakesDump}
 use Rattle.wc_mirror_laws.specs.Kept.{IsStateKept}
 use Rattle.wc_mirror_laws.specs.Mirrors.{fold_all, mirror_after, IsFair}
+use Rattle.wc_mirror_laws.specs.Worlds.{IsWorldKept}
+use Rattle.wc_mirror_laws.proofs.DumpLemmas.{few_groups}
+use Rattle.wc_mirror_laws.proofs.HandleLemmas.{rows_handles}
 use Rattle.wc_mirror_laws.proofs.HeldLemmas.{dump_of, dump_short, dump_shown}
 use Rattle.wc_mirror_laws.proofs.IdLemmas.{request_free, request_size, event_apart, apart_event}
 use Rattle.wc_mirror_laws.proofs.ClientLemmas.{messages-sends}
+use Rattle.wc_mirror_laws.proofs.WorldLemmas.{once}
 
 -- ---- a reply under another id
 
@@ -99,47 +104,35 @@ other_reply which limit id state client line request part free read other =
 
 -- ---- the dump
 
-dump_objects : (which : HeldPart) (world : World) (path keys : List ℕ) → asks_dump which (ask.Hdata path keys) ≡ true → hdata_objects world path keys ≡ dump_of which world
-unfolding hdata_objects
-dump_objects Lines world path keys e = rw e refl
-dump_objects Buffers world path keys e =
-    let same = (bytes_eq-Decides path (codes "buffer:gui_buffers(*)")).0 (and_parts (bytes_eq path (codes "buffer:gui_buffers(*)")) _ e).0 in
+walkable : (limit : ℕ) (world : World) → limit ≤ 4096 → IsWorldKept limit world → IsWalkable world
+walkable limit world most is = record {
+  once = once limit world is;
+  groups = few_groups limit world is;
+  buffers = (let few = is.groups.few in omega (arith, few, rows_handles world.groups));
+  short = λ h. let within = is.within h in omega arith;
+}
+
+dump_is_asked : (which : HeldPart) (world : World) (command : Command) → asks_dump which command ≡ true → dump_asked world command ≡ Some (dump_of which world)
+unfolding dump_asked
+dump_is_asked Lines world (ask.Hdata path keys) e = rw e refl
+dump_is_asked Lines world _ e = absurd (false≢true e)
+dump_is_asked Buffers world (ask.Hdata path keys) e =
+    let same = (bytes_eq-Decides path buffers_text).0 (and_parts (bytes_eq path buffers_text) _ e).0 in
     let other : is_line_dump path keys ≡ false = ap (λ p. is_line_dump p keys) same in
     rw (other, e) refl
-dump_objects Nicks world path keys e = absurd (false≢true e)
-
--- the nicklists of all buffers
-nicklist_dump : (world : World) (buffer : Option (List ℕ)) → is_none buffer ≡ true → nicklist_objects world buffer ≡ nick_dump world
-unfolding nicklist_objects
-nicklist_dump world None e = refl
-nicklist_dump world (Some name) e = absurd (false≢true e)
+dump_is_asked Buffers world _ e = absurd (false≢true e)
+dump_is_asked Nicks world (ask.Nicklist None) e = refl
+dump_is_asked Nicks world _ e = absurd (false≢true e)
 
 reply_one : (id : List ℕ) (objects : List Object) → fits (message id objects) ≡ true → reply id objects ≡ message id objects ∷ []
 unfolding reply
 reply_one id objects e = rw e refl
 
 -- the dump is the one message that its request gets
-one_dump : (which : HeldPart) (world : World) (client : Client) (id : List ℕ) (objects : List Object) → objects ≡ dump_of which world → fits (message id (dump_of which world)) ≡ true
-    → (replies client (reply id objects)).messages ≡ message id (dump_of which world) ∷ []
-one_dump which world client id objects e fit =
-    ap (λ objects. (replies client (reply id objects)).messages) e ∙ ap (λ messages. (replies client messages).messages) (reply_one id (dump_of which world) fit)
-
-served_dump : (which : HeldPart) (world : World) (password : List ℕ) (client : Client) (id : List ℕ) (command : Command) → asks_dump which command ≡ true
-    → fits (message id (dump_of which world)) ≡ true → (served world password client id command).messages ≡ message id (dump_of which world) ∷ []
-unfolding served
-served_dump Lines world password client id (ask.Hdata path keys) e fit = one_dump Lines world client id (hdata_objects world path keys) (dump_objects Lines world path keys e) fit
-served_dump Lines world password client id _ e fit = absurd (false≢true e)
-served_dump Buffers world password client id (ask.Hdata path keys) e fit = one_dump Buffers world client id (hdata_objects world path keys) (dump_objects Buffers world path keys e) fit
-served_dump Buffers world password client id _ e fit = absurd (false≢true e)
-served_dump Nicks world password client id (ask.Nicklist buffer) e fit = one_dump Nicks world client id (nicklist_objects world buffer) (nicklist_dump world buffer e) fit
-served_dump Nicks world password client id _ e fit = absurd (false≢true e)
-
-reply_dump : (which : HeldPart) (world : World) (password : List ℕ) (client : Client) (request : Request) → client.logged_in ≡ true → asks_dump which request.command ≡ true
+reply_dump : (which : HeldPart) (world : World) (password : List ℕ) (client : Client) (request : Request) → IsWalkable world → client.logged_in ≡ true → asks_dump which request.command ≡ true
     → fits (message request.id (dump_of which world)) ≡ true → (reply_of world password client request).messages ≡ message request.id (dump_of which world) ∷ []
-unfolding reply_of
-reply_dump which world password client request logged e fit =
-    ap (λ b. (cond (b || is_open request.command) (served world password client request.id request.command) (leaves client cause.LoginFailed)).messages) logged
-    ∙ served_dump which world password client request.id request.command e fit
+reply_dump which world password client request is logged e fit =
+    dump_told world password client request (dump_of which world) is logged (dump_is_asked which world request.command e) ∙ reply_one request.id (dump_of which world) fit
 
 -- before login it gets none
 closed_dump : (which : HeldPart) (command : Command) → asks_dump which command ≡ true → is_open command ≡ false
@@ -164,7 +157,7 @@ pub dump_right : (which : HeldPart) (limit link : ℕ) (id : List ℕ) (state : 
 dump_right which limit link id state client line request part kept within read takes =
     let size = request_size line client.escaped request read in
     let fit = fits_within (message request.id (dump_of which state.world)) (dump_short which limit request.id state.world (omega arith) kept.most kept.world) in
-    let told = reply_dump which state.world state.password client request takes.logged_in takes.dump fit ∙ ap (λ id. message id (dump_of which state.world) ∷ []) takes.under in
+    let told = reply_dump which state.world state.password client request (walkable limit state.world kept.most kept.world) takes.logged_in takes.dump fit ∙ ap (λ id. message id (dump_of which state.world) ∷ []) takes.under in
     subst (λ part. Has which part state.world) (sym (ap (fold_all which limit id part) told)) (dump_shown which limit id part state.world kept.world)
 
 -- ---- any reply

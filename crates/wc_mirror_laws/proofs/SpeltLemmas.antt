@@ -29,22 +29,26 @@ use Rattle.wc_relaycmd.specs.declared.request.Command.{Command}
 use Rattle.wc_relaycmd.specs.declared.request.Command.TheVariants as ask
 use Rattle.wc_relaycmd.specs.declared.request.Request.{Request}
 use Rattle.wc_relaycmd.specs.Utf8.{CommandUtf8, RequestIsUtf8}
-use Rattle.wc_events.specs.BufferObjects.{buffer_dump}
-use Rattle.wc_events.specs.LineObjects.{line_dump}
 use Rattle.wc_events.specs.NickObjects.{nick_objects, root_and_rows}
+use Rattle.wc_hdata.specs.declared.path.Path.{Path}
+use Rattle.wc_hdata.specs.declared.refused.WalkRefused.{WalkRefused}
+use Rattle.wc_hdata.specs.Answers.{path_of}
+use Rattle.wc_hdata.specs.Hdata.{refusal, walk_object}
+use Rattle.wc_hdata.specs.Infos.{info_of}
+use Rattle.wc_hdata.proofs.SoundWalks.{sound_formed, walk_within}
 use Rattle.wc_session.specs.declared.client.Client.{Client}
 use Rattle.wc_session.specs.declared.outcome.Outcome.TheVariants as outcome
 use Rattle.wc_session.specs.Handshakes.{choice_in, asks_escapes, entry, handshake_table, handshake_objects}
 use Rattle.wc_session.specs.Logins.{pairs_let_in}
 use Rattle.wc_session.specs.Names.{buffer_named}
-use Rattle.wc_session.specs.Reply.{Answer, silent, leaves, replies, test_texts, test_numbers, test_objects, hdata_objects, is_line_dump, is_buffer_dump, info_objects, infolist_objects, or_null, list_of_named, nicklist_objects, pong_objects, shaken, handshake_reply, handshake_answer, init_answer, typed_into, input_answer, is_open, served, reply_of}
+use Rattle.wc_session.specs.Reply.{Answer, silent, leaves, replies, test_texts, test_numbers, test_objects, hdata_objects, path_objects, unless_refused, info_objects, infolist_objects, or_null, list_of_named, nicklist_objects, pong_objects, shaken, handshake_reply, handshake_answer, init_answer, typed_into, input_answer, is_open, served, reply_of}
 use Rattle.wc_session.specs.Sending.{message, fits, fitting, null_hdata, reply}
 use Rattle.wc_session.proofs.Formed.{null_formed, info_formed, infolist_formed, pong_formed, test_formed, handshake_formed}
 use Rattle.wc_mirror_laws.specs.Worlds.{IsBufferKept, IsWorldKept}
-use Rattle.wc_mirror_laws.proofs.DumpLemmas.{line_dump_good, buffer_dump_good}
 use Rattle.wc_mirror_laws.proofs.NickDumps.{nick_dump_good, nick_list_good}
 use Rattle.wc_mirror_laws.proofs.RowLemmas.{row_has}
 use Rattle.wc_mirror_laws.proofs.TellingLemmas.{AllSpelt, AreGood, one_spelt, fitting_spelt}
+use Rattle.wc_mirror_laws.proofs.WorldSound.{infolist_within, world_sound}
 use Rattle.wc_mirror_laws.proofs.WithinLemmas.{simple_str, hda_within}
 
 -- ---- the numbers of objects
@@ -85,10 +89,6 @@ simple_int : (n : ℤ) → FitsSigned w32 n → SimpleWithin (o.Int n)
 unfolding SimpleWithin out-Object out
 simple_int n fit = fit
 
-inl_within : (name : List ℕ) → ObjectWithin (o.Inl name [])
-unfolding ObjectWithin
-inl_within name = rw (← o.rolls-Inl name [], out-roll-Object) tt
-
 arr_within : (values : List Object) → AllByRecursion SimpleWithin values → (kind : Kind) → ObjectWithin (o.Arr kind values)
 unfolding ObjectWithin
 arr_within values all kind = rw (← o.rolls-Arr kind values, out-roll-Object) all
@@ -106,13 +106,21 @@ null_within = rw out-roll-Hda tt
 null_good : AreGood null_hdata
 null_good = record { formed = null_formed; within = (hda_within (roll-Hda (record { path = None; keys = None; items = [] })) null_within, tt) }
 
-hdata_good : (limit : ℕ) (world : World) (path keys : List ℕ) → IsWorldKept limit world → AreGood (hdata_objects world path keys)
+walk_good : (limit : ℕ) (world : World) (path : Path) (keys : List ℕ) → IsWorldKept limit world → AreGood (walk_object world path keys ∷ [])
+walk_good limit world path keys is =
+    let sound = world_sound limit world is in
+    record { formed = sound_formed world path keys sound; within = (walk_within world path keys sound, tt) }
+
+hdata_good : (limit : ℕ) (world : World) (text keys : List ℕ) → IsWorldKept limit world → AreGood (hdata_objects world text keys)
 unfolding hdata_objects
-hdata_good limit world path keys is = by (is_line_dump path keys) (is_buffer_dump path keys) where
-  by : (lines buffers : Bool) → AreGood (cond lines (line_dump world) (cond buffers (buffer_dump world.groups) null_hdata))
-  by true buffers = line_dump_good limit world is
-  by false true = buffer_dump_good limit world is
-  by false false = null_good
+hdata_good limit world text keys is = by (path_of text) where
+  told : (path : Path) (o : Option WalkRefused) → AreGood (unless_refused o (walk_object world path keys))
+  told path None = walk_good limit world path keys is
+  told path (Some refused) = null_good
+
+  by : (o : Option Path) → AreGood (path_objects world keys o)
+  by None = null_good
+  by (Some path) = told path (refusal world path keys)
 
 nicklist_good : (limit : ℕ) (world : World) (buffer : Option (List ℕ)) → IsWorldKept limit world → AreGood (nicklist_objects world buffer)
 unfolding nicklist_objects
@@ -176,10 +184,13 @@ test_good : AreGood test_objects
 test_good = record { formed = test_formed; within = test_within }
 
 info_good : (name : List ℕ) → IsUtf8 name → AreGood (info_objects name)
-info_good name text = record { formed = info_formed name text; within = (inf_within (Some name) None, tt) }
+info_good name text = record { formed = info_formed name text; within = (inf_within (Some name) (info_of name), tt) }
 
-infolist_good : (name : List ℕ) → IsUtf8 name → AreGood (infolist_objects name)
-infolist_good name text = record { formed = infolist_formed name text; within = (inl_within name, tt) }
+infolist_good : (limit : ℕ) (world : World) (name : List ℕ) → IsWorldKept limit world → IsUtf8 name → AreGood (infolist_objects world name)
+infolist_good limit world name is text = record {
+  formed = infolist_formed world name (λ h e at. (row_has (IsBufferKept world.next) handle_of h.0 (rows world.groups) e at is.each).fit) text;
+  within = infolist_within limit world name is;
+}
 
 pong_good : (text : List ℕ) → IsUtf8 text → AreGood (pong_objects text)
 pong_good text utf8 = record { formed = pong_formed text utf8; within = (str_within (Some text), tt) }
@@ -251,7 +262,7 @@ served_spelt limit world password client id (ask.Handshake pairs) is text utf8 =
 served_spelt limit world password client id (ask.Init pairs) is text utf8 = init_spelt password client pairs
 served_spelt limit world password client id (ask.Hdata path keys) is text utf8 = replies_spelt client _ (reply_spelt id _ text (hdata_good limit world path keys is))
 served_spelt limit world password client id (ask.Info name) is text utf8 = replies_spelt client _ (reply_spelt id _ text (info_good name utf8))
-served_spelt limit world password client id (ask.Infolist name) is text utf8 = replies_spelt client _ (reply_spelt id _ text (infolist_good name utf8))
+served_spelt limit world password client id (ask.Infolist name) is text utf8 = replies_spelt client _ (reply_spelt id _ text (infolist_good limit world name is utf8))
 served_spelt limit world password client id (ask.Nicklist buffer) is text utf8 = replies_spelt client _ (reply_spelt id _ text (nicklist_good limit world buffer is))
 served_spelt limit world password client id (ask.Input buffer typed) is text utf8 = input_spelt world.groups client buffer typed
 served_spelt limit world password client id (ask.Completion buffer position typed) is text utf8 = replies_spelt client _ (reply_spelt id _ text null_good)

@@ -39,7 +39,7 @@ moment_within date = by (leb date (2 ^ 63 - 1)) refl where
   by true e = record { sfits = grind (arith, nat_tests) }
   by false e = record { sfits = omega arith }
 
-count_within : (n : ℕ) → FitsSigned w32 (count n)
+pub count_within : (n : ℕ) → FitsSigned w32 (count n)
 count_within n = by (leb n (2 ^ 31 - 1)) refl where
   by : (b : Bool) → leb n (2 ^ 31 - 1) ≡ b → FitsSigned w32 (pos (cond b n (2 ^ 31 - 1)))
   by true e = record { sfits = grind (arith, nat_tests) }
@@ -49,7 +49,7 @@ truth_within : (on : Bool) → FitsSigned w8 (truth on)
 truth_within true = record { sfits = omega arith }
 truth_within false = record { sfits = omega arith }
 
-flag_within : (on : Bool) → FitsSigned w32 (truth on)
+pub flag_within : (on : Bool) → FitsSigned w32 (truth on)
 flag_within true = record { sfits = omega arith }
 flag_within false = record { sfits = omega arith }
 
@@ -133,25 +133,8 @@ added_within : (buffer : Handle) (line : Line) → buffer.0 < 2 ^ 64 → IsPrint
 unfolding ItemWithin added_item
 added_within buffer line small is = ((is.content, tt), values_within buffer line small is)
 
-dumped_within : (buffer own : Handle) (line : Line) → buffer.0 < 2 ^ 64 → own.0 < 2 ^ 64 → IsPrinted line → ItemWithin (dumped_item buffer own line)
-unfolding ItemWithin dumped_item
-dumped_within buffer own line small lines is = ((small, (lines, (is.handle, (is.content, tt)))), values_within buffer line small is)
-
 pub event_within : (buffer : Handle) (line : Line) → buffer.0 < 2 ^ 64 → IsPrinted line → AllByRecursion ObjectWithin (added_objects buffer line)
 event_within buffer line small is = items_within (codes "line_data") line_keys (added_item buffer line ∷ []) (added_within buffer line small is, tt)
-
-pub line_dump_within : (limit : ℕ) (world : World) → IsWorldKept limit world → AllByRecursion ObjectWithin (line_dump world)
-line_dump_within limit world is =
-    items_within (codes "buffer/lines/line/line_data") line_keys (flat_map (dumped_lines world) (rows world.groups))
-    (all_flat (IsBufferKept world.next) ItemWithin (dumped_lines world) (rows world.groups) within is.each)
-  where
-    within : (e : BufferEntry) → IsBufferKept world.next e → AllByRecursion ItemWithin (dumped_lines world e)
-    within e kept =
-        let below = kept.below in
-        let own = kept.own in
-        let ended = is.ended in
-        all_map IsPrinted ItemWithin (dumped_item e.row.handle e.row.own_lines) (lines_at world e.row.handle.0) (λ line printed. dumped_within e.row.handle e.row.own_lines line (omega arith) (omega arith) printed)
-        (recursion_from_All IsPrinted (lines_at world e.row.handle.0) (is.printed e.row.handle.0))
 
 -- ---- buffers
 
@@ -207,28 +190,6 @@ named_all n = (value_int _ (count_within n.number), (value_str _, tt))
 
 pub named_within : (n : Notice) → IsTelling n → AllByRecursion ObjectWithin (named_objects n)
 named_within n is = about_within named_keys n.buffer (named_values n) is.buffer (named_all n)
-
--- ---- the dump of all buffers
-
-number_within : (n : ℕ) → n ≤ 1000 → FitsSigned w32 (pos n)
-number_within n small = record { sfits = omega arith }
-
-dumped_all : (number : ℕ) (e : BufferEntry) → number ≤ 1000 → AllByRecursion ValueWithin (dumped_values number e)
-unfolding dumped_values
-dumped_all number e small = (value_int _ (number_within number small), (value_str _, (value_str _, (value_int _ (flag_within e.row.hidden), (value_str _, (value_table e.vars, tt))))))
-
-groups_within : (next number : ℕ) (groups : EntryGroups) → next ≤ 2 ^ 62 + 1 → number + length groups ≤ 1000 → AllByRecursion (IsBufferKept next) (rows groups) → AllByRecursion ItemWithin (dumped_groups number groups)
-groups_within next number [] ended few all = tt
-groups_within next number (group ∷ groups) ended few all =
-    all_append ItemWithin (map (dumped_buffer number) group) (dumped_groups (number + 1) groups)
-    (all_map (IsBufferKept next) ItemWithin (dumped_buffer number) group
-    (λ e kept. item_within e.row.handle.0 (dumped_values number e) (let b = kept.below in omega arith) (dumped_all number e (omega arith)))
-    (all_front (IsBufferKept next) group (rows groups) all))
-    (groups_within next (number + 1) groups ended (omega arith) (all_back (IsBufferKept next) group (rows groups) all))
-
-pub buffer_dump_within : (limit : ℕ) (world : World) → IsWorldKept limit world → length world.groups ≤ 256 → AllByRecursion ObjectWithin (buffer_dump world.groups)
-buffer_dump_within limit world is few =
-    items_within (codes "buffer") dump_keys (dumped_groups 1 world.groups) (groups_within world.next 1 world.groups is.ended (omega arith) is.each)
 
 -- ---- nicklists
 

@@ -113,9 +113,10 @@ regrouped limit w gs is groups each same = record {
 -- a buffer that is changed by F
 rewritten : (limit : ℕ) (w : World) (h : Handle) (F : BufferEntry → BufferEntry) → IsWorldKept limit w → is_there h w.groups ≡ true
     → ((x : BufferEntry) → (F x).row.handle ≡ x.row.handle) → ((x : BufferEntry) → (F x).row.own_lines ≡ x.row.own_lines)
+    → ((x : BufferEntry) → (F x).row.mixed_lines ≡ x.row.mixed_lines)
     → ((e : BufferEntry) → entry_of h w.groups ≡ Some e → IsBuffer e → IsBuffer (F e)) → ((e : BufferEntry) → AreShort e.vars → AreShort (F e).vars)
     → IsWorldKept limit (with_groups w (with_entry h F w.groups))
-rewritten limit w h F is there same own fits short =
+rewritten limit w h F is there same own mixed fits short =
     let r = some_row handle_of h.0 w.groups there in
     let e = r.0 in
     let old : IsBufferKept w.next e = row_has (IsBufferKept w.next) handle_of h.0 (rows w.groups) e r.1 is.each in
@@ -125,6 +126,7 @@ rewritten limit w h F is there same own fits short =
       some = subst (λ (k : Handle). 0 < k.0) (sym (same e)) old.some;
       below = subst (λ (k : Handle). k.0 < w.next) (sym (same e)) old.below;
       own = subst (λ (k : Handle). k.0 < w.next) (sym (own e)) old.own;
+      mixed = subst (λ (k : Handle). k.0 < w.next) (sym (mixed e)) old.mixed;
     } in
     regrouped limit w (with_entry h F w.groups) is (subst AreGroups (sym (handles_updated h.0 F same w.groups)) is.groups)
     (updated_rows handle_of (IsBufferKept w.next) (IsBufferKept w.next) h.0 F (λ x k. k) e new w.groups (once limit w is h.0) r.1 is.each)
@@ -194,7 +196,7 @@ relined limit w v k ms is same started ended groups each lines few printed none 
     all q false = is.printed q
 
 grown : (n m : ℕ) → n ≤ m → (e : BufferEntry) → IsBufferKept n e → IsBufferKept m e
-grown n m le e is = record { fit = is.fit; names = is.names; some = is.some; below = (let b = is.below in omega arith); own = (let b = is.own in omega arith) }
+grown n m le e is = record { fit = is.fit; names = is.names; some = is.some; below = (let b = is.below in omega arith); own = (let b = is.own in omega arith); mixed = (let b = is.mixed in omega arith) }
 
 all_grown : (n m : ℕ) → n ≤ m → (gs : EntryGroups) → AllByRecursion (IsBufferKept n) (rows gs) → AllByRecursion (IsBufferKept m) (rows gs)
 all_grown n m le gs a = all_more (IsBufferKept n) (IsBufferKept m) (rows gs) (grown n m le) a
@@ -242,7 +244,7 @@ add_kept limit w spec is good room told =
     let names = add_good row spec.vars w.groups parts.0 in
     let absent = has_handles w.next w.groups ∙ is_new limit w is in
     let fits = opened_fits row spec.vars (record { full_name = told.0; short_name = told.1; title = told.2 }) told.3 names.0 parts.1 in
-    let new : IsBufferKept (w.next + 4) e = record { fit = fits; names = opened_short row spec.vars names.0; some = is.started; below = omega arith; own = omega arith } in
+    let new : IsBufferKept (w.next + 4) e = record { fit = fits; names = opened_short row spec.vars names.0; some = is.started; below = omega arith; own = omega arith; mixed = omega arith } in
     relined limit w (record w { groups = with_buffer row spec.vars w.groups; lines = insert w.lines w.next []; nicks = insert w.nicks w.next []; next = w.next + 4 }) w.next [] is refl (omega arith) room
     (subst AreGroups (sym (map-append (map (λ (e : BufferEntry). e.row.handle)) w.groups ((e ∷ []) ∷ []))) (added_are row.handle (handles w.groups) is.groups absent (subst (λ n. n < 256) (sym (rows_handles w.groups)) names.2)))
     (added_rows (IsBufferKept (w.next + 4)) handle_of e w.groups new (all_grown w.next (w.next + 4) (omega arith) w.groups is.each))
@@ -286,25 +288,25 @@ after_kept limit w h (MergeInto into) is told good =
 after_kept limit w h Unmerge is told good =
     let g = unmerge_good h w.groups (accepted _ good) in
     regrouped limit w (unmerge_group h w.groups) is (groups_unmerged h w.groups g.0 g.1 is.groups) (unmerged_rows (IsBufferKept w.next) handle_of h.0 w.groups is.each) (λ q. has-unmerge handle_of h.0 q w.groups)
-after_kept limit w h Hide is told good = rewritten limit w h (with_hidden true) is (there_good h w.groups (accepted _ good)) (λ x. refl) (λ x. refl) (λ e at fit. hidden_fits true e fit) (λ e short. short)
-after_kept limit w h Unhide is told good = rewritten limit w h (with_hidden false) is (there_good h w.groups (accepted _ good)) (λ x. refl) (λ x. refl) (λ e at fit. hidden_fits false e fit) (λ e short. short)
+after_kept limit w h Hide is told good = rewritten limit w h (with_hidden true) is (there_good h w.groups (accepted _ good)) (λ x. refl) (λ x. refl) (λ x. refl) (λ e at fit. hidden_fits true e fit) (λ e short. short)
+after_kept limit w h Unhide is told good = rewritten limit w h (with_hidden false) is (there_good h w.groups (accepted _ good)) (λ x. refl) (λ x. refl) (λ x. refl) (λ e at fit. hidden_fits false e fit) (λ e short. short)
 after_kept limit w h (Rename name flips) is told good =
     let g = rename_good h name w.groups (accepted _ (both_accepted _ _ good).0) in
     let v = with_groups w (with_entry h (with_full_name name) w.groups) in
-    subst (λ flips. IsWorldKept limit (flip_all flips v)) (sym told.1) (unflipped limit v (rewritten limit w h (with_full_name name) is g.0 (λ x. refl) (λ x. refl) (λ e at fit. full_name_fits name e g.1 told.0 fit) (λ e short. short_fixed name e.vars short)))
+    subst (λ flips. IsWorldKept limit (flip_all flips v)) (sym told.1) (unflipped limit v (rewritten limit w h (with_full_name name) is g.0 (λ x. refl) (λ x. refl) (λ x. refl) (λ e at fit. full_name_fits name e g.1 told.0 fit) (λ e short. short_fixed name e.vars short)))
 after_kept limit w h (ShortName name) is told good =
     let g = short_name_good h name w.groups (accepted _ good) in
-    rewritten limit w h (with_short_name name) is g.0 (λ x. refl) (λ x. refl) (λ e at fit. short_name_fits name e g.1 told fit) (λ e short. short)
+    rewritten limit w h (with_short_name name) is g.0 (λ x. refl) (λ x. refl) (λ x. refl) (λ e at fit. short_name_fits name e g.1 told fit) (λ e short. short)
 after_kept limit w h (Title title) is told good =
-    rewritten limit w h (with_title (cut_to 1024 title)) is (there_good h w.groups (accepted _ good)) (λ x. refl) (λ x. refl) (λ e at fit. title_fits (cut_to 1024 title) e (cut_short title) (cut_is_utf8 title) fit) (λ e short. short)
+    rewritten limit w h (with_title (cut_to 1024 title)) is (there_good h w.groups (accepted _ good)) (λ x. refl) (λ x. refl) (λ x. refl) (λ e at fit. title_fits (cut_to 1024 title) e (cut_short title) (cut_is_utf8 title) fit) (λ e short. short)
 after_kept limit w h (SetVar var) is told good =
     let g = set_var_good h var.name w.groups (accepted _ good) in
-    rewritten limit w h (with_var var.name var.value) is g.0 (λ x. refl) (λ x. refl)
+    rewritten limit w h (with_var var.name var.value) is g.0 (λ x. refl) (λ x. refl) (λ x. refl)
     (λ e at fit. var_fits var.name var.value e g.1 (subst (λ o. (lacks_var var.name o && is_full o) ≡ false) at g.2) told fit)
     (λ e short. short_set (cut_var var.name var.value) e.vars (set_name_short h var.name w.groups (accepted _ good)) short)
 after_kept limit w h (RemoveVar name) is told good =
     let g = remove_var_good h name w.groups (accepted _ good) in
-    rewritten limit w h (without_var name) is g.0 (λ x. refl) (λ x. refl) (λ e at fit. removed_fits name e g.1 fit) (λ e short. short_removed name e.vars short)
+    rewritten limit w h (without_var name) is g.0 (λ x. refl) (λ x. refl) (λ x. refl) (λ e at fit. removed_fits name e g.1 fit) (λ e short. short_removed name e.vars short)
 after_kept limit w h (Print line) is told good =
     let both = both_accepted _ _ good in
     print_kept limit w h line is (there_good h w.groups (accepted _ both.0)) (unspent 2 w both.1) told.0 told.1
@@ -347,7 +349,7 @@ first_kept limit =
       started = omega arith;
       ended = omega arith;
       groups = added_are core_row.handle [] nobody refl (omega arith);
-      each = (record { fit = fits; names = opened_short core_row [] core_names; some = omega arith; below = omega arith; own = omega arith }, tt);
+      each = (record { fit = fits; names = opened_short core_row [] core_names; some = omega arith; below = omega arith; own = omega arith; mixed = omega arith }, tt);
       within = λ q. subst (λ ls. length ls ≤ limit) (sym (no_lines limit q)) (omega arith);
       printed = λ q. subst (All IsPrinted) (sym (no_lines limit q)) (All-nil IsPrinted);
       none = λ q lacks. no_lines limit q;

@@ -22,6 +22,7 @@ pub record IsBufferKept (next : ℕ) (e : BufferEntry) : Type 0 where
   pub some : 0 < e.row.handle.0
   pub below : e.row.handle.0 < next
   pub own : e.row.own_lines.0 < next
+  pub mixed : e.row.mixed_lines.0 < next
 
 pub record IsWorldKept (limit : ℕ) (world : World) : Type 0 where
   pub same : world.limit ≡ limit

@@ -1,6 +1,7 @@
 -- What is replied keeps the rules of messages.
-use Rattle.std.proofs.Common.{◌≡◌, ℕ, ℤ, true, false, Bool, ◌&&◌, nat_lt, arith, List, [], ◌∷◌, codes, Option, Some, None, refl}
+use Rattle.std.proofs.Common.{◌≡◌, ℕ, ℤ, true, false, Bool, cond, ◌++◌, ◌&&◌, nat_lt, arith, List, [], ◌∷◌, codes, Option, Some, None, refl}
 use Rattle.std.specs.List.{list_all}
+use Rattle.std.specs.Prelude.{unwrap_or, bytes_eq}
 use Rattle.std.specs.Str.{IsUtf8, IsAscii, is_utf8, chars}
 use Rattle.std.proofs.lemmas.Str.{is_utf8-from_IsUtf8, IsUtf8-from_ascii}
 use Rattle.std.proofs.lemmas.Str.Ascii.{IsAscii-nil, IsAscii-cons}
@@ -13,7 +14,18 @@ use Rattle.wc_objects.specs.declared.kind.Kind.TheVariants as k
 use Rattle.wc_objects.specs.declared.object.Object.TheVariants as o
 use Rattle.wc_objects.specs.declared.object.Object.TheViews.{out-Object, out-roll-Object, out-roll-Hda}
 use Rattle.wc_objects.specs.declared.object.Hda.{roll-Hda}
-use Rattle.wc_objects.specs.Forms.{simple_is, value_is, hda_is, object_is, well_formed}
+use Rattle.wc_objects.specs.declared.object.InlVar.{InlVar}
+use Rattle.wc_objects.specs.Forms.{is_text, simple_is, value_is, hda_is, variable_is, object_is, well_formed}
+use Rattle.wc_text.specs.declared.names.Handle.{Handle}
+use Rattle.wc_buffers.specs.declared.row.BufferEntry.{BufferEntry}
+use Rattle.wc_buffers.specs.declared.row.BufferRow.{BufferRow}
+use Rattle.wc_buffers.specs.Calls.{EntryGroups, entry_of, number}
+use Rattle.wc_buffers.specs.Kept.{IsBuffer, HasUtf8Row}
+use Rattle.wc_model.specs.World.{World}
+use Rattle.wc_events.specs.BufferObjects.{count, text}
+use Rattle.wc_events.specs.LineObjects.{truth}
+use Rattle.wc_hdata.specs.Infos.{info_of, variable, variables_of, buffer_item, buffer_items}
+use Rattle.wc_hdata.specs.Steps.{all_buffers}
 use Rattle.wc_relaycmd.specs.declared.algorithm.Algorithm.{Algorithm}
 use Rattle.wc_relaycmd.specs.declared.algorithm.Algorithm.TheVariants as a
 use Rattle.wc_session.specs.Sending.{null_hdata}
@@ -28,13 +40,70 @@ pub null_formed : well_formed null_hdata ≡ true
 unfolding well_formed object_is
 null_formed = rw (← o.rolls-Hda (roll-Hda (record { path = None; keys = None; items = [] })), out-roll-Object, null_hda) refl
 
+-- each information is text
+info_text : (name : List ℕ) → is_text (info_of name) ≡ true
+unfolding is_utf8 chars encode
+info_text name = by (bytes_eq name (codes "version")) (bytes_eq name (codes "version_number")) where
+  by : (a b : Bool) → is_text (cond a (Some (codes "4.0.0")) (cond b (Some (codes "67108864")) None)) ≡ true
+  by true b = refl
+  by false true = refl
+  by false false = refl
+
 pub info_formed : (name : List ℕ) → IsUtf8 name → well_formed (info_objects name) ≡ true
 unfolding well_formed object_is out-Object out
-info_formed name h = rw (is_utf8-from_IsUtf8 name h) refl
+info_formed name h = rw (is_utf8-from_IsUtf8 name h, info_text name) refl
 
-pub infolist_formed : (name : List ℕ) → IsUtf8 name → well_formed (infolist_objects name) ≡ true
+-- ---- the list of buffers
+
+ptr_variable : (name : List ℕ) (n : ℕ) → is_utf8 name ≡ true → variable_is (variable name (o.Ptr n)) ≡ true
+unfolding variable variable_is simple_is out-Object out
+ptr_variable name n named = rw named refl
+
+int_variable : (name : List ℕ) (n : ℤ) → is_utf8 name ≡ true → variable_is (variable name (o.Int n)) ≡ true
+unfolding variable variable_is simple_is out-Object out
+int_variable name n named = rw named refl
+
+str_variable : (name value : List ℕ) → is_utf8 name ≡ true → IsUtf8 value → variable_is (variable name (text value)) ≡ true
+unfolding variable variable_is simple_is out-Object out
+str_variable name value name_text value_text = rw (name_text, is_utf8-from_IsUtf8 value value_text) refl
+
+abbrev are_variables : List InlVar → Bool
+are_variables item = list_all (λ v. variable_is v) item
+
+variables_formed : (number : ℤ) (buffer : Handle) (row : BufferRow) → HasUtf8Row row → are_variables (variables_of number buffer row) ≡ true
+unfolding variables_of is_utf8 chars encode
+variables_formed number buffer row is =
+    rw (
+      ptr_variable (codes "pointer") buffer.0 refl,
+      int_variable (codes "number") number refl,
+      str_variable (codes "full_name") row.full_name refl is.full_name,
+      str_variable (codes "short_name") row.short_name refl is.short_name,
+      str_variable (codes "title") row.title refl is.title,
+      int_variable (codes "hidden") (truth row.hidden) refl,
+    ) refl
+
+-- each buffer that is there keeps its limits
+abbrev pub AreFit : EntryGroups → Type 0
+AreFit groups = (h : Handle) (e : BufferEntry) → entry_of h groups ≡ Some e → IsBuffer e
+
+items_formed : (groups : EntryGroups) (buffers : List Handle) → AreFit groups → list_all are_variables (buffer_items groups buffers) ≡ true
+items_formed groups [] are = refl
+items_formed groups (buffer ∷ buffers) are = by (entry_of buffer groups) refl (items_formed groups buffers are) where
+  by : (e : Option BufferEntry) → entry_of buffer groups ≡ e → list_all are_variables (buffer_items groups buffers) ≡ true
+      → list_all are_variables (buffer_item groups buffer e ++ buffer_items groups buffers) ≡ true
+  by None at rest = rest
+  by (Some e) at rest = rw (variables_formed (count (unwrap_or (number buffer groups) 0)) buffer e.row (are buffer e at).text) rest
+
+inl_formed : (name : List ℕ) (items : List (List InlVar)) → IsUtf8 name → list_all are_variables items ≡ true → well_formed (o.Inl name items ∷ []) ≡ true
 unfolding well_formed object_is
-infolist_formed name h = rw (← o.rolls-Inl name [], out-roll-Object, is_utf8-from_IsUtf8 name h) refl
+inl_formed name items h are = rw (← o.rolls-Inl name items, out-roll-Object, is_utf8-from_IsUtf8 name h, are) refl
+
+pub infolist_formed : (world : World) (name : List ℕ) → AreFit world.groups → IsUtf8 name → well_formed (infolist_objects world name) ≡ true
+unfolding infolist_objects
+infolist_formed world name are h = inl_formed name _ h (by (bytes_eq name (codes "buffer"))) where
+  by : (b : Bool) → list_all are_variables (cond b (buffer_items world.groups (all_buffers world.groups)) []) ≡ true
+  by true = items_formed world.groups (all_buffers world.groups) are
+  by false = refl
 
 pub pong_formed : (text : List ℕ) → IsUtf8 text → well_formed (pong_objects text) ≡ true
 unfolding well_formed object_is value_is simple_is out-Object out

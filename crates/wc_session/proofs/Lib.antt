@@ -1,3 +1,4 @@
+pub mod DumpReplies
 pub mod Formed
 pub mod LoginLaws
 pub mod NameLemmas
@@ -6,3 +7,4 @@ pub mod PushLemmas
 pub mod SendingLemmas
 pub mod ServedLemmas
 pub mod SetLemmas
+pub mod WalkReplies

@@ -65,7 +65,7 @@ reply_second id objects e = rw e refl
 pub owed_first : (id : List ℕ) (objects : List Object) → fits (message id objects) ≡ true → true ≡ is_owed (reply id objects)
 owed_first id objects e = ap is_owed (sym (fitting_one (message id objects) e)) ∙ ap is_owed (reply_first id objects e)
 
-owed_fitting : (m : WireMessage) (sent : Bool) → fits m ≡ sent → sent ≡ is_owed (fitting m)
+pub owed_fitting : (m : WireMessage) (sent : Bool) → fits m ≡ sent → sent ≡ is_owed (fitting m)
 owed_fitting m true e = ap is_owed (sym (fitting_one m e))
 owed_fitting m false e = ap is_owed (sym (fitting_none m e))
 

@@ -18,7 +18,7 @@ use Rattle.wc_session.specs.Handshakes.{choice_in}
 use Rattle.wc_session.specs.Logins.{pairs_let_in}
 use Rattle.wc_session.specs.Names.{buffer_named}
 use Rattle.wc_session.specs.Reply.{Answer, silent, leaves, replies, typed_into, shaken, handshake_reply, handshake_answer, init_answer, input_answer, is_open, served, reply_of}
-use Rattle.wc_session.specs.Served.{OnNoMemory}
+use Rattle.wc_session.specs.Served.{OnNoMemory, OnServed}
 
 abbrev IsServed : Outcome → Type 0
 IsServed outcome.NoMemory = ⊥
@@ -88,3 +88,10 @@ pub answer_not_refused : (world : World) (password : List ℕ) (client : Client)
 answer_not_refused world password client request o fact e =
     let P : Outcome → Type 0 = λ o. IsServed o in
     not_refused o fact (subst P (sym e) (reply_served world password client request))
+
+pub on_served : (o : Outcome) (fact : Type 0) → fact → OnServed o fact
+on_served outcome.Replied fact h = h
+on_served outcome.Silent fact h = h
+on_served (outcome.Input buffer text) fact h = h
+on_served (outcome.Leave why) fact h = h
+on_served outcome.NoMemory fact h = tt

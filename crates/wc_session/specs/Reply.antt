@@ -15,9 +15,15 @@ use Rattle.wc_objects.specs.declared.kind.Kind.TheVariants as k
 use Rattle.wc_objects.specs.declared.object.Object.{Object}
 use Rattle.wc_objects.specs.declared.object.Object.TheVariants as o
 use Rattle.wc_objects.specs.declared.object.WireMessage.{WireMessage}
-use Rattle.wc_events.specs.LineObjects.{line_dump}
 use Rattle.wc_events.specs.BufferObjects.{buffer_dump}
+use Rattle.wc_events.specs.LineObjects.{line_dump}
 use Rattle.wc_events.specs.NickObjects.{nick_dump, nick_list}
+use Rattle.wc_hdata.specs.declared.path.Path.{Path}
+use Rattle.wc_hdata.specs.declared.refused.WalkRefused.{WalkRefused}
+use Rattle.wc_hdata.specs.Answers.{path_of}
+use Rattle.wc_hdata.specs.Dumps.{buffers_text, buffers_keys, lines_text, lines_keys}
+use Rattle.wc_hdata.specs.Hdata.{refusal, walk_object}
+use Rattle.wc_hdata.specs.Infos.{info_of, infolist_object}
 use Rattle.wc_session.specs.declared.client.Client.{Client}
 use Rattle.wc_session.specs.declared.outcome.Outcome.{Outcome}
 use Rattle.wc_session.specs.declared.outcome.Outcome.TheVariants as outcome
@@ -67,25 +73,27 @@ test_objects =
     o.Ptr 305441741 ∷ o.Ptr 0 ∷ o.Tim (pos 1321993456) ∷ o.Arr k.Str test_texts ∷ o.Arr k.Int
     test_numbers ∷ []
 
+-- whether a path and keys ask for the buffers, or for their lines, as clients ask for the dumps
 abbrev pub is_buffer_dump : List ℕ → List ℕ → Bool
-is_buffer_dump path keys =
-    bytes_eq path (codes "buffer:gui_buffers(*)")
-    && bytes_eq keys (codes "number,full_name,short_name,hidden,title,local_variables")
+is_buffer_dump path keys = bytes_eq path buffers_text && bytes_eq keys buffers_keys
 
 abbrev pub is_line_dump : List ℕ → List ℕ → Bool
-is_line_dump path keys =
-    bytes_eq path (codes "buffer:gui_buffers(*)/own_lines/first_line(*)/data")
-    &&
-    bytes_eq
-    keys
-    (codes
-    "buffer,date,date_printed,displayed,notify_level,highlight,tags_array,prefix,message")
+is_line_dump path keys = bytes_eq path lines_text && bytes_eq keys lines_keys
 
--- the reply to `hdata`: the buffers, their lines, and else the null hdata
+-- what a path leads to, unless the walk is refused
+abbrev pub unless_refused : Option WalkRefused → Object → List Object
+unless_refused None object = object ∷ []
+unless_refused (Some refused) object = null_hdata
+
+abbrev pub path_objects : World → List ℕ → Option Path → List Object
+path_objects world keys None = null_hdata
+path_objects world keys (Some path) = unless_refused (refusal world path keys)
+    (walk_object world path keys)
+
+-- the reply to `hdata`: what the path of the text leads to; the null hdata where the text spells no
+-- path, and where the walk is refused
 unfoldable pub hdata_objects : World → List ℕ → List ℕ → List Object
-hdata_objects world path keys =
-    if is_line_dump path keys then line_dump world else (
-    if is_buffer_dump path keys then buffer_dump world.groups else null_hdata)
+hdata_objects world path keys = path_objects world keys (path_of path)
 
 -- the reply to `nicklist`: the nicklists of all buffers or that of one, and else the null hdata
 abbrev pub or_null : Option (List Object) → List Object
@@ -100,13 +108,13 @@ unfoldable pub nicklist_objects : World → Option (List ℕ) → List Object
 nicklist_objects world None = nick_dump world
 nicklist_objects world (Some name) = or_null (list_of_named world (buffer_named world.groups name))
 
--- an information that is unknown
+-- an information, null where it is unknown
 abbrev pub info_objects : List ℕ → List Object
-info_objects name = o.Inf (Some name) None ∷ []
+info_objects name = o.Inf (Some name) (info_of name) ∷ []
 
--- a list that is unknown
-abbrev pub infolist_objects : List ℕ → List Object
-infolist_objects name = o.Inl name [] ∷ []
+-- a list of informations, empty where it is unknown
+unfoldable pub infolist_objects : World → List ℕ → List Object
+infolist_objects world name = infolist_object world.groups name ∷ []
 
 abbrev pub pong_objects : List ℕ → List Object
 pong_objects text = o.Str (Some text) ∷ []
@@ -170,7 +178,7 @@ served world password client id (ask.Hdata path keys) =
     replies client (reply id (hdata_objects world path keys))
 served world password client id (ask.Info name) = replies client (reply id (info_objects name))
 served world password client id (ask.Infolist name) =
-    replies client (reply id (infolist_objects name))
+    replies client (reply id (infolist_objects world name))
 served world password client id (ask.Nicklist buffer) =
     replies client (reply id (nicklist_objects world buffer))
 served world password client id (ask.Input buffer text) =
@@ -193,3 +201,13 @@ reply_of world password client request =
     if client.logged_in || is_open request.command
     then served world password client request.id request.command
     else leaves client cause.LoginFailed
+
+-- ---- the dumps
+
+-- the dump that a command asks for: the lines of all buffers, the buffers, or their nicklists
+unfoldable pub dump_asked : World → Command → Option (List Object)
+dump_asked world (ask.Hdata path keys) =
+    if is_line_dump path keys then Some (line_dump world) else (
+    if is_buffer_dump path keys then Some (buffer_dump world.groups) else None)
+dump_asked world (ask.Nicklist None) = Some (nick_dump world)
+dump_asked world _ = None

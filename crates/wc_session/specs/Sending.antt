@@ -42,3 +42,8 @@ pub record Sends (old new : List ℕ) (messages : List WireMessage) : Type 0 whe
 abbrev pub is_owed : List WireMessage → Bool
 is_owed [] = false
 is_owed (m ∷ messages) = true
+
+-- the answer to a path was put after the bytes, or nothing was, where the null hdata is to be told
+abbrev pub IsTold : Bool → List ℕ → List ℕ → List ℕ → List Object → Type 0
+IsTold true old new id objects = Sends old new (reply id objects) × (is_owed (reply id objects) ≡ true)
+IsTold false old new id objects = (new ≡ old) × (reply id objects ≡ fitting (message id null_hdata))

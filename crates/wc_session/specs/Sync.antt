@@ -7,6 +7,9 @@ use Rattle.wc_text.specs.declared.names.Handle.{Handle}
 use Rattle.wc_buffers.specs.Calls.{EntryGroups}
 use Rattle.wc_model.specs.declared.notice.EventKind.{EventKind}
 use Rattle.wc_model.specs.declared.notice.EventKind.TheVariants as kind
+use Rattle.wc_keys.specs.declared.events.Asked.{Asked}
+use Rattle.wc_keys.specs.declared.events.Asked.TheVariants as asked
+use Rattle.wc_keys.specs.Events.{asked_of}
 use Rattle.wc_session.specs.declared.sync_set.SyncSet.{SyncSet}
 use Rattle.wc_session.specs.declared.sync_set.BufferSet.{BufferSet}
 use Rattle.wc_session.specs.declared.client.Client.{Client}
@@ -106,26 +109,17 @@ desynchronized groups client buffers options = record client {
 
 -- ---- which events are for a client
 
+-- whether a set has one of these options
+abbrev pub asks : Asked → SyncSet → Bool
+asks asked.Buffers set = set.buffers
+asks asked.Buffer set = set.buffer
+asks asked.Either set = set.buffers || set.buffer
+asks asked.Nicklist set = set.nicklist
+asks asked.Nothing set = false
+
 -- the options of which an event needs one
 abbrev pub wants : EventKind → SyncSet → Bool
-wants kind.Opened set = set.buffers
-wants kind.Moved set = set.buffers || set.buffer
-wants kind.Merged set = set.buffers || set.buffer
-wants kind.Unmerged set = set.buffers || set.buffer
-wants kind.Hidden set = set.buffers || set.buffer
-wants kind.Unhidden set = set.buffers || set.buffer
-wants kind.Renamed set = set.buffers || set.buffer
-wants kind.TitleChanged set = set.buffer
-wants kind.VarAdded set = set.buffer
-wants kind.VarChanged set = set.buffer
-wants kind.VarRemoved set = set.buffer
-wants kind.Cleared set = set.buffer
-wants kind.Closing set = set.buffers || set.buffer
-wants kind.LineAdded set = set.buffer
-wants kind.LineDataChanged set = set.buffer
-wants kind.Nicklist set = set.nicklist
-wants kind.NicklistDiff set = set.nicklist
-wants kind.NickTouched set = false
+wants kind set = asks (asked_of kind) set
 
 -- an event of a buffer is for a client where either set has an option that it needs
 abbrev pub follows : EventKind → ℕ → Client → Bool

@@ -10,6 +10,7 @@ mod login;
 mod names;
 mod objects;
 mod outcome;
+mod paths;
 mod sending;
 mod served;
 mod session;

@@ -1,28 +1,18 @@
 ghost use Rattle.std.specs.Prelude.{◌≡◌, ◌∷◌, [], true, Some, codes, IfOk, IfSome};
 ghost use Rattle.std.specs.Str.{IsUtf8};
 ghost use Rattle.wc_objects.specs.Forms.{well_formed};
+ghost use Rattle.wc_hdata.specs.Infos.{info_of};
 ghost use Rattle.wc_session.specs.Names.{buffer_named};
 ghost use Rattle.wc_session.specs.Reply.{list_of_named, test_texts, test_numbers, test_objects};
-ghost use Rattle.wc_session.specs.Reply.{is_buffer_dump, is_line_dump, hdata_objects, info_objects};
-ghost use Rattle.wc_session.specs.Reply.{infolist_objects, pong_objects};
+ghost use Rattle.wc_session.specs.Reply.{info_objects, infolist_objects, pong_objects};
 
 use crate::names::buffer_named;
 use std::alloc::Global;
 use wc_events::nick_list;
+use wc_hdata::{info, infolist};
 use wc_objects::{Kind, Object};
 use wc_text::{Items, NoMemory, Text};
 use wc_world::World;
-
-/// The path and the keys by which a client asks for all buffers.
-const BUFFERS_PATH: &[u8] = b"buffer:gui_buffers(*)";
-
-const BUFFERS_KEYS: &[u8] = b"number,full_name,short_name,hidden,title,local_variables";
-
-/// The path and the keys by which a client asks for the lines of all buffers.
-const LINES_PATH: &[u8] = b"buffer:gui_buffers(*)/own_lines/first_line(*)/data";
-
-const LINES_KEYS: &[u8] =
-    b"buffer,date,date_printed,displayed,notify_level,highlight,tags_array,prefix,message";
 
 fn some_text(alloc: Global, bytes: &[u8]) -> Result<Option<Text>, NoMemory>
     ensures { IfOk result (λ text. text ≡ Some bytes.now) }
@@ -101,20 +91,6 @@ pub fn test_objects(alloc: Global) -> Result<[Object; 15], NoMemory>
     Ok(test_list(alloc, string, buffer, texts, numbers))
 }
 
-/// Whether a path and keys ask for all buffers.
-pub fn is_buffer_dump(path: &[u8], keys: &[u8]) -> bool
-    ensures { result ≡ is_buffer_dump path.now keys.now }
-{
-    path == BUFFERS_PATH && keys == BUFFERS_KEYS
-}
-
-/// Whether a path and keys ask for the lines of all buffers.
-pub fn is_line_dump(path: &[u8], keys: &[u8]) -> bool
-    ensures { result ≡ is_line_dump path.now keys.now }
-{
-    path == LINES_PATH && keys == LINES_KEYS
-}
-
 /// The nicklist of the buffer that a text names, where there is one.
 pub fn list_of_named(
     alloc: Global,
@@ -131,28 +107,37 @@ pub fn list_of_named(
     }
 }
 
-/// An information that is unknown.
-pub fn info_objects(name: Text) -> [Object; 1]
-    requires { IsUtf8 name }
-    ensures objects { result ≡ info_objects name }
-    ensures formed { well_formed result ≡ true }
+fn info_value(alloc: Global, name: &[u8]) -> Result<Option<Text>, NoMemory>
+    ensures { IfOk result (λ value. value ≡ info_of name.now) }
 {
-    [Object::Inf {
-        name: Some(name),
-        value: None,
-    }]
+    let Some(value) = info(name) else {
+        return Ok(None);
+    };
+    some_text(alloc, value)
 }
 
-/// A list that is unknown.
-pub fn infolist_objects(alloc: Global, name: Text) -> [Object; 1]
+/// The information of a name, null where it is unknown.
+pub fn info_objects(alloc: Global, name: Text) -> Result<[Object; 1], NoMemory>
     requires { IsUtf8 name }
-    ensures objects { result ≡ infolist_objects name }
-    ensures formed { well_formed result ≡ true }
+    ensures objects { IfOk result (λ objects. objects ≡ info_objects name) }
+    ensures formed { IfOk result (λ objects. well_formed objects ≡ true) }
 {
-    [Object::Inl {
-        name,
-        items: Items::new(alloc),
-    }]
+    let value = info_value(alloc, name.as_slice())?;
+    Ok([Object::Inf {
+        name: Some(name),
+        value,
+    }])
+}
+
+/// The list of informations of a name, empty where it is unknown.
+#[tactic(auto, unfolding(crate::specs::Reply::infolist_objects))]
+pub fn infolist_objects(alloc: Global, world: &World, name: &Text) -> Result<[Object; 1], NoMemory>
+    requires { IsUtf8 name.now }
+    ensures objects { IfOk result (λ objects. objects ≡ infolist_objects world.now name.now) }
+    ensures formed { IfOk result (λ objects. well_formed objects ≡ true) }
+{
+    let _ = world.buffers().groups();
+    Ok([infolist(alloc, world, name.as_slice())?])
 }
 
 /// The text of a `ping`.

@@ -8,24 +8,21 @@ ghost use Rattle.wc_session.specs.Reply.{info_objects, infolist_objects, test_ob
 ghost use Rattle.wc_session.specs.Reply.{silent, is_open, served, reply_of};
 ghost use Rattle.wc_session.specs.Sending.{reply, null_hdata};
 ghost use Rattle.wc_session.specs.Sync.{synchronized, desynchronized};
-ghost use Rattle.wc_events.specs.LineObjects.{line_dump};
 ghost use Rattle.wc_session.specs.Served.{GivesAnswer, IsQuiet};
 
 use crate::client::Client;
 use crate::handshake::shake;
 use crate::login::log_in;
 use crate::names::buffer_named;
-use crate::objects::{
-    info_objects, infolist_objects, is_buffer_dump, is_line_dump, list_of_named, pong_objects,
-    test_objects,
-};
+use crate::objects::{info_objects, infolist_objects, list_of_named, pong_objects, test_objects};
 use crate::outcome::Outcome;
-use crate::sending::{null_hdata, reply, reply_lines};
+use crate::paths::reply_walk;
+use crate::sending::{null_hdata, reply};
 use crate::sync::{desynchronize, synchronize};
 use bytes::BytesMut;
 use std::alloc::Global;
 use wc_buffers::Buffers;
-use wc_events::{buffer_dump, nick_dump};
+use wc_events::nick_dump;
 use wc_objects::Object;
 use wc_relaycmd::{Command, Request};
 use wc_text::{Cause, Items, NoMemory, Text};
@@ -51,28 +48,8 @@ pub fn give(
     Ok(Outcome::Replied)
 }
 
-/// Serves a request of the lines of all buffers.
-fn give_lines(
-    alloc: Global,
-    out: &mut BytesMut,
-    world: &World,
-    id: &[u8],
-) -> Result<Outcome, NoMemory>
-    requires { IsUtf8 id.now }
-    ensures ok { IfOk result (λ outcome. (client : Client) →
-        GivesAnswer out.old.items out.new.items outcome client
-        (replies client (reply id.now (line_dump world.now)))) }
-    ensures err { OnErr result (out.new.items ≡ out.old.items) }
-{
-    if !reply_lines(alloc, out, id, world)? {
-        return Ok(Outcome::Silent);
-    }
-    Ok(Outcome::Replied)
-}
-
-/// Serves `hdata`: the buffers or their lines, where the path and the keys ask for them, and else
-/// the null hdata.
-#[tactic(auto, unfolding(crate::specs::Reply::hdata_objects))]
+/// Serves `hdata`: what the path leads to, and the null hdata where the text spells no path or the
+/// walk is refused.
 fn give_hdata(
     alloc: Global,
     out: &mut BytesMut,
@@ -87,14 +64,10 @@ fn give_hdata(
         (replies client (reply id.now (hdata_objects world.now path.now keys.now)))) }
     ensures err { OnErr result (out.new.items ≡ out.old.items) }
 {
-    if is_line_dump(path, keys) {
-        return give_lines(alloc, out, world, id);
+    if !reply_walk(alloc, out, id, world, path, keys)? {
+        return Ok(Outcome::Silent);
     }
-    if is_buffer_dump(path, keys) {
-        let objects = buffer_dump(alloc, world.buffers())?;
-        return give(alloc, out, id, objects.as_slice());
-    }
-    give(alloc, out, id, null_hdata(alloc).as_slice())
+    Ok(Outcome::Replied)
 }
 
 /// Serves `nicklist`: the nicklists of all buffers, or that of the buffer that is named, and the
@@ -142,7 +115,7 @@ fn is_open(command: &Command) -> bool
     )
 }
 
-/// Serves `info`: each information is unknown.
+/// Serves `info`, which is null where the information is unknown.
 fn give_info(alloc: Global, out: &mut BytesMut, id: &[u8], name: Text) -> Result<Outcome, NoMemory>
     requires id { IsUtf8 id.now }
     requires name { IsUtf8 name }
@@ -151,13 +124,15 @@ fn give_info(alloc: Global, out: &mut BytesMut, id: &[u8], name: Text) -> Result
         (replies client (reply id.now (info_objects name)))) }
     ensures err { OnErr result (out.new.items ≡ out.old.items) }
 {
-    give(alloc, out, id, info_objects(name).as_slice())
+    let objects = info_objects(alloc, name)?;
+    give(alloc, out, id, objects.as_slice())
 }
 
-/// Serves `infolist`: each list is unknown.
+/// Serves `infolist`, which is empty where the list is unknown.
 fn give_infolist(
     alloc: Global,
     out: &mut BytesMut,
+    world: &World,
     id: &[u8],
     name: Text,
 ) -> Result<Outcome, NoMemory>
@@ -165,10 +140,11 @@ fn give_infolist(
     requires name { IsUtf8 name }
     ensures ok { IfOk result (λ outcome. (client : Client) →
         GivesAnswer out.old.items out.new.items outcome client
-        (replies client (reply id.now (infolist_objects name)))) }
+        (replies client (reply id.now (infolist_objects world.now name)))) }
     ensures err { OnErr result (out.new.items ≡ out.old.items) }
 {
-    give(alloc, out, id, infolist_objects(alloc, name).as_slice())
+    let objects = infolist_objects(alloc, world, &name)?;
+    give(alloc, out, id, objects.as_slice())
 }
 
 /// Serves `completion`, of which there is none.
@@ -261,7 +237,7 @@ fn serve_command(
             give_hdata(alloc, out, world, id, path.as_slice(), keys.as_slice())
         }
         Command::Info(name) => give_info(alloc, out, id, name),
-        Command::Infolist(name) => give_infolist(alloc, out, id, name),
+        Command::Infolist(name) => give_infolist(alloc, out, world, id, name),
         Command::Nicklist(buffer) => give_nicks(alloc, out, world, id, buffer),
         Command::Completion { .. } => give_null(alloc, out, id),
         Command::Input { buffer, text } => Ok(input(world.buffers(), buffer.as_slice(), text)),

@@ -1,8 +1,12 @@
-ghost use Rattle.std.specs.Prelude.{◌≡◌, ◌≤◌, false, length, drop, IfOk, IsOk, OnOk, OnErr};
+ghost use Rattle.std.specs.Prelude.{◌≡◌, ◌≤◌, true, false, Some, List, length, drop};
+ghost use Rattle.std.specs.Prelude.{IfOk, IsOk, OnOk, OnErr};
+ghost use Rattle.wc_hdata.specs.Dumps.{AreShort};
+ghost use Rattle.wc_objects.specs.declared.object.Object.{Object};
 ghost use Rattle.wc_relaycmd.specs.Utf8.{RequestIsUtf8};
 ghost use Rattle.wc_session.specs.Known.{new_session};
 ghost use Rattle.wc_session.specs.Event.{with_event};
-ghost use Rattle.wc_session.specs.Reply.{reply_of};
+ghost use Rattle.wc_session.specs.Reply.{dump_asked, reply_of};
+ghost use Rattle.wc_session.specs.Sending.{Sends, reply};
 ghost use Rattle.wc_session.specs.Served.{OnServed, OnNoMemory, AnswersRequest};
 ghost use Rattle.wc_session.specs.Sync.{follows, after_event};
 
@@ -62,7 +66,14 @@ impl Session {
         ensures answered { OnServed result (AnswersRequest self.old self.new result
             (reply_of world.now password.now self.old.client request)) }
         ensures refused { OnNoMemory result (self.new ≡ self.old) }
+
+        // A client that is logged in gets each dump whole, where a message may be that long: a dump
+        // never gives too many pointers.
+        ensures dumps { OnServed result (self.old.client.logged_in ≡ true → AreShort world.now →
+            (objects : List Object) → dump_asked world.now request.command ≡ Some objects →
+            Sends self.old.unsent self.new.unsent (reply request.id objects)) }
     {
+        let _ = world.buffers().groups();
         let Ok(outcome) = serve(
             alloc,
             &mut self.unsent,

@@ -2,6 +2,7 @@ ghost use Rattle.std.specs.Prelude.{◌≡◌};
 ghost use Rattle.wc_session.specs.Sync.{has, no_options, all_options, options_named, options_asked};
 ghost use Rattle.wc_session.specs.Sync.{of_buffer, union, difference, wants};
 
+use wc_keys::{Asked, event_asked};
 use wc_model::EventKind;
 use wc_text::{Handle, Items, Text};
 
@@ -106,24 +107,12 @@ impl SyncSet {
     pub fn wants(self, kind: EventKind) -> bool
         ensures { result ≡ wants kind self }
     {
-        match kind {
-            EventKind::Opened => self.buffers,
-            EventKind::Moved
-            | EventKind::Merged
-            | EventKind::Unmerged
-            | EventKind::Hidden
-            | EventKind::Unhidden
-            | EventKind::Renamed
-            | EventKind::Closing => self.buffers || self.buffer,
-            EventKind::TitleChanged
-            | EventKind::VarAdded
-            | EventKind::VarChanged
-            | EventKind::VarRemoved
-            | EventKind::Cleared
-            | EventKind::LineAdded
-            | EventKind::LineDataChanged => self.buffer,
-            EventKind::Nicklist | EventKind::NicklistDiff => self.nicklist,
-            EventKind::NickTouched => false,
+        match event_asked(kind) {
+            Asked::Buffers => self.buffers,
+            Asked::Buffer => self.buffer,
+            Asked::Either => self.buffers || self.buffer,
+            Asked::Nicklist => self.nicklist,
+            Asked::Nothing => false,
         }
     }
 }

@@ -10,9 +10,11 @@ use Rattle.wc_buffers.proofs.GroupLaws.{in_group_tells}
 use Rattle.wc_objects.specs.declared.object.HdaItem.{HdaItem}
 use Rattle.wc_events.specs.BufferObjects.{dump_keys, dumped_values, dumped_buffer, dumped_groups as told_groups, buffer_dump}
 use Rattle.wc_view.specs.declared.told_buffer.ToldBuffer.{ToldBuffer}
+use Rattle.wc_keys.specs.declared.key.KeyList.TheVariants as l
+use Rattle.wc_keys.specs.Keys.{keys_in}
 use Rattle.wc_view.specs.Each.{each}
 use Rattle.wc_view.specs.ToldBuffer.{carry, buffer_in}
-use Rattle.wc_view.specs.BufferFold.{dump_fields, is_told, are_once, in_front, runs, buffers_on, dumped_groups}
+use Rattle.wc_view.specs.BufferFold.{is_told, are_once, in_front, runs, buffers_on, dumped_groups}
 use Rattle.wc_view.specs.BufferViews.{shown_buffer, shown_groups, BufferDumpShows}
 use Rattle.wc_view.proofs.LineTold.{number_told, text_told, items_told, same_bytes}
 use Rattle.wc_view.proofs.BufferTold.{switch_told, pairs_told}
@@ -21,7 +23,7 @@ use Rattle.wc_view.proofs.BufferTold.{switch_told, pairs_told}
 abbrev row : ℕ → BufferEntry → ToldBuffer
 row number e = record { number = number; prev = 0; buffer = shown_buffer e }
 
-row_told : (number : ℕ) (e : BufferEntry) → buffer_in dump_fields (dumped_buffer number e) ≡ Some (row number e)
+row_told : (number : ℕ) (e : BufferEntry) → buffer_in (keys_in l.Dump) (dumped_buffer number e) ≡ Some (row number e)
 unfolding buffer_in carry dumped_values
 row_told number e = rw (number_told, text_told e.row.full_name, text_told e.row.short_name, switch_told, text_told e.row.title, pairs_told) refl
 
@@ -29,17 +31,17 @@ abbrev rows_from : ℕ → List (List BufferEntry) → List ToldBuffer
 rows_from number [] = []
 rows_from number (group ∷ groups) = map (row number) group ++ rows_from (number + 1) groups
 
-group_told : (number : ℕ) (group : List BufferEntry) (items : List HdaItem) (told : List ToldBuffer) → each (buffer_in dump_fields) items ≡ Some told
-    → each (buffer_in dump_fields) (map (dumped_buffer number) group ++ items) ≡ Some (map (row number) group ++ told)
+group_told : (number : ℕ) (group : List BufferEntry) (items : List HdaItem) (told : List ToldBuffer) → each (buffer_in (keys_in l.Dump)) items ≡ Some told
+    → each (buffer_in (keys_in l.Dump)) (map (dumped_buffer number) group ++ items) ≡ Some (map (row number) group ++ told)
 group_told number [] items told e = e
 group_told number (x ∷ group) items told e = rw (row_told number x, group_told number group items told e) refl
 
-rows_told : (number : ℕ) (groups : List (List BufferEntry)) → each (buffer_in dump_fields) (told_groups number groups) ≡ Some (rows_from number groups)
+rows_told : (number : ℕ) (groups : List (List BufferEntry)) → each (buffer_in (keys_in l.Dump)) (told_groups number groups) ≡ Some (rows_from number groups)
 rows_told number [] = refl
 rows_told number (group ∷ groups) = group_told number group (told_groups (number + 1) groups) (rows_from (number + 1) groups) (rows_told (number + 1) groups)
 
 dump_read : (groups : List (List BufferEntry)) → buffers_on (buffer_dump groups) ≡ Some (rows_from 1 groups)
-dump_read groups = ap (option_and_then (each (buffer_in dump_fields))) (items_told (codes "buffer") dump_keys (told_groups 1 groups) refl refl) ∙ rows_told 1 groups
+dump_read groups = ap (option_and_then (each (buffer_in (keys_in l.Dump)))) (items_told (codes "buffer") dump_keys (told_groups 1 groups) refl refl) ∙ rows_told 1 groups
 
 -- ---- no buffer is told twice
 not_told : (h number : ℕ) (group : List BufferEntry) (told : List ToldBuffer) → is_told h (map (row number) group ++ told) ≡ (in_group handle_of h group || is_told h told)

@@ -1,28 +1,24 @@
 -- What a message changes of the buffers that a client holds.
 use Rattle.std.specs.Prelude.{ℕ, ◌==◌, Bool, true, not, ◌&&◌, List, [], ◌∷◌, Option, Some, None}
-use Rattle.std.specs.Prelude.{codes, find, option_map, if◌then◌else◌, bytes_eq}
+use Rattle.std.specs.Prelude.{find, option_map, if◌then◌else◌, bytes_eq}
 use Rattle.std.specs.Option.{option_and_then}
 use Rattle.std.specs.List.{list_any}
 use Rattle.wc_model.specs.declared.notice.EventKind.{EventKind}
 use Rattle.wc_model.specs.declared.notice.EventKind.TheVariants as event
 use Rattle.wc_objects.specs.declared.object.Object.{Object}
 use Rattle.wc_objects.specs.declared.object.WireMessage.{WireMessage}
-use Rattle.wc_events.specs.BufferObjects.{id_of, opened_keys, placed_keys, renamed_keys, title_keys}
-use Rattle.wc_events.specs.BufferObjects.{vars_keys, named_keys, dump_keys}
+use Rattle.wc_keys.specs.declared.key.Key.{Key}
+use Rattle.wc_keys.specs.declared.key.KeyList.TheVariants as l
+use Rattle.wc_keys.specs.Keys.{keys_in, list_text}
+use Rattle.wc_keys.specs.Events.{buffer_path, id_of, path_of, list_of}
 use Rattle.wc_view.specs.declared.mirror_buffer.MirrorBuffer.{MirrorBuffer}
 use Rattle.wc_view.specs.declared.told_buffer.ToldBuffer.{ToldBuffer}
-use Rattle.wc_view.specs.declared.told_buffer.Field.{Field}
-use Rattle.wc_view.specs.declared.told_buffer.Field.TheVariants.{Number, FullName, ShortName, Hidden}
-use Rattle.wc_view.specs.declared.told_buffer.Field.TheVariants.{Title, Vars, Prev, Next}
 use Rattle.wc_view.specs.Each.{each, only}
 use Rattle.wc_view.specs.Items.{items_on}
 use Rattle.wc_view.specs.ToldBuffer.{buffer_in}
 use Rattle.wc_view.specs.Grouped.{MirrorGroups, key_of, with_event}
 
 -- ---- the dump
-
-abbrev pub dump_fields : List Field
-dump_fields = Number ∷ FullName ∷ ShortName ∷ Hidden ∷ Title ∷ Vars ∷ []
 
 abbrev pub is_told : ℕ → List ToldBuffer → Bool
 is_told h rows = list_any (λ (row : ToldBuffer). key_of row.buffer == h) rows
@@ -52,8 +48,8 @@ dumped_groups None part = part
 dumped_groups (Some rows) part = if are_once rows then Some (runs rows) else part
 
 abbrev pub buffers_on : List Object → Option (List ToldBuffer)
-buffers_on objects = option_and_then (each (buffer_in dump_fields))
-    (items_on (codes "buffer") dump_keys objects)
+buffers_on objects = option_and_then (each (buffer_in (keys_in l.Dump)))
+    (items_on buffer_path (list_text l.Dump) objects)
 
 abbrev pub fold_buffer_dump : Option MirrorGroups → WireMessage → Option MirrorGroups
 fold_buffer_dump part message = dumped_groups (buffers_on message.objects) part
@@ -73,44 +69,14 @@ kind_among id some = find (λ kind. bytes_eq id (id_of kind)) some
 abbrev pub kind_named : List ℕ → Option EventKind
 kind_named id = kind_among id kinds
 
-abbrev pub placed_fields : List Field
-placed_fields = Number ∷ FullName ∷ Prev ∷ Next ∷ []
-
-abbrev pub vars_fields : List Field
-vars_fields = Number ∷ FullName ∷ Vars ∷ []
-
-abbrev pub fields_of : EventKind → List Field
-fields_of event.Opened = Number ∷ FullName ∷ ShortName ∷ Hidden ∷ Title ∷ Vars ∷ Prev ∷ Next ∷ []
-fields_of event.Moved = placed_fields
-fields_of event.Merged = placed_fields
-fields_of event.Unmerged = placed_fields
-fields_of event.Hidden = placed_fields
-fields_of event.Unhidden = placed_fields
-fields_of event.Renamed = Number ∷ FullName ∷ ShortName ∷ Vars ∷ []
-fields_of event.TitleChanged = Number ∷ FullName ∷ Title ∷ []
-fields_of event.VarAdded = vars_fields
-fields_of event.VarChanged = vars_fields
-fields_of event.VarRemoved = vars_fields
-fields_of _ = Number ∷ FullName ∷ []
-
-abbrev pub keys_of : EventKind → List ℕ
-keys_of event.Opened = opened_keys
-keys_of event.Moved = placed_keys
-keys_of event.Merged = placed_keys
-keys_of event.Unmerged = placed_keys
-keys_of event.Hidden = placed_keys
-keys_of event.Unhidden = placed_keys
-keys_of event.Renamed = renamed_keys
-keys_of event.TitleChanged = title_keys
-keys_of event.VarAdded = vars_keys
-keys_of event.VarChanged = vars_keys
-keys_of event.VarRemoved = vars_keys
-keys_of _ = named_keys
+-- the keys of an event
+abbrev pub keys_of : EventKind → List Key
+keys_of kind = keys_in (list_of kind)
 
 -- what the one item of an event tells
 unfoldable pub event_buffer : EventKind → List Object → Option ToldBuffer
-event_buffer kind objects = option_and_then (buffer_in (fields_of kind))
-    (option_and_then only (items_on (codes "buffer") (keys_of kind) objects))
+event_buffer kind objects = option_and_then (buffer_in (keys_of kind))
+    (option_and_then only (items_on (path_of kind) (list_text (list_of kind)) objects))
 
 abbrev pub changed_by : EventKind → Option ToldBuffer → Option MirrorGroups → Option MirrorGroups
 changed_by kind None part = part

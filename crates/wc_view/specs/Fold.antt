@@ -1,10 +1,10 @@
 -- What a message changes of the lines that a client holds.
-use Rattle.std.specs.Prelude.{ℕ, Bool, ◌||◌, List, Option, Some, None, codes, option_map}
+use Rattle.std.specs.Prelude.{ℕ, Bool, ◌||◌, List, Option, Some, None, option_map}
 use Rattle.std.specs.Prelude.{if◌then◌else◌, bytes_eq}
 use Rattle.std.specs.Option.{option_and_then}
 use Rattle.wc_model.specs.declared.notice.EventKind.TheVariants as kind
 use Rattle.wc_objects.specs.declared.object.WireMessage.{WireMessage}
-use Rattle.wc_events.specs.BufferObjects.{id_of}
+use Rattle.wc_keys.specs.Events.{line_path, lines_path, id_of}
 use Rattle.wc_view.specs.declared.flags.LineFlag.{LineFlag}
 use Rattle.wc_view.specs.declared.rows.LineRow.{LineRow}
 use Rattle.wc_view.specs.Each.{only}
@@ -39,11 +39,11 @@ only_row rows = option_and_then only rows
 
 abbrev pub fold_dump : ℕ → Option Part → WireMessage → Option Part
 fold_dump limit part message =
-    with_dump limit (rows_on (codes "buffer/lines/line/line_data") message.objects) part
+    with_dump limit (rows_on lines_path message.objects) part
 
 abbrev pub fold_added : ℕ → Option Part → WireMessage → Option Part
 fold_added limit part message = with_new_line limit
-    (only_row (rows_on (codes "line_data") message.objects)) part
+    (only_row (rows_on line_path message.objects)) part
 
 abbrev pub fold_emptied : Option Part → WireMessage → Option Part
 fold_emptied part message = without_lines_of (buffer_named message.objects) part

@@ -9,7 +9,9 @@ use Rattle.wc_nickdiff.specs.declared.diff_item.Mark.{Mark}
 use Rattle.wc_nickdiff.specs.declared.diff_item.Mark.TheVariants.{Parent, Added, Removed, Changed}
 use Rattle.wc_objects.specs.declared.object.Object.{Object}
 use Rattle.wc_objects.specs.declared.object.HdaItem.{HdaItem, out-HdaItem}
-use Rattle.wc_events.specs.NickObjects.{nick_path, nick_keys, diff_keys}
+use Rattle.wc_keys.specs.declared.key.KeyList.TheVariants as l
+use Rattle.wc_keys.specs.Keys.{list_text}
+use Rattle.wc_keys.specs.Events.{nick_path}
 use Rattle.wc_view.specs.declared.nick_rows.NickMarks.{NickMarks}
 use Rattle.wc_view.specs.declared.nick_rows.NickTexts.{NickTexts}
 use Rattle.wc_view.specs.declared.nick_rows.NickRow.{NickRow}
@@ -66,7 +68,7 @@ nick_row_in item = nick_row (first_pointer item)
 -- the groups and nicks of a message of one hda with the keys of a nicklist, each of whose items
 -- says one
 abbrev pub nick_rows_on : List Object → Option (List NickRow)
-nick_rows_on objects = option_and_then (each nick_row_in) (items_on nick_path nick_keys objects)
+nick_rows_on objects = option_and_then (each nick_row_in) (items_on nick_path (list_text l.Nicks) objects)
 
 -- ---- diffs
 
@@ -96,4 +98,4 @@ nick_change_in item = change_of (first_pointer item) (last_pointer item) (out-Hd
 -- the same of a diff
 abbrev pub nick_changes_on : List Object → Option (List NickChange)
 nick_changes_on objects = option_and_then (each nick_change_in)
-    (items_on nick_path diff_keys objects)
+    (items_on nick_path (list_text l.Diff) objects)

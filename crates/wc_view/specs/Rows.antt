@@ -4,7 +4,8 @@ use Rattle.std.specs.Option.{option_and_then}
 use Rattle.wc_lines.specs.Packed.{LineTexts}
 use Rattle.wc_objects.specs.declared.object.Object.{Object}
 use Rattle.wc_objects.specs.declared.object.HdaItem.{HdaItem, out-HdaItem}
-use Rattle.wc_events.specs.LineObjects.{line_keys}
+use Rattle.wc_keys.specs.declared.key.KeyList.TheVariants as l
+use Rattle.wc_keys.specs.Keys.{list_text}
 use Rattle.wc_view.specs.declared.rows.LineMarks.{LineMarks}
 use Rattle.wc_view.specs.declared.rows.LineRow.{LineRow}
 use Rattle.wc_view.specs.Each.{each}
@@ -67,4 +68,4 @@ row_in item = row_of (last_pointer item) (out-HdaItem item).values
 -- the lines of a message of one hda on this path with the keys of a line, each of whose items says
 -- a line
 abbrev pub rows_on : List ℕ → List Object → Option (List LineRow)
-rows_on path objects = option_and_then (each row_in) (items_on path line_keys objects)
+rows_on path objects = option_and_then (each row_in) (items_on path (list_text l.LineData) objects)

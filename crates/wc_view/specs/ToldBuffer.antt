@@ -5,9 +5,8 @@ use Rattle.wc_text.specs.declared.names.Pair.{Pair}
 use Rattle.wc_objects.specs.declared.object.Object.{Object}
 use Rattle.wc_objects.specs.declared.object.HdaItem.{HdaItem, out-HdaItem}
 use Rattle.wc_view.specs.declared.told_buffer.ToldBuffer.{ToldBuffer}
-use Rattle.wc_view.specs.declared.told_buffer.Field.{Field}
-use Rattle.wc_view.specs.declared.told_buffer.Field.TheVariants.{Number, FullName, ShortName, Hidden}
-use Rattle.wc_view.specs.declared.told_buffer.Field.TheVariants.{Title, Vars, Prev, Next}
+use Rattle.wc_keys.specs.declared.key.Key.{Key}
+use Rattle.wc_keys.specs.declared.key.Key.TheVariants as k
 use Rattle.wc_view.specs.Items.{last_pointer}
 use Rattle.wc_view.specs.Values.{number_in, pointer_in, text_in, switch_in, pairs_in}
 
@@ -67,24 +66,25 @@ with_vars vars c = record {
   buffer = record c.buffer { vars = vars };
 }
 
--- one more value, where it can be that of the field
-unfoldable pub carry : Field → Object → ToldBuffer → Option ToldBuffer
-carry Number value c = option_map (λ n. with_number n c) (number_in value)
-carry FullName value c = option_map (λ t. with_full_name t c) (text_in value)
-carry ShortName value c = option_map (λ t. with_short_name t c) (text_in value)
-carry Hidden value c = option_map (λ b. with_hidden b c) (switch_in value)
-carry Title value c = option_map (λ t. with_title t c) (text_in value)
-carry Vars value c = option_map (λ v. with_vars v c) (pairs_in value)
-carry Prev value c = option_map (λ p. with_prev p c) (pointer_in value)
-carry Next value c = option_map (λ p. c) (pointer_in value)
+-- one more value, where it can be that of the key; of another key there is none
+unfoldable pub carry : Key → Object → ToldBuffer → Option ToldBuffer
+carry k.Number value c = option_map (λ n. with_number n c) (number_in value)
+carry k.FullName value c = option_map (λ t. with_full_name t c) (text_in value)
+carry k.ShortName value c = option_map (λ t. with_short_name t c) (text_in value)
+carry k.Hidden value c = option_map (λ b. with_hidden b c) (switch_in value)
+carry k.Title value c = option_map (λ t. with_title t c) (text_in value)
+carry k.LocalVariables value c = option_map (λ v. with_vars v c) (pairs_in value)
+carry k.PrevBuffer value c = option_map (λ p. with_prev p c) (pointer_in value)
+carry k.NextBuffer value c = option_map (λ p. c) (pointer_in value)
+carry _ value c = None
 
--- the values of these fields, each in its place and none besides
-abbrev pub carry_all : List Field → List Object → ToldBuffer → Option ToldBuffer
+-- the values of these keys, each in its place and none besides
+abbrev pub carry_all : List Key → List Object → ToldBuffer → Option ToldBuffer
 carry_all [] [] c = Some c
-carry_all (field ∷ fields) (value ∷ values) c = option_and_then (carry_all fields values)
-    (carry field value c)
+carry_all (key ∷ keys) (value ∷ values) c = option_and_then (carry_all keys values)
+    (carry key value c)
 carry_all _ _ c = None
 
-unfoldable pub buffer_in : List Field → HdaItem → Option ToldBuffer
-buffer_in fields item = option_and_then (λ buffer. carry_all fields (out-HdaItem item).values
+unfoldable pub buffer_in : List Key → HdaItem → Option ToldBuffer
+buffer_in keys item = option_and_then (λ buffer. carry_all keys (out-HdaItem item).values
     (bare buffer)) (last_pointer item)

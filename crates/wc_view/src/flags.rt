@@ -7,11 +7,9 @@ ghost use Rattle.wc_view.specs.Flags.{flag_in, flags_on};
 use crate::items::{items_on, last_pointer};
 use crate::values::{pointer_in, truth_in};
 use std::alloc::Global;
+use wc_keys::{KeyList, LINE_PATH};
 use wc_objects::{HdaItem, Object};
 use wc_text::{Items, NoMemory};
-
-/// The keys of the event of flags.
-const FLAG_KEYS: &[u8] = b"buffer:ptr,displayed:chr";
 
 /// Whether the lines of a buffer that have this content are displayed.
 #[derive(Clone, Copy)]
@@ -63,7 +61,7 @@ pub(crate) fn flags_on(
 ) -> Result<Option<Vec<LineFlag>>, NoMemory>
     ensures { IfOk result (λ flags. option_map (λ v. v.items) flags ≡ flags_on objects.now) }
 {
-    match items_on(b"line_data", FLAG_KEYS, objects) {
+    match items_on(LINE_PATH, KeyList::Flags.text(), objects) {
         Some(items) => each_flag(alloc, items),
         None => Ok(None),
     }

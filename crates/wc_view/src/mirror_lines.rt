@@ -10,7 +10,7 @@ use crate::flags::flags_on;
 use crate::named::buffer_named;
 use crate::rows::{only_row, rows_on};
 use std::alloc::Global;
-use wc_events::event_id;
+use wc_keys::{LINE_PATH, LINES_PATH, event_id};
 use wc_model::EventKind;
 use wc_objects::WireMessage;
 use wc_text::{NoMemory, Text};
@@ -27,8 +27,7 @@ fn take_dump(
     ensures err { OnErr result (option_map (λ v. v.items) lines.new
         ≡ option_map (λ v. v.items) lines.old) }
 {
-    let path = b"buffer/lines/line/line_data";
-    let Some(rows) = rows_on(alloc, path, &message.objects)? else {
+    let Some(rows) = rows_on(alloc, LINES_PATH, &message.objects)? else {
         return Ok(());
     };
     *lines = Some(of_rows(alloc, rows, limit)?);
@@ -50,7 +49,7 @@ fn take_line(
     let Some(held) = lines else {
         return Ok(());
     };
-    let Some(rows) = rows_on(alloc, b"line_data", &message.objects)? else {
+    let Some(rows) = rows_on(alloc, LINE_PATH, &message.objects)? else {
         return Ok(());
     };
     match only_row(rows) {

@@ -23,7 +23,7 @@ use crate::nick_list::list_of;
 use crate::nick_rows::NickChange;
 use crate::told::event_buffer;
 use std::alloc::Global;
-use wc_events::event_id;
+use wc_keys::event_id;
 use wc_model::EventKind;
 use wc_nickdiff::{DiffItem, DiffRefused, item_applied};
 use wc_nicklist::Nicklist;

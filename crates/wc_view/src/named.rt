@@ -5,11 +5,9 @@ ghost use Rattle.wc_view.specs.Named.{named_in, buffer_named};
 
 use crate::items::{items_on, last_pointer};
 use crate::values::{number_in, text_in};
+use wc_keys::{BUFFER_PATH, KeyList};
 use wc_objects::{HdaItem, Object};
 use wc_text::Items;
-
-/// The keys of the events of a buffer that is closed or cleared.
-const NAMED_KEYS: &[u8] = b"number:int,full_name:str";
 
 #[tactic(auto, unfolding(crate::specs::Named::named_in))]
 fn named_in(item: &HdaItem) -> Option<u64>
@@ -27,7 +25,7 @@ fn named_in(item: &HdaItem) -> Option<u64>
 pub(crate) fn buffer_named(objects: &Items<Object>) -> Option<u64>
     ensures { result ≡ buffer_named objects.now }
 {
-    let items = items_on(b"buffer", NAMED_KEYS, objects)?;
+    let items = items_on(BUFFER_PATH, KeyList::Named.text(), objects)?;
     let [item] = items.as_slice() else {
         return None;
     };

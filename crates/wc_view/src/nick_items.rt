@@ -10,21 +10,11 @@ use crate::items::{items_on, last_pointer};
 use crate::nick_rows::{NickChange, NickMarks, NickRow, NickTexts};
 use crate::values::{level_in, number_in, text_copy, truth_in};
 use std::alloc::Global;
+use wc_keys::{KeyList, NICK_PATH};
 use wc_nickdiff::{DiffItem, Mark};
 use wc_nicklist::Item;
 use wc_objects::{HdaItem, Object};
 use wc_text::{Handle, Items, NoMemory};
-
-/// The path of a group or a nick.
-const NICK_PATH: &[u8] = b"buffer/nicklist_item";
-
-/// The keys of a group or a nick, in the event and in the dump.
-const NICK_KEYS: &[u8] =
-    b"group:chr,visible:chr,level:int,name:str,color:str,prefix:str,prefix_color:str";
-
-/// The keys of an item of a diff.
-const DIFF_KEYS: &[u8] =
-    b"_diff:chr,group:chr,visible:chr,level:int,name:str,color:str,prefix:str,prefix_color:str";
 
 /// The first pointer of an item, which names the buffer.
 fn first_pointer(item: &HdaItem) -> Option<u64>
@@ -152,7 +142,7 @@ pub(crate) fn nick_rows_on(
 ) -> Result<Option<Vec<NickRow>>, NoMemory>
     ensures { IfOk result (λ rows. option_map (λ v. v.items) rows ≡ nick_rows_on objects.now) }
 {
-    match items_on(NICK_PATH, NICK_KEYS, objects) {
+    match items_on(NICK_PATH, KeyList::Nicks.text(), objects) {
         Some(items) => each_nick_row(alloc, items),
         None => Ok(None),
     }
@@ -235,7 +225,7 @@ pub(crate) fn nick_changes_on(
     ensures { IfOk result (λ changes. option_map (λ v. v.items) changes
         ≡ nick_changes_on objects.now) }
 {
-    match items_on(NICK_PATH, DIFF_KEYS, objects) {
+    match items_on(NICK_PATH, KeyList::Diff.text(), objects) {
         Some(items) => each_nick_change(alloc, items),
         None => Ok(None),
     }

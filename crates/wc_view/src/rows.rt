@@ -8,14 +8,10 @@ use crate::items::{items_on, last_pointer};
 use crate::mirror_line::PackedMirrorLine;
 use crate::values::{date_in, level_in, pointer_in, text_in, texts_in, truth_in};
 use std::alloc::Global;
+use wc_keys::KeyList;
 use wc_lines::PackedTexts;
 use wc_objects::{HdaItem, Object};
 use wc_text::{Items, NoMemory};
-
-/// The keys of a line, in the event and in the dump.
-const LINE_KEYS: &[u8] =
-    b"buffer:ptr,date:tim,date_printed:tim,displayed:chr,notify_level:chr,highlight:chr,\
-tags_array:arr,prefix:str,message:str";
 
 /// A line and the handle of its buffer.
 #[derive(Drop)]
@@ -170,7 +166,7 @@ pub(crate) fn rows_on(
 ) -> Result<Option<Vec<LineRow>>, NoMemory>
     ensures { IfOk result (λ rows. option_map (λ v. v.items) rows ≡ rows_on path.now objects.now) }
 {
-    match items_on(path, LINE_KEYS, objects) {
+    match items_on(path, KeyList::LineData.text(), objects) {
         Some(items) => each_row(alloc, items),
         None => Ok(None),
     }

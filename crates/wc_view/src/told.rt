@@ -4,45 +4,37 @@ ghost use Rattle.std.specs.Prelude.{◌≡◌, Option, Some, option_map, IfOk, O
 ghost use Rattle.wc_view.specs.declared.mirror_buffer.MirrorBuffer.{MirrorBuffer};
 ghost use Rattle.wc_view.specs.Each.{each};
 ghost use Rattle.wc_view.specs.ToldBuffer.{buffer_in};
-ghost use Rattle.wc_view.specs.BufferFold.{is_told, are_once, runs, dump_fields, buffers_on};
-ghost use Rattle.wc_view.specs.BufferFold.{fold_buffer_dump, kind_among, fields_of, keys_of};
+ghost use Rattle.wc_view.specs.BufferFold.{is_told, are_once, runs, buffers_on};
+ghost use Rattle.wc_view.specs.BufferFold.{fold_buffer_dump, kind_among};
 ghost use Rattle.wc_view.specs.BufferFold.{event_buffer, fold_buffer_event};
 ghost use Rattle.wc_view.specs.Runs.{GroupsSoFar, nothing_open, with_row, groups_of_open, or_kept};
 
 use crate::grouped::{push_filled, with_event};
 use crate::items::{items_on, only_item};
 use crate::mirror_buffer::SharedBuffer;
-use crate::told_buffer::{Field, ToldBuffer, buffer_in};
+use crate::told_buffer::{ToldBuffer, buffer_in};
 use std::alloc::Global;
 use std::marker::Model;
-use wc_events::event_id;
+use wc_keys::{BUFFER_PATH, Key, KeyList, event_id, event_keys, event_path};
 use wc_model::EventKind;
 use wc_objects::{HdaItem, Object, WireMessage};
 use wc_text::{Items, NoMemory};
 
 type Group = Items<SharedBuffer>;
 
-const DUMP_KEYS: &[u8] =
-    b"number:int,full_name:str,short_name:str,hidden:int,title:str,local_variables:htb";
-
-const DUMP_FIELDS: [Field; 6] = [
-    Field::Number,
-    Field::FullName,
-    Field::ShortName,
-    Field::Hidden,
-    Field::Title,
-    Field::Vars,
-];
-
-/// What items of the dump tell. None where one has other values than a buffer has.
+/// What items tell under these keys. None where one has other values.
 #[tactic(auto, using(crate::proofs::EachLemmas::each_flag_facts))]
-fn each_buffer(alloc: Global, items: &Items<HdaItem>) -> Result<Option<Vec<ToldBuffer>>, NoMemory>
+fn each_buffer(
+    alloc: Global,
+    keys: &[Key],
+    items: &Items<HdaItem>,
+) -> Result<Option<Vec<ToldBuffer>>, NoMemory>
     ensures { IfOk result (λ rows. option_map (λ v. v.items) rows
-        ≡ each (buffer_in dump_fields) items.now) }
+        ≡ each (buffer_in keys.now) items.now) }
 {
     let mut rows = Vec::new(alloc);
     for item in items.as_slice() {
-        let Some(row) = buffer_in(alloc, &DUMP_FIELDS, item)? else {
+        let Some(row) = buffer_in(alloc, keys, item)? else {
             return Ok(None);
         };
         if rows.push(row).is_err() {
@@ -55,8 +47,8 @@ fn each_buffer(alloc: Global, items: &Items<HdaItem>) -> Result<Option<Vec<ToldB
 fn buffers_on(alloc: Global, objects: &Items<Object>) -> Result<Option<Vec<ToldBuffer>>, NoMemory>
     ensures { IfOk result (λ rows. option_map (λ v. v.items) rows ≡ buffers_on objects.now) }
 {
-    match items_on(b"buffer", DUMP_KEYS, objects) {
-        Some(items) => each_buffer(alloc, items),
+    match items_on(BUFFER_PATH, KeyList::Dump.text(), objects) {
+        Some(items) => each_buffer(alloc, KeyList::Dump.keys(), items),
         None => Ok(None),
     }
 }
@@ -191,65 +183,6 @@ fn kind_among(kinds: &[EventKind], id: &[u8]) -> Option<EventKind>
     None
 }
 
-const PLACED_FIELDS: [Field; 4] = [Field::Number, Field::FullName, Field::Prev, Field::Next];
-
-const OPENED_FIELDS: [Field; 8] = [
-    Field::Number,
-    Field::FullName,
-    Field::ShortName,
-    Field::Hidden,
-    Field::Title,
-    Field::Vars,
-    Field::Prev,
-    Field::Next,
-];
-
-fn fields_of(kind: EventKind) -> &'static [Field]
-    ensures { result.now ≡ fields_of kind }
-{
-    match kind {
-        EventKind::Opened => &OPENED_FIELDS,
-        EventKind::Moved
-        | EventKind::Merged
-        | EventKind::Unmerged
-        | EventKind::Hidden
-        | EventKind::Unhidden => &PLACED_FIELDS,
-        EventKind::Renamed => &[
-            Field::Number,
-            Field::FullName,
-            Field::ShortName,
-            Field::Vars,
-        ],
-        EventKind::TitleChanged => &[Field::Number, Field::FullName, Field::Title],
-        EventKind::VarAdded | EventKind::VarChanged | EventKind::VarRemoved => {
-            &[Field::Number, Field::FullName, Field::Vars]
-        }
-        _ => &[Field::Number, Field::FullName],
-    }
-}
-
-fn keys_of(kind: EventKind) -> &'static [u8]
-    ensures { result.now ≡ keys_of kind }
-{
-    match kind {
-        EventKind::Opened => {
-            b"number:int,full_name:str,short_name:str,hidden:int,title:str,local_variables:htb,\
-prev_buffer:ptr,next_buffer:ptr"
-        }
-        EventKind::Moved
-        | EventKind::Merged
-        | EventKind::Unmerged
-        | EventKind::Hidden
-        | EventKind::Unhidden => { b"number:int,full_name:str,prev_buffer:ptr,next_buffer:ptr" }
-        EventKind::Renamed => b"number:int,full_name:str,short_name:str,local_variables:htb",
-        EventKind::TitleChanged => b"number:int,full_name:str,title:str",
-        EventKind::VarAdded | EventKind::VarChanged | EventKind::VarRemoved => {
-            b"number:int,full_name:str,local_variables:htb"
-        }
-        _ => b"number:int,full_name:str",
-    }
-}
-
 /// What the one item of an event tells. None of a message of another kind.
 #[tactic(auto, unfolding(crate::specs::BufferFold::event_buffer))]
 pub(crate) fn event_buffer(
@@ -259,13 +192,14 @@ pub(crate) fn event_buffer(
 ) -> Result<Option<ToldBuffer>, NoMemory>
     ensures { IfOk result (λ told. told ≡ event_buffer kind objects.now) }
 {
-    let Some(items) = items_on(b"buffer", keys_of(kind), objects) else {
+    let keys = event_keys(kind);
+    let Some(items) = items_on(event_path(kind), keys.text(), objects) else {
         return Ok(None);
     };
     let Some(item) = only_item(items.as_slice()) else {
         return Ok(None);
     };
-    buffer_in(alloc, fields_of(kind), item)
+    buffer_in(alloc, keys.keys(), item)
 }
 
 /// The groups after an event. None where the message is not one that changes them.

@@ -9,21 +9,9 @@ use crate::items::last_pointer;
 use crate::mirror_buffer::MirrorBuffer;
 use crate::values::{number_in, pairs_in, pointer_in, switch_in, text_copy};
 use std::alloc::Global;
+use wc_keys::Key;
 use wc_objects::{HdaItem, Object};
 use wc_text::{Handle, Items, NoMemory, Pair, Text};
-
-/// What a value under a key tells.
-#[derive(Clone, Copy)]
-pub(crate) enum Field {
-    Number,
-    FullName,
-    ShortName,
-    Hidden,
-    Title,
-    Vars,
-    Prev,
-    Next,
-}
 
 /// What an item tells of a buffer; of what it does not tell, nothing is to be read.
 #[derive(Drop)]
@@ -102,46 +90,42 @@ fn put_pairs(place: &mut Items<Pair>, alloc: Global, value: &Object) -> Result<b
     Ok(true)
 }
 
-/// Puts one more value. False where it can not be that of the field.
+/// Puts one more value. False where it can not be that of the key, or where no buffer has the key.
 #[tactic(auto, unfolding(crate::specs::ToldBuffer::carry), using(crate::proofs::CarryLemmas::put))]
-fn carry(
-    told: &mut ToldBuffer,
-    alloc: Global,
-    field: Field,
-    value: &Object,
-) -> Result<bool, NoMemory>
-    ensures { IfOk result (λ fits. some_if fits told.new ≡ carry field value.now told.old) }
+fn carry(told: &mut ToldBuffer, alloc: Global, key: Key, value: &Object) -> Result<bool, NoMemory>
+    ensures { IfOk result (λ fits. some_if fits told.new ≡ carry key value.now told.old) }
 {
-    match field {
-        Field::Number => Ok(put_number(&mut told.number, value)),
-        Field::FullName => put_text(&mut told.buffer.full_name, alloc, value),
-        Field::ShortName => put_text(&mut told.buffer.short_name, alloc, value),
-        Field::Hidden => Ok(put_switch(&mut told.buffer.hidden, value)),
-        Field::Title => put_text(&mut told.buffer.title, alloc, value),
-        Field::Vars => put_pairs(&mut told.buffer.vars, alloc, value),
-        Field::Prev => Ok(put_pointer(&mut told.prev, value)),
-        Field::Next => Ok(pointer_in(value).is_some()),
+    match key {
+        Key::Number => Ok(put_number(&mut told.number, value)),
+        Key::FullName => put_text(&mut told.buffer.full_name, alloc, value),
+        Key::ShortName => put_text(&mut told.buffer.short_name, alloc, value),
+        Key::Hidden => Ok(put_switch(&mut told.buffer.hidden, value)),
+        Key::Title => put_text(&mut told.buffer.title, alloc, value),
+        Key::LocalVariables => put_pairs(&mut told.buffer.vars, alloc, value),
+        Key::PrevBuffer => Ok(put_pointer(&mut told.prev, value)),
+        Key::NextBuffer => Ok(pointer_in(value).is_some()),
+        _ => Ok(false),
     }
 }
 
-/// Puts the values of these fields. False where one can not be that of its field, or where they are
+/// Puts the values of these keys. False where one can not be that of its key, or where they are
 /// more or fewer.
 #[tactic(auto, using(crate::proofs::CarryLemmas::carry_all_facts))]
 fn carry_all(
     told: &mut ToldBuffer,
     alloc: Global,
-    fields: &[Field],
+    keys: &[Key],
     values: &[Object],
 ) -> Result<bool, NoMemory>
     ensures { IfOk result (λ fits. some_if fits told.new
-        ≡ carry_all fields.now values.now told.old) }
+        ≡ carry_all keys.now values.now told.old) }
 {
     let mut values = values;
-    for field in fields {
+    for key in keys {
         let [value, rest @ ..] = values else {
             return Ok(false);
         };
-        if !carry(told, alloc, *field, value)? {
+        if !carry(told, alloc, *key, value)? {
             return Ok(false);
         }
         values = rest;
@@ -149,20 +133,20 @@ fn carry_all(
     Ok(values.is_empty())
 }
 
-/// What an item tells by these fields. None where it has other values.
+/// What an item tells under these keys. None where it has other values.
 #[tactic(auto, unfolding(crate::specs::ToldBuffer::buffer_in))]
 pub(crate) fn buffer_in(
     alloc: Global,
-    fields: &[Field],
+    keys: &[Key],
     item: &HdaItem,
 ) -> Result<Option<ToldBuffer>, NoMemory>
-    ensures { IfOk result (λ c. c ≡ buffer_in fields.now item.now) }
+    ensures { IfOk result (λ c. c ≡ buffer_in keys.now item.now) }
 {
     let Some(buffer) = last_pointer(item) else {
         return Ok(None);
     };
     let mut told = bare(alloc, buffer);
-    if carry_all(&mut told, alloc, fields, item.values.as_slice())? {
+    if carry_all(&mut told, alloc, keys, item.values.as_slice())? {
         Ok(Some(told))
     } else {
         Ok(None)

@@ -7,7 +7,8 @@ use crate::escapes::escape;
 use bytes::BytesMut;
 use std::alloc::{AllocError, Global};
 use wc_change_words::{Wrong, handle};
-use wc_events::{append_line_dump, buffer_dump, nick_dump, nick_list};
+use wc_events::{nick_dump, nick_list};
+use wc_hdata::{read_path, write_walk};
 use wc_objects::{Object, append_message};
 use wc_text::Handle;
 use wc_world::World;
@@ -34,18 +35,45 @@ fn show_message(alloc: Global, out: &mut String, id: &str, objects: &[Object]) -
     Ok(())
 }
 
-fn show_buffers(alloc: Global, out: &mut String, world: &World) -> Result<(), Wrong> {
-    let objects = buffer_dump(alloc, world.buffers())?;
-    show_message(alloc, out, "b", objects.as_slice())
-}
-
-fn show_lines(alloc: Global, out: &mut String, world: &World) -> Result<(), Wrong> {
+/// Shows what a path leads to, under an id.
+fn show_path(
+    alloc: Global,
+    out: &mut String,
+    world: &World,
+    id: &str,
+    path: &str,
+    keys: &str,
+) -> Result<(), Wrong> {
     let mut bytes = BytesMut::new(alloc);
-    if append_line_dump(alloc, &mut bytes, b"l", world).is_err() {
+    let Some(path) = read_path(alloc, path.as_bytes())? else {
+        return Err(Wrong::NoWord);
+    };
+    if write_walk(
+        alloc,
+        &mut bytes,
+        id.as_bytes(),
+        world,
+        &path,
+        keys.as_bytes(),
+    )
+    .is_err()
+    {
         return Err(Wrong::NoMemory);
     }
     show_bytes(out, bytes.as_slice())?;
     Ok(())
+}
+
+fn show_buffers(alloc: Global, out: &mut String, world: &World) -> Result<(), Wrong> {
+    let keys = "number,full_name,short_name,hidden,title,local_variables";
+    show_path(alloc, out, world, "b", "buffer:gui_buffers(*)", keys)
+}
+
+fn show_lines(alloc: Global, out: &mut String, world: &World) -> Result<(), Wrong> {
+    let path = "buffer:gui_buffers(*)/own_lines/first_line(*)/data";
+    let keys =
+        "buffer,date,date_printed,displayed,notify_level,highlight,tags_array,prefix,message";
+    show_path(alloc, out, world, "l", path, keys)
 }
 
 fn show_nicks(alloc: Global, out: &mut String, world: &World) -> Result<(), Wrong> {

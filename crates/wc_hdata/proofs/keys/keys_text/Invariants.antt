@@ -1,5 +1,5 @@
 use Rattle.std.proofs.Common.{◌≡◌, ◌∷◌, take}
-use Rattle.wc_hdata.specs.declared.key.Key.{Key}
+use Rattle.wc_keys.specs.declared.key.Key.{Key}
 use Rattle.wc_hdata.proofs.TextLemmas.{texts}
 use Rattle.wc_hdata.proofs.keys.keys_text.Given as goal
 

@@ -6,8 +6,8 @@ use Rattle.wc_hdata.proofs.keys.read_keys.Goals as goal
 
 pub loop-rest-preserved : goal.loop-rest-preserved
 loop-rest-preserved c =
-    keys_more c.args.element c.loop-rest.keys c.push_key.new.keys (adds [] (keys_left c.args.element (Some c.args.text.now))) c.named.result c.in-Some.names.now c.split_once.result.0.now (option_copied c.split_once.result.1)
-    (rw c.in-Some.is at c.loop-rest.invariant) c.split_once.ensures.front c.split_once.ensures.back c.named.ensures c.in_ok-push_key.ensures
+    keys_more c.args.element c.loop-rest.keys c.push_key.new.keys (adds [] (keys_left c.args.element (Some c.args.text.now))) c.key_named.result c.in-Some.names.now c.split_once.result.0.now (option_copied c.split_once.result.1)
+    (rw c.in-Some.is at c.loop-rest.invariant) c.split_once.ensures.front c.split_once.ensures.back c.key_named.ensures c.in_ok-push_key.ensures
 
 pub returns : goal.returns
 returns c =

@@ -1,0 +1,11 @@
+use Rattle.wc_hdata.specs.WalkRoom.{front_part}
+use Rattle.wc_hdata.proofs.WalkRooms.{body_has_room, message_is}
+use Rattle.wc_hdata.proofs.writer.put_message.Goals as goal
+
+pub put_body-requires-clause-room : goal.put_body-requires-clause-room
+put_body-requires-clause-room c =
+    body_has_room c.args.lists.now.world (front_part c.args.front) c.args.keys.now c.args.walker.now.left c.args.size c.args.out.now c.put_count.new.out c.requires.size c.requires.room c.put_count.ensures
+
+pub returns : goal.returns
+returns c =
+    message_is c.args.lists.now.world (front_part c.args.front) c.args.keys.now c.args.walker.now.left c.args.size c.args.out.now c.put_count.new.out c.put_body.new.out c.requires.size c.put_count.ensures c.put_body.ensures

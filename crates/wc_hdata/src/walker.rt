@@ -1,0 +1,157 @@
+//! A walk along a path, place by place. Nothing is made of the places but what is asked for.
+
+ghost use Rattle.std.specs.Prelude.{◌≡◌, ◌<◌, ◌∷◌, ◌++◌, [], None, IfOk, IfSome, MatchOption};
+ghost use Rattle.std.specs.Prelude.{length, vec_capacity};
+ghost use Rattle.std.specs.List.{AllByRecursion};
+ghost use Rattle.wc_hdata.specs.Depth.{IsWalk, nodes_left, turns_left};
+ghost use Rattle.wc_hdata.specs.Kept.{AreKept, IsFor, IsKept, IsReady};
+ghost use Rattle.wc_hdata.specs.Reached.{place_of};
+ghost use Rattle.wc_hdata.specs.Refusals.{reached};
+ghost use Rattle.wc_hdata.specs.Starts.{starts};
+ghost use Rattle.wc_hdata.specs.Walk.{nodes_at, nodes_reached};
+
+use crate::cursor::Cursor;
+use crate::lists::Lists;
+use crate::path::{Path, Step};
+use crate::place::{Place, pointer_of};
+use crate::reach::reach;
+use crate::starts::starts;
+use std::alloc::Global;
+use std::marker::Model;
+use wc_text::NoMemory;
+
+/// A walk along a path. Contracts see the lists, the pointers of the present place, and the nodes
+/// that are still to come.
+#[derive(Drop)]
+pub(crate) struct Walker<'b, 'a> {
+    lists: &'b Lists<'a>,
+    steps: &'b [Step],
+    /// The places that are still to come of each element on the way, from the first.
+    open: Vec<Cursor<'b, 'a>>,
+    /// A pointer of each element on the way.
+    pointers: Vec<u64>,
+}
+
+impl<'b, 'a> Model for Walker<'b, 'a> {
+    ghost use Rattle.std.specs.Coded.{codes};
+    ghost use Rattle.std.specs.FinMap as map;
+    ghost use Rattle.wc_hdata.specs.Depth.{Walking};
+
+    ghost Value = { Walking };
+
+    ghost coded = { Prim.hlevel (codes, map.code) };
+
+    ghost use Rattle.wc_hdata.specs.Walks.{walking_of, IsWalker};
+
+    ghost view = { walking_of };
+
+    ghost invariant = { IsWalker };
+}
+
+impl<'b, 'a> Walker<'b, 'a> {
+    /// The walk along a path, for which the lists were made. None exactly where its pointer is
+    /// dead. What takes memory is taken here.
+    #[tactic(auto, unfolding(crate::specs::Refusals::reached))]
+    pub(crate) fn begin(
+        alloc: Global,
+        lists: &'b Lists<'a>,
+        path: &'b Path,
+    ) -> Result<Option<Walker<'b, 'a>>, NoMemory>
+        requires { IsFor lists.now path.now }
+        ensures lists { IfOk result (λ begun. IfSome begun (λ walker. walker.lists ≡ lists.now)) }
+        ensures left { IfOk result (λ begun. MatchOption begun
+            (starts lists.now.world path.now.count path.now.start ≡ None)
+            (λ walker. walker.left ≡ reached lists.now.world path.now)) }
+    {
+        let Some(first) = starts(lists, path) else {
+            return Ok(None);
+        };
+        let walker = Walker::new(alloc, lists, path.steps.as_slice(), first)?;
+        Ok(Some(walker))
+    }
+
+    fn new(
+        alloc: Global,
+        lists: &'b Lists<'a>,
+        steps: &'b [Step],
+        first: Cursor<'b, 'a>,
+    ) -> Result<Walker<'b, 'a>, NoMemory>
+        requires kept { AreKept lists.now first }
+        requires ready { AllByRecursion (IsReady lists.now) steps.now }
+        ensures lists { IfOk result (λ walker. walker.lists ≡ lists.now) }
+        ensures left { IfOk result (λ walker. walker.left ≡ nodes_reached lists.now.world steps.now
+            (nodes_at lists.now.world.groups [] first.entry)) }
+    {
+        let mut pointers = Vec::new(alloc);
+        pointers.resize(steps.len() + 1, 0)?;
+        let mut open = Vec::with_capacity(alloc, steps.len() + 1)?;
+        open.push_reserved(first);
+        Ok(Walker {
+            lists,
+            steps,
+            open,
+            pointers,
+        })
+    }
+
+    /// The next place to which the path leads. None where there are no more. No memory is taken.
+    pub(crate) fn next(&mut self) -> Option<Place<'a>>
+        ensures lists { self.new.lists ≡ self.old.lists }
+        ensures given { MatchOption result (self.old.left ≡ []) (λ place. self.old.left
+            ≡ record { pointers = self.new.pointers; place = place_of place } ∷ self.new.left) }
+        ensures kept { IfSome result (λ place. IsKept self.old.lists (place_of place)) }
+    {
+        while let Some(top) = self.open.pop() {
+            let lists = self.lists;
+            if let Some(place) = go_on(lists, self.steps, &mut self.open, &mut self.pointers, top) {
+                return Some(place);
+            }
+        }
+        None
+    }
+
+    /// The pointers of the place that was given last, from the start of the path.
+    pub(crate) fn pointers(&self) -> &[u64]
+        ensures { result.now ≡ self.now.pointers }
+    {
+        self.pointers.as_slice()
+    }
+}
+
+/// Takes the next place of the last element, and goes on from it where steps are left. The place,
+/// where it is one to which the path leads.
+fn go_on<'b, 'a>(
+    lists: &'b Lists<'a>,
+    steps: &[Step],
+    open: &mut Vec<Cursor<'b, 'a>>,
+    pointers: &mut Vec<u64>,
+    mut top: Cursor<'b, 'a>,
+) -> Option<Place<'a>>
+    requires { IsWalk lists.now steps.now (length pointers.old.items) (open.old.items ++ top ∷ [])
+        (vec_capacity open.old) }
+    ensures walk { IsWalk lists.now steps.now (length pointers.new.items) open.new.items
+        (vec_capacity open.new) }
+    ensures given { MatchOption result
+        (nodes_left lists.now.world steps.now pointers.old.items 0
+        (open.old.items ++ top.entry ∷ [])
+        ≡ nodes_left lists.now.world steps.now pointers.new.items 0 open.new.items)
+        (λ place. nodes_left lists.now.world steps.now pointers.old.items 0
+        (open.old.items ++ top.entry ∷ [])
+        ≡ record { pointers = pointers.new.items; place = place_of place }
+        ∷ nodes_left lists.now.world steps.now pointers.new.items 0 open.new.items) }
+    ensures kept { IfSome result (λ place. IsKept lists.now (place_of place)) }
+    ensures turned { turns_left lists.now.world steps.now 0 open.new.items
+        < turns_left lists.now.world steps.now 0 (open.old.items ++ top.entry ∷ []) }
+{
+    let Some(place) = top.next() else {
+        return None;
+    };
+    let level = open.len();
+    pointers[level] = pointer_of(lists.world().buffers(), place);
+    open.push_reserved(top);
+    if level == steps.len() {
+        return Some(place);
+    }
+    open.push_reserved(reach(lists, steps[level], place));
+    None
+}

@@ -1,0 +1,2 @@
+pub mod EventIds
+pub mod ListTexts

@@ -1,0 +1,95 @@
+-- The keys of WeeChat's relay protocol, and the lists of them that are told together.
+use Rattle.std.specs.Prelude.{ℕ, Bool, List, [], ◌∷◌, ◌++◌, map, codes, bytes_eq}
+use Rattle.std.specs.List.{join_with_byte}
+use Rattle.wc_objects.specs.declared.kind.Kind.{Kind}
+use Rattle.wc_objects.specs.declared.kind.Kind.TheVariants as kinds
+use Rattle.wc_objects.specs.Kinds.{letters}
+use Rattle.wc_keys.specs.declared.key.Key.{Key}
+use Rattle.wc_keys.specs.declared.key.Key.TheVariants as k
+use Rattle.wc_keys.specs.declared.key.KeyList.{KeyList}
+use Rattle.wc_keys.specs.declared.key.KeyList.TheVariants as l
+
+-- how each key is written, and the type of its values
+abbrev pub key_row : Key → List ℕ × Kind
+key_row k.Number = (codes "number", kinds.Int)
+key_row k.FullName = (codes "full_name", kinds.Str)
+key_row k.ShortName = (codes "short_name", kinds.Str)
+key_row k.Hidden = (codes "hidden", kinds.Int)
+key_row k.Title = (codes "title", kinds.Str)
+key_row k.LocalVariables = (codes "local_variables", kinds.Htb)
+key_row k.PrevBuffer = (codes "prev_buffer", kinds.Ptr)
+key_row k.NextBuffer = (codes "next_buffer", kinds.Ptr)
+key_row k.FirstLine = (codes "first_line", kinds.Ptr)
+key_row k.LastLine = (codes "last_line", kinds.Ptr)
+key_row k.LinesCount = (codes "lines_count", kinds.Int)
+key_row k.Data = (codes "data", kinds.Ptr)
+key_row k.Buffer = (codes "buffer", kinds.Ptr)
+key_row k.Date = (codes "date", kinds.Tim)
+key_row k.DatePrinted = (codes "date_printed", kinds.Tim)
+key_row k.Displayed = (codes "displayed", kinds.Chr)
+key_row k.NotifyLevel = (codes "notify_level", kinds.Chr)
+key_row k.Highlight = (codes "highlight", kinds.Chr)
+key_row k.TagsArray = (codes "tags_array", kinds.Arr)
+key_row k.Prefix = (codes "prefix", kinds.Str)
+key_row k.Message = (codes "message", kinds.Str)
+key_row k.Diff = (codes "_diff", kinds.Chr)
+key_row k.Group = (codes "group", kinds.Chr)
+key_row k.Visible = (codes "visible", kinds.Chr)
+key_row k.Level = (codes "level", kinds.Int)
+key_row k.Name = (codes "name", kinds.Str)
+key_row k.Color = (codes "color", kinds.Str)
+key_row k.PrefixColor = (codes "prefix_color", kinds.Str)
+
+abbrev pub key_name : Key → List ℕ
+key_name key = (key_row key).0
+
+abbrev pub kind_of_key : Key → Kind
+kind_of_key key = (key_row key).1
+
+-- each key has a name of its own
+abbrev pub same_key : Key → Key → Bool
+same_key a b = bytes_eq (key_name a) (key_name b)
+
+-- every key of a buffer, of which a new one is told too
+abbrev pub buffer_keys : List Key
+buffer_keys = k.Number ∷ k.FullName ∷ k.ShortName ∷ k.Hidden ∷ k.Title ∷ k.LocalVariables ∷ k.PrevBuffer ∷ k.NextBuffer ∷ []
+
+abbrev pub nick_keys : List Key
+nick_keys = k.Group ∷ k.Visible ∷ k.Level ∷ k.Name ∷ k.Color ∷ k.Prefix ∷ k.PrefixColor ∷ []
+
+-- the keys of each list, in order
+abbrev pub keys_in : KeyList → List Key
+keys_in l.Buffer = buffer_keys
+keys_in l.Lines = k.FirstLine ∷ k.LastLine ∷ k.LinesCount ∷ []
+keys_in l.Line = k.Data ∷ []
+keys_in l.LineData = k.Buffer ∷ k.Date ∷ k.DatePrinted ∷ k.Displayed ∷ k.NotifyLevel ∷ k.Highlight ∷ k.TagsArray ∷ k.Prefix ∷ k.Message ∷ []
+keys_in l.Dump = k.Number ∷ k.FullName ∷ k.ShortName ∷ k.Hidden ∷ k.Title ∷ k.LocalVariables ∷ []
+keys_in l.Opened = buffer_keys
+keys_in l.Placed = k.Number ∷ k.FullName ∷ k.PrevBuffer ∷ k.NextBuffer ∷ []
+keys_in l.Renamed = k.Number ∷ k.FullName ∷ k.ShortName ∷ k.LocalVariables ∷ []
+keys_in l.Titled = k.Number ∷ k.FullName ∷ k.Title ∷ []
+keys_in l.Variables = k.Number ∷ k.FullName ∷ k.LocalVariables ∷ []
+keys_in l.Named = k.Number ∷ k.FullName ∷ []
+keys_in l.Flags = k.Buffer ∷ k.Displayed ∷ []
+keys_in l.Nicks = nick_keys
+keys_in l.Diff = k.Diff ∷ nick_keys
+
+-- a name, a colon and the letters of a type
+abbrev pub key_text : Key → List ℕ
+key_text key = key_name key ++ (58 ∷ letters (kind_of_key key))
+
+-- keys as a message names them: commas join them
+abbrev pub joined_keys : List Key → List ℕ
+joined_keys keys = join_with_byte 44 (map key_text keys)
+
+-- the same of keys that a request names
+unfoldable pub keys_text : List Key → List ℕ
+keys_text keys = joined_keys keys
+
+-- the same of a list
+abbrev pub list_text : KeyList → List ℕ
+list_text list = joined_keys (keys_in list)
+
+-- the types of its values
+abbrev pub kinds_in : KeyList → List Kind
+kinds_in list = map kind_of_key (keys_in list)

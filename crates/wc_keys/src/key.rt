@@ -1,0 +1,294 @@
+ghost use Rattle.std.specs.Prelude.{◌≡◌};
+ghost use Rattle.wc_keys.specs.Keys.{key_name, kind_of_key, same_key, keys_in, list_text};
+
+use wc_objects::Kind;
+
+/// A value that an hdata gives, under the name of WeeChat's relay protocol.
+#[derive(Clone, Copy, Debug, PartialEq, Eq)]
+pub enum Key {
+    /// `number`, the number of a buffer.
+    Number,
+    /// `full_name`, the name of a buffer after that of its plugin.
+    FullName,
+    /// `short_name`, the name of a buffer that the list of buffers shows.
+    ShortName,
+    /// `hidden`, whether a buffer is hidden.
+    Hidden,
+    /// `title`, the title of a buffer.
+    Title,
+    /// `local_variables`, the local variables of a buffer.
+    LocalVariables,
+    /// `prev_buffer`, the buffer before this one.
+    PrevBuffer,
+    /// `next_buffer`, the buffer after this one.
+    NextBuffer,
+    /// `first_line`, the first of the lines.
+    FirstLine,
+    /// `last_line`, the last of the lines.
+    LastLine,
+    /// `lines_count`, how many lines there are.
+    LinesCount,
+    /// `data`, what a line says.
+    Data,
+    /// `buffer`, the buffer of a line.
+    Buffer,
+    /// `date`, the date of a line.
+    Date,
+    /// `date_printed`, when a line was printed.
+    DatePrinted,
+    /// `displayed`, whether a line is shown.
+    Displayed,
+    /// `notify_level`, how much a line calls for notice.
+    NotifyLevel,
+    /// `highlight`, whether a line is highlighted.
+    Highlight,
+    /// `tags_array`, the tags of a line.
+    TagsArray,
+    /// `prefix`, what is before the message of a line or before a nick.
+    Prefix,
+    /// `message`, the message of a line.
+    Message,
+    /// `_diff`, what became of a group or a nick.
+    Diff,
+    /// `group`, whether it is a group and no nick.
+    Group,
+    /// `visible`, whether a group or a nick is shown.
+    Visible,
+    /// `level`, how deep a group is in others.
+    Level,
+    /// `name`, the name of a group or a nick.
+    Name,
+    /// `color`, the color of a group or a nick.
+    Color,
+    /// `prefix_color`, the color of what is before a nick.
+    PrefixColor,
+}
+
+/// How a key is written, and the type of its values.
+#[derive(Clone, Copy)]
+struct KeyRow {
+    name: &'static [u8],
+    kind: Kind,
+}
+
+fn row(name: &'static [u8], kind: Kind) -> KeyRow
+    ensures name { result.name.now ≡ name.now }
+    ensures kind { result.kind ≡ kind }
+{
+    KeyRow { name, kind }
+}
+
+impl Key {
+    /// Each key once: its name and the type of its values.
+    fn row(self) -> KeyRow
+        ensures name { result.name.now ≡ key_name self }
+        ensures kind { result.kind ≡ kind_of_key self }
+    {
+        match self {
+            Key::Number => row(b"number", Kind::Int),
+            Key::FullName => row(b"full_name", Kind::Str),
+            Key::ShortName => row(b"short_name", Kind::Str),
+            Key::Hidden => row(b"hidden", Kind::Int),
+            Key::Title => row(b"title", Kind::Str),
+            Key::LocalVariables => row(b"local_variables", Kind::Htb),
+            Key::PrevBuffer => row(b"prev_buffer", Kind::Ptr),
+            Key::NextBuffer => row(b"next_buffer", Kind::Ptr),
+            Key::FirstLine => row(b"first_line", Kind::Ptr),
+            Key::LastLine => row(b"last_line", Kind::Ptr),
+            Key::LinesCount => row(b"lines_count", Kind::Int),
+            Key::Data => row(b"data", Kind::Ptr),
+            Key::Buffer => row(b"buffer", Kind::Ptr),
+            Key::Date => row(b"date", Kind::Tim),
+            Key::DatePrinted => row(b"date_printed", Kind::Tim),
+            Key::Displayed => row(b"displayed", Kind::Chr),
+            Key::NotifyLevel => row(b"notify_level", Kind::Chr),
+            Key::Highlight => row(b"highlight", Kind::Chr),
+            Key::TagsArray => row(b"tags_array", Kind::Arr),
+            Key::Prefix => row(b"prefix", Kind::Str),
+            Key::Message => row(b"message", Kind::Str),
+            Key::Diff => row(b"_diff", Kind::Chr),
+            Key::Group => row(b"group", Kind::Chr),
+            Key::Visible => row(b"visible", Kind::Chr),
+            Key::Level => row(b"level", Kind::Int),
+            Key::Name => row(b"name", Kind::Str),
+            Key::Color => row(b"color", Kind::Str),
+            Key::PrefixColor => row(b"prefix_color", Kind::Str),
+        }
+    }
+
+    /// How the key is written.
+    pub fn name(self) -> &'static [u8]
+        ensures { result.now ≡ key_name self }
+    {
+        self.row().name
+    }
+
+    /// The type of the key's values.
+    pub fn kind(self) -> Kind
+        ensures { result ≡ kind_of_key self }
+    {
+        self.row().kind
+    }
+
+    /// Whether two keys are the same, which are then written the same.
+    pub fn is(self, other: Key) -> bool
+        ensures { result ≡ same_key self other }
+    {
+        self.name() == other.name()
+    }
+}
+
+// The longer lists, and their texts.
+
+const BUFFER: &[Key] = &[
+    Key::Number,
+    Key::FullName,
+    Key::ShortName,
+    Key::Hidden,
+    Key::Title,
+    Key::LocalVariables,
+    Key::PrevBuffer,
+    Key::NextBuffer,
+];
+
+const BUFFER_TEXT: &[u8] =
+    b"number:int,full_name:str,short_name:str,hidden:int,title:str,local_variables:htb,\
+prev_buffer:ptr,next_buffer:ptr";
+
+const DUMP: &[Key] = &[
+    Key::Number,
+    Key::FullName,
+    Key::ShortName,
+    Key::Hidden,
+    Key::Title,
+    Key::LocalVariables,
+];
+
+const DUMP_TEXT: &[u8] =
+    b"number:int,full_name:str,short_name:str,hidden:int,title:str,local_variables:htb";
+
+const LINE_DATA: &[Key] = &[
+    Key::Buffer,
+    Key::Date,
+    Key::DatePrinted,
+    Key::Displayed,
+    Key::NotifyLevel,
+    Key::Highlight,
+    Key::TagsArray,
+    Key::Prefix,
+    Key::Message,
+];
+
+const LINE_DATA_TEXT: &[u8] =
+    b"buffer:ptr,date:tim,date_printed:tim,displayed:chr,notify_level:chr,highlight:chr,\
+tags_array:arr,prefix:str,message:str";
+
+const NICKS: &[Key] = &[
+    Key::Group,
+    Key::Visible,
+    Key::Level,
+    Key::Name,
+    Key::Color,
+    Key::Prefix,
+    Key::PrefixColor,
+];
+
+const NICKS_TEXT: &[u8] =
+    b"group:chr,visible:chr,level:int,name:str,color:str,prefix:str,prefix_color:str";
+
+const DIFF: &[Key] = &[
+    Key::Diff,
+    Key::Group,
+    Key::Visible,
+    Key::Level,
+    Key::Name,
+    Key::Color,
+    Key::Prefix,
+    Key::PrefixColor,
+];
+
+const DIFF_TEXT: &[u8] =
+    b"_diff:chr,group:chr,visible:chr,level:int,name:str,color:str,prefix:str,prefix_color:str";
+
+/// Keys that are told together, in this order.
+#[derive(Clone, Copy, Debug, PartialEq, Eq)]
+pub enum KeyList {
+    /// Every key of a buffer.
+    Buffer,
+    /// Every key of a list of lines.
+    Lines,
+    /// Every key of a place in such a list.
+    Line,
+    /// Every key of what a line says, in its event and in the dump of lines too.
+    LineData,
+    /// What the dump of buffers has of each.
+    Dump,
+    /// What is told of a new buffer.
+    Opened,
+    /// What is told of a buffer that is moved, merged or hidden.
+    Placed,
+    /// What is told of a buffer with new names.
+    Renamed,
+    /// What is told of a buffer with a new title.
+    Titled,
+    /// What is told of a buffer whose variables are others.
+    Variables,
+    /// What is told of a buffer that is cleared or closed.
+    Named,
+    /// What is told of lines whose flag is another.
+    Flags,
+    /// What is told of the groups and nicks of a list.
+    Nicks,
+    /// What is told of each change of such a list.
+    Diff,
+}
+
+impl KeyList {
+    /// The keys of the list.
+    pub fn keys(self) -> &'static [Key]
+        ensures { result.now ≡ keys_in self }
+    {
+        match self {
+            KeyList::Buffer | KeyList::Opened => BUFFER,
+            KeyList::Lines => &[Key::FirstLine, Key::LastLine, Key::LinesCount],
+            KeyList::Line => &[Key::Data],
+            KeyList::LineData => LINE_DATA,
+            KeyList::Dump => DUMP,
+            KeyList::Placed => &[Key::Number, Key::FullName, Key::PrevBuffer, Key::NextBuffer],
+            KeyList::Renamed => &[
+                Key::Number,
+                Key::FullName,
+                Key::ShortName,
+                Key::LocalVariables,
+            ],
+            KeyList::Titled => &[Key::Number, Key::FullName, Key::Title],
+            KeyList::Variables => &[Key::Number, Key::FullName, Key::LocalVariables],
+            KeyList::Named => &[Key::Number, Key::FullName],
+            KeyList::Flags => &[Key::Buffer, Key::Displayed],
+            KeyList::Nicks => NICKS,
+            KeyList::Diff => DIFF,
+        }
+    }
+
+    /// The keys as a message names them: each name, a colon and the letters of its type, which
+    /// commas join.
+    pub fn text(self) -> &'static [u8]
+        ensures { result.now ≡ list_text self }
+    {
+        match self {
+            KeyList::Buffer | KeyList::Opened => BUFFER_TEXT,
+            KeyList::Lines => b"first_line:ptr,last_line:ptr,lines_count:int",
+            KeyList::Line => b"data:ptr",
+            KeyList::LineData => LINE_DATA_TEXT,
+            KeyList::Dump => DUMP_TEXT,
+            KeyList::Placed => b"number:int,full_name:str,prev_buffer:ptr,next_buffer:ptr",
+            KeyList::Renamed => b"number:int,full_name:str,short_name:str,local_variables:htb",
+            KeyList::Titled => b"number:int,full_name:str,title:str",
+            KeyList::Variables => b"number:int,full_name:str,local_variables:htb",
+            KeyList::Named => b"number:int,full_name:str",
+            KeyList::Flags => b"buffer:ptr,displayed:chr",
+            KeyList::Nicks => NICKS_TEXT,
+            KeyList::Diff => DIFF_TEXT,
+        }
+    }
+}
