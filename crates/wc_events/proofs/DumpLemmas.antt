@@ -5,13 +5,10 @@ use Rattle.std.proofs.lemmas.List.Concat.{flat_map-append}
 use Rattle.wc_buffers.specs.declared.row.BufferEntry.{BufferEntry}
 use Rattle.wc_buffers.specs.Calls.{EntryGroups, handle_of, entry_of}
 use Rattle.wc_buffers.specs.Groups.{rows, in_group, times_in, times, AllFilled}
-use Rattle.wc_buffers.specs.Kept.{AreBuffers, IsBuffer, handles}
+use Rattle.wc_buffers.specs.Kept.{AreBuffers, handles}
 use Rattle.wc_buffers.proofs.GroupLaws.{times_in-append, in_group_tells}
 use Rattle.wc_world.proofs.GroupRows.{find-append, not_found}
-use Rattle.wc_model.specs.World.{World}
 use Rattle.wc_objects.specs.declared.object.HdaItem.{HdaItem}
-use Rattle.wc_events.specs.BufferObjects.{dumped_buffer, dumped_groups}
-use Rattle.wc_events.specs.LineObjects.{dumped_lines, line_dump, dump_of}
 use Rattle.wc_events.specs.Dumps.{if_there, each_told}
 
 -- ---- each buffer is found by its handle

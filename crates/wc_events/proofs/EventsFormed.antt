@@ -1,5 +1,5 @@
 -- What is told of buffers keeps the rules of messages.
-use Rattle.std.proofs.Common.{◌≡◌, ℕ, ℤ, true, ◌&&◌, List, [], ◌∷◌, filter, map, Some, refl}
+use Rattle.std.proofs.Common.{◌≡◌, ℕ, ℤ, true, ◌&&◌, List, [], ◌∷◌, filter, map, Option, None, Some, option_map, IfSome, refl, sym, subst}
 use Rattle.std.specs.List.{list_all}
 use Rattle.std.specs.Str.{IsUtf8, is_utf8}
 use Rattle.std.proofs.lemmas.Str.{is_utf8-from_IsUtf8}
@@ -21,7 +21,7 @@ use Rattle.wc_objects.specs.Forms.{kinds_of, simple_is, value_is, values_are, it
 use Rattle.wc_keys.specs.declared.key.KeyList.TheVariants as l
 use Rattle.wc_keys.specs.Events.{buffer_path, line_path}
 use Rattle.wc_keys.proofs.ListTexts.{list_is_text, list_names_kinds, buffer_path_is_text, line_path_is_text}
-use Rattle.wc_events.specs.BufferObjects.{text, pair_of, table, about, named_keys, placed_keys, opened_keys, renamed_keys, title_keys, vars_keys, named_values, placed_values, opened_values, renamed_values, title_values, vars_values, named_objects, placed_objects, opened_objects, renamed_objects, title_objects, vars_objects, flag_keys, flag_item, flag_items, flag_objects, is_flipped}
+use Rattle.wc_events.specs.BufferObjects.{text, pair_of, table, about, told_objects, named_keys, placed_keys, opened_keys, renamed_keys, title_keys, vars_keys, named_values, placed_values, opened_values, renamed_values, title_values, vars_values, named_objects, placed_objects, opened_objects, renamed_objects, title_objects, vars_objects, flag_keys, flag_item, flag_items, flag_objects, is_flipped}
 use Rattle.wc_events.proofs.Formed.{ptr_formed, chr_formed, str_formed}
 
 pub int_formed : (n : ℤ) → value_is k.Int (o.Int n) ≡ true
@@ -90,6 +90,28 @@ unfolding vars_values
 vars_formed notice e h is =
     about_formed vars_keys _ notice.buffer (vars_values notice e) (list_is_text l.Variables) (list_names_kinds l.Variables)
     (rw (int_formed, str_formed notice.full_name h, table_formed e.vars is.vars) refl)
+
+-- ---- what is told of a buffer that is there
+
+told_by : (f : BufferEntry → List Object) (o : Option BufferEntry) (told : Option (List Object)) → ((e : BufferEntry) → IsBuffer e → well_formed (f e) ≡ true) → IfSome o IsBuffer → told ≡ option_map f o → IfSome told (λ objects. well_formed objects ≡ true)
+told_by f None told each is at = subst (λ t. IfSome t (λ objects. well_formed objects ≡ true)) (sym at) tt
+told_by f (Some e) told each is at = subst (λ t. IfSome t (λ objects. well_formed objects ≡ true)) (sym at) (each e is)
+
+pub opened_told : (notice : Notice) (o : Option BufferEntry) (told : Option (List Object)) → IsUtf8 notice.full_name → IfSome o IsBuffer → told ≡ option_map (told_objects l.Opened notice) o → IfSome told (λ objects. well_formed objects ≡ true)
+unfolding opened_values
+opened_told notice o told text is at = told_by (opened_objects notice) o told (λ e kept. opened_formed notice e text kept) is at
+
+pub renamed_told : (notice : Notice) (o : Option BufferEntry) (told : Option (List Object)) → IsUtf8 notice.full_name → IfSome o IsBuffer → told ≡ option_map (told_objects l.Renamed notice) o → IfSome told (λ objects. well_formed objects ≡ true)
+unfolding renamed_values
+renamed_told notice o told text is at = told_by (renamed_objects notice) o told (λ e kept. renamed_formed notice e text kept) is at
+
+pub title_told : (notice : Notice) (o : Option BufferEntry) (told : Option (List Object)) → IsUtf8 notice.full_name → IfSome o IsBuffer → told ≡ option_map (told_objects l.Titled notice) o → IfSome told (λ objects. well_formed objects ≡ true)
+unfolding title_values
+title_told notice o told text is at = told_by (title_objects notice) o told (λ e kept. title_formed notice e text kept) is at
+
+pub vars_told : (notice : Notice) (o : Option BufferEntry) (told : Option (List Object)) → IsUtf8 notice.full_name → IfSome o IsBuffer → told ≡ option_map (told_objects l.Variables notice) o → IfSome told (λ objects. well_formed objects ≡ true)
+unfolding vars_values
+vars_told notice o told text is at = told_by (vars_objects notice) o told (λ e kept. vars_formed notice e text kept) is at
 
 -- ---- flags of lines
 

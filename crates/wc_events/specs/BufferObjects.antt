@@ -20,6 +20,7 @@ use Rattle.wc_objects.specs.declared.object.Object.TheVariants as o
 use Rattle.wc_objects.specs.declared.object.Hda.{roll-Hda}
 use Rattle.wc_objects.specs.declared.object.HdaItem.{HdaItem, roll-HdaItem}
 use Rattle.wc_objects.specs.declared.object.WireMessage.{WireMessage}
+use Rattle.wc_keys.specs.declared.key.KeyList.{KeyList}
 use Rattle.wc_keys.specs.declared.key.KeyList.TheVariants as l
 use Rattle.wc_keys.specs.declared.key.Key.{Key}
 use Rattle.wc_keys.specs.declared.key.Key.TheVariants as key
@@ -83,6 +84,11 @@ numbered_value number e name = entry_value e name
 -- what is told of it after a change
 abbrev pub told_value : Notice → BufferEntry → Key → Option Object
 told_value notice e name = option_or (noticed_value notice name) (entry_value e name)
+
+-- what is told of it under the keys of a list
+abbrev pub told_objects : KeyList → Notice → BufferEntry → List Object
+told_objects list notice e = about (list_text list) notice.buffer
+    (filter_map (told_value notice e) (keys_in list))
 
 -- ---- the keys and the values of each event, by what is noticed and by what is of the buffer after the change
 

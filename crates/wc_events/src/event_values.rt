@@ -1,11 +1,13 @@
 //! The values of a buffer, by their keys.
 
-ghost use Rattle.std.specs.Prelude.{◌≡◌, IfOk};
+ghost use Rattle.std.specs.Prelude.{◌≡◌, IfOk, option_map};
 ghost use Rattle.std.specs.List.{filter_map};
 ghost use Rattle.wc_events.specs.BufferObjects.{noticed_value, entry_value, numbered_value};
 ghost use Rattle.wc_events.specs.BufferObjects.{told_value};
+ghost use Rattle.wc_events.specs.LentValues.{object_of};
 
-use crate::values::{count, table, text, truth};
+use crate::lent_value::LentValue;
+use crate::values::{count, truth};
 use std::alloc::Global;
 use wc_buffers::{BufferRow, Vars};
 use wc_keys::Key;
@@ -14,72 +16,65 @@ use wc_objects::Object;
 use wc_text::{Items, NoMemory};
 
 /// What a notice says of its buffer under a key. None under another key.
-fn noticed_value(alloc: Global, notice: &Notice, key: Key) -> Result<Option<Object>, NoMemory>
-    ensures { IfOk result (λ value. value ≡ noticed_value notice.now key) }
+fn noticed_value<'a>(notice: &'a Notice, key: Key) -> Option<LentValue<'a>>
+    ensures { option_map object_of result ≡ noticed_value notice.now key }
 {
     let value = match key {
-        Key::Number => Object::Int(count(u64::from(notice.number))),
-        Key::FullName => text(alloc, &notice.full_name)?,
-        Key::PrevBuffer => Object::Ptr(notice.prev.0),
-        Key::NextBuffer => Object::Ptr(notice.next.0),
-        _ => return Ok(None),
+        Key::Number => LentValue::Int(count(u64::from(notice.number))),
+        Key::FullName => LentValue::Str(notice.full_name.as_slice()),
+        Key::PrevBuffer => LentValue::Ptr(notice.prev.0),
+        Key::NextBuffer => LentValue::Ptr(notice.next.0),
+        _ => return None,
     };
-    Ok(Some(value))
+    Some(value)
 }
 
 /// What a buffer has under a key, by its row and its variables. None under a key that is of no
 /// buffer, and under those that say where it is among the others.
-pub fn entry_value(
-    alloc: Global,
-    row: &BufferRow,
-    vars: &Vars,
-    key: Key,
-) -> Result<Option<Object>, NoMemory>
-    ensures { IfOk result (λ value. value
-        ≡ entry_value (record { row = row.now; vars = vars.now }) key) }
+pub fn entry_value<'a>(row: &'a BufferRow, vars: &'a Vars, key: Key) -> Option<LentValue<'a>>
+    ensures { option_map object_of result
+        ≡ entry_value (record { row = row.now; vars = vars.now }) key }
 {
     let value = match key {
-        Key::FullName => text(alloc, &row.full_name)?,
-        Key::ShortName => text(alloc, &row.short_name)?,
-        Key::Hidden => Object::Int(truth(row.hidden)),
-        Key::Title => text(alloc, &row.title)?,
-        Key::LocalVariables => table(alloc, vars)?,
-        _ => return Ok(None),
+        Key::FullName => LentValue::Str(row.full_name.as_slice()),
+        Key::ShortName => LentValue::Str(row.short_name.as_slice()),
+        Key::Hidden => LentValue::Int(truth(row.hidden)),
+        Key::Title => LentValue::Str(row.title.as_slice()),
+        Key::LocalVariables => LentValue::Vars(vars),
+        _ => return None,
     };
-    Ok(Some(value))
+    Some(value)
 }
 
 /// The same with the number of the buffer.
-fn numbered_value(
-    alloc: Global,
+fn numbered_value<'a>(
     number: i32,
-    row: &BufferRow,
-    vars: &Vars,
+    row: &'a BufferRow,
+    vars: &'a Vars,
     key: Key,
-) -> Result<Option<Object>, NoMemory>
-    ensures { IfOk result (λ value. value
-        ≡ numbered_value number (record { row = row.now; vars = vars.now }) key) }
+) -> Option<LentValue<'a>>
+    ensures { option_map object_of result
+        ≡ numbered_value number (record { row = row.now; vars = vars.now }) key }
 {
     match key {
-        Key::Number => Ok(Some(Object::Int(number))),
-        _ => entry_value(alloc, row, vars, key),
+        Key::Number => Some(LentValue::Int(number)),
+        _ => entry_value(row, vars, key),
     }
 }
 
 /// What is told of a buffer after a change under a key.
-fn told_value(
-    alloc: Global,
-    notice: &Notice,
-    row: &BufferRow,
-    vars: &Vars,
+fn told_value<'a>(
+    notice: &'a Notice,
+    row: &'a BufferRow,
+    vars: &'a Vars,
     key: Key,
-) -> Result<Option<Object>, NoMemory>
-    ensures { IfOk result (λ value. value
-        ≡ told_value notice.now (record { row = row.now; vars = vars.now }) key) }
+) -> Option<LentValue<'a>>
+    ensures { option_map object_of result
+        ≡ told_value notice.now (record { row = row.now; vars = vars.now }) key }
 {
-    match noticed_value(alloc, notice, key)? {
-        Some(value) => Ok(Some(value)),
-        None => entry_value(alloc, row, vars, key),
+    match noticed_value(notice, key) {
+        Some(value) => Some(value),
+        None => entry_value(row, vars, key),
     }
 }
 
@@ -93,8 +88,8 @@ pub(crate) fn noticed_values(
 {
     let mut values = Items::with_room(alloc, keys.len())?;
     for key in keys {
-        if let Some(value) = noticed_value(alloc, notice, *key)? {
-            values.push(value)?;
+        if let Some(value) = noticed_value(notice, *key) {
+            values.push(value.object(alloc)?)?;
         }
     }
     Ok(values)
@@ -113,8 +108,8 @@ pub(crate) fn told_values(
 {
     let mut values = Items::with_room(alloc, keys.len())?;
     for key in keys {
-        if let Some(value) = told_value(alloc, notice, row, vars, *key)? {
-            values.push(value)?;
+        if let Some(value) = told_value(notice, row, vars, *key) {
+            values.push(value.object(alloc)?)?;
         }
     }
     Ok(values)
@@ -133,8 +128,8 @@ pub(crate) fn numbered_values(
 {
     let mut values = Items::with_room(alloc, keys.len())?;
     for key in keys {
-        if let Some(value) = numbered_value(alloc, number, row, vars, *key)? {
-            values.push(value)?;
+        if let Some(value) = numbered_value(number, row, vars, *key) {
+            values.push(value.object(alloc)?)?;
         }
     }
     Ok(values)

@@ -1,8 +1,8 @@
-ghost use Rattle.std.specs.Prelude.{◌≡◌, true, IfOk, IfSome, option_map};
+ghost use Rattle.std.specs.Prelude.{◌≡◌, true, IfOk, IfSome, OnOk, option_map};
 ghost use Rattle.std.specs.Str.{IsUtf8};
 ghost use Rattle.wc_buffers.specs.Calls.{entry_of};
-ghost use Rattle.wc_events.specs.BufferObjects.{named_objects, placed_objects, opened_objects};
-ghost use Rattle.wc_events.specs.BufferObjects.{renamed_objects, title_objects, vars_objects};
+ghost use Rattle.wc_buffers.specs.Kept.{IsBuffer};
+ghost use Rattle.wc_events.specs.BufferObjects.{named_objects, placed_objects, told_objects};
 ghost use Rattle.wc_events.specs.BufferObjects.{objects_of, event_objects};
 ghost use Rattle.wc_events.specs.LineObjects.{added_objects};
 ghost use Rattle.wc_lines.specs.Ring.{newest};
@@ -31,7 +31,9 @@ fn named_object(alloc: Global, notice: &Notice) -> Result<[Object; 1], NoMemory>
     about(alloc, KeyList::Named, notice.buffer, values)
 }
 
-#[tactic(auto, using(crate::proofs::EventsFormed::placed_formed), unfolding(crate::specs::BufferObjects::placed_values))]
+#[rattlefmt::skip]
+#[tactic(auto, using(crate::proofs::EventsFormed::placed_formed),
+    unfolding(crate::specs::BufferObjects::placed_values))]
 fn placed_object(alloc: Global, notice: &Notice) -> Result<[Object; 1], NoMemory>
     requires text { IsUtf8 notice.now.full_name }
     ensures objects { IfOk result (λ objects. objects ≡ placed_objects notice.now) }
@@ -41,75 +43,22 @@ fn placed_object(alloc: Global, notice: &Notice) -> Result<[Object; 1], NoMemory
     about(alloc, KeyList::Placed, notice.buffer, values)
 }
 
-fn opened_object(
+/// What is told of the buffer of a notice under the keys of a list. None where it is not there.
+fn told_object(
     alloc: Global,
     buffers: &Buffers,
     notice: &Notice,
+    list: KeyList,
 ) -> Result<Option<[Object; 1]>, NoMemory>
-    requires text { IsUtf8 notice.now.full_name }
-    ensures objects { IfOk result (λ told. told ≡ option_map (opened_objects notice.now)
+    ensures objects { IfOk result (λ told. told ≡ option_map (told_objects list notice.now)
         (entry_of notice.now.buffer buffers.now)) }
-    ensures formed { IfOk result (λ told. IfSome told (λ objects. well_formed objects ≡ true)) }
+    ensures kept { OnOk result (IfSome (entry_of notice.now.buffer buffers.now) IsBuffer) }
 {
     let Some((row, vars)) = row_and_vars(buffers, notice.buffer) else {
         return Ok(None);
     };
-    let values = told_values(alloc, notice, row, vars, KeyList::Opened.keys())?;
-    Ok(Some(about(alloc, KeyList::Opened, notice.buffer, values)?))
-}
-
-#[tactic(auto, unfolding(crate::specs::BufferObjects::renamed_values))]
-fn renamed_object(
-    alloc: Global,
-    buffers: &Buffers,
-    notice: &Notice,
-) -> Result<Option<[Object; 1]>, NoMemory>
-    requires text { IsUtf8 notice.now.full_name }
-    ensures objects { IfOk result (λ told. told ≡ option_map (renamed_objects notice.now)
-        (entry_of notice.now.buffer buffers.now)) }
-    ensures formed { IfOk result (λ told. IfSome told (λ objects. well_formed objects ≡ true)) }
-{
-    let Some((row, vars)) = row_and_vars(buffers, notice.buffer) else {
-        return Ok(None);
-    };
-    let values = told_values(alloc, notice, row, vars, KeyList::Renamed.keys())?;
-    Ok(Some(about(alloc, KeyList::Renamed, notice.buffer, values)?))
-}
-
-#[tactic(auto, unfolding(crate::specs::BufferObjects::title_values))]
-fn title_changed(
-    alloc: Global,
-    buffers: &Buffers,
-    notice: &Notice,
-) -> Result<Option<[Object; 1]>, NoMemory>
-    requires text { IsUtf8 notice.now.full_name }
-    ensures objects { IfOk result (λ told. told ≡ option_map (title_objects notice.now)
-        (entry_of notice.now.buffer buffers.now)) }
-    ensures formed { IfOk result (λ told. IfSome told (λ objects. well_formed objects ≡ true)) }
-{
-    let Some((row, vars)) = row_and_vars(buffers, notice.buffer) else {
-        return Ok(None);
-    };
-    let values = told_values(alloc, notice, row, vars, KeyList::Titled.keys())?;
-    Ok(Some(about(alloc, KeyList::Titled, notice.buffer, values)?))
-}
-
-#[tactic(auto, unfolding(crate::specs::BufferObjects::vars_values))]
-fn vars_changed(
-    alloc: Global,
-    buffers: &Buffers,
-    notice: &Notice,
-) -> Result<Option<[Object; 1]>, NoMemory>
-    requires text { IsUtf8 notice.now.full_name }
-    ensures objects { IfOk result (λ told. told ≡ option_map (vars_objects notice.now)
-        (entry_of notice.now.buffer buffers.now)) }
-    ensures formed { IfOk result (λ told. IfSome told (λ objects. well_formed objects ≡ true)) }
-{
-    let Some((row, vars)) = row_and_vars(buffers, notice.buffer) else {
-        return Ok(None);
-    };
-    let values = told_values(alloc, notice, row, vars, KeyList::Variables.keys())?;
-    Ok(Some(about(alloc, KeyList::Variables, notice.buffer, values)?))
+    let values = told_values(alloc, notice, row, vars, list.keys())?;
+    Ok(Some(about(alloc, list, notice.buffer, values)?))
 }
 
 /// The newest line of a buffer, where it has one.
@@ -134,7 +83,19 @@ fn newest_told(
 /// The object of the event of a notice, in the world after the change. None where nothing is told
 /// in one event: of flags of lines, of nicklists, which are pushed, and of a buffer or a line that
 /// is not there.
-#[tactic(auto, unfolding(crate::specs::BufferObjects::objects_of))]
+#[rattlefmt::skip]
+#[tactic(auto, using(
+    crate::proofs::EventsFormed::opened_told,
+    crate::proofs::EventsFormed::renamed_told,
+    crate::proofs::EventsFormed::title_told,
+    crate::proofs::EventsFormed::vars_told
+), unfolding(
+    crate::specs::BufferObjects::objects_of,
+    crate::specs::BufferObjects::opened_values,
+    crate::specs::BufferObjects::renamed_values,
+    crate::specs::BufferObjects::title_values,
+    crate::specs::BufferObjects::vars_values
+))]
 pub fn event_objects(
     alloc: Global,
     world: &World,
@@ -145,16 +106,16 @@ pub fn event_objects(
     ensures formed { IfOk result (λ told. IfSome told (λ objects. well_formed objects ≡ true)) }
 {
     match notice.kind {
-        EventKind::Opened => opened_object(alloc, world.buffers(), notice),
+        EventKind::Opened => told_object(alloc, world.buffers(), notice, KeyList::Opened),
         EventKind::Moved
         | EventKind::Merged
         | EventKind::Unmerged
         | EventKind::Hidden
         | EventKind::Unhidden => Ok(Some(placed_object(alloc, notice)?)),
-        EventKind::Renamed => renamed_object(alloc, world.buffers(), notice),
-        EventKind::TitleChanged => title_changed(alloc, world.buffers(), notice),
+        EventKind::Renamed => told_object(alloc, world.buffers(), notice, KeyList::Renamed),
+        EventKind::TitleChanged => told_object(alloc, world.buffers(), notice, KeyList::Titled),
         EventKind::VarAdded | EventKind::VarChanged | EventKind::VarRemoved => {
-            vars_changed(alloc, world.buffers(), notice)
+            told_object(alloc, world.buffers(), notice, KeyList::Variables)
         }
         EventKind::Cleared | EventKind::Closing => Ok(Some(named_object(alloc, notice)?)),
         EventKind::LineAdded => newest_told(alloc, world, notice.buffer),

@@ -5,6 +5,7 @@ mod buffers;
 mod event_values;
 mod events;
 mod flags;
+mod lent_value;
 mod line_objects;
 mod nick_objects;
 pub mod parts;

@@ -1,15 +1,16 @@
-ghost use Rattle.std.specs.Prelude.{◌≡◌, true, IfOk};
+ghost use Rattle.std.specs.Prelude.{◌≡◌, true, IfOk, option_map};
 ghost use Rattle.std.specs.List.{filter_map};
 ghost use Rattle.wc_lines.specs.LineText.{HasUtf8Texts};
 ghost use Rattle.wc_objects.specs.Forms.{well_formed};
-ghost use Rattle.wc_events.specs.LineObjects.{truth, moment, texts, line_value};
+ghost use Rattle.wc_events.specs.LentValues.{object_of};
+ghost use Rattle.wc_events.specs.LineObjects.{truth, moment, line_value};
 ghost use Rattle.wc_events.specs.LineObjects.{on_path, added_item, added_objects};
 
-use crate::values::text_of;
+use crate::lent_value::LentValue;
 use std::alloc::Global;
 use wc_keys::{Key, KeyList, LINE_PATH};
 use wc_lines::PackedLine;
-use wc_objects::{Hda, HdaItem, Kind, Object};
+use wc_objects::{Hda, HdaItem, Object};
 use wc_text::{Handle, Items, NoMemory, Text};
 
 /// 1 where it is so, and else 0.
@@ -20,48 +21,29 @@ pub fn truth(on: bool) -> i8
 }
 
 /// A date in seconds. One that is greater than the protocol can say counts as the greatest.
-pub fn moment(date: u64) -> i64
+fn moment(date: u64) -> i64
     ensures { result ≡ moment date }
 {
     i64::try_from(date).unwrap_or(i64::MAX)
 }
 
-/// The tags of a line as the values of an array.
-pub fn tags(alloc: Global, line: &PackedLine) -> Result<Items<Object>, NoMemory>
-    ensures { IfOk result (λ values. values ≡ texts line.now.tags) }
-{
-    let mut values = Items::with_room(alloc, line.tags_len())?;
-    for tag in line.tags() {
-        values.push(text_of(alloc, tag)?)?;
-    }
-    Ok(values)
-}
-
 /// The value of a line of a buffer under a key. None under a key that is of no line.
-pub fn line_value(
-    alloc: Global,
-    buffer: Handle,
-    line: &PackedLine,
-    key: Key,
-) -> Result<Option<Object>, NoMemory>
-    ensures { IfOk result (λ value. value ≡ line_value buffer line.now key) }
+pub fn line_value<'a>(buffer: Handle, line: &'a PackedLine, key: Key) -> Option<LentValue<'a>>
+    ensures { option_map object_of result ≡ line_value buffer line.now key }
 {
     let value = match key {
-        Key::Buffer => Object::Ptr(buffer.0),
-        Key::Date => Object::Tim(moment(line.date())),
-        Key::DatePrinted => Object::Tim(moment(line.date_printed())),
-        Key::Displayed => Object::Chr(truth(line.displayed())),
-        Key::NotifyLevel => Object::Chr(line.notify()),
-        Key::Highlight => Object::Chr(truth(line.highlight())),
-        Key::TagsArray => Object::Arr {
-            kind: Kind::Str,
-            values: tags(alloc, line)?,
-        },
-        Key::Prefix => text_of(alloc, line.prefix())?,
-        Key::Message => text_of(alloc, line.message())?,
-        _ => return Ok(None),
+        Key::Buffer => LentValue::Ptr(buffer.0),
+        Key::Date => LentValue::Tim(moment(line.date())),
+        Key::DatePrinted => LentValue::Tim(moment(line.date_printed())),
+        Key::Displayed => LentValue::Chr(truth(line.displayed())),
+        Key::NotifyLevel => LentValue::Chr(line.notify()),
+        Key::Highlight => LentValue::Chr(truth(line.highlight())),
+        Key::TagsArray => LentValue::Tags(line),
+        Key::Prefix => LentValue::Str(line.prefix()),
+        Key::Message => LentValue::Str(line.message()),
+        _ => return None,
     };
-    Ok(Some(value))
+    Some(value)
 }
 
 /// The values of a line of a buffer under these keys.
@@ -75,8 +57,8 @@ pub(crate) fn values_under(
 {
     let mut values = Items::with_room(alloc, keys.len())?;
     for key in keys {
-        if let Some(value) = line_value(alloc, buffer, line, *key)? {
-            values.push(value)?;
+        if let Some(value) = line_value(buffer, line, *key) {
+            values.push(value.object(alloc)?)?;
         }
     }
     Ok(values)

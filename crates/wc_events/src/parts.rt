@@ -1,5 +1,7 @@
-//! Values of objects, for those who tell the same of a buffer or a line in a form of their own.
+//! Values of keys and of objects, for those who tell the same of a buffer or a line in a form of
+//! their own.
 
 pub use crate::event_values::entry_value;
-pub use crate::line_objects::{line_value, moment, tags, truth};
-pub use crate::values::{count, table, text, text_of};
+pub use crate::lent_value::LentValue;
+pub use crate::line_objects::{line_value, truth};
+pub use crate::values::{count, text};

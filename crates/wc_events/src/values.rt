@@ -1,12 +1,14 @@
 ghost use Rattle.std.specs.Prelude.{◌≡◌, ◌++◌, ◌∷◌, [], map, IfOk, OnOk, Some};
 ghost use Rattle.wc_events.specs.BufferObjects.{about, count, pair_of, table, text};
-ghost use Rattle.wc_events.specs.LineObjects.{truth};
+ghost use Rattle.wc_events.specs.LineObjects.{texts, truth};
 ghost use Rattle.wc_keys.specs.Keys.{list_text};
+ghost use Rattle.wc_objects.specs.declared.kind.Kind.TheVariants as kinds;
 ghost use Rattle.wc_objects.specs.declared.object.Object.TheVariants as objects;
 
 use std::alloc::Global;
 use wc_buffers::Vars;
 use wc_keys::{BUFFER_PATH, KeyList};
+use wc_lines::PackedLine;
 use wc_objects::{Hda, HdaItem, Kind, Object};
 use wc_text::{Handle, Items, NoMemory, Text};
 
@@ -32,7 +34,7 @@ pub fn text(alloc: Global, value: &Text) -> Result<Object, NoMemory>
 }
 
 /// Bytes as a text that is an object.
-pub fn text_of(alloc: Global, value: &[u8]) -> Result<Object, NoMemory>
+pub(crate) fn text_of(alloc: Global, value: &[u8]) -> Result<Object, NoMemory>
     ensures { IfOk result (λ object. object ≡ text value.now) }
 {
     let copy = Text::from_slice(alloc, value)?;
@@ -59,7 +61,7 @@ fn pairs(alloc: Global, vars: &Vars) -> Result<Items<(Object, Object)>, NoMemory
 }
 
 /// The variables of a buffer, in order.
-pub fn table(alloc: Global, vars: &Vars) -> Result<Object, NoMemory>
+pub(crate) fn table(alloc: Global, vars: &Vars) -> Result<Object, NoMemory>
     ensures { IfOk result (λ object. object ≡ table vars.now) }
 {
     let pairs = pairs(alloc, vars)?;
@@ -67,6 +69,27 @@ pub fn table(alloc: Global, vars: &Vars) -> Result<Object, NoMemory>
         key: Kind::Str,
         value: Kind::Str,
         pairs,
+    })
+}
+
+fn texts(alloc: Global, line: &PackedLine) -> Result<Items<Object>, NoMemory>
+    ensures { IfOk result (λ values. values ≡ texts line.now.tags) }
+{
+    let mut values = Items::with_room(alloc, line.tags_len())?;
+    for tag in line.tags() {
+        values.push(text_of(alloc, tag)?)?;
+    }
+    Ok(values)
+}
+
+/// The tags of a line, in order.
+pub(crate) fn tags(alloc: Global, line: &PackedLine) -> Result<Object, NoMemory>
+    ensures { IfOk result (λ object. object ≡ objects.Arr kinds.Str (texts line.now.tags)) }
+{
+    let values = texts(alloc, line)?;
+    Ok(Object::Arr {
+        kind: Kind::Str,
+        values,
     })
 }
 

@@ -262,6 +262,21 @@ module _ (world : World) (steps : List Step) (before : List (List Place)) (top r
         let none : further world (drop (d + 1) steps) next ≡ 0 = ap (λ s. further world s next) (drop_all (d + 1) steps last) in
         omega (arith, parts, old, new, none, e)
 
+    -- and where what comes of it is counted with it
+    pub counted_all : (left rest_left : ℕ) → rest_left + (length next + further world (drop (d + 1) steps) next) ≡ left
+        → rest_left + further_left world steps 0 (before ++ top ∷ []) ≡ left + further_left world steps 0 (before ++ rest ∷ [])
+    counted_all left rest_left e =
+        let parts = further_parts in
+        let old = further_old in
+        let new = further_rest in
+        omega (arith, parts, old, new, e)
+
+    pub counted_out_all : (left : ℕ) → left < length next + further world (drop (d + 1) steps) next → left < further_left world steps 0 (before ++ top ∷ [])
+    counted_out_all left lt =
+        let parts = further_parts in
+        let old = further_old in
+        omega (arith, parts, old, lt)
+
     pub counted_out : (left : ℕ) → left < length next → left < further_left world steps 0 (before ++ top ∷ [])
     counted_out left lt =
         let parts = further_parts in

@@ -8,11 +8,13 @@ pub mod EndLemmas
 pub mod Everywhere
 pub mod FewVisits
 pub mod FormLemmas
+pub mod FoundLemmas
 pub mod KeptLemmas
 pub mod KeyLemmas
 pub mod Lasts
 pub mod MadeLemmas
 pub mod Mixed
+pub mod NarrowLemmas
 pub mod Orders
 pub mod PathLemmas
 pub mod PlaceLemmas
@@ -21,11 +23,13 @@ pub mod RangeLemmas
 pub mod ReachedForms
 pub mod Refuses
 pub mod Sorts
+pub mod SpelledLemmas
 pub mod SoundPlaces
 pub mod SoundWalks
 pub mod StepLemmas
 pub mod TextLemmas
 pub mod ValueBytes
+pub mod ValuesWithin
 pub mod WalkFormed
 pub mod WalkMessage
 pub mod WalkRooms

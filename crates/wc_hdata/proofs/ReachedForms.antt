@@ -72,7 +72,7 @@ data_leads world by.FirstLine count held = tt
 data_leads world by.LastLine count held = tt
 data_leads world by.Data count held = tt
 
-step_leads : (world : World) (step : Step) (place : Place) → AreOf (target step.variable) (reach world step place)
+pub step_leads : (world : World) (step : Step) (place : Place) → AreOf (target step.variable) (reach world step place)
 unfolding reach
 step_leads world step (Buffer buffer) = buffer_leads world step.variable buffer
 step_leads world step (Lines list) = lines_lead world step.variable step.count list

@@ -1,29 +1,22 @@
 -- What a path leads to in a sound world keeps the rules of messages, and each number is one of its
 -- type.
-use Rattle.std.proofs.Common.{◌≡◌, ℕ, ◌-◌, ◌^◌, ◌<◌, Bool, true, false, cond, eqb, leb, List, [], ◌∷◌, map, length, Option, Some, None, refl, subst, arith}
-use Rattle.std.specs.Prelude.{ℤ, pos, unwrap_or}
+use Rattle.std.proofs.Common.{◌≡◌, ℕ, ◌^◌, ◌<◌, Bool, true, false, cond, eqb, List, [], ◌∷◌, map, length, Option, Some, None, subst, arith}
+use Rattle.std.specs.Prelude.{unwrap_or}
 use Rattle.std.specs.List.{AllByRecursion, cons_option}
-use Rattle.std.specs.Int.{w8, w32, w64}
-use Rattle.std.specs.Int.RustNames.{FitsSigned}
-use Rattle.std.proofs.lemmas.Bool.Decides.{nat_tests}
-use denote.Hole.Carrier.{out}
 use Rattle.wc_text.specs.declared.names.Handle.{Handle}
-use Rattle.wc_text.specs.declared.names.Pair.{Pair}
 use Rattle.wc_buffers.specs.declared.row.BufferEntry.{BufferEntry}
 use Rattle.wc_buffers.specs.Calls.{EntryGroups, handle_of, entry_of, number}
 use Rattle.wc_buffers.specs.Groups.{rows}
 use Rattle.wc_model.specs.Order.{order, before_in, after_in, first_of as first_number, prev_of, next_of}
 use Rattle.wc_model.specs.World.{World}
-use Rattle.wc_objects.specs.declared.kind.Kind.TheVariants as kind
 use Rattle.wc_objects.specs.declared.object.Object.{Object}
 use Rattle.wc_objects.specs.declared.object.Object.TheVariants as o
-use Rattle.wc_objects.specs.declared.object.Object.TheViews.{out-Object, out-roll-Object, out-roll-Hda}
+use Rattle.wc_objects.specs.declared.object.Object.TheViews.{out-roll-Object, out-roll-Hda}
 use Rattle.wc_objects.specs.declared.object.Hda.{roll-Hda}
 use Rattle.wc_objects.specs.declared.object.HdaItem.{HdaItem}
 use Rattle.wc_objects.specs.Forms.{well_formed}
-use Rattle.wc_objects.specs.Within.{SimpleWithin, PairWithin, ValueWithin, ItemWithin, HdaWithin, ObjectWithin}
-use Rattle.wc_events.specs.BufferObjects.{count, pair_of, table}
-use Rattle.wc_events.specs.LineObjects.{moment, texts, truth}
+use Rattle.wc_objects.specs.Within.{ValueWithin, ItemWithin, HdaWithin, ObjectWithin}
+use Rattle.wc_events.specs.BufferObjects.{count}
 use Rattle.wc_keys.specs.declared.key.Key.{Key}
 use Rattle.wc_keys.specs.declared.key.Key.TheVariants as k
 use Rattle.wc_hdata.specs.declared.path.Path.{Path}
@@ -38,71 +31,8 @@ use Rattle.wc_hdata.specs.Values.{of_entry, of_buffer, line_number, first_of, la
 use Rattle.wc_hdata.specs.Walk.{Node}
 use Rattle.wc_hdata.proofs.Everywhere.{all_map, all_weaken}
 use Rattle.wc_hdata.proofs.SoundPlaces.{OnSome, IsSoundHeld, IsSoundPlace, IsSoundNode, entry_sound, lines_sound, reached_sound}
+use Rattle.wc_hdata.proofs.ValuesWithin.{moment_within, count_within, truth_within, flag_within, value_tim, value_chr, value_int, value_ptr, value_str, value_texts, value_table}
 use Rattle.wc_hdata.proofs.WalkFormed.{IsTold, walk_keeps_rules}
-
--- ---- single numbers
-
-moment_within : (date : ℕ) → FitsSigned w64 (moment date)
-moment_within date = by (leb date (2 ^ 63 - 1)) refl where
-  by : (b : Bool) → leb date (2 ^ 63 - 1) ≡ b → FitsSigned w64 (pos (cond b date (2 ^ 63 - 1)))
-  by true e = record { sfits = grind (arith, nat_tests) }
-  by false e = record { sfits = omega arith }
-
-count_within : (n : ℕ) → FitsSigned w32 (count n)
-count_within n = by (leb n (2 ^ 31 - 1)) refl where
-  by : (b : Bool) → leb n (2 ^ 31 - 1) ≡ b → FitsSigned w32 (pos (cond b n (2 ^ 31 - 1)))
-  by true e = record { sfits = grind (arith, nat_tests) }
-  by false e = record { sfits = omega arith }
-
-truth_within : (on : Bool) → FitsSigned w8 (truth on)
-truth_within true = record { sfits = omega arith }
-truth_within false = record { sfits = omega arith }
-
-flag_within : (on : Bool) → FitsSigned w32 (truth on)
-flag_within true = record { sfits = omega arith }
-flag_within false = record { sfits = omega arith }
-
--- ---- values
-
-value_tim : (n : ℤ) → FitsSigned w64 n → ValueWithin (o.Tim n)
-unfolding ValueWithin out-Object out
-value_tim n fit = fit
-
-value_chr : (n : ℤ) → FitsSigned w8 n → ValueWithin (o.Chr n)
-unfolding ValueWithin out-Object out
-value_chr n fit = fit
-
-value_int : (n : ℤ) → FitsSigned w32 n → ValueWithin (o.Int n)
-unfolding ValueWithin out-Object out
-value_int n fit = fit
-
-value_ptr : (n : ℕ) → n < 2 ^ 64 → ValueWithin (o.Ptr n)
-unfolding ValueWithin out-Object out
-value_ptr n fit = fit
-
-value_str : (text : List ℕ) → ValueWithin (o.Str (Some text))
-unfolding ValueWithin out-Object out
-value_str text = tt
-
-simple_str : (text : Option (List ℕ)) → SimpleWithin (o.Str text)
-unfolding SimpleWithin out-Object out
-simple_str text = tt
-
-texts_within : (tags : List (List ℕ)) → AllByRecursion SimpleWithin (texts tags)
-texts_within [] = tt
-texts_within (tag ∷ tags) = (simple_str (Some tag), texts_within tags)
-
-value_texts : (tags : List (List ℕ)) → ValueWithin (o.Arr kind.Str (texts tags))
-unfolding ValueWithin
-value_texts tags = rw (← o.rolls-Arr kind.Str (texts tags), out-roll-Object) (texts_within tags)
-
-pairs_within : (vars : List Pair) → AllByRecursion PairWithin (map pair_of vars)
-pairs_within [] = tt
-pairs_within (v ∷ vars) = ((simple_str (Some v.name), simple_str (Some v.value)), pairs_within vars)
-
-value_table : (vars : List Pair) → ValueWithin (table vars)
-unfolding ValueWithin
-value_table vars = rw (← o.rolls-Htb kind.Str kind.Str (map pair_of vars), out-roll-Object) (pairs_within vars)
 
 -- ---- an object of items
 

@@ -1,5 +1,5 @@
 -- The values of what a path leads to are a part of its message.
-use Rattle.std.proofs.Common.{◌≡◌, ℕ, ◌+◌, ◌-◌, ◌^◌, ◌<◌, ◌≤◌, Bool, true, false, cond, List, [], ◌∷◌, ◌++◌, length, Option, Some, None, arith, refl, sym, ap, ◌∙◌, codes, length-append}
+use Rattle.std.proofs.Common.{◌≡◌, ℕ, ◌+◌, ◌-◌, ◌^◌, ◌<◌, ◌≤◌, Bool, true, false, cond, List, [], ◌∷◌, ◌++◌, length, Some, None, arith, refl, sym, ap, ◌∙◌, codes, length-append}
 use Rattle.std.specs.Prelude.{nat_lt}
 use Rattle.std.specs.List.{flat_map}
 use Rattle.std.proofs.lemmas.Bool.Decides.{nat_tests}
@@ -7,7 +7,7 @@ use Rattle.wc_model.specs.World.{World}
 use Rattle.wc_objects.specs.declared.object.Object.TheVariants as o
 use Rattle.wc_objects.specs.declared.object.Object.TheViews.{out-roll-Object, out-roll-Hda, out-roll-HdaItem}
 use Rattle.wc_objects.specs.declared.object.Hda.{Hda, roll-Hda}
-use Rattle.wc_objects.specs.declared.object.HdaItem.{HdaItem, roll-HdaItem}
+use Rattle.wc_objects.specs.declared.object.HdaItem.{HdaItem}
 use Rattle.wc_objects.specs.Spelling.{be32, text_bytes, pointer_bytes, value_bytes, item_bytes, hda_bytes, object_bytes, message_bytes}
 use Rattle.wc_objects.proofs.Rooms.{length-be32, length-message_bytes}
 use Rattle.wc_keys.specs.declared.key.Key.{Key}

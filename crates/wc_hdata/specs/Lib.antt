@@ -9,11 +9,14 @@ pub mod Keys
 pub mod Listed
 pub mod Lists
 pub mod Names
+pub mod Narrow
 pub mod Paths
 pub mod Pieces
+pub mod Pointers
 pub mod Ranges
 pub mod Reached
 pub mod Refusals
+pub mod Shown
 pub mod Starts
 pub mod Steps
 pub mod Values

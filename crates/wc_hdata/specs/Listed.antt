@@ -1,6 +1,7 @@
 -- The lists of lines that were made for a walk.
 use Rattle.std.specs.Prelude.{◌≡◌, ℕ, Bool, true, false, ◌||◌, List, ◌++◌, map, Option, Some, None}
 use Rattle.std.specs.List.{list_any, AllByRecursion}
+use Rattle.std.specs.List.Sorted.{IsNonDecreasingBy}
 use Rattle.wc_text.specs.declared.names.Handle.{Handle}
 use Rattle.wc_lines.specs.declared.line.Line.{Line}
 use Rattle.wc_model.specs.World.{World}
@@ -17,6 +18,7 @@ use Rattle.wc_hdata.specs.Kept.{Listed, IsHeld, IsMade}
 use Rattle.wc_hdata.specs.Lists.{lines_in}
 use Rattle.wc_hdata.specs.Paths.{element_of}
 use Rattle.wc_hdata.specs.Reached.{held_lines}
+use Rattle.wc_hdata.specs.Shown.{IsShown}
 use Rattle.wc_hdata.specs.Steps.{all_buffers}
 
 abbrev pub first_of : MixedList → Handle
@@ -24,6 +26,9 @@ first_of list = list.first
 
 abbrev pub firsts_of : List MixedList → List Handle
 firsts_of lists = map first_of lists
+
+abbrev pub first_handle : MixedList → ℕ
+first_handle list = list.first.0
 
 abbrev pub listed_of : Inside → Listed
 listed_of lists = record { world = lists.world.now; firsts = firsts_of lists.mixed.items }
@@ -36,6 +41,8 @@ pub record IsMixedList (world : World) (list : MixedList) : Type 0 where
 pub record AreLists (lists : Inside) : Type 0 where
   pub buffers : lists.buffers.items ≡ all_buffers lists.world.now.groups
   pub mixed : AllByRecursion (IsMixedList lists.world.now) lists.mixed.items
+  pub sorted : IsNonDecreasingBy first_handle lists.mixed.items
+  pub shown : AllByRecursion (IsShown lists.world.now.groups) lists.shown.items
 
 -- after a group its mixed list is made where it has two buffers or more, and stays so
 pub record AddsMade (old new : List Handle) (group : List Handle) : Type 0 where

@@ -6,10 +6,10 @@ use Rattle.wc_hdata.specs.Depth.{IsWalk, Walking, nodes_left}
 abbrev pub walking_of : Inside → Walking
 walking_of walk = record {
   lists = walk.lists.now;
-  pointers = walk.pointers.items;
-  left = nodes_left walk.lists.now.world walk.steps.now walk.pointers.items 0 walk.open.items;
+  pointers = walk.pointers;
+  left = nodes_left walk.lists.now.world walk.steps.now walk.pointers 0 walk.open.items;
 }
 
 abbrev pub IsWalker : Inside → Type 0
-IsWalker walk = IsWalk walk.lists.now walk.steps.now (length walk.pointers.items) walk.open.items
+IsWalker walk = IsWalk walk.lists.now walk.steps.now (length walk.pointers) walk.open.items
     (vec_capacity walk.open)

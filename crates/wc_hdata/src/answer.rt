@@ -8,16 +8,15 @@ ghost use Rattle.wc_hdata.specs.Hdata.{walk_object};
 ghost use Rattle.wc_hdata.specs.Kept.{IsFor, IsKept};
 ghost use Rattle.wc_hdata.specs.Reached.{place_of};
 ghost use Rattle.wc_hdata.specs.Refusals.{reached, walk_refusal};
-ghost use Rattle.wc_hdata.specs.Values.{item_of, items_of, value_of, values_of};
+ghost use Rattle.wc_hdata.specs.Values.{item_of, items_of, values_of};
 ghost use Rattle.wc_hdata.specs.declared.refused.WalkRefused.TheVariants as Refused;
 
-use crate::buffer_values::of_buffer;
 use crate::key::Key;
 use crate::keys::{keys_text, read_keys};
-use crate::line_values::{of_data, of_line, of_lines};
 use crate::lists::Lists;
 use crate::path::{Path, h_path};
 use crate::place::Place;
+use crate::place_values::value_of;
 use crate::refused::WalkRefused;
 use crate::visits::{check_visits, pointer_of};
 use crate::walker::Walker;
@@ -29,27 +28,6 @@ use wc_world::World;
 
 /// How many bytes the values may take together.
 const BYTES: usize = 0x7fff_ffc0;
-
-/// The value of a place that a key names. None for other keys than those of its element.
-#[tactic(auto, unfolding(crate::specs::Values::value_of))]
-fn value_of(
-    alloc: Global,
-    lists: &Lists<'_>,
-    place: Place<'_>,
-    key: Key,
-) -> Result<Option<Object>, NoMemory>
-    requires { IsKept lists.now (place_of place) }
-    ensures { IfOk result (λ value. value ≡ value_of lists.now.world (place_of place.entry) key) }
-{
-    match place {
-        Place::Buffer(buffer) => {
-            of_buffer(alloc, lists.world().buffers(), lists.buffers(), buffer, key)
-        }
-        Place::Lines(list) => Ok(of_lines(lists, list, key)),
-        Place::Line(held) => Ok(of_line(held.line, key)),
-        Place::LineData(held) => of_data(alloc, held, key),
-    }
-}
 
 /// The values of a place that the keys name, in their order.
 fn values_of(
@@ -64,8 +42,8 @@ fn values_of(
 {
     let mut values = Items::new(alloc);
     for key in keys {
-        if let Some(value) = value_of(alloc, lists, place, *key)? {
-            values.push(value)?;
+        if let Some(value) = value_of(lists, place, *key) {
+            values.push(value.object(alloc)?)?;
         }
     }
     Ok(values)

@@ -1,22 +1,21 @@
 //! The values of a buffer, by their keys.
 
-ghost use Rattle.std.specs.Prelude.{◌≡◌, None, Some, IfOk, MatchOption, unwrap_or};
+ghost use Rattle.std.specs.Prelude.{◌≡◌, None, Some, MatchOption, option_map, unwrap_or};
 ghost use Rattle.wc_buffers.specs.Calls.{entry_of, number};
 ghost use Rattle.wc_hdata.specs.Steps.{all_buffers};
 ghost use Rattle.wc_hdata.specs.Values.{of_buffer};
 ghost use Rattle.wc_model.specs.Order.{before_in, after_in, first_of};
 ghost use Rattle.wc_events.specs.BufferObjects.{count};
+ghost use Rattle.wc_events.specs.LentValues.{object_of};
 ghost use Rattle.wc_world.specs.Near.{numbers};
 
 use crate::key::Key;
-use std::alloc::Global;
 use wc_buffers::{BufferRow, Buffers, Vars};
-use wc_events::parts::{count, entry_value};
-use wc_objects::Object;
-use wc_text::{Handle, NoMemory};
+use wc_events::parts::{LentValue, count, entry_value};
+use wc_text::Handle;
 
 /// The buffer before another among all, or 0.
-pub(crate) fn before(all: &[Handle], buffer: Handle) -> u64
+fn before(all: &[Handle], buffer: Handle) -> u64
     ensures { result ≡ before_in 0 buffer.0 (numbers all.now) }
 {
     let mut before = 0;
@@ -30,7 +29,7 @@ pub(crate) fn before(all: &[Handle], buffer: Handle) -> u64
 }
 
 /// The buffer after another among all, or 0.
-pub(crate) fn next_buffer(all: &[Handle], buffer: Handle) -> u64
+fn next_buffer(all: &[Handle], buffer: Handle) -> u64
     ensures { result ≡ after_in buffer.0 (numbers all.now) }
 {
     let mut left = all;
@@ -67,25 +66,22 @@ pub(crate) fn row_and_vars(buffers: &Buffers, buffer: Handle) -> Option<(&Buffer
 /// those of buffers.
 /// `all` are all buffers in their order.
 #[tactic(auto, using(crate::proofs::Orders::prev_is, crate::proofs::Orders::next_is))]
-pub(crate) fn of_buffer(
-    alloc: Global,
-    buffers: &Buffers,
+pub(crate) fn of_buffer<'a>(
+    buffers: &'a Buffers,
     all: &[Handle],
     buffer: Handle,
     key: Key,
-) -> Result<Option<Object>, NoMemory>
+) -> Option<LentValue<'a>>
     requires { all.now ≡ all_buffers buffers.now }
-    ensures { IfOk result (λ value. value ≡ of_buffer buffers.now buffer key
-        (entry_of buffer buffers.now)) }
+    ensures { option_map object_of result ≡ of_buffer buffers.now buffer key
+        (entry_of buffer buffers.now) }
 {
-    let Some((row, vars)) = row_and_vars(buffers, buffer) else {
-        return Ok(None);
-    };
+    let (row, vars) = row_and_vars(buffers, buffer)?;
     match key {
-        Key::Number => Ok(Some(Object::Int(number(buffers, buffer)))),
-        Key::PrevBuffer => Ok(Some(Object::Ptr(before(all, buffer)))),
-        Key::NextBuffer => Ok(Some(Object::Ptr(next_buffer(all, buffer)))),
-        _ => entry_value(alloc, row, vars, key),
+        Key::Number => Some(LentValue::Int(number(buffers, buffer))),
+        Key::PrevBuffer => Some(LentValue::Ptr(before(all, buffer))),
+        Key::NextBuffer => Some(LentValue::Ptr(next_buffer(all, buffer))),
+        _ => entry_value(row, vars, key),
     }
 }
 

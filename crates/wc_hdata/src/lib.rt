@@ -3,7 +3,6 @@
 #![tactic(auto)]
 
 mod answer;
-mod buffer_bytes;
 mod buffer_values;
 mod count;
 mod cursor;
@@ -14,14 +13,16 @@ mod item_bytes;
 mod key;
 mod keys;
 mod laws;
-mod line_bytes;
-mod line_values;
 mod lists;
+mod narrow;
 mod path;
 mod place;
+mod place_values;
 mod pointer;
+mod pointers;
 mod reach;
 mod refused;
+mod shown;
 mod starts;
 mod value_bytes;
 mod variable;

@@ -3,22 +3,25 @@
 ghost use Rattle.std.specs.Prelude.{◌≡◌, ◌++◌, true, [], length, map, IfOk, OnOk, MatchOption};
 ghost use Rattle.std.specs.Prelude.{option_copied};
 ghost use Rattle.std.specs.List.{list_any, AllByRecursion};
+ghost use Rattle.std.specs.List.Sorted.{IsNonDecreasingBy};
 ghost use Rattle.wc_buffers.specs.Calls.{is_there};
 ghost use Rattle.wc_buffers.specs.Kept.{handles};
 ghost use Rattle.wc_hdata.specs.declared.path.Step.{Step as StepValue};
 ghost use Rattle.wc_hdata.specs.declared.place.LineList.TheVariants.{Mixed as MixedLines};
 ghost use Rattle.wc_hdata.specs.Kept.{IsFor, IsHeld, IsKeptList, IsMade, IsThere, is_made};
 ghost use Rattle.wc_hdata.specs.Listed.{AddsMade, IsMixedList, firsts_of, goes_to_lines, is_shown};
-ghost use Rattle.wc_hdata.specs.Listed.{number_of};
+ghost use Rattle.wc_hdata.specs.Listed.{first_handle, number_of};
 ghost use Rattle.wc_hdata.specs.Lists.{group_of, held_by, is_in, lines_in, lines_of_all};
 ghost use Rattle.wc_hdata.specs.Lists.{own_lines, shown_list};
 ghost use Rattle.wc_hdata.specs.Reached.{held_lines};
+ghost use Rattle.wc_hdata.specs.Shown.{IsShown};
 ghost use Rattle.wc_hdata.specs.Steps.{all_buffers};
 ghost use Rattle.wc_hdata.specs.Values.{first_of, last_of, line_number};
 
 use crate::element::Element;
 use crate::path::{Path, Step};
 use crate::place::{HeldLine, LineList};
+use crate::shown::{Shown, find_shown, shown_lists};
 use crate::variable::Variable;
 use std::alloc::Global;
 use std::marker::Model;
@@ -41,7 +44,10 @@ pub(crate) struct Lists<'a> {
     world: &'a World,
     /// All buffers in their order.
     buffers: Vec<Handle>,
+    /// Mixed lists in the order of their first buffers' handles.
     mixed: Vec<MixedList<'a>>,
+    /// What the buffers show, where the path goes to lines that are shown.
+    shown: Vec<Shown>,
 }
 
 impl<'a> Model for Lists<'a> {
@@ -70,10 +76,12 @@ impl<'a> Lists<'a> {
     {
         let buffers = all_buffers(alloc, world.buffers())?;
         let mixed = mixed_for(alloc, world, path)?;
+        let shown = shown_for(alloc, world.buffers(), buffers.as_slice(), path)?;
         Ok(Lists {
             world,
             buffers,
             mixed,
+            shown,
         })
     }
 
@@ -96,12 +104,18 @@ impl<'a> Lists<'a> {
         ensures lines { held_lines result.now ≡ lines_in self.now.world (MixedLines first) }
         ensures held { AllByRecursion (IsHeld self.now.world) (held_lines result.now) }
     {
-        for list in &self.mixed {
-            if list.first.0 == first.0 {
-                return list.lines.as_slice();
-            }
+        let mixed = self.mixed.as_slice();
+        match mixed.binary_search_by_key(&first.0, |list| list.first.0) {
+            Ok(at) => mixed[at].lines.as_slice(),
+            Err(_) => unreachable!(),
         }
-        &[]
+    }
+
+    /// The list of lines that a buffer shows.
+    pub(crate) fn shown(&self, buffer: Handle) -> LineList
+        ensures { result ≡ shown_list self.now.world.groups buffer }
+    {
+        find_shown(self.shown.as_slice(), self.world.buffers(), buffer)
     }
 }
 
@@ -142,13 +156,31 @@ fn mixed_for<'a>(
     ensures lists { IfOk result (λ mixed. AllByRecursion (IsMixedList world.now) mixed.items) }
     ensures made { IfOk result (λ mixed. IsFor
         (record { world = world.now; firsts = firsts_of mixed.items }) path.now) }
+    ensures sorted { IfOk result (λ mixed. IsNonDecreasingBy first_handle mixed.items) }
 {
     let mut mixed = Vec::new(alloc);
     if !goes_to_lines(path) {
         return Ok(mixed);
     }
     push_mixed(alloc, &mut mixed, world)?;
+    mixed.sort_by_key(|list| list.first.0)?;
     Ok(mixed)
+}
+
+/// What these buffers show, where the path goes to lines that are shown.
+fn shown_for(
+    alloc: Global,
+    buffers: &Buffers,
+    all: &[Handle],
+    path: &Path,
+) -> Result<Vec<Shown>, NoMemory>
+    ensures { IfOk result (λ shown. AllByRecursion (IsShown buffers.now) shown.items) }
+{
+    if has_lines(path.steps.as_slice()) {
+        shown_lists(alloc, buffers, all)
+    } else {
+        Ok(Vec::new(alloc))
+    }
 }
 
 /// Makes the mixed list of each group that has two buffers or more.
@@ -274,19 +306,8 @@ pub(crate) fn own_lines(world: &World, buffer: Handle) -> Option<&Lines>
     Some(lines)
 }
 
-/// The list of lines that a buffer shows: its own where it is alone in its group, and else the
-/// mixed one of the group.
-pub(crate) fn shown_list(buffers: &Buffers, buffer: Handle) -> LineList
-    ensures { result ≡ shown_list buffers.now buffer }
-{
-    match group_of(buffers, buffer) {
-        [first, _, ..] => LineList::Mixed(*first),
-        _ => LineList::Own(buffer),
-    }
-}
-
 /// The handles of the buffers of a buffer's group. None where the buffer is not there.
-fn group_of(buffers: &Buffers, buffer: Handle) -> &[Handle]
+pub(crate) fn group_of(buffers: &Buffers, buffer: Handle) -> &[Handle]
     ensures { result.now ≡ group_of buffers.now buffer.0 }
 {
     for group in buffers.groups() {

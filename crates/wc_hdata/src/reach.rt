@@ -11,7 +11,7 @@ ghost use Rattle.wc_text.specs.declared.names.Handle.{Handle as HandleValue};
 
 use crate::count::Count;
 use crate::cursor::Cursor;
-use crate::lists::{Lists, own_lines, shown_list};
+use crate::lists::{Lists, own_lines};
 use crate::path::Step;
 use crate::place::{HeldLine, LineList, Place};
 use crate::variable::Variable;
@@ -42,7 +42,7 @@ fn from_buffer<'b, 'a>(lists: &'b Lists<'a>, step: Step, buffer: Handle) -> Curs
 {
     match step.variable {
         Variable::OwnLines => Cursor::one(Place::Lines(LineList::Own(buffer))),
-        Variable::Lines => Cursor::one(Place::Lines(shown_list(lists.world().buffers(), buffer))),
+        Variable::Lines => Cursor::one(Place::Lines(lists.shown(buffer))),
         _ => Cursor::none(),
     }
 }

@@ -5,7 +5,8 @@ ghost use Rattle.std.specs.Prelude.{◌≡◌, ◌+◌, ◌<◌, ◌≤◌, ◌+
 ghost use Rattle.std.specs.Prelude.{MatchOption};
 ghost use Rattle.std.specs.List.{flat_map};
 ghost use Rattle.wc_buffers.specs.Vars.{pair};
-ghost use Rattle.wc_events.specs.BufferObjects.{table, text};
+ghost use Rattle.wc_events.specs.BufferObjects.{table};
+ghost use Rattle.wc_events.specs.LentValues.{object_of};
 ghost use Rattle.wc_events.specs.LineObjects.{texts};
 ghost use Rattle.wc_hdata.specs.WalkBytes.{tag_bytes, var_bytes};
 ghost use Rattle.wc_objects.specs.Spelling.{FitsIn, HasRoomFor, Puts, value_bytes, with_count};
@@ -14,39 +15,16 @@ ghost use Rattle.wc_objects.specs.declared.object.Object.TheVariants as objects;
 
 use bytes::BytesMut;
 use wc_buffers::Vars;
+use wc_events::parts::LentValue;
 use wc_lines::PackedLine;
 use wc_objects::Kind;
 use wc_objects::parts::{
-    put_bytes, put_chr as put_small, put_count, put_decimal, put_kind, put_pointer,
-    room_after_bytes, room_after_decimal, room_after_pointer,
+    put_bytes, put_chr, put_count, put_decimal, put_kind, put_pointer, room_after_bytes,
+    room_after_decimal, room_after_pointer,
 };
 use wc_text::Text;
 
 // ---- what each leaves of a room
-
-/// What is left after a pointer.
-#[tactic(auto, using(crate::proofs::ValueBytes::value_facts))]
-pub(crate) fn room_after_ptr(room: usize, p: u64) -> Option<usize>
-    ensures { FitsIn result room (value_bytes (objects.Ptr p)) }
-{
-    room_after_pointer(room, p)
-}
-
-/// What is left after a date.
-#[tactic(auto, using(crate::proofs::ValueBytes::value_facts))]
-pub(crate) fn room_after_tim(room: usize, n: i64) -> Option<usize>
-    ensures { FitsIn result room (value_bytes (objects.Tim n)) }
-{
-    room_after_decimal(room, n)
-}
-
-/// What is left after a text.
-#[tactic(auto, using(crate::proofs::ValueBytes::value_facts))]
-pub(crate) fn room_after_str(room: usize, bytes: &[u8]) -> Option<usize>
-    ensures { FitsIn result room (value_bytes (text bytes.now)) }
-{
-    room_after_bytes(room, bytes)
-}
 
 fn room_after_each_tag(room: usize, line: &PackedLine) -> Option<usize>
     ensures { FitsIn result room (flat_map tag_bytes line.now.tags) }
@@ -60,7 +38,7 @@ fn room_after_each_tag(room: usize, line: &PackedLine) -> Option<usize>
 
 /// What is left after the tags of a line.
 #[tactic(auto, using(crate::proofs::ValueBytes::value_facts))]
-pub(crate) fn room_after_tags(room: usize, line: &PackedLine) -> Option<usize>
+fn room_after_tags(room: usize, line: &PackedLine) -> Option<usize>
     ensures { FitsIn result room (value_bytes (objects.Arr kinds.Str (texts line.now.tags))) }
 {
     room_after_each_tag(room.checked_sub(7)?, line)
@@ -84,58 +62,29 @@ fn room_after_each_var(room: usize, vars: &Vars) -> Option<usize>
 
 /// What is left after the variables of a buffer.
 #[tactic(auto, using(crate::proofs::ValueBytes::value_facts))]
-pub(crate) fn room_after_table(room: usize, vars: &Vars) -> Option<usize>
+fn room_after_table(room: usize, vars: &Vars) -> Option<usize>
     ensures { FitsIn result room (value_bytes (table vars.now)) }
 {
     room_after_each_var(room.checked_sub(10)?, vars)
 }
 
+/// What is left after a value.
+#[tactic(auto, using(crate::proofs::ValueBytes::value_facts))]
+pub(crate) fn room_after(room: usize, value: LentValue<'_>) -> Option<usize>
+    ensures { FitsIn result room (value_bytes (object_of value.entry)) }
+{
+    match value {
+        LentValue::Int(_) => room.checked_sub(4),
+        LentValue::Chr(_) => room.checked_sub(1),
+        LentValue::Ptr(pointer) => room_after_pointer(room, pointer),
+        LentValue::Tim(seconds) => room_after_decimal(room, seconds),
+        LentValue::Str(bytes) => room_after_bytes(room, bytes),
+        LentValue::Tags(line) => room_after_tags(room, line),
+        LentValue::Vars(vars) => room_after_table(room, vars),
+    }
+}
+
 // ---- each put after the bytes that are in a buffer
-
-/// Puts a number.
-#[tactic(auto, using(crate::proofs::ValueBytes::value_facts))]
-pub(crate) fn put_int(out: &mut BytesMut, n: i32)
-    requires { HasRoomFor out.old (value_bytes (objects.Int n)) }
-    ensures { Puts out.old out.new (value_bytes (objects.Int n)) }
-{
-    out.extend_reserved(&n.to_be_bytes());
-}
-
-/// Puts a small number.
-#[tactic(auto, using(crate::proofs::ValueBytes::value_facts))]
-pub(crate) fn put_chr(out: &mut BytesMut, n: i8)
-    requires { HasRoomFor out.old (value_bytes (objects.Chr n)) }
-    ensures { Puts out.old out.new (value_bytes (objects.Chr n)) }
-{
-    put_small(out, n);
-}
-
-/// Puts a pointer.
-#[tactic(auto, using(crate::proofs::ValueBytes::value_facts))]
-pub(crate) fn put_ptr(out: &mut BytesMut, p: u64)
-    requires { HasRoomFor out.old (value_bytes (objects.Ptr p)) }
-    ensures { Puts out.old out.new (value_bytes (objects.Ptr p)) }
-{
-    put_pointer(out, p);
-}
-
-/// Puts a date.
-#[tactic(auto, using(crate::proofs::ValueBytes::value_facts))]
-pub(crate) fn put_tim(out: &mut BytesMut, n: i64)
-    requires { HasRoomFor out.old (value_bytes (objects.Tim n)) }
-    ensures { Puts out.old out.new (value_bytes (objects.Tim n)) }
-{
-    put_decimal(out, n);
-}
-
-/// Puts a text.
-#[tactic(auto, using(crate::proofs::ValueBytes::value_facts))]
-pub(crate) fn put_str(out: &mut BytesMut, bytes: &[u8])
-    requires { HasRoomFor out.old (value_bytes (text bytes.now)) }
-    ensures { Puts out.old out.new (value_bytes (text bytes.now)) }
-{
-    put_bytes(out, bytes);
-}
 
 fn put_tag(out: &mut BytesMut, tag: &[u8])
     requires { HasRoomFor out.old (tag_bytes tag.now) }
@@ -163,7 +112,7 @@ fn put_counted_tags(out: &mut BytesMut, line: &PackedLine)
 
 /// Puts the tags of a line.
 #[tactic(auto, using(crate::proofs::ValueBytes::value_facts))]
-pub(crate) fn put_tags(out: &mut BytesMut, line: &PackedLine)
+fn put_tags(out: &mut BytesMut, line: &PackedLine)
     requires { HasRoomFor out.old (value_bytes (objects.Arr kinds.Str (texts line.now.tags))) }
     ensures { Puts out.old out.new (value_bytes (objects.Arr kinds.Str (texts line.now.tags))) }
 {
@@ -198,11 +147,28 @@ fn put_counted_vars(out: &mut BytesMut, vars: &Vars)
 
 /// Puts the variables of a buffer.
 #[tactic(auto, using(crate::proofs::ValueBytes::value_facts))]
-pub(crate) fn put_table(out: &mut BytesMut, vars: &Vars)
+fn put_table(out: &mut BytesMut, vars: &Vars)
     requires { HasRoomFor out.old (value_bytes (table vars.now)) }
     ensures { Puts out.old out.new (value_bytes (table vars.now)) }
 {
     put_kind(out, Kind::Str);
     put_kind(out, Kind::Str);
     put_counted_vars(out, vars);
+}
+
+/// Puts a value.
+#[tactic(auto, using(crate::proofs::ValueBytes::value_facts))]
+pub(crate) fn put(out: &mut BytesMut, value: LentValue<'_>)
+    requires { HasRoomFor out.old (value_bytes (object_of value)) }
+    ensures { Puts out.old out.new (value_bytes (object_of value.entry)) }
+{
+    match value {
+        LentValue::Int(number) => out.extend_reserved(&number.to_be_bytes()),
+        LentValue::Chr(number) => put_chr(out, number),
+        LentValue::Ptr(pointer) => put_pointer(out, pointer),
+        LentValue::Tim(seconds) => put_decimal(out, seconds),
+        LentValue::Str(bytes) => put_bytes(out, bytes),
+        LentValue::Tags(line) => put_tags(out, line),
+        LentValue::Vars(vars) => put_table(out, vars),
+    }
 }

@@ -1,15 +1,18 @@
 //! The pointers that the elements of a path give are counted before anything is made of them.
 
 ghost use Rattle.std.specs.Prelude.{◌≡◌, ◌≢◌, ◌+◌, ◌<◌, ◌∷◌, ◌++◌, [], None, Some, OnOk};
-ghost use Rattle.std.specs.Prelude.{IfOk, IfErr, MatchOption, length, nat_le, vec_capacity};
+ghost use Rattle.std.specs.Prelude.{IfOk, IfErr, MatchOption, drop, length, nat_le, true};
+ghost use Rattle.std.specs.Prelude.{vec_capacity};
 ghost use Rattle.std.specs.List.{AllByRecursion};
 ghost use Rattle.wc_hdata.specs.Depth.{IsCount, further, further_left, turns_left};
 ghost use Rattle.wc_hdata.specs.Kept.{AreKept, IsFor, IsReady};
+ghost use Rattle.wc_hdata.specs.Narrow.{others_give_one};
 ghost use Rattle.wc_hdata.specs.Refusals.{most_visits, start_pointer, walk_refusal};
 ghost use Rattle.wc_hdata.specs.declared.refused.WalkRefused.TheVariants as Refused;
 
 use crate::cursor::Cursor;
 use crate::lists::Lists;
+use crate::narrow::{last_wide, left_after};
 use crate::path::{Path, Start, Step};
 use crate::reach::reach;
 use crate::refused::WalkRefused;
@@ -77,24 +80,28 @@ fn are_few<'b, 'a>(
     if steps.is_empty() {
         return Ok(true);
     }
+    let last = last_wide(steps);
     let mut open = Vec::with_capacity(alloc, steps.len())?;
     open.push_reserved(first);
-    Ok(are_within(lists, steps, &mut open, left))
+    Ok(are_within(lists, steps, last, &mut open, left))
 }
 
-/// Whether the steps give no more than so many from these places.
+/// Whether the steps give no more than so many from these places. Behind the last of them that may
+/// lead to several places each leads from each to one.
 fn are_within<'b, 'a>(
     lists: &'b Lists<'a>,
     steps: &[Step],
+    last: usize,
     open: &mut Vec<Cursor<'b, 'a>>,
     most: usize,
 ) -> bool
-    requires { IsCount lists.now steps.now open.old.items (vec_capacity open.old) }
+    requires narrow { others_give_one (drop last steps.now) ≡ true }
+    requires count { IsCount lists.now steps.now open.old.items (vec_capacity open.old) }
     ensures { result ≡ nat_le (further_left lists.now.world steps.now 0 open.old.items) most }
 {
     let mut left = most;
     while let Some(top) = open.pop() {
-        match count_on(lists, steps, open, top, left) {
+        match count_on(lists, steps, last, open, top, left) {
             Some(rest) => left = rest,
             None => return false,
         }
@@ -107,11 +114,13 @@ fn are_within<'b, 'a>(
 fn count_on<'b, 'a>(
     lists: &'b Lists<'a>,
     steps: &[Step],
+    last: usize,
     open: &mut Vec<Cursor<'b, 'a>>,
     mut top: Cursor<'b, 'a>,
     left: usize,
 ) -> Option<usize>
-    requires { IsCount lists.now steps.now (open.old.items ++ top ∷ []) (vec_capacity open.old) }
+    requires narrow { others_give_one (drop last steps.now) ≡ true }
+    requires count { IsCount lists.now steps.now (open.old.items ++ top ∷ []) (vec_capacity open.old) }
     ensures count { IsCount lists.now steps.now open.new.items (vec_capacity open.new) }
     ensures rest { MatchOption result
         (left < further_left lists.now.world steps.now 0 (open.old.items ++ top.entry ∷ []))
@@ -126,7 +135,11 @@ fn count_on<'b, 'a>(
     let level = open.len();
     open.push_reserved(top);
     let further = reach(lists, steps[level], place);
-    let Some(rest) = left.checked_sub(further.len()) else {
+    let places = further.len();
+    if level == last {
+        return left_after(left, places, steps.len() - level);
+    }
+    let Some(rest) = left.checked_sub(places) else {
         return None;
     };
     if level + 1 < steps.len() {

@@ -9,11 +9,13 @@ ghost use Rattle.wc_hdata.specs.Reached.{place_of};
 ghost use Rattle.wc_hdata.specs.Refusals.{reached};
 ghost use Rattle.wc_hdata.specs.Starts.{starts};
 ghost use Rattle.wc_hdata.specs.Walk.{nodes_at, nodes_reached};
+ghost use Rattle.wc_hdata.specs.WalkBytes.{pointers_bytes};
 
 use crate::cursor::Cursor;
 use crate::lists::Lists;
 use crate::path::{Path, Step};
 use crate::place::{Place, pointer_of};
+use crate::pointers::Pointers;
 use crate::reach::reach;
 use crate::starts::starts;
 use std::alloc::Global;
@@ -29,7 +31,7 @@ pub(crate) struct Walker<'b, 'a> {
     /// The places that are still to come of each element on the way, from the first.
     open: Vec<Cursor<'b, 'a>>,
     /// A pointer of each element on the way.
-    pointers: Vec<u64>,
+    pointers: Pointers,
 }
 
 impl<'b, 'a> Model for Walker<'b, 'a> {
@@ -82,8 +84,7 @@ impl<'b, 'a> Walker<'b, 'a> {
         ensures left { IfOk result (λ walker. walker.left ≡ nodes_reached lists.now.world steps.now
             (nodes_at lists.now.world.groups [] first.entry)) }
     {
-        let mut pointers = Vec::new(alloc);
-        pointers.resize(steps.len() + 1, 0)?;
+        let pointers = Pointers::new(alloc, steps.len() + 1)?;
         let mut open = Vec::with_capacity(alloc, steps.len() + 1)?;
         open.push_reserved(first);
         Ok(Walker {
@@ -116,6 +117,13 @@ impl<'b, 'a> Walker<'b, 'a> {
     {
         self.pointers.as_slice()
     }
+
+    /// How many bytes spell these pointers.
+    pub(crate) fn pointer_bytes(&self) -> usize
+        ensures { result ≡ length (pointers_bytes self.now.pointers) }
+    {
+        self.pointers.bytes()
+    }
 }
 
 /// Takes the next place of the last element, and goes on from it where steps are left. The place,
@@ -124,21 +132,21 @@ fn go_on<'b, 'a>(
     lists: &'b Lists<'a>,
     steps: &[Step],
     open: &mut Vec<Cursor<'b, 'a>>,
-    pointers: &mut Vec<u64>,
+    pointers: &mut Pointers,
     mut top: Cursor<'b, 'a>,
 ) -> Option<Place<'a>>
-    requires { IsWalk lists.now steps.now (length pointers.old.items) (open.old.items ++ top ∷ [])
+    requires { IsWalk lists.now steps.now (length pointers.old) (open.old.items ++ top ∷ [])
         (vec_capacity open.old) }
-    ensures walk { IsWalk lists.now steps.now (length pointers.new.items) open.new.items
+    ensures walk { IsWalk lists.now steps.now (length pointers.new) open.new.items
         (vec_capacity open.new) }
     ensures given { MatchOption result
-        (nodes_left lists.now.world steps.now pointers.old.items 0
+        (nodes_left lists.now.world steps.now pointers.old 0
         (open.old.items ++ top.entry ∷ [])
-        ≡ nodes_left lists.now.world steps.now pointers.new.items 0 open.new.items)
-        (λ place. nodes_left lists.now.world steps.now pointers.old.items 0
+        ≡ nodes_left lists.now.world steps.now pointers.new 0 open.new.items)
+        (λ place. nodes_left lists.now.world steps.now pointers.old 0
         (open.old.items ++ top.entry ∷ [])
-        ≡ record { pointers = pointers.new.items; place = place_of place }
-        ∷ nodes_left lists.now.world steps.now pointers.new.items 0 open.new.items) }
+        ≡ record { pointers = pointers.new; place = place_of place }
+        ∷ nodes_left lists.now.world steps.now pointers.new 0 open.new.items) }
     ensures kept { IfSome result (λ place. IsKept lists.now (place_of place)) }
     ensures turned { turns_left lists.now.world steps.now 0 open.new.items
         < turns_left lists.now.world steps.now 0 (open.old.items ++ top.entry ∷ []) }
@@ -147,7 +155,7 @@ fn go_on<'b, 'a>(
         return None;
     };
     let level = open.len();
-    pointers[level] = pointer_of(lists.world().buffers(), place);
+    pointers.put(level, pointer_of(lists.world().buffers(), place));
     open.push_reserved(top);
     if level == steps.len() {
         return Some(place);

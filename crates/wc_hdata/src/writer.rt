@@ -17,7 +17,7 @@ ghost use Rattle.wc_hdata.specs.declared.refused.WalkRefused.TheVariants as Refu
 ghost use Rattle.wc_objects.specs.Forms.{well_formed};
 ghost use Rattle.wc_objects.specs.Spelling.{FitsIn, HasRoomFor, Puts, be32, message_bytes};
 
-use crate::item_bytes::{put_item, room_after_pointers, room_after_values};
+use crate::item_bytes::{put_item, room_after_values};
 use crate::key::Key;
 use crate::keys::{keys_text, read_keys};
 use crate::lists::Lists;
@@ -85,22 +85,22 @@ struct Size {
     items: usize,
 }
 
-/// What is left after the item of a place.
+/// What is left after the item of a place, with the pointers that a walk gave with it.
 fn room_after_item(
     left: Left,
+    walker: &Walker<'_, '_>,
     lists: &Lists<'_>,
-    pointers: &[u64],
     place: Place<'_>,
     keys: &[Key],
 ) -> Option<Left>
     requires kept { IsKept lists.now (place_of place) }
     requires few { left.items < 2 ^ 32 }
-    ensures { MatchOption result (IsOver left (pointers_bytes pointers.now)
+    ensures { MatchOption result (IsOver left (pointers_bytes walker.now.pointers)
         (keys_bytes lists.now.world (place_of place.entry) keys.now))
-        (λ rest. IsAfter left rest (pointers_bytes pointers.now)
+        (λ rest. IsAfter left rest (pointers_bytes walker.now.pointers)
         (keys_bytes lists.now.world (place_of place.entry) keys.now) 1) }
 {
-    let room = room_after_pointers(left.room, pointers)?;
+    let room = left.room.checked_sub(walker.pointer_bytes())?;
     let values = room_after_values(left.values, lists, place, keys)?;
     let items = left.items + 1;
     Some(Left {
@@ -127,7 +127,7 @@ fn room_after_items(
 {
     let mut left = whole;
     while let Some(place) = walker.next() {
-        left = room_after_item(left, lists, walker.pointers(), place, keys)?;
+        left = room_after_item(left, walker, lists, place, keys)?;
     }
     Some(left)
 }

@@ -52,7 +52,8 @@ same_key a b = bytes_eq (key_name a) (key_name b)
 
 -- every key of a buffer, of which a new one is told too
 abbrev pub buffer_keys : List Key
-buffer_keys = k.Number ∷ k.FullName ∷ k.ShortName ∷ k.Hidden ∷ k.Title ∷ k.LocalVariables ∷ k.PrevBuffer ∷ k.NextBuffer ∷ []
+buffer_keys = k.Number ∷ k.FullName ∷ k.ShortName ∷ k.Hidden ∷ k.Title ∷ k.LocalVariables
+    ∷ k.PrevBuffer ∷ k.NextBuffer ∷ []
 
 abbrev pub nick_keys : List Key
 nick_keys = k.Group ∷ k.Visible ∷ k.Level ∷ k.Name ∷ k.Color ∷ k.Prefix ∷ k.PrefixColor ∷ []
@@ -62,7 +63,8 @@ abbrev pub keys_in : KeyList → List Key
 keys_in l.Buffer = buffer_keys
 keys_in l.Lines = k.FirstLine ∷ k.LastLine ∷ k.LinesCount ∷ []
 keys_in l.Line = k.Data ∷ []
-keys_in l.LineData = k.Buffer ∷ k.Date ∷ k.DatePrinted ∷ k.Displayed ∷ k.NotifyLevel ∷ k.Highlight ∷ k.TagsArray ∷ k.Prefix ∷ k.Message ∷ []
+keys_in l.LineData = k.Buffer ∷ k.Date ∷ k.DatePrinted ∷ k.Displayed ∷ k.NotifyLevel ∷ k.Highlight
+    ∷ k.TagsArray ∷ k.Prefix ∷ k.Message ∷ []
 keys_in l.Dump = k.Number ∷ k.FullName ∷ k.ShortName ∷ k.Hidden ∷ k.Title ∷ k.LocalVariables ∷ []
 keys_in l.Opened = buffer_keys
 keys_in l.Placed = k.Number ∷ k.FullName ∷ k.PrevBuffer ∷ k.NextBuffer ∷ []

@@ -12,7 +12,7 @@ use Rattle.wc_hdata.proofs.walker.go_on.Goals as goal
 
 pub returns-in_default-clause-given : goal.returns-in_default-clause-given
 returns-in_default-clause-given c =
-    walk_back c.args.lists.now.world c.args.steps.now c.args.pointers.now.items c.args.open.now.items c.args.top c.in_default.ensures.0
+    walk_back c.args.lists.now.world c.args.steps.now c.args.pointers.now c.args.open.now.items c.args.top c.in_default.ensures.0
 
 pub returns-in_default-clause-turned : goal.returns-in_default-clause-turned
 returns-in_default-clause-turned c =
@@ -28,23 +28,23 @@ returns-then-level-steps-clause-kept c =
 
 pub returns-then-level-steps-clause-walk : goal.returns-then-level-steps-clause-walk
 returns-then-level-steps-clause-walk c =
-    walk_rest c.args.lists.now c.args.steps.now (length c.args.pointers.now.items) (length (set c.args.pointers.now.items c.len-level.result c.pointer_of.result)) c.args.open.now.items c.push_reserved.new.self.items c.args.top c.next.new.self (place_of c.in-Some.place) _ _ c.requires (length-set c.args.pointers.now.items c.len-level.result c.pointer_of.result) c.in-Some.ensures c.push_reserved.ensures.items c.push_reserved.ensures.capacity
+    walk_rest c.args.lists.now c.args.steps.now (length c.args.pointers.now) (length c.put.new.self) c.args.open.now.items c.push_reserved.new.self.items c.args.top c.next.new.self (place_of c.in-Some.place) _ _ c.requires (ap length c.put.ensures ∙ length-set c.args.pointers.now c.len-level.result c.pointer_of.result) c.in-Some.ensures c.push_reserved.ensures.items c.push_reserved.ensures.capacity
 
 pub returns-then-level-steps-clause-given : goal.returns-then-level-steps-clause-given
 returns-then-level-steps-clause-given c =
     let deep : c.len-level.result ≡ length c.args.open.now.items = omega (arith, c.len-level.ensures) in
     let are = c.requires.pointers_are in
     let have = c.requires.pointers_all in
-    let all : length c.args.pointers.now.items ≡ length c.args.steps.now + 1 = omega (arith, are, have) in
+    let all : length c.args.pointers.now ≡ length c.args.steps.now + 1 = omega (arith, are, have) in
     let last : c.len-level.result ≡ length c.args.steps.now = omega (arith, c.if-level-steps.true) in
-    subst (λ items. nodes_left c.args.lists.now.world c.args.steps.now c.args.pointers.now.items 0 (c.args.open.now.items ++ c.args.top ∷ []) ≡ record { pointers = (set c.args.pointers.now.items c.len-level.result c.pointer_of.result); place = (place_of c.in-Some.place) } ∷ nodes_left c.args.lists.now.world c.args.steps.now (set c.args.pointers.now.items c.len-level.result c.pointer_of.result) 0 items) (sym c.push_reserved.ensures.items) (walk_given c.args.lists.now.world c.args.steps.now c.args.pointers.now.items (set c.args.pointers.now.items c.len-level.result c.pointer_of.result) c.args.open.now.items c.args.top c.next.new.self (place_of c.in-Some.place) c.len-level.result c.in-Some.ensures deep all (ap (set c.args.pointers.now.items c.len-level.result) (c.pointer_of.ensures ∙ ap (λ (groups : EntryGroups). pointer_of groups (place_of c.in-Some.place)) (c.buffers.ensures ∙ ap (λ (world : World). world.groups) c.world.ensures))) last)
+    subst (λ items. nodes_left c.args.lists.now.world c.args.steps.now c.args.pointers.now 0 (c.args.open.now.items ++ c.args.top ∷ []) ≡ record { pointers = c.put.new.self; place = (place_of c.in-Some.place) } ∷ nodes_left c.args.lists.now.world c.args.steps.now c.put.new.self 0 items) (sym c.push_reserved.ensures.items) (walk_given c.args.lists.now.world c.args.steps.now c.args.pointers.now c.put.new.self c.args.open.now.items c.args.top c.next.new.self (place_of c.in-Some.place) c.len-level.result c.in-Some.ensures deep all (c.put.ensures ∙ ap (set c.args.pointers.now c.len-level.result) (c.pointer_of.ensures ∙ ap (λ (groups : EntryGroups). pointer_of groups (place_of c.in-Some.place)) (c.buffers.ensures ∙ ap (λ (world : World). world.groups) c.world.ensures))) last)
 
 pub returns-then-level-steps-clause-turned : goal.returns-then-level-steps-clause-turned
 returns-then-level-steps-clause-turned c =
     let deep : c.len-level.result ≡ length c.args.open.now.items = omega (arith, c.len-level.ensures) in
     let are = c.requires.pointers_are in
     let have = c.requires.pointers_all in
-    let all : length c.args.pointers.now.items ≡ length c.args.steps.now + 1 = omega (arith, are, have) in
+    let all : length c.args.pointers.now ≡ length c.args.steps.now + 1 = omega (arith, are, have) in
     let last : c.len-level.result ≡ length c.args.steps.now = omega (arith, c.if-level-steps.true) in
     subst (λ items. turns_left c.args.lists.now.world c.args.steps.now 0 items < turns_left c.args.lists.now.world c.args.steps.now 0 (c.args.open.now.items ++ c.args.top ∷ [])) (sym c.push_reserved.ensures.items) (turns_given c.args.lists.now.world c.args.steps.now c.args.open.now.items c.args.top c.next.new.self (place_of c.in-Some.place) c.len-level.result c.in-Some.ensures deep last)
 
@@ -53,26 +53,26 @@ returns-clause-walk c =
     let deep : c.len-level.result ≡ length c.args.open.now.items = omega (arith, c.len-level.ensures) in
     let are = c.requires.pointers_are in
     let have = c.requires.pointers_all in
-    let all : length c.args.pointers.now.items ≡ length c.args.steps.now + 1 = omega (arith, are, have) in
+    let all : length c.args.pointers.now ≡ length c.args.steps.now + 1 = omega (arith, are, have) in
     let inside : c.len-level.result < length c.args.steps.now = (let size = length-append c.args.open.now.items (c.args.top ∷ []) in let most = c.requires.deep in let other = c.if-level-steps.false in omega (arith, size, deep, most, other)) in
     let size = one_more c.args.open.now.items c.push_reserved.new.self.items c.next.new.self c.push_reserved.ensures.items in
     let le : length c.push_reserved.new.self.items ≤ length c.args.steps.now = omega (arith, size, deep, inside) in
-    walk_more c.args.lists.now c.args.steps.now (length (set c.args.pointers.now.items c.len-level.result c.pointer_of.result)) c.push_reserved.new.self.items c.push_reserved-2.new.self.items c.reach.result _ _ (walk_rest c.args.lists.now c.args.steps.now (length c.args.pointers.now.items) (length (set c.args.pointers.now.items c.len-level.result c.pointer_of.result)) c.args.open.now.items c.push_reserved.new.self.items c.args.top c.next.new.self (place_of c.in-Some.place) _ _ c.requires (length-set c.args.pointers.now.items c.len-level.result c.pointer_of.result) c.in-Some.ensures c.push_reserved.ensures.items c.push_reserved.ensures.capacity) le c.reach.ensures.kept c.push_reserved-2.ensures.items c.push_reserved-2.ensures.capacity
+    walk_more c.args.lists.now c.args.steps.now (length c.put.new.self) c.push_reserved.new.self.items c.push_reserved-2.new.self.items c.reach.result _ _ (walk_rest c.args.lists.now c.args.steps.now (length c.args.pointers.now) (length c.put.new.self) c.args.open.now.items c.push_reserved.new.self.items c.args.top c.next.new.self (place_of c.in-Some.place) _ _ c.requires (ap length c.put.ensures ∙ length-set c.args.pointers.now c.len-level.result c.pointer_of.result) c.in-Some.ensures c.push_reserved.ensures.items c.push_reserved.ensures.capacity) le c.reach.ensures.kept c.push_reserved-2.ensures.items c.push_reserved-2.ensures.capacity
 
 pub returns-clause-given : goal.returns-clause-given
 returns-clause-given c =
     let deep : c.len-level.result ≡ length c.args.open.now.items = omega (arith, c.len-level.ensures) in
     let are = c.requires.pointers_are in
     let have = c.requires.pointers_all in
-    let all : length c.args.pointers.now.items ≡ length c.args.steps.now + 1 = omega (arith, are, have) in
+    let all : length c.args.pointers.now ≡ length c.args.steps.now + 1 = omega (arith, are, have) in
     let inside : c.len-level.result < length c.args.steps.now = (let size = length-append c.args.open.now.items (c.args.top ∷ []) in let most = c.requires.deep in let other = c.if-level-steps.false in omega (arith, size, deep, most, other)) in
-    subst (λ items. nodes_left c.args.lists.now.world c.args.steps.now c.args.pointers.now.items 0 (c.args.open.now.items ++ c.args.top ∷ []) ≡ nodes_left c.args.lists.now.world c.args.steps.now (set c.args.pointers.now.items c.len-level.result c.pointer_of.result) 0 items) (sym (c.push_reserved-2.ensures.items ∙ ap (λ l. l ++ c.reach.result ∷ []) c.push_reserved.ensures.items)) (walk_on c.args.lists.now.world c.args.steps.now c.args.pointers.now.items (set c.args.pointers.now.items c.len-level.result c.pointer_of.result) c.args.open.now.items c.args.top c.next.new.self (place_of c.in-Some.place) c.len-level.result c.in-Some.ensures deep all (ap (set c.args.pointers.now.items c.len-level.result) (c.pointer_of.ensures ∙ ap (λ (groups : EntryGroups). pointer_of groups (place_of c.in-Some.place)) (c.buffers.ensures ∙ ap (λ (world : World). world.groups) c.world.ensures))) c.reach.result (record { variable = OwnLines; count = One }) inside c.reach.ensures.places)
+    subst (λ items. nodes_left c.args.lists.now.world c.args.steps.now c.args.pointers.now 0 (c.args.open.now.items ++ c.args.top ∷ []) ≡ nodes_left c.args.lists.now.world c.args.steps.now c.put.new.self 0 items) (sym (c.push_reserved-2.ensures.items ∙ ap (λ l. l ++ c.reach.result ∷ []) c.push_reserved.ensures.items)) (walk_on c.args.lists.now.world c.args.steps.now c.args.pointers.now c.put.new.self c.args.open.now.items c.args.top c.next.new.self (place_of c.in-Some.place) c.len-level.result c.in-Some.ensures deep all (c.put.ensures ∙ ap (set c.args.pointers.now c.len-level.result) (c.pointer_of.ensures ∙ ap (λ (groups : EntryGroups). pointer_of groups (place_of c.in-Some.place)) (c.buffers.ensures ∙ ap (λ (world : World). world.groups) c.world.ensures))) c.reach.result (record { variable = OwnLines; count = One }) inside c.reach.ensures.places)
 
 pub returns-clause-turned : goal.returns-clause-turned
 returns-clause-turned c =
     let deep : c.len-level.result ≡ length c.args.open.now.items = omega (arith, c.len-level.ensures) in
     let are = c.requires.pointers_are in
     let have = c.requires.pointers_all in
-    let all : length c.args.pointers.now.items ≡ length c.args.steps.now + 1 = omega (arith, are, have) in
+    let all : length c.args.pointers.now ≡ length c.args.steps.now + 1 = omega (arith, are, have) in
     let inside : c.len-level.result < length c.args.steps.now = (let size = length-append c.args.open.now.items (c.args.top ∷ []) in let most = c.requires.deep in let other = c.if-level-steps.false in omega (arith, size, deep, most, other)) in
     subst (λ items. turns_left c.args.lists.now.world c.args.steps.now 0 items < turns_left c.args.lists.now.world c.args.steps.now 0 (c.args.open.now.items ++ c.args.top ∷ [])) (sym (c.push_reserved-2.ensures.items ∙ ap (λ l. l ++ c.reach.result ∷ []) c.push_reserved.ensures.items)) (turns_on c.args.lists.now.world c.args.steps.now c.args.open.now.items c.args.top c.next.new.self (place_of c.in-Some.place) c.len-level.result c.in-Some.ensures deep c.reach.result (record { variable = OwnLines; count = One }) inside c.reach.ensures.places)
