@@ -22,10 +22,13 @@ use Rattle.wc_model.specs.Order.{order}
 use Rattle.wc_model.specs.Apply.{refusal, after}
 use Rattle.wc_model.specs.Notices.{notice}
 use Rattle.wc_model.specs.Touches.{told_after}
-use Rattle.wc_core.specs.Resolved.{Effect, Stays, Ends as ResolvedEnds, Tells, Asks, effect_of, refusal_text, told_refusal}
+use Rattle.wc_core.specs.Resolved.{Effect, Stays, Ends as ResolvedEnds, Tells, Asks, SetsOption, UnsetsOption, effect_of, refusal_text, option_text, told_refusal}
+use Rattle.wc_options.specs.Options.{refusal_of, value_of}
+use Rattle.wc_options.specs.declared.refusal.SetRefused.{SetRefused}
+use Rattle.wc_options.specs.declared.refusal.SetRefused.TheVariants.{UnknownOption}
 use Rattle.wc_core.specs.Typed.{TypedCommand, typed_line, lines_of_text}
 use Rattle.wc_core.specs.State.{State, Stepped}
-use Rattle.wc_core.specs.Step.{client_link, pushed_to, push_at, pushes_of, push_step, no_step, then_does, sends, tell_all_step, change_step, change_step_if, refusal_step, ask_step_if, effect_step, typed_step, is_quit, lines_step, outcome_step, loss_step}
+use Rattle.wc_core.specs.Step.{set_step_if, unset_step_if, client_link, pushed_to, push_at, pushes_of, push_step, no_step, then_does, sends, tell_all_step, change_step, change_step_if, refusal_step, ask_step_if, effect_step, typed_step, is_quit, lines_step, outcome_step, loss_step}
 use Rattle.wc_core.specs.Served.{or_else, close_of, StaysOrStarves, LeavesBy}
 use Rattle.wc_core.proofs.DidLemmas.{close_of-append, ClosesLater}
 use Rattle.wc_core.proofs.ConnectionLemmas.{close-sends, close-told}
@@ -70,11 +73,21 @@ asks_if-closes : (j : ℕ) (state : State) (change : Change) (o : Option ChangeR
 asks_if-closes j state change None = changes-closes j state change
 asks_if-closes j state change (Some reason) = tells-closes j state (refusal_text reason)
 
+sets_if-closes : (j : ℕ) (state : State) (name value : List ℕ) (o : Option SetRefused) → close_of j (set_step_if state name value o).acts ≡ None
+sets_if-closes j state name value None = refl
+sets_if-closes j state name value (Some reason) = tells-closes j state (option_text name reason)
+
+unsets_if-closes : (j : ℕ) (state : State) (name : List ℕ) (o : Option (List ℕ)) → close_of j (unset_step_if state name o).acts ≡ None
+unsets_if-closes j state name None = tells-closes j state (option_text name UnknownOption)
+unsets_if-closes j state name (Some value) = refl
+
 resolved-closes : (j : ℕ) (state : State) (r : Effect) → close_of j (effect_step state r).acts ≡ None
 resolved-closes j state Stays = refl
 resolved-closes j state ResolvedEnds = refl
 resolved-closes j state (Tells text) = tells-closes j state text
 resolved-closes j state (Asks change) = asks_if-closes j state change (refusal state.world change)
+resolved-closes j state (SetsOption name value) = sets_if-closes j state name value (refusal_of state.options name value)
+resolved-closes j state (UnsetsOption name) = unsets_if-closes j state name (value_of state.options name)
 
 pub does-closes : (j : ℕ) (state : State) (buffer : Handle) (typed : TypedCommand) → close_of j (typed_step state buffer typed).acts ≡ None
 does-closes j state buffer typed = resolved-closes j state (effect_of state.world state.moment buffer typed)

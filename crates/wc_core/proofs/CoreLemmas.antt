@@ -31,12 +31,14 @@ use Rattle.wc_model.specs.Notices.{Accepted, notice}
 use Rattle.wc_model.specs.Touches.{touched_key}
 use Rattle.std.specs.FinMap.{FinMap}
 use Rattle.std.specs.Ordering.{nat_cmp}
+use Rattle.wc_options.specs.Options.{OptionsValue}
 use Rattle.wc_nicklist.specs.declared.item.Row.{Row}
-use Rattle.wc_core.specs.Typed.{TypedCommand, Nothing, Quits, Refused, Prints, Adds, Closes, Merges, Names, Changes as TypedChanges}
-use Rattle.wc_core.specs.Resolved.{Effect, Stays, Ends as ResolvedEnds, Tells, Asks, buffer_meant, of_meant, of_named, change_of, line_spec, effect_of, refusal_text, told_refusal}
+use Rattle.wc_core.specs.Typed.{TypedCommand, Nothing, Quits, Refused, Prints, Adds, Closes, Merges, Names, Changes as TypedChanges, Sets, Unsets}
+use Rattle.wc_core.specs.Resolved.{Effect, Stays, Ends as ResolvedEnds, Tells, Asks, SetsOption, UnsetsOption, buffer_meant, of_meant, of_named, change_of, line_spec, effect_of, refusal_text, told_refusal}
 use Rattle.wc_core.specs.Inputs.{MakesChange, TellsSome, MayTell}
+use Rattle.wc_core.specs.Limits.{client_limit}
 use Rattle.wc_core.specs.State.{Stepped}
-use Rattle.wc_core.specs.Step.{client_link, client_limit, no_step, push_step, reply_step, sends, tell_all_step, change_step, change_step_if, refusal_step, ask_step_if, ask_step, effect_step, typed_step, is_quit, leave_step, loss_step, arrival_step, outcome_step, answer_step, request_step, line_step}
+use Rattle.wc_core.specs.Step.{client_link, no_step, push_step, reply_step, sends, tell_all_step, change_step, change_step_if, refusal_step, ask_step_if, ask_step, effect_step, typed_step, is_quit, leave_step, loss_step, arrival_step, outcome_step, answer_step, request_step, line_step}
 use Rattle.wc_core.specs.Served.{connection_link, is_open, is_open_at, clients_of, state_of, unsent_on, leaving_on, Distinct, StaysOrStarves, FollowsUnlessStarved, AdmitsUnlessStarved, RanOutOfMemory, told_connection, ConnectionsServed, OutcomeUtf8, ConnectionsKept}
 use Rattle.wc_core.proofs.CloseLemmas.{reply-later, lost-starves}
 use Rattle.wc_core.proofs.DidLemmas.{or_else-none, or-true, Follows-stays, KeepsClients-refl, KeepsClients-trans, KeepsClients-connections, FollowsUnlessStarved-exact, FollowsUnlessStarved-stays, FollowsUnlessStarved-starved, FollowsUnlessStarved-then}
@@ -177,6 +179,8 @@ quit_of Stays = false
 quit_of ResolvedEnds = true
 quit_of (Tells text) = false
 quit_of (Asks change) = false
+quit_of (SetsOption name value) = false
+quit_of (UnsetsOption name) = false
 
 quit_of-meant : (change : Handle → Change) (o : Option Handle) → quit_of (of_meant change o) ≡ false
 quit_of-meant change None = refl
@@ -197,6 +201,8 @@ quit_of-resolved world moment buffer (Closes name) = quit_of-named world.groups 
 quit_of-resolved world moment buffer (Merges name) = quit_of-meant (λ into. change_of buffer (what.MergeInto into)) (buffer_meant world.groups name)
 quit_of-resolved world moment buffer (Names name) = refl
 quit_of-resolved world moment buffer (TypedChanges w) = refl
+quit_of-resolved world moment buffer (Sets name value) = refl
+quit_of-resolved world moment buffer (Unsets name) = refl
 
 pub quits-by : (world : World) (moment : ℕ) (buffer : Handle) (typed : TypedCommand) (r : Effect) (b : Bool) → r ≡ effect_of world moment buffer typed → quit_of r ≡ b → b ≡ is_quit typed
 quits-by world moment buffer typed r b e q = sym q ∙ ap quit_of e ∙ quit_of-resolved world moment buffer typed
@@ -310,13 +316,13 @@ ask-answer old new k s session' answer result at sits same answered done =
 
 -- a request of an open client, whose answer was followed
 pub ask-served : (old new : CoreView) (k : ℕ) (s : Connection) (session' : Known) (request : Request) (result : Outcome) → at_key connection_link k old.connections ≡ Some s → is_open s ≡ true → RequestIsUtf8 request
-    → OnServed result (AnswersRequest s.session session' result (reply_of old.world old.password s.session.client request)) → OnNoMemory result (session' ≡ s.session)
+    → OnServed result (AnswersRequest s.session session' result (reply_of old.world old.options s.session.client request)) → OnNoMemory result (session' ≡ s.session)
     → OnServed result (FollowsUnlessStarved (replied old k session') new (outcome_step (state_of (replied old k session')) k result)) → OnNoMemory result (RanOutOfMemory (replied old k session') new)
     → FollowsUnlessStarved old new (reply_step (state_of old) s.session.client request)
-ask-served old new k s session' request outcome.Replied at sits utf8 answered same done starved = ask-answer old new k s session' (reply_of old.world old.password s.session.client request) outcome.Replied at sits (reply_fits old.world old.password s.session.client request utf8).link answered done
-ask-served old new k s session' request outcome.Silent at sits utf8 answered same done starved = ask-answer old new k s session' (reply_of old.world old.password s.session.client request) outcome.Silent at sits (reply_fits old.world old.password s.session.client request utf8).link answered done
-ask-served old new k s session' request (outcome.Input buffer text) at sits utf8 answered same done starved = ask-answer old new k s session' (reply_of old.world old.password s.session.client request) (outcome.Input buffer text) at sits (reply_fits old.world old.password s.session.client request utf8).link answered done
-ask-served old new k s session' request (outcome.Leave why) at sits utf8 answered same done starved = ask-answer old new k s session' (reply_of old.world old.password s.session.client request) (outcome.Leave why) at sits (reply_fits old.world old.password s.session.client request utf8).link answered done
+ask-served old new k s session' request outcome.Replied at sits utf8 answered same done starved = ask-answer old new k s session' (reply_of old.world old.options s.session.client request) outcome.Replied at sits (reply_fits old.world old.options s.session.client request utf8).link answered done
+ask-served old new k s session' request outcome.Silent at sits utf8 answered same done starved = ask-answer old new k s session' (reply_of old.world old.options s.session.client request) outcome.Silent at sits (reply_fits old.world old.options s.session.client request utf8).link answered done
+ask-served old new k s session' request (outcome.Input buffer text) at sits utf8 answered same done starved = ask-answer old new k s session' (reply_of old.world old.options s.session.client request) (outcome.Input buffer text) at sits (reply_fits old.world old.options s.session.client request utf8).link answered done
+ask-served old new k s session' request (outcome.Leave why) at sits utf8 answered same done starved = ask-answer old new k s session' (reply_of old.world old.options s.session.client request) (outcome.Leave why) at sits (reply_fits old.world old.options s.session.client request utf8).link answered done
 ask-served old new k s session' request outcome.NoMemory at sits utf8 answered same done starved =
     let key : client_link session'.client ≡ k = ap (λ (known : Known). client_link known.client) same ∙ at_key-key connection_link k old.connections s at in
     let mid = replied old k session' in
@@ -330,34 +336,34 @@ ask-served old new k s session' request outcome.NoMemory at sits utf8 answered s
     })
 
 -- the text that a request types is text
-pub outcome-text : (world : World) (password : List ℕ) (client : Client) (request : Request) (old new : Known) (result : Outcome) → RequestIsUtf8 request
-    → OnServed result (AnswersRequest old new result (reply_of world password client request)) → OutcomeUtf8 result
-outcome-text world password client request old new outcome.Replied utf8 answered = tt
-outcome-text world password client request old new outcome.Silent utf8 answered = tt
-outcome-text world password client request old new (outcome.Input buffer text) utf8 answered = subst OutcomeUtf8 (sym answered.outcome) (reply_fits world password client request utf8).text
-outcome-text world password client request old new (outcome.Leave why) utf8 answered = tt
-outcome-text world password client request old new outcome.NoMemory utf8 answered = tt
+pub outcome-text : (world : World) (options : OptionsValue) (client : Client) (request : Request) (old new : Known) (result : Outcome) → RequestIsUtf8 request
+    → OnServed result (AnswersRequest old new result (reply_of world options client request)) → OutcomeUtf8 result
+outcome-text world options client request old new outcome.Replied utf8 answered = tt
+outcome-text world options client request old new outcome.Silent utf8 answered = tt
+outcome-text world options client request old new (outcome.Input buffer text) utf8 answered = subst OutcomeUtf8 (sym answered.outcome) (reply_fits world options client request utf8).text
+outcome-text world options client request old new (outcome.Leave why) utf8 answered = tt
+outcome-text world options client request old new outcome.NoMemory utf8 answered = tt
 
-link_same : (world : World) (password : List ℕ) (request : Request) (old new : Known) (result : Outcome) → RequestIsUtf8 request → OnServed result (AnswersRequest old new result (reply_of world password old.client request)) → OnNoMemory result (new ≡ old)
+link_same : (world : World) (options : OptionsValue) (request : Request) (old new : Known) (result : Outcome) → RequestIsUtf8 request → OnServed result (AnswersRequest old new result (reply_of world options old.client request)) → OnNoMemory result (new ≡ old)
     → client_link new.client ≡ client_link old.client
-link_same world password request old new outcome.Replied utf8 answered same = ap (λ (c : Client). client_link c) answered.client ∙ ap (λ (l : LinkId). l.0) (reply_fits world password old.client request utf8).link
-link_same world password request old new outcome.Silent utf8 answered same = ap (λ (c : Client). client_link c) answered.client ∙ ap (λ (l : LinkId). l.0) (reply_fits world password old.client request utf8).link
-link_same world password request old new (outcome.Input buffer text) utf8 answered same = ap (λ (c : Client). client_link c) answered.client ∙ ap (λ (l : LinkId). l.0) (reply_fits world password old.client request utf8).link
-link_same world password request old new (outcome.Leave why) utf8 answered same = ap (λ (c : Client). client_link c) answered.client ∙ ap (λ (l : LinkId). l.0) (reply_fits world password old.client request utf8).link
-link_same world password request old new outcome.NoMemory utf8 answered same = ap (λ (k : Known). client_link k.client) same
+link_same world options request old new outcome.Replied utf8 answered same = ap (λ (c : Client). client_link c) answered.client ∙ ap (λ (l : LinkId). l.0) (reply_fits world options old.client request utf8).link
+link_same world options request old new outcome.Silent utf8 answered same = ap (λ (c : Client). client_link c) answered.client ∙ ap (λ (l : LinkId). l.0) (reply_fits world options old.client request utf8).link
+link_same world options request old new (outcome.Input buffer text) utf8 answered same = ap (λ (c : Client). client_link c) answered.client ∙ ap (λ (l : LinkId). l.0) (reply_fits world options old.client request utf8).link
+link_same world options request old new (outcome.Leave why) utf8 answered same = ap (λ (c : Client). client_link c) answered.client ∙ ap (λ (l : LinkId). l.0) (reply_fits world options old.client request utf8).link
+link_same world options request old new outcome.NoMemory utf8 answered same = ap (λ (k : Known). client_link k.client) same
 
 -- the client stays open after its reply
-pub ask-opened : (link : LinkId) (connections : List Connection) (place : ℕ) (s : Connection) (session' : Known) (world : World) (password : List ℕ) (request : Request) (result : Outcome) → IsKeyPlace connection_link link.0 connections place → s ≡ get_or connections place s
-    → is_open_at (at_key connection_link link.0 connections) ≡ true → RequestIsUtf8 request → OnServed result (AnswersRequest s.session session' result (reply_of world password s.session.client request)) → OnNoMemory result (session' ≡ s.session)
+pub ask-opened : (link : LinkId) (connections : List Connection) (place : ℕ) (s : Connection) (session' : Known) (world : World) (options : OptionsValue) (request : Request) (result : Outcome) → IsKeyPlace connection_link link.0 connections place → s ≡ get_or connections place s
+    → is_open_at (at_key connection_link link.0 connections) ≡ true → RequestIsUtf8 request → OnServed result (AnswersRequest s.session session' result (reply_of world options s.session.client request)) → OnNoMemory result (session' ≡ s.session)
     → is_open_at (at_key connection_link link.0 (set connections place (record { session = session'; leaving = s.leaving }))) ≡ true
-ask-opened link connections place s session' world password request result p e opened utf8 answered same =
+ask-opened link connections place s session' world options request result p e opened utf8 answered same =
     let at = connection-at link connections place s p e in
     let y : Connection = record { session = session'; leaving = s.leaving } in
-    let key : connection_link y ≡ link.0 = link_same world password request s.session session' result utf8 answered same ∙ at_key-key connection_link link.0 connections s at in
+    let key : connection_link y ≡ link.0 = link_same world options request s.session session' result utf8 answered same ∙ at_key-key connection_link link.0 connections s at in
     ap (λ ss. is_open_at (at_key connection_link link.0 ss)) (p.put y) ∙ ap is_open_at (at_key-put_same connection_link link.0 s y connections key at) ∙ open_of (at_key connection_link link.0 connections) s at opened
 
 pub ask-at : (old new : CoreView) (link : LinkId) (place : ℕ) (s : Connection) (session' : Known) (request : Request) (result : Outcome) → push_step (state_of old) ≡ no_step (state_of old) → IsKeyPlace connection_link link.0 old.connections place → s ≡ get_or old.connections place s
-    → is_open_at (at_key connection_link link.0 old.connections) ≡ true → RequestIsUtf8 request → OnServed result (AnswersRequest s.session session' result (reply_of old.world old.password s.session.client request)) → OnNoMemory result (session' ≡ s.session)
+    → is_open_at (at_key connection_link link.0 old.connections) ≡ true → RequestIsUtf8 request → OnServed result (AnswersRequest s.session session' result (reply_of old.world old.options s.session.client request)) → OnNoMemory result (session' ≡ s.session)
     → OnServed result (FollowsUnlessStarved (record old { connections = set old.connections place (record { session = session'; leaving = s.leaving }) }) new (outcome_step (state_of (record old { connections = set old.connections place (record { session = session'; leaving = s.leaving }) })) link.0 result))
     → OnNoMemory result (RanOutOfMemory (record old { connections = set old.connections place (record { session = session'; leaving = s.leaving }) }) new)
     → IfSome (at_key connection_link link.0 old.connections) (λ connection. FollowsUnlessStarved old new (request_step (state_of old) connection.session.client (Some request)))
@@ -374,10 +380,10 @@ ask-at old new link place s session' request result none p e opened utf8 answere
 
 -- ---- arrivals
 
-pub came-surplus : (old : CoreView) (link : LinkId) (nonce : List ℕ) → 5 ≤ length (filter (λ connection. is_open connection) old.connections) → AdmitsUnlessStarved link.0 old old (Some Surplus) (arrival_step (state_of old) link.0 nonce)
+pub came-surplus : (old : CoreView) (link : LinkId) (nonce : List ℕ) → client_limit old.options ≤ length (filter (λ connection. is_open connection) old.connections) → AdmitsUnlessStarved link.0 old old (Some Surplus) (arrival_step (state_of old) link.0 nonce)
 came-surplus old link nonce full =
     let same = open-length old.connections in
-    let test : nat_lt (length (clients_of old.connections)) client_limit ≡ false = grind (arith, nat_tests) in
+    let test : nat_lt (length (clients_of old.connections)) (client_limit old.options) ≡ false = grind (arith, nat_tests) in
     record {
       rises = omega arith;
       connections = refl;
@@ -397,19 +403,19 @@ came-starved old new link nonce e rises =
       comes = λ same below. absurd (omega arith);
     }
 
-pub came : (old : CoreView) (link : LinkId) (nonce : List ℕ) → length (filter (λ connection. is_open connection) old.connections) < 5
-    → AdmitsUnlessStarved link.0 old (record old { connections = old.connections ++ record { session = new_session link nonce; leaving = None } ∷ [] }) None (arrival_step (state_of old) link.0 nonce)
+pub came : (old : CoreView) (link : LinkId) (nonce : List ℕ) → length (filter (λ connection. is_open connection) old.connections) < client_limit old.options
+    → AdmitsUnlessStarved link.0 old (record old { connections = old.connections ++ record { session = new_session old.options link nonce; leaving = None } ∷ [] }) None (arrival_step (state_of old) link.0 nonce)
 came old link nonce few =
     let same = open-length old.connections in
-    let connection : Connection = record { session = new_session link nonce; leaving = None } in
-    let test : nat_lt (length (clients_of old.connections)) client_limit ≡ true = grind (arith, nat_tests) in
+    let connection : Connection = record { session = new_session old.options link nonce; leaving = None } in
+    let test : nat_lt (length (clients_of old.connections)) (client_limit old.options) ≡ true = grind (arith, nat_tests) in
     record {
       rises = omega arith;
       connections = links-push old.connections connection;
       kept = λ j some. kept-push j old.connections connection some;
       cause = tt;
       comes = λ stay below. rw test (record {
-        state = rw (clients-push old.connections (new_session link nonce)) refl;
+        state = rw (clients-push old.connections (new_session old.options link nonce)) refl;
         bytes = λ j. unsent-push j old.connections connection refl;
         leaving = λ j. leaving-push j old.connections connection refl;
         quits = refl;

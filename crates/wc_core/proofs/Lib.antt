@@ -14,3 +14,4 @@ pub mod PushBytes
 pub mod PushLemmas
 pub mod CoreLemmas
 pub mod MessageLemmas
+pub mod OptionLemmas

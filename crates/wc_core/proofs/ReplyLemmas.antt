@@ -18,6 +18,8 @@ use Rattle.wc_session.specs.Handshakes.{choice_in, asks_escapes}
 use Rattle.wc_session.specs.Logins.{pairs_let_in}
 use Rattle.wc_session.specs.Names.{buffer_named}
 use Rattle.wc_session.specs.Sync.{synchronized, desynchronized}
+use Rattle.wc_options.specs.Options.{OptionsValue}
+use Rattle.wc_session.specs.Heeded.{password_of, masks_of}
 use Rattle.wc_session.specs.Reply.{Answer, silent, leaves, replies, shaken, handshake_reply, handshake_answer, init_answer, typed_into, input_answer, is_open, served, reply_of}
 use Rattle.wc_core.specs.Served.{OutcomeUtf8}
 
@@ -40,17 +42,17 @@ link_if : (b : Bool) (a b' : Client) → b'.link ≡ a.link → (cond b a b').li
 link_if true a b' e = refl
 link_if false a b' e = e
 
-shaken_link : (client : Client) (pairs : List Pair) → (shaken client pairs).link ≡ client.link
+shaken_link : (masks : List ℕ) (client : Client) (pairs : List Pair) → (shaken masks client pairs).link ≡ client.link
 unfolding shaken
-shaken_link client pairs = link_if client.logged_in client (record client { chosen = choice_in pairs; escaped = asks_escapes pairs }) refl
+shaken_link masks client pairs = link_if client.logged_in client (record client { chosen = choice_in masks pairs; escaped = asks_escapes pairs }) refl
 
-handshake_fits : (client : Client) (id : List ℕ) (pairs : List Pair) → Fits client (handshake_answer client id pairs)
+handshake_fits : (masks : List ℕ) (client : Client) (id : List ℕ) (pairs : List Pair) → Fits client (handshake_answer masks client id pairs)
 unfolding handshake_answer
-handshake_fits client id pairs =
-    if_fits client (not client.logged_in && is_none (choice_in pairs))
-    (record { messages = handshake_reply client id pairs; outcome = outcome.Leave cause.LoginFailed; client = shaken client pairs })
-    (replies (shaken client pairs) (handshake_reply client id pairs))
-    (record { link = shaken_link client pairs; text = tt }) (replies_fits client (shaken client pairs) (handshake_reply client id pairs) (shaken_link client pairs))
+handshake_fits masks client id pairs =
+    if_fits client (not client.logged_in && is_none (choice_in masks pairs))
+    (record { messages = handshake_reply masks client id pairs; outcome = outcome.Leave cause.LoginFailed; client = shaken masks client pairs })
+    (replies (shaken masks client pairs) (handshake_reply masks client id pairs))
+    (record { link = shaken_link masks client pairs; text = tt }) (replies_fits client (shaken masks client pairs) (handshake_reply masks client id pairs) (shaken_link masks client pairs))
 
 init_fits : (password : List ℕ) (client : Client) (pairs : List Pair) → Fits client (init_answer password client pairs)
 unfolding init_answer
@@ -75,24 +77,24 @@ desynchronized_link : (groups : EntryGroups) (client : Client) (buffers : List (
 unfolding desynchronized
 desynchronized_link groups client buffers options = refl
 
-served_fits : (world : World) (password : List ℕ) (client : Client) (id : List ℕ) (command : Command) → CommandUtf8 command → Fits client (served world password client id command)
+served_fits : (world : World) (options : OptionsValue) (client : Client) (id : List ℕ) (command : Command) → CommandUtf8 command → Fits client (served world options client id command)
 unfolding served CommandUtf8
-served_fits world password client id (ask.Handshake pairs) utf8 = handshake_fits client id pairs
-served_fits world password client id (ask.Init pairs) utf8 = init_fits password client pairs
-served_fits world password client id (ask.Hdata path keys) utf8 = replies_fits client client _ refl
-served_fits world password client id (ask.Info name) utf8 = replies_fits client client _ refl
-served_fits world password client id (ask.Infolist name) utf8 = replies_fits client client _ refl
-served_fits world password client id (ask.Nicklist buffer) utf8 = replies_fits client client _ refl
-served_fits world password client id (ask.Input buffer text) utf8 = input_fits world.groups client buffer text utf8.1
-served_fits world password client id (ask.Completion buffer position text) utf8 = replies_fits client client _ refl
-served_fits world password client id (ask.Sync buffers options) utf8 = silent_fits client (synchronized world.groups client buffers options) (synchronized_link world.groups client buffers options)
-served_fits world password client id (ask.Desync buffers options) utf8 = silent_fits client (desynchronized world.groups client buffers options) (desynchronized_link world.groups client buffers options)
-served_fits world password client id ask.Test utf8 = replies_fits client client _ refl
-served_fits world password client id (ask.Ping text) utf8 = replies_fits client client _ refl
-served_fits world password client id ask.Quit utf8 = record { link = refl; text = tt }
+served_fits world options client id (ask.Handshake pairs) utf8 = handshake_fits (masks_of options) client id pairs
+served_fits world options client id (ask.Init pairs) utf8 = init_fits (password_of options) client pairs
+served_fits world options client id (ask.Hdata path keys) utf8 = replies_fits client client _ refl
+served_fits world options client id (ask.Info name) utf8 = replies_fits client client _ refl
+served_fits world options client id (ask.Infolist name) utf8 = replies_fits client client _ refl
+served_fits world options client id (ask.Nicklist buffer) utf8 = replies_fits client client _ refl
+served_fits world options client id (ask.Input buffer text) utf8 = input_fits world.groups client buffer text utf8.1
+served_fits world options client id (ask.Completion buffer position text) utf8 = replies_fits client client _ refl
+served_fits world options client id (ask.Sync buffers asked) utf8 = silent_fits client (synchronized world.groups client buffers asked) (synchronized_link world.groups client buffers asked)
+served_fits world options client id (ask.Desync buffers asked) utf8 = silent_fits client (desynchronized world.groups client buffers asked) (desynchronized_link world.groups client buffers asked)
+served_fits world options client id ask.Test utf8 = replies_fits client client _ refl
+served_fits world options client id (ask.Ping text) utf8 = replies_fits client client _ refl
+served_fits world options client id ask.Quit utf8 = record { link = refl; text = tt }
 
-pub reply_fits : (world : World) (password : List ℕ) (client : Client) (request : Request) → RequestIsUtf8 request → Fits client (reply_of world password client request)
+pub reply_fits : (world : World) (options : OptionsValue) (client : Client) (request : Request) → RequestIsUtf8 request → Fits client (reply_of world options client request)
 unfolding reply_of
-reply_fits world password client request utf8 =
-    if_fits client (client.logged_in || is_open request.command) (served world password client request.id request.command) (leaves client cause.LoginFailed)
-    (served_fits world password client request.id request.command utf8.command) (record { link = refl; text = tt })
+reply_fits world options client request utf8 =
+    if_fits client (client.logged_in || is_open request.command) (served world options client request.id request.command) (leaves client cause.LoginFailed)
+    (served_fits world options client request.id request.command utf8.command) (record { link = refl; text = tt })

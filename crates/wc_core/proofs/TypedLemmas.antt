@@ -18,7 +18,7 @@ use Rattle.wc_text.specs.Integer.{is_numeral}
 use Rattle.wc_text.specs.Words.{is_filled}
 use Rattle.wc_model.specs.declared.change.What.TheVariants as what
 use Rattle.wc_core.specs.Texts.{WhatUtf8}
-use Rattle.wc_core.specs.Typed.{TypedCommand, Nothing, Quits, Refused, Prints, Adds, Closes, Merges, Names, Changes, no_text_here, wrong_arguments, unknown_command, print_unless_empty, print_words, tags_of, is_first, second_of, after_second, print_tagged, print_on, print_command, wrong_buffer, one_word, without_words, some_text, moves_to, close_command, starts, set_property, buffer_word, buffer_command, quit_command, command, slash_command, typed_line, lines_parted, lines_of_text}
+use Rattle.wc_core.specs.Typed.{TypedCommand, Nothing, Quits, Refused, Prints, Adds, Closes, Merges, Names, Changes, Sets, Unsets, no_text_here, wrong_arguments, unknown_command, print_unless_empty, print_words, tags_of, is_first, second_of, after_second, print_tagged, print_on, print_command, wrong_buffer, one_word, without_words, some_text, moves_to, close_command, starts, set_property, buffer_word, buffer_command, quit_command, set_option, set_command, unset_command, option_command, command, slash_command, typed_line, lines_parted, lines_of_text}
 use Rattle.wc_core.specs.TypedSeen.{lines_left, LeftUtf8}
 
 -- whether each byte is ASCII
@@ -50,6 +50,8 @@ TypedUtf8 (Closes buffer) = Unit {0}
 TypedUtf8 (Merges buffer) = Unit {0}
 TypedUtf8 (Names name) = IsUtf8 name
 TypedUtf8 (Changes w) = WhatUtf8 w
+TypedUtf8 (Sets name value) = IsUtf8 name × IsUtf8 value
+TypedUtf8 (Unsets name) = IsUtf8 name
 
 typed_if : (b : Bool) (x y : TypedCommand) → TypedUtf8 x → TypedUtf8 y → TypedUtf8 (cond b x y)
 typed_if true x y p q = p
@@ -180,11 +182,30 @@ quit_text : (text : List ℕ) → TypedUtf8 (quit_command text)
 quit_text [] = tt
 quit_text (b ∷ text) = wrong_text (codes "quit") (ascii_text (codes "quit") refl)
 
+option_text : (name value : List ℕ) → IsUtf8 name → IsUtf8 value → TypedUtf8 (set_option name value)
+option_text name [] n v = wrong_text (codes "set") (ascii_text (codes "set") refl)
+option_text name (b ∷ value) n v = (n, v)
+
+sets_text : (text : List ℕ) → IsUtf8 text → TypedUtf8 (set_command text)
+sets_text text utf8 = let parts = word_text text utf8 in option_text (word_of text) (rest_of text) parts.0 parts.1
+
+unsets_text : (text : List ℕ) → IsUtf8 text → TypedUtf8 (unset_command text)
+unsets_text [] utf8 = wrong_text (codes "unset") (ascii_text (codes "unset") refl)
+unsets_text (b ∷ text) utf8 =
+    let wrong = wrong_text (codes "unset") (ascii_text (codes "unset") refl) in
+    typed_if (nat_lt 0 (length (rest_of (b ∷ text)))) (wrong_arguments (codes "unset")) (Unsets (word_of (b ∷ text))) wrong (word_text (b ∷ text) utf8).0
+
+options_text : (name text : List ℕ) → IsUtf8 name → IsUtf8 text → TypedUtf8 (option_command name text)
+unfolding option_command
+options_text name text n t =
+    typed_if (bytes_eq name (codes "set")) _ _ (sets_text text t)
+    (typed_if (bytes_eq name (codes "unset")) _ _ (unsets_text text t) (unknown_text name n))
+
 command_text : (name text : List ℕ) → IsUtf8 name → IsUtf8 text → TypedUtf8 (command name text)
 command_text name text n t =
     typed_if (bytes_eq name (codes "print")) _ _ (print_text text t)
     (typed_if (bytes_eq name (codes "buffer")) _ _ (buffer_text text t)
-    (typed_if (bytes_eq name (codes "quit")) _ _ (quit_text text) (unknown_text name n)))
+    (typed_if (bytes_eq name (codes "quit")) _ _ (quit_text text) (options_text name text n t)))
 
 slashed_text : (text : List ℕ) → IsUtf8 text → TypedUtf8 (slash_command text)
 slashed_text [] utf8 = command_text [] [] IsUtf8-nil IsUtf8-nil

@@ -1,10 +1,11 @@
 -- What contracts see of the core.
 use Rattle.std.specs.Prelude.{◌≡◌, ℕ, Bool, List, []}
+use Rattle.wc_options.specs.Options.{OptionsValue}
 use Rattle.wc_model.specs.World.{World, rows_at}
 use Rattle.wc_core.specs.declared.connection.Connection.{Connection}
 
 pub record CoreView : Type 0 where
-  pub password : List ℕ
+  pub options : OptionsValue
   pub world : World
   -- the clients that are open and those that are leaving, in the order in which they came
   pub connections : List Connection

@@ -1,5 +1,6 @@
 pub mod Events
 pub mod Inputs
+pub mod Limits
 pub mod Pushes
 pub mod Resolved
 pub mod ResolvedSeen

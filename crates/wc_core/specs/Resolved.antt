@@ -19,9 +19,11 @@ use Rattle.wc_model.specs.declared.refused.ChangeRefused.{ChangeRefused}
 use Rattle.wc_model.specs.declared.refused.ChangeRefused.TheVariants as refused
 use Rattle.wc_model.specs.Levels.{highlight_of, notify_of}
 use Rattle.wc_model.specs.World.{World}
+use Rattle.wc_options.specs.declared.refusal.SetRefused.{SetRefused}
+use Rattle.wc_options.specs.declared.refusal.SetRefused.TheVariants as option
 use Rattle.wc_session.specs.Names.{buffer_named}
 use Rattle.wc_core.specs.Typed.{TypedCommand, Nothing, Quits, Refused, Prints, Adds, Closes, Merges}
-use Rattle.wc_core.specs.Typed.{Names, Changes}
+use Rattle.wc_core.specs.Typed.{Names, Changes, Sets, Unsets}
 
 pub data Effect : Type 0 where
   Stays : Effect
@@ -30,6 +32,9 @@ pub data Effect : Type 0 where
   -- a refusal is told
   Tells : List ℕ → Effect
   Asks : Change → Effect
+  -- an option is to get a value, or its default
+  SetsOption : List ℕ → List ℕ → Effect
+  UnsetsOption : List ℕ → Effect
 
 -- ---- buffers that a command names
 
@@ -117,6 +122,8 @@ effect_of world moment buffer (Merges name) =
 effect_of world moment buffer (Names name) =
     Asks (change_of buffer (rename_of world.groups buffer name))
 effect_of world moment buffer (Changes w) = Asks (change_of buffer w)
+effect_of world moment buffer (Sets name value) = SetsOption name value
+effect_of world moment buffer (Unsets name) = UnsetsOption name
 
 -- ---- the texts of refusals
 
@@ -141,6 +148,13 @@ refusal_text (refused.NoLine h) = []
 refusal_text (refused.TooManyRows limit) = []
 refusal_text refused.Spent = codes "no handle left"
 refusal_text refused.NoMemory = []
+
+-- why an option does not get a value; want of memory is told by no line
+abbrev pub option_text : List ℕ → SetRefused → List ℕ
+option_text name option.UnknownOption = codes "option: unknown: " ++ name
+option_text name (option.BadValue range) = codes "option: bad value, range " ++ range
+option_text name (option.TooManyServers limit) = codes "option: too many servers"
+option_text name option.NoMemory = []
 
 -- the change that tells a refusal: a line of the core buffer
 abbrev pub told_refusal : ℕ → List ℕ → Change

@@ -9,6 +9,7 @@ use Rattle.wc_outside.specs.Keyed.{at_key, put_at}
 use Rattle.wc_model.specs.declared.notice.EventKind.{EventKind}
 use Rattle.wc_model.specs.declared.notice.Notice.{Notice}
 use Rattle.wc_model.specs.World.{World}
+use Rattle.wc_options.specs.Options.{OptionsValue}
 use Rattle.wc_objects.specs.declared.object.WireMessage.{WireMessage}
 use Rattle.std.specs.Str.{IsUtf8}
 use Rattle.wc_session.specs.declared.outcome.Outcome.{Outcome}
@@ -42,7 +43,7 @@ clients_of (connection ∷ connections) = if is_open connection
 -- No change that is typed has nicks, so the rows that were last pushed are the rows.
 abbrev pub state_of : CoreView → State
 state_of core = record {
-  password = core.password;
+  options = core.options;
   clients = clients_of core.connections;
   world = core.world;
   told = core.world.nicks;
@@ -96,8 +97,11 @@ left_at link cause connections (Some connection) = left_if (is_open connection) 
     connections connection
 
 -- the connection of a client that came
-abbrev pub new_connection : LinkId → List ℕ → Connection
-new_connection link nonce = record { session = new_session link nonce; leaving = None }
+abbrev pub new_connection : OptionsValue → LinkId → List ℕ → Connection
+new_connection options link nonce = record {
+  session = new_session options link nonce;
+  leaving = None;
+}
 
 -- the first client that is leaving
 abbrev pub departure_by : LinkId → Option Cause → Option Departure → Option Departure

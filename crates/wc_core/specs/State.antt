@@ -3,14 +3,15 @@ use Rattle.std.specs.Prelude.{ℕ, List, [], unwrap_or}
 use Rattle.std.specs.FinMap.{FinMap, get}
 use Rattle.std.specs.Ordering.{nat_cmp}
 use Rattle.wc_text.specs.declared.names.Cause.{Cause}
+use Rattle.wc_options.specs.Options.{OptionsValue}
 use Rattle.wc_nicklist.specs.declared.item.Row.{Row}
 use Rattle.wc_model.specs.World.{World, first_world}
 use Rattle.wc_objects.specs.declared.object.WireMessage.{WireMessage}
 use Rattle.wc_session.specs.declared.client.Client.{Client}
 
 pub record State : Type 0 where
-  -- the password that is set
-  pub password : List ℕ
+  -- the options and their values
+  pub options : OptionsValue
   -- the clients that are open, in the order in which they came
   pub clients : List Client
   -- the buffers, with their lines and nicklists
@@ -32,10 +33,10 @@ pub record Stepped : Type 0 where
   pub state : State
   pub acts : List Act
 
--- no client, and the core buffer alone
-abbrev pub first_state : List ℕ → ℕ → State
-first_state password limit = record {
-  password = password;
+-- no client, and the core buffer alone, whose lines are bounded
+abbrev pub first_state : OptionsValue → ℕ → State
+first_state options limit = record {
+  options = options;
   clients = [];
   world = first_world limit;
   told = (first_world limit).nicks;

@@ -21,6 +21,9 @@ use Rattle.wc_model.specs.Apply.{refusal, after}
 use Rattle.wc_model.specs.Notices.{notice}
 use Rattle.wc_model.specs.Touches.{told_after}
 use Rattle.wc_objects.specs.declared.object.WireMessage.{WireMessage}
+use Rattle.wc_options.specs.Options.{refusal_of, value_of, with_value, without_value}
+use Rattle.wc_options.specs.declared.refusal.SetRefused.{SetRefused}
+use Rattle.wc_options.specs.declared.refusal.SetRefused.TheVariants.{UnknownOption}
 use Rattle.wc_relaycmd.specs.Answers.{request_of}
 use Rattle.wc_relaycmd.specs.declared.request.Command.{Command}
 use Rattle.wc_relaycmd.specs.declared.request.Command.TheVariants as ask
@@ -34,17 +37,14 @@ use Rattle.wc_session.specs.Reply.{Answer, reply_of}
 use Rattle.wc_session.specs.Sync.{after_event}
 use Rattle.wc_core.specs.Events.{Event, Start, Tick, Arrives, Line as LineCame, Ends, Fails}
 use Rattle.wc_core.specs.Events.{ListenFails}
-use Rattle.wc_core.specs.Resolved.{Effect, Stays, Ends as ResolvedEnds, Tells, Asks, effect_of}
-use Rattle.wc_core.specs.Resolved.{refusal_text, told_refusal}
+use Rattle.wc_core.specs.Limits.{client_limit}
+use Rattle.wc_core.specs.Resolved.{Effect, Stays, Ends as ResolvedEnds, Tells, Asks, SetsOption}
+use Rattle.wc_core.specs.Resolved.{UnsetsOption, effect_of, refusal_text, option_text, told_refusal}
 use Rattle.wc_core.specs.State.{State, Act, Sends, Closes, Quits, Stepped, told_at}
 use Rattle.wc_core.specs.Typed.{TypedCommand, Quits as TypedQuits, typed_line, lines_of_text}
 
 abbrev pub client_link : Client → ℕ
 client_link client = client.link.0
-
--- how many clients are open at most
-abbrev pub client_limit : ℕ
-client_limit = 5
 
 abbrev pub no_step : State → Stepped
 no_step state = record { state = state; acts = [] }
@@ -121,6 +121,28 @@ push_step state = record {
   acts = flat_map (pushes_of state) (order state.world.groups);
 }
 
+-- ---- options
+
+-- an option gets a value, or why it does not is told
+abbrev pub set_step_if : State → List ℕ → List ℕ → Option SetRefused → Stepped
+set_step_if state name value None = no_step (record state {
+  options = with_value state.options name value;
+})
+set_step_if state name value (Some reason) = refusal_step state (option_text name reason)
+
+abbrev pub set_step : State → List ℕ → List ℕ → Stepped
+set_step state name value = set_step_if state name value (refusal_of state.options name value)
+
+-- an option gets its default, where there is such an option
+abbrev pub unset_step_if : State → List ℕ → Option (List ℕ) → Stepped
+unset_step_if state name None = refusal_step state (option_text name UnknownOption)
+unset_step_if state name (Some value) = no_step (record state {
+  options = without_value state.options name;
+})
+
+abbrev pub unset_step : State → List ℕ → Stepped
+unset_step state name = unset_step_if state name (value_of state.options name)
+
 -- ---- what is typed
 
 abbrev pub effect_step : State → Effect → Stepped
@@ -128,6 +150,8 @@ effect_step state Stays = no_step state
 effect_step state ResolvedEnds = record { state = state; acts = Quits ∷ [] }
 effect_step state (Tells text) = refusal_step state text
 effect_step state (Asks change) = ask_step state change
+effect_step state (SetsOption name value) = set_step state name value
+effect_step state (UnsetsOption name) = unset_step state name
 
 -- one line that is typed into a buffer
 abbrev pub typed_step : State → Handle → TypedCommand → Stepped
@@ -181,7 +205,7 @@ is_nicklist _ = false
 
 abbrev pub reply_step : State → Client → Request → Stepped
 reply_step state client request = answer_step state (client_link client)
-    (reply_of state.world state.password client request)
+    (reply_of state.world state.options client request)
 
 -- a line of a client, where it is open and its line is a request; what is to be pushed comes before
 -- a nicklist
@@ -202,9 +226,9 @@ loss_step state link cause (Some client) = leave_step state link cause
 
 abbrev pub arrival_step : State → ℕ → List ℕ → Stepped
 arrival_step state link nonce =
-    if nat_lt (length state.clients) client_limit
+    if nat_lt (length state.clients) (client_limit state.options)
     then no_step (record state {
-      clients = state.clients ++ new_client (record { 0 = link })
+      clients = state.clients ++ new_client state.options (record { 0 = link })
           nonce ∷ [];
     })
     else record { state = state; acts = Closes link Surplus ∷ [] }

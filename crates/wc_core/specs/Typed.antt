@@ -28,6 +28,9 @@ pub data TypedCommand : Type 0 where
   Names : List ℕ → TypedCommand
   -- another change of the buffer
   Changes : What → TypedCommand
+  -- the option that is named gets this value, or its default
+  Sets : List ℕ → List ℕ → TypedCommand
+  Unsets : List ℕ → TypedCommand
 
 -- the lines of a text, which LFs part, where `line` is before the text
 abbrev pub lines_parted : List ℕ → List ℕ → List (List ℕ)
@@ -158,6 +161,27 @@ buffer_word word text =
 abbrev pub buffer_command : List ℕ → TypedCommand
 buffer_command text = buffer_word (word_of text) (rest_of text)
 
+-- ---- options
+
+-- a name, and a value up to the end that is not empty
+abbrev pub set_option : List ℕ → List ℕ → TypedCommand
+set_option name [] = wrong_arguments (codes "set")
+set_option name (b ∷ value) = Sets name (b ∷ value)
+
+abbrev pub set_command : List ℕ → TypedCommand
+set_command text = set_option (word_of text) (rest_of text)
+
+-- a name, and nothing after it
+abbrev pub unset_command : List ℕ → TypedCommand
+unset_command [] = wrong_arguments (codes "unset")
+unset_command (b ∷ text) = if nat_lt 0 (length (rest_of (b ∷ text)))
+    then wrong_arguments (codes "unset") else Unsets (word_of (b ∷ text))
+
+unfoldable pub option_command : List ℕ → List ℕ → TypedCommand
+option_command name rest =
+    if bytes_eq name (codes "set") then set_command rest else (
+    if bytes_eq name (codes "unset") then unset_command rest else unknown_command name)
+
 -- ---- commands
 
 -- `/quit` has no words after it
@@ -169,7 +193,7 @@ abbrev pub command : List ℕ → List ℕ → TypedCommand
 command name rest =
     if bytes_eq name (codes "print") then print_command rest else (
     if bytes_eq name (codes "buffer") then buffer_command rest else (
-    if bytes_eq name (codes "quit") then quit_command rest else unknown_command name))
+    if bytes_eq name (codes "quit") then quit_command rest else option_command name rest))
 
 -- what one line asks for after a `/`
 abbrev pub slash_command : List ℕ → TypedCommand

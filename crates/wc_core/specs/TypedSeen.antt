@@ -14,7 +14,7 @@ use Rattle.wc_core.specs.declared.typed_buffer.Property.TheVariants as propertie
 use Rattle.wc_core.specs.declared.typed.CommandText.{CommandText}
 use Rattle.wc_core.specs.declared.typed.CommandText.TheVariants as asked
 use Rattle.wc_core.specs.Typed.{TypedCommand, Nothing, Quits, Refused, Prints, Adds, Closes, Merges}
-use Rattle.wc_core.specs.Typed.{Names, Changes, lines_of_text, tags_of, wrong_buffer, some_text}
+use Rattle.wc_core.specs.Typed.{Names, Changes, Sets, Unsets, lines_of_text, tags_of, wrong_buffer, some_text}
 use Rattle.wc_core.specs.Typed.{without_words, starts}
 
 -- a word that was found
@@ -42,6 +42,8 @@ meaning (asked.Title title) = Changes (what.Title title.now)
 meaning (asked.SetVar name value) =
     Changes (what.SetVar (record { name = name.now; value = value.now }))
 meaning (asked.RemoveVar name) = Changes (what.RemoveVar name.now)
+meaning (asked.SetOption name value) = Sets name.now value.now
+meaning (asked.UnsetOption name) = Unsets name.now
 
 -- ---- the words of `/buffer`
 

@@ -1,4 +1,4 @@
-ghost use Rattle.std.specs.Prelude.{◌≡◌, ◌==◌, true, false, length, filter, map, position};
+ghost use Rattle.std.specs.Prelude.{◌≡◌, ◌==◌, nat_le, true, false, length, filter, map, position};
 ghost use Rattle.std.specs.List.{list_any};
 ghost use Rattle.std.specs.Str.{IsUtf8};
 ghost use Rattle.wc_outside.specs.Keyed.{PlaceOf, without};
@@ -144,6 +144,14 @@ pub fn tell_notice(
         return false;
     };
     tell_all(connections, &event)
+}
+
+/// Whether as many clients are open as may be.
+pub fn is_full(connections: &[Connection], most: u32) -> bool
+    ensures { result ≡ nat_le most (length (filter (λ connection. is_open connection)
+        connections.now)) }
+{
+    open_count(connections) >= most as usize
 }
 
 /// How many clients are open.

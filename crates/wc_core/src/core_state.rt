@@ -11,6 +11,7 @@ ghost use Rattle.wc_relaycmd.specs.Utf8.{RequestIsUtf8};
 ghost use Rattle.wc_session.specs.Served.{OnServed, OnNoMemory};
 ghost use Rattle.wc_core.specs.Events.{Start, Tick, Arrives, Line as LineCame};
 ghost use Rattle.wc_core.specs.Typed.{typed_line, lines_of_text};
+ghost use Rattle.wc_core.specs.Limits.{most_lines};
 ghost use Rattle.wc_core.specs.State.{first_state};
 ghost use Rattle.wc_core.specs.Step.{step, no_step, push_step, change_step, refusal_step, ask_step};
 ghost use Rattle.wc_core.specs.Step.{typed_step, is_quit, lines_step, leave_step, loss_step};
@@ -22,7 +23,8 @@ ghost use Rattle.wc_core.specs.Served.{FollowsUnlessStarved, AdmitsUnlessStarved
 ghost use Rattle.wc_core.specs.Served.{OutcomeUtf8};
 ghost use Rattle.wc_core.specs.Inputs.{MakesChange, MayTell, GoesOn, Stops};
 
-use crate::connection::{Connection, connection_place, open_count, tell_notice};
+use crate::connection::{Connection, connection_place, is_full, tell_notice};
+use crate::limits::{client_limit, most_lines};
 use crate::nick_change::change_world;
 use crate::pushes::{forget_nicks, push_nicks};
 use crate::refusals::refusal_text;
@@ -32,20 +34,18 @@ use std::alloc::Global;
 use std::marker::Model;
 use wc_model::{Change, ChangeRefused, Notice};
 use wc_nickdiff::Pending;
+use wc_options::Options;
 use wc_relaycmd::{Command, Request, read_request};
 use wc_session::{Outcome, Session};
 use wc_text::{Arrival, Cause, Handle, LinkId, NoMemory, Text, split_once};
 use wc_world::World;
 
-/// How many clients are open at most.
-const CLIENT_LIMIT: usize = 5;
-
 /// The engine between the loop and the sessions: the clients, and the buffers with their lines and
 /// nicklists.
 #[derive(Drop)]
 pub struct Core {
-    alloc: Global,
-    password: Text,
+    pub(crate) alloc: Global,
+    pub(crate) options: Options,
     pub(crate) world: World,
     pending: Pending,
     pub(crate) connections: Vec<Connection>,
@@ -65,7 +65,7 @@ impl Model for Core {
     ghost coded = { Prim.hlevel (codes, map.code) };
 
     ghost view = { λ core. record {
-      password = core.password;
+      options = core.options;
       world = core.world;
       connections = core.connections.items;
       moment = core.moment;
@@ -77,20 +77,19 @@ impl Model for Core {
 }
 
 impl Core {
-    /// A core without clients and with the core buffer alone, for clients that log in by this
-    /// password. A buffer holds at most so many lines.
-    pub fn new(alloc: Global, password: Text, limit: u32) -> Result<Core, NoMemory>
-        requires some { 1 ≤ limit }
-        requires most { limit ≤ 4096 }
-        ensures state { IfOk result (λ core. state_of core ≡ first_state password limit) }
+    /// A core without clients and with the core buffer alone, where these are the options. They
+    /// say how many lines a buffer holds at most.
+    pub fn new(alloc: Global, options: Options) -> Result<Core, NoMemory>
+        ensures state { IfOk result (λ core.
+            state_of core ≡ first_state options (most_lines options)) }
         ensures fresh { IfOk result (λ core. (core.connections ≡ []) × (core.starved ≡ 0)
             × (core.quits ≡ false)) }
     {
-        let world = World::new(alloc, limit)?;
+        let world = World::new(alloc, most_lines(&options))?;
         let pending = Pending::new(alloc)?;
         Ok(Core {
             alloc,
-            password,
+            options,
             world,
             pending,
             connections: Vec::new(alloc),
@@ -139,7 +138,7 @@ impl Core {
     }
 
     /// Counts want of memory.
-    fn starve(&mut self)
+    pub(crate) fn starve(&mut self)
         ensures counts { self.new
             ≡ record self.old { starved = min (self.old.starved + 1) (2 ^ 64 - 1) } }
         ensures rises { self.old.starved ≤ self.new.starved }
@@ -157,7 +156,7 @@ impl Core {
         ensures admitted { result ≡ None →
             self.new ≡ record self.old {
               connections = self.old.connections
-                  ++ new_connection arrival.link arrival.nonce ∷ [];
+                  ++ new_connection self.old.options arrival.link arrival.nonce ∷ [];
             } }
         ensures refused { IfSome result
             (λ cause. self.new ≡ record self.old { starved = self.new.starved }) }
@@ -165,10 +164,11 @@ impl Core {
             ⊎ (cause ≡ Cause.NoMemory)) }
         ensures rises { self.old.starved ≤ self.new.starved }
     {
-        if open_count(&self.connections) >= CLIENT_LIMIT {
+        if is_full(&self.connections, client_limit(&self.options)) {
             return Some(Cause::Surplus);
         }
-        let Ok(session) = Session::new(self.alloc, arrival.link, arrival.nonce) else {
+        let Ok(session) = Session::new(self.alloc, arrival.link, arrival.nonce, &self.options)
+        else {
             self.starve();
             return Some(Cause::NoMemory);
         };
@@ -228,7 +228,7 @@ impl Core {
         self.push_before(place, &request);
         let outcome = self.connections[place]
             .session
-            .request(self.alloc, &self.world, &self.password, request);
+            .request(self.alloc, &self.world, &self.options, request);
         self.follow(link, outcome);
     }
 
@@ -340,6 +340,14 @@ impl Core {
                 self.ask_change(change);
                 false
             }
+            Ok(Resolution::SetsOption(pair)) => {
+                self.set_option(&pair);
+                false
+            }
+            Ok(Resolution::UnsetsOption(name)) => {
+                self.unset_option(&name);
+                false
+            }
             Err(NoMemory) => {
                 self.starve();
                 false
@@ -362,7 +370,7 @@ impl Core {
     }
 
     /// Tells a refusal by a line of the core buffer, where there are handles for it.
-    fn tell_refusal(&mut self, text: Text)
+    pub(crate) fn tell_refusal(&mut self, text: Text)
         requires { IsUtf8 text }
         ensures { FollowsUnlessStarved self.old self.new (refusal_step (state_of self.old) text) }
     {

@@ -3,7 +3,9 @@
 
 mod connection;
 mod core_links;
+mod core_options;
 mod core_state;
+mod limits;
 mod nick_change;
 mod pushes;
 mod refusals;
@@ -13,3 +15,4 @@ mod typed_buffer;
 
 pub use connection::{Connection, Departure};
 pub use core_state::Core;
+pub use limits::port_of;

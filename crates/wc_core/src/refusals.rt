@@ -1,10 +1,11 @@
 ghost use Rattle.std.specs.Prelude.{◌≡◌, ◌++◌, IfOk, codes};
-ghost use Rattle.wc_core.specs.Resolved.{buffer_text, refusal_text};
+ghost use Rattle.wc_core.specs.Resolved.{buffer_text, option_text, refusal_text};
 ghost use Rattle.wc_core.specs.ResolvedSeen.{name_in_refusal};
 
 use std::alloc::Global;
 use wc_buffers::BufferRefused;
 use wc_model::ChangeRefused;
+use wc_options::SetRefused;
 use wc_text::{NoMemory, Text};
 
 /// A text that is two.
@@ -52,6 +53,26 @@ fn buffer_text(alloc: Global, refused: &BufferRefused) -> Result<Text, NoMemory>
     let mut text = joined_texts(alloc, b"buffer: ", reason(refused))?;
     text.append(name_meant(refused))?;
     Ok(text)
+}
+
+/// The text that tells why an option with this name does not get a value.
+pub(crate) fn option_text(
+    alloc: Global,
+    name: &[u8],
+    refused: &SetRefused,
+) -> Result<Text, NoMemory>
+    ensures { IfOk result (λ text. text ≡ option_text name.now refused.now) }
+{
+    match refused {
+        SetRefused::UnknownOption => joined_texts(alloc, b"option: unknown: ", name),
+        SetRefused::BadValue { range } => {
+            joined_texts(alloc, b"option: bad value, range ", range.as_slice())
+        }
+        SetRefused::TooManyServers { limit: _ } => {
+            Text::from_slice(alloc, b"option: too many servers")
+        }
+        SetRefused::NoMemory => Ok(Text::new(alloc)),
+    }
 }
 
 /// The text that tells why a change was refused.

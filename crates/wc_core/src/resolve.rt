@@ -1,5 +1,6 @@
 ghost use Rattle.std.specs.Option.{option_copied};
 ghost use Rattle.std.specs.Prelude.{◌≡◌, IfOk, IfErr, false, ◌++◌, [], ℕ, ◌^◌, ◌-◌, min};
+ghost use Rattle.wc_core.specs.Resolved.{SetsOption, UnsetsOption};
 ghost use Rattle.wc_core.specs.Resolved.{Asks, Tells, no_such_buffer, change_of, buffer_meant};
 ghost use Rattle.wc_core.specs.Resolved.{of_meant, of_named, effect_of, line_spec, core_spec};
 ghost use Rattle.wc_core.specs.Resolved.{plugin_in, rename_of, told_refusal, first_of_number};
@@ -32,6 +33,10 @@ pub(crate) enum Resolution {
     /// A refusal is to be told.
     Tells(Text),
     Asks(Change),
+    /// An option is to get a value.
+    SetsOption(Pair),
+    /// An option is to get its default.
+    UnsetsOption(Text),
 }
 
 fn asks(buffer: Handle, what: What) -> Resolution
@@ -123,6 +128,21 @@ fn remove_var(alloc: Global, buffer: Handle, name: &[u8]) -> Result<Resolution, 
     Ok(asks(buffer, What::RemoveVar(name)))
 }
 
+fn set_option(alloc: Global, name: &[u8], value: &[u8]) -> Result<Resolution, NoMemory>
+    ensures { IfOk result (λ r. outcome_of r ≡ SetsOption name.now value.now) }
+{
+    let name = Text::from_slice(alloc, name)?;
+    let value = Text::from_slice(alloc, value)?;
+    Ok(Resolution::SetsOption(Pair { name, value }))
+}
+
+fn unset_option(alloc: Global, name: &[u8]) -> Result<Resolution, NoMemory>
+    ensures { IfOk result (λ r. outcome_of r ≡ UnsetsOption name.now) }
+{
+    let name = Text::from_slice(alloc, name)?;
+    Ok(Resolution::UnsetsOption(name))
+}
+
 /// What a line that was typed into a buffer at this moment, in milliseconds since 1970, comes to.
 #[tactic(auto, unfolding(crate::specs::Resolved::effect_of))]
 pub(crate) fn resolve(
@@ -169,6 +189,8 @@ pub(crate) fn resolve(
         CommandText::Title(title) => set_title(alloc, buffer, title),
         CommandText::SetVar { name, value } => set_var(alloc, buffer, name, value),
         CommandText::RemoveVar(name) => remove_var(alloc, buffer, name),
+        CommandText::SetOption { name, value } => set_option(alloc, name, value),
+        CommandText::UnsetOption(name) => unset_option(alloc, name),
     }
 }
 

@@ -1,11 +1,12 @@
 ghost use Rattle.std.specs.Prelude.{◌≡◌, Some, ◌++◌, ◌∷◌, [], IfOk, OnOk, filter};
 ghost use Rattle.wc_core.specs.Typed.{no_text_here, unknown_command, wrong_arguments, quit_command};
 ghost use Rattle.wc_core.specs.Typed.{command, slash_command, typed_line, print_words};
+ghost use Rattle.wc_core.specs.Typed.{set_option, set_command, unset_command, option_command};
 ghost use Rattle.wc_core.specs.Typed.{print_tagged, print_on, print_command, tags_of};
 ghost use Rattle.wc_core.specs.TypedSeen.{meaning, word_in, number_of};
 ghost use Rattle.wc_text.specs.Words.{is_filled};
 
-use crate::typed_buffer::buffer_command;
+use crate::typed_buffer::{buffer_command, only_word};
 use std::alloc::Global;
 use wc_text::{Items, NoMemory, Text, cut_word, split_once};
 
@@ -52,6 +53,13 @@ pub enum CommandText<'a> {
         value: &'a [u8],
     },
     RemoveVar(&'a [u8]),
+    /// Another value of an option.
+    SetOption {
+        name: &'a [u8],
+        value: &'a [u8],
+    },
+    /// The default of an option.
+    UnsetOption(&'a [u8]),
 }
 
 fn no_text_here<'a>() -> CommandText<'a>
@@ -88,6 +96,48 @@ fn quit_command(text: &[u8]) -> CommandText<'_>
     }
 }
 
+/// The option of a name gets a value, which is not empty.
+fn set_option<'a>(name: &'a [u8], value: &'a [u8]) -> CommandText<'a>
+    ensures { meaning result ≡ set_option name.now value.now }
+{
+    if value.is_empty() {
+        return wrong_arguments(b"set");
+    }
+    CommandText::SetOption { name, value }
+}
+
+/// The option whose name is the first word gets what comes after it as its value.
+fn set_command(text: &[u8]) -> CommandText<'_>
+    ensures { meaning result ≡ set_command text.now }
+{
+    let (name, value) = cut_word(text);
+    set_option(name, value)
+}
+
+/// The option whose name is the only word gets its default.
+fn unset_command(text: &[u8]) -> CommandText<'_>
+    ensures { meaning result ≡ unset_command text.now }
+{
+    match only_word(text) {
+        Some(name) => CommandText::UnsetOption(name),
+        None => wrong_arguments(b"unset"),
+    }
+}
+
+/// The commands for options.
+#[tactic(auto, unfolding(crate::specs::Typed::option_command))]
+fn option_command<'a>(name: &'a [u8], text: &'a [u8]) -> CommandText<'a>
+    ensures { meaning result ≡ option_command name.now text.now }
+{
+    if name == b"set".as_slice() {
+        set_command(text)
+    } else if name == b"unset".as_slice() {
+        unset_command(text)
+    } else {
+        unknown_command(name)
+    }
+}
+
 fn command<'a>(name: &'a [u8], text: &'a [u8]) -> CommandText<'a>
     ensures { meaning result ≡ command name.now text.now }
 {
@@ -98,7 +148,7 @@ fn command<'a>(name: &'a [u8], text: &'a [u8]) -> CommandText<'a>
     } else if name == b"quit".as_slice() {
         quit_command(text)
     } else {
-        unknown_command(name)
+        option_command(name, text)
     }
 }
 

@@ -114,7 +114,7 @@ fn wrong_buffer<'a>() -> CommandText<'a>
 }
 
 /// The word of a text that has one and no more.
-fn only_word(text: &[u8]) -> Option<&[u8]>
+pub(crate) fn only_word(text: &[u8]) -> Option<&[u8]>
     ensures { option_copied result ≡ only_word text.now }
 {
     let (word, rest) = cut_word(text);

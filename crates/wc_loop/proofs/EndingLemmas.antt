@@ -1,5 +1,5 @@
 -- How a run ends.
-use Rattle.std.proofs.Common.{◌≡◌, ◌≢◌, ◌⊎◌, inl, inr, ℕ, ◌≤◌, Bool, true, false, eqb, cond, IsTrue, List, [], ◌∷◌, Option, Some, None, Ok, Err, IfSome, IsSomeAnd, refl, sym, ◌∙◌, arith}
+use Rattle.std.proofs.Common.{◌≡◌, ◌≢◌, ◌⊎◌, inl, inr, ℕ, ◌≤◌, Bool, true, false, eqb, cond, IsTrue, List, [], ◌∷◌, Option, Some, None, Ok, Err, IfOk, IfSome, IsSomeAnd, refl, sym, subst, ◌∙◌, arith}
 use Rattle.std.proofs.lemmas.Bool.{false≢true}
 use Rattle.std.proofs.lemmas.Bool.Decides.{nat_tests}
 use Rattle.wc_outside.specs.Faults.{Rose}
@@ -10,12 +10,15 @@ use Rattle.wc_loop.specs.declared.ending.Ending.{Ending}
 use Rattle.wc_loop.specs.declared.ending.Ending.TheVariants.{Version, BadWord, WaitFailed, NoConfiguration, BadLine, NoMemory, ListenFailed, TurnsTaken, Quit as EndsQuit}
 use Rattle.wc_turns.specs.declared.turn.TurnEnd.{TurnEnd}
 use Rattle.wc_turns.specs.declared.turn.TurnEnd.TheVariants.{GoOn, Quit, WaitFault, ListenFault}
-use Rattle.wc_loop.specs.declared.configuration.Settings.{Settings}
-use Rattle.wc_loop.specs.Configuration.{settings_in}
+use Rattle.wc_outside.specs.declared.happening.Asked.{Asked}
+use Rattle.wc_options.specs.Config.{config_of}
+use Rattle.wc_options.specs.Options.{OptionsValue}
+use Rattle.wc_core.specs.Limits.{port_of}
+use Rattle.wc_loop.proofs.OptionsLemmas.{some_port}
 use Rattle.wc_turns.specs.Sources.{AllServed, AllSent}
 use Rattle.wc_turns.specs.Turns.{wake_count, listen_faults, faults_then}
 use Rattle.wc_loop.specs.Headline.{IsConfigured}
-use Rattle.wc_loop.specs.Endings.{kept_of, LastOf, WaitsAtMost, HasQuit, EndsAt, IsEarly, IsLastState, Runs}
+use Rattle.wc_loop.specs.Endings.{IsPort, kept_of, LastOf, WaitsAtMost, HasQuit, EndsAt, IsEarly, IsLastState, Runs}
 use Rattle.wc_loop.proofs.HeadlineLemmas.{IfSome-last}
 
 kept_of-some : (h : Headless) → 1 ≤ h.turns → kept_of h ≡ Some h
@@ -23,15 +26,25 @@ kept_of-some h above = let e : eqb h.turns 0 ≡ false = grind (arith, nat_tests
 
 -- a configuration that is readable
 abbrev pub IsReadable : List ℕ → Type 0
-IsReadable kept = (settings : Settings) × (settings_in kept ≡ Ok settings)
+IsReadable kept = (options : OptionsValue) × (config_of kept ≡ Ok options)
 
-readable : (contents : Option (List ℕ)) (P : Type 0) → IfSome contents IsReadable → IfSome contents (λ kept. (n : ℕ) → settings_in kept ≡ Err n → P)
+readable : (contents : Option (List ℕ)) (P : Type 0) → IfSome contents IsReadable → IfSome contents (λ kept. (n : ℕ) → config_of kept ≡ Err n → P)
 readable None P known = tt
 readable (Some kept) P known = λ n bad. (let e : Ok known.0 ≡ Err n = sym known.1 ∙ bad in cc)
 
-pub known-readable : (contents : Option (List ℕ)) (first : Headless) → IfSome contents (IsConfigured first) → IfSome contents IsReadable
-known-readable None first known = tt
-known-readable (Some kept) first known = (known.settings, known.set)
+pub known-readable : (contents : Option (List ℕ)) (first : Headless) (port : ℕ) → IfSome contents (IsConfigured first port) → IfSome contents IsReadable
+known-readable None first port known = tt
+known-readable (Some kept) first port known = (known.options, known.set)
+
+pub known-port : (contents : Option (List ℕ)) (first : Headless) (port : ℕ) → IfSome contents (IsConfigured first port) → IsPort contents port
+known-port None first port known = tt
+known-port (Some kept) first port known = subst (λ r. IfOk r (λ options. port ≡ port_of options)) (sym known.set) known.port_set
+
+-- the listener was asked for at the port that is set
+pub record Listened (contents : Option (List ℕ)) (asked : List Asked) : Type 0 where
+  pub port : ℕ
+  pub set : IsPort contents port
+  pub is : asked ≡ Listen port ∷ []
 
 not_early : (status : ℕ) → status ≢ 3 → status ≢ 4 → status ≢ 5 → (status ≡ 3) ⊎ ((status ≡ 4) ⊎ (status ≡ 5)) → ⊥
 not_early status a b c (inl q) = a q
@@ -59,7 +72,7 @@ pub record After (turns : ℕ) (contents : Option (List ℕ)) (before after : Se
   pub most : h.turns ≤ turns
   pub wait_fault : then ≡ WaitFault → Rose before.faults.waits after.faults.waits
   pub listen_fault : then ≡ ListenFault → Rose before.faults.listens after.faults.listens
-  pub asked : IsTrue after.tells → after.asked ≡ Listen 9000 ∷ []
+  pub asked : IsTrue after.tells → Listened contents after.asked
   pub served : then ≡ GoOn → AllServed h.core.connections before after
   pub sent : then ≡ Quit → AllSent h.core.connections before after
   pub left : 1 ≤ h.turns → IsLastState contents before after h
@@ -109,7 +122,7 @@ Runs-following turns contents k k' before after GoOn ending h b at = rw at (reco
   served = λ q. IfSome-last (kept_of h) h _ refl (λ above. b.served refl);
   sent = λ q. absurd (omega arith);
   faults = record { wait = λ q. absurd (omega arith); keeper = λ q. absurd (omega arith); listener = λ q. absurd (omega arith) };
-  asked = b.asked;
+  asked = λ t. (let l = b.asked t in record { port = l.port; set = l.set; is = l.is });
 })
 Runs-following turns contents k k' before after Quit ending h b at = rw at (record {
   ends = record {
@@ -135,7 +148,7 @@ Runs-following turns contents k k' before after Quit ending h b at = rw at (reco
   served = λ q. absurd (omega arith);
   sent = λ q. IfSome-last (kept_of h) h _ refl (λ above. b.sent refl);
   faults = record { wait = λ q. absurd (omega arith); keeper = λ q. absurd (omega arith); listener = λ q. absurd (omega arith) };
-  asked = b.asked;
+  asked = λ t. (let l = b.asked t in record { port = l.port; set = l.set; is = l.is });
 })
 Runs-following turns contents k k' before after WaitFault ending h b at = rw at (record {
   ends = record {
@@ -161,7 +174,7 @@ Runs-following turns contents k k' before after WaitFault ending h b at = rw at 
   served = λ q. absurd (omega arith);
   sent = λ q. absurd (omega arith);
   faults = record { wait = λ q. b.wait_fault refl; keeper = λ q. absurd (omega arith); listener = λ q. absurd (omega arith) };
-  asked = b.asked;
+  asked = λ t. (let l = b.asked t in record { port = l.port; set = l.set; is = l.is });
 })
 Runs-following turns contents k k' before after ListenFault ending h b at = rw at (record {
   ends = record {
@@ -187,12 +200,12 @@ Runs-following turns contents k k' before after ListenFault ending h b at = rw a
   served = λ q. absurd (omega arith);
   sent = λ q. absurd (omega arith);
   faults = record { wait = λ q. absurd (omega arith); keeper = λ q. absurd (omega arith); listener = λ q. b.listen_fault refl };
-  asked = b.asked;
+  asked = λ t. (let l = b.asked t in record { port = l.port; set = l.set; is = l.is });
 })
 
-bad-line : (contents : Option (List ℕ)) (n : ℕ) → IfSome contents (λ kept. settings_in kept ≡ Err n) → IfSome contents (λ kept. (settings : Settings) → settings_in kept ≢ Ok settings)
+bad-line : (contents : Option (List ℕ)) (n : ℕ) → IfSome contents (λ kept. config_of kept ≡ Err n) → IfSome contents (λ kept. (options : OptionsValue) → config_of kept ≢ Ok options)
 bad-line None n bad = tt
-bad-line (Some kept) n bad = λ settings ok. (let e : Ok settings ≡ Err n = sym ok ∙ bad in cc)
+bad-line (Some kept) n bad = λ options ok. (let e : Ok options ≡ Err n = sym ok ∙ bad in cc)
 
 always : (contents : Option (List ℕ)) (P : List ℕ → Type 0) → ((kept : List ℕ) → P kept) → IfSome contents P
 always None P p = tt
@@ -229,7 +242,7 @@ Runs-early turns contents k k' seen NoConfiguration u asked early = record {
   served = λ q. tt;
   sent = λ q. tt;
   faults = record { wait = λ q. absurd (omega arith); keeper = λ q. early; listener = λ q. absurd (omega arith) };
-  asked = asked;
+  asked = λ t. (let p = some_port contents in record { port = p.0; set = p.1; is = asked t });
 }
 Runs-early turns contents k k' seen (BadLine n) u asked early = record {
   ends = record {
@@ -255,7 +268,7 @@ Runs-early turns contents k k' seen (BadLine n) u asked early = record {
   served = λ q. tt;
   sent = λ q. tt;
   faults = record { wait = λ q. absurd (omega arith); keeper = λ q. absurd (omega arith); listener = λ q. absurd (omega arith) };
-  asked = asked;
+  asked = λ t. (let p = some_port contents in record { port = p.0; set = p.1; is = asked t });
 }
 Runs-early turns contents k k' seen NoMemory u asked early = record {
   ends = record {
@@ -281,7 +294,7 @@ Runs-early turns contents k k' seen NoMemory u asked early = record {
   served = λ q. tt;
   sent = λ q. tt;
   faults = record { wait = λ q. absurd (omega arith); keeper = λ q. absurd (omega arith); listener = λ q. absurd (omega arith) };
-  asked = asked;
+  asked = λ t. (let p = some_port contents in record { port = p.0; set = p.1; is = asked t });
 }
 Runs-early turns contents k k' seen Version u asked early = absurd early
 Runs-early turns contents k k' seen (BadWord n) u asked early = absurd early
@@ -291,14 +304,14 @@ Runs-early turns contents k k' seen TurnsTaken u asked early = absurd early
 Runs-early turns contents k k' seen EndsQuit u asked early = absurd early
 
 -- the listener was asked for in vain
-pub Runs-unheard : (turns : ℕ) (contents : Option (List ℕ)) (k k' : ℕ) (before after : Seen) → Unawaited turns after → IfSome contents IsReadable
-    → (IsTrue after.tells → listen_faults after.taken ≡ 1) → Rose before.faults.listens after.faults.listens → (IsTrue after.tells → after.asked ≡ Listen 9000 ∷ []) → Runs turns contents k k' before after ListenFailed None
-Runs-unheard turns contents k k' before after u known listens rose asked = record {
+pub Runs-unheard : (turns : ℕ) (contents : Option (List ℕ)) (k k' : ℕ) (before after : Seen) (first : Headless) (port : ℕ) → Unawaited turns after → IfSome contents (IsConfigured first port)
+    → (IsTrue after.tells → listen_faults after.taken ≡ 1) → Rose before.faults.listens after.faults.listens → (IsTrue after.tells → after.asked ≡ Listen port ∷ []) → Runs turns contents k k' before after ListenFailed None
+Runs-unheard turns contents k k' before after first port u known listens rose asked = record {
   ends = record {
     later = λ q. omega arith;
     known = omega arith;
     line = λ q. absurd (omega arith);
-    unreadable = readable contents _ known;
+    unreadable = readable contents _ (known-readable contents first port known);
     quit = λ q. absurd (omega arith);
     quit_told = λ q t. absurd (omega arith);
     quit_due = λ q six. absurd q;
@@ -317,5 +330,5 @@ Runs-unheard turns contents k k' before after u known listens rose asked = recor
   served = λ q. tt;
   sent = λ q. tt;
   faults = record { wait = λ q. absurd (omega arith); keeper = λ q. absurd (omega arith); listener = λ q. rose };
-  asked = asked;
+  asked = λ t. record { port = port; set = known-port contents first port known; is = asked t };
 }

@@ -118,9 +118,9 @@ Fresh-listening a b new told taken sent used there undrained listening = record 
   sent = λ t k. sent t k ∙ new.sent (told t) k;
 }
 
-pub Headline-known : (contents : Option (List ℕ)) (first : Headless) (seen : Seen) (last : Headless) → IfSome contents (IsConfigured first) → (IsTrue seen.tells → last.core.starved ≡ 0 → HandsOut (state_of first.core) seen last) → Headline contents seen last
-Headline-known None first seen last known hands = tt
-Headline-known (Some kept) first seen last known hands = rw known.set (λ t fed. subst (λ state. HandsOut state seen last) known.state (hands t fed))
+pub Headline-known : (contents : Option (List ℕ)) (first : Headless) (port : ℕ) (seen : Seen) (last : Headless) → IfSome contents (IsConfigured first port) → (IsTrue seen.tells → last.core.starved ≡ 0 → HandsOut (state_of first.core) seen last) → Headline contents seen last
+Headline-known None first port seen last known hands = tt
+Headline-known (Some kept) first port seen last known hands = rw known.set (λ t fed. subst (λ state. HandsOut state seen last) known.state (hands t fed))
 
 pub IfSome-last : (o : Option Headless) (h : Headless) (P : Headless → Type 0) → o ≡ kept_of h → (1 ≤ h.turns → P h) → IfSome o P
 IfSome-last o h P e p = rw e (go (eqb h.turns 0) refl)

@@ -1,4 +1,4 @@
-pub mod ConfigurationLemmas
+pub mod OptionsLemmas
 pub mod EndingLemmas
 pub mod HeadlineLemmas
 pub mod MirrorLemmas

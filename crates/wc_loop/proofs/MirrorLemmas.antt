@@ -18,10 +18,11 @@ use Rattle.wc_mirror_laws.specs.Bytes.{ShowsPart}
 use Rattle.wc_mirror_laws.specs.Mirrors.{IsShortLine}
 use Rattle.wc_mirror_laws.specs.Settled.{SettledBy, is_following}
 use Rattle.wc_mirror_laws.proofs.BytesLemmas.{part_shows}
-use Rattle.wc_loop.specs.declared.configuration.Settings.{Settings}
+use Rattle.wc_options.specs.Config.{config_of}
+use Rattle.wc_options.specs.Options.{OptionsValue}
+use Rattle.wc_core.specs.Limits.{most_lines}
 use Rattle.wc_turns.specs.declared.headless.Headless.{Headless}
-use Rattle.wc_loop.proofs.ConfigurationLemmas.{settings-most}
-use Rattle.wc_loop.specs.Configuration.{settings_in}
+use Rattle.wc_loop.proofs.OptionsLemmas.{limit_most}
 use Rattle.wc_turns.specs.Events.{events_of, events_from, wake_events, line_events, is_tick, tail_on, clock}
 use Rattle.wc_loop.specs.Headline.{HandsOut, ClientsHoldDumps}
 use Rattle.wc_turns.specs.Lines.{ended_lines, without_cr, line_limit}
@@ -80,23 +81,23 @@ open-client : (P : Type 0) (o : Option Client) → is_following o ≡ true → (
 open-client P None e f = absurd (false≢true e)
 open-client P (Some client) e f = f client refl
 
-shows-by : (password : List ℕ) (limit : ℕ) (seen : Seen) (last : Headless) → limit ≤ 4096 → (handed : HandsOut (first_state password limit) seen last) (which : HeldPart) (link : ℕ) (id : List ℕ) → 1 ≤ link → SettledBy which link id (first_state password limit) handed.events
+shows-by : (options : OptionsValue) (limit : ℕ) (seen : Seen) (last : Headless) → limit ≤ 4096 → (handed : HandsOut (first_state options limit) seen last) (which : HeldPart) (link : ℕ) (id : List ℕ) → 1 ≤ link → SettledBy which link id (first_state options limit) handed.events
     → ShowsPart which limit id (seen.sent link ++ unsent_on link last.core.connections) last.core.world
-shows-by password limit seen last most handed which link id one settled =
-    let first = first_state password limit in
+shows-by options limit seen last most handed which link id one settled =
+    let first = first_state options limit in
     let short = short-front handed.events handed.reaches.rest (subst (AllByRecursion IsShortLine) handed.reaches.front (short-from [] seen.taken)) in
-    let shows : ShowsPart which limit id (sent_to link (run first handed.events).acts) (run first handed.events).state.world = part_shows which password limit handed.events link id most short settled in
+    let shows : ShowsPart which limit id (sent_to link (run first handed.events).acts) (run first handed.events).state.world = part_shows which options limit handed.events link id most short settled in
     let bytes = open-client _ (at_key client_link link (run first handed.events).state.clients) settled.still (λ client there. handed.opened link client one there) in
     subst (λ sent. ShowsPart which limit id sent last.core.world) (sym bytes) (subst (λ world. ShowsPart which limit id (sent_to link (run first handed.events).acts) world) (sym (ap (λ (s : State). s.world) handed.state)) shows)
 
 pub ClientsHoldDumps-known : (contents : Option (List ℕ)) (seen : Seen) (last : Headless) → ClientsHoldDumps contents seen last
 ClientsHoldDumps-known None seen last = tt
-ClientsHoldDumps-known (Some kept) seen last = go (settings_in kept) (settings-most kept)
+ClientsHoldDumps-known (Some kept) seen last = go (config_of kept)
   where
-    go : (r : Result Settings ℕ) → IfOk r (λ settings. settings.limit ≤ 4096) → IfOk r (λ settings. (handed : HandsOut (first_state settings.password settings.limit) seen last) (which : HeldPart) (link : ℕ) (id : List ℕ) → 1 ≤ link → SettledBy which link id (first_state settings.password settings.limit) handed.events
-        → ShowsPart which settings.limit id (seen.sent link ++ unsent_on link last.core.connections) last.core.world)
-    go (Ok settings) h = λ handed which link id one settled. shows-by settings.password settings.limit seen last h handed which link id one settled
-    go (Err n) h = tt
+    go : (r : Result OptionsValue ℕ) → IfOk r (λ options. (handed : HandsOut (first_state options (most_lines options)) seen last) (which : HeldPart) (link : ℕ) (id : List ℕ) → 1 ≤ link → SettledBy which link id (first_state options (most_lines options)) handed.events
+        → ShowsPart which (most_lines options) id (seen.sent link ++ unsent_on link last.core.connections) last.core.world)
+    go (Ok options) = λ handed which link id one settled. shows-by options (most_lines options) seen last (limit_most options) handed which link id one settled
+    go (Err n) = tt
 
 pub ClientsHoldDumps-last : (contents : Option (List ℕ)) (seen : Seen) (last : Option Headless) → IfSome last (ClientsHoldDumps contents seen)
 ClientsHoldDumps-last contents seen None = tt

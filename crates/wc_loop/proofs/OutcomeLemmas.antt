@@ -6,11 +6,12 @@ use Rattle.wc_outside.specs.Seen.{Seen, IsNew}
 use Rattle.wc_turns.specs.declared.headless.Headless.{Headless}
 use Rattle.wc_loop.specs.declared.ending.Ending.{Ending}
 use Rattle.wc_loop.specs.declared.words.Wish.{Wish}
+use Rattle.wc_loop.proofs.OptionsLemmas.{some_port}
 use Rattle.wc_loop.specs.Headline.{Headline}
 use Rattle.wc_turns.specs.Sources.{AllServed, AllSent}
 use Rattle.wc_turns.specs.Served.{NobodyLeaving}
 use Rattle.wc_turns.specs.Turns.{wake_count, AgreesWithSockets, IsCaused}
-use Rattle.wc_loop.specs.Endings.{LastOf, StatusOf, StatusFor, IsNumber, IsLastState, HasCause, WaitsAtMost, AsksNothing, RunsBy, RunsFor, asks_turns, asks_version, asked_by, printed_text, status_of, number_of, tells_version}
+use Rattle.wc_loop.specs.Endings.{LastOf, StatusOf, StatusFor, IsNumber, IsLastState, HasCause, WaitsAtMost, AsksNothing, RunsBy, RunsFor, asks_turns, asks_version, IsAsked, printed_text, status_of, number_of, tells_version}
 
 status_for : (b : Bool) (turns : ℕ) (contents : Option (List ℕ)) (k k' : ℕ) (before after : Seen) (ending : Ending) (last : Option Headless) → RunsFor b turns contents k k' before after ending last → StatusFor b turns contents after (status_of ending) last
 status_for true turns contents k k' before after ending last r = rw (r.ends, r.none) (refl, refl)
@@ -36,7 +37,7 @@ pub record Common (wish : Result Wish ℕ) (contents : Option (List ℕ)) (k k' 
   pub served : status_of ending ≡ 8 → IfSome last (λ last. AllServed last.core.connections before after)
   pub sent : status_of ending ≡ 0 → IfSome last (λ last. AllSent last.core.connections before after)
   pub faults : HasCause before.faults after.faults k k' (status_of ending)
-  pub asked : IsTrue after.tells → after.asked ≡ asked_by wish (status_of ending)
+  pub asked : IsTrue after.tells → IsAsked (asks_turns wish) contents (status_of ending) after.asked
 
 few : (wish : Result Wish ℕ) (n : ℕ) (contents : Option (List ℕ)) (k k' : ℕ) (before after : Seen) (wanted ending : Ending) (last : Option Headless) → IsNew before → AsksNothing k k' before after wanted ending last → tells_version wanted ≡ asks_version wish → asks_turns wish ≡ false
     → status_of wanted ≡ n → n ≢ 2 → n ≢ 3 → n ≢ 6 → Common wish contents k k' before after ending last
@@ -47,12 +48,12 @@ few wish n contents k k' before after wanted ending last new r version none e tw
   served = λ q. tt;
   sent = λ q. tt;
   faults = record { wait = λ q. absurd (two (sym e ∙ q)); keeper = λ q. absurd (three (sym e ∙ q)); listener = λ q. absurd (six (sym e ∙ q)) };
-  asked = λ t. new.asked t ∙ sym (rw none refl);
+  asked = λ t. (let p = some_port contents in record { port = p.0; set = p.1; is = new.asked t ∙ sym (rw none refl) });
 })
 
 common_for : (b : Bool) (wish : Wish) → wish.version ≡ b → (contents : Option (List ℕ)) (k k' : ℕ) (before after : Seen) (ending : Ending) (last : Option Headless) → IsNew before → RunsFor b wish.turns contents k k' before after ending last → Common (Ok wish) contents k k' before after ending last
 common_for true wish e contents k k' before after ending last new r = few (Ok wish) 0 contents k k' before after _ ending last new r (sym e) (ap not e) refl (λ q. omega arith) (λ q. omega arith) (λ q. omega arith)
-common_for false wish e contents k k' before after ending last new r = record { version = r.version ∙ sym e; counted = r.counted; left = r.left; served = r.served; sent = r.sent; faults = r.faults; asked = λ t. r.asked t ∙ sym (rw e refl) }
+common_for false wish e contents k k' before after ending last new r = record { version = r.version ∙ sym e; counted = r.counted; left = r.left; served = r.served; sent = r.sent; faults = r.faults; asked = λ t. (let a = r.asked t in record { port = a.port; set = a.set; is = a.is ∙ sym (rw e refl) }) }
 
 pub Common-runs : (wish : Result Wish ℕ) (contents : Option (List ℕ)) (k k' : ℕ) (before after : Seen) (ending : Ending) (last : Option Headless) → IsNew before → RunsBy wish contents k k' before after ending last → Common wish contents k k' before after ending last
 Common-runs (Err n) contents k k' before after ending last new r = few (Err n) 1 contents k k' before after _ ending last new r refl refl refl (λ q. omega arith) (λ q. omega arith) (λ q. omega arith)

@@ -1,7 +1,7 @@
 -- How a run ends, and what it prints.
 use Rattle.std.specs.Prelude.{ℕ, ◌≡◌, ◌≢◌, ◌≤◌, ◌⊎◌, Bool, true, false, not, List, []}
 use Rattle.std.specs.Prelude.{◌∷◌, ◌++◌, All, ◌&&◌, nat_le, Option, Some, None, Result, Ok, Err}
-use Rattle.std.specs.Prelude.{IfSome, IsTrue, IsSomeAnd, if◌then◌else◌, ◌==◌, codes, decimal}
+use Rattle.std.specs.Prelude.{IfSome, IfOk, IsTrue, IsSomeAnd, if◌then◌else◌, ◌==◌, codes, decimal}
 use Rattle.std.specs.Io.KnownBytes.{append_known}
 use Rattle.wc_outside.specs.Faults.{Faults, Rose}
 use Rattle.wc_outside.specs.Seen.{Seen}
@@ -16,8 +16,9 @@ use Rattle.wc_turns.specs.declared.turn.TurnEnd.{TurnEnd}
 use Rattle.wc_turns.specs.declared.turn.TurnEnd.TheVariants.{GoOn, Quit as ThenQuit, WaitFault}
 use Rattle.wc_turns.specs.declared.turn.TurnEnd.TheVariants.{ListenFault}
 use Rattle.wc_loop.specs.declared.words.Wish.{Wish}
-use Rattle.wc_loop.specs.declared.configuration.Settings.{Settings}
-use Rattle.wc_loop.specs.Configuration.{settings_in}
+use Rattle.wc_options.specs.Config.{config_of}
+use Rattle.wc_options.specs.Options.{OptionsValue}
+use Rattle.wc_core.specs.Limits.{port_of}
 use Rattle.wc_loop.specs.Headline.{Headline}
 use Rattle.wc_turns.specs.Served.{NobodyLeaving}
 use Rattle.wc_turns.specs.Sources.{AllServed, AllSent}
@@ -49,9 +50,9 @@ pub record Ends (turns : ℕ) (contents : Option (List ℕ)) (seen : Seen) (stat
   pub later : status ≢ 1
   pub known : status ≤ 8
   -- a line of the configuration is unreadable, and where one is, it was read
-  pub line : status ≡ 4 → IfSome contents (λ configuration. (settings : Settings) →
-      settings_in configuration ≢ Ok settings)
-  pub unreadable : IfSome contents (λ configuration. (n : ℕ) → settings_in configuration ≡ Err n →
+  pub line : status ≡ 4 → IfSome contents (λ configuration. (options : OptionsValue) →
+      config_of configuration ≢ Ok options)
+  pub unreadable : IfSome contents (λ configuration. (n : ℕ) → config_of configuration ≡ Err n →
       status ≢ 3 → status ≢ 5 → status ≡ 4)
   -- `/quit` was run, and the listener did not fail
   pub quit : status ≡ 0 → IsSomeAnd last (HasQuit true)
@@ -108,7 +109,7 @@ printed_text version status number =
 pub record IsNumber (wish : Result Wish ℕ) (contents : Option (List ℕ)) (status number : ℕ) :
     Type 0 where
   pub word : status ≡ 1 → wish ≡ Err number
-  pub line : status ≡ 4 → IfSome contents (λ configuration. settings_in configuration ≡ Err number)
+  pub line : status ≡ 4 → IfSome contents (λ configuration. config_of configuration ≡ Err number)
 
 -- what the sink holds is what it held, and what is printed after it
 pub record Prints (wish : Result Wish ℕ) (contents : Option (List ℕ)) (status : ℕ)
@@ -117,14 +118,22 @@ pub record Prints (wish : Result Wish ℕ) (contents : Option (List ℕ)) (statu
   pub is : IsNumber wish contents status number
   pub holds : after ≡ append_known before (printed_text (asks_version wish) status number)
 
--- what the sockets are asked for where words ask for turns: the listener, unless the run ended
--- before
-abbrev pub asked_in : ℕ → List Asked
-asked_in status = if nat_le 3 status && nat_le status 5 then [] else Listen 9000 ∷ []
+-- what the sockets are asked for where words ask for turns: the listener at a port, unless the run
+-- ended before
+abbrev pub asked_in : ℕ → ℕ → List Asked
+asked_in port status = if nat_le 3 status && nat_le status 5 then [] else Listen port ∷ []
 
--- what the sockets are asked for in a run with this status
-abbrev pub asked_by : Result Wish ℕ → ℕ → List Asked
-asked_by wish status = if asks_turns wish then asked_in status else []
+-- the port is the one that the options of the configuration set
+abbrev pub IsPort : Option (List ℕ) → ℕ → Type 0
+IsPort contents port = IfSome contents (λ configuration. IfOk (config_of configuration)
+    (λ options. port ≡ port_of options))
+
+-- what the sockets were asked for in a run with this status, which may ask for turns
+pub record IsAsked (turns : Bool) (contents : Option (List ℕ)) (status : ℕ) (asked : List Asked) :
+    Type 0 where
+  pub port : ℕ
+  pub set : IsPort contents port
+  pub is : asked ≡ (if turns then asked_in port status else [])
 
 -- each status that tells a fault comes only where that count rose
 pub record HasCause (before after : Faults) (kept kept' : ℕ) (status : ℕ) : Type 0 where
@@ -178,7 +187,7 @@ EndsAt ListenFault ending = ending ≡ ListenFailed
 abbrev pub IsEarly : Option (List ℕ) → ℕ → ℕ → Ending → Type 0
 IsEarly contents kept kept' NoConfiguration = Rose kept kept'
 IsEarly contents kept kept' (BadLine n) =
-    IfSome contents (λ configuration. settings_in configuration ≡ Err n)
+    IfSome contents (λ configuration. config_of configuration ≡ Err n)
 IsEarly contents kept kept' NoMemory = Unit {0}
 IsEarly contents kept kept' Version = ⊥
 IsEarly contents kept kept' (BadWord n) = ⊥
@@ -199,7 +208,7 @@ pub record IsLastState (contents : Option (List ℕ)) (before after : Seen) (las
 pub record Runs (turns : ℕ) (contents : Option (List ℕ)) (kept kept' : ℕ) (before after : Seen)
     (ending : Ending) (last : Option Headless) : Type 0 where
   pub ends : Ends turns contents after (status_of ending) last
-  pub line : status_of ending ≡ 4 → IfSome contents (λ configuration. settings_in configuration
+  pub line : status_of ending ≡ 4 → IfSome contents (λ configuration. config_of configuration
       ≡ Err (number_of ending))
   pub version : tells_version ending ≡ false
   pub counted : LastOf after last
@@ -211,7 +220,7 @@ pub record Runs (turns : ℕ) (contents : Option (List ℕ)) (kept kept' : ℕ) 
   -- after `/quit` each link is written once
   pub sent : status_of ending ≡ 0 → IfSome last (λ last. AllSent last.core.connections before after)
   pub faults : HasCause before.faults after.faults kept kept' (status_of ending)
-  pub asked : IsTrue after.tells → after.asked ≡ asked_in (status_of ending)
+  pub asked : IsTrue after.tells → IsAsked true contents (status_of ending) after.asked
 
 -- nothing is asked of the outside
 pub record AsksNothing (kept kept' : ℕ) (before after : Seen) (wanted ending : Ending)

@@ -4,8 +4,9 @@ use Rattle.std.specs.Prelude.{IsTrue, is_some, IfOk, Ok}
 use Rattle.wc_outside.specs.Seen.{Seen}
 use Rattle.wc_turns.specs.declared.headless.Headless.{Headless}
 use Rattle.wc_outside.specs.Keyed.{at_key}
-use Rattle.wc_loop.specs.declared.configuration.Settings.{Settings}
-use Rattle.wc_loop.specs.Configuration.{settings_in}
+use Rattle.wc_options.specs.Config.{config_of}
+use Rattle.wc_options.specs.Options.{OptionsValue}
+use Rattle.wc_core.specs.Limits.{most_lines, port_of}
 use Rattle.wc_turns.specs.Hands.{IsFrontOf}
 use Rattle.wc_turns.specs.Links.{link_number}
 use Rattle.wc_core.specs.Events.{Event}
@@ -41,27 +42,28 @@ pub record HandsOut (first : State) (seen : Seen) (last : Headless) : Type 0 whe
 -- the same, where the sockets and the keeper tell what they hold and no growth was refused
 abbrev pub Headline : Option (List ℕ) → Seen → Headless → Type 0
 Headline contents seen last =
-    IfSome contents (λ configuration. IfOk (settings_in configuration)
-    (λ settings. IsTrue seen.tells → last.core.starved ≡ 0 →
-    HandsOut (first_state settings.password settings.limit) seen last))
+    IfSome contents (λ configuration. IfOk (config_of configuration)
+    (λ options. IsTrue seen.tells → last.core.starved ≡ 0 →
+    HandsOut (first_state options (most_lines options)) seen last))
 
 -- Where that is so, each client that settled by the dump of a part, the lines of all buffers, the
 -- buffers in their groups or the nicklists, has exactly this part of the world, by the bytes that
 -- were sent to it and those that are unsent.
 abbrev pub ClientsHoldDumps : Option (List ℕ) → Seen → Headless → Type 0
 ClientsHoldDumps contents seen last =
-    IfSome contents (λ configuration. IfOk (settings_in configuration) (λ settings.
-    (handed : HandsOut (first_state settings.password settings.limit) seen last) (which : HeldPart)
+    IfSome contents (λ configuration. IfOk (config_of configuration) (λ options.
+    (handed : HandsOut (first_state options (most_lines options)) seen last) (which : HeldPart)
     (link : ℕ) (id : List ℕ) → 1 ≤ link →
-    SettledBy which link id (first_state settings.password settings.limit) handed.events
-    → ShowsPart which settings.limit id (seen.sent link ++ unsent_on link last.core.connections)
+    SettledBy which link id (first_state options (most_lines options)) handed.events
+    → ShowsPart which (most_lines options) id (seen.sent link ++ unsent_on link last.core.connections)
     last.core.world))
 
--- a state that a configuration sets
-pub record IsConfigured (headless : Headless) (configuration : List ℕ) : Type 0 where
-  pub settings : Settings
-  pub set : settings_in configuration ≡ Ok settings
-  pub state : state_of headless.core ≡ first_state settings.password settings.limit
+-- a state and a port that a configuration sets
+pub record IsConfigured (headless : Headless) (port : ℕ) (configuration : List ℕ) : Type 0 where
+  pub options : OptionsValue
+  pub set : config_of configuration ≡ Ok options
+  pub state : state_of headless.core ≡ first_state options (most_lines options)
+  pub port_set : port ≡ port_of options
 
 -- a state before the first turn
 pub record IsFirst (headless : Headless) : Type 0 where

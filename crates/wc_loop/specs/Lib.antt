@@ -1,4 +1,3 @@
-pub mod Configuration
 pub mod Endings
 pub mod Headline
 pub mod Words

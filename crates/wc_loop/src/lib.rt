@@ -1,7 +1,6 @@
 //! The program's run: its words, its configuration, its turns, and the status that it ends with.
 #![tactic(auto)]
 
-mod configuration;
 mod ending;
 mod print;
 mod program;

@@ -5,25 +5,27 @@ ghost use Rattle.std.specs.Io.KnownBytes.{append_known};
 ghost use Rattle.wc_outside.specs.Faults.{Rose};
 ghost use Rattle.wc_outside.specs.Seen.{IsNew};
 ghost use Rattle.wc_loop.specs.Endings.{LastOf, StatusOf, WaitsAtMost, Prints, IsEarly, HasCause};
-ghost use Rattle.wc_loop.specs.Endings.{Runs, RunsBy, asks_turns, asked_by, EndsAt, kept_of};
+ghost use Rattle.wc_loop.specs.Endings.{Runs, RunsBy, asks_turns, IsAsked, EndsAt, kept_of};
 ghost use Rattle.wc_loop.specs.Endings.{number_of, printed_text, status_of, tells_version};
+ghost use Rattle.wc_options.specs.Config.{config_of};
+ghost use Rattle.wc_core.specs.Limits.{most_lines, port_of};
+ghost use Rattle.wc_core.specs.Served.{state_of};
+ghost use Rattle.wc_core.specs.State.{first_state};
 ghost use Rattle.wc_loop.specs.Headline.{Headline, ClientsHoldDumps, IsFirst, IsConfigured};
 ghost use Rattle.wc_turns.specs.Served.{NobodyLeaving};
 ghost use Rattle.wc_turns.specs.Sources.{AllServed, AllSent};
 ghost use Rattle.wc_loop.specs.Words.{wish_of};
 ghost use Rattle.wc_turns.specs.Turns.{LoopStep, AgreesWithSockets, IsCaused, faults_then};
 
-use crate::configuration::read_settings;
 use crate::ending::Ending;
 use crate::print::print;
 use crate::words::read_words;
 use std::alloc::Global;
-use wc_options::ConfigRefused;
+use wc_core::port_of;
+use wc_options::{ConfigRefused, Options, read_config};
 use wc_outside::{KeepFault, Keeper, Sink, Sockets};
+use wc_text::NoMemory;
 use wc_turns::{Headless, TurnEnd};
-
-/// Where clients are listened for.
-const PORT: u16 = 9000;
 
 /// How a run ended.
 #[derive(Drop)]
@@ -37,12 +39,11 @@ pub struct Ended {
     pub last: Option<Headless>,
 }
 
-/// Makes the state of a run, by the configuration.
-fn configure<K: Keeper>(alloc: Global, keeper: &mut K) -> Result<Headless, Ending>
-    ensures first { IfOk result IsFirst }
-    ensures known { IfOk result (λ headless. IfSome (K.contents keeper.old)
-        (IsConfigured headless)) }
-    ensures calm { IfOk result (λ headless. NobodyLeaving headless.core.connections) }
+/// The options that the configuration holds.
+#[tactic(auto, using(crate::proofs::OptionsLemmas::line_is))]
+fn read_options<K: Keeper>(alloc: Global, keeper: &mut K) -> Result<Options, Ending>
+    ensures known { IfOk result (λ options. IfSome (K.contents keeper.old)
+        (λ configuration. config_of configuration ≡ Ok options)) }
     ensures early { IfErr result (IsEarly (K.contents keeper.old) (K.faults keeper.old)
         (K.faults keeper.new)) }
     ensures kept { K.contents keeper.new ≡ K.contents keeper.old }
@@ -52,13 +53,46 @@ fn configure<K: Keeper>(alloc: Global, keeper: &mut K) -> Result<Headless, Endin
         Err(KeepFault::Failed) => return Err(Ending::NoConfiguration),
         Err(KeepFault::NoMemory) => return Err(Ending::NoMemory),
     };
-    let settings = match read_settings(alloc, text.as_slice()) {
-        Ok(settings) => settings,
-        Err(ConfigRefused::BadLine { line }) => return Err(Ending::BadLine(line)),
-        Err(ConfigRefused::NoMemory) => return Err(Ending::NoMemory),
-    };
-    match Headless::new(alloc, settings.password, settings.limit) {
-        Ok(headless) => Ok(headless),
+    match read_config(alloc, text.as_slice()) {
+        Ok(options) => Ok(options),
+        Err(ConfigRefused::BadLine { line }) => Err(Ending::BadLine(line)),
+        Err(ConfigRefused::NoMemory) => Err(Ending::NoMemory),
+    }
+}
+
+/// What the options make of a run: its state, and where clients are listened for.
+#[derive(Drop)]
+struct Configured {
+    headless: Headless,
+    port: u16,
+}
+
+/// Makes the state of a run by the options.
+fn state_by(alloc: Global, options: Options) -> Result<Configured, NoMemory>
+    ensures first { IfOk result (λ made. IsFirst made.headless) }
+    ensures state { IfOk result (λ made. state_of made.headless.core
+        ≡ first_state options (most_lines options)) }
+    ensures port { IfOk result (λ made. made.port ≡ port_of options) }
+    ensures calm { IfOk result (λ made. NobodyLeaving made.headless.core.connections) }
+{
+    let port = port_of(&options);
+    let headless = Headless::new(alloc, options)?;
+    Ok(Configured { headless, port })
+}
+
+/// Makes the state of a run, by the configuration.
+fn configure<K: Keeper>(alloc: Global, keeper: &mut K) -> Result<Configured, Ending>
+    ensures first { IfOk result (λ made. IsFirst made.headless) }
+    ensures known { IfOk result (λ made. IfSome (K.contents keeper.old)
+        (IsConfigured made.headless made.port)) }
+    ensures calm { IfOk result (λ made. NobodyLeaving made.headless.core.connections) }
+    ensures early { IfErr result (IsEarly (K.contents keeper.old) (K.faults keeper.old)
+        (K.faults keeper.new)) }
+    ensures kept { K.contents keeper.new ≡ K.contents keeper.old }
+{
+    let options = read_options(alloc, keeper)?;
+    match state_by(alloc, options) {
+        Ok(made) => Ok(made),
         Err(_) => Err(Ending::NoMemory),
     }
 }
@@ -143,11 +177,11 @@ fn run<S: Sockets, K: Keeper>(alloc: Global, turns: u64, sockets: &mut S, keeper
         (S.seen sockets.old) (S.seen sockets.new) result.ending result.last }
     ensures kept { K.contents keeper.new ≡ K.contents keeper.old }
 {
-    let mut headless = match configure(alloc, keeper) {
-        Ok(headless) => headless,
+    let Configured { mut headless, port } = match configure(alloc, keeper) {
+        Ok(made) => made,
         Err(ending) => return Outcome { ending, last: None },
     };
-    let Ok(()) = sockets.listen(PORT) else {
+    let Ok(()) = sockets.listen(port) else {
         return Outcome {
             ending: Ending::ListenFailed,
             last: None,
@@ -211,10 +245,9 @@ fn end<O: Sink>(out: &mut O, outcome: Outcome) -> Ended
     }
 }
 
-/// Runs the program for these words: it reads the configuration, listens at 127.0.0.1:9000, and
-/// serves clients of the relay protocol `weechat` until as many waits returned as `--turns` asks
-/// for, or
-/// `/quit` is run. The sockets are new. At its end it prints what is to be told.
+/// Runs the program for these words: it reads the options of the configuration, listens at 127.0.0.1
+/// and the port that they set, and serves clients of the relay protocol `weechat` until as many
+/// waits returned as `--turns` asks for, or `/quit` is run. The sockets are new. At its end it prints what is to be told.
 ///
 /// A sink that fails gives the status 7 in place of the one that was to come.
 pub fn run_program<S: Sockets, K: Keeper, O: Sink>(
@@ -250,8 +283,8 @@ pub fn run_program<S: Sockets, K: Keeper, O: Sink>(
     ensures sink { result.status ≡ 7 → Rose (O.faults out.old) (O.faults out.new) }
     ensures sink_count { result.status ≢ 7 → O.faults out.new ≡ O.faults out.old }
     ensures asked { result.status ≢ 7 → IsTrue (S.seen sockets.new).tells →
-        (S.seen sockets.new).asked ≡ asked_by (wish_of (map string_bytes words.now.items))
-        result.status }
+        IsAsked (asks_turns (wish_of (map string_bytes words.now.items)))
+        (K.contents keeper.old) result.status (S.seen sockets.new).asked }
     ensures untouched { asks_turns (wish_of (map string_bytes words.now.items)) ≡ false →
         S.seen sockets.new ≡ S.seen sockets.old }
     ensures kept { K.contents keeper.new ≡ K.contents keeper.old }

@@ -23,7 +23,8 @@ use Rattle.wc_session.specs.Reply.{reply_of}
 use Rattle.wc_session.specs.Sending.{spelling}
 use Rattle.wc_core.specs.Events.{Event, Start, Tick, Arrives, Line as LineCame, Ends, Fails, ListenFails}
 use Rattle.wc_core.specs.State.{State, Stepped, Closes, first_state}
-use Rattle.wc_core.specs.Step.{client_link, client_limit, no_step, sends, outcome_step, request_step, line_step, loss_step, step, run}
+use Rattle.wc_core.specs.Limits.{client_limit}
+use Rattle.wc_core.specs.Step.{client_link, no_step, sends, outcome_step, request_step, line_step, loss_step, step, run}
 use Rattle.wc_core.specs.Served.{OutcomeUtf8, messages_to}
 use Rattle.wc_core.specs.Typed.{lines_of_text}
 use Rattle.wc_core.proofs.MessageLemmas.{sent_to-messages}
@@ -52,12 +53,12 @@ line_spelt limit link state k line kept = came (at_key client_link k state.clien
   served : (client : Client) (o : Option Request) → request_of client.escaped line ≡ o → AllSpelt (messages_to link (request_step state client o).acts)
   served client None e = tt
   served client (Some request) e =
-      let answer = reply_of state.world state.password client request in
+      let answer = reply_of state.world state.options client request in
       let next : State = record state { clients = put_at client_link (client_link client) answer.client state.clients } in
       let utf8 = RequestIsUtf8-reads line client.escaped request (reads-request_of line client.escaped request e) in
       subst (λ (s : Stepped). AllSpelt (messages_to link s.acts)) (sym (asked_replies state kept.told kept.world.empty client request))
       (acts_spelt link (sends (client_link client) answer.messages) (outcome_step next (client_link client) answer.outcome).acts
-      (sends_spelt link (client_link client) answer.messages (answer_spelt limit state.world state.password client request kept.world utf8))
+      (sends_spelt link (client_link client) answer.messages (answer_spelt limit state.world state.options client request kept.world utf8))
       (follows_spelt limit link next (client_link client) answer.outcome (reply_text state client line request e) (kept-put limit link state (client_link client) answer.client (reply_link state client line request e) kept)))
 
   came : (o : Option Client) → AllSpelt (messages_to link (line_step state line o).acts)
@@ -72,8 +73,8 @@ step_spelt : (limit link : ℕ) (state : State) (event : Event) → IsStateKept 
 step_spelt limit link state (Start moment) kept = tt
 step_spelt limit link state (Tick moment) kept =
     subst (λ (s : Stepped). AllSpelt (messages_to link s.acts)) (sym (pushes_stay (record state { moment = moment }) kept.told kept.world.empty)) tt
-step_spelt limit link state (Arrives k nonce) kept = by (nat_lt (length state.clients) client_limit) where
-  by : (b : Bool) → AllSpelt (messages_to link (cond b (no_step (record state { clients = state.clients ++ new_client (record { 0 = k }) nonce ∷ [] })) (record { state = state; acts = Closes k cause.Surplus ∷ [] })).acts)
+step_spelt limit link state (Arrives k nonce) kept = by (nat_lt (length state.clients) (client_limit state.options)) where
+  by : (b : Bool) → AllSpelt (messages_to link (cond b (no_step (record state { clients = state.clients ++ new_client state.options (record { 0 = k }) nonce ∷ [] })) (record { state = state; acts = Closes k cause.Surplus ∷ [] })).acts)
   by true = tt
   by false = tt
 step_spelt limit link state (LineCame k line) kept = line_spelt limit link state k line kept
@@ -90,15 +91,15 @@ spelt_on limit link state (event ∷ events) kept =
 -- ---- the bytes
 
 pub run_spells : RunSpells
-run_spells password limit events link most =
-    let acts = (run (first_state password limit) events).acts in
-    record { each = spelt_on limit link (first_state password limit) events (start_kept limit link password most); whole = sent_to-messages link acts }
+run_spells options limit events link most =
+    let acts = (run (first_state options limit) events).acts in
+    record { each = spelt_on limit link (first_state options limit) events (start_kept limit link options most); whole = sent_to-messages link acts }
 
 pub part_shows : (which : HeldPart) → PartShows which
-part_shows which password limit events link id most short settled = record {
-  messages = messages_to link (run (first_state password limit) events).acts;
-  spell = run_spells password limit events link most;
-  has = mirrors which password limit events link id most short settled;
+part_shows which options limit events link id most short settled = record {
+  messages = messages_to link (run (first_state options limit) events).acts;
+  spell = run_spells options limit events link most;
+  has = mirrors which options limit events link id most short settled;
 }
 
 pub bytes_show : BytesShow

@@ -17,9 +17,12 @@ use Rattle.wc_text.specs.Splits.{BeginsWithout}
 use Rattle.wc_session.specs.declared.client.Client.{Client}
 use Rattle.wc_session.specs.Event.{event_messages, notice_told}
 use Rattle.wc_session.specs.Sync.{follows}
-use Rattle.wc_core.specs.Resolved.{Effect, Stays, Ends as ResolvedEnds, Tells as TellsRefusal, Asks, effect_of, refusal_text, told_refusal}
+use Rattle.wc_core.specs.Resolved.{Effect, Stays, Ends as ResolvedEnds, Tells as TellsRefusal, Asks, SetsOption, UnsetsOption, effect_of, refusal_text, option_text, told_refusal}
+use Rattle.wc_options.specs.Options.{OptionsValue, refusal_of, value_of, with_value, without_value}
+use Rattle.wc_options.specs.declared.refusal.SetRefused.{SetRefused}
+use Rattle.wc_options.specs.declared.refusal.SetRefused.TheVariants.{UnknownOption}
 use Rattle.wc_core.specs.State.{State, Act, Stepped}
-use Rattle.wc_core.specs.Step.{client_link, no_step, then_does, sends, told_to, tell_all_step, change_step, change_step_if, refusal_step, ask_step_if, ask_step, effect_step, typed_step, is_quit, lines_step}
+use Rattle.wc_core.specs.Step.{client_link, no_step, then_does, sends, told_to, tell_all_step, change_step, change_step_if, refusal_step, set_step_if, unset_step_if, ask_step_if, ask_step, effect_step, typed_step, is_quit, lines_step}
 use Rattle.wc_core.specs.Typed.{typed_line}
 use Rattle.wc_core.specs.Served.{messages_to}
 use Rattle.wc_core.proofs.MessageLemmas.{messages_to-append}
@@ -140,11 +143,25 @@ Tells-asks which limit link id state change free kept told = by (refusal state.w
   by None good = Tells-changes which limit link id state change free kept told good
   by (Some reason) good = Tells-tells which limit link id state (refusal_text reason) free kept
 
+-- the options have no part in what is held
+Tells-options : (which : HeldPart) (limit link : ℕ) (id : List ℕ) (state : State) (options : OptionsValue) → IsStateKept limit link state → Tells which limit link id state (no_step (record state { options = options }))
+Tells-options which limit link id state options kept = record { following = refl; kept = record { most = kept.most; world = kept.world; told = kept.told; first = kept.first }; spelt = tt; right = λ follows part had. had }
+
+Tells-sets : (which : HeldPart) (limit link : ℕ) (id : List ℕ) (state : State) (name value : List ℕ) (o : Option SetRefused) → BeginsWithout 95 id → IsStateKept limit link state → Tells which limit link id state (set_step_if state name value o)
+Tells-sets which limit link id state name value None free kept = Tells-options which limit link id state (with_value state.options name value) kept
+Tells-sets which limit link id state name value (Some reason) free kept = Tells-tells which limit link id state (option_text name reason) free kept
+
+Tells-unsets : (which : HeldPart) (limit link : ℕ) (id : List ℕ) (state : State) (name : List ℕ) (o : Option (List ℕ)) → BeginsWithout 95 id → IsStateKept limit link state → Tells which limit link id state (unset_step_if state name o)
+Tells-unsets which limit link id state name None free kept = Tells-tells which limit link id state (option_text name UnknownOption) free kept
+Tells-unsets which limit link id state name (Some value) free kept = Tells-options which limit link id state (without_value state.options name) kept
+
 Tells-resolved : (which : HeldPart) (limit link : ℕ) (id : List ℕ) (state : State) (r : Effect) → BeginsWithout 95 id → IsStateKept limit link state → OnAsks r → Tells which limit link id state (effect_step state r)
 Tells-resolved which limit link id state Stays free kept told = Tells-stays which limit link id state kept
 Tells-resolved which limit link id state ResolvedEnds free kept told = record { following = refl; kept = kept; spelt = tt; right = λ follows part had. had }
 Tells-resolved which limit link id state (TellsRefusal text) free kept told = Tells-tells which limit link id state text free kept
 Tells-resolved which limit link id state (Asks change) free kept told = Tells-asks which limit link id state change free kept told
+Tells-resolved which limit link id state (SetsOption name value) free kept told = Tells-sets which limit link id state name value (refusal_of state.options name value) free kept
+Tells-resolved which limit link id state (UnsetsOption name) free kept told = Tells-unsets which limit link id state name (value_of state.options name) free kept
 
 Tells-does : (which : HeldPart) (limit link : ℕ) (id : List ℕ) (state : State) (buffer : Handle) (line : List ℕ) → BeginsWithout 95 id → IsStateKept limit link state → IsUtf8 line
     → Tells which limit link id state (typed_step state buffer (typed_line line))

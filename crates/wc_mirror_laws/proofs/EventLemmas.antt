@@ -13,7 +13,8 @@ use Rattle.wc_session.specs.Known.{new_client}
 use Rattle.wc_session.specs.Reply.{reply_of}
 use Rattle.wc_core.specs.Events.{Event, Start, Tick, Arrives, Line as LineCame, Ends, Fails, ListenFails}
 use Rattle.wc_core.specs.State.{State, Stepped, Closes}
-use Rattle.wc_core.specs.Step.{client_link, client_limit, no_step, request_step, line_step, loss_step, step}
+use Rattle.wc_core.specs.Limits.{client_limit}
+use Rattle.wc_core.specs.Step.{client_link, no_step, request_step, line_step, loss_step, step}
 use Rattle.wc_mirror_laws.specs.Held.{HeldPart, HeldOf, Has}
 use Rattle.wc_mirror_laws.specs.Settled.{AskedFor, asked_by, asked_with, asked_in, client_on, is_following, TakesDump}
 use Rattle.wc_mirror_laws.specs.Kept.{IsStateKept}
@@ -78,7 +79,7 @@ line_right which limit link id state k line part kept free within fair after had
       → is_following (client_on link (request_step state client o).state) ≡ true → Has which (mirror_after which limit link id part (request_step state client o).acts) (request_step state client o).state.world
   served client None at read after = had
   served client (Some request) at read after =
-      let answer = reply_of state.world state.password client request in
+      let answer = reply_of state.world state.options client request in
       let own = λ (here : eqb (client_link client) link ≡ true). (subst (AllByRecursion (IsFair which id)) (asked_now link state k line client request at read here) fair).0 in
       let alone = asked_replies state kept.told kept.world.empty client request in
       let following = subst (λ (s : Stepped). is_following (client_on link s.state) ≡ true) alone after in
@@ -103,9 +104,9 @@ pub step_mirrors : (which : HeldPart) → StepMirrors which
 step_mirrors which limit link id state (Start moment) part kept free within fair after had = had
 step_mirrors which limit link id state (Tick moment) part kept free within fair after had =
     subst (HasAfter which limit link id part) (sym (pushes_stay (record state { moment = moment }) kept.told kept.world.empty)) had
-step_mirrors which limit link id state (Arrives k nonce) part kept free within fair after had = by (nat_lt (length state.clients) client_limit) where
+step_mirrors which limit link id state (Arrives k nonce) part kept free within fair after had = by (nat_lt (length state.clients) (client_limit state.options)) where
   arrived : Bool → Stepped
-  arrived b = cond b (no_step (record state { clients = state.clients ++ new_client (record { 0 = k }) nonce ∷ [] })) (record { state = state; acts = Closes k cause.Surplus ∷ [] })
+  arrived b = cond b (no_step (record state { clients = state.clients ++ new_client state.options (record { 0 = k }) nonce ∷ [] })) (record { state = state; acts = Closes k cause.Surplus ∷ [] })
 
   by : (b : Bool) → Has which (mirror_after which limit link id part (arrived b).acts) (arrived b).state.world
   by true = had
@@ -131,7 +132,7 @@ line_dumps which limit link id state k line part dump kept within e takes after 
       → is_following (client_on link (request_step state client o).state) ≡ true → Has which (mirror_after which limit link id part (request_step state client o).acts) (request_step state client o).state.world
   served client None at read here is after = absurd (let h = is in cc)
   served client (Some request) at read here is after =
-      let answer = reply_of state.world state.password client request in
+      let answer = reply_of state.world state.options client request in
       let whole : record { client = client; request = request } ≡ dump = cc in
       let key : eqb (client_link client) link ≡ true = ap (λ n. eqb n link) (at_key-key client_link k state.clients client at) ∙ here in
       let alone = asked_replies state kept.told kept.world.empty client request in

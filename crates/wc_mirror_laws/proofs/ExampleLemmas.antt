@@ -1,5 +1,5 @@
 -- A client settles by three lines.
-use Rattle.std.proofs.Common.{◌≡◌, ℕ, true, false, cond, List, [], ◌∷◌, ◌++◌, codes, Some, None, refl, ap, ◌∙◌, eqb}
+use Rattle.std.proofs.Common.{◌≡◌, ℕ, true, false, cond, List, [], ◌∷◌, ◌++◌, codes, Some, None, refl, ap, ◌∙◌, eqb, nat_lt}
 use Rattle.std.specs.Str.{is_utf8, chars}
 use lib.Utf8.{encode}
 use Rattle.wc_objects.specs.declared.object.WireMessage.{WireMessage}
@@ -12,18 +12,27 @@ use Rattle.wc_text.specs.declared.names.Cause.TheVariants as cause
 use Rattle.wc_buffers.specs.Calls.{EntryGroups, with_buffer}
 use Rattle.wc_model.specs.World.{core_row, first_world}
 use Rattle.wc_session.specs.declared.client.Client.{Client}
+use Rattle.wc_options.specs.Names.{located, is_server_name}
+use Rattle.wc_options.specs.Options.{fresh, with_value, value_of}
+use Rattle.wc_options.specs.Table.{globals, place_in}
+use Rattle.wc_relaycmd.specs.declared.algorithm.Algorithm.TheVariants.{Plain}
+use Rattle.wc_relaycmd.specs.Choices.{is_common}
+use Rattle.wc_session.specs.Handshakes.{first_choice}
+use Rattle.wc_session.specs.Heeded.{password_of, masks_of}
 use Rattle.wc_session.specs.Known.{new_client}
 use Rattle.wc_session.specs.Logins.{pairs_let_in, lets_in}
 use Rattle.wc_session.specs.Reply.{Answer, silent, leaves, replies, init_answer, served, reply_of, hdata_objects, nicklist_objects}
 use Rattle.wc_session.specs.Sending.{reply}
 use Rattle.wc_session.specs.Sync.{synchronized}
-use Rattle.wc_core.specs.Events.{Event, Line}
-use Rattle.wc_core.specs.State.{State, Stepped, first_state}
-use Rattle.wc_core.specs.Step.{client_link, line_step, request_step, answer_step, step, run}
+use Rattle.wc_options.specs.Number.{number_in}
+use Rattle.wc_core.specs.Events.{Event, Arrives, Line}
+use Rattle.wc_core.specs.Limits.{client_limit}
+use Rattle.wc_core.specs.State.{State, Stepped, Closes, first_state}
+use Rattle.wc_core.specs.Step.{client_link, no_step, line_step, request_step, answer_step, step, run}
 use Rattle.wc_outside.specs.Keyed.{at_key}
 use Rattle.wc_mirror_laws.specs.Held.{HeldPart, Lines, Buffers, Nicks}
 use Rattle.wc_mirror_laws.specs.Settled.{AskedFor, asked_by, asked_with, asked_in, asked_on, client_on, follows_all, is_following, has_id, TakesDump, SettledBy}
-use Rattle.wc_mirror_laws.specs.Example.{init_line, sync_line, dump_line, buffers_line, nicks_line, three_lines, ThreeLinesSettle, ThreeLinesSettleBuffers, ThreeLinesSettleNicks}
+use Rattle.wc_mirror_laws.specs.Example.{only_password, init_line, sync_line, dump_line, buffers_line, nicks_line, three_lines, ThreeLinesSettle, ThreeLinesSettleBuffers, ThreeLinesSettleNicks}
 use Rattle.wc_mirror_laws.proofs.PushLemmas.{asked_replies}
 use Rattle.wc_mirror_laws.proofs.WorldLemmas.{first_kept}
 
@@ -73,14 +82,31 @@ nicks_read = refl
 -- ---- the client after each
 
 abbrev came : Client
-came = new_client (record { 0 = 1 }) []
+came = new_client only_password (record { 0 = 1 }) []
 
 abbrev known : Client
 known = record came { logged_in = true }
 
-password_given : pairs_let_in (pairs_of (codes "password=x")) (codes "x") [] came.chosen ≡ true
+password_lets_in : pairs_let_in (pairs_of (codes "password=x")) (codes "x") [] (Some Plain) ≡ true
 unfolding pairs_let_in lets_in login_of pairs_of last_value
-password_given = refl
+password_lets_in = refl
+
+password_is : password_of only_password ≡ codes "x"
+unfolding password_of value_of with_value fresh located is_server_name globals place_in
+password_is = refl
+
+masks_are : masks_of only_password ≡ codes "*"
+unfolding masks_of value_of with_value fresh located is_server_name globals place_in
+masks_are = refl
+
+plain_allowed : first_choice (codes "*") ≡ Some Plain
+unfolding first_choice is_common
+plain_allowed = refl
+
+password_given : pairs_let_in (pairs_of (codes "password=x")) (password_of only_password) [] came.chosen ≡ true
+password_given =
+    let pairs = pairs_of (codes "password=x") in
+    ap (λ p. pairs_let_in pairs p [] came.chosen) password_is ∙ ap (λ m. pairs_let_in pairs (codes "x") [] (first_choice m)) masks_are ∙ ap (pairs_let_in pairs (codes "x") []) plain_allowed ∙ password_lets_in
 
 -- the groups of the core buffer alone
 abbrev core_alone : EntryGroups
@@ -89,56 +115,66 @@ core_alone = with_buffer core_row [] []
 abbrev synced : Client
 synced = synchronized core_alone known (codes "*" ∷ []) None
 
-init_answered : (limit : ℕ) → reply_of (first_world limit) (codes "x") came init_request ≡ silent known
+init_answered : (limit : ℕ) → reply_of (first_world limit) only_password came init_request ≡ silent known
 unfolding reply_of served init_answer init_request
 init_answered limit = ap (λ b. cond b (silent known) (leaves came cause.LoginFailed)) password_given
 
-sync_answered : (limit : ℕ) → reply_of (first_world limit) (codes "x") known sync_request ≡ silent synced
+sync_answered : (limit : ℕ) → reply_of (first_world limit) only_password known sync_request ≡ silent synced
 unfolding reply_of served sync_request
 sync_answered limit = refl
 
 abbrev told : ℕ → List WireMessage
 told limit = reply (codes "l") (hdata_objects (first_world limit) (codes "buffer:gui_buffers(*)/own_lines/first_line(*)/data") (codes "buffer,date,date_printed,displayed,notify_level,highlight,tags_array,prefix,message"))
 
-dump_answered : (limit : ℕ) → reply_of (first_world limit) (codes "x") synced dump_request ≡ replies synced (told limit)
+dump_answered : (limit : ℕ) → reply_of (first_world limit) only_password synced dump_request ≡ replies synced (told limit)
 unfolding reply_of served dump_request synchronized
 dump_answered limit = refl
 
 abbrev told_buffers : ℕ → List WireMessage
 told_buffers limit = reply (codes "b") (hdata_objects (first_world limit) (codes "buffer:gui_buffers(*)") (codes "number,full_name,short_name,hidden,title,local_variables"))
 
-buffers_answered : (limit : ℕ) → reply_of (first_world limit) (codes "x") synced buffers_request ≡ replies synced (told_buffers limit)
+buffers_answered : (limit : ℕ) → reply_of (first_world limit) only_password synced buffers_request ≡ replies synced (told_buffers limit)
 unfolding reply_of served buffers_request synchronized
 buffers_answered limit = refl
 
 abbrev told_nicks : ℕ → List WireMessage
 told_nicks limit = reply (codes "n") (nicklist_objects (first_world limit) None)
 
-nicks_answered : (limit : ℕ) → reply_of (first_world limit) (codes "x") synced nicks_request ≡ replies synced (told_nicks limit)
+nicks_answered : (limit : ℕ) → reply_of (first_world limit) only_password synced nicks_request ≡ replies synced (told_nicks limit)
 unfolding reply_of served nicks_request synchronized
 nicks_answered limit = refl
 
 -- ---- the run
 
 abbrev with_client : ℕ → Client → State
-with_client limit client = record (first_state (codes "x") limit) { clients = client ∷ [] }
+with_client limit client = record (first_state only_password limit) { clients = client ∷ [] }
+
+most_are : client_limit only_password ≡ 5
+unfolding client_limit value_of with_value fresh located globals place_in number_in
+most_are = refl
+
+-- the state after the arrival
+first_step : (limit : ℕ) → (step (first_state only_password limit) (Arrives 1 [])).state ≡ with_client limit came
+first_step limit =
+    let state = first_state only_password limit in
+    ap (λ n. (cond (nat_lt 0 n) (no_step (with_client limit came)) (record { state = state; acts = Closes 1 cause.Surplus ∷ [] })).state) most_are
 
 found : (client : Client) → client_link client ≡ 1 → at_key client_link 1 (client ∷ []) ≡ Some client
 found client key = ap (λ n. cond (eqb n 1) (Some client) None) key
 
 -- the state after a line
 line_state : (limit : ℕ) (client : Client) (line : List ℕ) (request : Request) (answer : Answer) → client_link client ≡ 1 → request_of client.escaped line ≡ Some request
-    → reply_of (first_world limit) (codes "x") client request ≡ answer → (step (with_client limit client) (Line 1 line)).state ≡ (answer_step (with_client limit client) 1 answer).state
+    → reply_of (first_world limit) only_password client request ≡ answer → (step (with_client limit client) (Line 1 line)).state ≡ (answer_step (with_client limit client) 1 answer).state
 line_state limit client line request answer key reads answered =
     let state = with_client limit client in
     ap (λ o. (line_step state line o).state) (found client key) ∙ ap (λ o. (request_step state client o).state) reads
     ∙ ap (λ (s : Stepped). s.state) (asked_replies state refl (first_kept limit).empty client request) ∙ ap (λ a. (answer_step state (client_link client) a).state) answered ∙ ap (λ n. (answer_step state n answer).state) key
 
 silent_step : (limit : ℕ) (before after : Client) (line : List ℕ) (request : Request) → client_link before ≡ 1 → request_of before.escaped line ≡ Some request
-    → reply_of (first_world limit) (codes "x") before request ≡ silent after → (step (with_client limit before) (Line 1 line)).state ≡ with_client limit after
+    → reply_of (first_world limit) only_password before request ≡ silent after → (step (with_client limit before) (Line 1 line)).state ≡ with_client limit after
 silent_step limit before after line request key reads answered =
     line_state limit before line request (silent after) key reads answered
-    ∙ ap (λ n. record (first_state (codes "x") limit) { clients = cond (eqb n 1) (after ∷ []) (before ∷ []) }) key
+    ∙ ap (λ n. record (first_state only_password limit) { clients = cond (eqb n 1) (after ∷ []) (before ∷ []) }) key
 
 -- what is asked by it
 abbrev request_by : Client → Request → AskedFor
@@ -149,7 +185,7 @@ line_asked : (limit : ℕ) (client : Client) (line : List ℕ) (request : Reques
 line_asked limit client line request key reads = ap (asked_by line) (found client key) ∙ ap (asked_with client) reads
 
 next_asked : (limit : ℕ) (before after : Client) (line : List ℕ) (request : Request) (events : List Event) → client_link before ≡ 1 → request_of before.escaped line ≡ Some request
-    → reply_of (first_world limit) (codes "x") before request ≡ silent after
+    → reply_of (first_world limit) only_password before request ≡ silent after
     → asked_on 1 (with_client limit before) (Line 1 line ∷ events) ≡ request_by before request ∷ asked_on 1 (with_client limit after) events
 next_asked limit before after line request events key reads answered =
     ap (λ a. a ++ asked_on 1 (step (with_client limit before) (Line 1 line)).state events) (line_asked limit before line request key reads)
@@ -175,26 +211,28 @@ synced_follows = refl
 -- ---- the line of a dump
 
 module _ (line : List ℕ) (request : Request) (told : ℕ → List WireMessage) (reads : request_of false line ≡ Some request)
-    (answered : (limit : ℕ) → reply_of (first_world limit) (codes "x") synced request ≡ replies synced (told limit)) where
+    (answered : (limit : ℕ) → reply_of (first_world limit) only_password synced request ≡ replies synced (told limit)) where
   line_reads : request_of synced.escaped line ≡ Some request
   unfolding synchronized
   line_reads = reads
 
-  all_asked : (limit : ℕ) → asked_on 1 (first_state (codes "x") limit) (three_lines line) ≡ request_by came init_request ∷ request_by known sync_request ∷ request_by synced request ∷ []
+  all_asked : (limit : ℕ) → asked_on 1 (first_state only_password limit) (three_lines line) ≡ request_by came init_request ∷ request_by known sync_request ∷ request_by synced request ∷ []
   all_asked limit =
-      next_asked limit came known init_line init_request (Line 1 sync_line ∷ Line 1 line ∷ []) refl init_reads (init_answered limit)
+      ap (λ s. asked_on 1 s (Line 1 init_line ∷ Line 1 sync_line ∷ Line 1 line ∷ [])) (first_step limit)
+      ∙ next_asked limit came known init_line init_request (Line 1 sync_line ∷ Line 1 line ∷ []) refl init_reads (init_answered limit)
       ∙ ap (λ a. request_by came init_request ∷ a) (next_asked limit known synced sync_line sync_request (Line 1 line ∷ []) refl sync_reads (sync_answered limit))
       ∙ ap (λ a. request_by came init_request ∷ request_by known sync_request ∷ (a ++ [])) (line_asked limit synced line request synced_link line_reads)
 
-  still : (limit : ℕ) → is_following (client_on 1 (run (first_state (codes "x") limit) (three_lines line)).state) ≡ true
+  still : (limit : ℕ) → is_following (client_on 1 (run (first_state only_password limit) (three_lines line)).state) ≡ true
   still limit =
-      ap (λ s. is_following (client_on 1 (step (step s (Line 1 sync_line)).state (Line 1 line)).state)) (silent_step limit came known init_line init_request refl init_reads (init_answered limit))
+      ap (λ s. is_following (client_on 1 (step (step (step s (Line 1 init_line)).state (Line 1 sync_line)).state (Line 1 line)).state)) (first_step limit)
+      ∙ ap (λ s. is_following (client_on 1 (step (step s (Line 1 sync_line)).state (Line 1 line)).state)) (silent_step limit came known init_line init_request refl init_reads (init_answered limit))
       ∙ ap (λ s. is_following (client_on 1 (step s (Line 1 line)).state)) (silent_step limit known synced sync_line sync_request refl sync_reads (sync_answered limit))
       ∙ ap (λ s. is_following (client_on 1 s)) (line_state limit synced line request (replies synced (told limit)) synced_link line_reads (answered limit))
       ∙ replied_follows limit (told limit)
 
   settles_by : (which : HeldPart) (id : List ℕ) (limit : ℕ) → TakesDump which id (request_by synced request) → has_id id (request_by came init_request) ≡ false
-      → has_id id (request_by known sync_request) ≡ false → SettledBy which 1 id (first_state (codes "x") limit) (three_lines line)
+      → has_id id (request_by known sync_request) ≡ false → SettledBy which 1 id (first_state only_password limit) (three_lines line)
   settles_by which id limit takes first second = record {
     before = request_by came init_request ∷ request_by known sync_request ∷ [];
     dump = request_by synced request;

@@ -19,6 +19,7 @@ use Rattle.wc_session.specs.Reply.{dump_asked, is_line_dump, is_open, leaves, se
 use Rattle.wc_session.specs.Sending.{message, fits, reply}
 use Rattle.wc_session.proofs.OneReplyLaws.{one_reply}
 use Rattle.wc_session.proofs.SendingLemmas.{fits_within}
+use Rattle.wc_options.specs.Options.{OptionsValue}
 use Rattle.wc_session.proofs.DumpReplies.{IsWalkable, dump_told}
 use Rattle.wc_view.specs.BufferFold.{kind_named}
 use Rattle.wc_core.specs.State.{State}
@@ -97,9 +98,9 @@ free_other id other free apart = record {
 }
 
 other_reply : (which : HeldPart) (limit : ℕ) (id : List ℕ) (state : State) (client : Client) (line : List ℕ) (request : Request) (part : HeldOf which) → BeginsWithout 95 id
-    → request_of client.escaped line ≡ Some request → bytes_eq request.id id ≡ false → fold_all which limit id part (reply_of state.world state.password client request).messages ≡ part
+    → request_of client.escaped line ≡ Some request → bytes_eq request.id id ≡ false → fold_all which limit id part (reply_of state.world state.options client request).messages ≡ part
 other_reply which limit id state client line request part free read other =
-    unmoved which limit id (id_of_reply request.id request.command) part (reply_of state.world state.password client request).messages (one_reply state.world state.password client request)
+    unmoved which limit id (id_of_reply request.id request.command) part (reply_of state.world state.options client request).messages (one_reply state.world state.options client request)
     (reply_other id request.id request.command (free_other id request.id (request_free line client.escaped request read) other) (event_apart (codes "pong") id free))
 
 -- ---- the dump
@@ -129,10 +130,10 @@ unfolding reply
 reply_one id objects e = rw e refl
 
 -- the dump is the one message that its request gets
-reply_dump : (which : HeldPart) (world : World) (password : List ℕ) (client : Client) (request : Request) → IsWalkable world → client.logged_in ≡ true → asks_dump which request.command ≡ true
-    → fits (message request.id (dump_of which world)) ≡ true → (reply_of world password client request).messages ≡ message request.id (dump_of which world) ∷ []
-reply_dump which world password client request is logged e fit =
-    dump_told world password client request (dump_of which world) is logged (dump_is_asked which world request.command e) ∙ reply_one request.id (dump_of which world) fit
+reply_dump : (which : HeldPart) (world : World) (options : OptionsValue) (client : Client) (request : Request) → IsWalkable world → client.logged_in ≡ true → asks_dump which request.command ≡ true
+    → fits (message request.id (dump_of which world)) ≡ true → (reply_of world options client request).messages ≡ message request.id (dump_of which world) ∷ []
+reply_dump which world options client request is logged e fit =
+    dump_told world options client request (dump_of which world) is logged (dump_is_asked which world request.command e) ∙ reply_one request.id (dump_of which world) fit
 
 -- before login it gets none
 closed_dump : (which : HeldPart) (command : Command) → asks_dump which command ≡ true → is_open command ≡ false
@@ -143,21 +144,21 @@ closed_dump Buffers _ e = absurd (false≢true e)
 closed_dump Nicks (ask.Nicklist buffer) e = refl
 closed_dump Nicks _ e = absurd (false≢true e)
 
-early_dump : (which : HeldPart) (world : World) (password : List ℕ) (client : Client) (request : Request) → client.logged_in ≡ false → asks_dump which request.command ≡ true
-    → (reply_of world password client request).messages ≡ []
+early_dump : (which : HeldPart) (world : World) (options : OptionsValue) (client : Client) (request : Request) → client.logged_in ≡ false → asks_dump which request.command ≡ true
+    → (reply_of world options client request).messages ≡ []
 unfolding reply_of
-early_dump which world password client request early e =
-    ap (λ b. (cond (b || is_open request.command) (served world password client request.id request.command) (leaves client cause.LoginFailed)).messages) early
-    ∙ ap (λ b. (cond b (served world password client request.id request.command) (leaves client cause.LoginFailed)).messages) (closed_dump which request.command e)
+early_dump which world options client request early e =
+    ap (λ b. (cond (b || is_open request.command) (served world options client request.id request.command) (leaves client cause.LoginFailed)).messages) early
+    ∙ ap (λ b. (cond b (served world options client request.id request.command) (leaves client cause.LoginFailed)).messages) (closed_dump which request.command e)
 
 -- the dump shows its part, whatever the client had
 pub dump_right : (which : HeldPart) (limit link : ℕ) (id : List ℕ) (state : State) (client : Client) (line : List ℕ) (request : Request) (part : HeldOf which) → IsStateKept limit link state → length line ≤ 65536
     → request_of client.escaped line ≡ Some request → TakesDump which id (record { client = client; request = request })
-    → Has which (fold_all which limit id part (reply_of state.world state.password client request).messages) state.world
+    → Has which (fold_all which limit id part (reply_of state.world state.options client request).messages) state.world
 dump_right which limit link id state client line request part kept within read takes =
     let size = request_size line client.escaped request read in
     let fit = fits_within (message request.id (dump_of which state.world)) (dump_short which limit request.id state.world (omega arith) kept.most kept.world) in
-    let told = reply_dump which state.world state.password client request (walkable limit state.world kept.most kept.world) takes.logged_in takes.dump fit ∙ ap (λ id. message id (dump_of which state.world) ∷ []) takes.under in
+    let told = reply_dump which state.world state.options client request (walkable limit state.world kept.most kept.world) takes.logged_in takes.dump fit ∙ ap (λ id. message id (dump_of which state.world) ∷ []) takes.under in
     subst (λ part. Has which part state.world) (sym (ap (fold_all which limit id part) told)) (dump_shown which limit id part state.world kept.world)
 
 -- ---- any reply
@@ -165,16 +166,16 @@ dump_right which limit link id state client line request part kept within read t
 -- a reply leaves a client that has a part with it
 pub reply_right : (which : HeldPart) (limit link : ℕ) (id : List ℕ) (state : State) (client : Client) (line : List ℕ) (request : Request) (part : HeldOf which) → IsStateKept limit link state → BeginsWithout 95 id → length line ≤ 65536
     → request_of client.escaped line ≡ Some request → IsFair which id (record { client = client; request = request }) → Has which part state.world
-    → Has which (fold_all which limit id part (reply_of state.world state.password client request).messages) state.world
+    → Has which (fold_all which limit id part (reply_of state.world state.options client request).messages) state.world
 reply_right which limit link id state client line request part kept free within read fair had = by (bytes_eq request.id id) client.logged_in refl refl where
   messages : List WireMessage
-  messages = (reply_of state.world state.password client request).messages
+  messages = (reply_of state.world state.options client request).messages
 
   by : (same logged : Bool) → bytes_eq request.id id ≡ same → client.logged_in ≡ logged → Has which (fold_all which limit id part messages) state.world
   by true true e logged =
       dump_right which limit link id state client line request part kept within read (record { logged_in = logged; dump = fair e; under = (bytes_eq-Decides request.id id).0 e })
   by true false e early =
-      subst (λ part. Has which part state.world) (sym (ap (fold_all which limit id part) (early_dump which state.world state.password client request early (fair e)))) had
+      subst (λ part. Has which part state.world) (sym (ap (fold_all which limit id part) (early_dump which state.world state.options client request early (fair e)))) had
   by false logged e was = subst (λ part. Has which part state.world) (sym (other_reply which limit id state client line request part free read e)) had
 
 -- what is sent to the client of one link

@@ -3,6 +3,7 @@ use Rattle.std.proofs.Common.{◌≡◌, ℕ, ◌≤◌, true, false, List, [], 
 use Rattle.std.specs.List.{AllByRecursion}
 use Rattle.std.proofs.lemmas.Bool.{false≢true}
 use Rattle.wc_text.specs.Splits.{BeginsWithout}
+use Rattle.wc_options.specs.Options.{OptionsValue}
 use Rattle.wc_core.specs.Events.{Event}
 use Rattle.wc_core.specs.State.{State, first_state}
 use Rattle.wc_core.specs.Step.{step, run}
@@ -126,19 +127,19 @@ settles which limit link id state (event ∷ events) part before following dump 
 
 -- ---- from the start
 
-pub start_kept : (limit link : ℕ) (password : List ℕ) → limit ≤ 4096 → IsStateKept limit link (first_state password limit)
-start_kept limit link password most = record { most = most; world = first_kept limit; told = refl; first = refl }
+pub start_kept : (limit link : ℕ) (options : OptionsValue) → limit ≤ 4096 → IsStateKept limit link (first_state options limit)
+start_kept limit link options most = record { most = most; world = first_kept limit; told = refl; first = refl }
 
 kept_on : (limit link : ℕ) (state : State) (events : List Event) → IsStateKept limit link state → IsStateKept limit link (run state events).state
 kept_on limit link state [] kept = kept
 kept_on limit link state (event ∷ events) kept = kept_on limit link (step state event).state events (step_keeps limit link state event kept)
 
 pub run_keeps : RunKeeps
-run_keeps password limit events link most = kept_on limit link (first_state password limit) events (start_kept limit link password most)
+run_keeps options limit events link most = kept_on limit link (first_state options limit) events (start_kept limit link options most)
 
 pub mirrors : (which : HeldPart) → Mirrors which
-mirrors which password limit events link id most within settled =
-    settles which limit link id (first_state password limit) events (nothing which) settled.before settled.following settled.dump (start_kept limit link password most) within
+mirrors which options limit events link id most within settled =
+    settles which limit link id (first_state options limit) events (nothing which) settled.before settled.following settled.dump (start_kept limit link options most) within
     (record {
       takes = settled.takes;
       alone = all_back (HasOther id) settled.before settled.following settled.alone;

@@ -43,13 +43,16 @@ use Rattle.wc_session.specs.Logins.{pairs_let_in}
 use Rattle.wc_session.specs.Names.{buffer_named}
 use Rattle.wc_session.specs.Reply.{Answer, silent, leaves, replies, test_texts, test_numbers, test_objects, hdata_objects, path_objects, unless_refused, info_objects, infolist_objects, or_null, list_of_named, nicklist_objects, pong_objects, shaken, handshake_reply, handshake_answer, init_answer, typed_into, input_answer, is_open, served, reply_of}
 use Rattle.wc_session.specs.Sending.{message, fits, fitting, null_hdata, reply}
+use Rattle.wc_options.specs.Options.{OptionsValue}
+use Rattle.wc_session.specs.Heeded.{password_of, masks_of}
 use Rattle.wc_session.proofs.Formed.{null_formed, info_formed, infolist_formed, pong_formed, test_formed, handshake_formed}
 use Rattle.wc_mirror_laws.specs.Worlds.{IsBufferKept, IsWorldKept}
 use Rattle.wc_mirror_laws.proofs.NickDumps.{nick_dump_good, nick_list_good}
 use Rattle.wc_mirror_laws.proofs.RowLemmas.{row_has}
 use Rattle.wc_mirror_laws.proofs.TellingLemmas.{AllSpelt, AreGood, one_spelt, fitting_spelt}
 use Rattle.wc_mirror_laws.proofs.WorldSound.{infolist_within, world_sound}
-use Rattle.wc_mirror_laws.proofs.WithinLemmas.{simple_str, hda_within}
+use Rattle.wc_hdata.proofs.ValuesWithin.{simple_str}
+use Rattle.wc_mirror_laws.proofs.WithinLemmas.{hda_within}
 
 -- ---- the numbers of objects
 
@@ -227,14 +230,14 @@ replies_spelt : (client : Client) (messages : List WireMessage) → AllSpelt mes
 replies_spelt client [] all = tt
 replies_spelt client (m ∷ messages) all = all
 
-handshake_spelt : (client : Client) (id : List ℕ) (pairs : List Pair) → IsUtf8 id → AllSpelt (handshake_answer client id pairs).messages
+handshake_spelt : (masks : List ℕ) (client : Client) (id : List ℕ) (pairs : List Pair) → IsUtf8 id → AllSpelt (handshake_answer masks client id pairs).messages
 unfolding handshake_answer
-handshake_spelt client id pairs text =
-    let messages = handshake_reply client id pairs in
-    let all = reply_spelt id (handshake_objects client.nonce (choice_in pairs) (asks_escapes pairs)) text (handshake_good client.nonce (choice_in pairs) (asks_escapes pairs)) in
-    if_spelt (not client.logged_in && is_none (choice_in pairs))
-    (record { messages = messages; outcome = outcome.Leave cause.LoginFailed; client = shaken client pairs })
-    (replies (shaken client pairs) messages) all (replies_spelt (shaken client pairs) messages all)
+handshake_spelt masks client id pairs text =
+    let messages = handshake_reply masks client id pairs in
+    let all = reply_spelt id (handshake_objects client.nonce (choice_in masks pairs) (asks_escapes pairs)) text (handshake_good client.nonce (choice_in masks pairs) (asks_escapes pairs)) in
+    if_spelt (not client.logged_in && is_none (choice_in masks pairs))
+    (record { messages = messages; outcome = outcome.Leave cause.LoginFailed; client = shaken masks client pairs })
+    (replies (shaken masks client pairs) messages) all (replies_spelt (shaken masks client pairs) messages all)
 
 init_spelt : (password : List ℕ) (client : Client) (pairs : List Pair) → AllSpelt (init_answer password client pairs).messages
 unfolding init_answer
@@ -256,25 +259,25 @@ pong_is_text = refl
 pong_text : IsUtf8 (codes "_pong")
 pong_text = IsUtf8-from_is_utf8 (codes "_pong") pong_is_text
 
-served_spelt : (limit : ℕ) (world : World) (password : List ℕ) (client : Client) (id : List ℕ) (command : Command) → IsWorldKept limit world → IsUtf8 id → CommandUtf8 command → AllSpelt (served world password client id command).messages
+served_spelt : (limit : ℕ) (world : World) (options : OptionsValue) (client : Client) (id : List ℕ) (command : Command) → IsWorldKept limit world → IsUtf8 id → CommandUtf8 command → AllSpelt (served world options client id command).messages
 unfolding served CommandUtf8
-served_spelt limit world password client id (ask.Handshake pairs) is text utf8 = handshake_spelt client id pairs text
-served_spelt limit world password client id (ask.Init pairs) is text utf8 = init_spelt password client pairs
-served_spelt limit world password client id (ask.Hdata path keys) is text utf8 = replies_spelt client _ (reply_spelt id _ text (hdata_good limit world path keys is))
-served_spelt limit world password client id (ask.Info name) is text utf8 = replies_spelt client _ (reply_spelt id _ text (info_good name utf8))
-served_spelt limit world password client id (ask.Infolist name) is text utf8 = replies_spelt client _ (reply_spelt id _ text (infolist_good limit world name is utf8))
-served_spelt limit world password client id (ask.Nicklist buffer) is text utf8 = replies_spelt client _ (reply_spelt id _ text (nicklist_good limit world buffer is))
-served_spelt limit world password client id (ask.Input buffer typed) is text utf8 = input_spelt world.groups client buffer typed
-served_spelt limit world password client id (ask.Completion buffer position typed) is text utf8 = replies_spelt client _ (reply_spelt id _ text null_good)
-served_spelt limit world password client id (ask.Sync buffers options) is text utf8 = tt
-served_spelt limit world password client id (ask.Desync buffers options) is text utf8 = tt
-served_spelt limit world password client id ask.Test is text utf8 = replies_spelt client _ (reply_spelt id _ text test_good)
-served_spelt limit world password client id (ask.Ping typed) is text utf8 = replies_spelt client _ (reply_spelt (codes "_pong") _ pong_text (pong_good typed utf8))
-served_spelt limit world password client id ask.Quit is text utf8 = tt
+served_spelt limit world options client id (ask.Handshake pairs) is text utf8 = handshake_spelt (masks_of options) client id pairs text
+served_spelt limit world options client id (ask.Init pairs) is text utf8 = init_spelt (password_of options) client pairs
+served_spelt limit world options client id (ask.Hdata path keys) is text utf8 = replies_spelt client _ (reply_spelt id _ text (hdata_good limit world path keys is))
+served_spelt limit world options client id (ask.Info name) is text utf8 = replies_spelt client _ (reply_spelt id _ text (info_good name utf8))
+served_spelt limit world options client id (ask.Infolist name) is text utf8 = replies_spelt client _ (reply_spelt id _ text (infolist_good limit world name is utf8))
+served_spelt limit world options client id (ask.Nicklist buffer) is text utf8 = replies_spelt client _ (reply_spelt id _ text (nicklist_good limit world buffer is))
+served_spelt limit world options client id (ask.Input buffer typed) is text utf8 = input_spelt world.groups client buffer typed
+served_spelt limit world options client id (ask.Completion buffer position typed) is text utf8 = replies_spelt client _ (reply_spelt id _ text null_good)
+served_spelt limit world options client id (ask.Sync buffers asked) is text utf8 = tt
+served_spelt limit world options client id (ask.Desync buffers asked) is text utf8 = tt
+served_spelt limit world options client id ask.Test is text utf8 = replies_spelt client _ (reply_spelt id _ text test_good)
+served_spelt limit world options client id (ask.Ping typed) is text utf8 = replies_spelt client _ (reply_spelt (codes "_pong") _ pong_text (pong_good typed utf8))
+served_spelt limit world options client id ask.Quit is text utf8 = tt
 
 -- what a request gets
-pub answer_spelt : (limit : ℕ) (world : World) (password : List ℕ) (client : Client) (request : Request) → IsWorldKept limit world → RequestIsUtf8 request → AllSpelt (reply_of world password client request).messages
+pub answer_spelt : (limit : ℕ) (world : World) (options : OptionsValue) (client : Client) (request : Request) → IsWorldKept limit world → RequestIsUtf8 request → AllSpelt (reply_of world options client request).messages
 unfolding reply_of
-answer_spelt limit world password client request is utf8 =
-    if_spelt (client.logged_in || is_open request.command) (served world password client request.id request.command) (leaves client cause.LoginFailed)
-    (served_spelt limit world password client request.id request.command is utf8.id utf8.command) tt
+answer_spelt limit world options client request is utf8 =
+    if_spelt (client.logged_in || is_open request.command) (served world options client request.id request.command) (leaves client cause.LoginFailed)
+    (served_spelt limit world options client request.id request.command is utf8.id utf8.command) tt

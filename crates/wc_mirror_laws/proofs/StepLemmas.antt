@@ -19,7 +19,8 @@ use Rattle.wc_session.specs.Known.{new_client}
 use Rattle.wc_session.specs.Reply.{Answer, reply_of}
 use Rattle.wc_core.specs.Events.{Event, Start, Tick, Arrives, Line as LineCame, Ends, Fails, ListenFails}
 use Rattle.wc_core.specs.State.{State, Stepped, Closes}
-use Rattle.wc_core.specs.Step.{client_link, client_limit, no_step, sends, leave_step, outcome_step, answer_step, request_step, line_step, loss_step, step}
+use Rattle.wc_core.specs.Limits.{client_limit}
+use Rattle.wc_core.specs.Step.{client_link, no_step, sends, leave_step, outcome_step, answer_step, request_step, line_step, loss_step, step}
 use Rattle.wc_core.specs.Served.{OutcomeUtf8}
 use Rattle.wc_core.specs.Typed.{lines_of_text}
 use Rattle.wc_core.proofs.ReplyLemmas.{reply_fits}
@@ -80,14 +81,14 @@ right-answers which limit link id state k answer part here utf8 kept free after 
 -- ---- what is answered to a request
 
 -- what is typed by a request is text
-pub reply_text : (state : State) (client : Client) (line : List ℕ) (request : Request) → request_of client.escaped line ≡ Some request → OutcomeUtf8 (reply_of state.world state.password client request).outcome
+pub reply_text : (state : State) (client : Client) (line : List ℕ) (request : Request) → request_of client.escaped line ≡ Some request → OutcomeUtf8 (reply_of state.world state.options client request).outcome
 reply_text state client line request e =
-    (reply_fits state.world state.password client request (RequestIsUtf8-reads line client.escaped request (reads-request_of line client.escaped request e))).text
+    (reply_fits state.world state.options client request (RequestIsUtf8-reads line client.escaped request (reads-request_of line client.escaped request e))).text
 
 pub reply_link : (state : State) (client : Client) (line : List ℕ) (request : Request) → request_of client.escaped line ≡ Some request
-    → client_link (reply_of state.world state.password client request).client ≡ client_link client
+    → client_link (reply_of state.world state.options client request).client ≡ client_link client
 reply_link state client line request e =
-    ap (λ (l : LinkId). l.0) (reply_fits state.world state.password client request (RequestIsUtf8-reads line client.escaped request (reads-request_of line client.escaped request e))).link
+    ap (λ (l : LinkId). l.0) (reply_fits state.world state.options client request (RequestIsUtf8-reads line client.escaped request (reads-request_of line client.escaped request e))).link
 
 -- ---- a line of a client
 
@@ -104,7 +105,7 @@ kept-line limit link state k line kept = came (at_key client_link k state.client
   served client None e = kept
   served client (Some request) e =
       subst (λ (s : Stepped). IsStateKept limit link s.state) (sym (asked_replies state kept.told kept.world.empty client request))
-      (kept-answers limit link state (client_link client) (reply_of state.world state.password client request) (reply_link state client line request e) (reply_text state client line request e) kept)
+      (kept-answers limit link state (client_link client) (reply_of state.world state.options client request) (reply_link state client line request e) (reply_text state client line request e) kept)
 
   came : (o : Option Client) → IsStateKept limit link (line_step state line o).state
   came None = kept
@@ -119,9 +120,9 @@ kept-lost limit link state k why (Some client) kept = kept-leaves limit link sta
 pub step_keeps : StepKeeps
 step_keeps limit link state (Start moment) kept = record { most = kept.most; world = kept.world; told = kept.told; first = kept.first }
 step_keeps limit link state (Tick moment) kept = record { most = kept.most; world = kept.world; told = refl; first = kept.first }
-step_keeps limit link state (Arrives k nonce) kept = by (nat_lt (length state.clients) client_limit) where
+step_keeps limit link state (Arrives k nonce) kept = by (nat_lt (length state.clients) (client_limit state.options)) where
   came : Client
-  came = new_client (record { 0 = k }) nonce
+  came = new_client state.options (record { 0 = k }) nonce
 
   by : (b : Bool) → IsStateKept limit link (cond b (no_step (record state { clients = state.clients ++ came ∷ [] })) (record { state = state; acts = Closes k cause.Surplus ∷ [] })).state
   by true = kept-clients limit link state (state.clients ++ came ∷ []) kept (first-push link came state.clients refl ∙ kept.first)
@@ -175,7 +176,7 @@ following-line limit link state k line kept none after = came (at_key client_lin
       → is_following (client_on link (request_step state client o).state) ≡ true → is_following (client_on link state) ≡ true
   served client None at e after = after
   served client (Some request) at e after =
-      following-answers limit link state (client_link client) (reply_of state.world state.password client request) (reply_link state client line request e) (other client request at e) (reply_text state client line request e) kept
+      following-answers limit link state (client_link client) (reply_of state.world state.options client request) (reply_link state client line request e) (other client request at e) (reply_text state client line request e) kept
       (subst (λ (s : Stepped). is_following (client_on link s.state) ≡ true) (asked_replies state kept.told kept.world.empty client request) after)
 
   came : (o : Option Client) → at_key client_link k state.clients ≡ o → is_following (client_on link (line_step state line o).state) ≡ true → is_following (client_on link state) ≡ true
@@ -187,9 +188,9 @@ pub followed : (limit link : ℕ) (state : State) (event : Event) → IsStateKep
     → is_following (client_on link state) ≡ true
 followed limit link state (Start moment) kept none after = after
 followed limit link state (Tick moment) kept none after = after
-followed limit link state (Arrives k nonce) kept none after = by (nat_lt (length state.clients) client_limit) after where
+followed limit link state (Arrives k nonce) kept none after = by (nat_lt (length state.clients) (client_limit state.options)) after where
   came : Client
-  came = new_client (record { 0 = k }) nonce
+  came = new_client state.options (record { 0 = k }) nonce
 
   by : (b : Bool) → is_following (client_on link (cond b (no_step (record state { clients = state.clients ++ came ∷ [] })) (record { state = state; acts = Closes k cause.Surplus ∷ [] })).state) ≡ true
       → is_following (client_on link state) ≡ true

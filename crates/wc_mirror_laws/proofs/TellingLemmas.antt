@@ -1,11 +1,9 @@
 -- The event of each change that commands ask for: it keeps the rules of messages, and it is told.
 use Rattle.std.proofs.Common.{◌≡◌, ℕ, ◌-◌, ◌^◌, ◌≤◌, Bool, true, false, cond, List, [], ◌∷◌, length, Option, Some, None, option_map, refl, ap, ◌∙◌, arith}
 use Rattle.std.specs.List.{AllByRecursion}
-use Rattle.std.specs.Str.{IsUtf8, is_utf8, chars}
+use Rattle.std.specs.Str.{IsUtf8}
 use Rattle.std.proofs.lemmas.Bool.Decides.{nat_tests}
 use Rattle.std.proofs.lemmas.List.Elements.{recursion_from_All}
-use Rattle.std.proofs.lemmas.Str.{IsUtf8-from_is_utf8}
-use lib.Utf8.{encode}
 use Rattle.wc_text.specs.declared.names.Handle.{Handle}
 use Rattle.wc_lines.specs.declared.line.Line.{Line}
 use Rattle.wc_buffers.specs.declared.row.BufferEntry.{BufferEntry}
@@ -22,6 +20,7 @@ use Rattle.wc_objects.specs.declared.object.WireMessage.{WireMessage}
 use Rattle.wc_objects.specs.Forms.{well_formed}
 use Rattle.wc_objects.specs.Spelling.{message_bytes}
 use Rattle.wc_objects.specs.Within.{ObjectWithin}
+use Rattle.wc_keys.proofs.EventIds.{id_text}
 use Rattle.wc_events.specs.LineObjects.{added_objects}
 use Rattle.wc_events.specs.BufferObjects.{id_of, objects_of, event_objects, event_of, opened_objects, renamed_objects, title_objects, vars_objects}
 use Rattle.wc_events.proofs.Formed.{added_formed}
@@ -60,32 +59,6 @@ fitting_spelt m text good = by (fits m) refl where
   by : (b : Bool) → fits m ≡ b → AllSpelt (cond b (m ∷ []) [])
   by true e = (one_spelt m text good e, tt)
   by false e = tt
-
--- ---- the ids of events
-
-id_is_text : (k : EventKind) → is_utf8 (id_of k) ≡ true
-unfolding is_utf8 chars encode
-id_is_text kind.Opened = refl
-id_is_text kind.Moved = refl
-id_is_text kind.Merged = refl
-id_is_text kind.Unmerged = refl
-id_is_text kind.Hidden = refl
-id_is_text kind.Unhidden = refl
-id_is_text kind.Renamed = refl
-id_is_text kind.TitleChanged = refl
-id_is_text kind.VarAdded = refl
-id_is_text kind.VarChanged = refl
-id_is_text kind.VarRemoved = refl
-id_is_text kind.Cleared = refl
-id_is_text kind.Closing = refl
-id_is_text kind.LineAdded = refl
-id_is_text kind.LineDataChanged = refl
-id_is_text kind.Nicklist = refl
-id_is_text kind.NicklistDiff = refl
-id_is_text kind.NickTouched = refl
-
-id_text : (k : EventKind) → IsUtf8 (id_of k)
-id_text k = IsUtf8-from_is_utf8 (id_of k) (id_is_text k)
 
 -- ---- the objects of events
 

@@ -20,8 +20,8 @@ use Rattle.wc_model.specs.declared.change.What.TheVariants as what
 use Rattle.wc_model.specs.World.{World}
 use Rattle.wc_text.specs.Splits.{onward, text_after, word_of, rest_of}
 use Rattle.wc_relaycmd.proofs.Utf8Lemmas.{cut_text, put_byte, before_text, past_text}
-use Rattle.wc_core.specs.Resolved.{Effect, Stays, Ends, Tells, Asks, buffer_meant, of_meant, of_named, change_of, line_spec, plugin_in, effect_of}
-use Rattle.wc_core.specs.Typed.{TypedCommand, Nothing, Quits, Refused, Prints, Adds, Closes, Merges, Names, Changes, lines_parted, lines_of_text, print_unless_empty, print_words, tags_of, is_first, second_of, after_second, print_tagged, print_on, print_command, wrong_buffer, one_word, without_words, some_text, moves_to, close_command, starts, set_property, buffer_word, buffer_command, quit_command, command, slash_command, typed_line}
+use Rattle.wc_core.specs.Resolved.{Effect, Stays, Ends, Tells, Asks, SetsOption, UnsetsOption, buffer_meant, of_meant, of_named, change_of, line_spec, plugin_in, effect_of}
+use Rattle.wc_core.specs.Typed.{TypedCommand, Nothing, Quits, Refused, Prints, Adds, Closes, Merges, Names, Changes, Sets, Unsets, set_option, set_command, unset_command, option_command, unknown_command, wrong_arguments, lines_parted, lines_of_text, print_unless_empty, print_words, tags_of, is_first, second_of, after_second, print_tagged, print_on, print_command, wrong_buffer, one_word, without_words, some_text, moves_to, close_command, starts, set_property, buffer_word, buffer_command, quit_command, command, slash_command, typed_line}
 use Rattle.wc_mirror_laws.specs.Worlds.{IsBufferKept, IsWorldKept}
 use Rattle.wc_mirror_laws.proofs.ListLemmas.{all_filter}
 use Rattle.wc_mirror_laws.proofs.RowLemmas.{row_has}
@@ -105,6 +105,8 @@ IsTypedText (Closes buffer) = Unit {0}
 IsTypedText (Merges buffer) = Unit {0}
 IsTypedText (Names name) = IsUtf8 name
 IsTypedText (Changes w) = IsTold w
+IsTypedText (Sets name value) = Unit {0}
+IsTypedText (Unsets name) = Unit {0}
 
 if_text : (b : Bool) (x y : TypedCommand) → (b ≡ true → IsTypedText x) → IsTypedText y → IsTypedText (cond b x y)
 if_text true x y p q = p refl
@@ -209,13 +211,28 @@ quit_text : (text : List ℕ) → IsTypedText (quit_command text)
 quit_text [] = tt
 quit_text (b ∷ text) = tt
 
+set_text : (name value : List ℕ) → IsTypedText (set_option name value)
+set_text name [] = tt
+set_text name (b ∷ value) = tt
+
+unset_text : (text : List ℕ) → IsTypedText (unset_command text)
+unset_text [] = tt
+unset_text (b ∷ text) = if_text (ltb 0 (length (rest_of (b ∷ text)))) (wrong_arguments (codes "unset")) (Unsets (word_of (b ∷ text))) (λ here. tt) tt
+
+option_text : (name rest : List ℕ) → IsTypedText (option_command name rest)
+unfolding option_command
+option_text name rest =
+    let unsets = cond (bytes_eq name (codes "unset")) (unset_command rest) (unknown_command name) in
+    if_text (bytes_eq name (codes "set")) (set_command rest) unsets (λ here. set_text (word_of rest) (rest_of rest))
+    (if_text (bytes_eq name (codes "unset")) (unset_command rest) (unknown_command name) (λ here. unset_text rest) tt)
+
 command_text : (name rest : List ℕ) → IsUtf8 rest → IsTypedText (command name rest)
 command_text name rest utf8 =
-    let quits = cond (bytes_eq name (codes "quit")) (quit_command rest) (Refused (codes "unknown command: /" ++ name)) in
+    let quits = cond (bytes_eq name (codes "quit")) (quit_command rest) (option_command name rest) in
     let buffers = cond (bytes_eq name (codes "buffer")) (buffer_command rest) quits in
     if_text (bytes_eq name (codes "print")) (print_command rest) buffers (λ here. print_text rest utf8)
     (if_text (bytes_eq name (codes "buffer")) (buffer_command rest) quits (λ here. words_text (word_of rest) (rest_of rest) (rest_text rest utf8))
-    (if_text (bytes_eq name (codes "quit")) (quit_command rest) (Refused (codes "unknown command: /" ++ name)) (λ here. quit_text rest) tt))
+    (if_text (bytes_eq name (codes "quit")) (quit_command rest) (option_command name rest) (λ here. quit_text rest) (option_text name rest)))
 
 slashed_text : (text : List ℕ) → IsUtf8 text → IsTypedText (slash_command text)
 slashed_text [] utf8 = command_text [] [] utf8
@@ -237,6 +254,8 @@ OnAsks Stays = Unit {0}
 OnAsks Ends = Unit {0}
 OnAsks (Tells text) = Unit {0}
 OnAsks (Asks change) = IsTold change.what
+OnAsks (SetsOption name value) = Unit {0}
+OnAsks (UnsetsOption name) = Unit {0}
 
 meant_told : (f : Handle → Change) (o : Option Handle) → ((h : Handle) → IsTold (f h).what) → OnAsks (of_meant f o)
 meant_told f None each = tt
@@ -279,3 +298,5 @@ resolved_told limit w moment buffer (Merges name) is text = meant_told (λ into.
 resolved_told limit w moment buffer (Names name) is text =
     (IsUtf8-append (plugin_in (buffer_of buffer w.groups) ++ codes ".") name (IsUtf8-append (plugin_in (buffer_of buffer w.groups)) (codes ".") (front_text limit w buffer is) dot_text) text, refl)
 resolved_told limit w moment buffer (Changes c) is text = text
+resolved_told limit w moment buffer (Sets name value) is text = tt
+resolved_told limit w moment buffer (Unsets name) is text = tt

@@ -26,74 +26,11 @@ use Rattle.wc_objects.specs.Within.{SimpleWithin, PairWithin, ValueWithin, ItemW
 use Rattle.wc_events.specs.LineObjects.{truth, moment, texts, line_keys, line_values, added_item, added_objects, dumped_item, dumped_lines, line_dump}
 use Rattle.wc_events.specs.BufferObjects.{count, pair_of, table, about, opened_keys, opened_values, opened_objects, placed_keys, placed_values, placed_objects, renamed_keys, renamed_values, renamed_objects, title_keys, title_values, title_objects, vars_keys, vars_values, vars_objects, named_keys, named_values, named_objects, dump_keys, dumped_values, dumped_buffer, dumped_groups, buffer_dump}
 use Rattle.wc_events.specs.NickObjects.{nick_path, nick_keys, nick_values, nick_item, nick_objects}
+use Rattle.wc_hdata.proofs.ValuesWithin.{moment_within, count_within, truth_within, flag_within, value_tim, value_chr, value_int, value_ptr, value_str, simple_str, value_texts, value_table}
 use Rattle.wc_mirror_laws.specs.Printed.{IsPrinted}
 use Rattle.wc_mirror_laws.specs.Worlds.{IsBufferKept, IsWorldKept}
 use Rattle.wc_mirror_laws.proofs.ListLemmas.{all_append, all_front, all_back, all_map, all_flat}
 use Rattle.wc_mirror_laws.proofs.NoticeLemmas.{IsTelling}
-
--- ---- single numbers
-
-moment_within : (date : ℕ) → FitsSigned w64 (moment date)
-moment_within date = by (leb date (2 ^ 63 - 1)) refl where
-  by : (b : Bool) → leb date (2 ^ 63 - 1) ≡ b → FitsSigned w64 (pos (cond b date (2 ^ 63 - 1)))
-  by true e = record { sfits = grind (arith, nat_tests) }
-  by false e = record { sfits = omega arith }
-
-pub count_within : (n : ℕ) → FitsSigned w32 (count n)
-count_within n = by (leb n (2 ^ 31 - 1)) refl where
-  by : (b : Bool) → leb n (2 ^ 31 - 1) ≡ b → FitsSigned w32 (pos (cond b n (2 ^ 31 - 1)))
-  by true e = record { sfits = grind (arith, nat_tests) }
-  by false e = record { sfits = omega arith }
-
-truth_within : (on : Bool) → FitsSigned w8 (truth on)
-truth_within true = record { sfits = omega arith }
-truth_within false = record { sfits = omega arith }
-
-pub flag_within : (on : Bool) → FitsSigned w32 (truth on)
-flag_within true = record { sfits = omega arith }
-flag_within false = record { sfits = omega arith }
-
--- ---- values
-
-value_tim : (n : ℤ) → FitsSigned w64 n → ValueWithin (o.Tim n)
-unfolding ValueWithin out-Object out
-value_tim n fit = fit
-
-value_chr : (n : ℤ) → FitsSigned w8 n → ValueWithin (o.Chr n)
-unfolding ValueWithin out-Object out
-value_chr n fit = fit
-
-value_int : (n : ℤ) → FitsSigned w32 n → ValueWithin (o.Int n)
-unfolding ValueWithin out-Object out
-value_int n fit = fit
-
-value_ptr : (n : ℕ) → n < 2 ^ 64 → ValueWithin (o.Ptr n)
-unfolding ValueWithin out-Object out
-value_ptr n fit = fit
-
-value_str : (text : List ℕ) → ValueWithin (o.Str (Some text))
-unfolding ValueWithin out-Object out
-value_str text = tt
-
-pub simple_str : (text : Option (List ℕ)) → SimpleWithin (o.Str text)
-unfolding SimpleWithin out-Object out
-simple_str text = tt
-
-texts_within : (tags : List (List ℕ)) → AllByRecursion SimpleWithin (texts tags)
-texts_within [] = tt
-texts_within (tag ∷ tags) = (simple_str (Some tag), texts_within tags)
-
-value_texts : (tags : List (List ℕ)) → ValueWithin (o.Arr k.Str (texts tags))
-unfolding ValueWithin
-value_texts tags = rw (← o.rolls-Arr k.Str (texts tags), out-roll-Object) (texts_within tags)
-
-pairs_within : (vars : List Pair) → AllByRecursion PairWithin (map pair_of vars)
-pairs_within [] = tt
-pairs_within (v ∷ vars) = ((simple_str (Some v.name), simple_str (Some v.value)), pairs_within vars)
-
-value_table : (vars : List Pair) → ValueWithin (table vars)
-unfolding ValueWithin
-value_table vars = rw (← o.rolls-Htb k.Str k.Str (map pair_of vars), out-roll-Object) (pairs_within vars)
 
 -- ---- objects of items
 

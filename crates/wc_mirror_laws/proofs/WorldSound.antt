@@ -26,7 +26,7 @@ use Rattle.wc_session.specs.Reply.{infolist_objects}
 use Rattle.wc_mirror_laws.specs.Printed.{IsPrinted}
 use Rattle.wc_mirror_laws.specs.Worlds.{IsBufferKept, IsWorldKept}
 use Rattle.wc_mirror_laws.proofs.ListLemmas.{all_more}
-use Rattle.wc_mirror_laws.proofs.WithinLemmas.{count_within, flag_within}
+use Rattle.wc_hdata.proofs.ValuesWithin.{count_within, flag_within}
 
 -- ---- the world
 

@@ -6,6 +6,7 @@ use Rattle.wc_objects.specs.declared.object.WireMessage.{WireMessage}
 use Rattle.wc_objects.specs.Spells.{Spells}
 use Rattle.wc_objects.specs.Within.{IsWithin}
 use Rattle.wc_session.specs.Sending.{spelling}
+use Rattle.wc_options.specs.Options.{OptionsValue}
 use Rattle.wc_core.specs.Events.{Event}
 use Rattle.wc_core.specs.State.{first_state}
 use Rattle.wc_core.specs.Step.{run}
@@ -49,18 +50,18 @@ SpellOnce = (bytes : List ℕ) (a b : List WireMessage) → Spell bytes a → Sp
 
 -- What is sent to a link spells the messages for it.
 abbrev pub RunSpells : Type 0
-RunSpells = (password : List ℕ) (limit : ℕ) (events : List Event) (link : ℕ) → limit ≤ 4096
-    → Spell (sent_to link (run (first_state password limit) events).acts)
-    (messages_to link (run (first_state password limit) events).acts)
+RunSpells = (options : OptionsValue) (limit : ℕ) (events : List Event) (link : ℕ) → limit ≤ 4096
+    → Spell (sent_to link (run (first_state options limit) events).acts)
+    (messages_to link (run (first_state options limit) events).acts)
 
 -- Whoever settled by the dump of a part has exactly this part of the world, by all bytes that it
 -- was sent.
 abbrev pub PartShows : HeldPart → Type 0
-PartShows which = (password : List ℕ) (limit : ℕ) (events : List Event) (link : ℕ) (id : List ℕ)
+PartShows which = (options : OptionsValue) (limit : ℕ) (events : List Event) (link : ℕ) (id : List ℕ)
     → limit ≤ 4096 → AllByRecursion IsShortLine events →
-    SettledBy which link id (first_state password limit) events
-    → ShowsPart which limit id (sent_to link (run (first_state password limit) events).acts)
-    (run (first_state password limit) events).state.world
+    SettledBy which link id (first_state options limit) events
+    → ShowsPart which limit id (sent_to link (run (first_state options limit) events).acts)
+    (run (first_state options limit) events).state.world
 
 -- the lines that each buffer holds
 abbrev pub BytesShow : Type 0

@@ -1,5 +1,6 @@
 -- A client that settles by three lines.
 use Rattle.std.specs.Prelude.{ℕ, List, [], ◌∷◌, ◌++◌, codes}
+use Rattle.wc_options.specs.Options.{OptionsValue, fresh, with_value}
 use Rattle.wc_core.specs.Events.{Event, Arrives, Line}
 use Rattle.wc_core.specs.State.{first_state}
 use Rattle.wc_mirror_laws.specs.Settled.{Settled, SettledBuffers, SettledNicks}
@@ -22,21 +23,25 @@ buffers_line
 abbrev pub nicks_line : List ℕ
 nicks_line = codes "(n) nicklist"
 
+-- options of which the password alone is set
+abbrev pub only_password : OptionsValue
+only_password = with_value fresh (codes "relay.network.password") (codes "x")
+
 -- a client logs in, asks for all events and says this line
 abbrev pub three_lines : List ℕ → List Event
 three_lines line = Arrives 1 [] ∷ Line 1 init_line ∷ Line 1 sync_line ∷ Line 1 line ∷ []
 
 -- whoever takes the line dump by it has settled
 abbrev pub ThreeLinesSettle : Type 0
-ThreeLinesSettle = (limit : ℕ) → Settled 1 (codes "l") (first_state (codes "x") limit)
+ThreeLinesSettle = (limit : ℕ) → Settled 1 (codes "l") (first_state only_password limit)
     (three_lines dump_line)
 
 -- and so has whoever takes the buffer dump
 abbrev pub ThreeLinesSettleBuffers : Type 0
-ThreeLinesSettleBuffers = (limit : ℕ) → SettledBuffers 1 (codes "b") (first_state (codes "x") limit)
+ThreeLinesSettleBuffers = (limit : ℕ) → SettledBuffers 1 (codes "b") (first_state only_password limit)
     (three_lines buffers_line)
 
 -- and whoever takes the nicklists of all buffers
 abbrev pub ThreeLinesSettleNicks : Type 0
-ThreeLinesSettleNicks = (limit : ℕ) → SettledNicks 1 (codes "n") (first_state (codes "x") limit)
+ThreeLinesSettleNicks = (limit : ℕ) → SettledNicks 1 (codes "n") (first_state only_password limit)
     (three_lines nicks_line)

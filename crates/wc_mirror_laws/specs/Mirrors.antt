@@ -3,6 +3,7 @@ use Rattle.std.specs.Prelude.{◌≡◌, ℕ, ◌≤◌, true, List, [], ◌∷�
 use Rattle.std.specs.List.{AllByRecursion}
 use Rattle.wc_objects.specs.declared.object.WireMessage.{WireMessage}
 use Rattle.wc_text.specs.Splits.{BeginsWithout}
+use Rattle.wc_options.specs.Options.{OptionsValue}
 use Rattle.wc_core.specs.Events.{Event, Line}
 use Rattle.wc_core.specs.State.{State, Act, first_state}
 use Rattle.wc_core.specs.Step.{step, run}
@@ -32,12 +33,12 @@ IsShortLine _ = Unit {0}
 -- Whoever settled by the dump of a part has exactly this part of the world, by all messages that it
 -- was sent.
 abbrev pub Mirrors : HeldPart → Type 0
-Mirrors which = (password : List ℕ) (limit : ℕ) (events : List Event) (link : ℕ) (id : List ℕ)
+Mirrors which = (options : OptionsValue) (limit : ℕ) (events : List Event) (link : ℕ) (id : List ℕ)
     → limit ≤ 4096 → AllByRecursion IsShortLine events →
-    SettledBy which link id (first_state password limit) events
+    SettledBy which link id (first_state options limit) events
     → Has which (mirror_after which limit link id (nothing which)
-    (run (first_state password limit) events).acts)
-    (run (first_state password limit) events).state.world
+    (run (first_state options limit) events).acts)
+    (run (first_state options limit) events).state.world
 
 -- a request has the id of the dump only where it is the dump
 abbrev pub IsFair : HeldPart → List ℕ → AskedFor → Type 0
@@ -71,5 +72,5 @@ StepKeeps = (limit link : ℕ) (state : State) (event : Event) → IsStateKept l
     IsStateKept limit link (step state event).state
 
 abbrev pub RunKeeps : Type 0
-RunKeeps = (password : List ℕ) (limit : ℕ) (events : List Event) (link : ℕ) → limit ≤ 4096 →
-    IsStateKept limit link (run (first_state password limit) events).state
+RunKeeps = (options : OptionsValue) (limit : ℕ) (events : List Event) (link : ℕ) → limit ≤ 4096 →
+    IsStateKept limit link (run (first_state options limit) events).state

@@ -16,6 +16,7 @@ use Rattle.wc_hdata.proofs.DumpWalks.{AreOnce, few_of}
 use Rattle.wc_session.specs.declared.client.Client.{Client}
 use Rattle.wc_session.specs.Reply.{dump_asked, hdata_objects, is_buffer_dump, is_line_dump, is_open, leaves, nicklist_objects, replies, reply_of, served}
 use Rattle.wc_session.specs.Sending.{reply}
+use Rattle.wc_options.specs.Options.{OptionsValue}
 use Rattle.wc_session.proofs.WalkReplies.{buffers_told, lines_told}
 
 -- what lets the dumps be walked: each handle is that of one buffer, and there are not too many of
@@ -44,16 +45,16 @@ path_dump id world path keys objects is asked = by (is_line_dump path keys) (is_
   by false true e f same = buffers_told id world path keys is.once is.groups is.buffers f ∙ ap (reply id) (let given = same in cc)
   by false false e f same = absurd (let given = same in cc)
 
-served_dump : (world : World) (password : List ℕ) (client : Client) (id : List ℕ) (command : Command) (objects : List Object) → IsWalkable world → dump_asked world command ≡ Some objects
-    → (served world password client id command).messages ≡ reply id objects
+served_dump : (world : World) (options : OptionsValue) (client : Client) (id : List ℕ) (command : Command) (objects : List Object) → IsWalkable world → dump_asked world command ≡ Some objects
+    → (served world options client id command).messages ≡ reply id objects
 unfolding served dump_asked nicklist_objects
-served_dump world password client id (ask.Hdata path keys) objects is asked = told client (reply id (hdata_objects world path keys)) ∙ path_dump id world path keys objects is asked
-served_dump world password client id (ask.Nicklist None) objects is asked = told client (reply id (nicklist_objects world None)) ∙ ap (reply id) (let given = asked in cc)
-served_dump world password client id _ objects is asked = absurd (let given = asked in cc)
+served_dump world options client id (ask.Hdata path keys) objects is asked = told client (reply id (hdata_objects world path keys)) ∙ path_dump id world path keys objects is asked
+served_dump world options client id (ask.Nicklist None) objects is asked = told client (reply id (nicklist_objects world None)) ∙ ap (reply id) (let given = asked in cc)
+served_dump world options client id _ objects is asked = absurd (let given = asked in cc)
 
-pub dump_told : (world : World) (password : List ℕ) (client : Client) (request : Request) (objects : List Object) → IsWalkable world → client.logged_in ≡ true → dump_asked world request.command ≡ Some objects
-    → (reply_of world password client request).messages ≡ reply request.id objects
+pub dump_told : (world : World) (options : OptionsValue) (client : Client) (request : Request) (objects : List Object) → IsWalkable world → client.logged_in ≡ true → dump_asked world request.command ≡ Some objects
+    → (reply_of world options client request).messages ≡ reply request.id objects
 unfolding reply_of
-dump_told world password client request objects is logged asked =
-    ap (λ b. (cond (b || is_open request.command) (served world password client request.id request.command) (leaves client cause.LoginFailed)).messages) logged
-    ∙ served_dump world password client request.id request.command objects is asked
+dump_told world options client request objects is logged asked =
+    ap (λ b. (cond (b || is_open request.command) (served world options client request.id request.command) (leaves client cause.LoginFailed)).messages) logged
+    ∙ served_dump world options client request.id request.command objects is asked

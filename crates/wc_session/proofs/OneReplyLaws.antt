@@ -19,6 +19,8 @@ use Rattle.wc_session.specs.Logins.{pairs_let_in}
 use Rattle.wc_session.specs.Names.{buffer_named}
 use Rattle.wc_session.specs.OneReply.{AtMostOne, IsOneReply, id_of_reply}
 use Rattle.wc_session.specs.Reply.{Answer, silent, leaves, replies, typed_into, shaken, handshake_reply, handshake_answer, init_answer, input_answer, is_open, served, reply_of}
+use Rattle.wc_options.specs.Options.{OptionsValue}
+use Rattle.wc_session.specs.Heeded.{password_of, masks_of}
 use Rattle.wc_session.specs.Sending.{message, fits, fitting, null_hdata, reply}
 
 if_one : (id : List ℕ) (b : Bool) (x y : List WireMessage) → AtMostOne id x → AtMostOne id y → AtMostOne id (if b then x else y)
@@ -41,13 +43,13 @@ replies_one : (id : List ℕ) (client : Client) (messages : List WireMessage) �
 replies_one id client [] one = one
 replies_one id client (m ∷ messages) one = one
 
-handshake_one : (client : Client) (id : List ℕ) (pairs : List Pair) → AtMostOne id (handshake_answer client id pairs).messages
+handshake_one : (masks : List ℕ) (client : Client) (id : List ℕ) (pairs : List Pair) → AtMostOne id (handshake_answer masks client id pairs).messages
 unfolding handshake_answer
-handshake_one client id pairs =
-    let messages = handshake_reply client id pairs in
-    if_answers_one id (not client.logged_in && is_none (choice_in pairs))
-    (record { messages = messages; outcome = outcome.Leave cause.LoginFailed; client = shaken client pairs })
-    (replies (shaken client pairs) messages) (reply_one id _) (replies_one id (shaken client pairs) messages (reply_one id _))
+handshake_one masks client id pairs =
+    let messages = handshake_reply masks client id pairs in
+    if_answers_one id (not client.logged_in && is_none (choice_in masks pairs))
+    (record { messages = messages; outcome = outcome.Leave cause.LoginFailed; client = shaken masks client pairs })
+    (replies (shaken masks client pairs) messages) (reply_one id _) (replies_one id (shaken masks client pairs) messages (reply_one id _))
 
 init_one : (id password : List ℕ) (client : Client) (pairs : List Pair) → AtMostOne id (init_answer password client pairs).messages
 unfolding init_answer
@@ -63,25 +65,25 @@ typed_one id client text (Some buffer) = tt
 input_one : (id : List ℕ) (groups : EntryGroups) (client : Client) (buffer text : List ℕ) → AtMostOne id (input_answer groups client buffer text).messages
 input_one id groups client buffer text = typed_one id client text (buffer_named groups buffer)
 
-served_one : (world : World) (password : List ℕ) (client : Client) (id : List ℕ) (command : Command) → AtMostOne (id_of_reply id command) (served world password client id command).messages
+served_one : (world : World) (options : OptionsValue) (client : Client) (id : List ℕ) (command : Command) → AtMostOne (id_of_reply id command) (served world options client id command).messages
 unfolding served
-served_one world password client id (ask.Handshake pairs) = handshake_one client id pairs
-served_one world password client id (ask.Init pairs) = init_one id password client pairs
-served_one world password client id (ask.Hdata path keys) = replies_one id client _ (reply_one id _)
-served_one world password client id (ask.Info name) = replies_one id client _ (reply_one id _)
-served_one world password client id (ask.Infolist name) = replies_one id client _ (reply_one id _)
-served_one world password client id (ask.Nicklist buffer) = replies_one id client _ (reply_one id _)
-served_one world password client id (ask.Input buffer text) = input_one id world.groups client buffer text
-served_one world password client id (ask.Completion buffer position text) = replies_one id client _ (reply_one id _)
-served_one world password client id (ask.Sync buffers options) = tt
-served_one world password client id (ask.Desync buffers options) = tt
-served_one world password client id ask.Test = replies_one id client _ (reply_one id _)
-served_one world password client id (ask.Ping text) = replies_one (codes "_pong") client _ (reply_one (codes "_pong") _)
-served_one world password client id ask.Quit = tt
+served_one world options client id (ask.Handshake pairs) = handshake_one (masks_of options) client id pairs
+served_one world options client id (ask.Init pairs) = init_one id (password_of options) client pairs
+served_one world options client id (ask.Hdata path keys) = replies_one id client _ (reply_one id _)
+served_one world options client id (ask.Info name) = replies_one id client _ (reply_one id _)
+served_one world options client id (ask.Infolist name) = replies_one id client _ (reply_one id _)
+served_one world options client id (ask.Nicklist buffer) = replies_one id client _ (reply_one id _)
+served_one world options client id (ask.Input buffer text) = input_one id world.groups client buffer text
+served_one world options client id (ask.Completion buffer position text) = replies_one id client _ (reply_one id _)
+served_one world options client id (ask.Sync buffers asked) = tt
+served_one world options client id (ask.Desync buffers asked) = tt
+served_one world options client id ask.Test = replies_one id client _ (reply_one id _)
+served_one world options client id (ask.Ping text) = replies_one (codes "_pong") client _ (reply_one (codes "_pong") _)
+served_one world options client id ask.Quit = tt
 
-pub one_reply : (world : World) (password : List ℕ) (client : Client) (request : Request) → IsOneReply request (reply_of world password client request).messages
+pub one_reply : (world : World) (options : OptionsValue) (client : Client) (request : Request) → IsOneReply request (reply_of world options client request).messages
 unfolding reply_of
-one_reply world password client request =
+one_reply world options client request =
     if_answers_one (id_of_reply request.id request.command) (client.logged_in || is_open request.command)
-    (served world password client request.id request.command) (leaves client cause.LoginFailed)
-    (served_one world password client request.id request.command) tt
+    (served world options client request.id request.command) (leaves client cause.LoginFailed)
+    (served_one world options client request.id request.command) tt

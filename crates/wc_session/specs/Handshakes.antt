@@ -11,14 +11,15 @@ use Rattle.wc_objects.specs.declared.kind.Kind.TheVariants as k
 use Rattle.wc_objects.specs.declared.object.Object.{Object}
 use Rattle.wc_objects.specs.declared.object.Object.TheVariants as o
 
--- the algorithms that are allowed, as masks
-abbrev pub allowed_masks : List ℕ
-allowed_masks = codes "*"
+-- the algorithm of a client that said nothing: `plain`, where a mask allows it
+unfoldable pub first_choice : List ℕ → Option Algorithm
+first_choice masks = choice_of (codes "plain") masks
 
--- the strongest algorithm of the client's list that is allowed; a list that is not given is `plain`
-unfoldable pub choice_in : List Pair → Option Algorithm
-choice_in pairs = choice_of (unwrap_or (last_value (codes "password_hash_algo") pairs)
-    (codes "plain")) allowed_masks
+-- the strongest algorithm of the client's list that is allowed by these masks; a list that is not
+-- given is `plain`
+unfoldable pub choice_in : List ℕ → List Pair → Option Algorithm
+choice_in masks pairs = choice_of (unwrap_or (last_value (codes "password_hash_algo") pairs)
+    (codes "plain")) masks
 
 abbrev pub is_on : Option (List ℕ) → Bool
 is_on None = false

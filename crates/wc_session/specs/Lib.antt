@@ -1,4 +1,5 @@
 pub mod Handshakes
+pub mod Heeded
 pub mod Known
 pub mod Logins
 pub mod Names

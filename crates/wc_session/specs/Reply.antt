@@ -8,6 +8,7 @@ use Rattle.wc_text.specs.declared.names.Cause.{Cause}
 use Rattle.wc_text.specs.declared.names.Cause.TheVariants as cause
 use Rattle.wc_buffers.specs.Calls.{EntryGroups}
 use Rattle.wc_model.specs.World.{World}
+use Rattle.wc_options.specs.Options.{OptionsValue}
 use Rattle.wc_relaycmd.specs.declared.request.Command.{Command}
 use Rattle.wc_relaycmd.specs.declared.request.Command.TheVariants as ask
 use Rattle.wc_relaycmd.specs.declared.request.Request.{Request}
@@ -29,6 +30,7 @@ use Rattle.wc_session.specs.declared.outcome.Outcome.{Outcome}
 use Rattle.wc_session.specs.declared.outcome.Outcome.TheVariants as outcome
 use Rattle.wc_session.specs.Sending.{reply, null_hdata}
 use Rattle.wc_session.specs.Handshakes.{choice_in, asks_escapes, handshake_objects}
+use Rattle.wc_session.specs.Heeded.{password_of, masks_of}
 use Rattle.wc_session.specs.Logins.{pairs_let_in}
 use Rattle.wc_session.specs.Names.{buffer_named}
 use Rattle.wc_session.specs.Sync.{synchronized, desynchronized}
@@ -122,26 +124,26 @@ pong_objects text = o.Str (Some text) ∷ []
 -- ---- the login
 
 -- A handshake before login settles the algorithm and the escapes; one after it settles nothing.
-unfoldable pub shaken : Client → List Pair → Client
-shaken client pairs = if client.logged_in then client else record client {
-  chosen = choice_in pairs;
+unfoldable pub shaken : List ℕ → Client → List Pair → Client
+shaken masks client pairs = if client.logged_in then client else record client {
+  chosen = choice_in masks pairs;
   escaped = asks_escapes pairs;
 }
 
-abbrev pub handshake_reply : Client → List ℕ → List Pair → List WireMessage
-handshake_reply client id pairs = reply id (handshake_objects client.nonce (choice_in pairs)
+abbrev pub handshake_reply : List ℕ → Client → List ℕ → List Pair → List WireMessage
+handshake_reply masks client id pairs = reply id (handshake_objects client.nonce (choice_in masks pairs)
     (asks_escapes pairs))
 
 -- Before login a handshake without a common algorithm is answered, and then the client leaves.
-unfoldable pub handshake_answer : Client → List ℕ → List Pair → Answer
-handshake_answer client id pairs =
-    if not client.logged_in && is_none (choice_in pairs)
+unfoldable pub handshake_answer : List ℕ → Client → List ℕ → List Pair → Answer
+handshake_answer masks client id pairs =
+    if not client.logged_in && is_none (choice_in masks pairs)
     then record {
-      messages = handshake_reply client id pairs;
+      messages = handshake_reply masks client id pairs;
       outcome = outcome.Leave cause.LoginFailed;
-      client = shaken client pairs;
+      client = shaken masks client pairs;
     }
-    else replies (shaken client pairs) (handshake_reply client id pairs)
+    else replies (shaken masks client pairs) (handshake_reply masks client id pairs)
 
 unfoldable pub init_answer : List ℕ → Client → List Pair → Answer
 init_answer password client pairs =
@@ -171,35 +173,35 @@ is_open ask.Quit = true
 is_open _ = false
 
 -- what a request gets that is served
-unfoldable pub served : World → List ℕ → Client → List ℕ → Command → Answer
-served world password client id (ask.Handshake pairs) = handshake_answer client id pairs
-served world password client id (ask.Init pairs) = init_answer password client pairs
-served world password client id (ask.Hdata path keys) =
+unfoldable pub served : World → OptionsValue → Client → List ℕ → Command → Answer
+served world options client id (ask.Handshake pairs) = handshake_answer (masks_of options) client id pairs
+served world options client id (ask.Init pairs) = init_answer (password_of options) client pairs
+served world options client id (ask.Hdata path keys) =
     replies client (reply id (hdata_objects world path keys))
-served world password client id (ask.Info name) = replies client (reply id (info_objects name))
-served world password client id (ask.Infolist name) =
+served world options client id (ask.Info name) = replies client (reply id (info_objects name))
+served world options client id (ask.Infolist name) =
     replies client (reply id (infolist_objects world name))
-served world password client id (ask.Nicklist buffer) =
+served world options client id (ask.Nicklist buffer) =
     replies client (reply id (nicklist_objects world buffer))
-served world password client id (ask.Input buffer text) =
+served world options client id (ask.Input buffer text) =
     input_answer world.groups client buffer text
-served world password client id (ask.Completion buffer position text) =
+served world options client id (ask.Completion buffer position text) =
     replies client (reply id null_hdata)
-served world password client id (ask.Sync buffers options) =
-    silent (synchronized world.groups client buffers options)
-served world password client id (ask.Desync buffers options) =
-    silent (desynchronized world.groups client buffers options)
-served world password client id ask.Test = replies client (reply id test_objects)
-served world password client id (ask.Ping text) =
+served world options client id (ask.Sync buffers asked) =
+    silent (synchronized world.groups client buffers asked)
+served world options client id (ask.Desync buffers asked) =
+    silent (desynchronized world.groups client buffers asked)
+served world options client id ask.Test = replies client (reply id test_objects)
+served world options client id (ask.Ping text) =
     replies client (reply (codes "_pong") (pong_objects text))
-served world password client id ask.Quit = leaves client cause.Quit
+served world options client id ask.Quit = leaves client cause.Quit
 
--- What a request gets in this world, where this is the password that is set. Before login a
+-- What a request gets in this world, where these are the options. Before login a
 -- handshake, `init` and `quit` are served, and any other request drops the client.
-unfoldable pub reply_of : World → List ℕ → Client → Request → Answer
-reply_of world password client request =
+unfoldable pub reply_of : World → OptionsValue → Client → Request → Answer
+reply_of world options client request =
     if client.logged_in || is_open request.command
-    then served world password client request.id request.command
+    then served world options client request.id request.command
     else leaves client cause.LoginFailed
 
 -- ---- the dumps

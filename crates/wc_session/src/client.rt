@@ -3,9 +3,12 @@ ghost use Rattle.wc_session.specs.Known.{new_client};
 ghost use Rattle.wc_session.specs.Sync.{follows, after_event};
 
 use crate::buffer_sets::BufferSets;
+use crate::handshake::first_choice;
+use crate::heeded::masks_of;
 use crate::sync_set::SyncSet;
 use std::alloc::Global;
 use wc_model::EventKind;
+use wc_options::Options;
 use wc_relaycmd::Algorithm;
 use wc_text::{Handle, LinkId};
 
@@ -15,8 +18,8 @@ pub struct Client {
     pub link: LinkId,
     /// The bytes that a salt has to begin with.
     pub nonce: [u8; 16],
-    /// How the client is to prove that it knows the password. None where the handshake found no
-    /// common way.
+    /// How the client is to prove that it knows the password. None where there is no
+    /// way that both allow.
     pub chosen: Option<Algorithm>,
     /// Whether it writes its lines with `escape_commands`.
     pub escaped: bool,
@@ -28,14 +31,15 @@ pub struct Client {
 }
 
 impl Client {
-    /// A client that has said nothing: without a handshake `plain` is chosen.
-    pub fn new(alloc: Global, link: LinkId, nonce: [u8; 16]) -> Client
-        ensures { result ≡ new_client link nonce }
+    /// A client that has said nothing: without a handshake `plain` is chosen, where these options
+    /// allow it.
+    pub fn new(alloc: Global, link: LinkId, nonce: [u8; 16], options: &Options) -> Client
+        ensures { result ≡ new_client options.now link nonce }
     {
         Client {
             link,
             nonce,
-            chosen: Some(Algorithm::Plain),
+            chosen: first_choice(masks_of(options)),
             escaped: false,
             logged_in: false,
             everywhere: SyncSet::none(),

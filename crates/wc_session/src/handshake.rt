@@ -2,7 +2,8 @@ ghost use Rattle.std.specs.Prelude.{◌≡◌, ◌++◌, ◌∷◌, [], true, co
 ghost use Rattle.std.specs.Str.{IsUtf8};
 ghost use Rattle.hex.specs.Hex.{encode_upper};
 ghost use Rattle.wc_objects.specs.Forms.{well_formed};
-ghost use Rattle.wc_session.specs.Handshakes.{choice_in, asks_escapes, name_of_choice, switch};
+ghost use Rattle.wc_session.specs.Handshakes.{choice_in, first_choice, asks_escapes};
+ghost use Rattle.wc_session.specs.Handshakes.{name_of_choice, switch};
 ghost use Rattle.wc_session.specs.Handshakes.{entry, handshake_table, handshake_objects};
 ghost use Rattle.wc_session.specs.Reply.{shaken, handshake_answer};
 ghost use Rattle.wc_session.specs.Served.{GivesAnswer};
@@ -16,18 +17,23 @@ use wc_objects::{Kind, Object};
 use wc_relaycmd::{Algorithm, choose_algorithm, last_value};
 use wc_text::{Cause, Items, NoMemory, Pair, Text};
 
-/// The algorithms that are allowed, as masks.
-const ALLOWED: &[u8] = b"*";
+/// The algorithm of a client that said nothing: `plain`, where a mask allows it.
+#[tactic(auto, unfolding(crate::specs::Handshakes::first_choice))]
+pub fn first_choice(masks: &[u8]) -> Option<Algorithm>
+    ensures { result ≡ first_choice masks.now }
+{
+    choose_algorithm(b"plain", masks)
+}
 
-/// The algorithm that a handshake settles: the strongest of the client's list, which is `plain`
-/// where it is not given.
+/// The algorithm that a handshake settles: the strongest of the client's list that a mask allows.
+/// The list is `plain` where it is not given.
 #[tactic(auto, unfolding(crate::specs::Handshakes::choice_in))]
-fn choice_in(pairs: &Items<Pair>) -> Option<Algorithm>
-    ensures { result ≡ choice_in pairs.now }
+fn choice_in(masks: &[u8], pairs: &Items<Pair>) -> Option<Algorithm>
+    ensures { result ≡ choice_in masks.now pairs.now }
 {
     match last_value(pairs, b"password_hash_algo") {
-        Some(offered) => choose_algorithm(offered.as_slice(), ALLOWED),
-        None => choose_algorithm(b"plain", ALLOWED),
+        Some(offered) => choose_algorithm(offered.as_slice(), masks),
+        None => choose_algorithm(b"plain", masks),
     }
 }
 
@@ -141,37 +147,38 @@ fn handshake_objects(
 
 /// Takes note of a handshake, which settles nothing after login.
 #[tactic(auto, unfolding(crate::specs::Reply::shaken))]
-fn settle(client: &mut Client, pairs: &Items<Pair>)
-    ensures { client.new ≡ shaken client.old pairs.now }
+fn settle(client: &mut Client, masks: &[u8], pairs: &Items<Pair>)
+    ensures { client.new ≡ shaken masks.now client.old pairs.now }
 {
     if !client.logged_in {
-        client.chosen = choice_in(pairs);
+        client.chosen = choice_in(masks, pairs);
         client.escaped = asks_escapes(pairs);
     }
 }
 
-/// Serves `handshake`: it is answered, and before login it settles the algorithm and the escapes,
-/// or drops the client where there is no common algorithm. Where memory is refused nothing changes.
+/// Serves `handshake`: it is answered, and before login it settles the algorithm, which a mask
+/// allows, and the escapes, or drops the client where there is no common algorithm. Where memory is refused nothing changes.
 #[tactic(auto, unfolding(crate::specs::Reply::handshake_answer))]
 pub fn shake(
     alloc: Global,
     out: &mut BytesMut,
     client: &mut Client,
+    masks: &[u8],
     id: &[u8],
     pairs: &Items<Pair>,
 ) -> Result<Outcome, NoMemory>
     requires { IsUtf8 id.now }
     ensures ok { IfOk result (λ outcome. GivesAnswer out.old.items out.new.items outcome client.new
-        (handshake_answer client.old id.now pairs.now)) }
+        (handshake_answer masks.now client.old id.now pairs.now)) }
     ensures err { OnErr result (out.new.items ≡ out.old.items) }
     ensures still { OnErr result (client.new ≡ client.old) }
 {
-    let choice = choice_in(pairs);
+    let choice = choice_in(masks, pairs);
     let nonce = client.nonce;
     let objects = handshake_objects(alloc, nonce.as_slice(), choice, asks_escapes(pairs))?;
     let outcome = give(alloc, out, id, objects.as_slice())?;
     let leaves = !client.logged_in && choice.is_none();
-    settle(client, pairs);
+    settle(client, masks, pairs);
     if leaves {
         return Ok(Outcome::Leave(Cause::LoginFailed));
     }

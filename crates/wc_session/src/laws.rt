@@ -1,6 +1,7 @@
 //! What the definitions say of one another.
 
 ghost use Rattle.std.specs.Prelude.{◌↔◌, ℕ, List, IsTrue};
+ghost use Rattle.wc_options.specs.Options.{OptionsValue};
 ghost use Rattle.wc_relaycmd.specs.declared.algorithm.Algorithm.{Algorithm};
 ghost use Rattle.wc_relaycmd.specs.declared.login.Login.{Login};
 ghost use Rattle.wc_relaycmd.specs.Logins.{LetsIn};
@@ -26,8 +27,8 @@ pub fn lets_in_exactly()
 
 /// A request gets one message under its id, or none. The id is `_pong` for `ping`.
 pub fn one_reply_each()
-    ensures { (world : World) (password : List ℕ) (client : Client) (request : Request) →
-        IsOneReply request (reply_of world password client request).messages }
+    ensures { (world : World) (options : OptionsValue) (client : Client) (request : Request) →
+        IsOneReply request (reply_of world options client request).messages }
 {}
 
 /// The event of a notice puts after the unsent bytes of each client what that client is to be told

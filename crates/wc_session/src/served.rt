@@ -5,6 +5,7 @@ ghost use Rattle.wc_relaycmd.specs.Utf8.{RequestIsUtf8, CommandUtf8};
 ghost use Rattle.wc_session.specs.declared.client.Client.{Client};
 ghost use Rattle.wc_session.specs.Reply.{hdata_objects, nicklist_objects, replies, input_answer};
 ghost use Rattle.wc_session.specs.Reply.{info_objects, infolist_objects, test_objects, pong_objects};
+ghost use Rattle.wc_session.specs.Heeded.{password_of, masks_of};
 ghost use Rattle.wc_session.specs.Reply.{silent, is_open, served, reply_of};
 ghost use Rattle.wc_session.specs.Sending.{reply, null_hdata};
 ghost use Rattle.wc_session.specs.Sync.{synchronized, desynchronized};
@@ -12,6 +13,7 @@ ghost use Rattle.wc_session.specs.Served.{GivesAnswer, IsQuiet};
 
 use crate::client::Client;
 use crate::handshake::shake;
+use crate::heeded::{masks_of, password_of};
 use crate::login::log_in;
 use crate::names::buffer_named;
 use crate::objects::{info_objects, infolist_objects, list_of_named, pong_objects, test_objects};
@@ -24,6 +26,7 @@ use std::alloc::Global;
 use wc_buffers::Buffers;
 use wc_events::nick_dump;
 use wc_objects::Object;
+use wc_options::Options;
 use wc_relaycmd::{Command, Request};
 use wc_text::{Cause, Items, NoMemory, Text};
 use wc_world::World;
@@ -219,20 +222,20 @@ fn serve_command(
     out: &mut BytesMut,
     client: &mut Client,
     world: &World,
-    password: &[u8],
+    options: &Options,
     id: &[u8],
     command: Command,
 ) -> Result<Outcome, NoMemory>
     requires id { IsUtf8 id.now }
     requires command { CommandUtf8 command }
     ensures ok { IfOk result (λ outcome. GivesAnswer out.old.items out.new.items outcome client.new
-        (served world.now password.now client.old id.now command)) }
+        (served world.now options.now client.old id.now command)) }
     ensures err { OnErr result (out.new.items ≡ out.old.items) }
     ensures still { OnErr result (client.new ≡ client.old) }
 {
     match command {
-        Command::Handshake(pairs) => shake(alloc, out, client, id, &pairs),
-        Command::Init(pairs) => log_in(alloc, client, password, &pairs),
+        Command::Handshake(pairs) => shake(alloc, out, client, masks_of(options), id, &pairs),
+        Command::Init(pairs) => log_in(alloc, client, password_of(options), &pairs),
         Command::Hdata { path, keys } => {
             give_hdata(alloc, out, world, id, path.as_slice(), keys.as_slice())
         }
@@ -241,8 +244,14 @@ fn serve_command(
         Command::Nicklist(buffer) => give_nicks(alloc, out, world, id, buffer),
         Command::Completion { .. } => give_null(alloc, out, id),
         Command::Input { buffer, text } => Ok(input(world.buffers(), buffer.as_slice(), text)),
-        Command::Sync { buffers, options } => serve_sync(alloc, client, world, buffers, options),
-        Command::Desync { buffers, options } => Ok(serve_desync(client, world, buffers, options)),
+        Command::Sync {
+            buffers,
+            options: asked,
+        } => serve_sync(alloc, client, world, buffers, asked),
+        Command::Desync {
+            buffers,
+            options: asked,
+        } => Ok(serve_desync(client, world, buffers, asked)),
         Command::Test => give_test(alloc, out, id),
         Command::Ping(text) => give_pong(alloc, out, text),
         Command::Quit => Ok(Outcome::Leave(Cause::Quit)),
@@ -257,12 +266,12 @@ pub fn serve(
     out: &mut BytesMut,
     client: &mut Client,
     world: &World,
-    password: &[u8],
+    options: &Options,
     request: Request,
 ) -> Result<Outcome, NoMemory>
     requires { RequestIsUtf8 request }
     ensures ok { IfOk result (λ outcome. GivesAnswer out.old.items out.new.items outcome client.new
-        (reply_of world.now password.now client.old request)) }
+        (reply_of world.now options.now client.old request)) }
     ensures err { OnErr result (out.new.items ≡ out.old.items) }
     ensures still { OnErr result (client.new ≡ client.old) }
 {
@@ -271,5 +280,5 @@ pub fn serve(
         return Ok(Outcome::Leave(Cause::LoginFailed));
     }
     let Request { id, command } = request;
-    serve_command(alloc, out, client, world, password, id.as_slice(), command)
+    serve_command(alloc, out, client, world, options, id.as_slice(), command)
 }

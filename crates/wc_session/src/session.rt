@@ -18,8 +18,9 @@ use bytes::BytesMut;
 use std::alloc::Global;
 use std::marker::Model;
 use wc_model::EventKind;
+use wc_options::Options;
 use wc_relaycmd::Request;
-use wc_text::{Handle, LinkId, NoMemory, Text};
+use wc_text::{Handle, LinkId, NoMemory};
 use wc_world::World;
 
 /// The relay's side of one client: what is known of it, and the bytes that are still to be sent to
@@ -40,17 +41,23 @@ impl Model for Session {
 
 impl Session {
     /// A session whose client has said nothing, with the random bytes that its login is bound to.
-    pub fn new(alloc: Global, link: LinkId, nonce: [u8; 16]) -> Result<Session, NoMemory>
-        ensures { IfOk result (λ session. session ≡ new_session link nonce) }
+    /// Without a handshake it is to log in by `plain`, where these options allow that.
+    pub fn new(
+        alloc: Global,
+        link: LinkId,
+        nonce: [u8; 16],
+        options: &Options,
+    ) -> Result<Session, NoMemory>
+        ensures { IfOk result (λ session. session ≡ new_session options.now link nonce) }
     {
         Ok(Session {
-            client: Client::new(alloc, link, nonce),
+            client: Client::new(alloc, link, nonce, options),
             unsent: BytesMut::new(alloc),
         })
     }
 
-    /// Serves a request in WeeChat's relay protocol, in this world and where this is the password
-    /// that is set. The reply is put after the unsent bytes.
+    /// Serves a request in WeeChat's relay protocol, in this world and where these are the options.
+    /// The reply is put after the unsent bytes.
     ///
     /// `Leave` where the client asked to quit, its login was refused, or it asked for something
     /// else before its login.
@@ -59,12 +66,12 @@ impl Session {
         &mut self,
         alloc: Global,
         world: &World,
-        password: &Text,
+        options: &Options,
         request: Request,
     ) -> Outcome
         requires { RequestIsUtf8 request }
         ensures answered { OnServed result (AnswersRequest self.old self.new result
-            (reply_of world.now password.now self.old.client request)) }
+            (reply_of world.now options.now self.old.client request)) }
         ensures refused { OnNoMemory result (self.new ≡ self.old) }
 
         // A client that is logged in gets each dump whole, where a message may be that long: a dump
@@ -79,7 +86,7 @@ impl Session {
             &mut self.unsent,
             &mut self.client,
             world,
-            password.as_slice(),
+            options,
             request,
         ) else {
             return Outcome::NoMemory;

@@ -10,6 +10,7 @@ use Rattle.wc_core.specs.Events.{Arrives}
 use Rattle.wc_core.specs.CoreView.{CoreView}
 use Rattle.wc_core.specs.State.{State, Act, Stepped}
 use Rattle.wc_core.specs.Step.{step}
+use Rattle.wc_options.specs.Options.{OptionsValue}
 use Rattle.wc_core.specs.Served.{connection_link, links_of, state_of, is_open, left_if, left_at, new_connection, refusal, Absent, AdmitsUnlessStarved}
 use Rattle.wc_core.proofs.ConnectionLemmas.{absent-connection}
 use Rattle.wc_turns.specs.declared.links.LinkState.{LinkState}
@@ -40,13 +41,13 @@ without-push key k y [] e = let test : eqb (key y) k ≡ true = grind (arith, na
 without-push key k y (x ∷ xs) e = grind (arith, nat_tests, without-push key k y xs e)
 
 -- a client that came may have been refused
-mid-connections : (r : Option Cause) (old mid : CoreView) (link : LinkId) (nonce : List ℕ) → (r ≡ None → mid ≡ record old { connections = old.connections ++ new_connection link nonce ∷ [] }) → IfSome r (λ why. mid ≡ record old { starved = mid.starved })
+mid-connections : (r : Option Cause) (old mid : CoreView) (link : LinkId) (nonce : List ℕ) → (r ≡ None → mid ≡ record old { connections = old.connections ++ new_connection old.options link nonce ∷ [] }) → IfSome r (λ why. mid ≡ record old { starved = mid.starved })
     → without connection_link link.0 mid.connections ≡ without connection_link link.0 old.connections
-mid-connections None old mid link nonce admitted refused = ap (λ (c : CoreView). without connection_link link.0 c.connections) (admitted refl) ∙ without-push connection_link link.0 (new_connection link nonce) old.connections refl
+mid-connections None old mid link nonce admitted refused = ap (λ (c : CoreView). without connection_link link.0 c.connections) (admitted refl) ∙ without-push connection_link link.0 (new_connection old.options link nonce) old.connections refl
 mid-connections (Some why) old mid link nonce admitted refused = ap (λ (c : CoreView). without connection_link link.0 c.connections) refused
 
 -- a client that came is lost and forgotten
-pub starve-connections : (r : Option Cause) (old mid : CoreView) (link : LinkId) (nonce : List ℕ) (why : Cause) (new : List Connection) → (r ≡ None → mid ≡ record old { connections = old.connections ++ new_connection link nonce ∷ [] }) → IfSome r (λ why. mid ≡ record old { starved = mid.starved })
+pub starve-connections : (r : Option Cause) (old mid : CoreView) (link : LinkId) (nonce : List ℕ) (why : Cause) (new : List Connection) → (r ≡ None → mid ≡ record old { connections = old.connections ++ new_connection old.options link nonce ∷ [] }) → IfSome r (λ why. mid ≡ record old { starved = mid.starved })
     → new ≡ without connection_link link.0 (left_at link.0 why mid.connections (at_key connection_link link.0 mid.connections)) → new ≡ without connection_link link.0 old.connections
 starve-connections r old mid link nonce why new admitted refused e = e ∙ without-left link.0 why mid.connections (at_key connection_link link.0 mid.connections) refl ∙ mid-connections r old mid link nonce admitted refused
 
@@ -76,11 +77,11 @@ pub no-starving : {A : Type 0} (old new : ℕ) → HasStarved old new → new �
 no-starving old new (inl more) same below = absurd (omega arith)
 no-starving old new (inr most) same below = absurd (omega arith)
 
-pub calm-push : (connections : List Connection) (link : LinkId) (nonce : List ℕ) → NobodyLeaving connections → NobodyLeaving (connections ++ new_connection link nonce ∷ [])
-calm-push [] link nonce calm = refl
-calm-push (s ∷ connections) link nonce calm = calm-by s.leaving calm (calm-push connections link nonce)
+pub calm-push : (options : OptionsValue) (connections : List Connection) (link : LinkId) (nonce : List ℕ) → NobodyLeaving connections → NobodyLeaving (connections ++ new_connection options link nonce ∷ [])
+calm-push options [] link nonce calm = refl
+calm-push options (s ∷ connections) link nonce calm = calm-by s.leaving calm (calm-push options connections link nonce)
   where
-    calm-by : (why : Option Cause) → closed_by s.session.client.link why ++ leaving_closes connections ≡ [] → (NobodyLeaving connections → NobodyLeaving (connections ++ new_connection link nonce ∷ [])) → closed_by s.session.client.link why ++ leaving_closes (connections ++ new_connection link nonce ∷ []) ≡ []
+    calm-by : (why : Option Cause) → closed_by s.session.client.link why ++ leaving_closes connections ≡ [] → (NobodyLeaving connections → NobodyLeaving (connections ++ new_connection options link nonce ∷ [])) → closed_by s.session.client.link why ++ leaving_closes (connections ++ new_connection options link nonce ∷ []) ≡ []
     calm-by None e ih = ih e
     calm-by (Some cause) e ih = absurd (let q : record { link = s.session.client.link; cause = cause } ∷ leaving_closes connections ≡ [] = e in cc)
 

@@ -22,6 +22,8 @@ use Rattle.wc_session.specs.declared.outcome.Outcome.TheVariants as outcome
 use Rattle.wc_session.specs.Handshakes.{choice_in}
 use Rattle.wc_session.specs.Logins.{pairs_let_in}
 use Rattle.wc_session.specs.Names.{buffer_named}
+use Rattle.wc_options.specs.Options.{OptionsValue}
+use Rattle.wc_session.specs.Heeded.{password_of, masks_of}
 use Rattle.wc_session.specs.Reply.{Answer, silent, replies, leaves as drops, typed_into, shaken, handshake_reply, handshake_answer, init_answer, is_open, served, reply_of}
 use Rattle.wc_core.specs.Events.{Event, Start, Tick, Arrives, Line as LineCame, Ends, Fails, ListenFails}
 use Rattle.wc_core.specs.Typed.{lines_of_text}
@@ -121,8 +123,8 @@ asked-one state client (Some request) = by (client.logged_in && is_nicklist requ
   following = (push_step state).state
 
   by : (b : Bool) → StepsOne link (cond b (then_does (push_step state) (λ next. answered next client request)) (answered state client request))
-  by true = front-one link (push_step state).acts (answered following client request) (λ k. pushes-closes k state) (answers-one link following (reply_of following.world following.password client request))
-  by false = answers-one link state (reply_of state.world state.password client request)
+  by true = front-one link (push_step state).acts (answered following client request) (λ k. pushes-closes k state) (answers-one link following (reply_of following.world following.options client request))
+  by false = answers-one link state (reply_of state.world state.options client request)
 
 found-key : (link : ℕ) (clients : List Client) (client : Client) → at_key client_link link clients ≡ Some client → client_link client ≡ link
 found-key link [] client e = absurd (let q : None ≡ Some client = e in cc)
@@ -233,12 +235,12 @@ can-reply : (client : Client) (messages : List WireMessage) → CanLeave (replie
 can-reply client [] = tt
 can-reply client (m ∷ messages) = tt
 
-can-handshake : (client : Client) (id : List ℕ) (pairs : List Pair) → CanLeave (handshake_answer client id pairs).outcome
+can-handshake : (masks : List ℕ) (client : Client) (id : List ℕ) (pairs : List Pair) → CanLeave (handshake_answer masks client id pairs).outcome
 unfolding handshake_answer
-can-handshake client id pairs =
-    can-if (not client.logged_in && is_none (choice_in pairs))
-    (record { messages = handshake_reply client id pairs; outcome = outcome.Leave LoginFailed; client = shaken client pairs })
-    (replies (shaken client pairs) (handshake_reply client id pairs)) (inl refl) (can-reply (shaken client pairs) (handshake_reply client id pairs))
+can-handshake masks client id pairs =
+    can-if (not client.logged_in && is_none (choice_in masks pairs))
+    (record { messages = handshake_reply masks client id pairs; outcome = outcome.Leave LoginFailed; client = shaken masks client pairs })
+    (replies (shaken masks client pairs) (handshake_reply masks client id pairs)) (inl refl) (can-reply (shaken masks client pairs) (handshake_reply masks client id pairs))
 
 can-init : (password : List ℕ) (client : Client) (pairs : List Pair) → CanLeave (init_answer password client pairs).outcome
 unfolding init_answer
@@ -251,26 +253,26 @@ can-type : (client : Client) (text : List ℕ) (buffer : Option Handle) → CanL
 can-type client text None = tt
 can-type client text (Some buffer) = tt
 
-can-served : (world : World) (password : List ℕ) (client : Client) (id : List ℕ) (command : Command) → CanLeave (served world password client id command).outcome
+can-served : (world : World) (options : OptionsValue) (client : Client) (id : List ℕ) (command : Command) → CanLeave (served world options client id command).outcome
 unfolding served
-can-served world password client id (ask.Handshake pairs) = can-handshake client id pairs
-can-served world password client id (ask.Init pairs) = can-init password client pairs
-can-served world password client id (ask.Hdata path keys) = can-reply client _
-can-served world password client id (ask.Info name) = can-reply client _
-can-served world password client id (ask.Infolist name) = can-reply client _
-can-served world password client id (ask.Nicklist buffer) = can-reply client _
-can-served world password client id (ask.Input buffer text) = can-type client text (buffer_named world.groups buffer)
-can-served world password client id (ask.Completion buffer position text) = can-reply client _
-can-served world password client id (ask.Sync buffers options) = tt
-can-served world password client id (ask.Desync buffers options) = tt
-can-served world password client id ask.Test = can-reply client _
-can-served world password client id (ask.Ping text) = can-reply client _
-can-served world password client id ask.Quit = inr refl
+can-served world options client id (ask.Handshake pairs) = can-handshake (masks_of options) client id pairs
+can-served world options client id (ask.Init pairs) = can-init (password_of options) client pairs
+can-served world options client id (ask.Hdata path keys) = can-reply client _
+can-served world options client id (ask.Info name) = can-reply client _
+can-served world options client id (ask.Infolist name) = can-reply client _
+can-served world options client id (ask.Nicklist buffer) = can-reply client _
+can-served world options client id (ask.Input buffer text) = can-type client text (buffer_named world.groups buffer)
+can-served world options client id (ask.Completion buffer position text) = can-reply client _
+can-served world options client id (ask.Sync buffers asked) = tt
+can-served world options client id (ask.Desync buffers asked) = tt
+can-served world options client id ask.Test = can-reply client _
+can-served world options client id (ask.Ping text) = can-reply client _
+can-served world options client id ask.Quit = inr refl
 
-can-answer : (world : World) (password : List ℕ) (client : Client) (request : Request) → CanLeave (reply_of world password client request).outcome
+can-answer : (world : World) (options : OptionsValue) (client : Client) (request : Request) → CanLeave (reply_of world options client request).outcome
 unfolding reply_of
-can-answer world password client request =
-    can-if (client.logged_in || is_open request.command) (served world password client request.id request.command) (drops client LoginFailed) (can-served world password client request.id request.command) (inl refl)
+can-answer world options client request =
+    can-if (client.logged_in || is_open request.command) (served world options client request.id request.command) (drops client LoginFailed) (can-served world options client request.id request.command) (inl refl)
 
 follows-cause : (link : ℕ) (state : State) (o : Outcome) → CanLeave o → LineCause (close_of link (outcome_step state link o).acts)
 follows-cause link state outcome.Replied h = tt
@@ -293,7 +295,7 @@ asked-cause state client (Some request) = by (client.logged_in && is_nicklist re
   link = client_link client
 
   replied : (at : State) → LineCause (close_of link (answered at client request).acts)
-  replied at = answers-cause link at (reply_of at.world at.password client request) (can-answer at.world at.password client request)
+  replied at = answers-cause link at (reply_of at.world at.options client request) (can-answer at.world at.options client request)
 
   following : Stepped
   following = answered (push_step state).state client request

@@ -49,7 +49,7 @@ pub LoopStep-came : (x y : Headless) (a b : Seen) (link : LinkId) (nonce : List 
     → (IsTrue b.tells → (k : ℕ) → b.sent k ≡ a.sent k) → (IsTrue b.tells → (k : ℕ) → b.choked k ≡ a.choked k) → ((k : ℕ) → b.there k ≡ (a.there k || eqb link.0 k)) → ((k : ℕ) → b.undrained k ≡ a.undrained k) → b.listening ≡ a.listening
     → LoopStep true 0 0 x y a b
 LoopStep-came x y a b link nonce comes admits going calm call next used sent choked there undrained listening =
-    let connections : y.core.connections ≡ x.core.connections ++ new_connection link nonce ∷ [] = ap (λ c. c.connections) admits.core in
+    let connections : y.core.connections ≡ x.core.connections ++ new_connection x.core.options link nonce ∷ [] = ap (λ c. c.connections) admits.core in
     let stays : y.core.starved ≡ x.core.starved = ap (λ c. c.starved) admits.core in
     LoopStep-step true 0 0 x y a b (Accepted link nonce ∷ []) [] call (λ below. (let e = comes.turns in omega arith)) refl refl
     (λ t s. ap (λ xs. xs ++ leaving_closes y.core.connections) admits.closed ∙ ap (λ cs. x.links.closed.items ++ cs) (comes.calm calm ∙ sym calm) ∙ sym (append-nil _))
@@ -63,8 +63,8 @@ LoopStep-came x y a b link nonce comes admits going calm call next used sent cho
       there = λ k. there k ∙ ap (λ q. q || eqb link.0 k) (s.there k) ∙ sym (some k);
       undrained = λ k. undrained k ∙ s.undrained k ∙ came-flag k x.links.opened.items (new_state link) (eqb link.0 k) refl refl (s.unknown link.0 above);
       listens = listening ∙ s.listens;
-      clients = λ k. is_some-push connection_link k (new_connection link nonce) x.core.connections ∙ ap (λ q. q || eqb link.0 k) (s.clients k) ∙ sym (some k);
-      once = subst Distinct (sym (links-push x.core.connections (new_connection link nonce))) (distinct-push link.0 (map connection_link x.core.connections) s.once (absent-missing link.0 x.core.connections none));
+      clients = λ k. is_some-push connection_link k (new_connection x.core.options link nonce) x.core.connections ∙ ap (λ q. q || eqb link.0 k) (s.clients k) ∙ sym (some k);
+      once = subst Distinct (sym (links-push x.core.connections (new_connection x.core.options link nonce))) (distinct-push link.0 (map connection_link x.core.connections) s.once (absent-missing link.0 x.core.connections none));
       unknown = λ k below.
           let number' = comes.used in
           let higher : x.used < k = omega arith in
@@ -84,7 +84,7 @@ LoopStep-came x y a b link nonce comes admits going calm call next used sent cho
           let came = (admits.step (absent-missing link.0 x.core.connections none)).comes same below in
           let acts : (run (state_of x.core) (Arrives link.0 nonce ∷ [])).acts ≡ [] = ap (λ xs. xs ++ []) came.acts in
           MomentAdvances-comes (moment x a) (moment y b) [] (Arrives link.0 nonce ∷ []) (comes.used ∙ next') came.state (λ k. ap (sent_to k) acts) came.bytes
-          (λ k. ap (λ ss. nat_le k (x.used + 1) && is_none (at_key connection_link k ss)) connections ∙ fresh_by k link.0 x.used (eqb link.0 k) refl next' (at_key connection_link k x.core.connections) (at_key connection_link k (x.core.connections ++ new_connection link nonce ∷ [])) (is_some-push connection_link k (new_connection link nonce) x.core.connections))
+          (λ k. ap (λ ss. nat_le k (x.used + 1) && is_none (at_key connection_link k ss)) connections ∙ fresh_by k link.0 x.used (eqb link.0 k) refl next' (at_key connection_link k x.core.connections) (at_key connection_link k (x.core.connections ++ new_connection x.core.options link nonce ∷ [])) (is_some-push connection_link k (new_connection x.core.options link nonce) x.core.connections))
           comes.quits (ap has_end acts) (sent t) (choked t) (Accepted link nonce ∷ []) (call.taken t) (ap closings acts);
     })
 

@@ -45,7 +45,7 @@ pub record TakesArrival (x y : Headless) (link : LinkId) (nonce : List ℕ) : Ty
   pub closed : y.links.closed.items ≡ x.links.closed.items
   pub core : y.core ≡ record x.core {
     connections = x.core.connections
-        ++ new_connection link nonce ∷ [];
+        ++ new_connection x.core.options link nonce ∷ [];
   }
   pub step : Absent link.0 (links_of x.core) → AdmitsUnlessStarved link.0 x.core y.core None
       (step (state_of x.core) (Arrives link.0 nonce))

@@ -3,6 +3,7 @@ ghost use Rattle.std.specs.Prelude.{◌++◌, ◌∷◌, [], None, false, IfOk, 
 ghost use Rattle.std.specs.Option.{option_copied};
 ghost use Rattle.wc_outside.specs.declared.happening.Happening.TheVariants.{Read, Ended, Failed};
 ghost use Rattle.wc_outside.specs.Keyed.{at_key, IsKeyPlace};
+ghost use Rattle.wc_core.specs.Limits.{most_lines};
 ghost use Rattle.wc_core.specs.State.{first_state};
 ghost use Rattle.wc_core.specs.Served.{connection_link, state_of, links_of, left_at, unsent_at};
 ghost use Rattle.wc_core.specs.Served.{is_open_at, Absent};
@@ -14,8 +15,9 @@ use crate::feed::feed;
 use crate::links::{Closed, LinkState, Links};
 use std::alloc::Global;
 use wc_core::Core;
+use wc_options::Options;
 use wc_outside::{Ready, Token};
-use wc_text::{Arrival, Cause, LinkId, NoMemory, Text};
+use wc_text::{Arrival, Cause, LinkId, NoMemory};
 use wc_world::World;
 
 /// The state of a run, as it comes after its last turn.
@@ -47,13 +49,10 @@ impl Headless {
     ghost use Rattle.wc_turns.specs.Steps.{LinkComes, ServesArrival, MarksLink, ReportsSources};
     ghost use Rattle.wc_turns.specs.Steps.{BeginsTurn, reached_after_miss};
 
-    /// The state before the first turn, for clients that log in by this password, and with buffers
-    /// of at most so many lines.
-    pub fn new(alloc: Global, password: Text, limit: u32) -> Result<Headless, NoMemory>
-        requires some { 1 ≤ limit }
-        requires most { limit ≤ 4096 }
+    /// The state before the first turn, where these are the options.
+    pub fn new(alloc: Global, options: Options) -> Result<Headless, NoMemory>
         ensures state { IfOk result (λ headless. state_of headless.core
-            ≡ first_state password limit) }
+            ≡ first_state options (most_lines options)) }
         ensures core { IfOk result (λ headless. (headless.core.connections ≡ [])
             × (headless.core.starved ≡ 0) × (headless.core.quits ≡ false)) }
         ensures links { IfOk result (λ headless. (headless.links.opened.items ≡ [])
@@ -62,7 +61,7 @@ impl Headless {
             × (headless.listening ≡ false) × (headless.turns ≡ 0) × (headless.ran ≡ 0)) }
     {
         let links = Links::new(alloc)?;
-        let core = Core::new(alloc, password, limit)?;
+        let core = Core::new(alloc, options)?;
         Ok(Headless {
             alloc,
             core,

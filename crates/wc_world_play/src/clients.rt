@@ -6,19 +6,21 @@ use crate::show_nicks::{mirror_nicks, world_nicks};
 use bytes::BytesMut;
 use std::alloc::{AllocError, Global};
 use wc_change_words::Wrong;
+use wc_options::{Options, read_config};
 use wc_relaycmd::read_request;
 use wc_session::{BufferEvent, Outcome, Session};
 use wc_text::{Cause, Handle, LinkId, NoMemory, Text};
 use wc_view::Mirror;
 use wc_world::World;
 
-/// The password that clients log in by.
-const PASSWORD: &[u8] = b"x";
+/// The options: the password that clients log in by.
+const CONFIGURATION: &[u8] = b"relay.network.password = x";
 
 /// A client: its session, its mirror, and the bytes that it was sent since they were last shown.
 #[derive(Drop)]
 pub struct Client {
     pub session: Session,
+    options: Options,
     pub mirror: Mirror,
     pub sent: BytesMut,
     /// How many messages the mirror refused.
@@ -40,9 +42,13 @@ impl Client {
     /// A client that said nothing, whose mirror holds so many lines a buffer.
     pub fn new(alloc: Global, number: u64, limit: u32) -> Result<Client, NoMemory> {
         let mirror = new_mirror(alloc, limit)?;
-        let session = Session::new(alloc, LinkId(number), *b"abcdbcdecdefdefg")?;
+        let Ok(options) = read_config(alloc, CONFIGURATION) else {
+            return Err(NoMemory);
+        };
+        let session = Session::new(alloc, LinkId(number), *b"abcdbcdecdefdefg", &options)?;
         Ok(Client {
             session,
+            options,
             mirror,
             sent: BytesMut::new(alloc),
             refused: 0,
@@ -81,8 +87,7 @@ impl Client {
         world: &World,
         line: &str,
     ) -> Result<&'static str, NoMemory> {
-        let password = Text::from_slice(alloc, PASSWORD)?;
-        let answer = ask(alloc, &mut self.session, world, &password, line)?;
+        let answer = ask(alloc, &mut self.session, world, &self.options, line)?;
         self.catch_up(alloc)?;
         Ok(answer)
     }
@@ -120,12 +125,12 @@ fn ask(
     alloc: Global,
     session: &mut Session,
     world: &World,
-    password: &Text,
+    options: &Options,
     line: &str,
 ) -> Result<&'static str, NoMemory> {
     match read_request(alloc, line.as_bytes(), session.escaped())? {
         Some(request) => {
-            let outcome = session.request(alloc, world, password, request);
+            let outcome = session.request(alloc, world, options, request);
             Ok(outcome_word(&outcome))
         }
         None => Ok("no request"),

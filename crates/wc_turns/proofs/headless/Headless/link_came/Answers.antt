@@ -30,5 +30,5 @@ returns-in-None-clause-comes c =
       turns = refl;
       ran = c.saturating_add-self.ensures;
       quits = ap (λ s. s.quits) core;
-      calm = λ calm. ap (λ s. leaving_closes s.connections) core ∙ calm-push c.args.self.now.core.connections c.args.arrival.link c.args.arrival.nonce calm;
+      calm = λ calm. ap (λ s. leaving_closes s.connections) core ∙ calm-push c.args.self.now.core.options c.args.self.now.core.connections c.args.arrival.link c.args.arrival.nonce calm;
     }

@@ -1,0 +1,199 @@
+-- What becomes of an option, and what is told where it does not get a value.
+use Rattle.std.proofs.Common.{◌≡◌, ◌≢◌, ℕ, zero, suc, ◌+◌, ◌-◌, ◌^◌, ◌≤◌, Bool, true, false, cond, not, List, [], ◌∷◌, ◌++◌, codes, min, length, nat_le, ◌&&◌, inl, Option, Some, None, refl, sym, subst, ap, ◌∙◌, arith, append-nil, get_or}
+use Rattle.std.specs.Str.{IsUtf8}
+use Rattle.std.proofs.lemmas.Str.{IsUtf8-nil, IsUtf8-append}
+use Rattle.wc_options.specs.Names.{Located, AtGlobal, AtServer, located, row_of_located}
+use Rattle.wc_options.specs.Options.{OptionsValue, refusal_of, refusal_in, refusal_at, value_of, with_value, without_value, makes_server, most_servers}
+use Rattle.wc_options.specs.Table.{OptionRow, globals, of_server, no_row}
+use Rattle.wc_options.specs.Values.{value_fits}
+use Rattle.wc_options.specs.declared.refusal.SetRefused.{SetRefused}
+use Rattle.wc_options.specs.declared.refusal.SetRefused.TheVariants as option
+use Rattle.wc_core.specs.CoreView.{CoreView}
+use Rattle.wc_core.specs.Resolved.{option_text}
+use Rattle.wc_core.specs.State.{Stepped}
+use Rattle.wc_core.specs.Step.{no_step, refusal_step, set_step, set_step_if, unset_step, unset_step_if}
+use Rattle.wc_core.specs.Served.{state_of, unsent_on, leaving_on, FollowsUnlessStarved}
+use Rattle.wc_core.proofs.DidLemmas.{or_else-none, or-false, KeepsClients-connections, FollowsUnlessStarved-exact}
+use Rattle.wc_core.proofs.TypedLemmas.{ascii_text}
+
+-- ---- the options after a command
+
+options-are : (old : CoreView) (options : OptionsValue) → FollowsUnlessStarved old (record old { options = options }) (no_step (record (state_of old) { options = options }))
+options-are old options =
+    FollowsUnlessStarved-exact old (record old { options = options }) (no_step (record (state_of old) { options = options })) (KeepsClients-connections old (record old { options = options }) refl (omega arith))
+    (λ distinct. record { state = refl; bytes = λ j. sym (append-nil (unsent_on j old.connections)); leaving = λ j. sym (or_else-none (leaving_on j old.connections)); quits = sym (or-false old.quits) })
+
+pub set-done : (old : CoreView) (options : OptionsValue) (name value : List ℕ) → refusal_of old.options name value ≡ None → options ≡ with_value old.options name value → FollowsUnlessStarved old (record old { options = options }) (set_step (state_of old) name value)
+set-done old options name value accepted e =
+    let P : OptionsValue → Type 0 = λ o. FollowsUnlessStarved old (record old { options = options }) (no_step (record (state_of old) { options = o })) in
+    let Q : Option SetRefused → Type 0 = λ o. FollowsUnlessStarved old (record old { options = options }) (set_step_if (state_of old) name value o) in
+    subst Q (sym accepted) (subst P e (options-are old options))
+
+set-told : (old new : CoreView) (name value : List ℕ) (reason : SetRefused) → refusal_of old.options name value ≡ Some reason → FollowsUnlessStarved old new (refusal_step (state_of old) (option_text name reason)) → FollowsUnlessStarved old new (set_step (state_of old) name value)
+set-told old new name value reason refused done =
+    let Q : Option SetRefused → Type 0 = λ o. FollowsUnlessStarved old new (set_step_if (state_of old) name value o) in
+    subst Q (sym refused) done
+
+-- where the options stayed as they were
+set-refused-by : (old new : CoreView) (name value : List ℕ) (reason : SetRefused) → (reason ≢ option.NoMemory → refusal_of old.options name value ≡ Some reason)
+    → (reason ≢ option.NoMemory → FollowsUnlessStarved old new (refusal_step (state_of old) (option_text name reason))) → (reason ≡ option.NoMemory → (s : Stepped) → FollowsUnlessStarved old new s)
+    → FollowsUnlessStarved old new (set_step (state_of old) name value)
+set-refused-by old new name value option.NoMemory refuses told starves = starves refl (set_step (state_of old) name value)
+set-refused-by old new name value option.UnknownOption refuses told starves = set-told old new name value option.UnknownOption (refuses (λ e. cc)) (told (λ e. cc))
+set-refused-by old new name value (option.BadValue range) refuses told starves = set-told old new name value (option.BadValue range) (refuses (λ e. cc)) (told (λ e. cc))
+set-refused-by old new name value (option.TooManyServers limit) refuses told starves = set-told old new name value (option.TooManyServers limit) (refuses (λ e. cc)) (told (λ e. cc))
+
+pub set-refused : (old new : CoreView) (options : OptionsValue) (name value : List ℕ) (reason : SetRefused) → options ≡ old.options → (reason ≢ option.NoMemory → refusal_of old.options name value ≡ Some reason)
+    → (reason ≢ option.NoMemory → FollowsUnlessStarved (record old { options = options }) new (refusal_step (state_of (record old { options = options })) (option_text name reason)))
+    → (reason ≡ option.NoMemory → (s : Stepped) → FollowsUnlessStarved (record old { options = options }) new s)
+    → FollowsUnlessStarved old new (set_step (state_of old) name value)
+set-refused old new options name value reason e refuses told starves =
+    let P : OptionsValue → Type 0 = λ o. reason ≢ option.NoMemory → FollowsUnlessStarved (record old { options = o }) new (refusal_step (state_of (record old { options = o })) (option_text name reason)) in
+    let Q : OptionsValue → Type 0 = λ o. reason ≡ option.NoMemory → (s : Stepped) → FollowsUnlessStarved (record old { options = o }) new s in
+    set-refused-by old new name value reason refuses (subst P e told) (subst Q e starves)
+
+pub unset-done : (old : CoreView) (options : OptionsValue) (name : List ℕ) → value_of old.options name ≢ None → options ≡ without_value old.options name → FollowsUnlessStarved old (record old { options = options }) (unset_step (state_of old) name)
+unset-done old options name known e = by (value_of old.options name) refl where
+  P : OptionsValue → Type 0
+  P o = FollowsUnlessStarved old (record old { options = options }) (no_step (record (state_of old) { options = o }))
+
+  Q : Option (List ℕ) → Type 0
+  Q o = FollowsUnlessStarved old (record old { options = options }) (unset_step_if (state_of old) name o)
+
+  by : (o : Option (List ℕ)) → value_of old.options name ≡ o → FollowsUnlessStarved old (record old { options = options }) (unset_step (state_of old) name)
+  by None at = absurd (known at)
+  by (Some value) at = subst Q (sym at) (subst P e (options-are old options))
+
+unset-told : (old new : CoreView) (name : List ℕ) (reason : SetRefused) → reason ≡ option.UnknownOption → value_of old.options name ≡ None → FollowsUnlessStarved old new (refusal_step (state_of old) (option_text name reason)) → FollowsUnlessStarved old new (unset_step (state_of old) name)
+unset-told old new name reason unknown none done =
+    let P : SetRefused → Type 0 = λ reason. FollowsUnlessStarved old new (refusal_step (state_of old) (option_text name reason)) in
+    let Q : Option (List ℕ) → Type 0 = λ o. FollowsUnlessStarved old new (unset_step_if (state_of old) name o) in
+    subst Q (sym none) (subst P unknown done)
+
+unknown-kept : (reason : SetRefused) → reason ≡ option.UnknownOption → reason ≢ option.NoMemory
+unknown-kept option.NoMemory e = let q : option.NoMemory ≡ option.UnknownOption = e in cc
+unknown-kept option.UnknownOption e = λ q. cc
+unknown-kept (option.BadValue range) e = λ q. cc
+unknown-kept (option.TooManyServers limit) e = λ q. cc
+
+pub unset-refused : (old new : CoreView) (options : OptionsValue) (name : List ℕ) (reason : SetRefused) → options ≡ old.options → reason ≡ option.UnknownOption → value_of old.options name ≡ None
+    → (reason ≢ option.NoMemory → FollowsUnlessStarved (record old { options = options }) new (refusal_step (state_of (record old { options = options })) (option_text name reason)))
+    → FollowsUnlessStarved old new (unset_step (state_of old) name)
+unset-refused old new options name reason e unknown none told =
+    let P : OptionsValue → Type 0 = λ o. FollowsUnlessStarved (record old { options = o }) new (refusal_step (state_of (record old { options = o })) (option_text name reason)) in
+    unset-told old new name reason unknown none (subst P e (told (unknown-kept reason unknown)))
+
+-- ---- why an option does not get a value
+
+abbrev AreRangesUtf8 : List OptionRow → Type 0
+AreRangesUtf8 [] = Unit {0}
+AreRangesUtf8 (row ∷ rows) = IsUtf8 row.range × AreRangesUtf8 rows
+
+range_text : (rows : List OptionRow) (place : ℕ) → AreRangesUtf8 rows → IsUtf8 (get_or rows place no_row).range
+range_text [] place all = IsUtf8-nil
+range_text (row ∷ rows) zero all = all.0
+range_text (row ∷ rows) (suc place) all = range_text rows place all.1
+
+global_ranges : AreRangesUtf8 globals
+unfolding globals
+global_ranges = (
+  ascii_text (codes "1 to 4096, read at the start") refl,
+  (
+    ascii_text (codes "text") refl,
+    (
+      ascii_text (codes "masks joined by commas") refl,
+      (
+        ascii_text (codes "1 to 64") refl,
+        (
+          ascii_text (codes "1 to 65535, read at the start") refl,
+          (
+            ascii_text (codes "text, not empty") refl,
+            (
+              ascii_text (codes "text, not empty") refl,
+              (
+                ascii_text (codes "one word") refl,
+                (
+                  ascii_text (codes "text") refl,
+                  (
+                    ascii_text (codes "text") refl,
+                    (
+                      ascii_text (codes "on, off") refl,
+                      (ascii_text (codes "on, off") refl, tt),
+                    ),
+                  ),
+                ),
+              ),
+            ),
+          ),
+        ),
+      ),
+    ),
+  ),
+)
+
+server_ranges : AreRangesUtf8 of_server
+unfolding of_server
+server_ranges = (
+  ascii_text (codes "address/port") refl,
+  (
+    ascii_text (codes "text, not empty") refl,
+    (
+      ascii_text (codes "one word") refl,
+      (
+        ascii_text (codes "text, not empty") refl,
+        (
+          ascii_text (codes "text") refl,
+          (
+            ascii_text (codes "text") refl,
+            (
+              ascii_text (codes "on, off") refl,
+              (ascii_text (codes "on, off") refl, tt),
+            ),
+          ),
+        ),
+      ),
+    ),
+  ),
+)
+
+located_range : (place : Located) → IsUtf8 (row_of_located place).range
+located_range (AtGlobal place) = range_text globals place global_ranges
+located_range (AtServer server place) = range_text of_server place server_ranges
+
+abbrev OptionUtf8 : List ℕ → Option SetRefused → Type 0
+OptionUtf8 name None = Unit {0}
+OptionUtf8 name (Some reason) = IsUtf8 (option_text name reason)
+
+option_if : (b : Bool) (name : List ℕ) (x y : Option SetRefused) → OptionUtf8 name x → OptionUtf8 name y → OptionUtf8 name (cond b x y)
+option_if true name x y p q = p
+option_if false name x y p q = q
+
+pub unknown_text : (name : List ℕ) → IsUtf8 name → IsUtf8 (option_text name option.UnknownOption)
+unknown_text name utf8 = IsUtf8-append (codes "option: unknown: ") name (ascii_text (codes "option: unknown: ") refl) utf8
+
+at_text : (options : OptionsValue) (name value : List ℕ) (place : Located) → OptionUtf8 name (refusal_at options value place)
+at_text options name value place =
+    option_if (not (value_fits (row_of_located place).kind value)) name (Some (option.BadValue (row_of_located place).range)) _
+    (IsUtf8-append (codes "option: bad value, range ") (row_of_located place).range (ascii_text (codes "option: bad value, range ") refl) (located_range place))
+    (option_if (makes_server options place && nat_le most_servers (length options.servers)) name (Some (option.TooManyServers most_servers)) None (ascii_text (codes "option: too many servers") refl) tt)
+
+in_text : (options : OptionsValue) (name value : List ℕ) (o : Option Located) → IsUtf8 name → OptionUtf8 name (refusal_in options value o)
+in_text options name value None utf8 = unknown_text name utf8
+in_text options name value (Some place) utf8 = at_text options name value place
+
+of_text : (options : OptionsValue) (name value : List ℕ) → IsUtf8 name → OptionUtf8 name (refusal_of options name value)
+unfolding refusal_of
+of_text options name value utf8 = in_text options name value (located name) utf8
+
+told_text : (options : OptionsValue) (name value : List ℕ) (reason : SetRefused) → IsUtf8 name → refusal_of options name value ≡ Some reason → IsUtf8 (option_text name reason)
+told_text options name value reason utf8 e = subst (OptionUtf8 name) e (of_text options name value utf8)
+
+-- what is told is text
+pub refused_text : (options : OptionsValue) (name value : List ℕ) (reason : SetRefused) → IsUtf8 name → (reason ≢ option.NoMemory → refusal_of options name value ≡ Some reason) → IsUtf8 (option_text name reason)
+refused_text options name value option.NoMemory utf8 refuses = IsUtf8-nil
+refused_text options name value option.UnknownOption utf8 refuses = told_text options name value option.UnknownOption utf8 (refuses (λ e. cc))
+refused_text options name value (option.BadValue range) utf8 refuses = told_text options name value (option.BadValue range) utf8 (refuses (λ e. cc))
+refused_text options name value (option.TooManyServers limit) utf8 refuses = told_text options name value (option.TooManyServers limit) utf8 (refuses (λ e. cc))
+
+pub unset_text : (name : List ℕ) (reason : SetRefused) → IsUtf8 name → reason ≡ option.UnknownOption → IsUtf8 (option_text name reason)
+unset_text name reason utf8 e = subst (λ reason. IsUtf8 (option_text name reason)) (sym e) (unknown_text name utf8)

@@ -1,0 +1,65 @@
+//! The options, as clients set them.
+
+ghost use Rattle.std.specs.Prelude.{◌≡◌, ◌≢◌};
+ghost use Rattle.std.specs.Str.{IsUtf8};
+ghost use Rattle.wc_core.specs.Resolved.{option_text};
+ghost use Rattle.wc_core.specs.Served.{state_of, FollowsUnlessStarved};
+ghost use Rattle.wc_core.specs.State.{Stepped};
+ghost use Rattle.wc_core.specs.Step.{set_step, unset_step, refusal_step};
+
+use crate::core_state::Core;
+use crate::refusals::option_text;
+use wc_options::SetRefused;
+use wc_text::{NoMemory, Pair, Text};
+
+impl Core {
+    /// Gives an option a value, or tells why it is refused.
+    pub(crate) fn set_option(&mut self, pair: &Pair)
+        requires name { IsUtf8 pair.now.name }
+        requires value { IsUtf8 pair.now.value }
+        ensures { FollowsUnlessStarved self.old self.new
+            (set_step (state_of self.old) pair.now.name pair.now.value) }
+    {
+        match self.options.set(self.alloc, &pair.name, &pair.value) {
+            Ok(_) => {}
+            Err(refused) => self.refuse_option(&pair.name, &refused),
+        }
+    }
+
+    /// Gives an option its default, or tells that there is no such option.
+    pub(crate) fn unset_option(&mut self, name: &Text)
+        requires { IsUtf8 name.now }
+        ensures { FollowsUnlessStarved self.old self.new (unset_step (state_of self.old) name.now) }
+    {
+        match self.options.unset(self.alloc, name) {
+            Ok(()) => {}
+            Err(refused) => self.refuse_option(name, &refused),
+        }
+    }
+
+    /// Tells why an option does not get a value, and counts want of memory.
+    fn refuse_option(&mut self, name: &Text, refused: &SetRefused)
+        requires { IsUtf8 (option_text name.now refused.now) }
+        ensures told { refused.now ≢ SetRefused.NoMemory → FollowsUnlessStarved self.old self.new
+            (refusal_step (state_of self.old) (option_text name.now refused.now)) }
+        ensures starves { refused.now ≡ SetRefused.NoMemory → (stepped : Stepped) →
+            FollowsUnlessStarved self.old self.new stepped }
+    {
+        match refused {
+            SetRefused::NoMemory => self.starve(),
+            _ => self.tell_option(name, refused),
+        }
+    }
+
+    /// Tells why an option does not get a value.
+    fn tell_option(&mut self, name: &Text, refused: &SetRefused)
+        requires { IsUtf8 (option_text name.now refused.now) }
+        ensures { FollowsUnlessStarved self.old self.new
+            (refusal_step (state_of self.old) (option_text name.now refused.now)) }
+    {
+        match option_text(self.alloc, name.as_slice(), refused) {
+            Ok(text) => self.tell_refusal(text),
+            Err(NoMemory) => self.starve(),
+        }
+    }
+}

@@ -1,0 +1,32 @@
+//! The options that a session heeds.
+
+ghost use Rattle.std.specs.Prelude.{◌≡◌};
+ghost use Rattle.wc_session.specs.Heeded.{option_value, password_of, masks_of};
+
+use wc_options::Options;
+
+/// The value of the option with a name, which is empty where there is none.
+pub fn option_value<'a>(options: &'a Options, name: &[u8]) -> &'a [u8]
+    ensures { result.now ≡ option_value options.now name.now }
+{
+    match options.get(name) {
+        Some(value) => value.as_slice(),
+        None => b"",
+    }
+}
+
+/// The password that is set.
+#[tactic(auto, unfolding(crate::specs::Heeded::password_of))]
+pub fn password_of(options: &Options) -> &[u8]
+    ensures { result.now ≡ password_of options.now }
+{
+    option_value(options, b"relay.network.password")
+}
+
+/// The algorithms that are allowed, as masks.
+#[tactic(auto, unfolding(crate::specs::Heeded::masks_of))]
+pub fn masks_of(options: &Options) -> &[u8]
+    ensures { result.now ≡ masks_of options.now }
+{
+    option_value(options, b"relay.network.password_hash_algo")
+}
