@@ -29,7 +29,8 @@ use Rattle.wc_options.specs.declared.refusal.SetRefused.TheVariants.{UnknownOpti
 use Rattle.wc_core.specs.Typed.{TypedCommand, typed_line, lines_of_text}
 use Rattle.wc_core.specs.State.{State, Stepped}
 use Rattle.wc_core.specs.Step.{set_step_if, unset_step_if, client_link, pushed_to, push_at, pushes_of, push_step, no_step, then_does, sends, tell_all_step, change_step, change_step_if, refusal_step, ask_step_if, effect_step, typed_step, is_quit, lines_step, outcome_step, loss_step}
-use Rattle.wc_core.specs.Served.{or_else, close_of, StaysOrStarves, LeavesBy}
+use Rattle.wc_core.specs.CoreView.{CoreView}
+use Rattle.wc_core.specs.Served.{state_of, or_else, close_of, StaysOrStarves, LeavesBy}
 use Rattle.wc_core.proofs.DidLemmas.{close_of-append, ClosesLater}
 use Rattle.wc_core.proofs.ConnectionLemmas.{close-sends, close-told}
 
@@ -103,8 +104,10 @@ runs-closes j state buffer (line ∷ lines) =
     (closes_none-if j (is_quit (typed_line line)) first (then_does first (λ next. lines_step next buffer lines)) (does-closes j state buffer (typed_line line))
     (then-closes j first (λ next. lines_step next buffer lines) (does-closes j state buffer (typed_line line)) (runs-closes j first.state buffer lines)))
 
-pub typed-later : (state : State) (buffer : Handle) (typed : TypedCommand) (lines : List (List ℕ)) → ClosesLater (typed_step state buffer typed) (λ next. lines_step next buffer lines)
-typed-later state buffer typed lines = record { first_none = λ j. does-closes j state buffer typed; same = λ j s t. runs-closes j s buffer lines ∙ sym (runs-closes j t buffer lines) }
+pub typed-later : (b : CoreView) (state : State) (buffer : Handle) (typed : TypedCommand) (lines : List (List ℕ)) → ClosesLater b (typed_step state buffer typed) (λ next. lines_step next buffer lines)
+typed-later b state buffer typed lines =
+    let first = typed_step state buffer typed in
+    record { first_none = λ j. does-closes j state buffer typed; same = λ j. runs-closes j (state_of b first.state.told) buffer lines ∙ sym (runs-closes j first.state buffer lines) }
 
 follows-same : (j k : ℕ) (o : Outcome) (s t : State) → close_of j (outcome_step s k o).acts ≡ close_of j (outcome_step t k o).acts
 follows-same j k outcome.Replied s t = refl
@@ -113,8 +116,8 @@ follows-same j k (outcome.Input buffer text) s t = runs-closes j s buffer (lines
 follows-same j k (outcome.Leave why) s t = refl
 follows-same j k outcome.NoMemory s t = refl
 
-pub reply-later : (k : ℕ) (state : State) (messages : List WireMessage) (o : Outcome) → ClosesLater (record { state = state; acts = sends k messages }) (λ next. outcome_step next k o)
-reply-later k state messages o = record { first_none = λ j. close-sends j k messages; same = λ j s t. follows-same j k o s t }
+pub reply-later : (b : CoreView) (k : ℕ) (state : State) (messages : List WireMessage) (o : Outcome) → ClosesLater b (record { state = state; acts = sends k messages }) (λ next. outcome_step next k o)
+reply-later b k state messages o = record { first_none = λ j. close-sends j k messages; same = λ j. follows-same j k o (state_of b state.told) state }
 
 starve_else : (before closes after : Option Cause) → StaysOrStarves None closes → after ≡ or_else before closes → StaysOrStarves before after
 starve_else None closes after (inl none) e = inl (e ∙ none)

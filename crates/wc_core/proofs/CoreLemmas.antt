@@ -18,7 +18,7 @@ use Rattle.wc_session.specs.Known.{Known, new_session}
 use Rattle.wc_session.specs.Reply.{Answer, reply_of}
 use Rattle.wc_session.specs.Served.{OnServed, OnNoMemory, AnswersRequest}
 use Rattle.wc_core.specs.declared.connection.Connection.{Connection}
-use Rattle.wc_core.specs.CoreView.{CoreView}
+use Rattle.wc_core.specs.CoreView.{CoreView, HasNoRows}
 use Rattle.wc_text.specs.declared.names.Handle.{Handle}
 use Rattle.wc_buffers.specs.Calls.{EntryGroups}
 use Rattle.wc_model.specs.declared.change.Change.{Change}
@@ -27,45 +27,59 @@ use Rattle.wc_model.specs.declared.notice.Notice.{Notice}
 use Rattle.wc_model.specs.declared.refused.ChangeRefused.{ChangeRefused}
 use Rattle.wc_model.specs.World.{World}
 use Rattle.wc_model.specs.Apply.{refusal, after}
-use Rattle.wc_model.specs.Notices.{Accepted, notice}
-use Rattle.wc_model.specs.Touches.{touched_key}
-use Rattle.std.specs.FinMap.{FinMap}
-use Rattle.std.specs.Ordering.{nat_cmp}
+use Rattle.wc_model.specs.Notices.{Accepted}
+use Rattle.wc_model.specs.Touches.{touched_key, told_after}
+use Rattle.wc_nickdiff.specs.Held.{OfBuffer}
 use Rattle.wc_options.specs.Options.{OptionsValue}
-use Rattle.wc_nicklist.specs.declared.item.Row.{Row}
-use Rattle.wc_core.specs.Typed.{TypedCommand, Nothing, Quits, Refused, Prints, Adds, Closes, Merges, Names, Changes as TypedChanges, Sets, Unsets}
-use Rattle.wc_core.specs.Resolved.{Effect, Stays, Ends as ResolvedEnds, Tells, Asks, SetsOption, UnsetsOption, buffer_meant, of_meant, of_named, change_of, line_spec, effect_of, refusal_text, told_refusal}
+use Rattle.wc_core.specs.Typed.{TypedCommand, Nothing, Quits, Refused, Prints, Adds, Closes, Merges, Names, Changes as TypedChanges, Sets, Unsets, Switches}
+use Rattle.wc_core.specs.Resolved.{Effect, Stays, Ends as ResolvedEnds, Tells, Asks, SetsOption, UnsetsOption, switched, buffer_meant, of_meant, of_named, change_of, line_spec, effect_of, refusal_text, told_refusal}
 use Rattle.wc_core.specs.Inputs.{MakesChange, TellsSome, MayTell}
 use Rattle.wc_core.specs.Limits.{client_limit}
-use Rattle.wc_core.specs.State.{Stepped}
+use Rattle.wc_core.specs.State.{State, Stepped}
 use Rattle.wc_core.specs.Step.{client_link, no_step, push_step, reply_step, sends, tell_all_step, change_step, change_step_if, refusal_step, ask_step_if, ask_step, effect_step, typed_step, is_quit, leave_step, loss_step, arrival_step, outcome_step, answer_step, request_step, line_step}
-use Rattle.wc_core.specs.Served.{connection_link, is_open, is_open_at, clients_of, state_of, unsent_on, leaving_on, Distinct, StaysOrStarves, FollowsUnlessStarved, AdmitsUnlessStarved, RanOutOfMemory, told_connection, ConnectionsServed, OutcomeUtf8, ConnectionsKept}
+use Rattle.wc_core.specs.Served.{connection_link, is_open, is_open_at, clients_of, state_of, WereTold, unsent_on, leaving_on, close_of, Distinct, StaysOrStarves, LeavesBy, FollowsUnlessStarved, Does, AdmitsUnlessStarved, RanOutOfMemory, told_connection, ConnectionsServed, OutcomeUtf8, ConnectionsKept}
+use Rattle.wc_core.specs.Told.{Told, NothingTouched}
 use Rattle.wc_core.proofs.CloseLemmas.{reply-later, lost-starves}
-use Rattle.wc_core.proofs.DidLemmas.{or_else-none, or-true, Follows-stays, KeepsClients-refl, KeepsClients-trans, KeepsClients-connections, FollowsUnlessStarved-exact, FollowsUnlessStarved-stays, FollowsUnlessStarved-starved, FollowsUnlessStarved-then}
+use Rattle.wc_core.proofs.DidLemmas.{or-true, leaves-none, Follows-stays, KeepsClients-refl, KeepsClients-trans, KeepsClients-connections, FollowsUnlessStarved-exact, Does-stays, Does-starved, FollowsUnlessStarved-then}
 use Rattle.wc_core.proofs.ConnectionLemmas.{open-length, clients-push, links-push, unsent-push, leaving-push, kept-push, ConnectionsKept-causes, client-open, client-missing, client-leaving}
 use Rattle.wc_core.proofs.EventLemmas.{served_map, served_kept}
-use Rattle.wc_core.proofs.ServeLemmas.{open_none, told_to_all, Follows-told, KeepsClients-told, KeepsClients-put, Follows-reply, Follows-leave, leaving-put}
+use Rattle.wc_core.proofs.ServeLemmas.{open_none, told_to_all, told-left, Follows-told, KeepsClients-told, KeepsClients-put, reply-left, Follows-reply, leave-left, Follows-leave, leaving-put}
 use Rattle.wc_core.proofs.ReplyLemmas.{reply_fits}
-use Rattle.wc_core.proofs.PushLemmas.{asked_plain, told_plain}
+use Rattle.wc_core.proofs.PushLemmas.{asked-pushed, told_follows}
 
 -- ---- want of memory
 
-pub starved_only : (old new : CoreView) (s : Stepped) → new ≡ record old { starved = min (old.starved + 1) (2 ^ 64 - 1) } → old.starved ≤ new.starved → FollowsUnlessStarved old new s
-starved_only old new s e rises = FollowsUnlessStarved-starved old new s (record {
+pub starved_only : (old new : CoreView) (step : State → Stepped) → new ≡ record old { starved = min (old.starved + 1) (2 ^ 64 - 1) } → old.starved ≤ new.starved → Does old new step
+starved_only old new step e rises = Does-starved old new step (record {
   keeps = KeepsClients-connections old new (ap (λ (c : CoreView). c.connections) e) rises;
   causes = λ distinct j. inl (ap (λ (c : CoreView). leaving_on j c.connections) e);
   count = ap (λ (c : CoreView). c.starved) e;
 })
 
+-- what was done stays done where want of memory is counted after it
+pub done-starved : (old mid new : CoreView) (step : State → Stepped) → Does old mid step → new ≡ record mid { starved = min (mid.starved + 1) (2 ^ 64 - 1) } → mid.starved ≤ new.starved → Does old new step
+done-starved old mid new step done e rises = λ told.
+    let f = done told in
+    let connections : new.connections ≡ mid.connections = ap (λ (c : CoreView). c.connections) e in
+    let count : new.starved ≡ min (mid.starved + 1) (2 ^ 64 - 1) = ap (λ (c : CoreView). c.starved) e in
+    let P : ℕ → List Connection → Type 0 = λ j connections. LeavesBy (leaving_on j old.connections) (close_of j (step (state_of old told)).acts) (leaving_on j connections) in
+    record {
+      keeps = KeepsClients-trans old mid new f.keeps (KeepsClients-connections mid new connections rises);
+      causes = λ distinct j. subst (P j) (sym connections) (f.causes distinct j);
+      does = λ same below distinct were. (let more = f.keeps.rises in absurd (omega arith));
+    }
+
 -- ---- notices
 
-told-all : (old : CoreView) (world : World) (n : Notice) (new : CoreView) → new ≡ record old { world = world; connections = map (told_connection world n) old.connections } → FollowsUnlessStarved old new (tell_all_step (state_of old) world.nicks world n)
-told-all old world n new e =
-    let P : CoreView → Type 0 = λ c. FollowsUnlessStarved old c (tell_all_step (state_of old) world.nicks world n) in
+told-all : (told told' : Told) (old : CoreView) (world : World) (n : Notice) (new : CoreView) → new ≡ record old { world = world; connections = map (told_connection world n) old.connections } → (WereTold old told → WereTold (told_to_all old world n) told')
+    → FollowsUnlessStarved told old new (tell_all_step (state_of old told) told' world n)
+told-all told told' old world n new e were =
+    let step = tell_all_step (state_of old told) told' world n in
+    let P : CoreView → Type 0 = λ c. FollowsUnlessStarved told old c step in
     subst P (sym e)
-    (FollowsUnlessStarved-exact old (told_to_all old world n) (tell_all_step (state_of old) world.nicks world n)
+    (FollowsUnlessStarved-exact told old (told_to_all old world n) step
     (KeepsClients-told old (told_to_all old world n) (served_kept world n old.connections (map (told_connection world n) old.connections) (served_map n.kind n.buffer.0 (told_connection world n) old.connections)) (omega arith))
-    (λ distinct. Follows-told old world n distinct))
+    (λ distinct. told-left told told' old world n) (λ distinct before. Follows-told told told' old world n distinct (were before)))
 
 told-some : (old : CoreView) (world : World) (n : Notice) (new : CoreView) → TellsSome (record old { world = world }) new n → RanOutOfMemory old new
 told-some old world n new refusal_step =
@@ -93,21 +107,24 @@ tell-some old mid new n e served counts rises =
     })
 
 -- a change that was made, of which this was noticed
-pub changes-told : (old mid new : CoreView) (change : Change) (n : Notice) → touched_key change.what ≡ None → mid ≡ record old { world = mid.world } → Accepted old.world change mid.world n → MayTell mid new n → MakesChange old change new
-changes-told old mid new change n plain e accepted refusal_step =
+pub changes-told : (old mid new : CoreView) (change : Change) (n : Notice) → touched_key change.what ≡ None → HasNoRows old.world → HasNoRows mid.world → NothingTouched old.pending → mid ≡ record old { world = mid.world; pending = mid.pending } → mid.pending ≡ old.pending
+    → Accepted old.world change mid.world n → MayTell mid new n → MakesChange old change new
+changes-told old mid new change n plain none following nothing e still accepted refusal_step =
     let P : CoreView → Type 0 = λ c. MayTell c new n in
-    by (subst P e refusal_step)
+    by (subst P (e ∙ ap (λ (pending : List OfBuffer). record old { world = mid.world; pending = pending }) still) refusal_step)
   where
-    made : FollowsUnlessStarved old new (tell_all_step (state_of old) mid.world.nicks mid.world n) → FollowsUnlessStarved old new (change_step (state_of old) change)
-    made done =
+    told' : Told → Told
+    told' told = told_after old.world change.buffer change.what told
+
+    made : (told : Told) → FollowsUnlessStarved told old new (tell_all_step (state_of old told) (told' told) mid.world n) → FollowsUnlessStarved told old new (change_step (state_of old told) change)
+    made told done =
         let following = after old.world change in
-        let P : World → Type 0 = λ w. FollowsUnlessStarved old new (tell_all_step (state_of old) w.nicks w n) in
-        let Q : Notice → Type 0 = λ n. FollowsUnlessStarved old new (tell_all_step (state_of old) following.nicks following n) in
-        let R : FinMap nat_cmp (List Row) → Type 0 = λ told. FollowsUnlessStarved old new (tell_all_step (state_of old) told following (notice old.world change)) in
-        subst R (sym (told_plain old.world change.buffer change.what plain)) (subst Q accepted.notice (subst P accepted.after done))
+        let P : World → Type 0 = λ w. FollowsUnlessStarved told old new (tell_all_step (state_of old told) (told' told) w n) in
+        let Q : Notice → Type 0 = λ n. FollowsUnlessStarved told old new (tell_all_step (state_of old told) (told' told) following n) in
+        subst Q accepted.notice (subst P accepted.after done)
 
     by : MayTell (record old { world = mid.world }) new n → MakesChange old change new
-    by (inl told) = inl (accepted.accepted, made (told-all old mid.world n new told))
+    by (inl all) = inl (accepted.accepted, λ told. made told (told-all told (told' told) old mid.world n new all (told_follows old mid.world (map (told_connection mid.world n) old.connections) change.buffer change.what told plain none following nothing)))
     by (inr some) = inr (told-some old mid.world n new some)
 
 -- want of memory alone
@@ -120,37 +137,37 @@ starves-only old new e rises = record {
 
 -- ---- changes and refusals
 
-pub asks-made : (old new : CoreView) (change : Change) → MakesChange old change new → FollowsUnlessStarved old new (ask_step (state_of old) change)
-asks-made old new change (inl made) =
-    let P : Option ChangeRefused → Type 0 = λ o. FollowsUnlessStarved old new (ask_step_if (state_of old) change o) in
-    subst P (sym made.0) made.1
-asks-made old new change (inr starves) = FollowsUnlessStarved-starved old new (ask_step (state_of old) change) starves
+pub asks-made : (old new : CoreView) (change : Change) → MakesChange old change new → Does old new (λ state. ask_step state change)
+asks-made old new change (inl made) = λ told.
+    let P : Option ChangeRefused → Type 0 = λ o. FollowsUnlessStarved told old new (ask_step_if (state_of old told) change o) in
+    subst P (sym made.0) (made.1 told)
+asks-made old new change (inr starves) = Does-starved old new (λ state. ask_step state change) starves
 
-pub asks-told : (old new : CoreView) (change : Change) (reason : ChangeRefused) (text : List ℕ) → refusal old.world change ≡ Some reason → text ≡ refusal_text reason → FollowsUnlessStarved old new (refusal_step (state_of old) text) → FollowsUnlessStarved old new (ask_step (state_of old) change)
-asks-told old new change reason text refuses e done =
-    let P : Option ChangeRefused → Type 0 = λ o. FollowsUnlessStarved old new (ask_step_if (state_of old) change o) in
-    let Q : List ℕ → Type 0 = λ t. FollowsUnlessStarved old new (refusal_step (state_of old) t) in
-    subst P (sym refuses) (subst Q e done)
+pub asks-told : (old new : CoreView) (change : Change) (reason : ChangeRefused) (text : List ℕ) → refusal old.world change ≡ Some reason → text ≡ refusal_text reason → Does old new (λ state. refusal_step state text) → Does old new (λ state. ask_step state change)
+asks-told old new change reason text refuses e done = λ told.
+    let P : Option ChangeRefused → Type 0 = λ o. FollowsUnlessStarved told old new (ask_step_if (state_of old told) change o) in
+    let Q : List ℕ → Type 0 = λ t. FollowsUnlessStarved told old new (refusal_step (state_of old told) t) in
+    subst P (sym refuses) (subst Q e (done told))
 
 abbrev refusal_line : CoreView → List ℕ → Change
 refusal_line old text = told_refusal old.moment text
 
-tells-by : (old new : CoreView) (text : List ℕ) (o : Option ChangeRefused) → refusal old.world (refusal_line old text) ≡ o → FollowsUnlessStarved old new (change_step_if (state_of old) (refusal_line old text) o) → FollowsUnlessStarved old new (refusal_step (state_of old) text)
-tells-by old new text o e done =
-    let P : Option ChangeRefused → Type 0 = λ o. FollowsUnlessStarved old new (change_step_if (state_of old) (refusal_line old text) o) in
-    subst P (sym e) done
+tells-by : (old new : CoreView) (text : List ℕ) (o : Option ChangeRefused) → refusal old.world (refusal_line old text) ≡ o → Does old new (λ state. change_step_if state (refusal_line old text) o) → Does old new (λ state. refusal_step state text)
+tells-by old new text o e done = λ told.
+    let P : Option ChangeRefused → Type 0 = λ o. FollowsUnlessStarved told old new (change_step_if (state_of old told) (refusal_line old text) o) in
+    subst P (sym e) (done told)
 
-pub tells-made : (old new : CoreView) (text : List ℕ) → MakesChange old (told_refusal old.moment text) new → FollowsUnlessStarved old new (refusal_step (state_of old) text)
+pub tells-made : (old new : CoreView) (text : List ℕ) → MakesChange old (told_refusal old.moment text) new → Does old new (λ state. refusal_step state text)
 tells-made old new text (inl made) = tells-by old new text None made.0 made.1
-tells-made old new text (inr starves) = FollowsUnlessStarved-starved old new (refusal_step (state_of old) text) starves
+tells-made old new text (inr starves) = Does-starved old new (λ state. refusal_step state text) starves
 
-pub tells-skipped : (old new : CoreView) (text : List ℕ) (reason : ChangeRefused) → new ≡ old → refusal old.world (told_refusal old.moment text) ≡ Some reason → FollowsUnlessStarved old new (refusal_step (state_of old) text)
+pub tells-skipped : (old new : CoreView) (text : List ℕ) (reason : ChangeRefused) → new ≡ old → refusal old.world (told_refusal old.moment text) ≡ Some reason → Does old new (λ state. refusal_step state text)
 tells-skipped old new text reason e refuses =
-    let P : CoreView → Type 0 = λ c. FollowsUnlessStarved old c (refusal_step (state_of old) text) in
-    subst P (sym e) (tells-by old old text (Some reason) refuses (FollowsUnlessStarved-stays old))
+    let P : CoreView → Type 0 = λ c. Does old c (λ state. refusal_step state text) in
+    subst P (sym e) (tells-by old old text (Some reason) refuses (Does-stays old))
 
 pub tells-changed : (old new : CoreView) (text : List ℕ) (line : Change) (o : Option ChangeRefused) → line ≡ told_refusal old.moment text → (o ≡ None → MakesChange old line new)
-    → IfSome o (λ reason. (new ≡ old) × (refusal old.world line ≡ Some reason)) → FollowsUnlessStarved old new (refusal_step (state_of old) text)
+    → IfSome o (λ reason. (new ≡ old) × (refusal old.world line ≡ Some reason)) → Does old new (λ state. refusal_step state text)
 tells-changed old new text line None e made refuses = let P : Change → Type 0 = λ line. MakesChange old line new in tells-made old new text (subst P e (made refl))
 tells-changed old new text line (Some reason) e made refuses =
     let P : Change → Type 0 = λ line. refusal old.world line ≡ Some reason in
@@ -164,14 +181,17 @@ not_same m n e same = by (nat_eq m n) refl e where
   by false q e = let ne : m ≢ n = grind (arith, nat_tests) in ne same
 
 -- what was resolved is done
-pub does-resolved : (old new : CoreView) (buffer : Handle) (typed : TypedCommand) (r : Effect) → r ≡ effect_of old.world old.moment buffer typed → FollowsUnlessStarved old new (effect_step (state_of old) r) → FollowsUnlessStarved old new (typed_step (state_of old) buffer typed)
-does-resolved old new buffer typed r e done = let P : Effect → Type 0 = λ r. FollowsUnlessStarved old new (effect_step (state_of old) r) in subst P e done
+pub does-resolved : (old new : CoreView) (buffer : Handle) (typed : TypedCommand) (r : Effect) → r ≡ effect_of old.world old.moment buffer typed → Does old new (λ state. effect_step state r) → Does old new (λ state. typed_step state buffer typed)
+does-resolved old new buffer typed r e done = λ told.
+    let P : Effect → Type 0 = λ r. FollowsUnlessStarved told old new (effect_step (state_of old told) r) in
+    subst P e (done told)
 
-pub quits-done : (old : CoreView) → FollowsUnlessStarved old (record old { quits = true }) (effect_step (state_of old) ResolvedEnds)
-quits-done old =
+pub quits-done : (old : CoreView) → Does old (record old { quits = true }) (λ state. effect_step state ResolvedEnds)
+quits-done old = λ told.
     let new : CoreView = record old { quits = true } in
-    FollowsUnlessStarved-exact old new (effect_step (state_of old) ResolvedEnds) (KeepsClients-connections old new refl (omega arith))
-    (λ distinct. record { state = refl; bytes = λ j. sym (append-nil (unsent_on j old.connections)); leaving = λ j. sym (or_else-none (leaving_on j old.connections)); quits = sym (or-true old.quits) })
+    let step = effect_step (state_of old told) ResolvedEnds in
+    FollowsUnlessStarved-exact told old new step (KeepsClients-connections old new refl (omega arith)) (λ distinct. leaves-none old step (λ j. refl))
+    (λ distinct were. record { means = record { same = refl; told = were }; bytes = λ j. sym (append-nil (unsent_on j old.connections)); leaving = leaves-none old step (λ j. refl); quits = sym (or-true old.quits) })
 
 -- whether the run is to end
 abbrev quit_of : Effect → Bool
@@ -190,6 +210,10 @@ quit_of-named : (groups : EntryGroups) (buffer : Handle) (change : Handle → Ch
 quit_of-named groups buffer change None = refl
 quit_of-named groups buffer change (Some word) = quit_of-meant change (buffer_meant groups word)
 
+quit_of-switched : (o : Option Handle) → quit_of (switched o) ≡ false
+quit_of-switched None = refl
+quit_of-switched (Some buffer) = refl
+
 quit_of-resolved : (world : World) (moment : ℕ) (buffer : Handle) (typed : TypedCommand) → quit_of (effect_of world moment buffer typed) ≡ is_quit typed
 unfolding effect_of
 quit_of-resolved world moment buffer Nothing = refl
@@ -203,6 +227,7 @@ quit_of-resolved world moment buffer (Names name) = refl
 quit_of-resolved world moment buffer (TypedChanges w) = refl
 quit_of-resolved world moment buffer (Sets name value) = refl
 quit_of-resolved world moment buffer (Unsets name) = refl
+quit_of-resolved world moment buffer (Switches name) = quit_of-switched (buffer_meant world.groups name)
 
 pub quits-by : (world : World) (moment : ℕ) (buffer : Handle) (typed : TypedCommand) (r : Effect) (b : Bool) → r ≡ effect_of world moment buffer typed → quit_of r ≡ b → b ≡ is_quit typed
 quits-by world moment buffer typed r b e q = sym q ∙ ap quit_of e ∙ quit_of-resolved world moment buffer typed
@@ -216,15 +241,15 @@ pub connection-at : (link : LinkId) (connections : List Connection) (place : ℕ
 connection-at link connections place s p e = p.found s ∙ ap Some (sym e)
 
 pub leave-at : (old : CoreView) (link : LinkId) (place : ℕ) (s : Connection) (why : Cause) → IsKeyPlace connection_link link.0 old.connections place → s ≡ get_or old.connections place s → is_open_at (at_key connection_link link.0 old.connections) ≡ true
-    → FollowsUnlessStarved old (record old { connections = set old.connections place (record { session = s.session; leaving = Some why }) }) (leave_step (state_of old) link.0 why)
-leave-at old link place s why p e opened =
+    → Does old (record old { connections = set old.connections place (record { session = s.session; leaving = Some why }) }) (λ state. leave_step state link.0 why)
+leave-at old link place s why p e opened = λ told.
     let at = connection-at link old.connections place s p e in
     let sits = open_of (at_key connection_link link.0 old.connections) s at opened in
     let y : Connection = record { session = s.session; leaving = Some why } in
     rw (p.put y)
-    (FollowsUnlessStarved-exact old (record old { connections = put_at connection_link link.0 y old.connections }) (leave_step (state_of old) link.0 why)
-    (KeepsClients-put old link.0 s y at sits (at_key-key connection_link link.0 old.connections s at))
-    (λ distinct. Follows-leave old link.0 s why distinct at sits))
+    (FollowsUnlessStarved-exact told old (record old { connections = put_at connection_link link.0 y old.connections }) (leave_step (state_of old told) link.0 why)
+    (KeepsClients-put old link.0 s y at sits (at_key-key connection_link link.0 old.connections s at)) (λ distinct j. leave-left told old link.0 s why j at sits)
+    (λ distinct were. Follows-leave told old link.0 s why distinct at sits were))
 
 pub leave-gone : (link : LinkId) (connections : List Connection) (place : ℕ) (s : Connection) (why : Cause) → IsKeyPlace connection_link link.0 connections place → s ≡ get_or connections place s
     → is_open_at (at_key connection_link link.0 (set connections place (record { session = s.session; leaving = Some why }))) ≡ false
@@ -233,63 +258,68 @@ leave-gone link connections place s why p e =
     let y : Connection = record { session = s.session; leaving = Some why } in
     ap (λ ss. is_open_at (at_key connection_link link.0 ss)) (p.put y) ∙ ap is_open_at (at_key-put_same connection_link link.0 s y connections (at_key-key connection_link link.0 connections s at) at)
 
-pub starve-at : (old mid new : CoreView) (k : ℕ) → FollowsUnlessStarved old mid (loss_step (state_of old) k NoMemory (at_key client_link k (clients_of old.connections))) → mid.starved ≡ old.starved → new ≡ record mid { starved = min (mid.starved + 1) (2 ^ 64 - 1) } → mid.starved ≤ new.starved → RanOutOfMemory old new
-starve-at old mid new k done same e rises = record {
-  causes = λ distinct j.
-      let P : List Connection → Type 0 = λ connections. StaysOrStarves (leaving_on j old.connections) (leaving_on j connections) in
-      subst P (sym (ap (λ (c : CoreView). c.connections) e))
-      (lost-starves j k (state_of old) (at_key client_link k (clients_of old.connections)) (leaving_on j old.connections) (leaving_on j mid.connections) (done.causes distinct j));
-  keeps = KeepsClients-trans old mid new done.keeps (KeepsClients-connections mid new (ap (λ (c : CoreView). c.connections) e) rises);
-  count = ap (λ (c : CoreView). c.starved) e ∙ ap (λ n. min (n + 1) (2 ^ 64 - 1)) same;
-}
+pub starve-at : (old mid new : CoreView) (k : ℕ) → Does old mid (λ state. loss_step state k NoMemory (at_key client_link k state.clients)) → mid.starved ≡ old.starved → new ≡ record mid { starved = min (mid.starved + 1) (2 ^ 64 - 1) } → mid.starved ≤ new.starved → RanOutOfMemory old new
+starve-at old mid new k done same e rises =
+    let state = state_of old old.world.nicks in
+    let lost = done old.world.nicks in
+    record {
+      causes = λ distinct j.
+          let P : List Connection → Type 0 = λ connections. StaysOrStarves (leaving_on j old.connections) (leaving_on j connections) in
+          subst P (sym (ap (λ (c : CoreView). c.connections) e))
+          (lost-starves j k state (at_key client_link k (clients_of old.connections)) (leaving_on j old.connections) (leaving_on j mid.connections) (lost.causes distinct j));
+      keeps = KeepsClients-trans old mid new lost.keeps (KeepsClients-connections mid new (ap (λ (c : CoreView). c.connections) e) rises);
+      count = ap (λ (c : CoreView). c.starved) e ∙ ap (λ n. min (n + 1) (2 ^ 64 - 1)) same;
+    }
 
 -- ---- losses
 
-pub lost-missing : (old : CoreView) (k : ℕ) (why : Cause) → at_key connection_link k old.connections ≡ None → FollowsUnlessStarved old old (loss_step (state_of old) k why (at_key client_link k (clients_of old.connections)))
-lost-missing old k why none = rw (client-missing k old.connections none) (FollowsUnlessStarved-stays old)
+pub lost-missing : (old : CoreView) (k : ℕ) (why : Cause) → at_key connection_link k old.connections ≡ None → Does old old (λ state. loss_step state k why (at_key client_link k state.clients))
+lost-missing old k why none = λ told. rw (client-missing k old.connections none) (Does-stays old told)
 
-pub lost-leaving : (old : CoreView) (k : ℕ) (why : Cause) (s : Connection) → at_key connection_link k old.connections ≡ Some s → is_open s ≡ false → FollowsUnlessStarved old old (loss_step (state_of old) k why (at_key client_link k (clients_of old.connections)))
-lost-leaving old k why s at leaving =
-    FollowsUnlessStarved-exact old old (loss_step (state_of old) k why (at_key client_link k (clients_of old.connections))) (KeepsClients-refl old)
-    (λ distinct. rw (client-leaving k old.connections s distinct at leaving) (Follows-stays old))
+pub lost-leaving : (old : CoreView) (k : ℕ) (why : Cause) (s : Connection) → at_key connection_link k old.connections ≡ Some s → is_open s ≡ false → Does old old (λ state. loss_step state k why (at_key client_link k state.clients))
+lost-leaving old k why s at leaving = λ told.
+    let step = loss_step (state_of old told) k why (at_key client_link k (clients_of old.connections)) in
+    FollowsUnlessStarved-exact told old old step (KeepsClients-refl old) (λ distinct. rw (client-leaving k old.connections s distinct at leaving) (leaves-none old (no_step (state_of old told)) (λ j. refl)))
+    (λ distinct were. rw (client-leaving k old.connections s distinct at leaving) (Follows-stays told old were))
 
-pub lost-open : (old new : CoreView) (k : ℕ) (why : Cause) (s : Connection) → at_key connection_link k old.connections ≡ Some s → is_open s ≡ true → FollowsUnlessStarved old new (leave_step (state_of old) k why)
-    → FollowsUnlessStarved old new (loss_step (state_of old) k why (at_key client_link k (clients_of old.connections)))
-lost-open old new k why s at sits done = rw (client-open k old.connections s at sits) done
+pub lost-open : (old new : CoreView) (k : ℕ) (why : Cause) (s : Connection) → at_key connection_link k old.connections ≡ Some s → is_open s ≡ true → Does old new (λ state. leave_step state k why)
+    → Does old new (λ state. loss_step state k why (at_key client_link k state.clients))
+lost-open old new k why s at sits done = λ told. rw (client-open k old.connections s at sits) (done told)
 
 -- the loss of an open client
-pub lost-leaves : (old new : CoreView) (k : ℕ) (why : Cause) → is_open_at (at_key connection_link k old.connections) ≡ true → FollowsUnlessStarved old new (loss_step (state_of old) k why (at_key client_link k (clients_of old.connections))) → FollowsUnlessStarved old new (leave_step (state_of old) k why)
-lost-leaves old new k why opened done = by (at_key connection_link k old.connections) refl opened where
-  P : Option Client → Type 0
-  P o = FollowsUnlessStarved old new (loss_step (state_of old) k why o)
+pub lost-leaves : (old new : CoreView) (k : ℕ) (why : Cause) → is_open_at (at_key connection_link k old.connections) ≡ true → Does old new (λ state. loss_step state k why (at_key client_link k state.clients)) → Does old new (λ state. leave_step state k why)
+lost-leaves old new k why opened done = λ told. by told (at_key connection_link k old.connections) refl opened where
+  P : Told → Option Client → Type 0
+  P told o = FollowsUnlessStarved told old new (loss_step (state_of old told) k why o)
 
-  by : (o : Option Connection) → at_key connection_link k old.connections ≡ o → is_open_at o ≡ true → FollowsUnlessStarved old new (leave_step (state_of old) k why)
-  by None at sits = absurd (false≢true sits)
-  by (Some s) at sits = subst P (client-open k old.connections s at sits) done
+  by : (told : Told) (o : Option Connection) → at_key connection_link k old.connections ≡ o → is_open_at o ≡ true → FollowsUnlessStarved told old new (leave_step (state_of old told) k why)
+  by told None at sits = absurd (false≢true sits)
+  by told (Some s) at sits = subst (P told) (client-open k old.connections s at sits) (done told)
 
 -- ---- lines of clients
 
-pub line-missing : (old : CoreView) (k : ℕ) (line : List ℕ) → at_key connection_link k old.connections ≡ None → FollowsUnlessStarved old old (line_step (state_of old) line (at_key client_link k (clients_of old.connections)))
-line-missing old k line none = rw (client-missing k old.connections none) (FollowsUnlessStarved-stays old)
+pub line-missing : (old : CoreView) (k : ℕ) (line : List ℕ) → at_key connection_link k old.connections ≡ None → Does old old (λ state. line_step state line (at_key client_link k state.clients))
+line-missing old k line none = λ told. rw (client-missing k old.connections none) (Does-stays old told)
 
-pub line-leaving : (old : CoreView) (k : ℕ) (line : List ℕ) (s : Connection) → at_key connection_link k old.connections ≡ Some s → is_open s ≡ false → FollowsUnlessStarved old old (line_step (state_of old) line (at_key client_link k (clients_of old.connections)))
-line-leaving old k line s at leaving =
-    FollowsUnlessStarved-exact old old (line_step (state_of old) line (at_key client_link k (clients_of old.connections))) (KeepsClients-refl old)
-    (λ distinct. rw (client-leaving k old.connections s distinct at leaving) (Follows-stays old))
+pub line-leaving : (old : CoreView) (k : ℕ) (line : List ℕ) (s : Connection) → at_key connection_link k old.connections ≡ Some s → is_open s ≡ false → Does old old (λ state. line_step state line (at_key client_link k state.clients))
+line-leaving old k line s at leaving = λ told.
+    let step = line_step (state_of old told) line (at_key client_link k (clients_of old.connections)) in
+    FollowsUnlessStarved-exact told old old step (KeepsClients-refl old) (λ distinct. rw (client-leaving k old.connections s distinct at leaving) (leaves-none old (no_step (state_of old told)) (λ j. refl)))
+    (λ distinct were. rw (client-leaving k old.connections s distinct at leaving) (Follows-stays told old were))
 
 pub line-asked : (old new : CoreView) (k : ℕ) (line : List ℕ) (s : Connection) (request : Option Request) → at_key connection_link k old.connections ≡ Some s → is_open s ≡ true → request ≡ request_of s.session.client.escaped line
-    → FollowsUnlessStarved old new (request_step (state_of old) s.session.client request) → FollowsUnlessStarved old new (line_step (state_of old) line (at_key client_link k (clients_of old.connections)))
-line-asked old new k line s request at sits e done =
-    let P : Option Request → Type 0 = λ r. FollowsUnlessStarved old new (request_step (state_of old) s.session.client r) in
-    rw (client-open k old.connections s at sits) (subst P e done)
+    → Does old new (λ state. request_step state s.session.client request) → Does old new (λ state. line_step state line (at_key client_link k state.clients))
+line-asked old new k line s request at sits e done = λ told.
+    let P : Option Request → Type 0 = λ r. FollowsUnlessStarved told old new (request_step (state_of old told) s.session.client r) in
+    rw (client-open k old.connections s at sits) (subst P e (done told))
 
 pub same_open : (o : Option Connection) (s t : Connection) → o ≡ Some s → o ≡ Some t → is_open s ≡ true → is_open t ≡ true
 same_open o s t a b sits = sym (ap is_open_at b) ∙ ap is_open_at a ∙ sits
 
-pub asked-at : (old new : CoreView) (k : ℕ) (s : Connection) (request : Request) → at_key connection_link k old.connections ≡ Some s → IfSome (at_key connection_link k old.connections) (λ connection. FollowsUnlessStarved old new (request_step (state_of old) connection.session.client (Some request)))
-    → FollowsUnlessStarved old new (request_step (state_of old) s.session.client (Some request))
+pub asked-at : (old new : CoreView) (k : ℕ) (s : Connection) (request : Request) → at_key connection_link k old.connections ≡ Some s → IfSome (at_key connection_link k old.connections) (λ connection. Does old new (λ state. request_step state connection.session.client (Some request)))
+    → Does old new (λ state. request_step state s.session.client (Some request))
 asked-at old new k s request at done =
-    let P : Option Connection → Type 0 = λ o. IfSome o (λ connection. FollowsUnlessStarved old new (request_step (state_of old) connection.session.client (Some request))) in
+    let P : Option Connection → Type 0 = λ o. IfSome o (λ connection. Does old new (λ state. request_step state connection.session.client (Some request))) in
     subst P at done
 
 -- ---- requests
@@ -299,26 +329,27 @@ abbrev pub replied : CoreView → ℕ → Known → CoreView
 replied old k session' = record old { connections = put_at connection_link k (record { session = session'; leaving = None }) old.connections }
 
 ask-answer : (old new : CoreView) (k : ℕ) (s : Connection) (session' : Known) (answer : Answer) (result : Outcome) → at_key connection_link k old.connections ≡ Some s → is_open s ≡ true → answer.client.link ≡ s.session.client.link
-    → AnswersRequest s.session session' result answer → FollowsUnlessStarved (replied old k session') new (outcome_step (state_of (replied old k session')) k result)
-    → FollowsUnlessStarved old new (answer_step (state_of old) (client_link s.session.client) answer)
-ask-answer old new k s session' answer result at sits same answered done =
+    → AnswersRequest s.session session' result answer → Does (replied old k session') new (λ state. outcome_step state k result)
+    → Does old new (λ state. answer_step state (client_link s.session.client) answer)
+ask-answer old new k s session' answer result at sits same answered done = λ told.
     let here : client_link s.session.client ≡ k = at_key-key connection_link k old.connections s at in
     let key : client_link session'.client ≡ k = ap (λ (c : Client). client_link c) answered.client ∙ ap (λ (l : LinkId). l.0) same ∙ here in
     let mid = replied old k session' in
-    let first : Stepped = record { state = record (state_of old) { clients = put_at client_link k answer.client (clients_of old.connections) }; acts = sends k answer.messages } in
-    let P : Client → Type 0 = λ client. FollowsUnlessStarved old mid (record { state = record (state_of old) { clients = put_at client_link k client (clients_of old.connections) }; acts = sends k answer.messages }) in
-    let reply : FollowsUnlessStarved old mid first = subst P answered.client
-    (FollowsUnlessStarved-exact old mid (record { state = record (state_of old) { clients = put_at client_link k session'.client (clients_of old.connections) }; acts = sends k answer.messages })
-    (KeepsClients-put old k s (record { session = session'; leaving = None }) at sits key)
-    (λ distinct. Follows-reply old k s session' answer.messages at sits key answered.sends.bytes)) in
-    let Q : Outcome → Type 0 = λ o. FollowsUnlessStarved mid new (outcome_step (state_of mid) k o) in
-    rw here (FollowsUnlessStarved-then old mid new first (λ next. outcome_step next k answer.outcome) (reply-later k first.state answer.messages answer.outcome) reply (subst Q answered.outcome done))
+    let before = state_of old told in
+    let of : Client → Stepped = λ client. record { state = record before { clients = put_at client_link k client (clients_of old.connections) }; acts = sends k answer.messages } in
+    let P : Client → Type 0 = λ client. FollowsUnlessStarved told old mid (of client) in
+    let reply : FollowsUnlessStarved told old mid (of answer.client) = subst P answered.client
+    (FollowsUnlessStarved-exact told old mid (of session'.client)
+    (KeepsClients-put old k s (record { session = session'; leaving = None }) at sits key) (λ distinct j. reply-left old k s session' answer.messages j at sits key)
+    (λ distinct were. Follows-reply told old k s session' answer.messages at sits key answered.sends.bytes were)) in
+    let Q : Outcome → Type 0 = λ o. Does mid new (λ state. outcome_step state k o) in
+    rw here (FollowsUnlessStarved-then told old mid new (of answer.client) (λ next. outcome_step next k answer.outcome) (reply-later mid k (of answer.client).state answer.messages answer.outcome) reply (subst Q answered.outcome done))
 
 -- a request of an open client, whose answer was followed
 pub ask-served : (old new : CoreView) (k : ℕ) (s : Connection) (session' : Known) (request : Request) (result : Outcome) → at_key connection_link k old.connections ≡ Some s → is_open s ≡ true → RequestIsUtf8 request
     → OnServed result (AnswersRequest s.session session' result (reply_of old.world old.options s.session.client request)) → OnNoMemory result (session' ≡ s.session)
-    → OnServed result (FollowsUnlessStarved (replied old k session') new (outcome_step (state_of (replied old k session')) k result)) → OnNoMemory result (RanOutOfMemory (replied old k session') new)
-    → FollowsUnlessStarved old new (reply_step (state_of old) s.session.client request)
+    → OnServed result (Does (replied old k session') new (λ state. outcome_step state k result)) → OnNoMemory result (RanOutOfMemory (replied old k session') new)
+    → Does old new (λ state. reply_step state s.session.client request)
 ask-served old new k s session' request outcome.Replied at sits utf8 answered same done starved = ask-answer old new k s session' (reply_of old.world old.options s.session.client request) outcome.Replied at sits (reply_fits old.world old.options s.session.client request utf8).link answered done
 ask-served old new k s session' request outcome.Silent at sits utf8 answered same done starved = ask-answer old new k s session' (reply_of old.world old.options s.session.client request) outcome.Silent at sits (reply_fits old.world old.options s.session.client request utf8).link answered done
 ask-served old new k s session' request (outcome.Input buffer text) at sits utf8 answered same done starved = ask-answer old new k s session' (reply_of old.world old.options s.session.client request) (outcome.Input buffer text) at sits (reply_fits old.world old.options s.session.client request utf8).link answered done
@@ -327,7 +358,7 @@ ask-served old new k s session' request outcome.NoMemory at sits utf8 answered s
     let key : client_link session'.client ≡ k = ap (λ (known : Known). client_link known.client) same ∙ at_key-key connection_link k old.connections s at in
     let mid = replied old k session' in
     let keeps = KeepsClients-put old k s (record { session = session'; leaving = None }) at sits key in
-    FollowsUnlessStarved-starved old new (reply_step (state_of old) s.session.client request) (record {
+    Does-starved old new (λ state. reply_step state s.session.client request) (record {
       keeps = KeepsClients-trans old mid new keeps starved.keeps;
       causes = λ distinct j.
           let P : Option Cause → Type 0 = λ before. StaysOrStarves before (leaving_on j new.connections) in
@@ -362,26 +393,25 @@ ask-opened link connections place s session' world options request result p e op
     let key : connection_link y ≡ link.0 = link_same world options request s.session session' result utf8 answered same ∙ at_key-key connection_link link.0 connections s at in
     ap (λ ss. is_open_at (at_key connection_link link.0 ss)) (p.put y) ∙ ap is_open_at (at_key-put_same connection_link link.0 s y connections key at) ∙ open_of (at_key connection_link link.0 connections) s at opened
 
-pub ask-at : (old new : CoreView) (link : LinkId) (place : ℕ) (s : Connection) (session' : Known) (request : Request) (result : Outcome) → push_step (state_of old) ≡ no_step (state_of old) → IsKeyPlace connection_link link.0 old.connections place → s ≡ get_or old.connections place s
+pub ask-at : (old new : CoreView) (link : LinkId) (place : ℕ) (s : Connection) (session' : Known) (request : Request) (result : Outcome) → Does old old push_step → IsKeyPlace connection_link link.0 old.connections place → s ≡ get_or old.connections place s
     → is_open_at (at_key connection_link link.0 old.connections) ≡ true → RequestIsUtf8 request → OnServed result (AnswersRequest s.session session' result (reply_of old.world old.options s.session.client request)) → OnNoMemory result (session' ≡ s.session)
-    → OnServed result (FollowsUnlessStarved (record old { connections = set old.connections place (record { session = session'; leaving = s.leaving }) }) new (outcome_step (state_of (record old { connections = set old.connections place (record { session = session'; leaving = s.leaving }) })) link.0 result))
+    → OnServed result (Does (record old { connections = set old.connections place (record { session = session'; leaving = s.leaving }) }) new (λ state. outcome_step state link.0 result))
     → OnNoMemory result (RanOutOfMemory (record old { connections = set old.connections place (record { session = session'; leaving = s.leaving }) }) new)
-    → IfSome (at_key connection_link link.0 old.connections) (λ connection. FollowsUnlessStarved old new (request_step (state_of old) connection.session.client (Some request)))
-ask-at old new link place s session' request result none p e opened utf8 answered same done starved =
+    → IfSome (at_key connection_link link.0 old.connections) (λ connection. Does old new (λ state. request_step state connection.session.client (Some request)))
+ask-at old new link place s session' request result pushed p e opened utf8 answered same done starved =
     let at = connection-at link old.connections place s p e in
     let sits = open_of (at_key connection_link link.0 old.connections) s at opened in
     let y : Connection = record { session = session'; leaving = s.leaving } in
     let there : set old.connections place y ≡ put_at connection_link link.0 (record { session = session'; leaving = None }) old.connections = p.put y ∙ ap (λ l. put_at connection_link link.0 (record { session = session'; leaving = l }) old.connections) (open_none s sits) in
-    let P : List Connection → Type 0 = λ ss. OnServed result (FollowsUnlessStarved (record old { connections = ss }) new (outcome_step (state_of (record old { connections = ss })) link.0 result)) in
+    let P : List Connection → Type 0 = λ ss. OnServed result (Does (record old { connections = ss }) new (λ state. outcome_step state link.0 result)) in
     let Q : List Connection → Type 0 = λ ss. OnNoMemory result (RanOutOfMemory (record old { connections = ss }) new) in
-    let R : Option Connection → Type 0 = λ o. IfSome o (λ connection. FollowsUnlessStarved old new (request_step (state_of old) connection.session.client (Some request))) in
-    let S : Stepped → Type 0 = λ step. FollowsUnlessStarved old new step in
-    subst R (sym at) (subst S (sym (asked_plain old s.session.client request none)) (ask-served old new link.0 s session' request result at sits utf8 answered same (subst P there done) (subst Q there starved)))
+    let R : Option Connection → Type 0 = λ o. IfSome o (λ connection. Does old new (λ state. request_step state connection.session.client (Some request))) in
+    subst R (sym at) (asked-pushed old new s.session.client request pushed (ask-served old new link.0 s session' request result at sits utf8 answered same (subst P there done) (subst Q there starved)))
 
 -- ---- arrivals
 
-pub came-surplus : (old : CoreView) (link : LinkId) (nonce : List ℕ) → client_limit old.options ≤ length (filter (λ connection. is_open connection) old.connections) → AdmitsUnlessStarved link.0 old old (Some Surplus) (arrival_step (state_of old) link.0 nonce)
-came-surplus old link nonce full =
+pub came-surplus : (told : Told) (old : CoreView) (link : LinkId) (nonce : List ℕ) → client_limit old.options ≤ length (filter (λ connection. is_open connection) old.connections) → AdmitsUnlessStarved told link.0 old old (Some Surplus) (arrival_step (state_of old told) link.0 nonce)
+came-surplus told old link nonce full =
     let same = open-length old.connections in
     let test : nat_lt (length (clients_of old.connections)) (client_limit old.options) ≡ false = grind (arith, nat_tests) in
     record {
@@ -389,23 +419,23 @@ came-surplus old link nonce full =
       connections = refl;
       kept = λ j some. refl;
       cause = rw test (inl refl);
-      comes = λ stay below. rw test (record { state = refl; bytes = λ j. refl; leaving = λ j. refl; quits = refl; acts = refl });
+      comes = λ stay below were. rw test (record { means = record { same = refl; told = were }; bytes = λ j. refl; leaving = λ j. refl; quits = refl; acts = refl });
     }
 
-pub came-starved : (old new : CoreView) (link : LinkId) (nonce : List ℕ) → new ≡ record old { starved = min (old.starved + 1) (2 ^ 64 - 1) } → old.starved ≤ new.starved → AdmitsUnlessStarved link.0 old new (Some NoMemory) (arrival_step (state_of old) link.0 nonce)
-came-starved old new link nonce e rises =
+pub came-starved : (told : Told) (old new : CoreView) (link : LinkId) (nonce : List ℕ) → new ≡ record old { starved = min (old.starved + 1) (2 ^ 64 - 1) } → old.starved ≤ new.starved → AdmitsUnlessStarved told link.0 old new (Some NoMemory) (arrival_step (state_of old told) link.0 nonce)
+came-starved told old new link nonce e rises =
     let count : new.starved ≡ min (old.starved + 1) (2 ^ 64 - 1) = ap (λ (c : CoreView). c.starved) e in
     record {
       rises = rises;
       connections = ap (λ (c : CoreView). c.connections) e;
       kept = λ j some. ap (λ (c : CoreView). at_key connection_link j c.connections) e;
       cause = inr refl;
-      comes = λ same below. absurd (omega arith);
+      comes = λ same below were. absurd (omega arith);
     }
 
-pub came : (old : CoreView) (link : LinkId) (nonce : List ℕ) → length (filter (λ connection. is_open connection) old.connections) < client_limit old.options
-    → AdmitsUnlessStarved link.0 old (record old { connections = old.connections ++ record { session = new_session old.options link nonce; leaving = None } ∷ [] }) None (arrival_step (state_of old) link.0 nonce)
-came old link nonce few =
+pub came : (told : Told) (old : CoreView) (link : LinkId) (nonce : List ℕ) → length (filter (λ connection. is_open connection) old.connections) < client_limit old.options
+    → AdmitsUnlessStarved told link.0 old (record old { connections = old.connections ++ record { session = new_session old.options link nonce; leaving = None } ∷ [] }) None (arrival_step (state_of old told) link.0 nonce)
+came told old link nonce few =
     let same = open-length old.connections in
     let connection : Connection = record { session = new_session old.options link nonce; leaving = None } in
     let test : nat_lt (length (clients_of old.connections)) (client_limit old.options) ≡ true = grind (arith, nat_tests) in
@@ -414,8 +444,8 @@ came old link nonce few =
       connections = links-push old.connections connection;
       kept = λ j some. kept-push j old.connections connection some;
       cause = tt;
-      comes = λ stay below. rw test (record {
-        state = rw (clients-push old.connections (new_session old.options link nonce)) refl;
+      comes = λ stay below were. rw test (record {
+        means = record { same = rw (clients-push old.connections (new_session old.options link nonce)) refl; told = were };
         bytes = λ j. unsent-push j old.connections connection refl;
         leaving = λ j. leaving-push j old.connections connection refl;
         quits = refl;

@@ -8,7 +8,8 @@ use Rattle.wc_core.specs.declared.connection.Connection.{Connection}
 use Rattle.wc_core.specs.CoreView.{CoreView}
 use Rattle.wc_core.specs.State.{State, Act, Stepped}
 use Rattle.wc_core.specs.Step.{no_step, then_does}
-use Rattle.wc_core.specs.Served.{connection_link, links_of, state_of, unsent_on, leaving_in, leaving_on, sent_by, sent_to, or_else, close_by, close_of, is_end, has_end, Distinct, Follows, StaysOrStarves, LeavesBy, KeepsClients, FollowsUnlessStarved, RanOutOfMemory}
+use Rattle.wc_core.specs.Served.{connection_link, links_of, state_of, WereTold, unsent_on, leaving_in, leaving_on, sent_by, sent_to, or_else, close_by, close_of, is_end, has_end, Distinct, Follows, StaysOrStarves, LeavesBy, KeepsClients, FollowsUnlessStarved, Does, RanOutOfMemory}
+use Rattle.wc_core.specs.Told.{Told}
 
 pub sent_to-append : (j : ℕ) (a b : List Act) → sent_to j (a ++ b) ≡ sent_to j a ++ sent_to j b
 sent_to-append j [] b = refl
@@ -43,17 +44,17 @@ has_end-append [] b = refl
 has_end-append (x ∷ a) b = ap (λ t. is_end x || t) (has_end-append a b) ∙ sym (or-assoc (is_end x) (has_end a) (has_end b))
 
 -- nothing is done
-pub Follows-stays : (a : CoreView) → Follows a a (no_step (state_of a))
-Follows-stays a = record { state = refl; bytes = λ j. sym (append-nil (unsent_on j a.connections)); leaving = λ j. sym (or_else-none (leaving_on j a.connections)); quits = sym (or-false a.quits) }
+pub Follows-stays : (told : Told) (a : CoreView) → WereTold a told → Follows a a (no_step (state_of a told))
+Follows-stays told a were = record { means = record { same = refl; told = were }; bytes = λ j. sym (append-nil (unsent_on j a.connections)); leaving = λ j. sym (or_else-none (leaving_on j a.connections)); quits = sym (or-false a.quits) }
 
 -- one step after another
-pub Follows-then : (a b c : CoreView) (first : Stepped) (next : State → Stepped) → Follows a b first → Follows b c (next (state_of b)) → Follows a c (then_does first next)
+pub Follows-then : (a b c : CoreView) (first : Stepped) (next : State → Stepped) → Follows a b first → Follows b c (next (state_of b first.state.told)) → Follows a c (then_does first next)
 Follows-then a b c first next f g =
     let P : State → Type 0 = λ s. Follows b c (next s) in
-    let h : Follows b c (next first.state) = subst P f.state g in
+    let h : Follows b c (next first.state) = subst P (sym f.means.same) g in
     let acts = (next first.state).acts in
     record {
-      state = h.state;
+      means = h.means;
       bytes = λ j. h.bytes j ∙ ap (λ t. t ++ sent_to j acts) (f.bytes j) ∙ append_assoc (unsent_on j a.connections) (sent_to j first.acts) (sent_to j acts) ∙ ap (λ t. unsent_on j a.connections ++ t) (sym (sent_to-append j first.acts acts));
       leaving = λ j. h.leaving j ∙ ap (λ o. or_else o (close_of j acts)) (f.leaving j) ∙ or_else-assoc (leaving_on j a.connections) (close_of j first.acts) (close_of j acts) ∙ ap (λ o. or_else (leaving_on j a.connections) o) (sym (close_of-append j first.acts acts));
       quits = h.quits ∙ ap (λ t. t || has_end acts) f.quits ∙ or-assoc a.quits (has_end first.acts) (has_end acts) ∙ ap (λ t. a.quits || t) (sym (has_end-append first.acts acts));
@@ -76,14 +77,22 @@ KeepsClients-trans a b c f g = record {
 pub KeepsClients-connections : (a b : CoreView) → b.connections ≡ a.connections → a.starved ≤ b.starved → KeepsClients a b
 KeepsClients-connections a b e rises = record { rises = rises; links = ap (map connection_link) e; kept = λ j s. ap (at_key connection_link j) e }
 
-pub FollowsUnlessStarved-exact : (a b : CoreView) (s : Stepped) → KeepsClients a b → (Distinct (links_of a) → Follows a b s) → FollowsUnlessStarved a b s
-FollowsUnlessStarved-exact a b s keeps did = record { keeps = keeps; causes = λ distinct j. inl ((did distinct).leaving j); does = λ same below distinct. did distinct }
+pub FollowsUnlessStarved-exact : (told : Told) (a b : CoreView) (s : Stepped) → KeepsClients a b → (Distinct (links_of a) → (j : ℕ) → leaving_on j b.connections ≡ or_else (leaving_on j a.connections) (close_of j s.acts))
+    → (Distinct (links_of a) → WereTold a told → Follows a b s) → FollowsUnlessStarved told a b s
+FollowsUnlessStarved-exact told a b s keeps leaves did = record { keeps = keeps; causes = λ distinct j. inl (leaves distinct j); does = λ same below distinct were. did distinct were }
 
-pub FollowsUnlessStarved-stays : (a : CoreView) → FollowsUnlessStarved a a (no_step (state_of a))
-FollowsUnlessStarved-stays a = FollowsUnlessStarved-exact a a (no_step (state_of a)) (KeepsClients-refl a) (λ distinct. Follows-stays a)
+-- where no client begins to leave
+pub leaves-none : (a : CoreView) (s : Stepped) → ((j : ℕ) → close_of j s.acts ≡ None) → (j : ℕ) → leaving_on j a.connections ≡ or_else (leaving_on j a.connections) (close_of j s.acts)
+leaves-none a s closes j = sym (ap (or_else (leaving_on j a.connections)) (closes j) ∙ or_else-none (leaving_on j a.connections))
 
-pub FollowsUnlessStarved-starved : (a b : CoreView) (s : Stepped) → RanOutOfMemory a b → FollowsUnlessStarved a b s
-FollowsUnlessStarved-starved a b s f = record { keeps = f.keeps; causes = λ distinct j. inr (f.causes distinct j); does = λ same below distinct. (let e = f.count in absurd (omega arith)) }
+pub Does-stays : (a : CoreView) → Does a a no_step
+Does-stays a = λ told. FollowsUnlessStarved-exact told a a (no_step (state_of a told)) (KeepsClients-refl a) (λ distinct. leaves-none a (no_step (state_of a told)) (λ j. refl)) (λ distinct were. Follows-stays told a were)
+
+pub FollowsUnlessStarved-starved : (told : Told) (a b : CoreView) (s : Stepped) → RanOutOfMemory a b → FollowsUnlessStarved told a b s
+FollowsUnlessStarved-starved told a b s f = record { keeps = f.keeps; causes = λ distinct j. inr (f.causes distinct j); does = λ same below distinct were. (let e = f.count in absurd (omega arith)) }
+
+pub Does-starved : (a b : CoreView) (step : State → Stepped) → RanOutOfMemory a b → Does a b step
+Does-starved a b step f = λ told. FollowsUnlessStarved-starved told a b (step (state_of a told)) f
 
 -- a client that is leaving stays so for the same cause
 leaving-stays : (a b : CoreView) (j : ℕ) (why : Cause) → KeepsClients a b → leaving_on j a.connections ≡ Some why → leaving_on j b.connections ≡ Some why
@@ -94,39 +103,46 @@ leaving-stays a b j why keeps e =
     some_is : (why : Cause) → IsSome (Some why)
     some_is why = refl
 
--- whom the second of two steps closes does not hang on what the first one did
-pub record ClosesLater (first : Stepped) (next : State → Stepped) : Type 0 where
+-- the first of two steps closes no one, and whom the second one closes is the same for the state that the core
+-- then means
+pub record ClosesLater (b : CoreView) (first : Stepped) (next : State → Stepped) : Type 0 where
   pub first_none : (j : ℕ) → close_of j first.acts ≡ None
-  pub same : (j : ℕ) (s t : State) → close_of j (next s).acts ≡ close_of j (next t).acts
+  pub same : (j : ℕ) → close_of j (next (state_of b first.state.told)).acts ≡ close_of j (next first.state).acts
 
-causes-then : (a b c : CoreView) (first : Stepped) (next : State → Stepped) (j : ℕ) → ClosesLater first next → KeepsClients b c
-    → LeavesBy (leaving_on j a.connections) (close_of j first.acts) (leaving_on j b.connections) → LeavesBy (leaving_on j b.connections) (close_of j (next (state_of b)).acts) (leaving_on j c.connections)
+causes-then : (a b c : CoreView) (first : Stepped) (next : State → Stepped) (j : ℕ) → ClosesLater b first next → KeepsClients b c
+    → LeavesBy (leaving_on j a.connections) (close_of j first.acts) (leaving_on j b.connections) → LeavesBy (leaving_on j b.connections) (close_of j (next (state_of b first.state.told)).acts) (leaving_on j c.connections)
     → LeavesBy (leaving_on j a.connections) (close_of j (then_does first next).acts) (leaving_on j c.connections)
 causes-then a b c first next j closes keeps f g = by (stays_by f) g where
-  whole : close_of j (next (state_of b)).acts ≡ close_of j (then_does first next).acts
+  later : State
+  later = state_of b first.state.told
+
+  whole : close_of j (next later).acts ≡ close_of j (then_does first next).acts
   whole =
-      closes.same j (state_of b) first.state ∙ ap (λ o. or_else o (close_of j (next first.state).acts)) (sym (closes.first_none j))
+      closes.same j ∙ ap (λ o. or_else o (close_of j (next first.state).acts)) (sym (closes.first_none j))
       ∙ sym (close_of-append j first.acts (next first.state).acts)
 
   stays_by : LeavesBy (leaving_on j a.connections) (close_of j first.acts) (leaving_on j b.connections) → StaysOrStarves (leaving_on j a.connections) (leaving_on j b.connections)
   stays_by (inl e) = inl (e ∙ ap (or_else (leaving_on j a.connections)) (closes.first_none j) ∙ or_else-none (leaving_on j a.connections))
   stays_by (inr e) = e
 
-  by : StaysOrStarves (leaving_on j a.connections) (leaving_on j b.connections) → LeavesBy (leaving_on j b.connections) (close_of j (next (state_of b)).acts) (leaving_on j c.connections)
+  by : StaysOrStarves (leaving_on j a.connections) (leaving_on j b.connections) → LeavesBy (leaving_on j b.connections) (close_of j (next later).acts) (leaving_on j c.connections)
       → LeavesBy (leaving_on j a.connections) (close_of j (then_does first next).acts) (leaving_on j c.connections)
-  by (inl e) (inl g) = inl (g ∙ ap (λ o. or_else o (close_of j (next (state_of b)).acts)) e ∙ ap (or_else (leaving_on j a.connections)) whole)
+  by (inl e) (inl g) = inl (g ∙ ap (λ o. or_else o (close_of j (next later).acts)) e ∙ ap (or_else (leaving_on j a.connections)) whole)
   by (inl e) (inr (inl g)) = inr (inl (g ∙ e))
   by (inl e) (inr (inr g)) = inr (inr g)
   by (inr e) g = inr (inr (leaving-stays b c j NoMemory keeps e))
 
-pub FollowsUnlessStarved-then : (a b c : CoreView) (first : Stepped) (next : State → Stepped) → ClosesLater first next → FollowsUnlessStarved a b first → FollowsUnlessStarved b c (next (state_of b)) → FollowsUnlessStarved a c (then_does first next)
-FollowsUnlessStarved-then a b c first next closes f g = record {
+pub FollowsUnlessStarved-then : (told : Told) (a b c : CoreView) (first : Stepped) (next : State → Stepped) → ClosesLater b first next → FollowsUnlessStarved told a b first → Does b c next → FollowsUnlessStarved told a c (then_does first next)
+FollowsUnlessStarved-then told a b c first next closes f done = record {
   keeps = KeepsClients-trans a b c f.keeps g.keeps;
   causes = λ distinct j. causes-then a b c first next j closes g.keeps (f.causes distinct j) (g.causes (subst Distinct (sym f.keeps.links) distinct) j);
-  does = λ same below distinct.
+  does = λ same below distinct were.
       let p = f.keeps.rises in
       let q = g.keeps.rises in
       let half : b.starved ≡ a.starved = omega arith in
       let rest : c.starved ≡ b.starved = omega arith in
-      Follows-then a b c first next (f.does half below distinct) (g.does rest (omega arith) (subst Distinct (sym f.keeps.links) distinct));
-}
+      let before = f.does half below distinct were in
+      Follows-then a b c first next before (g.does rest (omega arith) (subst Distinct (sym f.keeps.links) distinct) before.means.told);
+} where
+  g : FollowsUnlessStarved first.state.told b c (next (state_of b first.state.told))
+  g = done first.state.told

@@ -1,5 +1,5 @@
 -- What becomes of an option, and what is told where it does not get a value.
-use Rattle.std.proofs.Common.{◌≡◌, ◌≢◌, ℕ, zero, suc, ◌+◌, ◌-◌, ◌^◌, ◌≤◌, Bool, true, false, cond, not, List, [], ◌∷◌, ◌++◌, codes, min, length, nat_le, ◌&&◌, inl, Option, Some, None, refl, sym, subst, ap, ◌∙◌, arith, append-nil, get_or}
+use Rattle.std.proofs.Common.{◌≡◌, ◌≢◌, ℕ, zero, suc, Bool, true, false, cond, not, List, [], ◌∷◌, codes, length, nat_le, ◌&&◌, Option, Some, None, refl, sym, subst, arith, append-nil, get_or}
 use Rattle.std.specs.Str.{IsUtf8}
 use Rattle.std.proofs.lemmas.Str.{IsUtf8-nil, IsUtf8-append}
 use Rattle.wc_options.specs.Names.{Located, AtGlobal, AtServer, located, row_of_located}
@@ -10,65 +10,67 @@ use Rattle.wc_options.specs.declared.refusal.SetRefused.{SetRefused}
 use Rattle.wc_options.specs.declared.refusal.SetRefused.TheVariants as option
 use Rattle.wc_core.specs.CoreView.{CoreView}
 use Rattle.wc_core.specs.Resolved.{option_text}
-use Rattle.wc_core.specs.State.{Stepped}
+use Rattle.wc_core.specs.State.{State, Stepped}
 use Rattle.wc_core.specs.Step.{no_step, refusal_step, set_step, set_step_if, unset_step, unset_step_if}
-use Rattle.wc_core.specs.Served.{state_of, unsent_on, leaving_on, FollowsUnlessStarved}
-use Rattle.wc_core.proofs.DidLemmas.{or_else-none, or-false, KeepsClients-connections, FollowsUnlessStarved-exact}
+use Rattle.wc_core.specs.Served.{state_of, unsent_on, FollowsUnlessStarved, Does}
+use Rattle.wc_core.specs.Told.{Told}
+use Rattle.wc_core.proofs.DidLemmas.{or-false, leaves-none, KeepsClients-connections, FollowsUnlessStarved-exact}
 use Rattle.wc_core.proofs.TypedLemmas.{ascii_text}
 
 -- ---- the options after a command
 
-options-are : (old : CoreView) (options : OptionsValue) → FollowsUnlessStarved old (record old { options = options }) (no_step (record (state_of old) { options = options }))
-options-are old options =
-    FollowsUnlessStarved-exact old (record old { options = options }) (no_step (record (state_of old) { options = options })) (KeepsClients-connections old (record old { options = options }) refl (omega arith))
-    (λ distinct. record { state = refl; bytes = λ j. sym (append-nil (unsent_on j old.connections)); leaving = λ j. sym (or_else-none (leaving_on j old.connections)); quits = sym (or-false old.quits) })
+options-are : (told : Told) (old : CoreView) (options : OptionsValue) → FollowsUnlessStarved told old (record old { options = options }) (no_step (record (state_of old told) { options = options }))
+options-are told old options =
+    let step = no_step (record (state_of old told) { options = options }) in
+    FollowsUnlessStarved-exact told old (record old { options = options }) step (KeepsClients-connections old (record old { options = options }) refl (omega arith)) (λ distinct. leaves-none old step (λ j. refl))
+    (λ distinct were. record { means = record { same = refl; told = were }; bytes = λ j. sym (append-nil (unsent_on j old.connections)); leaving = leaves-none old step (λ j. refl); quits = sym (or-false old.quits) })
 
-pub set-done : (old : CoreView) (options : OptionsValue) (name value : List ℕ) → refusal_of old.options name value ≡ None → options ≡ with_value old.options name value → FollowsUnlessStarved old (record old { options = options }) (set_step (state_of old) name value)
-set-done old options name value accepted e =
-    let P : OptionsValue → Type 0 = λ o. FollowsUnlessStarved old (record old { options = options }) (no_step (record (state_of old) { options = o })) in
-    let Q : Option SetRefused → Type 0 = λ o. FollowsUnlessStarved old (record old { options = options }) (set_step_if (state_of old) name value o) in
-    subst Q (sym accepted) (subst P e (options-are old options))
+pub set-done : (old : CoreView) (options : OptionsValue) (name value : List ℕ) → refusal_of old.options name value ≡ None → options ≡ with_value old.options name value → Does old (record old { options = options }) (λ state. set_step state name value)
+set-done old options name value accepted e = λ told.
+    let P : OptionsValue → Type 0 = λ o. FollowsUnlessStarved told old (record old { options = options }) (no_step (record (state_of old told) { options = o })) in
+    let Q : Option SetRefused → Type 0 = λ o. FollowsUnlessStarved told old (record old { options = options }) (set_step_if (state_of old told) name value o) in
+    subst Q (sym accepted) (subst P e (options-are told old options))
 
-set-told : (old new : CoreView) (name value : List ℕ) (reason : SetRefused) → refusal_of old.options name value ≡ Some reason → FollowsUnlessStarved old new (refusal_step (state_of old) (option_text name reason)) → FollowsUnlessStarved old new (set_step (state_of old) name value)
-set-told old new name value reason refused done =
-    let Q : Option SetRefused → Type 0 = λ o. FollowsUnlessStarved old new (set_step_if (state_of old) name value o) in
-    subst Q (sym refused) done
+set-told : (old new : CoreView) (name value : List ℕ) (reason : SetRefused) → refusal_of old.options name value ≡ Some reason → Does old new (λ state. refusal_step state (option_text name reason)) → Does old new (λ state. set_step state name value)
+set-told old new name value reason refused done = λ told.
+    let Q : Option SetRefused → Type 0 = λ o. FollowsUnlessStarved told old new (set_step_if (state_of old told) name value o) in
+    subst Q (sym refused) (done told)
 
 -- where the options stayed as they were
 set-refused-by : (old new : CoreView) (name value : List ℕ) (reason : SetRefused) → (reason ≢ option.NoMemory → refusal_of old.options name value ≡ Some reason)
-    → (reason ≢ option.NoMemory → FollowsUnlessStarved old new (refusal_step (state_of old) (option_text name reason))) → (reason ≡ option.NoMemory → (s : Stepped) → FollowsUnlessStarved old new s)
-    → FollowsUnlessStarved old new (set_step (state_of old) name value)
-set-refused-by old new name value option.NoMemory refuses told starves = starves refl (set_step (state_of old) name value)
+    → (reason ≢ option.NoMemory → Does old new (λ state. refusal_step state (option_text name reason))) → (reason ≡ option.NoMemory → (step : State → Stepped) → Does old new step)
+    → Does old new (λ state. set_step state name value)
+set-refused-by old new name value option.NoMemory refuses told starves = starves refl (λ state. set_step state name value)
 set-refused-by old new name value option.UnknownOption refuses told starves = set-told old new name value option.UnknownOption (refuses (λ e. cc)) (told (λ e. cc))
 set-refused-by old new name value (option.BadValue range) refuses told starves = set-told old new name value (option.BadValue range) (refuses (λ e. cc)) (told (λ e. cc))
 set-refused-by old new name value (option.TooManyServers limit) refuses told starves = set-told old new name value (option.TooManyServers limit) (refuses (λ e. cc)) (told (λ e. cc))
 
 pub set-refused : (old new : CoreView) (options : OptionsValue) (name value : List ℕ) (reason : SetRefused) → options ≡ old.options → (reason ≢ option.NoMemory → refusal_of old.options name value ≡ Some reason)
-    → (reason ≢ option.NoMemory → FollowsUnlessStarved (record old { options = options }) new (refusal_step (state_of (record old { options = options })) (option_text name reason)))
-    → (reason ≡ option.NoMemory → (s : Stepped) → FollowsUnlessStarved (record old { options = options }) new s)
-    → FollowsUnlessStarved old new (set_step (state_of old) name value)
+    → (reason ≢ option.NoMemory → Does (record old { options = options }) new (λ state. refusal_step state (option_text name reason)))
+    → (reason ≡ option.NoMemory → (step : State → Stepped) → Does (record old { options = options }) new step)
+    → Does old new (λ state. set_step state name value)
 set-refused old new options name value reason e refuses told starves =
-    let P : OptionsValue → Type 0 = λ o. reason ≢ option.NoMemory → FollowsUnlessStarved (record old { options = o }) new (refusal_step (state_of (record old { options = o })) (option_text name reason)) in
-    let Q : OptionsValue → Type 0 = λ o. reason ≡ option.NoMemory → (s : Stepped) → FollowsUnlessStarved (record old { options = o }) new s in
+    let P : OptionsValue → Type 0 = λ o. reason ≢ option.NoMemory → Does (record old { options = o }) new (λ state. refusal_step state (option_text name reason)) in
+    let Q : OptionsValue → Type 0 = λ o. reason ≡ option.NoMemory → (step : State → Stepped) → Does (record old { options = o }) new step in
     set-refused-by old new name value reason refuses (subst P e told) (subst Q e starves)
 
-pub unset-done : (old : CoreView) (options : OptionsValue) (name : List ℕ) → value_of old.options name ≢ None → options ≡ without_value old.options name → FollowsUnlessStarved old (record old { options = options }) (unset_step (state_of old) name)
-unset-done old options name known e = by (value_of old.options name) refl where
-  P : OptionsValue → Type 0
-  P o = FollowsUnlessStarved old (record old { options = options }) (no_step (record (state_of old) { options = o }))
+pub unset-done : (old : CoreView) (options : OptionsValue) (name : List ℕ) → value_of old.options name ≢ None → options ≡ without_value old.options name → Does old (record old { options = options }) (λ state. unset_step state name)
+unset-done old options name known e = λ told. by told (value_of old.options name) refl where
+  P : Told → OptionsValue → Type 0
+  P told o = FollowsUnlessStarved told old (record old { options = options }) (no_step (record (state_of old told) { options = o }))
 
-  Q : Option (List ℕ) → Type 0
-  Q o = FollowsUnlessStarved old (record old { options = options }) (unset_step_if (state_of old) name o)
+  Q : Told → Option (List ℕ) → Type 0
+  Q told o = FollowsUnlessStarved told old (record old { options = options }) (unset_step_if (state_of old told) name o)
 
-  by : (o : Option (List ℕ)) → value_of old.options name ≡ o → FollowsUnlessStarved old (record old { options = options }) (unset_step (state_of old) name)
-  by None at = absurd (known at)
-  by (Some value) at = subst Q (sym at) (subst P e (options-are old options))
+  by : (told : Told) (o : Option (List ℕ)) → value_of old.options name ≡ o → FollowsUnlessStarved told old (record old { options = options }) (unset_step (state_of old told) name)
+  by told None at = absurd (known at)
+  by told (Some value) at = subst (Q told) (sym at) (subst (P told) e (options-are told old options))
 
-unset-told : (old new : CoreView) (name : List ℕ) (reason : SetRefused) → reason ≡ option.UnknownOption → value_of old.options name ≡ None → FollowsUnlessStarved old new (refusal_step (state_of old) (option_text name reason)) → FollowsUnlessStarved old new (unset_step (state_of old) name)
-unset-told old new name reason unknown none done =
-    let P : SetRefused → Type 0 = λ reason. FollowsUnlessStarved old new (refusal_step (state_of old) (option_text name reason)) in
-    let Q : Option (List ℕ) → Type 0 = λ o. FollowsUnlessStarved old new (unset_step_if (state_of old) name o) in
-    subst Q (sym none) (subst P unknown done)
+unset-told : (old new : CoreView) (name : List ℕ) (reason : SetRefused) → reason ≡ option.UnknownOption → value_of old.options name ≡ None → Does old new (λ state. refusal_step state (option_text name reason)) → Does old new (λ state. unset_step state name)
+unset-told old new name reason unknown none done = λ told.
+    let P : SetRefused → Type 0 = λ reason. FollowsUnlessStarved told old new (refusal_step (state_of old told) (option_text name reason)) in
+    let Q : Option (List ℕ) → Type 0 = λ o. FollowsUnlessStarved told old new (unset_step_if (state_of old told) name o) in
+    subst Q (sym none) (subst P unknown (done told))
 
 unknown-kept : (reason : SetRefused) → reason ≡ option.UnknownOption → reason ≢ option.NoMemory
 unknown-kept option.NoMemory e = let q : option.NoMemory ≡ option.UnknownOption = e in cc
@@ -77,10 +79,10 @@ unknown-kept (option.BadValue range) e = λ q. cc
 unknown-kept (option.TooManyServers limit) e = λ q. cc
 
 pub unset-refused : (old new : CoreView) (options : OptionsValue) (name : List ℕ) (reason : SetRefused) → options ≡ old.options → reason ≡ option.UnknownOption → value_of old.options name ≡ None
-    → (reason ≢ option.NoMemory → FollowsUnlessStarved (record old { options = options }) new (refusal_step (state_of (record old { options = options })) (option_text name reason)))
-    → FollowsUnlessStarved old new (unset_step (state_of old) name)
+    → (reason ≢ option.NoMemory → Does (record old { options = options }) new (λ state. refusal_step state (option_text name reason)))
+    → Does old new (λ state. unset_step state name)
 unset-refused old new options name reason e unknown none told =
-    let P : OptionsValue → Type 0 = λ o. FollowsUnlessStarved (record old { options = o }) new (refusal_step (state_of (record old { options = o })) (option_text name reason)) in
+    let P : OptionsValue → Type 0 = λ o. Does (record old { options = o }) new (λ state. refusal_step state (option_text name reason)) in
     unset-told old new name reason unknown none (subst P e (told (unknown-kept reason unknown)))
 
 -- ---- why an option does not get a value

@@ -25,7 +25,8 @@ use Rattle.wc_session.specs.Event.{Spelled, IsPushOf, with_event, push_messages,
 use Rattle.wc_session.specs.Sending.{spelling}
 use Rattle.wc_session.specs.Sync.{follows, after_event}
 use Rattle.wc_core.specs.declared.connection.Connection.{Connection}
-use Rattle.wc_core.specs.Pushes.{WasTold, push_of, pushes_told, sent_connection, push_connection, pushed_connection, AreThere}
+use Rattle.wc_core.specs.Pushes.{push_of, pushes_told, sent_connection, push_connection, pushed_connection, AreThere}
+use Rattle.wc_core.specs.Told.{WasTold}
 use Rattle.wc_core.specs.Served.{is_open, heard_connection, starved_connection, ConnectionsServed, ConnectionKept, ConnectionsKept}
 use Rattle.wc_core.proofs.EventLemmas.{starved_kept, served_kept_by}
 use Rattle.wc_core.proofs.NickPushes.{push_same}

@@ -26,8 +26,8 @@ use Rattle.wc_model.specs.Notices.{Accepted, about, told_groups, name_in}
 use Rattle.wc_model.specs.Touches.{touched_key}
 use Rattle.wc_model.specs.Apply.{after, or_else, of_buffers, refusal_of_handles, is_held, no_line, row_of, refusal_of, refusal}
 use Rattle.wc_world.specs.Texts.{IsChangeText}
-use Rattle.wc_core.specs.Typed.{TypedCommand, Nothing, Quits, Refused, Prints, Adds, Closes, Merges, Names, Changes, Sets, Unsets, typed_line}
-use Rattle.wc_core.specs.Resolved.{Effect, Stays, Ends, Tells, Asks, SetsOption, UnsetsOption, buffer_meant, no_such_buffer, of_meant, of_named, change_of, line_spec, core_spec, plugin_in, rename_of, effect_of, buffer_text, refusal_text, told_refusal}
+use Rattle.wc_core.specs.Typed.{TypedCommand, Nothing, Quits, Refused, Prints, Adds, Closes, Merges, Names, Changes, Sets, Unsets, Switches, typed_line}
+use Rattle.wc_core.specs.Resolved.{Effect, Stays, Ends, Tells, Asks, SetsOption, UnsetsOption, switched, buffer_meant, no_such_buffer, of_meant, of_named, change_of, line_spec, core_spec, plugin_in, rename_of, effect_of, buffer_text, refusal_text, told_refusal}
 use Rattle.wc_core.specs.Texts.{WhatUtf8}
 use Rattle.wc_core.proofs.TypedLemmas.{ascii_text, TypedUtf8, typed_utf8}
 use Rattle.wc_core.proofs.ResolvedWords.{plugin_before}
@@ -62,6 +62,10 @@ renamed_text groups buffer name are utf8 =
 added_text : (name : List ℕ) → IsUtf8 name → WhatUtf8 (what.Add (core_spec name))
 added_text name utf8 = record { full_name = IsUtf8-append (codes "core.") name (ascii_text (codes "core.") refl) utf8; short_name = utf8; title = IsUtf8-nil; vars = All-nil IsText }
 
+switched_text : (o : Option Handle) → ResolvedUtf8 (switched o)
+switched_text None = ascii_text (codes "wrong arguments: /buffer") refl
+switched_text (Some buffer) = tt
+
 pub resolved-utf8 : (world : World) (moment : ℕ) (buffer : Handle) (typed : TypedCommand) → AreBuffers world.groups → TypedUtf8 typed → ResolvedUtf8 (effect_of world moment buffer typed)
 unfolding effect_of
 resolved-utf8 world moment buffer Nothing are utf8 = tt
@@ -76,6 +80,7 @@ resolved-utf8 world moment buffer (Names name) are utf8 = renamed_text world.gro
 resolved-utf8 world moment buffer (Changes w) are utf8 = utf8
 resolved-utf8 world moment buffer (Sets name value) are utf8 = utf8
 resolved-utf8 world moment buffer (Unsets name) are utf8 = utf8
+resolved-utf8 world moment buffer (Switches name) are utf8 = switched_text (buffer_meant world.groups name)
 
 -- the same of a line that was read
 pub line-utf8 : (world : World) (moment : ℕ) (buffer : Handle) (typed : TypedCommand) (line : List ℕ) (r : Effect) → AreBuffers world.groups → IsUtf8 line → typed ≡ typed_line line → r ≡ effect_of world moment buffer typed → ResolvedUtf8 r

@@ -25,8 +25,9 @@ use Rattle.wc_core.specs.TypedSeen.{lines_left}
 use Rattle.wc_core.specs.State.{State, Stepped}
 use Rattle.wc_core.specs.Inputs.{GoesOn, Stops}
 use Rattle.wc_core.specs.Step.{client_link, sends, no_step, then_does, tell_all_step, typed_step, is_quit, lines_step, leave_step}
-use Rattle.wc_core.specs.Served.{connection_link, links_of, is_open, clients_of, state_of, unsent_in, unsent_on, leaving_in, leaving_on, or_else, close_of, StaysOrStarves, LeavesBy, Distinct, Follows, KeepsClients, FollowsUnlessStarved, told_connection, ConnectionsKept}
-use Rattle.wc_core.proofs.DidLemmas.{or_else-none, or-false, FollowsUnlessStarved-stays, FollowsUnlessStarved-then}
+use Rattle.wc_core.specs.Served.{connection_link, links_of, is_open, clients_of, state_of, WereTold, unsent_in, unsent_on, leaving_in, leaving_on, or_else, close_of, StaysOrStarves, LeavesBy, Distinct, Follows, KeepsClients, FollowsUnlessStarved, Does, told_connection, ConnectionsKept}
+use Rattle.wc_core.specs.Told.{Told}
+use Rattle.wc_core.proofs.DidLemmas.{or_else-none, or-false, Does-stays, FollowsUnlessStarved-then}
 use Rattle.wc_core.proofs.CloseLemmas.{does-closes, typed-later}
 use Rattle.wc_core.proofs.ConnectionLemmas.{sent-sends, close-sends, end-sends, close-told, end-told, told-clients, told-leaving, told-bytes, ConnectionsKept-links, ConnectionsKept-leaving, clients-put, clients-leave}
 
@@ -35,11 +36,14 @@ use Rattle.wc_core.proofs.ConnectionLemmas.{sent-sends, close-sends, end-sends, 
 abbrev pub told_to_all : CoreView → World → Notice → CoreView
 told_to_all old world n = record old { world = world; connections = map (told_connection world n) old.connections }
 
-pub Follows-told : (old : CoreView) (world : World) (n : Notice) → Distinct (links_of old) → Follows old (told_to_all old world n) (tell_all_step (state_of old) world.nicks world n)
-Follows-told old world n distinct = record {
-  state = rw (told-clients world n old.connections) refl;
+pub told-left : (told told' : Told) (old : CoreView) (world : World) (n : Notice) (j : ℕ) → leaving_on j (map (told_connection world n) old.connections) ≡ or_else (leaving_on j old.connections) (close_of j (tell_all_step (state_of old told) told' world n).acts)
+told-left told told' old world n j = told-leaving j world n old.connections ∙ sym (ap (or_else (leaving_on j old.connections)) (close-told j world n (clients_of old.connections)) ∙ or_else-none (leaving_on j old.connections))
+
+pub Follows-told : (told told' : Told) (old : CoreView) (world : World) (n : Notice) → Distinct (links_of old) → WereTold (told_to_all old world n) told' → Follows old (told_to_all old world n) (tell_all_step (state_of old told) told' world n)
+Follows-told told told' old world n distinct were = record {
+  means = record { same = rw (told-clients world n old.connections) refl; told = were };
   bytes = λ j. told-bytes j world n old.connections distinct;
-  leaving = λ j. told-leaving j world n old.connections ∙ sym (ap (or_else (leaving_on j old.connections)) (close-told j world n (clients_of old.connections)) ∙ or_else-none (leaving_on j old.connections));
+  leaving = told-left told told' old world n;
   quits = sym (ap (λ t. old.quits || t) (end-told world n (clients_of old.connections)) ∙ or-false old.quits);
 }
 
@@ -104,13 +108,17 @@ leaving-put old k s session' j at sits key = by (eqb k j) refl where
   by false q = put_there (Option Cause) leaving_in k j y old.connections key q
 
 -- a reply comes after the unsent bytes
-pub Follows-reply : (old : CoreView) (k : ℕ) (s : Connection) (session' : Known) (messages : List WireMessage) → at_key connection_link k old.connections ≡ Some s → is_open s ≡ true → client_link session'.client ≡ k
-    → session'.unsent ≡ s.session.unsent ++ flat_map (λ m. spelling m) messages
-    → Follows old (record old { connections = put_at connection_link k (record { session = session'; leaving = None }) old.connections }) (record { state = record (state_of old) { clients = put_at client_link k session'.client (clients_of old.connections) }; acts = sends k messages })
-Follows-reply old k s session' messages at sits key e = record {
-  state = rw (clients-put k old.connections s session' at sits) refl;
+pub reply-left : (old : CoreView) (k : ℕ) (s : Connection) (session' : Known) (messages : List WireMessage) (j : ℕ) → at_key connection_link k old.connections ≡ Some s → is_open s ≡ true → client_link session'.client ≡ k
+    → leaving_on j (put_at connection_link k (record { session = session'; leaving = None }) old.connections) ≡ or_else (leaving_on j old.connections) (close_of j (sends k messages))
+reply-left old k s session' messages j at sits key = leaving-put old k s session' j at sits key ∙ sym (ap (or_else (leaving_on j old.connections)) (close-sends j k messages) ∙ or_else-none (leaving_on j old.connections))
+
+pub Follows-reply : (told : Told) (old : CoreView) (k : ℕ) (s : Connection) (session' : Known) (messages : List WireMessage) → at_key connection_link k old.connections ≡ Some s → is_open s ≡ true → client_link session'.client ≡ k
+    → session'.unsent ≡ s.session.unsent ++ flat_map (λ m. spelling m) messages → WereTold old told
+    → Follows old (record old { connections = put_at connection_link k (record { session = session'; leaving = None }) old.connections }) (record { state = record (state_of old told) { clients = put_at client_link k session'.client (clients_of old.connections) }; acts = sends k messages })
+Follows-reply told old k s session' messages at sits key e were = record {
+  means = record { same = rw (clients-put k old.connections s session' at sits) refl; told = were };
   bytes = λ j. bytes_by j (eqb k j) refl ∙ ap (λ t. unsent_on j old.connections ++ t) (sym (sent-sends j k messages));
-  leaving = λ j. leaving-put old k s session' j at sits key ∙ sym (ap (or_else (leaving_on j old.connections)) (close-sends j k messages) ∙ or_else-none (leaving_on j old.connections));
+  leaving = λ j. reply-left old k s session' messages j at sits key;
   quits = sym (ap (λ t. old.quits || t) (end-sends k messages) ∙ or-false old.quits);
 } where
   y : Connection
@@ -121,12 +129,29 @@ Follows-reply old k s session' messages at sits key e = record {
   bytes_by j false q = put_there (List ℕ) unsent_in k j y old.connections key q ∙ sym (append-nil (unsent_on j old.connections))
 
 -- a client is marked as leaving
-pub Follows-leave : (old : CoreView) (k : ℕ) (s : Connection) (why : Cause) → Distinct (links_of old) → at_key connection_link k old.connections ≡ Some s → is_open s ≡ true
-    → Follows old (record old { connections = put_at connection_link k (record { session = s.session; leaving = Some why }) old.connections }) (leave_step (state_of old) k why)
-Follows-leave old k s why distinct at sits = record {
-  state = rw (clients-leave k old.connections s s.session why distinct at) refl;
+left-by : (k j : ℕ) (s : Connection) (why : Cause) (connections : List Connection) → at_key connection_link k connections ≡ Some s → is_open s ≡ true
+    → leaving_on j (put_at connection_link k (record { session = s.session; leaving = Some why }) connections) ≡ or_else (leaving_on j connections) (or_else (cond (eqb k j) (Some why) None) None)
+left-by k j s why connections at sits = by (eqb k j) refl where
+  y : Connection
+  y = record { session = s.session; leaving = Some why }
+
+  key : connection_link y ≡ k
+  key = at_key-key connection_link k connections s at
+
+  by : (t : Bool) → eqb k j ≡ t → leaving_on j (put_at connection_link k y connections) ≡ or_else (leaving_on j connections) (or_else (cond t (Some why) None) None)
+  by true q = let seen = put_here (Option Cause) leaving_in k j s y connections at key q in seen.0 ∙ sym (ap (λ o. or_else o (Some why)) (seen.1 ∙ open_none s sits))
+  by false q = put_there (Option Cause) leaving_in k j y connections key q ∙ sym (or_else-none (leaving_on j connections))
+
+pub leave-left : (told : Told) (old : CoreView) (k : ℕ) (s : Connection) (why : Cause) (j : ℕ) → at_key connection_link k old.connections ≡ Some s → is_open s ≡ true
+    → leaving_on j (put_at connection_link k (record { session = s.session; leaving = Some why }) old.connections) ≡ or_else (leaving_on j old.connections) (close_of j (leave_step (state_of old told) k why).acts)
+leave-left told old k s why j at sits = left-by k j s why old.connections at sits
+
+pub Follows-leave : (told : Told) (old : CoreView) (k : ℕ) (s : Connection) (why : Cause) → Distinct (links_of old) → at_key connection_link k old.connections ≡ Some s → is_open s ≡ true → WereTold old told
+    → Follows old (record old { connections = put_at connection_link k (record { session = s.session; leaving = Some why }) old.connections }) (leave_step (state_of old told) k why)
+Follows-leave told old k s why distinct at sits were = record {
+  means = record { same = rw (clients-leave k old.connections s s.session why distinct at) refl; told = were };
   bytes = λ j. bytes_by j (eqb k j) refl ∙ sym (append-nil (unsent_on j old.connections));
-  leaving = λ j. leaving_by j (eqb k j) refl;
+  leaving = λ j. leave-left told old k s why j at sits;
   quits = sym (or-false old.quits);
 } where
   y : Connection
@@ -139,18 +164,14 @@ Follows-leave old k s why distinct at sits = record {
   bytes_by j true q = let seen = put_here (List ℕ) unsent_in k j s y old.connections at key q in seen.0 ∙ sym seen.1
   bytes_by j false q = put_there (List ℕ) unsent_in k j y old.connections key q
 
-  leaving_by : (j : ℕ) (t : Bool) → eqb k j ≡ t → leaving_on j (put_at connection_link k y old.connections) ≡ or_else (leaving_on j old.connections) (or_else (cond t (Some why) None) None)
-  leaving_by j true q = let seen = put_here (Option Cause) leaving_in k j s y old.connections at key q in seen.0 ∙ sym (ap (λ o. or_else o (Some why)) (seen.1 ∙ open_none s sits))
-  leaving_by j false q = put_there (Option Cause) leaving_in k j y old.connections key q ∙ sym (or_else-none (leaving_on j old.connections))
-
 -- ---- a text that is typed
 
 -- a step that closes no one, of which memory was refused
-FollowsUnlessStarved-cut : (a b : CoreView) (s t : Stepped) → ((j : ℕ) → close_of j s.acts ≡ None) → b.starved ≢ a.starved → FollowsUnlessStarved a b s → FollowsUnlessStarved a b t
-FollowsUnlessStarved-cut a b s t closes starved f = record {
+FollowsUnlessStarved-cut : (told : Told) (a b : CoreView) (s t : Stepped) → ((j : ℕ) → close_of j s.acts ≡ None) → b.starved ≢ a.starved → FollowsUnlessStarved told a b s → FollowsUnlessStarved told a b t
+FollowsUnlessStarved-cut told a b s t closes starved f = record {
   keeps = f.keeps;
   causes = λ distinct j. inr (by j (f.causes distinct j));
-  does = λ same below distinct. absurd (starved same);
+  does = λ same below distinct were. absurd (starved same);
 } where
   by : (j : ℕ) → LeavesBy (leaving_on j a.connections) (close_of j s.acts) (leaving_on j b.connections) → StaysOrStarves (leaving_on j a.connections) (leaving_on j b.connections)
   by j (inl e) = inl (e ∙ ap (or_else (leaving_on j a.connections)) (closes j) ∙ or_else-none (leaving_on j a.connections))
@@ -170,45 +191,48 @@ runs-there P a buffer line lines quit there goes f =
     subst Q (sym there) (subst R (sym goes) f)
 
 -- one line, and the lines after it
-pub FollowsUnlessStarved-runs : (a b c : CoreView) (buffer : Handle) (line : List ℕ) (lines : List (List ℕ)) → is_there buffer a.world.groups ≡ true → GoesOn a b buffer line → FollowsUnlessStarved b c (lines_step (state_of b) buffer lines)
-    → FollowsUnlessStarved a c (lines_step (state_of a) buffer (line ∷ lines))
-FollowsUnlessStarved-runs a b c buffer line lines there f g =
-    let P : Stepped → Type 0 = λ s. FollowsUnlessStarved a c s in
-    runs-there P (state_of a) buffer line lines false there f.goes
-    (FollowsUnlessStarved-then a b c (typed_step (state_of a) buffer (typed_line line)) (λ next. lines_step next buffer lines) (typed-later (state_of a) buffer (typed_line line) lines) f.does g)
+pub Does-runs : (a b c : CoreView) (buffer : Handle) (line : List ℕ) (lines : List (List ℕ)) → is_there buffer a.world.groups ≡ true → GoesOn a b buffer line → Does b c (λ state. lines_step state buffer lines)
+    → Does a c (λ state. lines_step state buffer (line ∷ lines))
+Does-runs a b c buffer line lines there f g = λ told.
+    let P : Stepped → Type 0 = λ s. FollowsUnlessStarved told a c s in
+    let state = state_of a told in
+    runs-there P state buffer line lines false there f.goes
+    (FollowsUnlessStarved-then told a b c (typed_step state buffer (typed_line line)) (λ next. lines_step next buffer lines) (typed-later b state buffer (typed_line line) lines) (f.does told) g)
 
 -- the lines after it are skipped where the run is to end, and where memory was refused
-pub stops-quit : (a b : CoreView) (buffer : Handle) (line : List ℕ) → is_quit (typed_line line) ≡ true → FollowsUnlessStarved a b (typed_step (state_of a) buffer (typed_line line)) → Stops a b buffer line
-stops-quit a b buffer line quit f = λ lines there.
-    let P : Stepped → Type 0 = λ s. FollowsUnlessStarved a b s in
-    runs-there P (state_of a) buffer line lines true there quit f
+pub stops-quit : (a b : CoreView) (buffer : Handle) (line : List ℕ) → is_quit (typed_line line) ≡ true → Does a b (λ state. typed_step state buffer (typed_line line)) → Stops a b buffer line
+stops-quit a b buffer line quit f = λ lines there told.
+    let P : Stepped → Type 0 = λ s. FollowsUnlessStarved told a b s in
+    runs-there P (state_of a told) buffer line lines true there quit (f told)
 
-pub stops-starved : (a b : CoreView) (buffer : Handle) (line : List ℕ) → b.starved ≢ a.starved → FollowsUnlessStarved a b (typed_step (state_of a) buffer (typed_line line)) → Stops a b buffer line
-stops-starved a b buffer line starved f = λ lines there.
-    FollowsUnlessStarved-cut a b (typed_step (state_of a) buffer (typed_line line)) (lines_step (state_of a) buffer (line ∷ lines)) (λ j. does-closes j (state_of a) buffer (typed_line line)) starved f
+pub stops-starved : (a b : CoreView) (buffer : Handle) (line : List ℕ) → b.starved ≢ a.starved → Does a b (λ state. typed_step state buffer (typed_line line)) → Stops a b buffer line
+stops-starved a b buffer line starved f = λ lines there told.
+    let state = state_of a told in
+    FollowsUnlessStarved-cut told a b (typed_step state buffer (typed_line line)) (lines_step state buffer (line ∷ lines)) (λ j. does-closes j state buffer (typed_line line)) starved (f told)
 
 left_lines : (left : Option (Bor (List ℕ))) (rest : Bor (List ℕ)) (line : List ℕ) (others : Option (Bor (List ℕ))) → left ≡ Some rest → line ≡ before 10 rest.now → option_copied others ≡ text_after 10 rest.now → line ∷ lines_left others ≡ lines_left left
 left_lines left rest line others e front back = ap (λ l. l ∷ lines_left others) front ∙ lines_left-split rest.now others back ∙ sym (ap lines_left e)
 
 -- a buffer that is not there, before the lines that are left
 pub gone_left : (a : CoreView) (buffer : Handle) (left : Option (Bor (List ℕ))) (rest : Bor (List ℕ)) (line : List ℕ) (others : Option (Bor (List ℕ))) → left ≡ Some rest → line ≡ before 10 rest.now → option_copied others ≡ text_after 10 rest.now
-    → is_there buffer a.world.groups ≡ false → FollowsUnlessStarved a a (lines_step (state_of a) buffer (lines_left left))
-gone_left a buffer left rest line others e front back there =
-    let P : List (List ℕ) → Type 0 = λ lines. FollowsUnlessStarved a a (lines_step (state_of a) buffer lines) in
-    let one = typed_step (state_of a) buffer (typed_line line) in
-    let Q : Bool → Type 0 = λ t. FollowsUnlessStarved a a (run_if t (is_quit (typed_line line)) (no_step (state_of a)) one (then_does one (λ next. lines_step next buffer (lines_left others)))) in
-    subst P (left_lines left rest line others e front back) (subst Q (sym there) (FollowsUnlessStarved-stays a))
+    → is_there buffer a.world.groups ≡ false → Does a a (λ state. lines_step state buffer (lines_left left))
+gone_left a buffer left rest line others e front back there = λ told.
+    let state = state_of a told in
+    let P : List (List ℕ) → Type 0 = λ lines. FollowsUnlessStarved told a a (lines_step state buffer lines) in
+    let one = typed_step state buffer (typed_line line) in
+    let Q : Bool → Type 0 = λ t. FollowsUnlessStarved told a a (run_if t (is_quit (typed_line line)) (no_step state) one (then_does one (λ next. lines_step next buffer (lines_left others)))) in
+    subst P (left_lines left rest line others e front back) (subst Q (sym there) (Does-stays a told))
 
 -- a line after which the lines that are left are skipped
 pub quit_left : (a b : CoreView) (buffer : Handle) (left : Option (Bor (List ℕ))) (rest : Bor (List ℕ)) (line : List ℕ) (others : Option (Bor (List ℕ))) → left ≡ Some rest → line ≡ before 10 rest.now → option_copied others ≡ text_after 10 rest.now
-    → is_there buffer a.world.groups ≡ true → Stops a b buffer line → FollowsUnlessStarved a b (lines_step (state_of a) buffer (lines_left left))
-quit_left a b buffer left rest line others e front back there stops =
-    let P : List (List ℕ) → Type 0 = λ lines. FollowsUnlessStarved a b (lines_step (state_of a) buffer lines) in
-    subst P (left_lines left rest line others e front back) (stops (lines_left others) there)
+    → is_there buffer a.world.groups ≡ true → Stops a b buffer line → Does a b (λ state. lines_step state buffer (lines_left left))
+quit_left a b buffer left rest line others e front back there stops = λ told.
+    let P : List (List ℕ) → Type 0 = λ lines. FollowsUnlessStarved told a b (lines_step (state_of a told) buffer lines) in
+    subst P (left_lines left rest line others e front back) (stops (lines_left others) there told)
 
 -- another line, before the lines that are left
 pub more_left : (a b c : CoreView) (buffer : Handle) (left : Option (Bor (List ℕ))) (rest : Bor (List ℕ)) (line : List ℕ) (others : Option (Bor (List ℕ))) → left ≡ Some rest → line ≡ before 10 rest.now → option_copied others ≡ text_after 10 rest.now
-    → is_there buffer a.world.groups ≡ true → GoesOn a b buffer line → FollowsUnlessStarved b c (lines_step (state_of b) buffer (lines_left others)) → FollowsUnlessStarved a c (lines_step (state_of a) buffer (lines_left left))
-more_left a b c buffer left rest line others e front back there f g =
-    let P : List (List ℕ) → Type 0 = λ lines. FollowsUnlessStarved a c (lines_step (state_of a) buffer lines) in
-    subst P (left_lines left rest line others e front back) (FollowsUnlessStarved-runs a b c buffer line (lines_left others) there f g)
+    → is_there buffer a.world.groups ≡ true → GoesOn a b buffer line → Does b c (λ state. lines_step state buffer (lines_left others)) → Does a c (λ state. lines_step state buffer (lines_left left))
+more_left a b c buffer left rest line others e front back there f g = λ told.
+    let P : List (List ℕ) → Type 0 = λ lines. FollowsUnlessStarved told a c (lines_step (state_of a told) buffer lines) in
+    subst P (left_lines left rest line others e front back) (Does-runs a b c buffer line (lines_left others) there f g told)

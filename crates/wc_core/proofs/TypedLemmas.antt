@@ -18,7 +18,7 @@ use Rattle.wc_text.specs.Integer.{is_numeral}
 use Rattle.wc_text.specs.Words.{is_filled}
 use Rattle.wc_model.specs.declared.change.What.TheVariants as what
 use Rattle.wc_core.specs.Texts.{WhatUtf8}
-use Rattle.wc_core.specs.Typed.{TypedCommand, Nothing, Quits, Refused, Prints, Adds, Closes, Merges, Names, Changes, Sets, Unsets, no_text_here, wrong_arguments, unknown_command, print_unless_empty, print_words, tags_of, is_first, second_of, after_second, print_tagged, print_on, print_command, wrong_buffer, one_word, without_words, some_text, moves_to, close_command, starts, set_property, buffer_word, buffer_command, quit_command, set_option, set_command, unset_command, option_command, command, slash_command, typed_line, lines_parted, lines_of_text}
+use Rattle.wc_core.specs.Typed.{TypedCommand, Nothing, Quits, Refused, Prints, Adds, Closes, Merges, Names, Changes, Sets, Unsets, no_text_here, wrong_arguments, unknown_command, print_unless_empty, print_words, tags_of, is_first, second_of, after_second, print_tagged, print_on, print_command, wrong_buffer, one_word, without_words, some_text, moves_to, close_command, starts, set_property, buffer_word, buffer_command, quit_command, set_option, set_command, unset_command, option_command, command, slash_command, typed_line, lines_parted, lines_of_text, Switches, switch_command, input_command}
 use Rattle.wc_core.specs.TypedSeen.{lines_left, LeftUtf8}
 
 -- whether each byte is ASCII
@@ -52,6 +52,7 @@ TypedUtf8 (Names name) = IsUtf8 name
 TypedUtf8 (Changes w) = WhatUtf8 w
 TypedUtf8 (Sets name value) = IsUtf8 name × IsUtf8 value
 TypedUtf8 (Unsets name) = IsUtf8 name
+TypedUtf8 (Switches name) = Unit {0}
 
 typed_if : (b : Bool) (x y : TypedCommand) → TypedUtf8 x → TypedUtf8 y → TypedUtf8 (cond b x y)
 typed_if true x y p q = p
@@ -152,14 +153,19 @@ set_text word text w t =
     if_typed (bytes_eq word (codes "name")) _ _ (λ e. some_text_text (λ value. Names value) (λ value u. u) text t) (λ e.
     if_typed (bytes_eq word (codes "short_name")) _ _ (λ e. some_text_text (λ value. Changes (what.ShortName value)) (λ value u. u) text t) (λ e.
     if_typed (bytes_eq word (codes "title")) _ _ (λ e. some_text_text (λ value. Changes (what.Title value)) (λ value u. u) text t) (λ e.
+    if_typed (bytes_eq word (codes "hotlist")) _ _ (λ e. some_text_text (λ value. Nothing) (λ value u. tt) text t) (λ e.
     if_typed (starts (codes "localvar_set_") word) _ _
     (λ begins. some_text_text (λ value. Changes (what.SetVar (record { name = drop 13 word; value = value }))) (λ value u. (after_front (codes "localvar_set") word begins refl w, u)) text t) (λ e.
     if_typed (starts (codes "localvar_del_") word) _ _
-    (λ begins. without_words_text (Changes (what.RemoveVar (drop 13 word))) (after_front (codes "localvar_del") word begins refl w) text) (λ e. wrong_buffer_text)))))
+    (λ begins. without_words_text (Changes (what.RemoveVar (drop 13 word))) (after_front (codes "localvar_del") word begins refl w) text) (λ e. wrong_buffer_text))))))
   where
     if_typed : (b : Bool) (x y : TypedCommand) → (b ≡ true → TypedUtf8 x) → (b ≡ false → TypedUtf8 y) → TypedUtf8 (cond b x y)
     if_typed true x y p q = p refl
     if_typed false x y p q = q refl
+
+switch_text : (word text : List ℕ) → TypedUtf8 (switch_command word text)
+switch_text [] text = wrong_buffer_text
+switch_text (b ∷ word) text = without_words_text (Switches (b ∷ word)) tt text
 
 buffer_word_text : (word text : List ℕ) → IsUtf8 text → TypedUtf8 (buffer_word word text)
 buffer_word_text word text t =
@@ -171,7 +177,7 @@ buffer_word_text word text t =
     (typed_if (bytes_eq word (codes "hide")) _ _ (without_words_text (Changes what.Hide) tt text)
     (typed_if (bytes_eq word (codes "unhide")) _ _ (without_words_text (Changes what.Unhide) tt text)
     (typed_if (bytes_eq word (codes "clear")) _ _ (without_words_text (Changes what.Clear) tt text)
-    (typed_if (bytes_eq word (codes "set")) _ _ (let set = word_text text t in set_text (word_of text) (rest_of text) set.0 set.1) wrong_buffer_text))))))))
+    (typed_if (bytes_eq word (codes "set")) _ _ (let set = word_text text t in set_text (word_of text) (rest_of text) set.0 set.1) (switch_text word text)))))))))
 
 buffer_text : (text : List ℕ) → IsUtf8 text → TypedUtf8 (buffer_command text)
 buffer_text text utf8 = buffer_word_text (word_of text) (rest_of text) (word_text text utf8).1
@@ -201,11 +207,17 @@ options_text name text n t =
     typed_if (bytes_eq name (codes "set")) _ _ (sets_text text t)
     (typed_if (bytes_eq name (codes "unset")) _ _ (unsets_text text t) (unknown_text name n))
 
+input_text : (text : List ℕ) → TypedUtf8 (input_command text)
+input_text text =
+    typed_if (bytes_eq text (codes "set_unread_current_buffer")) _ _ tt
+    (typed_if (bytes_eq text (codes "hotlist_clear")) _ _ tt (unknown_text (codes "input") (ascii_text (codes "input") refl)))
+
 command_text : (name text : List ℕ) → IsUtf8 name → IsUtf8 text → TypedUtf8 (command name text)
 command_text name text n t =
     typed_if (bytes_eq name (codes "print")) _ _ (print_text text t)
     (typed_if (bytes_eq name (codes "buffer")) _ _ (buffer_text text t)
-    (typed_if (bytes_eq name (codes "quit")) _ _ (quit_text text) (options_text name text n t)))
+    (typed_if (bytes_eq name (codes "quit")) _ _ (quit_text text)
+    (typed_if (bytes_eq name (codes "input")) _ _ (input_text text) (options_text name text n t))))
 
 slashed_text : (text : List ℕ) → IsUtf8 text → TypedUtf8 (slash_command text)
 slashed_text [] utf8 = command_text [] [] IsUtf8-nil IsUtf8-nil

@@ -1,5 +1,6 @@
 -- What contracts see of the core.
 use Rattle.std.specs.Prelude.{◌≡◌, ℕ, Bool, List, []}
+use Rattle.wc_nickdiff.specs.Held.{OfBuffer}
 use Rattle.wc_options.specs.Options.{OptionsValue}
 use Rattle.wc_model.specs.World.{World, rows_at}
 use Rattle.wc_core.specs.declared.connection.Connection.{Connection}
@@ -7,6 +8,8 @@ use Rattle.wc_core.specs.declared.connection.Connection.{Connection}
 pub record CoreView : Type 0 where
   pub options : OptionsValue
   pub world : World
+  -- what is kept of the rows that were touched since the last push
+  pub pending : List OfBuffer
   -- the clients that are open and those that are leaving, in the order in which they came
   pub connections : List Connection
   -- the last moment, in milliseconds since 1970

@@ -9,13 +9,13 @@ use Rattle.wc_model.specs.Apply.{refusal}
 use Rattle.wc_core.specs.CoreView.{CoreView}
 use Rattle.wc_core.specs.Typed.{typed_line}
 use Rattle.wc_core.specs.Step.{change_step, typed_step, is_quit, lines_step}
-use Rattle.wc_core.specs.Served.{state_of, told_connection, ConnectionsServed, FollowsUnlessStarved}
+use Rattle.wc_core.specs.Served.{told_connection, ConnectionsServed, Does}
 use Rattle.wc_core.specs.Served.{RanOutOfMemory}
 
 -- a change is made and told, or memory was refused
 abbrev pub MakesChange : CoreView → Change → CoreView → Type 0
 MakesChange old change new = ((refusal old.world change ≡ None)
-    × FollowsUnlessStarved old new (change_step (state_of old) change)) ⊎ RanOutOfMemory old new
+    × Does old new (λ state. change_step state change)) ⊎ RanOutOfMemory old new
 
 -- memory was refused to someone whom a notice is for
 pub record TellsSome (old new : CoreView) (notice : Notice) : Type 0 where
@@ -37,9 +37,9 @@ MayTell old new notice = (new ≡ record old {
 -- after a line that is typed into a buffer the others are run
 pub record GoesOn (old new : CoreView) (buffer : Handle) (line : List ℕ) : Type 0 where
   pub goes : is_quit (typed_line line) ≡ false
-  pub does : FollowsUnlessStarved old new (typed_step (state_of old) buffer (typed_line line))
+  pub does : Does old new (λ state. typed_step state buffer (typed_line line))
 
 -- the lines after it are skipped
 abbrev pub Stops : CoreView → CoreView → Handle → List ℕ → Type 0
 Stops old new buffer line = (lines : List (List ℕ)) → is_there buffer old.world.groups ≡ true →
-    FollowsUnlessStarved old new (lines_step (state_of old) buffer (line ∷ lines))
+    Does old new (λ state. lines_step state buffer (line ∷ lines))

@@ -9,5 +9,6 @@ pub mod CoreView
 pub mod State
 pub mod Step
 pub mod Texts
+pub mod Told
 pub mod Typed
 pub mod TypedSeen

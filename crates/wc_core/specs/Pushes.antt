@@ -4,9 +4,7 @@ use Rattle.std.specs.List.{flat_map}
 use Rattle.wc_text.specs.declared.names.Handle.{Handle}
 use Rattle.wc_nicklist.specs.declared.item.Row.{Row}
 use Rattle.wc_nickdiff.specs.declared.diff_item.Push.{Push}
-use Rattle.wc_nickdiff.specs.Held.{OfBuffer, before_at, touches_of}
 use Rattle.wc_nickdiff.specs.NickPush.{nick_push}
-use Rattle.wc_nickdiff.specs.Told.{IsTold}
 use Rattle.wc_buffers.specs.Calls.{is_there}
 use Rattle.wc_model.specs.World.{World, rows_at, root_at}
 use Rattle.wc_objects.specs.declared.object.WireMessage.{WireMessage}
@@ -15,19 +13,6 @@ use Rattle.wc_session.specs.Event.{push_told}
 use Rattle.wc_session.specs.Sending.{spelling}
 use Rattle.wc_core.specs.declared.connection.Connection.{Connection}
 use Rattle.wc_core.specs.Served.{is_open}
-
--- no key was touched since each buffer's last push
-abbrev pub NothingTouched : List OfBuffer → Type 0
-NothingTouched pending = (buffer : Handle) → touches_of buffer pending ≡ []
-
--- these are the rows that were told of a buffer
-abbrev pub WasTold : World → List OfBuffer → Handle → List Row → Type 0
-WasTold world pending buffer told = IsTold (λ k. before_at k (touches_of buffer pending))
-    (rows_at world buffer.0) told
-
--- these are the rows that were told of each buffer
-abbrev pub AreTold : World → List OfBuffer → (ℕ → List Row) → Type 0
-AreTold world pending told = (buffer : Handle) → WasTold world pending buffer (told buffer.0)
 
 -- what is pushed of a buffer of which these rows were told
 abbrev pub push_of : World → ℕ → List Row → Push

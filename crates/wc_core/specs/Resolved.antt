@@ -1,5 +1,5 @@
 -- What a text that is typed into a buffer comes to in a world.
-use Rattle.std.specs.Prelude.{ℕ, pos, ◌/◌, ◌++◌, ◌==◌, zero, suc, true, false, List, [], ◌∷◌}
+use Rattle.std.specs.Prelude.{ℕ, ◌/◌, ◌++◌, ◌==◌, zero, suc, true, false, List, [], ◌∷◌}
 use Rattle.std.specs.Prelude.{codes, if◌then◌else◌, Option, Some, None}
 use Rattle.std.specs.List.{slice_get, before_first}
 use Rattle.std.specs.Str.Parse.{digits_value}
@@ -23,7 +23,7 @@ use Rattle.wc_options.specs.declared.refusal.SetRefused.{SetRefused}
 use Rattle.wc_options.specs.declared.refusal.SetRefused.TheVariants as option
 use Rattle.wc_session.specs.Names.{buffer_named}
 use Rattle.wc_core.specs.Typed.{TypedCommand, Nothing, Quits, Refused, Prints, Adds, Closes, Merges}
-use Rattle.wc_core.specs.Typed.{Names, Changes, Sets, Unsets}
+use Rattle.wc_core.specs.Typed.{Names, Changes, Sets, Unsets, Switches}
 
 pub data Effect : Type 0 where
   Stays : Effect
@@ -67,6 +67,11 @@ of_meant change (Some buffer) = Asks (change buffer)
 abbrev pub of_named : EntryGroups → Handle → (Handle → Change) → Option (List ℕ) → Effect
 of_named groups buffer change None = Asks (change buffer)
 of_named groups buffer change (Some word) = of_meant change (buffer_meant groups word)
+
+-- a buffer that is to be shown: nothing changes where it is there
+abbrev pub switched : Option Handle → Effect
+switched None = Tells (codes "wrong arguments: /buffer")
+switched (Some buffer) = Stays
 
 -- ---- changes
 
@@ -124,6 +129,7 @@ effect_of world moment buffer (Names name) =
 effect_of world moment buffer (Changes w) = Asks (change_of buffer w)
 effect_of world moment buffer (Sets name value) = SetsOption name value
 effect_of world moment buffer (Unsets name) = UnsetsOption name
+effect_of world moment buffer (Switches name) = switched (buffer_meant world.groups name)
 
 -- ---- the texts of refusals
 

@@ -24,6 +24,7 @@ use Rattle.wc_core.specs.declared.connection.Connection.{Connection}
 use Rattle.wc_core.specs.declared.connection.Departure.{Departure}
 use Rattle.wc_core.specs.CoreView.{CoreView}
 use Rattle.wc_core.specs.State.{State, Act, Sends, Closes, Quits, Stepped}
+use Rattle.wc_core.specs.Told.{Told, told_of, AreTold}
 
 abbrev pub connection_link : Connection → ℕ
 connection_link connection = connection.session.client.link.0
@@ -40,15 +41,25 @@ clients_of [] = []
 clients_of (connection ∷ connections) = if is_open connection
     then connection.session.client ∷ clients_of connections else clients_of connections
 
--- No change that is typed has nicks, so the rows that were last pushed are the rows.
-abbrev pub state_of : CoreView → State
-state_of core = record {
+-- the state that the core means where these rows were told
+abbrev pub state_of : CoreView → Told → State
+state_of core told = record {
   options = core.options;
   clients = clients_of core.connections;
   world = core.world;
-  told = core.world.nicks;
+  told = told;
   moment = core.moment;
 }
+
+-- these rows were told, by what was touched since then
+abbrev pub WereTold : CoreView → Told → Type 0
+WereTold core told = AreTold core.world core.pending (told_of told)
+
+-- The core means a state: but for the rows that were told it has all of it, and these are known by
+-- what was touched.
+pub record Means (core : CoreView) (state : State) : Type 0 where
+  pub same : state ≡ state_of core state.told
+  pub told : WereTold core state.told
 
 -- ---- what is seen of a link
 
@@ -169,10 +180,10 @@ abbrev pub Distinct : List ℕ → Type 0
 Distinct [] = Unit {0}
 Distinct (n ∷ ns) = Absent n ns × Distinct ns
 
--- The core after a step: what it holds is what the step says, the bytes for each link come after
--- its unsent ones, and the clients that the acts close are leaving.
+-- The core after a step: it means the state that the step comes to, the bytes for each link come
+-- after its unsent ones, and the clients that the acts close are leaving.
 pub record Follows (old new : CoreView) (stepped : Stepped) : Type 0 where
-  pub state : state_of new ≡ stepped.state
+  pub means : Means new stepped.state
   pub bytes : (link : ℕ) → unsent_on link new.connections ≡ unsent_on link old.connections
       ++ sent_to link stepped.acts
   pub leaving : (link : ℕ) → leaving_on link new.connections
@@ -195,14 +206,21 @@ pub record KeepsClients (old new : CoreView) : Type 0 where
   pub kept : (link : ℕ) → IsSome (leaving_on link old.connections) →
       at_key connection_link link new.connections ≡ at_key connection_link link old.connections
 
--- The step is done, unless some growth was refused. Who begins to leave does so for the cause that
--- the step's acts give, or for want of memory.
-pub record FollowsUnlessStarved (old new : CoreView) (stepped : Stepped) : Type 0 where
+-- The step of the state that the core meant where these rows were told is done, unless some growth
+-- was refused. Who begins to leave does so for the cause that the step's acts give, or for want of
+-- memory.
+pub record FollowsUnlessStarved (told : Told) (old new : CoreView) (stepped : Stepped) :
+    Type 0 where
   pub keeps : KeepsClients old new
   pub causes : Distinct (links_of old) → (link : ℕ) → LeavesBy (leaving_on link old.connections)
       (close_of link stepped.acts) (leaving_on link new.connections)
   pub does : new.starved ≡ old.starved → old.starved < 2 ^ 64 - 1 → Distinct (links_of old) →
-      Follows old new stepped
+      WereTold old told → Follows old new stepped
+
+-- whatever state the core meant before, it means the step of it after, unless some growth was
+-- refused
+abbrev pub Does : CoreView → CoreView → (State → Stepped) → Type 0
+Does old new step = (told : Told) → FollowsUnlessStarved told old new (step (state_of old told))
 
 -- memory was refused
 pub record RanOutOfMemory (old new : CoreView) : Type 0 where
@@ -219,7 +237,7 @@ refusal link (Some cause) = Closes link cause ∷ []
 -- the core after an arrival, which may be refused
 pub record AdmitsArrivalAt (link : ℕ) (old new : CoreView) (refused : Option Cause)
     (stepped : Stepped) : Type 0 where
-  pub state : state_of new ≡ stepped.state
+  pub means : Means new stepped.state
   pub bytes : (other : ℕ) → unsent_on other new.connections ≡ unsent_on other old.connections
   pub leaving : (other : ℕ) → leaving_on other new.connections ≡ leaving_on other old.connections
   pub quits : new.quits ≡ old.quits
@@ -229,15 +247,15 @@ abbrev pub connections_after : List Connection → List Connection → ℕ → O
 connections_after old new link None = map connection_link new ≡ map connection_link old ++ link ∷ []
 connections_after old new link (Some cause) = new ≡ old
 
-pub record AdmitsUnlessStarved (link : ℕ) (old new : CoreView) (refused : Option Cause)
-    (stepped : Stepped) : Type 0 where
+pub record AdmitsUnlessStarved (told : Told) (link : ℕ) (old new : CoreView)
+    (refused : Option Cause) (stepped : Stepped) : Type 0 where
   pub rises : old.starved ≤ new.starved
   pub connections : connections_after old.connections new.connections link refused
   pub kept : (other : ℕ) → IsSome (leaving_on other old.connections) →
       at_key connection_link other new.connections ≡ at_key connection_link other old.connections
   -- it is refused for the cause that the step's acts give, or for want of memory
   pub cause : IfSome refused (λ why. (stepped.acts ≡ Closes link why ∷ []) ⊎ (why ≡ NoMemory))
-  pub comes : new.starved ≡ old.starved → old.starved < 2 ^ 64 - 1 →
+  pub comes : new.starved ≡ old.starved → old.starved < 2 ^ 64 - 1 → WereTold old told →
       AdmitsArrivalAt link old new refused stepped
 
 -- ---- a notice that is told

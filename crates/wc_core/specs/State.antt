@@ -1,13 +1,12 @@
 -- What the core is, seen flat.
-use Rattle.std.specs.Prelude.{ℕ, List, [], unwrap_or}
-use Rattle.std.specs.FinMap.{FinMap, get}
-use Rattle.std.specs.Ordering.{nat_cmp}
+use Rattle.std.specs.Prelude.{ℕ, List, []}
 use Rattle.wc_text.specs.declared.names.Cause.{Cause}
 use Rattle.wc_options.specs.Options.{OptionsValue}
 use Rattle.wc_nicklist.specs.declared.item.Row.{Row}
 use Rattle.wc_model.specs.World.{World, first_world}
 use Rattle.wc_objects.specs.declared.object.WireMessage.{WireMessage}
 use Rattle.wc_session.specs.declared.client.Client.{Client}
+use Rattle.wc_core.specs.Told.{Told, told_of}
 
 pub record State : Type 0 where
   -- the options and their values
@@ -16,8 +15,8 @@ pub record State : Type 0 where
   pub clients : List Client
   -- the buffers, with their lines and nicklists
   pub world : World
-  -- the rows of each buffer's nicklist as they was when they were last pushed, and none before that
-  pub told : FinMap nat_cmp (List Row)
+  -- the rows of each buffer's nicklist as they were when they were last pushed, and none before that
+  pub told : Told
   -- the last moment, in milliseconds since 1970
   pub moment : ℕ
 
@@ -44,4 +43,4 @@ first_state options limit = record {
 }
 
 abbrev pub told_at : State → ℕ → List Row
-told_at state buffer = unwrap_or (get state.told buffer) []
+told_at state buffer = told_of state.told buffer

@@ -5,9 +5,6 @@ use Rattle.std.specs.List.{flat_map}
 use Rattle.wc_text.specs.declared.names.Handle.{Handle}
 use Rattle.wc_text.specs.declared.names.Cause.{Cause}
 use Rattle.wc_text.specs.declared.names.Cause.TheVariants.{Ended, Failed, Surplus}
-use Rattle.std.specs.FinMap.{FinMap}
-use Rattle.std.specs.Ordering.{nat_cmp}
-use Rattle.wc_nicklist.specs.declared.item.Row.{Row}
 use Rattle.wc_nickdiff.specs.declared.diff_item.Push.{Push}
 use Rattle.wc_nickdiff.specs.NickPush.{nick_push}
 use Rattle.wc_outside.specs.Keyed.{at_key, put_at, without}
@@ -41,6 +38,7 @@ use Rattle.wc_core.specs.Limits.{client_limit}
 use Rattle.wc_core.specs.Resolved.{Effect, Stays, Ends as ResolvedEnds, Tells, Asks, SetsOption}
 use Rattle.wc_core.specs.Resolved.{UnsetsOption, effect_of, refusal_text, option_text, told_refusal}
 use Rattle.wc_core.specs.State.{State, Act, Sends, Closes, Quits, Stepped, told_at}
+use Rattle.wc_core.specs.Told.{Told}
 use Rattle.wc_core.specs.Typed.{TypedCommand, Quits as TypedQuits, typed_line, lines_of_text}
 
 abbrev pub client_link : Client → ℕ
@@ -67,7 +65,7 @@ told_to world notice client = sends (client_link client) (notice_told world noti
 
 -- the world after a change of which this is noticed, the rows that then were last pushed, and what
 -- each client is told
-abbrev pub tell_all_step : State → FinMap nat_cmp (List Row) → World → Notice → Stepped
+abbrev pub tell_all_step : State → Told → World → Notice → Stepped
 tell_all_step state told world notice = record {
   state = record state {
     world = world;

@@ -31,6 +31,8 @@ pub data TypedCommand : Type 0 where
   -- the option that is named gets this value, or its default
   Sets : List ℕ → List ℕ → TypedCommand
   Unsets : List ℕ → TypedCommand
+  -- the buffer that is named is to be shown, which changes nothing where it is there
+  Switches : List ℕ → TypedCommand
 
 -- the lines of a text, which LFs part, where `line` is before the text
 abbrev pub lines_parted : List ℕ → List ℕ → List (List ℕ)
@@ -131,7 +133,7 @@ abbrev pub starts : List ℕ → List ℕ → Bool
 starts front word = starts_with nat_eq word front
 
 -- a property of the buffer: `localvar_set_X` and `localvar_del_X` name a variable by what comes
--- after
+-- after; `hotlist`, which clients set as they show another buffer, is taken and means nothing here
 abbrev pub set_property : List ℕ → List ℕ → TypedCommand
 set_property word text =
     if bytes_eq word (codes "name") then some_text (λ value. Names value) text else (
@@ -139,11 +141,17 @@ set_property word text =
     text else (
     if bytes_eq word (codes "title") then some_text (λ value. Changes (what.Title value))
     text else (
+    if bytes_eq word (codes "hotlist") then some_text (λ value. Nothing) text else (
     if starts (codes "localvar_set_") word
     then some_text (λ value. Changes
     (what.SetVar (record { name = drop 13 word; value = value }))) text else (
     if starts (codes "localvar_del_") word
-    then without_words (Changes (what.RemoveVar (drop 13 word))) text else wrong_buffer))))
+    then without_words (Changes (what.RemoveVar (drop 13 word))) text else wrong_buffer)))))
+
+-- the name or the number of a buffer alone, which clients type as they show another one
+abbrev pub switch_command : List ℕ → List ℕ → TypedCommand
+switch_command [] text = wrong_buffer
+switch_command (b ∷ word) text = without_words (Switches (b ∷ word)) text
 
 abbrev pub buffer_word : List ℕ → List ℕ → TypedCommand
 buffer_word word text =
@@ -156,7 +164,7 @@ buffer_word word text =
     if bytes_eq word (codes "unhide") then without_words (Changes what.Unhide) text else (
     if bytes_eq word (codes "clear") then without_words (Changes what.Clear) text else (
     if bytes_eq word (codes "set") then set_property (word_of text) (rest_of text)
-    else wrong_buffer))))))))
+    else switch_command word text))))))))
 
 abbrev pub buffer_command : List ℕ → TypedCommand
 buffer_command text = buffer_word (word_of text) (rest_of text)
@@ -189,11 +197,18 @@ abbrev pub quit_command : List ℕ → TypedCommand
 quit_command [] = Quits
 quit_command (b ∷ text) = wrong_arguments (codes "quit")
 
+-- what clients type as they show another buffer; it is taken and means nothing here
+abbrev pub input_command : List ℕ → TypedCommand
+input_command text =
+    if bytes_eq text (codes "set_unread_current_buffer") then Nothing else (
+    if bytes_eq text (codes "hotlist_clear") then Nothing else unknown_command (codes "input"))
+
 abbrev pub command : List ℕ → List ℕ → TypedCommand
 command name rest =
     if bytes_eq name (codes "print") then print_command rest else (
     if bytes_eq name (codes "buffer") then buffer_command rest else (
-    if bytes_eq name (codes "quit") then quit_command rest else option_command name rest))
+    if bytes_eq name (codes "quit") then quit_command rest else (
+    if bytes_eq name (codes "input") then input_command rest else option_command name rest)))
 
 -- what one line asks for after a `/`
 abbrev pub slash_command : List ℕ → TypedCommand

@@ -14,8 +14,8 @@ use Rattle.wc_core.specs.declared.typed_buffer.Property.TheVariants as propertie
 use Rattle.wc_core.specs.declared.typed.CommandText.{CommandText}
 use Rattle.wc_core.specs.declared.typed.CommandText.TheVariants as asked
 use Rattle.wc_core.specs.Typed.{TypedCommand, Nothing, Quits, Refused, Prints, Adds, Closes, Merges}
-use Rattle.wc_core.specs.Typed.{Names, Changes, Sets, Unsets, lines_of_text, tags_of, wrong_buffer, some_text}
-use Rattle.wc_core.specs.Typed.{without_words, starts}
+use Rattle.wc_core.specs.Typed.{Names, Changes, Sets, Unsets, Switches, lines_of_text, tags_of}
+use Rattle.wc_core.specs.Typed.{wrong_buffer, some_text, without_words, starts}
 
 -- a word that was found
 abbrev pub word_in : Option (Bor (List ℕ)) → Option (List ℕ)
@@ -44,6 +44,7 @@ meaning (asked.SetVar name value) =
 meaning (asked.RemoveVar name) = Changes (what.RemoveVar name.now)
 meaning (asked.SetOption name value) = Sets name.now value.now
 meaning (asked.UnsetOption name) = Unsets name.now
+meaning (asked.Switch name) = Switches name.now
 
 -- ---- the words of `/buffer`
 
@@ -76,6 +77,7 @@ abbrev pub property_set : Property → List ℕ → TypedCommand
 property_set properties.Name text = some_text (λ value. Names value) text
 property_set properties.ShortName text = some_text (λ value. Changes (what.ShortName value)) text
 property_set properties.Title text = some_text (λ value. Changes (what.Title value)) text
+property_set properties.Hotlist text = some_text (λ value. Nothing) text
 property_set (properties.SetVar name) text =
     some_text (λ value. Changes (what.SetVar (record { name = name.now; value = value }))) text
 property_set (properties.RemoveVar name) text =

@@ -4,8 +4,8 @@ ghost use Rattle.std.specs.Prelude.{◌≡◌, ◌≤◌, ℕ, length, IfSome};
 ghost use Rattle.std.specs.Option.{option_copied};
 ghost use Rattle.wc_outside.specs.Keyed.{at_key, without};
 ghost use Rattle.wc_core.specs.Events.{Tick};
-ghost use Rattle.wc_core.specs.Step.{step, no_step};
-ghost use Rattle.wc_core.specs.Served.{connection_link, state_of, unsent_at, gone_at, is_open_at};
+ghost use Rattle.wc_core.specs.Step.{step};
+ghost use Rattle.wc_core.specs.Served.{connection_link, unsent_at, gone_at, is_open_at, Does};
 ghost use Rattle.wc_core.specs.Served.{departure_of};
 
 use crate::connection::{
@@ -92,8 +92,8 @@ impl Core {
     /// The buffers, with their lines and nicklists, of which a tick pushes nothing.
     pub fn world(&self) -> &World
         ensures world { result.now ≡ self.now.world }
-        ensures idle { (moment : ℕ) → step (state_of self.now) (Tick moment)
-            ≡ no_step (state_of (record self.now { moment = moment })) }
+        ensures idle { (moment : ℕ) → Does self.now (record self.now { moment = moment })
+            (λ state. step state (Tick moment)) }
     {
         &self.world
     }

@@ -3,8 +3,8 @@
 ghost use Rattle.std.specs.Prelude.{◌≡◌, ◌≢◌};
 ghost use Rattle.std.specs.Str.{IsUtf8};
 ghost use Rattle.wc_core.specs.Resolved.{option_text};
-ghost use Rattle.wc_core.specs.Served.{state_of, FollowsUnlessStarved};
-ghost use Rattle.wc_core.specs.State.{Stepped};
+ghost use Rattle.wc_core.specs.Served.{Does};
+ghost use Rattle.wc_core.specs.State.{State, Stepped};
 ghost use Rattle.wc_core.specs.Step.{set_step, unset_step, refusal_step};
 
 use crate::core_state::Core;
@@ -17,8 +17,8 @@ impl Core {
     pub(crate) fn set_option(&mut self, pair: &Pair)
         requires name { IsUtf8 pair.now.name }
         requires value { IsUtf8 pair.now.value }
-        ensures { FollowsUnlessStarved self.old self.new
-            (set_step (state_of self.old) pair.now.name pair.now.value) }
+        ensures { Does self.old self.new
+            (λ state. set_step state pair.now.name pair.now.value) }
     {
         match self.options.set(self.alloc, &pair.name, &pair.value) {
             Ok(_) => {}
@@ -29,7 +29,7 @@ impl Core {
     /// Gives an option its default, or tells that there is no such option.
     pub(crate) fn unset_option(&mut self, name: &Text)
         requires { IsUtf8 name.now }
-        ensures { FollowsUnlessStarved self.old self.new (unset_step (state_of self.old) name.now) }
+        ensures { Does self.old self.new (λ state. unset_step state name.now) }
     {
         match self.options.unset(self.alloc, name) {
             Ok(()) => {}
@@ -40,10 +40,10 @@ impl Core {
     /// Tells why an option does not get a value, and counts want of memory.
     fn refuse_option(&mut self, name: &Text, refused: &SetRefused)
         requires { IsUtf8 (option_text name.now refused.now) }
-        ensures told { refused.now ≢ SetRefused.NoMemory → FollowsUnlessStarved self.old self.new
-            (refusal_step (state_of self.old) (option_text name.now refused.now)) }
-        ensures starves { refused.now ≡ SetRefused.NoMemory → (stepped : Stepped) →
-            FollowsUnlessStarved self.old self.new stepped }
+        ensures told { refused.now ≢ SetRefused.NoMemory → Does self.old self.new
+            (λ state. refusal_step state (option_text name.now refused.now)) }
+        ensures starves { refused.now ≡ SetRefused.NoMemory → (step : State → Stepped) →
+            Does self.old self.new step }
     {
         match refused {
             SetRefused::NoMemory => self.starve(),
@@ -54,8 +54,8 @@ impl Core {
     /// Tells why an option does not get a value.
     fn tell_option(&mut self, name: &Text, refused: &SetRefused)
         requires { IsUtf8 (option_text name.now refused.now) }
-        ensures { FollowsUnlessStarved self.old self.new
-            (refusal_step (state_of self.old) (option_text name.now refused.now)) }
+        ensures { Does self.old self.new
+            (λ state. refusal_step state (option_text name.now refused.now)) }
     {
         match option_text(self.alloc, name.as_slice(), refused) {
             Ok(text) => self.tell_refusal(text),

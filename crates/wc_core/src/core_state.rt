@@ -13,13 +13,14 @@ ghost use Rattle.wc_core.specs.Events.{Start, Tick, Arrives, Line as LineCame};
 ghost use Rattle.wc_core.specs.Typed.{typed_line, lines_of_text};
 ghost use Rattle.wc_core.specs.Limits.{most_lines};
 ghost use Rattle.wc_core.specs.State.{first_state};
-ghost use Rattle.wc_core.specs.Step.{step, no_step, push_step, change_step, refusal_step, ask_step};
+ghost use Rattle.wc_core.specs.Step.{step, push_step, change_step, refusal_step, ask_step};
 ghost use Rattle.wc_core.specs.Step.{typed_step, is_quit, lines_step, leave_step, loss_step};
 ghost use Rattle.wc_core.specs.Step.{outcome_step, request_step, client_link};
 ghost use Rattle.wc_core.specs.Texts.{WhatUtf8};
-ghost use Rattle.wc_core.specs.Served.{connection_link, state_of, is_open_at};
+ghost use Rattle.wc_core.specs.Told.{Told};
+ghost use Rattle.wc_core.specs.Served.{connection_link, state_of, is_open_at, Means, Does};
 ghost use Rattle.wc_core.specs.Served.{left_at, new_connection, Absent, links_of};
-ghost use Rattle.wc_core.specs.Served.{FollowsUnlessStarved, AdmitsUnlessStarved, RanOutOfMemory};
+ghost use Rattle.wc_core.specs.Served.{AdmitsUnlessStarved, RanOutOfMemory};
 ghost use Rattle.wc_core.specs.Served.{OutcomeUtf8};
 ghost use Rattle.wc_core.specs.Inputs.{MakesChange, MayTell, GoesOn, Stops};
 
@@ -57,7 +58,7 @@ pub struct Core {
 impl Model for Core {
     ghost use Rattle.std.specs.Coded.{codes};
     ghost use Rattle.std.specs.FinMap as map;
-    ghost use Rattle.wc_core.specs.Pushes.{NothingTouched};
+    ghost use Rattle.wc_core.specs.Told.{NothingTouched};
     ghost use Rattle.wc_core.specs.CoreView.{CoreView, HasNoRows};
 
     ghost Value = { CoreView };
@@ -67,6 +68,7 @@ impl Model for Core {
     ghost view = { λ core. record {
       options = core.options;
       world = core.world;
+      pending = core.pending;
       connections = core.connections.items;
       moment = core.moment;
       starved = core.starved;
@@ -80,8 +82,8 @@ impl Core {
     /// A core without clients and with the core buffer alone, where these are the options. They
     /// say how many lines a buffer holds at most.
     pub fn new(alloc: Global, options: Options) -> Result<Core, NoMemory>
-        ensures state { IfOk result (λ core.
-            state_of core ≡ first_state options (most_lines options)) }
+        ensures means { IfOk result (λ core.
+            Means core (first_state options (most_lines options))) }
         ensures fresh { IfOk result (λ core. (core.connections ≡ []) × (core.starved ≡ 0)
             × (core.quits ≡ false)) }
     {
@@ -101,8 +103,7 @@ impl Core {
 
     /// Sets the starting moment, in milliseconds since 1970.
     pub fn start(&mut self, moment: u64)
-        ensures does { FollowsUnlessStarved self.old self.new
-            (step (state_of self.old) (Start moment)) }
+        ensures does { Does self.old self.new (λ state. step state (Start moment)) }
         ensures moves { self.new ≡ record self.old { moment = moment } }
     {
         self.moment = moment;
@@ -110,8 +111,7 @@ impl Core {
 
     /// Sets the last moment, in milliseconds since 1970.
     pub fn tick(&mut self, moment: u64)
-        ensures does { FollowsUnlessStarved self.old self.new
-            (step (state_of self.old) (Tick moment)) }
+        ensures does { Does self.old self.new (λ state. step state (Tick moment)) }
         ensures moves { self.new ≡ record self.old { moment = moment } }
     {
         self.moment = moment;
@@ -121,8 +121,7 @@ impl Core {
     /// Pushes what became of each nicklist since it was last pushed. That is nothing, since no
     /// command changes a nicklist.
     fn push_nicks(&mut self)
-        ensures none { push_step (state_of self.old) ≡ no_step (state_of self.old) }
-        ensures same { self.new ≡ self.old }
+        ensures { self.new ≡ self.old }
     {
         let told = push_nicks(
             &mut self.connections,
@@ -150,9 +149,9 @@ impl Core {
     /// open, or there is no memory. The link of a refused arrival is to be closed, and is no
     /// client.
     pub fn accepted(&mut self, arrival: Arrival) -> Option<Cause>
-        ensures comes { Absent arrival.link.0 (links_of self.old) →
-            AdmitsUnlessStarved arrival.link.0 self.old self.new result
-            (step (state_of self.old) (Arrives arrival.link.0 arrival.nonce)) }
+        ensures comes { Absent arrival.link.0 (links_of self.old) → (told : Told) →
+            AdmitsUnlessStarved told arrival.link.0 self.old self.new result
+            (step (state_of self.old told) (Arrives arrival.link.0 arrival.nonce)) }
         ensures admitted { result ≡ None →
             self.new ≡ record self.old {
               connections = self.old.connections
@@ -186,8 +185,7 @@ impl Core {
     /// Serves a line of a client, where the client is open and the line is a request. A client that
     /// finds no memory for its reply or an event leaves with that cause.
     pub fn relay_line(&mut self, link: LinkId, line: &[u8])
-        ensures { FollowsUnlessStarved self.old self.new
-            (step (state_of self.old) (LineCame link.0 line.now)) }
+        ensures { Does self.old self.new (λ state. step state (LineCame link.0 line.now)) }
     {
         let Some(place) = connection_place(&self.connections, link) else {
             return;
@@ -206,7 +204,7 @@ impl Core {
     /// are asked for as they then were told.
     fn push_before(&mut self, place: usize, request: &Request)
         requires { place < length self.old.connections }
-        ensures none { push_step (state_of self.old) ≡ no_step (state_of self.old) }
+        ensures does { Does self.old self.new (λ state. push_step state) }
         ensures same { self.new ≡ self.old }
     {
         if self.connections[place].session.logged_in()
@@ -222,8 +220,8 @@ impl Core {
         requires opened { is_open_at (at_key connection_link link.0 self.old.connections) ≡ true }
         requires text { RequestIsUtf8 request }
         ensures { IfSome (at_key connection_link link.0 self.old.connections)
-            (λ connection. FollowsUnlessStarved self.old self.new
-            (request_step (state_of self.old) connection.session.client (Some request))) }
+            (λ connection. Does self.old self.new
+            (λ state. request_step state connection.session.client (Some request))) }
     {
         self.push_before(place, &request);
         let outcome = self.connections[place]
@@ -237,8 +235,7 @@ impl Core {
         requires opened { is_open_at (at_key connection_link link.0 self.old.connections) ≡ true }
         requires text { OutcomeUtf8 outcome }
         ensures does { OnServed outcome
-            (FollowsUnlessStarved self.old self.new
-            (outcome_step (state_of self.old) link.0 outcome)) }
+            (Does self.old self.new (λ state. outcome_step state link.0 outcome)) }
         ensures refused { OnNoMemory outcome (RanOutOfMemory self.old self.new) }
     {
         match outcome {
@@ -253,8 +250,7 @@ impl Core {
     fn leave(&mut self, place: usize, link: LinkId, cause: Cause)
         requires place { IsKeyPlace connection_link link.0 self.old.connections place }
         requires opened { is_open_at (at_key connection_link link.0 self.old.connections) ≡ true }
-        ensures does { FollowsUnlessStarved self.old self.new
-            (leave_step (state_of self.old) link.0 cause) }
+        ensures does { Does self.old self.new (λ state. leave_step state link.0 cause) }
         ensures gone { is_open_at (at_key connection_link link.0 self.new.connections) ≡ false }
         ensures starved { self.new.starved ≡ self.old.starved }
         ensures leaves { self.new ≡ record self.old {
@@ -278,8 +274,8 @@ impl Core {
     /// once the buffer is closed, nor where memory was refused.
     fn run_lines(&mut self, buffer: Handle, text: &[u8])
         requires { IsUtf8 text.now }
-        ensures { FollowsUnlessStarved self.old self.new
-            (lines_step (state_of self.old) buffer (lines_of_text text.now)) }
+        ensures { Does self.old self.new
+            (λ state. lines_step state buffer (lines_of_text text.now)) }
     {
         let mut left = Some(text);
         while let Some(rest) = left {
@@ -320,8 +316,8 @@ impl Core {
     /// Does what a line asks for that is typed into a buffer. It answers whether the run is to end.
     fn do_line(&mut self, buffer: Handle, line: &[u8]) -> bool
         requires { IsUtf8 line.now }
-        ensures does { FollowsUnlessStarved self.old self.new
-            (typed_step (state_of self.old) buffer (typed_line line.now)) }
+        ensures does { Does self.old self.new
+            (λ state. typed_step state buffer (typed_line line.now)) }
         ensures quits { result ≡ is_quit (typed_line line.now) }
     {
         let _texts = self.world.buffers().groups();
@@ -358,7 +354,7 @@ impl Core {
     /// Makes a change, or tells why it is refused.
     fn ask_change(&mut self, change: Change)
         requires { WhatUtf8 change.what }
-        ensures { FollowsUnlessStarved self.old self.new (ask_step (state_of self.old) change) }
+        ensures { Does self.old self.new (λ state. ask_step state change) }
     {
         let Some(reason) = self.change(change) else {
             return;
@@ -372,7 +368,7 @@ impl Core {
     /// Tells a refusal by a line of the core buffer, where there are handles for it.
     pub(crate) fn tell_refusal(&mut self, text: Text)
         requires { IsUtf8 text }
-        ensures { FollowsUnlessStarved self.old self.new (refusal_step (state_of self.old) text) }
+        ensures { Does self.old self.new (λ state. refusal_step state text) }
     {
         match told_refusal(self.alloc, self.moment, text) {
             Ok(line) => {
@@ -421,9 +417,8 @@ impl Core {
     /// Serves the loss of a link for this cause: its client, if it is open, is leaving. The cause
     /// NoMemory counts as want of memory.
     pub fn link_gone(&mut self, link: LinkId, cause: Cause)
-        ensures does { FollowsUnlessStarved self.old self.new
-            (loss_step (state_of self.old) link.0 cause
-            (at_key client_link link.0 (state_of self.old).clients)) }
+        ensures does { Does self.old self.new
+            (λ state. loss_step state link.0 cause (at_key client_link link.0 state.clients)) }
         ensures gone { is_open_at (at_key connection_link link.0 self.new.connections) ≡ false }
         ensures leaves { self.new ≡ record self.old {
           connections =
@@ -443,9 +438,8 @@ impl Core {
     }
 
     fn lose(&mut self, link: LinkId, cause: Cause)
-        ensures does { FollowsUnlessStarved self.old self.new
-            (loss_step (state_of self.old) link.0 cause
-            (at_key client_link link.0 (state_of self.old).clients)) }
+        ensures does { Does self.old self.new
+            (λ state. loss_step state link.0 cause (at_key client_link link.0 state.clients)) }
         ensures gone { is_open_at (at_key connection_link link.0 self.new.connections) ≡ false }
         ensures starved { self.new.starved ≡ self.old.starved }
         ensures leaves { self.new ≡ record self.old {

@@ -2,9 +2,10 @@ ghost use Rattle.std.specs.Prelude.{◌≡◌, None};
 ghost use Rattle.wc_model.specs.Notices.{Outcome};
 ghost use Rattle.wc_model.specs.Touches.{touched_key};
 ghost use Rattle.wc_world.specs.Texts.{IsChangeText};
-ghost use Rattle.wc_core.specs.Pushes.{NothingTouched};
+ghost use Rattle.wc_core.specs.Told.{NothingTouched};
 ghost use Rattle.wc_core.specs.CoreView.{HasNoRows};
 
+use crate::pushes::forget_buffer;
 use std::alloc::Global;
 use wc_model::{Change, ChangeRefused, Notice, What};
 use wc_nickdiff::Pending;
@@ -22,13 +23,13 @@ pub fn change_world(
     requires plain { touched_key change.what ≡ None }
     ensures outcome { Outcome world.old change world.new result }
     ensures none { HasNoRows world.old → HasNoRows world.new }
-    ensures still { NothingTouched pending.old → NothingTouched pending.new }
+    ensures still { NothingTouched pending.old → pending.new ≡ pending.old }
 {
     let buffer = change.buffer;
     let closes = matches!(change.what, What::Close);
     let notice = world.change(alloc, change, pending)?;
     if closes {
-        pending.forget(buffer);
+        forget_buffer(pending, buffer);
     }
     Ok(notice)
 }

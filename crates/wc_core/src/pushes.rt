@@ -6,12 +6,12 @@ ghost use Rattle.wc_nickdiff.specs.Held.{touches_of};
 ghost use Rattle.wc_buffers.specs.Calls.{is_there};
 ghost use Rattle.wc_model.specs.Order.{order};
 ghost use Rattle.wc_world.specs.Near.{numbers};
-ghost use Rattle.wc_core.specs.Pushes.{NothingTouched, WasTold, AreTold, AreThere, push_of};
-ghost use Rattle.wc_core.specs.Pushes.{push_connection, pushed_connection};
+ghost use Rattle.wc_core.specs.Pushes.{AreThere, push_of, push_connection, pushed_connection};
 ghost use Rattle.wc_core.specs.State.{State, told_at};
 ghost use Rattle.wc_core.specs.Step.{push_step};
 ghost use Rattle.wc_core.specs.Served.{connection_link, clients_of, unsent_on, sent_to, Distinct};
 ghost use Rattle.wc_core.specs.Served.{ConnectionsKept};
+ghost use Rattle.wc_core.specs.Told.{NothingTouched, WasTold, AreTold};
 
 use crate::connection::{Connection, starve_all, tell_all};
 use std::alloc::Global;
@@ -106,9 +106,10 @@ fn push_buffer(
 
 /// Forgets what was touched: the rows of each buffer were told.
 pub fn forget_nicks(world: &World, pending: &mut Pending)
-    ensures { (buffer : HandleValue) → touches_of buffer pending.new
+    ensures forgets { (buffer : HandleValue) → touches_of buffer pending.new
         ≡ (if list_any (λ n. n == buffer.0) (order world.now.groups) then []
         else touches_of buffer pending.old) }
+    ensures idle { NothingTouched pending.old → pending.new ≡ pending.old }
 {
     for group in world.buffers().groups() {
         forget_group(pending, group);
@@ -116,11 +117,23 @@ pub fn forget_nicks(world: &World, pending: &mut Pending)
 }
 
 fn forget_group(pending: &mut Pending, group: &[Handle])
-    ensures { (buffer : HandleValue) → touches_of buffer pending.new
+    ensures forgets { (buffer : HandleValue) → touches_of buffer pending.new
         ≡ (if list_any (λ n. n == buffer.0) (numbers group.now) then []
         else touches_of buffer pending.old) }
+    ensures idle { NothingTouched pending.old → pending.new ≡ pending.old }
 {
     for buffer in group {
-        pending.forget(*buffer);
+        forget_buffer(pending, *buffer);
+    }
+}
+
+/// Forgets what was touched of a buffer, if anything was.
+pub fn forget_buffer(pending: &mut Pending, buffer: Handle)
+    ensures forgets { (other : HandleValue) → touches_of other pending.new
+        ≡ (if buffer.0 == other.0 then [] else touches_of other pending.old) }
+    ensures idle { touches_of buffer pending.old ≡ [] → pending.new ≡ pending.old }
+{
+    if pending.held(buffer) != 0 {
+        pending.forget(buffer);
     }
 }

@@ -1,6 +1,6 @@
 ghost use Rattle.std.specs.Option.{option_copied};
 ghost use Rattle.std.specs.Prelude.{◌≡◌, IfOk, IfErr, false, ◌++◌, [], ℕ, ◌^◌, ◌-◌, min};
-ghost use Rattle.wc_core.specs.Resolved.{SetsOption, UnsetsOption};
+ghost use Rattle.wc_core.specs.Resolved.{SetsOption, UnsetsOption, switched};
 ghost use Rattle.wc_core.specs.Resolved.{Asks, Tells, no_such_buffer, change_of, buffer_meant};
 ghost use Rattle.wc_core.specs.Resolved.{of_meant, of_named, effect_of, line_spec, core_spec};
 ghost use Rattle.wc_core.specs.Resolved.{plugin_in, rename_of, told_refusal, first_of_number};
@@ -86,6 +86,17 @@ fn merge(alloc: Global, buffer: Handle, into: Option<Handle>) -> Result<Resoluti
         Some(into) => Ok(asks(buffer, What::MergeInto(into))),
         None => no_such_buffer(alloc),
     }
+}
+
+/// The buffer that is to be shown is there, or its command is refused.
+fn switch(alloc: Global, buffer: Option<Handle>) -> Result<Resolution, NoMemory>
+    ensures { IfOk result (λ r. outcome_of r ≡ switched buffer) }
+{
+    if buffer.is_some() {
+        return Ok(Resolution::Stays);
+    }
+    let text = Text::from_slice(alloc, b"wrong arguments: /buffer")?;
+    Ok(Resolution::Tells(text))
 }
 
 /// The refusal whose text is these two.
@@ -191,6 +202,7 @@ pub(crate) fn resolve(
         CommandText::RemoveVar(name) => remove_var(alloc, buffer, name),
         CommandText::SetOption { name, value } => set_option(alloc, name, value),
         CommandText::UnsetOption(name) => unset_option(alloc, name),
+        CommandText::Switch(name) => switch(alloc, buffer_meant(buffers, name)),
     }
 }
 

@@ -2,6 +2,7 @@ ghost use Rattle.std.specs.Prelude.{◌≡◌, Some, ◌++◌, ◌∷◌, [], If
 ghost use Rattle.wc_core.specs.Typed.{no_text_here, unknown_command, wrong_arguments, quit_command};
 ghost use Rattle.wc_core.specs.Typed.{command, slash_command, typed_line, print_words};
 ghost use Rattle.wc_core.specs.Typed.{set_option, set_command, unset_command, option_command};
+ghost use Rattle.wc_core.specs.Typed.{input_command};
 ghost use Rattle.wc_core.specs.Typed.{print_tagged, print_on, print_command, tags_of};
 ghost use Rattle.wc_core.specs.TypedSeen.{meaning, word_in, number_of};
 ghost use Rattle.wc_text.specs.Words.{is_filled};
@@ -60,6 +61,8 @@ pub enum CommandText<'a> {
     },
     /// The default of an option.
     UnsetOption(&'a [u8]),
+    /// The buffer that is named is to be shown.
+    Switch(&'a [u8]),
 }
 
 fn no_text_here<'a>() -> CommandText<'a>
@@ -138,6 +141,16 @@ fn option_command<'a>(name: &'a [u8], text: &'a [u8]) -> CommandText<'a>
     }
 }
 
+/// What clients type as they show another buffer, which means nothing here.
+fn input_command(text: &[u8]) -> CommandText<'_>
+    ensures { meaning result ≡ input_command text.now }
+{
+    if text == b"set_unread_current_buffer".as_slice() || text == b"hotlist_clear".as_slice() {
+        return CommandText::Nothing;
+    }
+    unknown_command(b"input")
+}
+
 fn command<'a>(name: &'a [u8], text: &'a [u8]) -> CommandText<'a>
     ensures { meaning result ≡ command name.now text.now }
 {
@@ -147,6 +160,8 @@ fn command<'a>(name: &'a [u8], text: &'a [u8]) -> CommandText<'a>
         buffer_command(text)
     } else if name == b"quit".as_slice() {
         quit_command(text)
+    } else if name == b"input".as_slice() {
+        input_command(text)
     } else {
         option_command(name, text)
     }

@@ -2,7 +2,7 @@ ghost use Rattle.std.specs.Option.{option_copied};
 ghost use Rattle.std.specs.Prelude.{◌≡◌, ℕ, List};
 ghost use Rattle.wc_core.specs.Typed.{set_property, Adds, Merges, wrong_buffer, one_word};
 ghost use Rattle.wc_core.specs.Typed.{without_words, some_text, moves_to, close_command};
-ghost use Rattle.wc_core.specs.Typed.{buffer_command};
+ghost use Rattle.wc_core.specs.Typed.{switch_command, buffer_command};
 ghost use Rattle.wc_core.specs.TypedSeen.{name_of, word_named, set_to, set_var_property, meaning};
 ghost use Rattle.wc_core.specs.TypedSeen.{only_word, property_set};
 ghost use Rattle.wc_text.specs.Splits.{word_of, rest_of};
@@ -69,6 +69,8 @@ pub(crate) enum Property<'a> {
     Name,
     ShortName,
     Title,
+    /// How much news a client has not seen, which is not kept here.
+    Hotlist,
     /// The variable that is named after `localvar_set_`.
     SetVar(&'a [u8]),
     /// The variable that is named after `localvar_del_`.
@@ -102,6 +104,8 @@ pub(crate) fn read_property(word: &[u8]) -> Option<Property<'_>>
         Some(Property::ShortName)
     } else if word == b"title".as_slice() {
         Some(Property::Title)
+    } else if word == b"hotlist".as_slice() {
+        Some(Property::Hotlist)
     } else {
         var_property(word)
     }
@@ -194,6 +198,7 @@ fn set_to<'a>(property: Property<'a>, text: &'a [u8]) -> CommandText<'a>
         Property::Name => with_value(CommandText::Name(text), text),
         Property::ShortName => with_value(CommandText::ShortName(text), text),
         Property::Title => with_value(CommandText::Title(text), text),
+        Property::Hotlist => with_value(CommandText::Nothing, text),
         Property::SetVar(name) => with_value(CommandText::SetVar { name, value: text }, text),
         Property::RemoveVar(name) => without_words(CommandText::RemoveVar(name), text),
     }
@@ -207,6 +212,16 @@ fn set(text: &[u8]) -> CommandText<'_>
         Some(property) => set_to(property, rest),
         None => wrong_buffer(),
     }
+}
+
+/// The buffer that a word names is to be shown.
+fn switch<'a>(word: &'a [u8], text: &'a [u8]) -> CommandText<'a>
+    ensures { meaning result ≡ switch_command word.now text.now }
+{
+    if word.is_empty() {
+        return wrong_buffer();
+    }
+    without_words(CommandText::Switch(word), text)
 }
 
 /// What `/buffer` asks for.
@@ -224,6 +239,6 @@ pub(crate) fn buffer_command(text: &[u8]) -> CommandText<'_>
         Some(BufferWord::Unhide) => without_words(CommandText::Unhide, rest),
         Some(BufferWord::Clear) => without_words(CommandText::Clear, rest),
         Some(BufferWord::Set) => set(rest),
-        None => wrong_buffer(),
+        None => switch(word, rest),
     }
 }

@@ -12,7 +12,8 @@ use Rattle.wc_core.specs.declared.connection.Connection.{Connection}
 use Rattle.wc_core.specs.Events.{Event}
 use Rattle.wc_core.specs.State.{State}
 use Rattle.wc_core.specs.Step.{client_link, run}
-use Rattle.wc_core.specs.Served.{connection_link, clients_of, state_of, unsent_on, sent_to, has_end}
+use Rattle.wc_core.specs.Told.{Told}
+use Rattle.wc_core.specs.Served.{connection_link, clients_of, state_of, WereTold, unsent_on, sent_to, has_end}
 use Rattle.wc_turns.specs.declared.headless.Headless.{Headless}
 use Rattle.wc_turns.specs.declared.links.Closed.{Closed}
 use Rattle.wc_loop.specs.Endings.{kept_of}
@@ -20,7 +21,8 @@ use Rattle.wc_turns.specs.Events.{events_from}
 use Rattle.wc_turns.specs.Hands.{IsFrontOf}
 use Rattle.wc_loop.specs.Headline.{HandsOut, Headline, IsConfigured, IsFirst, NothingTaken}
 use Rattle.wc_turns.specs.Served.{ReachesEvents, NobodyLeaving, closed_by, leaving_closes}
-use Rattle.wc_turns.specs.Turns.{AgreesWithSockets, LoopStep, moment, point}
+use Rattle.wc_turns.proofs.RunLemmas.{up_to_quit-front}
+use Rattle.wc_turns.specs.Turns.{AgreesWithSockets, LoopStep, moment, point, QuitsWithin}
 
 pub AgreesWithSockets-first : (first : Headless) (seen : Seen) → IsFirst first → NothingTaken seen → AgreesWithSockets first seen
 AgreesWithSockets-first first seen f new = record {
@@ -78,22 +80,28 @@ reaches-from : (q q' : Bool) (n m : ℕ) (taken gained all : List Happening) (ev
 reaches-from q q' n m taken gained all events quits none nothing same h = rw (quits, none, nothing, same) at h
 
 -- a loop that began with nothing
-pub HandsOut-run : {n f : ℕ} (first last : Headless) (a b : Seen) → LoopStep false n f first last a b → IsFirst first → NothingTaken a → NobodyLeaving last.core.connections → IsTrue b.tells → last.core.starved ≡ 0 → HandsOut (state_of first.core) b last
-HandsOut-run first last a b h f new calm t fed =
+pub HandsOut-run : {n f : ℕ} (first last : Headless) (a b : Seen) → LoopStep false n f first last a b → IsFirst first → NothingTaken a → NobodyLeaving last.core.connections → IsTrue b.tells → last.core.starved ≡ 0 → (told : Told) → WereTold first.core told → HandsOut (state_of first.core told) b last
+HandsOut-run first last a b h f new calm t fed rows were =
     let told = h.told t in
     let agrees = AgreesWithSockets-first first a f new in
     let after = h.agrees agrees in
     let gained : h.gained ≡ b.taken = sym (h.taken t ∙ ap (λ taken. taken ++ h.gained) (new.taken told)) in
     let goes = h.goes t agrees in
-    let owed = λ (k : ℕ). sent_to k (run (state_of first.core) goes.events).acts in
-    let advances = goes.advances (fed ∙ sym f.starved) (omega (arith, f.starved)) in
-    let clients = ap (λ (s : State). s.clients) advances.state in
+    let owed = λ (k : ℕ). sent_to k (run (state_of first.core rows) goes.events).acts in
+    let advances = goes.advances (fed ∙ sym f.starved) (omega (arith, f.starved)) rows were in
+    let clients = ap (λ (s : State). s.clients) (sym advances.means.same) in
     let none : (k : ℕ) → a.sent k ++ unsent_on k first.core.connections ≡ [] = λ k. ap (λ s. s ++ unsent_on k first.core.connections) (new.sent told k) ∙ ap (unsent_on k) f.connections in
+    let reaches = reaches-from _ _ _ _ _ _ _ _ f.quits f.ran (new.taken told) gained goes.reaches in
+    let quits : last.core.quits ≡ has_end (run (state_of first.core rows) goes.events).acts = advances.quits ∙ ap (λ q. q || has_end (run (state_of first.core rows) goes.events).acts) f.quits in
     record {
       events = goes.events;
-      reaches = reaches-from _ _ _ _ _ _ _ _ f.quits f.ran (new.taken told) gained goes.reaches;
-      state = advances.state;
-      quits = advances.quits ∙ ap (λ q. q || has_end (run (state_of first.core) goes.events).acts) f.quits;
+      reaches = reaches;
+      ends = up_to_quit-front (state_of first.core rows) (events_from [] b.taken) goes.events reaches.rest reaches.front advances.stops (λ none. reaches.whole (quits ∙ none));
+      silent = λ over.
+          let within = goes.last (fed ∙ sym f.starved) (omega (arith, f.starved)) rows were f.quits over in
+          subst (λ taken. QuitsWithin taken b.taken goes.events) (new.taken told) (subst (λ more. QuitsWithin a.taken more goes.events) gained within);
+      means = advances.means;
+      quits = quits;
       links = λ k. sym (after.among.clients k) ∙ sym (some-same _) ∙ ap is_some (sym (at_key-clients k last.core.connections calm)) ∙ ap (λ cs. is_some (at_key client_link k cs)) clients;
       opened = λ k client one there.
           let here : option_map (λ s. s.session.client) (at_key connection_link k last.core.connections) ≡ Some client = sym (at_key-clients k last.core.connections calm) ∙ ap (at_key client_link k) clients ∙ there in
@@ -118,9 +126,9 @@ Fresh-listening a b new told taken sent used there undrained listening = record 
   sent = λ t k. sent t k ∙ new.sent (told t) k;
 }
 
-pub Headline-known : (contents : Option (List ℕ)) (first : Headless) (port : ℕ) (seen : Seen) (last : Headless) → IfSome contents (IsConfigured first port) → (IsTrue seen.tells → last.core.starved ≡ 0 → HandsOut (state_of first.core) seen last) → Headline contents seen last
+pub Headline-known : (contents : Option (List ℕ)) (first : Headless) (port : ℕ) (seen : Seen) (last : Headless) → IfSome contents (IsConfigured first port) → (IsTrue seen.tells → last.core.starved ≡ 0 → (told : Told) → WereTold first.core told → HandsOut (state_of first.core told) seen last) → Headline contents seen last
 Headline-known None first port seen last known hands = tt
-Headline-known (Some kept) first port seen last known hands = rw known.set (λ t fed. subst (λ state. HandsOut state seen last) known.state (hands t fed))
+Headline-known (Some kept) first port seen last known hands = rw known.set (λ t fed. subst (λ state. HandsOut state seen last) (sym known.means.same) (hands t fed _ known.means.told))
 
 pub IfSome-last : (o : Option Headless) (h : Headless) (P : Headless → Type 0) → o ≡ kept_of h → (1 ≤ h.turns → P h) → IfSome o P
 IfSome-last o h P e p = rw e (go (eqb h.turns 0) refl)

@@ -1,3 +1,4 @@
+pub mod CutLemmas
 pub mod OptionsLemmas
 pub mod EndingLemmas
 pub mod HeadlineLemmas

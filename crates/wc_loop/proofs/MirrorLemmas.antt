@@ -88,7 +88,7 @@ shows-by options limit seen last most handed which link id one settled =
     let short = short-front handed.events handed.reaches.rest (subst (AllByRecursion IsShortLine) handed.reaches.front (short-from [] seen.taken)) in
     let shows : ShowsPart which limit id (sent_to link (run first handed.events).acts) (run first handed.events).state.world = part_shows which options limit handed.events link id most short settled in
     let bytes = open-client _ (at_key client_link link (run first handed.events).state.clients) settled.still (λ client there. handed.opened link client one there) in
-    subst (λ sent. ShowsPart which limit id sent last.core.world) (sym bytes) (subst (λ world. ShowsPart which limit id (sent_to link (run first handed.events).acts) world) (sym (ap (λ (s : State). s.world) handed.state)) shows)
+    subst (λ sent. ShowsPart which limit id sent last.core.world) (sym bytes) (subst (λ world. ShowsPart which limit id (sent_to link (run first handed.events).acts) world) (ap (λ (s : State). s.world) handed.means.same) shows)
 
 pub ClientsHoldDumps-known : (contents : Option (List ℕ)) (seen : Seen) (last : Headless) → ClientsHoldDumps contents seen last
 ClientsHoldDumps-known None seen last = tt

@@ -8,9 +8,9 @@ use Rattle.wc_options.specs.Options.{OptionsValue}
 use Rattle.wc_options.specs.ReadConfig.{IsBadLine}
 use Rattle.wc_options.specs.declared.refusal.ConfigRefused.TheVariants.{BadLine}
 use Rattle.wc_session.specs.Heeded.{option_value}
-use Rattle.wc_core.specs.Limits.{number_or, most_lines, port_of}
+use Rattle.wc_core.specs.Limits.{most_lines, port_of}
 use Rattle.wc_core.specs.State.{first_state}
-use Rattle.wc_core.specs.Served.{state_of}
+use Rattle.wc_core.specs.Served.{Means}
 use Rattle.wc_turns.specs.declared.headless.Headless.{Headless}
 use Rattle.wc_loop.specs.Endings.{IsPort}
 use Rattle.wc_loop.specs.Headline.{IsConfigured}
@@ -58,6 +58,6 @@ some_port (Some configuration) = port_by (config_of configuration)
 
 -- a state and a port that were made by the options
 pub configured_by : (contents : Option (List ℕ)) (headless : Headless) (port : ℕ) (options : OptionsValue) → IfSome contents (λ configuration. config_of configuration ≡ Ok options)
-    → state_of headless.core ≡ first_state options (most_lines options) → port ≡ port_of options → IfSome contents (IsConfigured headless port)
-configured_by None headless port options set state at = tt
-configured_by (Some configuration) headless port options set state at = record { options = options; set = set; state = state; port_set = at }
+    → Means headless.core (first_state options (most_lines options)) → port ≡ port_of options → IfSome contents (IsConfigured headless port)
+configured_by None headless port options set means at = tt
+configured_by (Some configuration) headless port options set means at = record { options = options; set = set; means = means; port_set = at }

@@ -1,5 +1,5 @@
 -- What a whole run hands to its clients.
-use Rattle.std.specs.Prelude.{ℕ, ◌≡◌, ◌≤◌, false, List, [], ◌++◌, Option, Some, None, IfSome}
+use Rattle.std.specs.Prelude.{ℕ, ◌≡◌, ◌≤◌, true, false, List, [], ◌++◌, Option, Some, None, IfSome}
 use Rattle.std.specs.Prelude.{IsTrue, is_some, IfOk, Ok}
 use Rattle.wc_outside.specs.Seen.{Seen}
 use Rattle.wc_turns.specs.declared.headless.Headless.{Headless}
@@ -9,25 +9,30 @@ use Rattle.wc_options.specs.Options.{OptionsValue}
 use Rattle.wc_core.specs.Limits.{most_lines, port_of}
 use Rattle.wc_turns.specs.Hands.{IsFrontOf}
 use Rattle.wc_turns.specs.Links.{link_number}
+use Rattle.wc_turns.specs.Run.{up_to_quit}
 use Rattle.wc_core.specs.Events.{Event}
 use Rattle.wc_core.specs.State.{State, first_state}
 use Rattle.wc_core.specs.Step.{client_link, run}
-use Rattle.wc_core.specs.Served.{state_of, unsent_on, sent_to, has_end}
+use Rattle.wc_core.specs.Served.{Means, unsent_on, sent_to, has_end}
 use Rattle.wc_session.specs.declared.client.Client.{Client}
 use Rattle.wc_mirror_laws.specs.Held.{HeldPart}
 use Rattle.wc_mirror_laws.specs.Bytes.{ShowsPart}
 use Rattle.wc_mirror_laws.specs.Settled.{SettledBy}
 use Rattle.wc_turns.specs.Events.{whole}
 use Rattle.wc_turns.specs.Served.{ReachesEvents}
-use Rattle.wc_turns.specs.Turns.{moment, point}
+use Rattle.wc_turns.specs.Turns.{moment, point, QuitsWithin}
 
--- The state is that of the run over the events that were reached, from this one on; what is sent
--- and then unsent on each open link is what the run owes; and what was sent on a closed link is a
--- front of that, all of it unless there was no room as it was closed, or it failed.
+-- The core means the state of the run over the events that were reached, from this one on; what is
+-- sent and then unsent on each open link is what the run owes; and what was sent on a closed link
+-- is a front of that, all of it unless there was no room as it was closed, or it failed.
 pub record HandsOut (first : State) (seen : Seen) (last : Headless) : Type 0 where
   pub events : List Event
   pub reaches : ReachesEvents false last.core.quits 0 last.ran (whole seen.taken) events
-  pub state : state_of last.core ≡ (run first events).state
+  -- they are all events, or end with the one that ran `/quit`
+  pub ends : events ≡ up_to_quit first (whole seen.taken)
+  -- after that one nothing is read, and no client comes
+  pub silent : last.core.quits ≡ true → QuitsWithin [] seen.taken events
+  pub means : Means last.core (run first events).state
   pub quits : last.core.quits ≡ has_end (run first events).acts
   pub links : (link : ℕ) → is_some (at_key link_number link last.links.opened.items)
       ≡ is_some (at_key client_link link (run first events).state.clients)
@@ -62,7 +67,7 @@ ClientsHoldDumps contents seen last =
 pub record IsConfigured (headless : Headless) (port : ℕ) (configuration : List ℕ) : Type 0 where
   pub options : OptionsValue
   pub set : config_of configuration ≡ Ok options
-  pub state : state_of headless.core ≡ first_state options (most_lines options)
+  pub means : Means headless.core (first_state options (most_lines options))
   pub port_set : port ≡ port_of options
 
 -- a state before the first turn

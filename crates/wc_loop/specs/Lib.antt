@@ -1,3 +1,4 @@
+pub mod Cuts
 pub mod Endings
 pub mod Headline
 pub mod Words

@@ -2,9 +2,11 @@
 #![tactic(auto)]
 
 mod ending;
+mod laws;
 mod print;
 mod program;
 mod words;
 
+pub use laws::cuts_change_nothing;
 pub use program::{Ended, run_program};
 pub use words::config_dir;

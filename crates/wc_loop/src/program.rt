@@ -9,7 +9,7 @@ ghost use Rattle.wc_loop.specs.Endings.{Runs, RunsBy, asks_turns, IsAsked, EndsA
 ghost use Rattle.wc_loop.specs.Endings.{number_of, printed_text, status_of, tells_version};
 ghost use Rattle.wc_options.specs.Config.{config_of};
 ghost use Rattle.wc_core.specs.Limits.{most_lines, port_of};
-ghost use Rattle.wc_core.specs.Served.{state_of};
+ghost use Rattle.wc_core.specs.Served.{Means};
 ghost use Rattle.wc_core.specs.State.{first_state};
 ghost use Rattle.wc_loop.specs.Headline.{Headline, ClientsHoldDumps, IsFirst, IsConfigured};
 ghost use Rattle.wc_turns.specs.Served.{NobodyLeaving};
@@ -70,8 +70,8 @@ struct Configured {
 /// Makes the state of a run by the options.
 fn state_by(alloc: Global, options: Options) -> Result<Configured, NoMemory>
     ensures first { IfOk result (λ made. IsFirst made.headless) }
-    ensures state { IfOk result (λ made. state_of made.headless.core
-        ≡ first_state options (most_lines options)) }
+    ensures means { IfOk result (λ made. Means made.headless.core
+        (first_state options (most_lines options))) }
     ensures port { IfOk result (λ made. made.port ≡ port_of options) }
     ensures calm { IfOk result (λ made. NobodyLeaving made.headless.core.connections) }
 {

@@ -20,8 +20,8 @@ use Rattle.wc_model.specs.declared.change.What.TheVariants as what
 use Rattle.wc_model.specs.World.{World}
 use Rattle.wc_text.specs.Splits.{onward, text_after, word_of, rest_of}
 use Rattle.wc_relaycmd.proofs.Utf8Lemmas.{cut_text, put_byte, before_text, past_text}
-use Rattle.wc_core.specs.Resolved.{Effect, Stays, Ends, Tells, Asks, SetsOption, UnsetsOption, buffer_meant, of_meant, of_named, change_of, line_spec, plugin_in, effect_of}
-use Rattle.wc_core.specs.Typed.{TypedCommand, Nothing, Quits, Refused, Prints, Adds, Closes, Merges, Names, Changes, Sets, Unsets, set_option, set_command, unset_command, option_command, unknown_command, wrong_arguments, lines_parted, lines_of_text, print_unless_empty, print_words, tags_of, is_first, second_of, after_second, print_tagged, print_on, print_command, wrong_buffer, one_word, without_words, some_text, moves_to, close_command, starts, set_property, buffer_word, buffer_command, quit_command, command, slash_command, typed_line}
+use Rattle.wc_core.specs.Resolved.{Effect, Stays, Ends, Tells, Asks, SetsOption, UnsetsOption, switched, buffer_meant, of_meant, of_named, change_of, line_spec, plugin_in, effect_of}
+use Rattle.wc_core.specs.Typed.{TypedCommand, Nothing, Quits, Refused, Prints, Adds, Closes, Merges, Names, Changes, Sets, Unsets, Switches, switch_command, input_command, set_option, set_command, unset_command, option_command, unknown_command, wrong_arguments, lines_parted, lines_of_text, print_unless_empty, print_words, tags_of, is_first, second_of, after_second, print_tagged, print_on, print_command, wrong_buffer, one_word, without_words, some_text, moves_to, close_command, starts, set_property, buffer_word, buffer_command, quit_command, command, slash_command, typed_line}
 use Rattle.wc_mirror_laws.specs.Worlds.{IsBufferKept, IsWorldKept}
 use Rattle.wc_mirror_laws.proofs.ListLemmas.{all_filter}
 use Rattle.wc_mirror_laws.proofs.RowLemmas.{row_has}
@@ -107,6 +107,7 @@ IsTypedText (Names name) = IsUtf8 name
 IsTypedText (Changes w) = IsTold w
 IsTypedText (Sets name value) = Unit {0}
 IsTypedText (Unsets name) = Unit {0}
+IsTypedText (Switches name) = Unit {0}
 
 if_text : (b : Bool) (x y : TypedCommand) → (b ≡ true → IsTypedText x) → IsTypedText y → IsTypedText (cond b x y)
 if_text true x y p q = p refl
@@ -174,21 +175,30 @@ property_text word text named utf8 =
     let sets = some_text (λ value. Changes (what.SetVar (record { name = drop 13 word; value = value }))) text in
     let removes = without_words (Changes (what.RemoveVar (drop 13 word))) text in
     let variable = cond (starts (codes "localvar_set_") word) sets (cond (starts (codes "localvar_del_") word) removes wrong_buffer) in
+    let seen = some_text (λ value. Nothing) text in
+    let others = cond (bytes_eq word (codes "hotlist")) seen variable in
     let titles = some_text (λ value. Changes (what.Title value)) text in
     let shortens = some_text (λ value. Changes (what.ShortName value)) text in
-    if_text (bytes_eq word (codes "name")) (some_text (λ value. Names value) text) (cond (bytes_eq word (codes "short_name")) shortens (cond (bytes_eq word (codes "title")) titles variable))
+    if_text (bytes_eq word (codes "name")) (some_text (λ value. Names value) text) (cond (bytes_eq word (codes "short_name")) shortens (cond (bytes_eq word (codes "title")) titles others))
     (λ here. whole_text (λ value. Names value) text utf8 (λ value u. u))
-    (if_text (bytes_eq word (codes "short_name")) shortens (cond (bytes_eq word (codes "title")) titles variable)
+    (if_text (bytes_eq word (codes "short_name")) shortens (cond (bytes_eq word (codes "title")) titles others)
     (λ here. whole_text (λ value. Changes (what.ShortName value)) text utf8 (λ value u. u))
-    (if_text (bytes_eq word (codes "title")) titles variable
+    (if_text (bytes_eq word (codes "title")) titles others
     (λ here. whole_text (λ value. Changes (what.Title value)) text utf8 (λ value u. tt))
+    (if_text (bytes_eq word (codes "hotlist")) seen variable
+    (λ here. whole_text (λ value. Nothing) text utf8 (λ value u. tt))
     (if_text (starts (codes "localvar_set_") word) sets (cond (starts (codes "localvar_del_") word) removes wrong_buffer)
     (λ here. whole_text (λ value. Changes (what.SetVar (record { name = drop 13 word; value = value }))) text utf8 (λ value u. variable_text word named here))
-    (if_text (starts (codes "localvar_del_") word) removes wrong_buffer (λ here. bare_text (what.RemoveVar (drop 13 word)) text tt) tt))))
+    (if_text (starts (codes "localvar_del_") word) removes wrong_buffer (λ here. bare_text (what.RemoveVar (drop 13 word)) text tt) tt)))))
+
+switch_text : (word text : List ℕ) → IsTypedText (switch_command word text)
+switch_text [] text = tt
+switch_text (b ∷ word) [] = tt
+switch_text (b ∷ word) (c ∷ text) = tt
 
 words_text : (word text : List ℕ) → IsUtf8 text → IsTypedText (buffer_word word text)
 words_text word text utf8 =
-    let sets = cond (bytes_eq word (codes "set")) (set_property (word_of text) (rest_of text)) wrong_buffer in
+    let sets = cond (bytes_eq word (codes "set")) (set_property (word_of text) (rest_of text)) (switch_command word text) in
     let clears = cond (bytes_eq word (codes "clear")) (without_words (Changes what.Clear) text) sets in
     let unhides = cond (bytes_eq word (codes "unhide")) (without_words (Changes what.Unhide) text) clears in
     let hides = cond (bytes_eq word (codes "hide")) (without_words (Changes what.Hide) text) unhides in
@@ -204,8 +214,8 @@ words_text word text utf8 =
     (if_text (bytes_eq word (codes "hide")) (without_words (Changes what.Hide) text) unhides (λ here. bare_text what.Hide text tt)
     (if_text (bytes_eq word (codes "unhide")) (without_words (Changes what.Unhide) text) clears (λ here. bare_text what.Unhide text tt)
     (if_text (bytes_eq word (codes "clear")) (without_words (Changes what.Clear) text) sets (λ here. bare_text what.Clear text tt)
-    (if_text (bytes_eq word (codes "set")) (set_property (word_of text) (rest_of text)) wrong_buffer
-    (λ here. property_text (word_of text) (rest_of text) (word_text text utf8) (rest_text text utf8)) tt))))))))
+    (if_text (bytes_eq word (codes "set")) (set_property (word_of text) (rest_of text)) (switch_command word text)
+    (λ here. property_text (word_of text) (rest_of text) (word_text text utf8) (rest_text text utf8)) (switch_text word text)))))))))
 
 quit_text : (text : List ℕ) → IsTypedText (quit_command text)
 quit_text [] = tt
@@ -226,13 +236,20 @@ option_text name rest =
     if_text (bytes_eq name (codes "set")) (set_command rest) unsets (λ here. set_text (word_of rest) (rest_of rest))
     (if_text (bytes_eq name (codes "unset")) (unset_command rest) (unknown_command name) (λ here. unset_text rest) tt)
 
+input_text : (text : List ℕ) → IsTypedText (input_command text)
+input_text text =
+    if_text (bytes_eq text (codes "set_unread_current_buffer")) Nothing (cond (bytes_eq text (codes "hotlist_clear")) Nothing (unknown_command (codes "input"))) (λ here. tt)
+    (if_text (bytes_eq text (codes "hotlist_clear")) Nothing (unknown_command (codes "input")) (λ here. tt) tt)
+
 command_text : (name rest : List ℕ) → IsUtf8 rest → IsTypedText (command name rest)
 command_text name rest utf8 =
-    let quits = cond (bytes_eq name (codes "quit")) (quit_command rest) (option_command name rest) in
+    let inputs = cond (bytes_eq name (codes "input")) (input_command rest) (option_command name rest) in
+    let quits = cond (bytes_eq name (codes "quit")) (quit_command rest) inputs in
     let buffers = cond (bytes_eq name (codes "buffer")) (buffer_command rest) quits in
     if_text (bytes_eq name (codes "print")) (print_command rest) buffers (λ here. print_text rest utf8)
     (if_text (bytes_eq name (codes "buffer")) (buffer_command rest) quits (λ here. words_text (word_of rest) (rest_of rest) (rest_text rest utf8))
-    (if_text (bytes_eq name (codes "quit")) (quit_command rest) (option_command name rest) (λ here. quit_text rest) (option_text name rest)))
+    (if_text (bytes_eq name (codes "quit")) (quit_command rest) inputs (λ here. quit_text rest)
+    (if_text (bytes_eq name (codes "input")) (input_command rest) (option_command name rest) (λ here. input_text rest) (option_text name rest))))
 
 slashed_text : (text : List ℕ) → IsUtf8 text → IsTypedText (slash_command text)
 slashed_text [] utf8 = command_text [] [] utf8
@@ -285,6 +302,10 @@ core_text = put_byte 99 _ (lit< tt) (put_byte 111 _ (lit< tt) (put_byte 114 _ (l
 dot_text : IsUtf8 (codes ".")
 dot_text = put_byte 46 _ (lit< tt) IsUtf8-nil
 
+switched_told : (o : Option Handle) → OnAsks (switched o)
+switched_told None = tt
+switched_told (Some buffer) = tt
+
 pub resolved_told : (limit : ℕ) (w : World) (moment : ℕ) (buffer : Handle) (typed : TypedCommand) → IsWorldKept limit w → IsTypedText typed → OnAsks (effect_of w moment buffer typed)
 unfolding effect_of
 resolved_told limit w moment buffer Nothing is text = tt
@@ -300,3 +321,4 @@ resolved_told limit w moment buffer (Names name) is text =
 resolved_told limit w moment buffer (Changes c) is text = text
 resolved_told limit w moment buffer (Sets name value) is text = tt
 resolved_told limit w moment buffer (Unsets name) is text = tt
+resolved_told limit w moment buffer (Switches name) is text = switched_told (buffer_meant w.groups name)

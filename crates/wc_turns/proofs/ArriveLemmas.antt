@@ -1,5 +1,5 @@
 -- What the core does at an arrival.
-use Rattle.std.proofs.Common.{◌≡◌, ℕ, ◌+◌, ◌-◌, ◌^◌, ◌<◌, ◌≤◌, inl, inr, min, nat_lt, Bool, true, false, eqb, List, [], ◌∷◌, ◌++◌, map, Option, Some, None, IfSome, Result, Ok, Err, OnOk, is_err, refl, sym, ap, ◌∙◌, arith}
+use Rattle.std.proofs.Common.{◌≡◌, ℕ, ◌+◌, ◌-◌, ◌^◌, ◌<◌, ◌≤◌, inl, inr, min, nat_lt, Bool, true, false, eqb, List, [], ◌∷◌, ◌++◌, map, length, cond, Option, Some, None, IfSome, Result, Ok, Err, OnOk, is_err, refl, sym, ap, ◌∙◌, arith}
 use Rattle.std.proofs.lemmas.Bool.{false≢true}
 use Rattle.std.proofs.lemmas.Bool.Decides.{nat_tests}
 use Rattle.wc_text.specs.declared.names.LinkId.{LinkId}
@@ -11,7 +11,9 @@ use Rattle.wc_core.specs.CoreView.{CoreView}
 use Rattle.wc_core.specs.State.{State, Act, Stepped}
 use Rattle.wc_core.specs.Step.{step}
 use Rattle.wc_options.specs.Options.{OptionsValue}
-use Rattle.wc_core.specs.Served.{connection_link, links_of, state_of, is_open, left_if, left_at, new_connection, refusal, Absent, AdmitsUnlessStarved}
+use Rattle.wc_core.specs.Served.{connection_link, links_of, state_of, WereTold, Means, is_open, left_if, left_at, new_connection, refusal, Absent, AdmitsUnlessStarved}
+use Rattle.wc_core.specs.Limits.{client_limit}
+use Rattle.wc_core.specs.Told.{Told}
 use Rattle.wc_core.proofs.ConnectionLemmas.{absent-connection}
 use Rattle.wc_turns.specs.declared.links.LinkState.{LinkState}
 use Rattle.wc_turns.specs.declared.links.Closed.{Closed}
@@ -60,12 +62,24 @@ starve-calm link old new e calm = ap leaving_closes e ∙ leaving-without link o
 stepped-same : (p : Stepped) (state : State) (acts : List Act) → p.state ≡ state → p.acts ≡ acts → p ≡ record { state = state; acts = acts }
 stepped-same p state acts e f = rw (← e, ← f) refl
 
+arrival-told : (state : State) (link : ℕ) (nonce : List ℕ) → (step state (Arrives link nonce)).state.told ≡ state.told
+arrival-told state link nonce = by (nat_lt (length state.clients) (client_limit state.options)) _ _ refl refl
+  where
+    by : (t : Bool) (x y : Stepped) → x.state.told ≡ state.told → y.state.told ≡ state.told → (cond t x y).state.told ≡ state.told
+    by true x y p q = p
+    by false x y p q = q
+
+arrival-state : (old new : CoreView) (link : ℕ) (nonce : List ℕ) (told : Told) → new ≡ record old { starved = new.starved } → Means new (step (state_of old told) (Arrives link nonce)).state → (step (state_of old told) (Arrives link nonce)).state ≡ state_of old told
+arrival-state old new link nonce told core means =
+    let stepped = step (state_of old told) (Arrives link nonce) in
+    means.same ∙ ap (λ (c : CoreView). state_of c stepped.state.told) core ∙ ap (state_of old) (arrival-told (state_of old told) link nonce)
+
 -- a refused client is none
-pub refused-step : (old new : CoreView) (link : ℕ) (nonce : List ℕ) (why : Cause) → new ≡ record old { starved = new.starved } → (Absent link (links_of old) → AdmitsUnlessStarved link old new (Some why) (step (state_of old) (Arrives link nonce)))
-    → new.starved ≡ old.starved → old.starved < 2 ^ 64 - 1 → Absent link (links_of old) → step (state_of old) (Arrives link nonce) ≡ record { state = state_of old; acts = refusal link (Some why) }
-refused-step old new link nonce why core comes same below absent =
-    let came = (comes absent).comes same below in
-    stepped-same (step (state_of old) (Arrives link nonce)) (state_of old) (refusal link (Some why)) (sym came.state ∙ ap state_of core) came.acts
+pub refused-step : (old new : CoreView) (link : ℕ) (nonce : List ℕ) (why : Cause) → new ≡ record old { starved = new.starved } → (Absent link (links_of old) → (told : Told) → AdmitsUnlessStarved told link old new (Some why) (step (state_of old told) (Arrives link nonce)))
+    → new.starved ≡ old.starved → old.starved < 2 ^ 64 - 1 → Absent link (links_of old) → (told : Told) → WereTold old told → step (state_of old told) (Arrives link nonce) ≡ record { state = state_of old told; acts = refusal link (Some why) }
+refused-step old new link nonce why core comes same below absent told were =
+    let came = (comes absent told).comes same below were in
+    stepped-same (step (state_of old told) (Arrives link nonce)) (state_of old told) (refusal link (Some why)) (arrival-state old new link nonce told core came.means) came.acts
 
 pub refused-opened : (link : LinkId) (old mid new : List LinkState) → mid ≡ old ++ new_state link ∷ [] → new ≡ without link_number link.0 mid → at_key link_number link.0 old ≡ None → new ≡ old
 refused-opened link old mid new admitted closed none = closed ∙ ap (without link_number link.0) admitted ∙ without-push link_number link.0 (new_state link) old refl ∙ without-missing link_number link.0 old none

@@ -7,7 +7,9 @@ use Rattle.wc_outside.specs.Seen.{Seen}
 use Rattle.wc_outside.specs.Keyed.{at_key, put_at, without}
 use Rattle.wc_core.specs.declared.connection.Connection.{Connection}
 use Rattle.wc_core.specs.declared.connection.Departure.{Departure}
-use Rattle.wc_core.specs.Served.{connection_link, state_of, unsent_in, unsent_on, unsent_at, gone_at, departure_of, Distinct}
+use Rattle.wc_core.specs.CoreView.{CoreView}
+use Rattle.wc_core.specs.Told.{Told}
+use Rattle.wc_core.specs.Served.{connection_link, clients_of, state_of, WereTold, Means, unsent_in, unsent_on, unsent_at, gone_at, departure_of, Distinct}
 use Rattle.wc_turns.specs.declared.links.LinkState.{LinkState}
 use Rattle.wc_turns.specs.declared.links.Closed.{Closed}
 use Rattle.wc_turns.specs.declared.headless.Headless.{Headless}
@@ -23,13 +25,19 @@ use Rattle.wc_turns.proofs.AgreesLemmas.{For-states, SameTails-marked, SameTails
 use Rattle.wc_turns.proofs.StepLemmas.{SameSets, among-same, OnlyLinks, LoopStep-flags, links-marked, undrained-marked}
 use Rattle.wc_turns.proofs.TurnLemmas.{Call, LoopStep-still, NeverFall-refl}
 
+-- what the core means stays where its clients do
+clients-means : (old new : CoreView) (told : Told) (connections : List Connection) → new ≡ record old { connections = connections } → clients_of connections ≡ clients_of old.connections → WereTold old told → Means new (state_of old told)
+clients-means old new told connections core same were =
+    let P : CoreView → Type 0 = λ c. Means c (state_of old told) in
+    subst P (sym core) (record { same = ap (λ clients. record (state_of old told) { clients = clients }) (sym same); told = were })
+
 -- the sockets gave and sent nothing
 pub LoopStep-quiet : (x : Headless) (a b : Seen) → Call a b [] → (IsTrue b.tells → (k : ℕ) → b.sent k ≡ a.sent k) → (IsTrue b.tells → (k : ℕ) → b.choked k ≡ a.choked k) → SameSets a b → LoopStep true 0 0 x x a b
 LoopStep-quiet x a b call sent choked same =
     LoopStep-still x x a b call refl refl refl refl (λ s. refl)
     (among-same x.links.opened.items x.core.connections x.used x.listening a b same)
     (λ t s. s)
-    (λ t s. MomentAdvances-same (moment x a) (moment x b) refl refl refl (sent t) (choked t) [] (call.taken t) [] refl)
+    (λ t s rows were. MomentAdvances-same rows (moment x a) (moment x b) refl refl (sent t) (choked t) [] (call.taken t) [] refl were tt)
 
 SameSets-refl : (a : Seen) → SameSets a a
 SameSets-refl a = record { used = refl; there = λ k. refl; undrained = λ k. refl; listening = refl }
@@ -83,8 +91,8 @@ LoopStep-sent x a b link count (Some s) bytes found u call sent choked same =
       unknown = t.unknown;
     })
     (λ t st. st)
-    (λ t st. MomentAdvances-none (moment x a) (moment y b)
-    (ap (λ clients. record (state_of x.core) { clients = clients }) (clients-gone link count x.core.connections (Some s) found))
+    (λ t st rows were. MomentAdvances-none rows (moment x a) (moment y b)
+    (clients-means x.core y.core rows after refl (clients-gone link count x.core.connections (Some s) found) were)
     refl
     (λ k. ap (λ q. nat_le k x.used && q) (none-same _ _ (kept k)))
     (λ k. rw (call.taken t) (spoils-more k (a.choked k) (b.choked k) a.taken [] (λ e. sym (choked t k) ∙ e)))
@@ -212,8 +220,9 @@ LoopStep-close x y d a b leaving one call sent choked used there undrained liste
       unknown = λ k below. none_of _ (sym (closed-seen is_some refl link_number k d.link.0 (eqb k d.link.0) refl x.links.opened.items) ∙ ap (λ o. is_some o && not (eqb k d.link.0)) (s.unknown k below));
     }))
     (λ t s. rw (one.clock, one.used, one.ran, one.opened) (For-states x.clock x.links.opened.items (without link_number d.link.0 x.links.opened.items) x.used x.ran a.taken (SameTails-without d.link.0 x.links.opened.items) s))
-    (λ t s. record {
-      state = ap state_of one.core ∙ ap (λ clients. record (state_of x.core) { clients = clients }) (clients-forget d.link.0 d.cause x.core.connections s.among.once (departed-leaving x.core.connections d leaving s.among.once));
+    (λ t s rows were. record {
+      means = clients-means x.core y.core rows (without connection_link d.link.0 x.core.connections) one.core (clients-forget d.link.0 d.cause x.core.connections s.among.once (departed-leaving x.core.connections d leaving s.among.once)) were;
+      stops = tt;
       hands = λ k. close-hands k d (moment x a) (moment y b) a.blocked (eqb k d.link.0) refl connections one.used (call.taken t ∙ append-nil a.taken) (sent t k) (choked t k) here
           (used-known d.link.0 x.used (at_key link_number d.link.0 x.links.opened.items) (s.among.unknown d.link.0) (sym (s.among.clients d.link.0) ∙ here) (nat_le d.link.0 x.used) refl)
           (settled (call.told t));

@@ -58,7 +58,7 @@ pub record OneLink (link : ℕ) (acts : List Act) : Type 0 where
 eqb-same : (k : ℕ) → eqb k k ≡ true
 eqb-same k = grind (arith, nat_tests)
 
-no-closes : (acts : List Act) → ((k : ℕ) → close_of k acts ≡ None) → closings acts ≡ []
+pub no-closes : (acts : List Act) → ((k : ℕ) → close_of k acts ≡ None) → closings acts ≡ []
 no-closes [] h = refl
 no-closes (Sends to m ∷ acts) h = no-closes acts h
 no-closes (Quits ∷ acts) h = no-closes acts h

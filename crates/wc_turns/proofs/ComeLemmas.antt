@@ -1,5 +1,6 @@
 -- Arrivals are served.
 use Rattle.std.proofs.Common.{◌≡◌, ◌≢◌, ℕ, ◌+◌, ◌<◌, inl, inr, nat_le, Bool, true, false, not, eqb, ◌&&◌, ◌||◌, IsTrue, List, [], ◌∷◌, ◌++◌, map, Option, Some, None, IfSome, is_some, is_none, All, refl, sym, ap, ◌∙◌, subst, arith}
+use Rattle.std.proofs.lemmas.Bool.{false≢true}
 use Rattle.std.proofs.lemmas.Bool.Decides.{nat_tests}
 use Rattle.std.proofs.lemmas.List.{append-nil}
 use Rattle.std.proofs.lemmas.List.Elements.{All-nil, All-cons}
@@ -11,8 +12,11 @@ use Rattle.wc_outside.specs.declared.happening.Happening.TheVariants.{Accepted}
 use Rattle.wc_outside.specs.Keyed.{at_key}
 use Rattle.wc_core.specs.declared.connection.Connection.{Connection}
 use Rattle.wc_core.specs.Events.{Arrives}
-use Rattle.wc_core.specs.Step.{run}
-use Rattle.wc_core.specs.Served.{connection_link, state_of, unsent_in, unsent_on, sent_to, has_end, new_connection, refusal, Distinct}
+use Rattle.wc_core.specs.CoreView.{CoreView}
+use Rattle.wc_core.specs.State.{State}
+use Rattle.wc_core.specs.Step.{step, run}
+use Rattle.wc_core.specs.Told.{Told}
+use Rattle.wc_core.specs.Served.{connection_link, state_of, WereTold, Means, unsent_in, unsent_on, sent_to, has_end, new_connection, refusal, Distinct}
 use Rattle.wc_core.proofs.ConnectionLemmas.{links-push}
 use Rattle.wc_turns.specs.declared.links.LinkState.{LinkState}
 use Rattle.wc_turns.specs.declared.headless.Headless.{Headless}
@@ -80,12 +84,14 @@ LoopStep-came x y a b link nonce comes admits going calm call next used sent cho
       events = Arrives link.0 nonce ∷ [];
       reaches = ReachesEvents-all x.core.quits y.core.quits x.ran y.ran (Arrives link.0 nonce ∷ []) going (λ fits. comes.ran);
       rises = omega arith;
-      advances = λ same below.
-          let came = (admits.step (absent-missing link.0 x.core.connections none)).comes same below in
-          let acts : (run (state_of x.core) (Arrives link.0 nonce ∷ [])).acts ≡ [] = ap (λ xs. xs ++ []) came.acts in
-          MomentAdvances-comes (moment x a) (moment y b) [] (Arrives link.0 nonce ∷ []) (comes.used ∙ next') came.state (λ k. ap (sent_to k) acts) came.bytes
+      advances = λ same below rows were.
+          let came = (admits.step (absent-missing link.0 x.core.connections none) rows).comes same below were in
+          let acts : (run (state_of x.core rows) (Arrives link.0 nonce ∷ [])).acts ≡ [] = ap (λ xs. xs ++ []) came.acts in
+          MomentAdvances-comes rows (moment x a) (moment y b) [] (Arrives link.0 nonce ∷ []) (comes.used ∙ next') came.means (λ k. ap (sent_to k) acts) came.bytes
           (λ k. ap (λ ss. nat_le k (x.used + 1) && is_none (at_key connection_link k ss)) connections ∙ fresh_by k link.0 x.used (eqb link.0 k) refl next' (at_key connection_link k x.core.connections) (at_key connection_link k (x.core.connections ++ new_connection x.core.options link nonce ∷ [])) (is_some-push connection_link k (new_connection x.core.options link nonce) x.core.connections))
-          comes.quits (ap has_end acts) (sent t) (choked t) (Accepted link nonce ∷ []) (call.taken t) (ap closings acts);
+          comes.quits (ap has_end acts) (sent t) (choked t) (Accepted link nonce ∷ []) (call.taken t) (ap closings acts) (λ q. refl, tt);
+      silent = λ over. absurd (false≢true (sym going ∙ over));
+      last = λ same below rows were on over. absurd (false≢true (sym going ∙ sym comes.quits ∙ over));
     })
 
 refused-caused : (link : LinkId) (nonce : List ℕ) (why : Cause) (a b : Seen) → IsRefusal why → (IsTrue b.tells → b.taken ≡ a.taken ++ Accepted link nonce ∷ []) → CausedBy why link.0 a b
@@ -135,6 +141,13 @@ gone-flag : (k link : ℕ) (t : Bool) → eqb k link ≡ t → (states : List Li
 gone-flag k link true e states none = let same : k ≡ link = grind (arith, nat_tests) in let here : at_key link_number k states ≡ None = ap (λ i. at_key link_number i states) same ∙ none in rw here refl
 gone-flag k link false e states none = and-not-false _
 
+-- what the core means stays where only its count of want changes
+refused-means : (old new : CoreView) (told : Told) (state : State) → new ≡ record old { starved = new.starved } → state ≡ state_of old told → WereTold old told → Means new state
+refused-means old new told state core same were =
+    let P : CoreView → Type 0 = λ c. Means c state in
+    let Q : State → Type 0 = λ s. Means (record old { starved = new.starved }) s in
+    subst P (sym core) (subst Q (sym same) (record { same = refl; told = were }))
+
 -- an arrival has no client, and its link is closed at once
 pub LoopStep-refused : (x y : Headless) (a b : Seen) (link : LinkId) (nonce : List ℕ) → LinkComes x y link → RefusesArrival x y link nonce → x.core.quits ≡ false → NobodyLeaving x.core.connections → Call a b (Accepted link nonce ∷ []) → link.0 ≡ a.used + 1 → b.used ≡ a.used + 1
     → (IsTrue b.tells → (k : ℕ) → b.sent k ≡ a.sent k) → (IsTrue b.tells → (k : ℕ) → b.choked k ≡ false → a.choked k ≡ false) → ((k : ℕ) → b.there k ≡ ((a.there k || eqb link.0 k) && not (eqb k link.0))) → ((k : ℕ) → b.undrained k ≡ (a.undrained k && not (eqb k link.0))) → b.listening ≡ a.listening
@@ -172,16 +185,19 @@ LoopStep-refused x y a b link nonce comes r going calm call next used sent choke
       events = Arrives link.0 nonce ∷ [];
       reaches = ReachesEvents-all x.core.quits y.core.quits x.ran y.ran (Arrives link.0 nonce ∷ []) going (λ fits. comes.ran);
       rises = r.rises;
-      advances = λ same below.
-          let stepped = r.step same below absent in
-          let acts : (run (state_of x.core) (Arrives link.0 nonce ∷ [])).acts ≡ refusal link.0 r.cause ++ [] = ap (λ p. p.acts ++ []) stepped in
+      advances = λ same below rows were.
+          let stepped = r.step same below absent rows were in
+          let acts : (run (state_of x.core rows) (Arrives link.0 nonce ∷ [])).acts ≡ refusal link.0 r.cause ++ [] = ap (λ p. p.acts ++ []) stepped in
           record {
-            state = ap state_of core ∙ sym (ap (λ p. p.state) stepped);
+            means = refused-means x.core y.core rows (step (state_of x.core rows) (Arrives link.0 nonce)).state core (ap (λ p. p.state) stepped) were;
+            stops = (λ q. refl, tt);
             hands = λ k. rw (acts, refusal-sent k link.0 r.cause)
                 (refused-hands k link.0 (moment x a) (moment y b) (eqb k link.0) refl next' (comes.used ∙ next') none (ap (λ c. c.connections) core) (sent t k) (choked t k) (Accepted link nonce ∷ []) (call.taken t));
             closes = rw acts (refusal-closes link r.cause);
             quits = comes.quits ∙ sym (or-false x.core.quits) ∙ ap (λ q. x.core.quits || q) (sym (refusal-ends link.0 r.cause)) ∙ ap (λ xs. x.core.quits || has_end xs) (sym acts);
           };
+      silent = λ over. absurd (false≢true (sym going ∙ over));
+      last = λ same below rows were on over. absurd (false≢true (sym going ∙ sym comes.quits ∙ over));
     })
 
 and-nothing : (b : Bool) → (b && not true) ≡ false
@@ -195,4 +211,4 @@ LoopStep-idle x a b call sent choked used there undrained listening =
     LoopStep-still x (record x { listening = false }) a b call refl refl refl refl (λ s. refl)
     (λ s. record { counted = s.counted ∙ sym used; there = λ k. there k ∙ s.there k; undrained = λ k. undrained k ∙ s.undrained k; listens = listening ∙ and-nothing _; clients = s.clients; once = s.once; unknown = s.unknown })
     (λ t s. s)
-    (λ t s. MomentAdvances-same (moment x a) (moment (record x { listening = false }) b) refl refl refl (sent t) (choked t) [] (call.taken t) [] refl)
+    (λ t s rows were. MomentAdvances-same rows (moment x a) (moment (record x { listening = false }) b) refl refl (sent t) (choked t) [] (call.taken t) [] refl were tt)

@@ -1,4 +1,4 @@
--- Runs whose happenings spell the same events owe the same, and bytes spell the same events however they are cut.
+-- Bytes spell the same events however they are cut.
 use Rattle.std.proofs.Common.{◌≡◌, ℕ, Bool, true, false, eqb, List, [], ◌∷◌, ◌++◌, Option, Some, None, refl, sym, ap, ◌∙◌, append_assoc, arith}
 use Rattle.std.specs.List.{flat_map}
 use Rattle.std.proofs.lemmas.Grind.{flat_map-append}
@@ -9,22 +9,8 @@ use Rattle.wc_outside.specs.declared.happening.Happening.{Happening}
 use Rattle.wc_outside.specs.declared.happening.Happening.TheVariants.{Woke, Accepted, Read, Ended, Failed, ListenFailed}
 use Rattle.wc_turns.specs.Events.{bytes_on, tail_on, clock_from, clock, wake_events, read_events, events_of, events_from, whole}
 use Rattle.wc_turns.specs.Lines.{rest}
-use Rattle.wc_core.specs.Events.{Event}
-use Rattle.wc_core.specs.State.{State}
-use Rattle.wc_core.specs.Step.{run}
-use Rattle.wc_core.specs.Served.{sent_to}
-use Rattle.wc_turns.specs.Served.{ReachesEvents}
 use Rattle.wc_turns.proofs.LineLemmas.{rest-append, read_events-append}
 use Rattle.wc_turns.proofs.RunLemmas.{events_from-append}
-
--- equal events: the same state, and the same bytes owed to each link
-pub same_events : (state : State) (taken others : List Happening) → whole taken ≡ whole others
-    → (run state (whole taken)).state ≡ (run state (whole others)).state × ((link : ℕ) → sent_to link (run state (whole taken)).acts ≡ sent_to link (run state (whole others)).acts)
-same_events state taken others e = (ap (λ events. (run state events).state) e, λ link. ap (λ events. sent_to link (run state events).acts) e)
-
--- without `/quit` all of them are reached
-pub reached_all : (q : Bool) (n m : ℕ) (all events : List Event) → ReachesEvents q false n m all events → events ≡ all
-reached_all q n m all events h = sym (append-nil events) ∙ ap (λ rest. events ++ rest) (sym (h.whole refl)) ∙ sym h.front
 
 clock_from-append : (last : Option ℕ) (hs gs : List Happening) → clock_from last (hs ++ gs) ≡ clock_from (clock_from last hs) gs
 clock_from-append last [] gs = refl

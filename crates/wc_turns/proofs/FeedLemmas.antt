@@ -20,8 +20,8 @@ pub record Took (before now : CoreView) (ran ran' : ℕ) (events : List Event) :
 Took-none : (core : CoreView) (ran : ℕ) → ran < 2 ^ 64 → Took core core ran ran []
 Took-none core ran fits = record { takes = MayRun-none core; counts = omega arith }
 
-Took-more : (a b c : CoreView) (r s t : ℕ) (es fs : List Event) → Took a b r s es → Took b c s t fs → Took a c r t (es ++ fs)
-Took-more a b c r s t es fs h g = record { takes = MayRun-trans a b c es fs h.takes g.takes; counts = ran-more r s t es fs h.counts (λ fits. g.counts) }
+Took-more : (a b c : CoreView) (r s t : ℕ) (es fs : List Event) → b.quits ≡ false → Took a b r s es → Took b c s t fs → Took a c r t (es ++ fs)
+Took-more a b c r s t es fs going h g = record { takes = MayRun-trans a b c es fs going h.takes g.takes; counts = ran-more r s t es fs h.counts (λ fits. g.counts) }
 
 -- bytes of a link were served up to an LF
 pub record Fed (before now : CoreView) (link : ℕ) (old new : Tail) (ran ran' : ℕ) (bytes rest' : List ℕ) : Type 0 where
@@ -39,16 +39,16 @@ begun new e = rw e (record { bounded = omega arith; short = λ q. refl; long = �
 
 -- one more line was served
 pub Fed-line : (a b c : CoreView) (link : ℕ) (old mid new : Tail) (r s t : ℕ) (bytes rest' following front : List ℕ)
-    → Fed a b link old mid r s bytes rest' → rest' ≡ front ++ 10 ∷ following → HasNoLf front → new ≡ record { line = []; over = false }
+    → b.quits ≡ false → Fed a b link old mid r s bytes rest' → rest' ≡ front ++ 10 ∷ following → HasNoLf front → new ≡ record { line = []; over = false }
     → ((line : List ℕ) → IsTail line mid → Took b c s t (line_events link (line ++ front))) → LeavesAtLine link b c
     → Fed a c link old new r t bytes following
-Fed-line a b c link old mid new r s t bytes rest' following front fed e clean is takes causes = record {
+Fed-line a b c link old mid new r s t bytes rest' following front going fed e clean is takes causes = record {
   done = fed.done ++ (front ++ 10 ∷ []);
   split = fed.split ∙ ap (λ xs. fed.done ++ xs) (e ∙ sym (append_assoc front (10 ∷ []) following)) ∙ sym (append_assoc fed.done (front ++ 10 ∷ []) following);
   causes = LeavesAtLine-trans link a b c fed.causes causes;
   tail = λ line h. rw (rest-append line fed.done (front ++ 10 ∷ []), rest-ended (rest line fed.done) front clean) (begun new is);
   takes = λ line h. rw (read_events-append link line fed.done (front ++ 10 ∷ []), read_events-line link (rest line fed.done) front clean)
-      (Took-more a b c r s t _ _ (fed.takes line h) (takes (rest line fed.done) (fed.tail line h)));
+      (Took-more a b c r s t _ _ going (fed.takes line h) (takes (rest line fed.done) (fed.tail line h)));
 }
 
 -- all lines were served, and bytes without an LF are left

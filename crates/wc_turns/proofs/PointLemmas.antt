@@ -7,12 +7,15 @@ use Rattle.std.proofs.lemmas.List.Folds.{list_any-append}
 use Rattle.wc_outside.specs.declared.happening.Happening.{Happening}
 use Rattle.wc_core.specs.declared.connection.Connection.{Connection}
 use Rattle.wc_core.specs.Events.{Event}
+use Rattle.wc_core.specs.CoreView.{CoreView}
+use Rattle.wc_core.specs.State.{State, Stepped}
 use Rattle.wc_core.specs.Step.{run, no_step}
-use Rattle.wc_core.specs.Served.{connection_link, state_of, unsent_in, unsent_on, sent_to, has_end, Follows}
+use Rattle.wc_core.specs.Served.{connection_link, state_of, WereTold, Means, unsent_in, unsent_on, sent_to, has_end, Follows}
+use Rattle.wc_core.specs.Told.{Told}
 use Rattle.wc_outside.specs.Keyed.{at_key}
 use Rattle.wc_turns.specs.declared.links.Closed.{Closed}
 use Rattle.wc_turns.specs.Hands.{Delivers}
-use Rattle.wc_turns.specs.Run.{closings}
+use Rattle.wc_turns.specs.Run.{closings, EndsAtQuit}
 use Rattle.wc_turns.specs.Turns.{Moment, point, MomentAdvances, is_failure, has_failed}
 use Rattle.wc_turns.proofs.KeyedLemmas.{or-false, none_of, same-keys}
 use Rattle.wc_turns.proofs.HandsLemmas.{Delivers-stays}
@@ -65,10 +68,11 @@ nothing_owed k old new o keeps none bytes =
     owed_nothing (unsent_on k old) o (sym after ∙ bytes)
 
 -- a happening is taken, at which clients may begin to leave
-pub MomentAdvances-takes : (a b : Moment) (closed : List Closed) (events : List Event) → Follows a.core b.core (run (state_of a.core) events) → map connection_link b.core.connections ≡ map connection_link a.core.connections → b.used ≡ a.used
-    → ((k : ℕ) → b.sent k ≡ a.sent k) → ((k : ℕ) → b.choked k ≡ a.choked k) → (more : List Happening) → b.taken ≡ a.taken ++ more → closings (run (state_of a.core) events).acts ≡ closed → MomentAdvances a b closed events
-MomentAdvances-takes a b closed events did links used sent choked more taken closes = record {
-  state = did.state;
+pub MomentAdvances-takes : (told : Told) (a b : Moment) (closed : List Closed) (events : List Event) → Follows a.core b.core (run (state_of a.core told) events) → map connection_link b.core.connections ≡ map connection_link a.core.connections → b.used ≡ a.used
+    → ((k : ℕ) → b.sent k ≡ a.sent k) → ((k : ℕ) → b.choked k ≡ a.choked k) → (more : List Happening) → b.taken ≡ a.taken ++ more → closings (run (state_of a.core told) events).acts ≡ closed → EndsAtQuit (state_of a.core told) events → MomentAdvances told a b closed events
+MomentAdvances-takes told a b closed events did links used sent choked more taken closes stops = record {
+  means = did.means;
+  stops = stops;
   hands = λ k.
       let keeps = same-keys connection_link k b.core.connections a.core.connections links in
       Delivers-stays (point k a) (point k b) _
@@ -104,11 +108,12 @@ fresh_by k came used false e next o o' h =
     rw same (ap (λ x. nat_le k used && x) (none-same o o' (h ∙ or-false (is_some o))))
 
 -- a client comes, or its link is refused
-pub MomentAdvances-comes : (a b : Moment) (closed : List Closed) (events : List Event) → b.used ≡ a.used + 1 → state_of b.core ≡ (run (state_of a.core) events).state → ((k : ℕ) → sent_to k (run (state_of a.core) events).acts ≡ [])
-    → ((k : ℕ) → unsent_on k b.core.connections ≡ unsent_on k a.core.connections) → ((k : ℕ) → (nat_le k (a.used + 1) && is_none (at_key connection_link k b.core.connections)) ≡ (nat_le k a.used && is_none (at_key connection_link k a.core.connections))) → b.core.quits ≡ a.core.quits → has_end (run (state_of a.core) events).acts ≡ false
-    → ((k : ℕ) → b.sent k ≡ a.sent k) → ((k : ℕ) → b.choked k ≡ a.choked k) → (more : List Happening) → b.taken ≡ a.taken ++ more → closings (run (state_of a.core) events).acts ≡ closed → MomentAdvances a b closed events
-MomentAdvances-comes a b closed events used state owed bytes gone quits ends sent choked more taken closes = record {
-  state = state;
+pub MomentAdvances-comes : (told : Told) (a b : Moment) (closed : List Closed) (events : List Event) → b.used ≡ a.used + 1 → Means b.core (run (state_of a.core told) events).state → ((k : ℕ) → sent_to k (run (state_of a.core told) events).acts ≡ [])
+    → ((k : ℕ) → unsent_on k b.core.connections ≡ unsent_on k a.core.connections) → ((k : ℕ) → (nat_le k (a.used + 1) && is_none (at_key connection_link k b.core.connections)) ≡ (nat_le k a.used && is_none (at_key connection_link k a.core.connections))) → b.core.quits ≡ a.core.quits → has_end (run (state_of a.core told) events).acts ≡ false
+    → ((k : ℕ) → b.sent k ≡ a.sent k) → ((k : ℕ) → b.choked k ≡ a.choked k) → (more : List Happening) → b.taken ≡ a.taken ++ more → closings (run (state_of a.core told) events).acts ≡ closed → EndsAtQuit (state_of a.core told) events → MomentAdvances told a b closed events
+MomentAdvances-comes told a b closed events used means owed bytes gone quits ends sent choked more taken closes stops = record {
+  means = means;
+  stops = stops;
   hands = λ k. rw (owed k)
       (Delivers-stays (point k a) (point k b) []
       (rw used (gone k))
@@ -121,22 +126,32 @@ MomentAdvances-comes a b closed events used state owed bytes gone quits ends sen
 }
 
 -- nothing is owed, and what is handed to each link stays the same
-pub MomentAdvances-none : (a b : Moment) → state_of b.core ≡ state_of a.core → b.core.quits ≡ a.core.quits → ((k : ℕ) → (point k b).gone ≡ (point k a).gone) → ((k : ℕ) → (point k b).spoiled ≡ false → (point k a).spoiled ≡ false)
-    → ((k : ℕ) → (point k b).sent ++ (point k b).unsent ≡ (point k a).sent ++ (point k a).unsent) → ((k : ℕ) → (point k a).gone ≡ true → b.sent k ≡ a.sent k) → MomentAdvances a b [] []
-MomentAdvances-none a b state quits gone spoils bytes sent = record {
-  state = state;
+pub MomentAdvances-none : (told : Told) (a b : Moment) → Means b.core (state_of a.core told) → b.core.quits ≡ a.core.quits → ((k : ℕ) → (point k b).gone ≡ (point k a).gone) → ((k : ℕ) → (point k b).spoiled ≡ false → (point k a).spoiled ≡ false)
+    → ((k : ℕ) → (point k b).sent ++ (point k b).unsent ≡ (point k a).sent ++ (point k a).unsent) → ((k : ℕ) → (point k a).gone ≡ true → b.sent k ≡ a.sent k) → MomentAdvances told a b [] []
+MomentAdvances-none told a b means quits gone spoils bytes sent = record {
+  means = means;
+  stops = tt;
   hands = λ k. Delivers-stays (point k a) (point k b) [] (gone k) (spoils k) (bytes k ∙ sym (append-nil _)) (sent k) (λ e. refl);
   closes = refl;
   quits = quits ∙ sym (or-false a.core.quits);
 }
 
--- the core stays, or only its moment and its count of want change
-pub MomentAdvances-same : (a b : Moment) → b.core.connections ≡ a.core.connections → b.core.quits ≡ a.core.quits → b.used ≡ a.used → ((k : ℕ) → b.sent k ≡ a.sent k) → ((k : ℕ) → b.choked k ≡ a.choked k) → (more : List Happening) → b.taken ≡ a.taken ++ more
-    → (events : List Event) → run (state_of a.core) events ≡ no_step (state_of b.core) → MomentAdvances a b [] events
-MomentAdvances-same a b connections quits used sent choked more taken events none =
-    let acts : (run (state_of a.core) events).acts ≡ [] = ap (λ s. s.acts) none in
+means-stays : (told : Told) (old new : CoreView) (stepped : Stepped) → new ≡ old → stepped ≡ no_step (state_of old told) → WereTold old told → Means new stepped.state
+means-stays told old new stepped same none were =
+    let P : CoreView → Type 0 = λ core. Means core stepped.state in
+    let Q : State → Type 0 = λ state. Means old state in
+    subst P (sym same) (subst Q (sym (ap (λ s. s.state) none)) (record { same = refl; told = were }))
+
+-- the core stays
+pub MomentAdvances-same : (told : Told) (a b : Moment) → b.core ≡ a.core → b.used ≡ a.used → ((k : ℕ) → b.sent k ≡ a.sent k) → ((k : ℕ) → b.choked k ≡ a.choked k) → (more : List Happening) → b.taken ≡ a.taken ++ more
+    → (events : List Event) → run (state_of a.core told) events ≡ no_step (state_of a.core told) → WereTold a.core told → EndsAtQuit (state_of a.core told) events → MomentAdvances told a b [] events
+MomentAdvances-same told a b core used sent choked more taken events none were stops =
+    let acts : (run (state_of a.core told) events).acts ≡ [] = ap (λ s. s.acts) none in
+    let connections : b.core.connections ≡ a.core.connections = ap (λ (c : CoreView). c.connections) core in
+    let quits : b.core.quits ≡ a.core.quits = ap (λ (c : CoreView). c.quits) core in
     record {
-      state = sym (ap (λ s. s.state) none);
+      means = means-stays told a.core b.core (run (state_of a.core told) events) core none were;
+      stops = stops;
       hands = λ k. subst (λ done. Delivers (point k a) (point k b) (sent_to k done)) (sym acts)
           (Delivers-stays (point k a) (point k b) [] (rw (used, connections) refl) (rw taken (spoils-more k (a.choked k) (b.choked k) a.taken more (λ e. sym (choked k) ∙ e)))
           (rw (connections, sent k) (sym (append-nil _))) (λ e. sent k) (λ e. refl));

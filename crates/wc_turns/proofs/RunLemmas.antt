@@ -1,5 +1,5 @@
 -- Laws of runs.
-use Rattle.std.proofs.Common.{◌≡◌, ℕ, ◌+◌, ◌-◌, ◌^◌, ◌<◌, min, Bool, true, false, List, [], ◌∷◌, ◌++◌, length, refl, sym, ap, ◌∙◌, append_assoc, arith}
+use Rattle.std.proofs.Common.{◌≡◌, ℕ, ◌+◌, ◌-◌, ◌^◌, ◌<◌, min, Bool, true, false, ◌||◌, cond, List, [], ◌∷◌, ◌++◌, length, refl, sym, ap, ◌∙◌, append_assoc, arith}
 use Rattle.std.proofs.lemmas.Bool.{false≢true}
 use Rattle.std.proofs.lemmas.List.{append-nil, length-append}
 use Rattle.std.proofs.lemmas.Grind.{common_steps, flat_map-append}
@@ -7,8 +7,10 @@ use Rattle.wc_outside.specs.declared.happening.Happening.{Happening}
 use Rattle.wc_core.specs.Events.{Event}
 use Rattle.wc_core.specs.State.{State, Act}
 use Rattle.wc_core.specs.Step.{step, run}
+use Rattle.wc_core.specs.Served.{has_end}
+use Rattle.wc_core.proofs.DidLemmas.{has_end-append}
 use Rattle.wc_turns.specs.Events.{events_of, events_from}
-use Rattle.wc_turns.specs.Run.{act_closes, closings}
+use Rattle.wc_turns.specs.Run.{act_closes, closings, EndsAtQuit, up_to_quit}
 use Rattle.wc_turns.specs.Served.{ReachesEvents}
 
 pub run-append-state : (state : State) (es fs : List Event) → (run state (es ++ fs)).state ≡ (run (run state es).state fs).state
@@ -70,3 +72,42 @@ reaches-by q r s n m o all more es fs true e qr rs h g =
 
 pub ReachesEvents-trans : (q r s : Bool) (n m o : ℕ) (all more es fs : List Event) → (q ≡ true → r ≡ true) → (r ≡ true → s ≡ true) → ReachesEvents q r n m all es → ReachesEvents r s m o more fs → ReachesEvents q s n o (all ++ more) (es ++ fs)
 ReachesEvents-trans q r s n m o all more es fs qr rs h g = reaches-by q r s n m o all more es fs r refl qr rs h g
+
+-- ---- where a run ends
+
+pub EndsAtQuit-one : (state : State) (events : List Event) → length events ≡ 1 → EndsAtQuit state events
+EndsAtQuit-one state [] e = absurd (let q : 0 ≡ 1 = e in omega (arith, q))
+EndsAtQuit-one state (event ∷ []) e = (λ q. refl, tt)
+EndsAtQuit-one state (event ∷ (f ∷ fs)) e = absurd (omega (arith, e))
+
+or-left : (b c : Bool) → b ≡ true → (b || c) ≡ true
+or-left b c e = rw e refl
+
+or-right : (b c : Bool) → c ≡ true → (b || c) ≡ true
+or-right true c e = refl
+or-right false c e = e
+
+-- more events come only where none of those before ran `/quit`
+pub EndsAtQuit-append : (state : State) (es fs : List Event) → EndsAtQuit state es → (has_end (run state es).acts ≡ true → fs ≡ []) → EndsAtQuit (run state es).state fs → EndsAtQuit state (es ++ fs)
+EndsAtQuit-append state [] fs h over g = g
+EndsAtQuit-append state (e ∷ es) fs h over g =
+    let first = step state e in
+    let rest = (run first.state es).acts in
+    let quits : (has_end (first.acts ++ rest)) ≡ (has_end first.acts || has_end rest) = has_end-append first.acts rest in (
+      λ q. ap (λ xs. xs ++ fs) (h.0 q) ∙ over (quits ∙ or-left (has_end first.acts) (has_end rest) q),
+      EndsAtQuit-append first.state es fs h.1 (λ q. over (quits ∙ or-right (has_end first.acts) (has_end rest) q)) g,
+    )
+
+front-by : (state : State) (e : Event) (es rest : List Event) (t : Bool) → has_end (step state e).acts ≡ t → (has_end (step state e).acts ≡ true → es ≡ []) → (has_end (step state e).acts ≡ false → es ≡ up_to_quit (step state e).state (es ++ rest))
+    → e ∷ es ≡ e ∷ cond t [] (up_to_quit (step state e).state (es ++ rest))
+front-by state e es rest true q stops goes = ap (λ xs. e ∷ xs) (stops q)
+front-by state e es rest false q stops goes = ap (λ xs. e ∷ xs) (goes q)
+
+-- they are the front of all events that ends at the first `/quit`
+pub up_to_quit-front : (state : State) (all events rest : List Event) → all ≡ events ++ rest → EndsAtQuit state events → (has_end (run state events).acts ≡ false → rest ≡ []) → events ≡ up_to_quit state all
+up_to_quit-front state all [] rest front h whole = sym (ap (up_to_quit state) (front ∙ whole refl))
+up_to_quit-front state all (e ∷ es) rest front h whole =
+    let first = step state e in
+    let acts = (run first.state es).acts in
+    rw front (front-by state e es rest (has_end first.acts) refl h.0
+    (λ q. up_to_quit-front first.state (es ++ rest) es rest refl h.1 (λ none. whole (has_end-append first.acts acts ∙ ap (λ b. b || has_end acts) q ∙ none))))

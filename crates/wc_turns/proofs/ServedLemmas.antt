@@ -1,5 +1,6 @@
 -- The core takes one event after another.
-use Rattle.std.proofs.Common.{◌≡◌, ℕ, inl, inr, Bool, true, false, ◌||◌, eqb, List, [], ◌∷◌, ◌++◌, Option, Some, None, IsSome, refl, sym, ap, ◌∙◌, subst, arith}
+use Rattle.std.proofs.Common.{◌≡◌, ℕ, ◌-◌, ◌^◌, ◌<◌, inl, inr, Bool, true, false, ◌||◌, eqb, List, [], ◌∷◌, ◌++◌, Option, Some, None, IsSome, refl, sym, ap, ◌∙◌, subst, arith}
+use Rattle.std.proofs.lemmas.Bool.{false≢true}
 use Rattle.std.proofs.lemmas.Bool.Decides.{nat_tests}
 use Rattle.std.proofs.lemmas.List.{append-nil}
 use Rattle.wc_text.specs.declared.names.Cause.{Cause}
@@ -7,43 +8,71 @@ use Rattle.wc_core.specs.Events.{Event, Line}
 use Rattle.wc_core.specs.CoreView.{CoreView}
 use Rattle.wc_core.specs.State.{State, Act}
 use Rattle.wc_core.specs.Step.{step, run}
-use Rattle.wc_core.specs.Served.{state_of, leaving_in, leaving_on, unsent_on, sent_to, close_of, or_else, has_end, Distinct, Follows, FollowsUnlessStarved, LeavesBy}
+use Rattle.wc_core.specs.Served.{links_of, state_of, WereTold, Means, leaving_in, leaving_on, unsent_on, sent_to, close_of, or_else, has_end, Distinct, Follows, FollowsUnlessStarved, Does, LeavesBy}
+use Rattle.wc_core.specs.Told.{Told}
 use Rattle.wc_core.proofs.DidLemmas.{Follows-stays, Follows-then, KeepsClients-refl, KeepsClients-trans}
 use Rattle.wc_turns.specs.Served.{MayRun, LeavesFor, LeavesAtLine}
-use Rattle.wc_turns.proofs.RunLemmas.{run-append-state, run-append-acts}
+use Rattle.wc_turns.specs.Run.{EndsAtQuit}
+use Rattle.wc_turns.proofs.RunLemmas.{run-append-state, run-append-acts, EndsAtQuit-one, EndsAtQuit-append}
 use Rattle.wc_turns.proofs.ClosingLemmas.{LineCause, line-cause, line-others}
 
-Follows-acts : (a b : CoreView) (state : State) (acts acts' : List Act) → acts ≡ acts' → Follows a b (record { state = state; acts = acts }) → Follows a b (record { state = state; acts = acts' })
+pub Follows-acts : (a b : CoreView) (state : State) (acts acts' : List Act) → acts ≡ acts' → Follows a b (record { state = state; acts = acts }) → Follows a b (record { state = state; acts = acts' })
 Follows-acts a b state acts acts' e did = subst (λ xs. Follows a b (record { state = state; acts = xs })) e did
 
-Follows-append : (a b c : CoreView) (es fs : List Event) → Follows a b (run (state_of a) es) → Follows b c (run (state_of b) fs) → Follows a c (run (state_of a) (es ++ fs))
-Follows-append a b c es fs h g =
-    let did = Follows-then a b c (run (state_of a) es) (λ next. run next fs) h g in
-    let acts = sym (run-append-acts (state_of a) es fs) in
+Follows-append : (told : Told) (a b c : CoreView) (es fs : List Event) → Follows a b (run (state_of a told) es) → Follows b c (run (state_of b (run (state_of a told) es).state.told) fs) → Follows a c (run (state_of a told) (es ++ fs))
+Follows-append told a b c es fs h g =
+    let did = Follows-then a b c (run (state_of a told) es) (λ next. run next fs) h g in
+    let acts = sym (run-append-acts (state_of a told) es fs) in
+    let P : State → Type 0 = λ state. Means c state in
     record {
-      state = did.state ∙ sym (run-append-state (state_of a) es fs);
+      means = subst P (sym (run-append-state (state_of a told) es fs)) did.means;
       bytes = λ k. did.bytes k ∙ ap (λ xs. unsent_on k a.connections ++ sent_to k xs) acts;
       leaving = λ k. did.leaving k ∙ ap (λ xs. or_else (leaving_on k a.connections) (close_of k xs)) acts;
       quits = did.quits ∙ ap (λ xs. a.quits || has_end xs) acts;
     }
 
+quits-not : (before after end : Bool) → after ≡ false → after ≡ (before || end) → end ≡ true → ⊥
+quits-not true after end going e q = false≢true (sym going ∙ e)
+quits-not false after end going e q = false≢true (sym going ∙ e ∙ q)
+
 pub MayRun-none : (a : CoreView) → MayRun a a []
-MayRun-none a = record { keeps = KeepsClients-refl a; does = λ same below distinct. Follows-stays a }
+MayRun-none a = record { keeps = KeepsClients-refl a; does = λ same below distinct told were. Follows-stays told a were; stops = λ same below distinct told were. tt }
 
-pub MayRun-one : (a b : CoreView) (event : Event) → FollowsUnlessStarved a b (step (state_of a) event) → MayRun a b (event ∷ [])
+pub MayRun-one : (a b : CoreView) (event : Event) → Does a b (λ state. step state event) → MayRun a b (event ∷ [])
 MayRun-one a b event h = record {
-  keeps = h.keeps;
-  does = λ same below distinct. (let s = step (state_of a) event in Follows-acts a b s.state s.acts (s.acts ++ []) (sym (append-nil s.acts)) (h.does same below distinct));
+  keeps = (h a.world.nicks).keeps;
+  does = λ same below distinct told were. (let s = step (state_of a told) event in Follows-acts a b s.state s.acts (s.acts ++ []) (sym (append-nil s.acts)) ((h told).does same below distinct were));
+  stops = λ same below distinct told were. EndsAtQuit-one (state_of a told) (event ∷ []) refl;
 }
 
-pub MayRun-trans : (a b c : CoreView) (es fs : List Event) → MayRun a b es → MayRun b c fs → MayRun a c (es ++ fs)
-MayRun-trans a b c es fs h g = record {
+-- where the first of them ran no `/quit`
+pub MayRun-trans : (a b c : CoreView) (es fs : List Event) → b.quits ≡ false → MayRun a b es → MayRun b c fs → MayRun a c (es ++ fs)
+MayRun-trans a b c es fs going h g = record {
   keeps = KeepsClients-trans a b c h.keeps g.keeps;
-  does = λ same below distinct.
-      let p = h.keeps.rises in
-      let q = g.keeps.rises in
-      Follows-append a b c es fs (h.does (omega arith) below distinct) (g.does (omega arith) (omega arith) (subst Distinct (sym h.keeps.links) distinct));
-}
+  does = λ same below distinct told were.
+      let before = first same below distinct told were in
+      Follows-append told a b c es fs before (g.does (later same) (under same below) (following distinct) (run (state_of a told) es).state.told before.means.told);
+  stops = λ same below distinct told were.
+      let before = first same below distinct told were in
+      let state = (run (state_of a told) es).state in
+      let P : State → Type 0 = λ s. EndsAtQuit s fs in
+      EndsAtQuit-append (state_of a told) es fs (h.stops (half same) below distinct told were) (λ q. absurd (quits-not a.quits b.quits (has_end (run (state_of a told) es).acts) going before.quits q))
+      (subst P (sym before.means.same) (g.stops (later same) (under same below) (following distinct) state.told before.means.told));
+} where
+  half : c.starved ≡ a.starved → b.starved ≡ a.starved
+  half same = let p = h.keeps.rises in let q = g.keeps.rises in omega arith
+
+  later : c.starved ≡ a.starved → c.starved ≡ b.starved
+  later same = let p = h.keeps.rises in let q = g.keeps.rises in omega arith
+
+  under : c.starved ≡ a.starved → a.starved < 2 ^ 64 - 1 → b.starved < 2 ^ 64 - 1
+  under same below = let p = h.keeps.rises in let q = g.keeps.rises in omega arith
+
+  following : Distinct (links_of a) → Distinct (links_of b)
+  following distinct = subst Distinct (sym h.keeps.links) distinct
+
+  first : c.starved ≡ a.starved → a.starved < 2 ^ 64 - 1 → Distinct (links_of a) → (told : Told) → WereTold a told → Follows a b (run (state_of a told) es)
+  first same below distinct told were = h.does (half same) below distinct told were
 
 -- ---- who leaves at a line
 
@@ -87,10 +116,15 @@ for-step link other None closes after kept (inl e) g = rw e g
 for-step link other None closes after kept (inr (inl e)) g = rw e tt
 for-step link other None closes after kept (inr (inr e)) g = rw e tt
 
-pub LeavesAtLine-one : (link : ℕ) (a b : CoreView) (line : List ℕ) → FollowsUnlessStarved a b (step (state_of a) (Line link line)) → LeavesAtLine link a b
-LeavesAtLine-one link a b line h = record {
+pub LeavesAtLine-one : (link : ℕ) (a b : CoreView) (line : List ℕ) → Does a b (λ state. step state (Line link line)) → LeavesAtLine link a b
+LeavesAtLine-one link a b line done = record {
   rises = h.keeps.rises;
   links = h.keeps.links;
-  leaving = λ distinct other. for-step link other (leaving_on other a.connections) (close_of other (step (state_of a) (Line link line)).acts) (leaving_on other b.connections) (λ s. ap leaving_in (h.keeps.kept other s)) (h.causes distinct other)
-      (for-closed link other (state_of a) line (eqb other link) refl);
-}
+  leaving = λ distinct other. for-step link other (leaving_on other a.connections) (close_of other (step state (Line link line)).acts) (leaving_on other b.connections) (λ s. ap leaving_in (h.keeps.kept other s)) (h.causes distinct other)
+      (for-closed link other state line (eqb other link) refl);
+} where
+  state : State
+  state = state_of a a.world.nicks
+
+  h : FollowsUnlessStarved a.world.nicks a b (step state (Line link line))
+  h = done a.world.nicks

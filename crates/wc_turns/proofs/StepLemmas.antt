@@ -12,6 +12,7 @@ use Rattle.wc_outside.specs.declared.happening.Happening.TheVariants.{Failed}
 use Rattle.wc_core.specs.declared.connection.Connection.{Connection}
 use Rattle.wc_core.specs.CoreView.{CoreView}
 use Rattle.wc_core.specs.Step.{run, no_step, client_link}
+use Rattle.wc_core.specs.Told.{Told}
 use Rattle.wc_core.specs.Served.{connection_link, state_of, clients_of, links_of, leaving_in, leaving_on, Distinct}
 use Rattle.wc_core.proofs.ConnectionLemmas.{client-leaving}
 use Rattle.wc_turns.specs.declared.links.LinkState.{LinkState}
@@ -21,9 +22,9 @@ use Rattle.wc_turns.specs.Events.{bytes_on, events_of, events_from}
 use Rattle.wc_turns.specs.Links.{link_number, is_undrained, marked_at}
 use Rattle.wc_turns.specs.Served.{leaving_closes}
 use Rattle.wc_turns.specs.Steps.{SameTails, reached_after_miss}
-use Rattle.wc_turns.specs.Turns.{AgreesOnLinks, AgreesWithSockets, moment, CoreTakes, is_wake, is_listen_fault, LoopStep}
+use Rattle.wc_turns.specs.Turns.{AgreesOnLinks, AgreesWithSockets, moment, GivesNothing, CoreTakes, is_wake, is_listen_fault, LoopStep}
 use Rattle.wc_turns.proofs.KeyedLemmas.{at_key-key, at_key-put_same, at_key-put_other, is_some-put_at, none_of}
-use Rattle.wc_turns.proofs.RunLemmas.{ReachesEvents-all, ReachesEvents-over}
+use Rattle.wc_turns.proofs.RunLemmas.{ReachesEvents-all, ReachesEvents-over, EndsAtQuit-one}
 use Rattle.wc_turns.proofs.PointLemmas.{MomentAdvances-same}
 use Rattle.wc_turns.proofs.AgreesLemmas.{IsTimeless, For-quiet, For-states}
 use Rattle.wc_turns.proofs.TurnLemmas.{Call, LoopStep-step, LoopStep-still}
@@ -47,35 +48,39 @@ among-same states connections used listening a b same s = record {
 }
 
 missed-by : (x : Headless) (n : ℕ) (a b : Seen) (h : Happening) (q : Bool) → x.core.quits ≡ q → n ≡ reached_after_miss x.core.quits x.ran → b.taken ≡ a.taken ++ h ∷ [] → ((k : ℕ) → b.sent k ≡ a.sent k) → ((k : ℕ) → b.choked k ≡ a.choked k)
-    → length (events_of a.taken h) ≡ 1 → (x.core.quits ≡ false → run (state_of x.core) (events_of a.taken h) ≡ no_step (state_of x.core)) → CoreTakes (moment x a) (moment (record x { ran = n }) b) x.ran n [] (h ∷ [])
-missed-by x n a b h true e count taken sent choked one none =
+    → length (events_of a.taken h) ≡ 1 → GivesNothing (h ∷ []) → (x.core.quits ≡ false → (told : Told) → run (state_of x.core told) (events_of a.taken h) ≡ no_step (state_of x.core told)) → CoreTakes (moment x a) (moment (record x { ran = n }) b) x.ran n [] (h ∷ [])
+missed-by x n a b h true e count taken sent choked one gives none =
     let same : n ≡ x.ran = rw e at count in
     record {
       events = [];
       reaches = rw same (ReachesEvents-over x.core.quits x.core.quits x.ran (events_from a.taken (h ∷ [])) e);
       rises = omega arith;
-      advances = λ still below. MomentAdvances-same (moment x a) (moment (record x { ran = n }) b) refl refl refl sent choked (h ∷ []) taken [] refl;
+      advances = λ still below told were. MomentAdvances-same told (moment x a) (moment (record x { ran = n }) b) refl refl sent choked (h ∷ []) taken [] refl were tt;
+      silent = λ over. gives;
+      last = λ still below told were going over. absurd (false≢true (sym going ∙ over));
     }
-missed-by x n a b h false e count taken sent choked one none =
+missed-by x n a b h false e count taken sent choked one gives none =
     let more : n ≡ min (x.ran + 1) (2 ^ 64 - 1) = rw e at count in
     record {
       events = events_of a.taken h;
       reaches = rw (append-nil (events_of a.taken h)) (ReachesEvents-all x.core.quits x.core.quits x.ran n (events_of a.taken h) e (λ fits. omega arith));
       rises = omega arith;
-      advances = λ still below. MomentAdvances-same (moment x a) (moment (record x { ran = n }) b) refl refl refl sent choked (h ∷ []) taken (events_of a.taken h) (none e);
+      advances = λ still below told were. MomentAdvances-same told (moment x a) (moment (record x { ran = n }) b) refl refl sent choked (h ∷ []) taken (events_of a.taken h) (none e told) were (EndsAtQuit-one (state_of x.core told) (events_of a.taken h) one);
+      silent = λ over. gives;
+      last = λ still below told were going over. absurd (false≢true (sym going ∙ over));
     }
 
 -- an event that changes nothing
-pub LoopStep-missed : (x : Headless) (n : ℕ) (a b : Seen) (h : Happening) → is_wake h ≡ 0 → Call a b (h ∷ []) → (IsTrue b.tells → (k : ℕ) → b.sent k ≡ a.sent k) → (IsTrue b.tells → (k : ℕ) → b.choked k ≡ a.choked k) → SameSets a b
+pub LoopStep-missed : (x : Headless) (n : ℕ) (a b : Seen) (h : Happening) → is_wake h ≡ 0 → GivesNothing (h ∷ []) → Call a b (h ∷ []) → (IsTrue b.tells → (k : ℕ) → b.sent k ≡ a.sent k) → (IsTrue b.tells → (k : ℕ) → b.choked k ≡ a.choked k) → SameSets a b
     → ((k : ℕ) → bytes_on k h ≡ []) → IsTimeless h → ((taken : List Happening) → length (events_of taken h) ≡ 1) → n ≡ reached_after_miss x.core.quits x.ran
-    → (AgreesWithSockets x a → x.core.quits ≡ false → (taken : List Happening) → run (state_of x.core) (events_of taken h) ≡ no_step (state_of x.core))
+    → (AgreesWithSockets x a → x.core.quits ≡ false → (taken : List Happening) (told : Told) → run (state_of x.core told) (events_of taken h) ≡ no_step (state_of x.core told))
     → LoopStep true 0 (is_listen_fault h) x (record x { ran = n }) a b
-LoopStep-missed x n a b h wake call sent choked same quiet timeless one count none =
+LoopStep-missed x n a b h wake gives call sent choked same quiet timeless one count none =
     LoopStep-step true 0 (is_listen_fault h) x (record x { ran = n }) a b (h ∷ []) [] call (λ below. omega arith) (omega arith) (omega arith)
     (λ t s. sym (append-nil _)) (λ s. All-nil _) (λ over. over)
     (among-same x.links.opened.items x.core.connections x.used x.listening a b same)
     (λ t s on. (let more : n ≡ min (x.ran + 1) (2 ^ 64 - 1) = rw on at count in let o = one a.taken in For-quiet x.clock x.links.opened.items x.used x.ran n a.taken h quiet timeless (omega arith) (s.told (call.told t) on)))
-    (λ t s. missed-by x n a b h x.core.quits refl count (call.taken t) (sent t) (choked t) (one a.taken) (λ on. none s on a.taken))
+    (λ t s. missed-by x n a b h x.core.quits refl count (call.taken t) (sent t) (choked t) (one a.taken) gives (λ on. none s on a.taken))
 
 left-client : (k : ℕ) (connections : List Connection) (o : Option Connection) → at_key connection_link k connections ≡ o → Distinct (map connection_link connections) → IsSome (leaving_in o) → at_key client_link k (clients_of connections) ≡ None
 left-client k connections None e d h = absurd (false≢true h)
@@ -86,8 +91,8 @@ left-client k connections (Some connection) e d h = client-leaving k connections
     closed-connection (Some cause) q = refl
 
 -- the failure of a link whose client is leaving changes nothing
-pub failed-left : (core : CoreView) (link : LinkId) (taken : List Happening) → Distinct (links_of core) → IsSome (leaving_on link.0 core.connections) → run (state_of core) (events_of taken (Failed link)) ≡ no_step (state_of core)
-failed-left core link taken d h = rw (left-client link.0 core.connections (at_key connection_link link.0 core.connections) refl d h) refl
+pub failed-left : (core : CoreView) (link : LinkId) (taken : List Happening) → Distinct (links_of core) → IsSome (leaving_on link.0 core.connections) → (told : Told) → run (state_of core told) (events_of taken (Failed link)) ≡ no_step (state_of core told)
+failed-left core link taken d h told = rw (left-client link.0 core.connections (at_key connection_link link.0 core.connections) refl d h) refl
 
 -- only the links change
 pub record OnlyLinks (x y : Headless) : Type 0 where
@@ -117,7 +122,7 @@ LoopStep-flags x y a b only call sent choked used there listening links flags ta
       unknown = λ k below. none_of _ (links k ∙ ap is_some (s.unknown k below));
     }))
     (λ t s. rw (only.clock, only.used, only.ran) (For-states x.clock x.links.opened.items y.links.opened.items x.used x.ran a.taken tails s))
-    (λ t s. MomentAdvances-same (moment x a) (moment y b) (ap (λ c. c.connections) only.core) (ap (λ c. c.quits) only.core) only.used (sent t) (choked t) [] (call.taken t) [] (ap (λ c. no_step (state_of c)) (sym only.core)))
+    (λ t s told were. MomentAdvances-same told (moment x a) (moment y b) only.core only.used (sent t) (choked t) [] (call.taken t) [] refl were tt)
 
 marked_some : (j k : ℕ) (u : Bool) (states : List LinkState) (o : Option LinkState) → at_key link_number j states ≡ o → is_some (at_key link_number k (marked_at j u states o)) ≡ is_some (at_key link_number k states)
 marked_some j k u states None e = refl

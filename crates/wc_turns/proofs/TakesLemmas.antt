@@ -1,5 +1,5 @@
 -- One happening is taken.
-use Rattle.std.proofs.Common.{◌≡◌, ◌≢◌, ℕ, ◌+◌, ◌-◌, ◌^◌, min, Bool, true, false, eqb, IsTrue, List, [], ◌∷◌, ◌++◌, length, map, All, Option, Some, None, is_some, get_or, set, refl, sym, ap, ◌∙◌, subst, arith}
+use Rattle.std.proofs.Common.{◌≡◌, ◌≢◌, ℕ, ◌+◌, ◌-◌, ◌^◌, ◌<◌, ◌||◌, min, Bool, true, false, eqb, IsTrue, List, [], ◌∷◌, ◌++◌, length, map, All, Option, Some, None, is_some, get_or, set, refl, sym, ap, ◌∙◌, subst, arith}
 use Rattle.std.proofs.lemmas.Bool.{false≢true}
 use Rattle.std.proofs.lemmas.Bool.Decides.{nat_tests}
 use Rattle.std.proofs.lemmas.List.{append-nil}
@@ -14,9 +14,9 @@ use Rattle.wc_outside.specs.Keyed.{at_key, put_at, IsKeyPlace}
 use Rattle.wc_core.specs.declared.connection.Connection.{Connection}
 use Rattle.wc_core.specs.Events.{Event}
 use Rattle.wc_core.specs.CoreView.{CoreView}
-use Rattle.wc_core.specs.State.{Act}
+use Rattle.wc_core.specs.State.{State, Act}
 use Rattle.wc_core.specs.Step.{run, step}
-use Rattle.wc_core.specs.Served.{connection_link, links_of, state_of, leaving_on, left_at, close_of, or_else, Distinct, FollowsUnlessStarved}
+use Rattle.wc_core.specs.Served.{connection_link, links_of, state_of, leaving_on, left_at, close_of, or_else, has_end, Distinct, Does}
 use Rattle.wc_turns.specs.declared.links.LinkState.{LinkState}
 use Rattle.wc_turns.specs.declared.headless.Headless.{Headless}
 use Rattle.wc_turns.specs.Lines.{rest}
@@ -75,7 +75,7 @@ TakesHappening-read x y link place old new bytes p at key flag turns used listen
 -- the link of a client is lost
 pub TakesHappening-lost : (x y : Headless) (h : Happening) (event : Event) → x.core.quits ≡ false → ((k : ℕ) → bytes_on k h ≡ []) → IsTimeless h → ((taken : List Happening) → events_of taken h ≡ event ∷ [])
     → y.turns ≡ x.turns → y.used ≡ x.used → y.listening ≡ x.listening → y.clock ≡ x.clock → y.links ≡ x.links → y.ran ≡ min (x.ran + 1) (2 ^ 64 - 1)
-    → FollowsUnlessStarved x.core y.core (step (state_of x.core) event) → TakesHappening x y h
+    → Does x.core y.core (λ state. step state event) → TakesHappening x y h
 TakesHappening-lost x y h event going quiet timeless events turns used listening clock links ran does = record {
   turns = turns;
   closed = ap (λ l. l.closed.items) links;
@@ -83,7 +83,7 @@ TakesHappening-lost x y h event going quiet timeless events turns used listening
   listening = listening;
   links = λ k. rw links refl;
   undrained = λ k. rw links refl;
-  clients = does.keeps.links;
+  clients = (does x.core.world.nicks).keeps.links;
   told = λ taken unknown on s. rw (links, clock, used) (For-quiet x.clock x.links.opened.items x.used x.ran y.ran taken h quiet timeless (let e = ap length (events taken) in omega arith) s);
   takes = λ taken s. rw (events taken) (record { events = event ∷ []; reaches = ReachesEvents-all x.core.quits y.core.quits x.ran y.ran (event ∷ []) going (λ fits. omega arith); takes = MayRun-one x.core y.core event does });
 }
@@ -109,6 +109,13 @@ among-takes states states' connections connections' used used' listening listeni
   unknown = λ k below. none_of _ (links k ∙ ap is_some (s.unknown k (rw u at below)));
 }
 
+some-events : (state : State) (events : List Event) → has_end (run state events).acts ≡ true → 0 < length events
+some-events state [] e = absurd (false≢true e)
+some-events state (event ∷ events) e = omega arith
+
+end-by : (before after end : Bool) → before ≡ false → after ≡ (before || end) → after ≡ true → end ≡ true
+end-by before after end going e over = sym (ap (λ b. b || end) going) ∙ sym e ∙ over
+
 -- the sockets gave a happening of a link, and its client may begin to leave, and others for want of memory
 pub LoopStep-takes : (x y : Headless) (link : LinkId) (a b : Seen) (h : Happening) → is_wake h ≡ 0 → Call a b (h ∷ []) → (IsTrue b.tells → (k : ℕ) → b.sent k ≡ a.sent k) → (IsTrue b.tells → (k : ℕ) → b.choked k ≡ a.choked k)
     → b.used ≡ a.used → ((k : ℕ) → b.there k ≡ a.there k) → ((k : ℕ) → b.undrained k ≡ a.undrained k) → b.listening ≡ a.listening → NobodyLeaving x.core.connections → x.core.quits ≡ false → TakesHappening x y h
@@ -127,10 +134,14 @@ LoopStep-takes x y link a b h wake call sent choked used there undrained listeni
       events = m.events;
       reaches = rw (append-nil (events_of a.taken h)) m.reaches;
       rises = m.takes.keeps.rises;
-      advances = λ same below.
-          let did = m.takes.does same below s.among.once in
-          MomentAdvances-takes (moment x a) (moment y b) (leaving_closes y.core.connections) m.events did takes.clients takes.used (sent t) (choked t) (h ∷ []) (call.taken t)
-          (closes-left link x.core y.core (run (state_of x.core) m.events).acts (run-one link.0 (state_of x.core) m.events one) calm (subst Distinct (sym takes.clients) s.among.once) did.leaving);
+      advances = λ same below rows were.
+          let did = m.takes.does same below s.among.once rows were in
+          MomentAdvances-takes rows (moment x a) (moment y b) (leaving_closes y.core.connections) m.events did takes.clients takes.used (sent t) (choked t) (h ∷ []) (call.taken t)
+          (closes-left link x.core y.core (run (state_of x.core rows) m.events).acts (run-one link.0 (state_of x.core rows) m.events one) calm (subst Distinct (sym takes.clients) s.among.once) did.leaving) (m.takes.stops same below s.among.once rows were);
+      silent = λ over. absurd (false≢true (sym going ∙ over));
+      last = λ same below rows were on over.
+          let did = m.takes.does same below s.among.once rows were in
+          record { front = []; happening = h; back = []; same = refl; within = some-events (state_of x.core rows) m.events (end-by x.core.quits y.core.quits _ going did.quits over); silent = refl };
     })
 
 -- ---- causes

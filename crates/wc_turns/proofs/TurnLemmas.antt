@@ -1,23 +1,26 @@
 -- How a loop goes on.
-use Rattle.std.proofs.Common.{◌≡◌, ℕ, ◌+◌, ◌^◌, ◌<◌, ◌≤◌, Bool, true, false, ◌||◌, IsTrue, List, [], ◌∷◌, ◌++◌, All, Result, Ok, Err, OnErr, is_ok, refl, sym, ap, ◌∙◌, subst, arith, append_assoc}
+use Rattle.std.proofs.Common.{◌≡◌, ℕ, ◌+◌, ◌^◌, ◌<◌, ◌≤◌, Bool, true, false, ◌||◌, IsTrue, List, [], ◌∷◌, ◌++◌, length, All, Result, Ok, Err, OnErr, is_ok, refl, sym, ap, ◌∙◌, subst, arith, append_assoc}
 use Rattle.std.proofs.lemmas.Bool.{false≢true}
-use Rattle.std.proofs.lemmas.List.{append-nil}
+use Rattle.std.proofs.lemmas.List.{append-nil, length-append}
+use Rattle.std.proofs.lemmas.List.Folds.{list_any-append}
 use Rattle.std.proofs.lemmas.List.Elements.{All-nil, All-append}
 use Rattle.wc_outside.specs.Seen.{Seen}
 use Rattle.wc_outside.specs.Faults.{Faults, NeverFall, Rose}
 use Rattle.wc_outside.specs.declared.happening.Happening.{Happening}
 use Rattle.wc_outside.specs.declared.happening.Failed.{Failed as Fault}
 use Rattle.wc_core.specs.Events.{Event}
+use Rattle.wc_core.specs.State.{State}
 use Rattle.wc_core.specs.Step.{run}
-use Rattle.wc_core.specs.Served.{state_of, sent_to, has_end}
+use Rattle.wc_core.specs.Served.{state_of, WereTold, Means, sent_to, has_end}
+use Rattle.wc_core.specs.Told.{Told}
 use Rattle.wc_core.proofs.DidLemmas.{sent_to-append, has_end-append}
 use Rattle.wc_turns.specs.declared.links.Closed.{Closed}
 use Rattle.wc_turns.specs.declared.headless.Headless.{Headless}
 use Rattle.wc_turns.specs.Events.{events_from}
-use Rattle.wc_turns.specs.Run.{closings}
+use Rattle.wc_turns.specs.Run.{closings, EndsAtQuit}
 use Rattle.wc_turns.specs.Served.{leaving_closes, NobodyLeaving, ReachesEvents}
-use Rattle.wc_turns.specs.Turns.{AgreesWithHappenings, AgreesOnLinks, AgreesWithSockets, Moment, moment, point, MomentAdvances, CoreTakes, IsCaused, wake_count, listen_faults, faults_of, closed_so_far, LoopStep, ClosesExactly}
-use Rattle.wc_turns.proofs.RunLemmas.{run-append-state, run-append-acts, closings-append, events_from-append, ReachesEvents-trans, ReachesEvents-none}
+use Rattle.wc_turns.specs.Turns.{AgreesWithHappenings, AgreesOnLinks, AgreesWithSockets, Moment, moment, point, MomentAdvances, gives, GivesNothing, QuitsWithin, CoreTakes, IsCaused, wake_count, listen_faults, faults_of, closed_so_far, LoopStep, ClosesExactly}
+use Rattle.wc_turns.proofs.RunLemmas.{run-append-state, run-append-acts, closings-append, events_from-append, ReachesEvents-trans, ReachesEvents-none, EndsAtQuit-append}
 use Rattle.wc_turns.proofs.HandsLemmas.{Delivers-trans}
 use Rattle.wc_turns.proofs.CauseLemmas.{caused-later, caused-following}
 
@@ -35,19 +38,58 @@ or-assoc : (a b c : Bool) → ((a || b) || c) ≡ (a || (b || c))
 or-assoc true b c = refl
 or-assoc false b c = refl
 
-MomentAdvances-trans : (a b c : Moment) (closed closed' : List Closed) (es fs : List Event) → MomentAdvances a b closed es → MomentAdvances b c closed' fs → MomentAdvances a c (closed ++ closed') (es ++ fs)
-MomentAdvances-trans a b c closed closed' es fs h g =
-    let first = (run (state_of a.core) es).acts in
-    let second = (run (run (state_of a.core) es).state fs).acts in
-    let acts = run-append-acts (state_of a.core) es fs in
-    let same : (run (state_of b.core) fs).acts ≡ second = ap (λ s. (run s fs).acts) h.state in
+or-end : (b c : Bool) → c ≡ true → (b || c) ≡ true
+or-end true c e = refl
+or-end false c e = e
+
+MomentAdvances-trans : (told : Told) (a b c : Moment) (closed closed' : List Closed) (es fs : List Event) → (b.core.quits ≡ true → fs ≡ []) → (h : MomentAdvances told a b closed es) → MomentAdvances (run (state_of a.core told) es).state.told b c closed' fs → MomentAdvances told a c (closed ++ closed') (es ++ fs)
+MomentAdvances-trans told a b c closed closed' es fs over h g =
+    let first = (run (state_of a.core told) es).acts in
+    let middle = (run (state_of a.core told) es).state in
+    let later = state_of b.core middle.told in
+    let second = (run middle fs).acts in
+    let acts = run-append-acts (state_of a.core told) es fs in
+    let same : (run later fs).acts ≡ second = ap (λ s. (run s fs).acts) (sym h.means.same) in
+    let P : State → Type 0 = λ state. Means c.core state in
     record {
-      state = g.state ∙ ap (λ s. (run s fs).state) h.state ∙ sym (run-append-state (state_of a.core) es fs);
+      means = subst P (ap (λ s. (run s fs).state) (sym h.means.same) ∙ sym (run-append-state (state_of a.core told) es fs)) g.means;
+      stops = EndsAtQuit-append (state_of a.core told) es fs h.stops (λ q. over (h.quits ∙ or-end a.core.quits (has_end first) q)) (subst (λ s. EndsAtQuit s fs) (sym h.means.same) g.stops);
       hands = λ k. rw (acts, sent_to-append k first second) (Delivers-trans (point k a) (point k b) (point k c) (sent_to k first) (sent_to k second) (h.hands k) (rw same at (g.hands k)));
       closes = rw acts (closings-append first second ∙ ap (λ cs. cs ++ closings second) h.closes ∙ ap (λ cs. closed ++ cs) (rw same at g.closes));
-      quits = g.quits ∙ ap (λ q. q || has_end (run (state_of b.core) fs).acts) h.quits ∙ or-assoc a.core.quits (has_end first) _
+      quits = g.quits ∙ ap (λ q. q || has_end (run later fs).acts) h.quits ∙ or-assoc a.core.quits (has_end first) _
           ∙ ap (λ acts'. a.core.quits || (has_end first || has_end acts')) same ∙ ap (λ q. a.core.quits || q) (sym (has_end-append first second)) ∙ ap (λ done. a.core.quits || has_end done) (sym acts);
     }
+
+gives-nothing : (xs ys : List Happening) → GivesNothing xs → GivesNothing ys → GivesNothing (xs ++ ys)
+gives-nothing xs ys p q = list_any-append gives xs ys ∙ rw p q
+
+-- more happenings come after the one that ran `/quit`
+QuitsWithin-then : (before more more' : List Happening) (es fs : List Event) → QuitsWithin before more es → GivesNothing more' → QuitsWithin before (more ++ more') (es ++ fs)
+QuitsWithin-then before more more' es fs q silent = record {
+  front = q.front;
+  happening = q.happening;
+  back = q.back ++ more';
+  same = ap (λ xs. xs ++ more') q.same ∙ append_assoc q.front (q.happening ∷ q.back) more';
+  within = (let p = q.within in let l = length-append es fs in omega arith);
+  silent = gives-nothing q.back more' q.silent silent;
+}
+
+-- happenings come before it, all of whose events are reached
+QuitsWithin-later : (before now more more' : List Happening) (es rest fs : List Event) → now ≡ before ++ more → events_from before more ≡ es ++ rest → rest ≡ [] → QuitsWithin now more' fs → QuitsWithin before (more ++ more') (es ++ fs)
+QuitsWithin-later before now more more' es rest fs grows front none q = record {
+  front = more ++ q.front;
+  happening = q.happening;
+  back = q.back;
+  same = ap (λ xs. more ++ xs) q.same ∙ sym (append_assoc more q.front (q.happening ∷ q.back));
+  within =
+      let all : events_from before more ≡ es = front ∙ ap (λ xs. es ++ xs) none ∙ append-nil es in
+      let parts : length (events_from before (more ++ q.front)) ≡ length es + length (events_from now q.front) =
+      ap length (events_from-append before more q.front) ∙ length-append (events_from before more) (events_from (before ++ more) q.front) ∙ ap (λ xs. length xs + length (events_from (before ++ more) q.front)) all ∙ ap (λ taken. length es + length (events_from taken q.front)) (sym grows) in
+      let p = q.within in
+      let l = length-append es fs in
+      omega arith;
+  silent = q.silent;
+}
 
 pub CoreTakes-trans : (a b c : Moment) (n m o : ℕ) (closed closed' : List Closed) (more more' : List Happening) → b.taken ≡ a.taken ++ more → (a.core.quits ≡ true → b.core.quits ≡ true) → (b.core.quits ≡ true → c.core.quits ≡ true)
     → CoreTakes a b n m closed more → CoreTakes b c m o closed' more' → CoreTakes a c n o (closed ++ closed') (more ++ more')
@@ -57,11 +99,25 @@ CoreTakes-trans a b c n m o closed closed' more more' grows first second h g = r
       (ReachesEvents-trans a.core.quits b.core.quits c.core.quits n m o (events_from a.taken more) (events_from (a.taken ++ more) more') h.events g.events first second h.reaches
       (subst (λ taken. ReachesEvents b.core.quits c.core.quits m o (events_from taken more') g.events) grows g.reaches));
   rises = (let p = h.rises in let q = g.rises in omega arith);
-  advances = λ same below.
+  advances = λ same below told were.
       let p = h.rises in
       let q = g.rises in
-      MomentAdvances-trans a b c closed closed' h.events g.events (h.advances (omega arith) below) (g.advances (omega arith) (omega arith));
-}
+      let before = h.advances (omega arith) below told were in
+      MomentAdvances-trans told a b c closed closed' h.events g.events g.reaches.nothing before (g.advances (omega arith) (omega arith) (run (state_of a.core told) h.events).state.told before.means.told);
+  silent = λ over. gives-nothing more more' (h.silent over) (g.silent (first over));
+  last = λ same below told were going over.
+      let p = h.rises in
+      let q = g.rises in
+      let half : b.core.starved ≡ a.core.starved = omega arith in
+      let rest : c.core.starved ≡ b.core.starved = omega arith in
+      let before = h.advances half below told were in
+      quits-by b.core.quits refl going
+      (λ quit. QuitsWithin-then a.taken more more' h.events g.events (h.last half below told were going quit) (g.silent quit))
+      (λ on. QuitsWithin-later a.taken b.taken more more' h.events h.reaches.rest g.events grows h.reaches.front (h.reaches.whole on) (g.last rest (omega arith) (run (state_of a.core told) h.events).state.told before.means.told on over));
+} where
+  quits-by : (t : Bool) → b.core.quits ≡ t → a.core.quits ≡ false → (b.core.quits ≡ true → QuitsWithin a.taken (more ++ more') (h.events ++ g.events)) → (b.core.quits ≡ false → QuitsWithin a.taken (more ++ more') (h.events ++ g.events)) → QuitsWithin a.taken (more ++ more') (h.events ++ g.events)
+  quits-by true e going p q = p e
+  quits-by false e going p q = q e
 
 pub wakes-append : (xs ys : List Happening) → wake_count (xs ++ ys) ≡ wake_count xs + wake_count ys
 wakes-append [] ys = omega arith
@@ -164,13 +220,13 @@ pub LoopStep-still : (x y : Headless) (a b : Seen) → Call a b [] → y.turns �
     → (AgreesWithSockets x a → closed_so_far y ≡ closed_so_far x)
     → (AgreesOnLinks x.links.opened.items x.core.connections x.used x.listening a → AgreesOnLinks y.links.opened.items y.core.connections y.used y.listening b)
     → (IsTrue b.tells → AgreesWithHappenings x.clock x.links.opened.items x.used x.ran a.taken → AgreesWithHappenings y.clock y.links.opened.items y.used y.ran a.taken)
-    → (IsTrue b.tells → AgreesWithSockets x a → MomentAdvances (moment x a) (moment y b) [] [])
+    → (IsTrue b.tells → AgreesWithSockets x a → (told : Told) → WereTold x.core told → MomentAdvances told (moment x a) (moment y b) [] [])
     → LoopStep true 0 0 x y a b
 LoopStep-still x y a b call turns starved quits ran closed among told advances =
     LoopStep-step true 0 0 x y a b [] [] call (λ below. omega arith) refl refl
     (λ t s. closed s ∙ sym (append-nil _)) (λ s. All-nil _) (λ over. quits ∙ over) among
     (λ t s on. rw (append-nil a.taken) (told t (s.told (call.told t) (sym quits ∙ on))))
-    (λ t s. record { events = []; reaches = rw ran (ReachesEvents-none x.core.quits y.core.quits x.ran); rises = omega arith; advances = λ same below. advances t s })
+    (λ t s. record { events = []; reaches = rw ran (ReachesEvents-none x.core.quits y.core.quits x.ran); rises = omega arith; advances = λ same below. advances t s; silent = λ over. refl; last = λ same below told were going over. absurd (false≢true (sym going ∙ sym quits ∙ over)) })
 
 pub Rose-following : {A : Type 0} (r : Result A Fault) (p q n : ℕ) → p ≤ q → OnErr r (Rose q n) → OnErr r (Rose p n)
 Rose-following (Ok v) p q n below h = tt
@@ -199,7 +255,7 @@ exactly-by x z w a b c s empty calm calm' h none q true t' =
       taken = λ t. q.taken t ∙ ap (λ ts. ts ++ q.gained) (h.taken (q.told t)) ∙ append_assoc a.taken h.gained q.gained;
       events = done.events;
       reaches = λ t. done.reaches;
-      closed = λ t same below. turn-closes x z w a b c s empty calm calm' h q ∙ ap (λ cs. cs ++ q.closed) (sym none) ∙ sym (done.advances same below).closes;
+      closed = λ t same below told were. turn-closes x z w a b c s empty calm calm' h q ∙ ap (λ cs. cs ++ q.closed) (sym none) ∙ sym (done.advances same below told were).closes;
     }
 exactly-by x z w a b c s empty calm calm' h none q false t' = record {
   gained = h.gained ++ q.gained;

@@ -6,8 +6,6 @@ use Rattle.std.proofs.lemmas.List.Elements.{All-nil}
 use Rattle.wc_outside.specs.Seen.{Seen}
 use Rattle.wc_outside.specs.declared.happening.Failed.{Failed as Fault}
 use Rattle.wc_outside.specs.declared.happening.Happening.TheVariants.{Woke}
-use Rattle.wc_core.specs.Step.{no_step}
-use Rattle.wc_core.specs.Served.{state_of}
 use Rattle.wc_turns.specs.declared.headless.Headless.{Headless}
 use Rattle.wc_turns.specs.declared.turn.TurnEnd.{TurnEnd}
 use Rattle.wc_turns.specs.declared.turn.TurnEnd.TheVariants.{GoOn, Quit}
@@ -52,7 +50,9 @@ LoopStep-unwoken x y a b core clock used listening turns ran opened call sent ch
       events = [];
       reaches = rw ran (ReachesEvents-none x.core.quits y.core.quits x.ran);
       rises = (let q = ap (λ c. c.starved) core in omega arith);
-      advances = λ fed below. MomentAdvances-same (moment x a) (moment y b) (ap (λ c. c.connections) core) (ap (λ c. c.quits) core) used (sent t) (choked t) [] (call.taken t) [] (ap (λ c. no_step (state_of c)) (sym core));
+      advances = λ fed below told' were. MomentAdvances-same told' (moment x a) (moment y b) core used (sent t) (choked t) [] (call.taken t) [] refl were tt;
+      silent = λ over. refl;
+      last = λ fed below told' were going over. absurd (false≢true (sym going ∙ sym (ap (λ c. c.quits) core) ∙ over));
     })
 
 closes-by : (x y : Headless) (a b : Seen) → AgreesWithSockets x a → WakesCore 0 x y a b → (t : Bool) → b.tells ≡ t → ClosesExactly x y a b
@@ -63,7 +63,7 @@ closes-by x y a b s w true told =
       taken = w.continues.taken;
       events = goes.events;
       reaches = λ t. goes.reaches;
-      closed = λ t fed below. w.closed ∙ sym w.none ∙ sym (goes.advances fed below).closes;
+      closed = λ t fed below told' were. w.closed ∙ sym w.none ∙ sym (goes.advances fed below told' were).closes;
     }
 closes-by x y a b s w false told = record {
   gained = w.continues.gained;

@@ -16,16 +16,22 @@ use Rattle.wc_turns.specs.declared.headless.Headless.{Headless}
 use Rattle.wc_outside.specs.Keyed.{at_key, put_at}
 use Rattle.wc_core.specs.Events.{Tick}
 use Rattle.wc_core.specs.CoreView.{CoreView}
-use Rattle.wc_core.specs.State.{Stepped}
-use Rattle.wc_core.specs.Step.{step, run, no_step, then_does}
-use Rattle.wc_core.specs.Served.{connection_link, state_of, Distinct}
-use Rattle.wc_turns.specs.Events.{is_tick, is_event, wake_events, events_of}
+use Rattle.wc_core.specs.State.{State}
+use Rattle.wc_core.specs.Step.{step, run, push_step}
+use Rattle.wc_core.specs.Told.{Told}
+use Rattle.wc_core.specs.Served.{connection_link, links_of, state_of, WereTold, unsent_on, leaving_on, Distinct, Follows, Does}
+use Rattle.wc_core.proofs.CloseLemmas.{pushes-closes}
+use Rattle.wc_core.proofs.DidLemmas.{or_else-none, Follows-stays}
+use Rattle.wc_turns.specs.Events.{is_tick, is_event, clock, wake_events, events_of}
 use Rattle.wc_turns.specs.Links.{link_number, is_undrained, marked_at}
 use Rattle.wc_turns.specs.Steps.{MarksLink, ReportsSources, BeginsTurn, after_wait}
 use Rattle.wc_turns.specs.Turns.{LoopStep, moment}
 use Rattle.wc_turns.proofs.KeyedLemmas.{or-false, none_of, at_key-key, at_key-put_same, at_key-put_other}
 use Rattle.wc_turns.proofs.RunLemmas.{ReachesEvents-all}
-use Rattle.wc_turns.proofs.PointLemmas.{MomentAdvances-same}
+use Rattle.wc_turns.proofs.PointLemmas.{MomentAdvances-takes}
+use Rattle.wc_turns.proofs.ServedLemmas.{Follows-acts}
+use Rattle.wc_turns.proofs.ClosingLemmas.{no-closes}
+use Rattle.wc_turns.specs.Run.{closings, EndsAtQuit}
 use Rattle.wc_turns.proofs.AgreesLemmas.{For-states, For-woke, SameTails-marked}
 use Rattle.wc_turns.proofs.StepLemmas.{links-marked}
 use Rattle.wc_turns.proofs.TurnLemmas.{Call, LoopStep-step}
@@ -163,19 +169,41 @@ woken-starved last moment core = starved-by (is_event last moment)
     starved-by false = refl
 
 -- the steps of a wait that returned, where a tick does no more than to set the moment
-pub wake-runs : (last : Option ℕ) (moment : ℕ) (core : CoreView) → ((m : ℕ) → step (state_of core) (Tick m) ≡ no_step (state_of (record core { moment = m }))) → run (state_of core) (wake_events last moment) ≡ no_step (state_of (after_wait last moment core))
-wake-runs None moment core idle = refl
-wake-runs (Some last) moment core idle = tick-runs (is_tick last moment)
+pub wake-runs : (last : Option ℕ) (moment : ℕ) (core : CoreView) (told : Told) → ((m : ℕ) → Does core (record core { moment = m }) (λ state. step state (Tick m))) → core.starved < 2 ^ 64 - 1 → Distinct (links_of core) → WereTold core told
+    → Follows core (after_wait last moment core) (run (state_of core told) (wake_events last moment))
+wake-runs None moment core told idle below distinct were =
+    record { means = record { same = refl; told = were }; bytes = λ k. sym (append-nil (unsent_on k core.connections)); leaving = λ k. sym (or_else-none (leaving_on k core.connections)); quits = sym (or-false core.quits) }
+wake-runs (Some last) moment core told idle below distinct were = tick-runs (is_tick last moment)
   where
-    tick-runs : (t : Bool) → run (state_of core) (cond t (Tick moment ∷ []) []) ≡ no_step (state_of (cond t (record core { moment = moment }) core))
-    tick-runs true = ap (λ (first : Stepped). then_does first (λ next. run next [])) (idle moment)
-    tick-runs false = refl
+    tick-runs : (t : Bool) → Follows core (cond t (record core { moment = moment }) core) (run (state_of core told) (cond t (Tick moment ∷ []) []))
+    tick-runs true =
+        let ticked = step (state_of core told) (Tick moment) in
+        Follows-acts core (record core { moment = moment }) ticked.state ticked.acts (ticked.acts ++ []) (sym (append-nil ticked.acts)) ((idle moment told).does refl below distinct were)
+    tick-runs false = Follows-stays told core were
+
+pub wake-closes : (last : Option ℕ) (moment : ℕ) (state : State) → closings (run state (wake_events last moment)).acts ≡ []
+wake-closes None moment state = refl
+wake-closes (Some last) moment state = tick-closes (is_tick last moment)
+  where
+    tick-closes : (t : Bool) → closings (run state (cond t (Tick moment ∷ []) [])).acts ≡ []
+    tick-closes true =
+        let next : State = record state { moment = moment } in
+        ap closings (append-nil (push_step next).acts) ∙ no-closes (push_step next).acts (λ k. pushes-closes k next)
+    tick-closes false = refl
+
+pub wake-stops : (last : Option ℕ) (moment : ℕ) (state : State) → EndsAtQuit state (wake_events last moment)
+wake-stops None moment state = (λ q. refl, tt)
+wake-stops (Some last) moment state = tick-stops (is_tick last moment)
+  where
+    tick-stops : (t : Bool) → EndsAtQuit state (cond t (Tick moment ∷ []) [])
+    tick-stops true = (λ q. refl, tt)
+    tick-stops false = tt
 
 -- a wait returned
 unfoldable pub LoopStep-woke : (x y z : Headless) (a b : Seen) (moment' : ℕ) (tokens : List Token) → Call a b (Woke moment' ∷ []) → (IsTrue b.tells → (k : ℕ) → b.sent k ≡ a.sent k) → (IsTrue b.tells → (k : ℕ) → b.choked k ≡ a.choked k)
     → b.used ≡ a.used → ((k : ℕ) → b.there k ≡ a.there k) → ((k : ℕ) → b.undrained k ≡ (a.undrained k || list_any (is_link k) tokens)) → b.listening ≡ (a.listening || list_any is_listener tokens) → All (IsThere a.there) tokens
-    → x.core.quits ≡ false → BeginsTurn x y moment' → run (state_of x.core) (wake_events x.clock moment') ≡ no_step (state_of y.core) → ReportsSources y z tokens → LoopStep false 1 0 x z a b
-LoopStep-woke x y z a b m tokens call sent choked used there undrained listening tokens_there going begins runs reports =
+    → x.core.quits ≡ false → BeginsTurn x y moment' → ((m : ℕ) → Does x.core (record x.core { moment = m }) (λ state. step state (Tick m))) → ReportsSources y z tokens → LoopStep false 1 0 x z a b
+LoopStep-woke x y z a b m tokens call sent choked used there undrained listening tokens_there going begins idle reports =
     let core : z.core ≡ after_wait x.clock m x.core = reports.core ∙ begins.core in
     let connections : z.core.connections ≡ x.core.connections = ap (λ c. c.connections) core ∙ woken-connections x.clock m x.core in
     let quits : z.core.quits ≡ x.core.quits = ap (λ c. c.quits) core ∙ woken-quits x.clock m x.core in
@@ -205,7 +233,13 @@ LoopStep-woke x y z a b m tokens call sent choked used there undrained listening
       events = events_of a.taken (Woke m);
       reaches = rw (append-nil (events_of a.taken (Woke m))) (ReachesEvents-all x.core.quits z.core.quits x.ran z.ran (events_of a.taken (Woke m)) going (λ fits. count));
       rises = omega arith;
-      advances = λ same below.
-          MomentAdvances-same (moment x a) (moment z b) connections quits (reports.used ∙ begins.used) (sent t) (choked t) (Woke m ∷ []) (call.taken t) (events_of a.taken (Woke m))
-          (ap (λ c. run (state_of x.core) (wake_events c m)) (sym told.clock) ∙ runs ∙ ap (λ c. no_step (state_of c)) (sym reports.core));
+      advances = λ same below rows were.
+          let P : CoreView → Type 0 = λ core. Follows x.core core (run (state_of x.core rows) (wake_events x.clock m)) in
+          let Q : Option ℕ → Type 0 = λ c. Follows x.core z.core (run (state_of x.core rows) (wake_events c m)) in
+          let R : Option ℕ → Type 0 = λ c. closings (run (state_of x.core rows) (wake_events c m)).acts ≡ [] in
+          let runs = subst P (sym core) (wake-runs x.clock m x.core rows idle below s.among.once were) in
+          MomentAdvances-takes rows (moment x a) (moment z b) [] (events_of a.taken (Woke m)) (subst Q told.clock runs) (ap (map connection_link) connections) (reports.used ∙ begins.used) (sent t) (choked t) (Woke m ∷ []) (call.taken t)
+          (subst R told.clock (wake-closes x.clock m (state_of x.core rows))) (wake-stops (clock a.taken) m (state_of x.core rows));
+      silent = λ over. refl;
+      last = λ same below rows were on over. absurd (false≢true (sym going ∙ sym quits ∙ over));
     })

@@ -1,7 +1,10 @@
--- What the acts of the core close.
-use Rattle.std.specs.Prelude.{List, [], ◌∷◌}
+-- What a run closes, and where it ends.
+use Rattle.std.specs.Prelude.{◌≡◌, true, List, [], ◌∷◌, if◌then◌else◌}
 use Rattle.std.specs.List.{flat_map}
-use Rattle.wc_core.specs.State.{Act, Sends, Closes, Quits}
+use Rattle.wc_core.specs.Events.{Event}
+use Rattle.wc_core.specs.Served.{has_end}
+use Rattle.wc_core.specs.State.{State, Act, Sends, Closes, Quits}
+use Rattle.wc_core.specs.Step.{step}
 use Rattle.wc_turns.specs.declared.links.Closed.{Closed}
 
 -- the links that acts close, in order, each with its cause
@@ -12,3 +15,15 @@ act_closes Quits = []
 
 abbrev pub closings : List Act → List Closed
 closings acts = flat_map act_closes acts
+
+-- after an event that runs `/quit` there is none
+abbrev pub EndsAtQuit : State → List Event → Type 0
+EndsAtQuit state [] = Unit {0}
+EndsAtQuit state (event ∷ events) = (has_end (step state event).acts ≡ true → events ≡ [])
+    × EndsAtQuit (step state event).state events
+
+-- the events up to the first one that runs `/quit`
+abbrev pub up_to_quit : State → List Event → List Event
+up_to_quit state [] = []
+up_to_quit state (event ∷ events) = event ∷ (if has_end (step state event).acts then []
+    else up_to_quit (step state event).state events)

@@ -9,8 +9,11 @@ use Rattle.wc_core.specs.declared.connection.Connection.{Connection}
 use Rattle.wc_core.specs.Events.{Event}
 use Rattle.wc_core.specs.CoreView.{CoreView}
 use Rattle.wc_core.specs.Step.{run}
-use Rattle.wc_core.specs.Served.{links_of, leaving_on, state_of, Distinct, KeepsClients, Follows}
+use Rattle.wc_core.specs.Served.{links_of, leaving_on, state_of, WereTold, Distinct, KeepsClients}
+use Rattle.wc_core.specs.Served.{Follows}
+use Rattle.wc_core.specs.Told.{Told}
 use Rattle.wc_turns.specs.declared.links.Closed.{Closed}
+use Rattle.wc_turns.specs.Run.{EndsAtQuit}
 
 -- the close that a client asks for, if it is leaving
 abbrev pub closed_by : LinkId → Option Cause → List Closed
@@ -41,7 +44,10 @@ pub record ReachesEvents (quits quits' : Bool) (ran ran' : ℕ) (all events : Li
 pub record MayRun (old new : CoreView) (events : List Event) : Type 0 where
   pub keeps : KeepsClients old new
   pub does : new.starved ≡ old.starved → old.starved < 2 ^ 64 - 1 → Distinct (links_of old) →
-      Follows old new (run (state_of old) events)
+      (told : Told) → WereTold old told → Follows old new (run (state_of old told) events)
+  -- none of them comes after one that runs `/quit`
+  pub stops : new.starved ≡ old.starved → old.starved < 2 ^ 64 - 1 → Distinct (links_of old) →
+      (told : Told) → WereTold old told → EndsAtQuit (state_of old told) events
 
 -- the core takes those of the events that are reached, unless some growth was refused
 pub record MayTake (old new : CoreView) (ran ran' : ℕ) (all : List Event) : Type 0 where

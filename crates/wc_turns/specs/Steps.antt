@@ -9,8 +9,9 @@ use Rattle.wc_text.specs.declared.names.Cause.TheVariants.{NoMemory, Surplus}
 use Rattle.wc_core.specs.Events.{Arrives}
 use Rattle.wc_core.specs.CoreView.{CoreView}
 use Rattle.wc_core.specs.Step.{step}
-use Rattle.wc_core.specs.Served.{state_of, links_of, new_connection, refusal, Absent}
+use Rattle.wc_core.specs.Served.{state_of, WereTold, links_of, new_connection, refusal, Absent}
 use Rattle.wc_core.specs.Served.{AdmitsUnlessStarved}
+use Rattle.wc_core.specs.Told.{Told}
 use Rattle.wc_turns.specs.Contained.{HasStarved}
 use Rattle.wc_turns.specs.Served.{closed_by, NobodyLeaving}
 use Rattle.wc_outside.specs.Happenings.{is_link, is_listener}
@@ -47,8 +48,9 @@ pub record TakesArrival (x y : Headless) (link : LinkId) (nonce : List ℕ) : Ty
     connections = x.core.connections
         ++ new_connection x.core.options link nonce ∷ [];
   }
-  pub step : Absent link.0 (links_of x.core) → AdmitsUnlessStarved link.0 x.core y.core None
-      (step (state_of x.core) (Arrives link.0 nonce))
+  pub step : Absent link.0 (links_of x.core) → (told : Told) →
+      AdmitsUnlessStarved told link.0 x.core y.core None
+      (step (state_of x.core told) (Arrives link.0 nonce))
 
 abbrev pub IsRefusal : Cause → Type 0
 IsRefusal cause = (cause ≡ Surplus) ⊎ (cause ≡ NoMemory)
@@ -67,8 +69,9 @@ pub record RefusesArrival (x y : Headless) (link : LinkId) (nonce : List ℕ) : 
   pub starves : cause ≡ None → HasStarved x.core.starved y.core.starved
   pub step : y.core.starved ≡ x.core.starved → x.core.starved < 2 ^ 64 - 1 →
       Absent link.0 (links_of x.core)
-      → step (state_of x.core) (Arrives link.0 nonce) ≡ record {
-        state = state_of x.core;
+      → (told : Told) → WereTold x.core told → step (state_of x.core told) (Arrives link.0 nonce)
+      ≡ record {
+        state = state_of x.core told;
         acts = refusal link.0 cause;
       }
 

@@ -18,7 +18,9 @@ use Rattle.wc_core.specs.declared.connection.Connection.{Connection}
 use Rattle.wc_core.specs.Events.{Event}
 use Rattle.wc_core.specs.CoreView.{CoreView}
 use Rattle.wc_core.specs.Step.{run}
-use Rattle.wc_core.specs.Served.{connection_link, state_of, unsent_on, sent_to, has_end, Distinct}
+use Rattle.wc_core.specs.Served.{connection_link, state_of, WereTold, Means, unsent_on, sent_to}
+use Rattle.wc_core.specs.Served.{has_end, Distinct}
+use Rattle.wc_core.specs.Told.{Told}
 use Rattle.wc_turns.specs.declared.links.LinkState.{LinkState}
 use Rattle.wc_turns.specs.declared.links.Closed.{Closed}
 use Rattle.wc_turns.specs.declared.headless.Headless.{Headless}
@@ -28,7 +30,7 @@ use Rattle.wc_outside.specs.Keyed.{at_key}
 use Rattle.wc_turns.specs.Events.{bytes_on, tail_on, clock, events_of, events_from, whole}
 use Rattle.wc_turns.specs.Hands.{Point, Delivers}
 use Rattle.wc_turns.specs.Links.{link_number, is_undrained}
-use Rattle.wc_turns.specs.Run.{closings}
+use Rattle.wc_turns.specs.Run.{closings, EndsAtQuit}
 use Rattle.wc_turns.specs.Served.{leaving_closes, ReachesEvents, MayTake}
 use Rattle.wc_turns.specs.Tails.{IsTail}
 
@@ -104,24 +106,52 @@ point link m = record {
   spoiled = m.choked link || has_failed link m.taken;
 }
 
--- from one moment to another the core takes these events, what it owes is handed to each link, and
--- it closes these links
-pub record MomentAdvances (a b : Moment) (closed : List Closed) (events : List Event) : Type 0 where
-  pub state : state_of b.core ≡ (run (state_of a.core) events).state
+-- From one moment to another the core, where these rows were told before, takes these events, of
+-- which none comes after `/quit`, what it owes is handed to each link, and it closes these links.
+pub record MomentAdvances (told : Told) (a b : Moment) (closed : List Closed)
+    (events : List Event) : Type 0 where
+  pub means : Means b.core (run (state_of a.core told) events).state
+  pub stops : EndsAtQuit (state_of a.core told) events
   pub hands : (link : ℕ) → Delivers (point link a) (point link b)
-      (sent_to link (run (state_of a.core) events).acts)
-  pub closes : closings (run (state_of a.core) events).acts ≡ closed
-  pub quits : b.core.quits ≡ (a.core.quits || has_end (run (state_of a.core) events).acts)
+      (sent_to link (run (state_of a.core told) events).acts)
+  pub closes : closings (run (state_of a.core told) events).acts ≡ closed
+  pub quits : b.core.quits ≡ (a.core.quits || has_end (run (state_of a.core told) events).acts)
+
+-- whether a happening gives bytes or a client
+abbrev pub gives : Happening → Bool
+gives (Read link bytes) = true
+gives (Accepted link nonce) = true
+gives (Woke moment) = false
+gives (Ended link) = false
+gives (Failed link) = false
+gives ListenFailed = false
+
+abbrev pub GivesNothing : List Happening → Type 0
+GivesNothing happenings = list_any gives happenings ≡ false
+
+-- one of these happenings has the last of these events, and after it nothing is read and no client
+-- comes
+pub record QuitsWithin (before more : List Happening) (events : List Event) : Type 0 where
+  pub front : List Happening
+  pub happening : Happening
+  pub back : List Happening
+  pub same : more ≡ front ++ happening ∷ back
+  pub within : length (events_from before front) < length events
+  pub silent : GivesNothing back
 
 -- from one moment to another the core takes the events that more happenings add, as far as they are
--- reached, unless some growth was refused
+-- reached, unless some growth was refused; after the one that ran `/quit` nothing is read
 pub record CoreTakes (a b : Moment) (ran ran' : ℕ) (closed : List Closed) (more : List Happening) :
     Type 0 where
   pub events : List Event
   pub reaches : ReachesEvents a.core.quits b.core.quits ran ran' (events_from a.taken more) events
   pub rises : a.core.starved ≤ b.core.starved
-  pub advances : b.core.starved ≡ a.core.starved → a.core.starved < 2 ^ 64 - 1 →
-      MomentAdvances a b closed events
+  pub advances : b.core.starved ≡ a.core.starved → a.core.starved < 2 ^ 64 - 1 → (told : Told) →
+      WereTold a.core told → MomentAdvances told a b closed events
+  pub silent : a.core.quits ≡ true → GivesNothing more
+  pub last : b.core.starved ≡ a.core.starved → a.core.starved < 2 ^ 64 - 1 → (told : Told) →
+      WereTold a.core told → a.core.quits ≡ false → b.core.quits ≡ true →
+      QuitsWithin a.taken more events
 
 -- between two moments this happened
 pub record HasGained (before after : Seen) (happening : Happening) : Type 0 where
@@ -254,5 +284,5 @@ pub record ClosesExactly (old new : Headless) (before after : Seen) : Type 0 whe
   pub reaches : IsTrue after.tells → ReachesEvents old.core.quits new.core.quits old.ran new.ran
       (events_from before.taken gained) events
   pub closed : IsTrue after.tells → new.core.starved ≡ old.core.starved →
-      old.core.starved < 2 ^ 64 - 1
-      → new.links.closed.items ≡ closings (run (state_of old.core) events).acts
+      old.core.starved < 2 ^ 64 - 1 → (told : Told) → WereTold old.core told →
+      new.links.closed.items ≡ closings (run (state_of old.core told) events).acts

@@ -5,7 +5,7 @@ ghost use Rattle.wc_outside.specs.declared.happening.Happening.TheVariants.{Read
 ghost use Rattle.wc_outside.specs.Keyed.{at_key, IsKeyPlace};
 ghost use Rattle.wc_core.specs.Limits.{most_lines};
 ghost use Rattle.wc_core.specs.State.{first_state};
-ghost use Rattle.wc_core.specs.Served.{connection_link, state_of, links_of, left_at, unsent_at};
+ghost use Rattle.wc_core.specs.Served.{connection_link, Means, links_of, left_at, unsent_at};
 ghost use Rattle.wc_core.specs.Served.{is_open_at, Absent};
 ghost use Rattle.wc_turns.specs.Events.{is_tick};
 ghost use Rattle.wc_turns.specs.Links.{link_number};
@@ -51,8 +51,8 @@ impl Headless {
 
     /// The state before the first turn, where these are the options.
     pub fn new(alloc: Global, options: Options) -> Result<Headless, NoMemory>
-        ensures state { IfOk result (λ headless. state_of headless.core
-            ≡ first_state options (most_lines options)) }
+        ensures means { IfOk result (λ headless. Means headless.core
+            (first_state options (most_lines options))) }
         ensures core { IfOk result (λ headless. (headless.core.connections ≡ [])
             × (headless.core.starved ≡ 0) × (headless.core.quits ≡ false)) }
         ensures links { IfOk result (λ headless. (headless.links.opened.items ≡ [])

@@ -1,4 +1,4 @@
-use Rattle.std.proofs.Common.{rules, ◌≡◌, eqb, cond, [], ap, sym, ◌∙◌}
+use Rattle.std.proofs.Common.{refl, rules, ◌≡◌, eqb, cond, [], ap, sym, ◌∙◌}
 use Rattle.std.specs.List.{list_any}
 use Rattle.wc_buffers.specs.Kept.{handles}
 use Rattle.wc_nickdiff.specs.Held.{touches_of}
@@ -7,6 +7,9 @@ use Rattle.wc_world.proofs.NearLemmas.{order_handles}
 use Rattle.wc_core.proofs.pushes.forget_nicks.Goals as goal
 
 pub loop-group-init : goal.loop-group-init
-loop-group-init c = λ b.
+loop-group-init c =
     let all : c.into_iter-group-iterator.result ≡ handles c.args.world.now.groups = search rules in
-    ap (λ ns. cond (list_any (λ n. eqb n b.0) ns) [] (touches_of b c.args.pending.now)) (ap all_numbers all ∙ sym (order_handles c.args.world.now.groups))
+    record {
+      forgets = λ b. ap (λ ns. cond (list_any (λ n. eqb n b.0) ns) [] (touches_of b c.args.pending.now)) (ap all_numbers all ∙ sym (order_handles c.args.world.now.groups));
+      idle = λ none. refl;
+    }

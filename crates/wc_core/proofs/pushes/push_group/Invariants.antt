@@ -1,7 +1,8 @@
 use Rattle.std.proofs.Common.{◌≡◌, ℕ, true, List, map, drop}
 use Rattle.wc_nicklist.specs.declared.item.Row.{Row}
 use Rattle.wc_world.specs.Near.{numbers}
-use Rattle.wc_core.specs.Pushes.{NothingTouched, AreTold, AreThere, pushed_connection}
+use Rattle.wc_core.specs.Pushes.{AreThere, pushed_connection}
+use Rattle.wc_core.specs.Told.{NothingTouched, AreTold}
 use Rattle.wc_core.specs.Served.{ConnectionsKept}
 use Rattle.wc_core.proofs.pushes.push_group.Given as goal
 

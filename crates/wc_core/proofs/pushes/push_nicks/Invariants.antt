@@ -2,7 +2,8 @@ use Rattle.std.proofs.Common.{◌≡◌, ℕ, true, List, map}
 use Rattle.wc_nicklist.specs.declared.item.Row.{Row}
 use Rattle.wc_model.specs.Order.{order}
 use Rattle.wc_world.specs.Near.{all_numbers}
-use Rattle.wc_core.specs.Pushes.{NothingTouched, AreTold, pushed_connection}
+use Rattle.wc_core.specs.Pushes.{pushed_connection}
+use Rattle.wc_core.specs.Told.{NothingTouched, AreTold}
 use Rattle.wc_core.specs.Served.{ConnectionsKept}
 use Rattle.wc_core.proofs.PushConnections.{AllThere}
 use Rattle.wc_core.proofs.pushes.push_nicks.Given as goal

@@ -40,7 +40,7 @@ returns-clause-runs g c =
       served = λ q. AllServed-following c.take_turns-then.new.headless.core.connections (seen c.args.sockets.now) (seen c.listen.new.self) (seen c.take_turns-then.new.sockets) (record { told = listened.told; more = []; taken = listened.taken }) (later-of _ _ ran.continues) (ran.served q c.requires.above);
       sent = λ q. AllSent-following c.take_turns-then.new.headless.core.connections (seen c.args.sockets.now) (seen c.listen.new.self) (seen c.take_turns-then.new.sockets) (record { told = listened.told; more = []; taken = listened.taken }) (later-of _ _ ran.continues) listened.counts (ran.sent q);
       left = λ above. record {
-        headline = Headline-known _ c.in-Ok.made.headless _ _ _ c.in-Ok.ensures.known (λ t fed. HandsOut-run c.in-Ok.made.headless c.take_turns-then.new.headless (seen c.listen.new.self) (seen c.take_turns-then.new.sockets) ran.continues first fresh ran.calm t fed);
+        headline = Headline-known _ c.in-Ok.made.headless _ _ _ c.in-Ok.ensures.known (λ t fed rows were. HandsOut-run c.in-Ok.made.headless c.take_turns-then.new.headless (seen c.listen.new.self) (seen c.take_turns-then.new.sockets) ran.continues first fresh ran.calm t fed rows were);
         agrees = ran.agrees;
         calm = ran.calm;
         causes = caused-following (seen c.args.sockets.now) (seen c.listen.new.self) (seen c.take_turns-then.new.sockets) _ [] ran.continues.told listened.taken listened.counts ran.causes;

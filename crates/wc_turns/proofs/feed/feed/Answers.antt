@@ -10,19 +10,19 @@ loop-line-preserved c =
     let e = c.end_line.ensures in
     record {
       going = sym c.quits.ensures ∙ c.if-quits.false;
-      fed = Fed-line _ _ _ _ _ _ _ _ _ _ _ _ _ _ c.loop-line.invariant.fed c.in-Some.ensures.some c.in-Some.ensures.line e.begins (λ line h. record { takes = e.does line h; counts = e.ran line h }) e.causes;
+      fed = Fed-line _ _ _ _ _ _ _ _ _ _ _ _ _ _ c.loop-line.invariant.going c.loop-line.invariant.fed c.in-Some.ensures.some c.in-Some.ensures.line e.begins (λ line h. record { takes = e.does line h; counts = e.ran line h }) e.causes;
     }
 
 pub returns-then-quits-clause-takes : goal.returns-then-quits-clause-takes
 returns-then-quits-clause-takes c =
     let e = c.end_line.ensures in
     Fed-quit c.args.core.now c.end_line.new.core c.args.link.0 c.args.tail.now c.end_line.new.tail c.args.ran.now c.end_line.new.ran c.args.bytes.now c.in-Some.following.now c.requires.going (sym c.quits.ensures ∙ c.if-quits.true)
-    (Fed-line _ _ _ _ _ _ _ _ _ _ _ _ _ _ c.loop-line.invariant.fed c.in-Some.ensures.some c.in-Some.ensures.line e.begins (λ line h. record { takes = e.does line h; counts = e.ran line h }) e.causes)
+    (Fed-line _ _ _ _ _ _ _ _ _ _ _ _ _ _ c.loop-line.invariant.going c.loop-line.invariant.fed c.in-Some.ensures.some c.in-Some.ensures.line e.begins (λ line h. record { takes = e.does line h; counts = e.ran line h }) e.causes)
 
 pub returns-then-quits-clause-causes : goal.returns-then-quits-clause-causes
 returns-then-quits-clause-causes c =
     let e = c.end_line.ensures in
-    (Fed-line _ _ _ _ _ _ _ _ _ _ _ _ _ _ c.loop-line.invariant.fed c.in-Some.ensures.some c.in-Some.ensures.line e.begins (λ line h. record { takes = e.does line h; counts = e.ran line h }) e.causes).causes
+    (Fed-line _ _ _ _ _ _ _ _ _ _ _ _ _ _ c.loop-line.invariant.going c.loop-line.invariant.fed c.in-Some.ensures.some c.in-Some.ensures.line e.begins (λ line h. record { takes = e.does line h; counts = e.ran line h }) e.causes).causes
 
 pub returns-clause-tail : goal.returns-clause-tail
 returns-clause-tail c = λ going. Fed-tail _ _ _ _ _ _ _ _ _ _ c.loop-line.invariant.fed (c.in_default.ensures.none refl) c.extend.ensures

@@ -56,9 +56,9 @@ pub returns-in-Err-clause-continues : goal.returns-in-Err-clause-continues
 returns-in-Err-clause-continues g c =
     let e = c.in-Err.ensures in
     let seen = g.S.Sockets.seen in
-    rw c.link_missed.ensures (LoopStep-missed c.args.headless.now _ (seen c.args.sockets.now) (seen c.accept.new.self) ListenFailed refl (record { told = e.told; taken = e.taken; asked = e.asked; counts = e.counts })
+    rw c.link_missed.ensures (LoopStep-missed c.args.headless.now _ (seen c.args.sockets.now) (seen c.accept.new.self) ListenFailed refl refl (record { told = e.told; taken = e.taken; asked = e.asked; counts = e.counts })
     e.sent e.choked (record { used = e.used; there = λ k. e.there k ∙ or-false _; undrained = e.undrained; listening = e.listening ∙ and-not-false _ })
-    (λ k. refl) timeless-listen (λ taken. refl) refl (λ s on taken. refl))
+    (λ k. refl) timeless-listen (λ taken. refl) refl (λ s on taken told. refl))
 
 pub returns-in-Err-clause-arrived : goal.returns-in-Err-clause-arrived
 returns-in-Err-clause-arrived g c = λ t. arrived-none _ _ (c.in-Err.ensures.taken t)

@@ -45,7 +45,7 @@ pub returns-in-Err-clause-continues : goal.returns-in-Err-clause-continues
 returns-in-Err-clause-continues g c =
     let e = c.in-Err.ensures in
     let core = c.args.headless.now.core in
-    rw c.link_missed.ensures (LoopStep-missed c.args.headless.now _ (g.S.Sockets.seen c.args.sockets.now) (g.S.Sockets.seen c.write.new.self) (Failed c.args.link) refl (record { told = e.told; taken = e.taken; asked = e.asked; counts = e.counts })
+    rw c.link_missed.ensures (LoopStep-missed c.args.headless.now _ (g.S.Sockets.seen c.args.sockets.now) (g.S.Sockets.seen c.write.new.self) (Failed c.args.link) refl refl (record { told = e.told; taken = e.taken; asked = e.asked; counts = e.counts })
     (λ t k. e.sent t k ∙ nothing_sent _ _) e.choked (record { used = e.used; there = e.there; undrained = e.undrained; listening = e.listening })
     (λ k. refl) (timeless-failed c.args.link) (λ taken. refl) refl
     (λ s on taken. failed-left core c.args.link taken s.among.once (misses-going c.args.link.0 core c.requires.missed on s.among.once)))

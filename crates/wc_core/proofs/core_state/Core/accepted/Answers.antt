@@ -13,7 +13,7 @@ returns-then-is_full-clause-comes c =
     let test : c.is_full.result ≡ nat_le c.client_limit.result many = rw c.deref.ensures.value at c.is_full.ensures in
     let full : nat_le (client_limit c.self.inside.options) many ≡ true = ap (λ n. nat_le n many) (sym c.client_limit.ensures) ∙ sym test ∙ c.if-is_full.true in
     let enough : client_limit c.self.inside.options ≤ many = grind (arith, nat_tests, full) in
-    λ absent. rw (← c.self.view_is) (came-surplus _ c.args.arrival.link c.args.arrival.nonce enough)
+    λ absent told. rw (← c.self.view_is) (came-surplus told _ c.args.arrival.link c.args.arrival.nonce enough)
 
 pub returns-clause-comes : goal.returns-clause-comes
 returns-clause-comes c =
@@ -25,4 +25,4 @@ returns-clause-comes c =
     let f : Known → Connection = λ session. record { session = session; leaving = None } in
     let items : c.push.new.self.items ≡ connections ++ f (new_session c.self.inside.options c.args.arrival.link c.args.arrival.nonce) ∷ [] =
     c.push.ensures.items ∙ ap (λ b. cond b (connections ++ f c.in-Ok.session ∷ []) connections) c.if-is_err.ensures.negation ∙ ap (λ session. connections ++ f session ∷ []) c.in-Ok.ensures in
-    λ absent. rw (← c.self.view_is) (rw items (came _ c.args.arrival.link c.args.arrival.nonce few))
+    λ absent told. rw (← c.self.view_is) (rw items (came told _ c.args.arrival.link c.args.arrival.nonce few))

@@ -9,4 +9,6 @@ tell-requires c =
     c.groups-texts.ensures.held c.groups-texts_after.ensures.held
 
 pub returns-in-Ok-clause-made : goal.returns-in-Ok-clause-made
-returns-in-Ok-clause-made c = λ none. rw (← c.self.view_is) (changes-told _ _ c.tell.new.self c.args.change c.in-Ok.notice c.requires.plain refl c.in-Ok.ensures.outcome c.tell.ensures)
+returns-in-Ok-clause-made c = λ none. rw (← c.self.view_is)
+    (changes-told _ _ c.tell.new.self c.args.change c.in-Ok.notice c.requires.plain c.self.invariant.0 (c.change_world.ensures.none c.self.invariant.0) c.self.invariant.1 refl (c.change_world.ensures.still c.self.invariant.1)
+    c.in-Ok.ensures.outcome c.tell.ensures)

@@ -3,7 +3,7 @@ use Rattle.wc_outside.specs.Keyed.{at_key}
 use Rattle.wc_relaycmd.specs.Answers.{request_of}
 use Rattle.wc_core.specs.CoreView.{CoreView}
 use Rattle.wc_core.specs.Served.{connection_link}
-use Rattle.wc_core.proofs.DidLemmas.{FollowsUnlessStarved-stays}
+use Rattle.wc_core.proofs.DidLemmas.{Does-stays}
 use Rattle.wc_core.proofs.CoreLemmas.{connection-at, line-missing, line-leaving, line-asked, same_open, asked-at}
 use Rattle.wc_core.proofs.core_state.Core.relay_line.Goals as goal
 
@@ -34,4 +34,4 @@ returns-in-Ok-None c =
     let P : CoreView → Type 0 = λ o. at_key connection_link c.args.link.0 o.connections ≡ Some c.index-2.result.now in
     line-asked c.args.self.now c.args.self.now c.args.link.0 c.args.line.now c.index-2.result.now None (subst P c.self.view_is at) sits
     ((rw c.in-Ok-None.field-0-is at c.in-Ok-None.ensures.computed) ∙ ap (λ escaped. request_of escaped c.args.line.now) c.escaped.ensures)
-    (FollowsUnlessStarved-stays c.args.self.now)
+    (Does-stays c.args.self.now)

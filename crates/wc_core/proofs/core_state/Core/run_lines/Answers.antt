@@ -1,5 +1,9 @@
-use Rattle.std.proofs.Common.{sym, ◌∙◌, subst}
-use Rattle.wc_core.specs.TypedSeen.{LeftUtf8}
+use Rattle.std.proofs.Common.{ℕ, List, Option, sym, ◌∙◌, subst}
+use Rattle.std.specs.Borrow.{Bor}
+use Rattle.wc_core.specs.Step.{lines_step}
+use Rattle.wc_core.specs.Served.{Does}
+use Rattle.wc_core.specs.TypedSeen.{LeftUtf8, lines_left}
+use Rattle.wc_core.proofs.DidLemmas.{Does-stays}
 use Rattle.wc_core.proofs.TypedLemmas.{first_utf8, others_utf8}
 use Rattle.wc_core.proofs.ServeLemmas.{gone_left, quit_left, more_left}
 use Rattle.wc_core.proofs.core_state.Core.run_lines.Goals as goal
@@ -24,3 +28,8 @@ loop-left-preserved c = record {
       (more_left c.loop-left.self c.run_line.new.self final c.args.buffer c.loop-left.left c.in-Some.rest c.split_once.result.0.now c.split_once.result.1 c.in-Some.is c.split_once.ensures.front c.split_once.ensures.back
       (sym c.has_buffer.ensures ∙ c.if-not-has_buffer.false) (c.run_line.ensures.goes_on c.if-run_line.false) done);
 }
+
+pub returns : goal.returns
+returns c =
+    let P : Option (Bor (List ℕ)) → Type 0 = λ left. Does c.loop-left.self c.loop-left.self (λ state. lines_step state c.args.buffer (lines_left left)) in
+    c.loop-left.invariant.onward c.loop-left.self (subst P (sym c.in_default.is) (Does-stays c.loop-left.self))

@@ -12,7 +12,7 @@ returns-clause-starved c =
 pub returns-clause-rises : goal.returns-clause-rises
 returns-clause-rises c =
     let p = c.accepted-refused.ensures.rises in
-    let q = c.link_gone.ensures.does.keeps.rises in
+    let q = (c.link_gone.ensures.does c.accepted-refused.new.self.world.nicks).keeps.rises in
     let e = ap (λ s. s.starved) c.forget.ensures in
     omega arith
 

@@ -1,12 +1,10 @@
-use Rattle.std.proofs.Common.{refl, ap, sym, ◌∙◌, take, is_some}
+use Rattle.std.proofs.Common.{refl, ap, ◌∙◌, take, is_some}
 use Rattle.wc_outside.specs.Keyed.{at_key}
 use Rattle.wc_turns.specs.Links.{link_number}
 use Rattle.wc_turns.specs.Served.{leaving_closes}
 use Rattle.wc_turns.proofs.TurnLemmas.{LoopStep-step}
 use Rattle.wc_turns.proofs.WaitLemmas.{Nothing-woke, Nothing-none, LoopStep-unwoken}
-use Rattle.wc_core.specs.Step.{no_step}
-use Rattle.wc_core.specs.Served.{state_of}
-use Rattle.wc_turns.proofs.WakeLemmas.{wake-runs, LoopStep-woke, woken-connections, woken-quits, woken-starved}
+use Rattle.wc_turns.proofs.WakeLemmas.{LoopStep-woke, woken-connections, woken-quits, woken-starved}
 use Rattle.wc_turns.proofs.headless.Headless.wake.Goals as goal
 
 pub returns-in-Ok-clause-woken : goal.returns-in-Ok-clause-woken
@@ -18,7 +16,7 @@ returns-in-Ok-clause-woken g c =
     record {
       continues = LoopStep-woke c.args.self.now c.begin_turn.new.self c.report.new.self (seen c.args.sockets.now) (seen c.wait.new.self) c.in-Ok.moment (take c.wait.new.ready.count c.wait.new.ready.tokens)
           (record { told = e.told; taken = e.taken; asked = e.asked; counts = e.counts }) e.sent e.choked e.used e.there e.undrained e.listening e.tokens c.requires.going c.begin_turn.ensures.begins
-          (wake-runs c.args.self.now.clock c.in-Ok.moment c.args.self.now.core c.world-idle.ensures.idle ∙ ap (λ core. no_step (state_of core)) (sym c.begin_turn.ensures.begins.core)) c.report.ensures;
+          c.world-idle.ensures.idle c.report.ensures;
       none = refl;
       closed = c.report.ensures.closed ∙ c.begin_turn.ensures.closed;
       calm = ap (λ s. leaving_closes s.connections) core ∙ ap leaving_closes (woken-connections c.args.self.now.clock c.in-Ok.moment c.args.self.now.core) ∙ c.requires.calm;

@@ -1,0 +1,32 @@
+-- How bytes are cut is of no matter.
+use Rattle.std.specs.Prelude.{◌≡◌, ℕ, List, ◌∷◌, ◌++◌}
+use Rattle.wc_text.specs.declared.names.LinkId.{LinkId}
+use Rattle.wc_outside.specs.Seen.{Seen}
+use Rattle.wc_outside.specs.declared.happening.Happening.{Happening}
+use Rattle.wc_outside.specs.declared.happening.Happening.TheVariants.{Read}
+use Rattle.wc_core.specs.Events.{Event}
+use Rattle.wc_core.specs.State.{State}
+use Rattle.wc_core.specs.Step.{run}
+use Rattle.wc_core.specs.Served.{sent_to}
+use Rattle.wc_turns.specs.declared.headless.Headless.{Headless}
+use Rattle.wc_turns.specs.Events.{whole}
+use Rattle.wc_loop.specs.Headline.{HandsOut}
+
+-- two runs take the same events, end in the same world, and owe each link the same bytes
+pub record RunAlike (first : State) (x y : Headless) (events others : List Event) : Type 0 where
+  pub reached : events ≡ others
+  pub world : x.core.world ≡ y.core.world
+  pub quits : x.core.quits ≡ y.core.quits
+  pub owed : (link : ℕ) → sent_to link (run first events).acts ≡ sent_to link (run first others).acts
+
+-- runs whose happenings spell the same events
+abbrev pub SpellAlike : Type 0
+SpellAlike = (first : State) (a b : Seen) (x y : Headless) (one : HandsOut first a x)
+    (other : HandsOut first b y) → whole a.taken ≡ whole b.taken →
+    RunAlike first x y one.events other.events
+
+-- what is read at once spells the same events as what is read in two pieces
+abbrev pub CutAnywhere : Type 0
+CutAnywhere = (before after : List Happening) (link : LinkId) (xs ys : List ℕ) →
+    whole (before ++ Read link (xs ++ ys) ∷ after)
+    ≡ whole (before ++ Read link xs ∷ Read link ys ∷ after)
