@@ -5,12 +5,12 @@ use Rattle.regex_syntax.specs.Grammar.{Names, read}
 use Rattle.regex_syntax.specs.Brackets.{Nested}
 use Rattle.regex.specs.Patterns.{Re, Match, find_all_str, span, slot_of}
 use Rattle.regex.specs.Writes.{both, group_of}
-use Rattle.regex.specs.Strings.{regex_pattern, regex_source, regex_config, regex_names, group_count, IsReadFromSource}
+use Rattle.regex.specs.Strings.{regex_pattern, regex_source, group_count}
 use Rattle.regex.specs.Locations.{AreLocationsOf, location_count}
 use Rattle.regex.specs.declared.locations.CaptureLocations.{CaptureLocations}
 use Rattle.regex.specs.declared.string.regex.Regex.{Regex}
 use Rattle.regex.proofs.ForCallers.{alike_as_written, names_as_written, find_all_alike, spans}
-use Rattle.wc_eval.specs.Matching.{folding_config, groups_from, groups_in, groups_by, all_groups_in}
+use Rattle.wc_eval.specs.Matching.{folding_config, groups_from, groups_in, all_groups_in}
 use Rattle.wc_eval.specs.Built.{IsBuiltOf}
 use Rattle.wc_eval.proofs.Meaning.{as_read, some_tree}
 

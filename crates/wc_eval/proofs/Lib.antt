@@ -16,3 +16,9 @@ pub mod KindLemmas
 pub mod BranchLemmas
 pub mod Utf8Lemmas
 pub mod CopyLemmas
+pub mod StepLemmas
+pub mod TurnLemmas
+pub mod KeptLemmas
+pub mod PlainLemmas
+pub mod CharacterLemmas
+pub mod ArgumentLemmas

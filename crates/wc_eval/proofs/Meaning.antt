@@ -1,6 +1,6 @@
 -- A compiled pattern finds what its text says.
 use Rattle.std.proofs.lemmas.Option.{none-some}
-use Rattle.std.proofs.Common.{true, ◌≡◌, ◌≢◌, ◌⊎◌, ℕ, ◌<◌, ◌≤◌, List, Option, None, Some, IsSomeAnd, IfSome, chars, map, get_or, is_some, option_map, length, refl, sym, ap, ◌∙◌, ⊎_elim, arith}
+use Rattle.std.proofs.Common.{true, ◌≡◌, ◌≢◌, ℕ, ◌<◌, ◌≤◌, List, Option, None, Some, IsSomeAnd, IfSome, chars, map, get_or, option_map, length, refl, sym, ◌∙◌, ⊎_elim, arith}
 use Rattle.regex_syntax.specs.Grammar.{Names, group_count, read}
 use Rattle.regex_syntax.specs.Brackets.{Nested}
 use Rattle.regex_syntax.specs.declared.error.ErrorKind.{ErrorKind}

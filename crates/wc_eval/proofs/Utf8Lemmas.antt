@@ -1,5 +1,5 @@
 -- What is cut out of UTF-8 is UTF-8: all that parts a text is ASCII.
-use Rattle.std.proofs.Common.{◌≡◌, ℕ, zero, suc, ◌+◌, ◌≤◌, ◌<◌, Bool, true, false, ◌&&◌, ◌==◌, nat_lt, List, [], ◌∷◌, ◌++◌, length}
+use Rattle.std.proofs.Common.{◌≡◌, ℕ, zero, suc, ◌≤◌, ◌<◌, Bool, true, false, ◌&&◌, ◌==◌, nat_lt, List, [], ◌∷◌, ◌++◌, length}
 use Rattle.std.proofs.Common.{Option, Some, None, map, option_map, refl, ap, sym, subst, ◌∙◌, append_assoc}
 use Rattle.std.proofs.Common.{append-nil, IsUtf8, arith}
 use Rattle.std.specs.List.{list_all}
@@ -18,6 +18,7 @@ use Rattle.wc_eval.specs.Kinds.{or_name, kind_of}
 use Rattle.wc_eval.specs.Texts.{is_blank, past_margin, without_tail, without_blanks}
 use Rattle.wc_eval.specs.Parts.{parts_at, parts_of, group_by, whole_group, Comparing, comparing_or, comparing_from, comparing_in}
 use Rattle.wc_eval.specs.Reading.{past_first, past_pair, or_later, past_two}
+use Rattle.wc_eval.specs.Turns.{EachUtf8}
 use Rattle.wc_eval.proofs.RunLemmas.{by_bool}
 use Rattle.wc_eval.proofs.PieceLemmas.{split_text, pieces_text}
 use Rattle.wc_eval.proofs.PartLemmas.{blocks_written, parted, one_part}
@@ -291,10 +292,6 @@ comparing_utf8 text found e utf8 = comparing_utf8_from (blocks_of text) [] found
     (subst IsUtf8 (sym (blocks_written text)) utf8)
 
 -- ---- the parts of a condition
-
-abbrev pub EachUtf8 : List (List ℕ) → Type 0
-EachUtf8 [] = Unit {0}
-EachUtf8 (text ∷ texts) = IsUtf8 text × EachUtf8 texts
 
 fewer_first : (c : ℕ) (ps rest : List Piece) → past_first c ps ≡ Some rest → length rest < length ps
 fewer_first c [] rest e = absurd (none-some _ e)

@@ -70,6 +70,16 @@ holds_by oracle sign.NotMasked a b = not (matches_of false b a)
 holds_by oracle sign.MaskedInAnyCase a b = matches_of true b a
 holds_by oracle sign.NotMaskedInAnyCase a b = not (matches_of true b a)
 
+-- whether the sides are texts, in which parentheses stay
+abbrev pub has_text_sides : Comparison → Bool
+has_text_sides sign.Equal = false
+has_text_sides sign.NotEqual = false
+has_text_sides sign.Less = false
+has_text_sides sign.AtMost = false
+has_text_sides sign.More = false
+has_text_sides sign.AtLeast = false
+has_text_sides other = true
+
 -- whether the right side is a pattern
 abbrev pub is_by_pattern : Comparison → Bool
 is_by_pattern sign.Found = true

@@ -15,3 +15,10 @@ pub mod Reading
 pub mod Kinds
 pub mod Branches
 pub mod Values
+pub mod Progress
+pub mod Conditions
+pub mod Turns
+pub mod Stored
+pub mod Cuts
+pub mod Arguments
+pub mod Names

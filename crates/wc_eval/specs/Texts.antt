@@ -1,7 +1,8 @@
 -- Words on texts that the other files share.
 use Rattle.std.specs.Prelude.{ℕ, Bool, true, false, not, ◌||◌, ◌==◌, List, [], ◌∷◌}
-use Rattle.std.specs.Prelude.{if◌then◌else◌, bytes_eq, length}
-use Rattle.std.specs.Str.{chars}
+use Rattle.std.specs.Prelude.{if◌then◌else◌, bytes_eq, length, take, map, reverse}
+use Rattle.std.specs.Str.{chars, encode_utf8_all}
+use Rattle.std.specs.Char.{to_ascii_lowercase, to_ascii_uppercase}
 
 -- a space or a tab
 abbrev pub is_blank : ℕ → Bool
@@ -40,3 +41,18 @@ digit_of false = 48 ∷ []
 
 abbrev pub character_count : List ℕ → ℕ
 character_count text = length (chars text)
+
+-- the first so many characters
+abbrev pub first_characters : ℕ → List ℕ → List ℕ
+first_characters n text = encode_utf8_all (take n (chars text))
+
+-- the characters from the last to the first
+unfoldable pub reverse_text : List ℕ → List ℕ
+reverse_text text = encode_utf8_all (reverse (chars text))
+
+-- letters of ASCII alone
+abbrev pub lower_case : List ℕ → List ℕ
+lower_case text = map to_ascii_lowercase text
+
+abbrev pub upper_case : List ℕ → List ℕ
+upper_case text = map to_ascii_uppercase text

@@ -4,7 +4,8 @@ ghost use Rattle.std.specs.Str.{IsUtf8};
 ghost use Rattle.wc_eval.specs.Verdicts.{Oracle, Agrees, Stay, is_known_fine};
 ghost use Rattle.wc_eval.specs.Matching.{is_found};
 ghost use Rattle.wc_eval.specs.Signs.{equals_sign, bang_sign, order_sign};
-ghost use Rattle.wc_eval.specs.Comparisons.{sign_at, order_of, finds, holds_by, is_by_pattern};
+ghost use Rattle.wc_eval.specs.Comparisons.{sign_at, order_of, finds, holds_by};
+ghost use Rattle.wc_eval.specs.Comparisons.{has_text_sides, is_by_pattern};
 
 use crate::search::is_match;
 use crate::verdicts::Verdicts;
@@ -46,6 +47,18 @@ impl Comparison {
             b'<' => Some(with_equals(rest, Comparison::AtMost, Comparison::Less)),
             b'>' => Some(with_equals(rest, Comparison::AtLeast, Comparison::More)),
             _ => None,
+        }
+    }
+
+    /// Whether its sides are texts, in which parentheses stay.
+    pub(crate) fn has_text_sides(self) -> bool
+        ensures { result ≡ has_text_sides self }
+    {
+        match self {
+            Comparison::Equal | Comparison::NotEqual => false,
+            Comparison::Less | Comparison::AtMost => false,
+            Comparison::More | Comparison::AtLeast => false,
+            _ => true,
         }
     }
 }

@@ -1,5 +1,5 @@
 ghost use Rattle.std.specs.Prelude.{◌≡◌, ◌<◌, ◌≤◌, ◌+◌, ◌-◌, ◌^◌, ◌∷◌, [], length};
-ghost use Rattle.std.specs.Prelude.{take, nat_le, IfSome, option_map};
+ghost use Rattle.std.specs.Prelude.{suc, take, nat_le, IfSome, option_map};
 ghost use Rattle.wc_eval.specs.Pieces.{blocks_of, open_after, most_open};
 ghost use Rattle.wc_eval.specs.Walks.{meant};
 ghost use Rattle.wc_eval.specs.Parts.{parts_of, group_by, whole_group, comparing_in};
@@ -67,7 +67,8 @@ pub(crate) struct Parts<'a> {
 
 impl<'a> Parts<'a> {
     pub(crate) fn new(text: &'a [u8], byte: u8) -> Parts<'a>
-        ensures { texts_left result ≡ parts_of byte text.now }
+        ensures texts { texts_left result ≡ parts_of byte text.now }
+        ensures size { size_of result ≡ suc (length text.now) }
     {
         Parts {
             byte,
@@ -78,7 +79,8 @@ impl<'a> Parts<'a> {
     /// The next part, and those after it.
     pub(crate) fn next(self) -> Option<(&'a [u8], Parts<'a>)>
         ensures takes { TakesPart (texts_left self.entry) result }
-        ensures shorter { IfSome result (λ step. size_of step.1 < size_of self.entry) }
+        ensures shorter { IfSome result (λ step. length step.0.now + size_of step.1
+            < size_of self.entry) }
     {
         let walk = self.left?;
         match past_two(walk, self.byte) {

@@ -28,7 +28,7 @@ impl From<NoMemory> for Stop {
 }
 
 /// A whole number of 0 or more.
-fn read_size(text: &[u8]) -> Option<u64>
+pub(crate) fn read_size(text: &[u8]) -> Option<u64>
     ensures { result ≡ size_in text.now }
 {
     u64::try_from(read_i64(text)?).ok()

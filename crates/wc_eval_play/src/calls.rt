@@ -2,7 +2,7 @@ ghost use Rattle.std.specs.Prelude.{IfOk};
 ghost use Rattle.std.specs.Str.{IsUtf8};
 
 use std::alloc::Global;
-use wc_eval::{Comparison, Verdicts, calc, compare};
+use wc_eval::{Comparison, Verdicts, calc, compare, plain_condition};
 use wc_notation::{Wrong, cut_word, put_either, unescape};
 use wc_text::Text;
 
@@ -57,6 +57,19 @@ fn put_comparison(
     Ok(put_either(out, holds, "holds", "does not hold")?)
 }
 
+/// Whether a condition holds in which forms stay as they are.
+fn put_condition(
+    alloc: Global,
+    verdicts: &mut Verdicts,
+    text: &Text,
+    out: &mut String,
+) -> Result<(), Wrong>
+    requires { IsUtf8 text.now }
+{
+    let holds = plain_condition(alloc, verdicts, text)?;
+    Ok(put_either(out, holds, "holds", "does not hold")?)
+}
+
 /// Writes the answer of a call on one text.
 fn answer_on_text(
     alloc: Global,
@@ -69,6 +82,7 @@ fn answer_on_text(
     match call {
         "calc" => put_number(&text, out),
         "judge" => put_verdict(verdicts, &text, out),
+        "condition" => put_condition(alloc, verdicts, &text, out),
         _ => Err(Wrong::Word),
     }
 }

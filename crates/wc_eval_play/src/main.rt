@@ -1,8 +1,9 @@
-//! Plays tables of patterns, expressions and comparisons, and prints each line and its answer.
+//! Plays tables of patterns, expressions, comparisons and conditions, and prints each line and its
+//! answer.
 //!
 //! Each word of the command line is the name of a file. Each line of it is a call: `judge` or
-//! `calc` and a text, or `compare`, the sign and two texts. Lines that are empty or begin with `#`
-//! are passed over. Nothing is claimed here: what is printed is compared.
+//! `calc` or `condition` and a text, or `compare`, the sign and two texts. Lines that are empty or
+//! begin with `#` are passed over. Nothing is claimed here: what is printed is compared.
 #![tactic(auto)]
 
 mod calls;

@@ -1,4 +1,4 @@
-use Rattle.std.proofs.Common.{rules, ◌≡◌, [], ◌∷◌, ◌++◌, drop, ap, sym, ◌∙◌}
+use Rattle.std.proofs.Common.{rules, ◌≡◌, [], ◌∷◌, drop, ap, sym, ◌∙◌}
 use Rattle.regex.specs.Strings.{captures_left, group_count}
 use Rattle.wc_eval.specs.Matching.{groups_in}
 use Rattle.wc_eval.proofs.GroupLemmas.{spans_of_match, groups_as_text, one_more, none_left}

@@ -1,6 +1,6 @@
-use Rattle.std.proofs.Common.{rules, ◌≡◌, ◌≤◌, ◌<◌, ◌^◌, ◌++◌, ◌∷◌, [], None, ap, sym, subst, ◌∙◌, length}
-use Rattle.wc_eval.specs.Verdicts.{Judges, verdict_on, verdict_in, others_in, AreOnce}
-use Rattle.wc_eval.specs.Built.{rows_of, verdict_of, AreBuilt, IsJudgementOf}
+use Rattle.std.proofs.Common.{rules, ◌≡◌, ◌<◌, ◌^◌, ◌++◌, ◌∷◌, [], None, ap, sym, subst, ◌∙◌, length}
+use Rattle.wc_eval.specs.Verdicts.{verdict_on, verdict_in, AreOnce}
+use Rattle.wc_eval.specs.Built.{rows_of, verdict_of, IsJudgementOf}
 use Rattle.wc_eval.proofs.VerdictLemmas.{built_push, once_push, others_kept, rows_push, judges_new}
 use Rattle.wc_eval.proofs.verdicts.Verdicts.judge_anew.Goals as goal
 

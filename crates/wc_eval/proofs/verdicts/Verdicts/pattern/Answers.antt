@@ -1,4 +1,4 @@
-use Rattle.std.proofs.Common.{◌∙◌, ap, refl, Some, None}
+use Rattle.std.proofs.Common.{◌∙◌, ap, refl, None}
 use Rattle.wc_eval.specs.Verdicts.{is_known_fine, is_fine_by}
 use Rattle.wc_eval.proofs.VerdictLemmas.{got_verdict, lent_built, lent_there}
 use Rattle.wc_eval.proofs.verdicts.Verdicts.pattern.Goals as goal

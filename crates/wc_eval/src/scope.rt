@@ -1,0 +1,61 @@
+ghost use Rattle.std.specs.Prelude.{◌≡◌, option_map};
+ghost use Rattle.wc_eval.specs.Names.{facts_of, value_of, known_in};
+ghost use Rattle.wc_eval.specs.Names.{group_value};
+
+use crate::values::read_size;
+use wc_text::{Items, Pair, Text};
+
+/// What a text may name.
+#[derive(Clone, Copy)]
+pub struct Scope<'a> {
+    /// The variables of a trigger.
+    pub vars: &'a Items<Pair>,
+    /// Options, and facts of the buffer.
+    pub facts: &'a Items<Pair>,
+    /// The local variables of the buffer.
+    pub locals: &'a Items<Pair>,
+    /// The groups of the last match, of which the first is the match.
+    pub groups: &'a Items<Text>,
+}
+
+/// The value of the first pair with this name.
+fn value_of<'a>(pairs: &'a [Pair], name: &[u8]) -> Option<&'a [u8]>
+    ensures { option_map (λ value. value.now) result ≡ value_of name.now pairs.now }
+{
+    for pair in pairs {
+        if pair.name.as_slice() == name {
+            return Some(pair.value.as_slice());
+        }
+    }
+    None
+}
+
+impl<'a> Scope<'a> {
+    /// What a name stands for that is not defined in the text.
+    pub(crate) fn known(self, name: &[u8]) -> Option<&'a [u8]>
+        ensures { option_map (λ value. value.now) result
+            ≡ known_in (facts_of self.entry) name.now }
+    {
+        if let Some(value) = value_of(self.vars.as_slice(), name) {
+            return Some(value);
+        }
+        if let Some(value) = value_of(self.facts.as_slice(), name) {
+            return Some(value);
+        }
+        value_of(self.locals.as_slice(), name)
+    }
+
+    /// A group of the last match, or nothing.
+    #[tactic(auto, unfolding(crate::specs::Names::group_value))]
+    pub(crate) fn group(self, number: &[u8]) -> &'a [u8]
+        ensures { result.now ≡ group_value (facts_of self.entry) number.now }
+    {
+        let Some(place) = read_size(number) else {
+            return b"";
+        };
+        match self.groups.as_slice().get(place as usize) {
+            Some(group) => group.as_slice(),
+            None => b"",
+        }
+    }
+}
