@@ -7,3 +7,9 @@ pub mod MemberLemmas
 pub mod ListedLemmas
 pub mod ChannelLemmas
 pub mod MergedLemmas
+pub mod TargetLemmas
+pub mod ActLemmas
+pub mod StartLemmas
+pub mod ServerActLemmas
+pub mod StateLemmas
+pub mod TriedLemmas

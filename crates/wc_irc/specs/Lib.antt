@@ -4,6 +4,7 @@ pub mod Features
 pub mod Groups
 pub mod Kept
 pub mod KeptSeen
+pub mod Lines
 pub mod Listed
 pub mod ListedSeen
 pub mod Merged
@@ -15,6 +16,14 @@ pub mod Names
 pub mod Pieces
 pub mod Rows
 pub mod Seats
+pub mod ServerActs
+pub mod Servers
+pub mod ServersSeen
+pub mod Speech
+pub mod Start
+pub mod TalkActs
+pub mod Targets
+pub mod TargetsSeen
 pub mod Texts
 pub mod TextsSeen
 pub mod Typed

@@ -1,7 +1,7 @@
 -- What kind of message one is to a server. One that lacks what its kind uses is of no other kind
 -- than `Other`.
 use Rattle.std.specs.Prelude.{ℕ, Bool, true, not, ◌&&◌, nat_le, List, [], ◌∷◌, length}
-use Rattle.std.specs.Prelude.{find}
+use Rattle.std.specs.Prelude.{find, drop, ◌-◌}
 use Rattle.std.specs.Prelude.{bytes_eq, codes, slice_index_or, Option, Some, None, if◌then◌else◌}
 use Rattle.wc_ircmsg.specs.declared.message.Message.{Message}
 use Rattle.wc_irc.specs.declared.kind.MessageKind.{MessageKind}
@@ -16,6 +16,13 @@ use Rattle.wc_irc.specs.Names.{is_channel}
 
 abbrev pub param : ℕ → Message → List ℕ
 param n m = slice_index_or m.params n []
+
+abbrev pub last_param : Message → List ℕ
+last_param m = slice_index_or m.params (length m.params - 1) []
+
+-- those from a place on
+abbrev pub params_from : ℕ → Message → List (List ℕ)
+params_from n m = drop n m.params
 
 -- whether there are so many
 abbrev pub has_params : ℕ → Message → Bool

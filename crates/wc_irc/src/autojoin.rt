@@ -22,7 +22,7 @@ fn join_params(alloc: Global, channel: &[u8], key: &[u8]) -> Result<Items<Text>,
 }
 
 /// The line of a message without a prefix.
-fn line_of(alloc: Global, command: Text, params: Items<Text>) -> Result<Text, NoMemory>
+pub(crate) fn line_of(alloc: Global, command: Text, params: Items<Text>) -> Result<Text, NoMemory>
     requires { IsWritable (message command params) }
     ensures { IfOk result (λ line. line ≡ line_of (message command params)) }
 {

@@ -1,7 +1,8 @@
-//! What one IRC server is told and tells: what a user types for it, and the texts and lists that
-//! its messages make.
+//! What one IRC server is told and tells: what a user types for it, what it is known to be, and what
+//! follows of its messages.
 #![tactic(auto)]
 
+mod act;
 mod autojoin;
 mod channel;
 mod command_word;
@@ -11,18 +12,29 @@ mod formatting;
 mod groups;
 mod kind;
 mod line_text;
+mod lines;
 mod listed;
 mod members;
 mod modes;
 mod names;
 mod nick_index;
 mod overlay;
+mod params;
 mod places;
+mod refused;
 mod seat;
+mod server;
+mod server_acts;
+mod speech;
+mod start;
+mod state;
+mod talk_acts;
+mod targets;
 mod typed;
 mod typed_server;
 mod typed_words;
 
+pub use act::Act;
 pub use autojoin::autojoin_lines;
 pub use channel::{Channel, channel_of, quit};
 pub use features::Features;
@@ -35,5 +47,8 @@ pub use members::{Members, NewNick, SeatIter};
 pub use modes::{ModeChange, mode_changes};
 pub use names::{is_channel, is_nick};
 pub use overlay::{FoundNick, Overlay};
+pub use refused::ServerRefused;
 pub use seat::{ModeSet, Seat};
+pub use server::Server;
+pub use speech::calls_nick;
 pub use typed::{ServerCommand, read_server_command};

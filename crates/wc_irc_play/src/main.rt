@@ -1,14 +1,17 @@
-//! Plays tables of what is typed for a server, of its messages and of the nicks of a channel, and
-//! prints each line and its answer.
+//! Plays tables of what is typed for a server, of its messages, of what follows of them and of the
+//! nicks of a channel, and prints each line and its answer.
 //!
 //! Each word of the command line is the name of a file. Each line of it is a call: its word and
 //! its texts. Lines that are empty or begin with `#` are passed over. Nothing is claimed here:
 //! what is printed is compared.
 #![tactic(auto)]
 
+mod acts;
 mod nicks;
 mod player;
 mod rows;
+mod server;
+mod stage;
 mod texts;
 mod typed;
 
@@ -19,7 +22,7 @@ use wc_notation::Wrong;
 
 /// What a table comes to.
 fn played(alloc: Global, text: &str) -> Result<String, Wrong> {
-    let mut player = Player::new(alloc);
+    let mut player = Player::new(alloc)?;
     player.play(alloc, text)
 }
 

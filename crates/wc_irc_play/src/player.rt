@@ -1,24 +1,29 @@
 use crate::nicks::nicks_answer;
 use crate::rows::rows_answer;
+use crate::server::Scene;
 use crate::texts::texts_answer;
 use crate::typed::typed;
 use std::alloc::{AllocError, Global};
 use wc_irc::Members;
 use wc_ircmsg::CaseMap;
 use wc_notation::{Wrong, cut_word, end_answer, is_passed_over};
+use wc_text::NoMemory;
 
-/// The nicks of a channel, which the lines of a table change.
+/// The nicks of a channel and the server, which the lines of a table change.
 #[derive(Drop)]
 pub struct Player {
     members: Members,
+    scene: Scene,
 }
 
 impl Player {
-    /// No nicks.
-    pub fn new(alloc: Global) -> Player {
-        Player {
+    /// No nicks, and no server.
+    pub fn new(alloc: Global) -> Result<Player, NoMemory> {
+        let scene = Scene::new(alloc)?;
+        Ok(Player {
             members: Members::new(alloc, CaseMap::Rfc1459),
-        }
+            scene,
+        })
     }
 
     fn answer(
@@ -35,6 +40,9 @@ impl Player {
             }
             "come" | "go" | "name" | "give" | "find" | "nicks" => {
                 nicks_answer(alloc, &mut self.members, call, rest, out)
+            }
+            "set" | "buffer" | "var" | "begin" | "hear" | "told" => {
+                self.scene.answer(alloc, call, rest, out)
             }
             _ => texts_answer(alloc, call, rest, out),
         }

@@ -55,7 +55,8 @@ fn case_map_name(case_map: CaseMap) -> &'static str {
     }
 }
 
-fn put_features(out: &mut String, features: &Features) -> Result<(), AllocError> {
+/// Writes what a server told of itself.
+pub fn put_features(out: &mut String, features: &Features) -> Result<(), AllocError> {
     put_named(out, "modes", features.prefixes.modes.as_slice())?;
     put_named(out, " signs", features.prefixes.chars.as_slice())?;
     put_named(out, " types", features.chan_types.as_slice())?;

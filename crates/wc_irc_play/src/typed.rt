@@ -1,14 +1,9 @@
 //! What is typed for a server.
 
+use crate::acts::put_two;
 use std::alloc::{AllocError, Global};
 use wc_irc::{ServerCommand, read_server_command};
-use wc_notation::{Wrong, put_named, put_quoted, unescape};
-
-fn put_two(out: &mut String, name: &str, first: &[u8], second: &[u8]) -> Result<(), AllocError> {
-    put_named(out, name, first)?;
-    out.push(' ')?;
-    put_quoted(out, second)
-}
+use wc_notation::{Wrong, put_named, unescape};
 
 fn put_tls(out: &mut String, tls: Option<bool>) -> Result<(), AllocError> {
     match tls {

@@ -1,0 +1,108 @@
+ghost use Rattle.std.specs.Prelude.{◌≡◌, ◌≢◌, Ok, Err, IfOk, IfErr, OnOk, OnErr};
+ghost use Rattle.wc_irc.specs.ServerActs.{acts_of_server, after_server};
+ghost use Rattle.wc_irc.specs.Start.{start_of};
+ghost use Rattle.wc_irc.specs.declared.refused.ServerRefused.TheVariants as Refused;
+
+use crate::act::Act;
+use crate::features::Features;
+use crate::refused::ServerRefused;
+use crate::server_acts::on_server_message;
+use crate::start::started;
+use crate::state::State;
+use std::alloc::Global;
+use std::marker::Model;
+use wc_buffers::Buffers;
+use wc_ircmsg::Message;
+use wc_options::Options;
+use wc_text::{Address, Items, NoMemory, Text};
+
+/// A server over one link, from the beginning of its connection on. The options are those that it
+/// had then.
+#[derive(Drop)]
+pub struct Server {
+    state: State,
+}
+
+impl Model for Server {
+    ghost use Rattle.wc_irc.specs.Servers.{ServerState};
+    ghost use Rattle.wc_irc.specs.ServersSeen.{seen};
+
+    ghost Value = { ServerState };
+
+    ghost view = { λ a. seen a.state };
+}
+
+impl Server {
+    /// A server that is to be connected, as the options have it. Refused as `TlsOn` exactly where
+    /// it is to use TLS, and else as `BadAddress` exactly where its option `addresses` is no
+    /// address. Its own nick is the first of `nicks` that is one and has at most 60 bytes, or
+    /// `weechat` where there is none.
+    pub fn new(alloc: Global, name: &[u8], options: &Options) -> Result<Server, ServerRefused>
+        ensures made { IfOk result (λ server. start_of options.now name.now ≡ Ok server) }
+        ensures refused { IfErr result (λ refused. refused ≢ Refused.NoMemory →
+            start_of options.now name.now ≡ Err refused) }
+    {
+        match started(alloc, name, options) {
+            Ok(state) => Ok(Server { state }),
+            Err(refused) => Err(refused),
+        }
+    }
+
+    /// Its name.
+    pub fn name(&self) -> &Text
+        ensures { result.now ≡ self.now.name }
+    {
+        &self.state.name
+    }
+
+    /// Where it is to be connected to.
+    pub fn address(&self) -> Address
+        ensures { result ≡ self.now.address }
+    {
+        self.state.address
+    }
+
+    /// The own nick, which before the first 001 is the one that was tried last.
+    pub fn nick(&self) -> &Text
+        ensures { result.now ≡ self.now.nick }
+    {
+        &self.state.nick
+    }
+
+    /// Whether this link had its first 001.
+    pub fn is_registered(&self) -> bool
+        ensures { result ≡ self.now.is_registered }
+    {
+        self.state.is_registered
+    }
+
+    /// What the server told of itself.
+    pub fn features(&self) -> &Features
+        ensures { result.now ≡ self.now.features }
+    {
+        &self.state.features
+    }
+
+    /// What follows of a message of the server itself, which has the row 001, 005, 433, PING, ERROR
+    /// or none of its own, or of a NOTICE, where these buffers are there. None where the message is
+    /// of another kind. The server takes the message in; where memory is refused it stays as it was.
+    ///
+    /// The first 001 gives the own nick, tells it to each buffer of the server that has another
+    /// one, and joins the channels of `autojoin`. A PING is answered by a PONG with the same last
+    /// parameter (RFC 2812). Before the first 001 each of four 433 is answered by a NICK with the
+    /// next of `nicks`, or with the last one and `_`, and a fifth gives the server up. While a
+    /// channel is joined a 005 changes nothing.
+    pub fn on_server_message(
+        &mut self,
+        alloc: Global,
+        buffers: &Buffers,
+        m: &Message,
+    ) -> Result<Option<Items<Act>>, NoMemory>
+        ensures acts { IfOk result (λ acts. acts
+            ≡ acts_of_server buffers.now self.old m.now) }
+        ensures after { OnOk result (self.new ≡ after_server self.old m.now) }
+        ensures unchanged { OnErr result (self.new ≡ self.old) }
+    {
+        on_server_message(&mut self.state, alloc, buffers, m)
+    }
+}

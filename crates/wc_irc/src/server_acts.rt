@@ -1,0 +1,125 @@
+ghost use Rattle.std.specs.Prelude.{◌≡◌, ◌++◌, IfOk, OnOk, OnErr};
+ghost use Rattle.wc_irc.specs.ServerActs.{acts_of_kind, after_kind, kind_to};
+ghost use Rattle.wc_irc.specs.ServerActs.{is_of_server, some_acts, acts_of_server, after_server};
+ghost use Rattle.wc_irc.specs.ServersSeen.{seen};
+
+use crate::act::Act;
+use crate::kind::{MessageKind, kind_of};
+use crate::params::param;
+use crate::state::State;
+use crate::talk_acts::{put_error, put_notice, put_other, put_ping, put_taken, put_welcome};
+use std::alloc::Global;
+use wc_buffers::Buffers;
+use wc_ircmsg::Message;
+use wc_text::{Items, NoMemory};
+
+impl State {
+    /// What a message tells the server as it is.
+    pub(crate) fn kind(&self, m: &Message) -> MessageKind
+        ensures { result ≡ kind_to (seen self.now) m.now }
+    {
+        kind_of(self.features.chan_types.as_slice(), self.is_registered, m)
+    }
+
+    /// Takes in a message of the server itself. Another one changes nothing.
+    #[tactic(auto, unfolding(crate::specs::ServerActs::after_kind))]
+    pub(crate) fn take_in(
+        &mut self,
+        alloc: Global,
+        m: &Message,
+        kind: MessageKind,
+    ) -> Result<(), NoMemory>
+        ensures after { OnOk result (seen self.new ≡ after_kind (seen self.old) m.now kind) }
+        ensures unchanged { OnErr result (self.new ≡ self.old) }
+    {
+        match kind {
+            MessageKind::Welcome => self.welcome(alloc, param(m, 0)),
+            MessageKind::Tokens => self.take_tokens(alloc, m.params.as_slice()),
+            MessageKind::NickInUse => self.try_next(alloc),
+            _ => Ok(()),
+        }
+    }
+}
+
+/// Whether a message of a kind is one of the server itself, or a notice.
+pub(crate) fn is_of_server(kind: MessageKind) -> bool
+    ensures { result ≡ is_of_server kind }
+{
+    matches!(
+        kind,
+        MessageKind::Welcome
+            | MessageKind::Tokens
+            | MessageKind::NickInUse
+            | MessageKind::Notice
+            | MessageKind::Ping
+            | MessageKind::Error
+            | MessageKind::Other
+    )
+}
+
+/// Puts what follows of a message of the server itself after the acts, and nothing of another one.
+#[tactic(auto, unfolding(crate::specs::ServerActs::acts_of_kind))]
+fn put_acts(
+    acts: &mut Items<Act>,
+    alloc: Global,
+    buffers: &Buffers,
+    state: &State,
+    m: &Message,
+    kind: MessageKind,
+) -> Result<(), NoMemory>
+    ensures { OnOk result (acts.new
+        ≡ acts.old ++ some_acts (acts_of_kind buffers.now (seen state.now) m.now kind)) }
+{
+    match kind {
+        MessageKind::Welcome => put_welcome(acts, alloc, buffers, state, m),
+        MessageKind::NickInUse => put_taken(acts, alloc, state),
+        MessageKind::Notice => put_notice(acts, alloc, buffers, state, m),
+        MessageKind::Ping => put_ping(acts, alloc, m),
+        MessageKind::Error => put_error(acts, alloc, state, m),
+        MessageKind::Tokens | MessageKind::Other => put_other(acts, alloc, state, m),
+        _ => Ok(()),
+    }
+}
+
+/// What follows of a message of the server itself, or of a notice. None for one of another kind.
+#[tactic(auto, using(crate::proofs::ServerActLemmas::of_server))]
+pub(crate) fn acts_of(
+    alloc: Global,
+    buffers: &Buffers,
+    state: &State,
+    m: &Message,
+    kind: MessageKind,
+) -> Result<Option<Items<Act>>, NoMemory>
+    ensures { IfOk result (λ acts. acts
+        ≡ acts_of_kind buffers.now (seen state.now) m.now kind) }
+{
+    if !is_of_server(kind) {
+        return Ok(None);
+    }
+    let mut acts = Items::new(alloc);
+    put_acts(&mut acts, alloc, buffers, state, m, kind)?;
+    Ok(Some(acts))
+}
+
+/// The same, and takes the message in. Where memory is refused the server stays as it was.
+pub(crate) fn on_server_message(
+    state: &mut State,
+    alloc: Global,
+    buffers: &Buffers,
+    m: &Message,
+) -> Result<Option<Items<Act>>, NoMemory>
+    ensures acts { IfOk result (λ acts. acts
+        ≡ acts_of_server buffers.now (seen state.old) m.now) }
+    ensures after { OnOk result (seen state.new ≡ after_server (seen state.old) m.now) }
+    ensures unchanged { OnErr result (state.new ≡ state.old) }
+{
+    let kind = state.kind(m);
+    let acts = acts_of(alloc, buffers, state, m, kind)?;
+    match state.take_in(alloc, m, kind) {
+        Ok(()) => Ok(acts),
+        Err(NoMemory) => {
+            drop(acts);
+            Err(NoMemory)
+        }
+    }
+}
