@@ -37,7 +37,7 @@ change_next f items old n d c inside before is =
     ∙ set_by f n (map joined old) (joined d) (joined c) within (is ∙ ap f (shown_at items n d) ∙ ap (λ l. f (get_or l n (joined d))) before)
     ∙ ap (λ m. so_far f m (map joined old)) one
 
-maps : (nick : List ℕ) (old : List Channel) → map (without_nick nick) (map joined old) ≡ after_quit nick old
+pub maps : (nick : List ℕ) (old : List Channel) → map (without_nick nick) (map joined old) ≡ after_quit nick old
 maps nick [] = refl
 maps nick (c ∷ old) = ap (λ l. without_nick nick (joined c) ∷ l) (maps nick old)
 

@@ -13,3 +13,6 @@ pub mod StartLemmas
 pub mod ServerActLemmas
 pub mod StateLemmas
 pub mod TriedLemmas
+pub mod OneChannelLemmas
+pub mod JoinLemmas
+pub mod MessageTextLemmas

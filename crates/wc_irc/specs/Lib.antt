@@ -1,4 +1,6 @@
 pub mod Autojoin
+pub mod ChannelActs
+pub mod ChannelStates
 pub mod Channels
 pub mod Features
 pub mod Groups
@@ -13,6 +15,8 @@ pub mod ModeBits
 pub mod Modes
 pub mod ModesSeen
 pub mod Names
+pub mod NewBuffers
+pub mod NickActs
 pub mod Pieces
 pub mod Rows
 pub mod Seats
@@ -26,5 +30,6 @@ pub mod Targets
 pub mod TargetsSeen
 pub mod Texts
 pub mod TextsSeen
+pub mod TitleActs
 pub mod Typed
 pub mod TypedSeen

@@ -1,12 +1,15 @@
-ghost use Rattle.std.specs.Prelude.{◌≡◌, map};
+ghost use Rattle.std.specs.Prelude.{◌≡◌, map, position, OnOk, OnErr};
 ghost use Rattle.std.specs.Option.{option_copied};
 ghost use Rattle.wc_irc.specs.Channels.{joined, channel_of, after_quit, LeavesOthers};
 ghost use Rattle.wc_irc.specs.Channels.{is_channel_named, Joined};
+ghost use Rattle.wc_irc.specs.ChannelStates.{comes_in, with_nick};
 
-use crate::members::Members;
-use crate::names::is_same;
-use wc_ircmsg::CaseMap;
-use wc_text::Text;
+use crate::members::{Members, NewNick};
+use crate::names::{is_nick, is_same};
+use crate::seat::ModeSet;
+use std::alloc::Global;
+use wc_ircmsg::{CaseMap, Prefixes};
+use wc_text::{NoMemory, Text};
 
 /// A joined channel and its nicks.
 #[derive(Drop)]
@@ -22,6 +25,43 @@ impl Channel {
     {
         is_same(case_map, name, self.name.as_slice())
     }
+
+    /// Whether a nick comes onto the list: it is one, and is not there.
+    pub(crate) fn comes_in(&self, prefixes: &Prefixes, nick: &[u8]) -> bool
+        ensures { result ≡ comes_in prefixes.now nick.now (joined self.now) }
+    {
+        is_nick(prefixes, nick) && !self.nicks.has(nick)
+    }
+
+    /// Puts a nick to the end of the list, where it comes onto it.
+    #[tactic(auto, using(crate::proofs::OneChannelLemmas::nick_facts))]
+    pub(crate) fn come_in(
+        &mut self,
+        alloc: Global,
+        prefixes: &Prefixes,
+        nick: &[u8],
+    ) -> Result<(), NoMemory>
+        ensures after { OnOk result (joined self.new
+            ≡ with_nick prefixes.now nick.now (joined self.old)) }
+        ensures unchanged { OnErr result (joined self.new ≡ joined self.old) }
+    {
+        if !self.comes_in(prefixes, nick) {
+            return Ok(());
+        }
+        let new = NewNick::new(alloc, self.nicks.case_map(), nick)?;
+        self.nicks.reserve(1)?;
+        self.nicks.push(new, ModeSet::NONE);
+        Ok(())
+    }
+}
+
+/// The place of the joined channel of a name.
+pub(crate) fn channel_place(channels: &[Channel], case_map: CaseMap, name: &[u8]) -> Option<usize>
+    ensures { result ≡ position (is_channel_named case_map name.now) channels.now }
+{
+    channels
+        .iter()
+        .position(|channel| channel.is_named(case_map, name))
 }
 
 /// The joined channel of a name.

@@ -1,12 +1,15 @@
-ghost use Rattle.std.specs.Prelude.{◌≡◌, ◌≢◌, Ok, Err, IfOk, IfErr, OnOk, OnErr};
+ghost use Rattle.std.specs.Prelude.{◌≡◌, ◌≢◌, Ok, Err, map, IfOk, IfErr, OnOk, OnErr};
+ghost use Rattle.wc_irc.specs.Channels.{joined};
 ghost use Rattle.wc_irc.specs.ServerActs.{acts_of_server, after_server};
 ghost use Rattle.wc_irc.specs.Start.{start_of};
 ghost use Rattle.wc_irc.specs.declared.refused.ServerRefused.TheVariants as Refused;
+ghost use Rattle.wc_ircmsg.specs.Utf8.{MessageIsUtf8};
 
 use crate::act::Act;
+use crate::channel::Channel;
 use crate::features::Features;
 use crate::refused::ServerRefused;
-use crate::server_acts::on_server_message;
+use crate::server_acts::on_message;
 use crate::start::started;
 use crate::state::State;
 use std::alloc::Global;
@@ -83,26 +86,38 @@ impl Server {
         &self.state.features
     }
 
-    /// What follows of a message of the server itself, which has the row 001, 005, 433, PING, ERROR
-    /// or none of its own, or of a NOTICE, where these buffers are there. None where the message is
-    /// of another kind. The server takes the message in; where memory is refused it stays as it was.
+    /// The joined channels in the order of joining, each with its nicks.
+    pub fn channels(&self) -> &[Channel]
+        ensures { map joined result.now ≡ self.now.channels }
+    {
+        self.state.channels.as_slice()
+    }
+
+    /// What follows of a message where these buffers are there, and the server takes it in. None
+    /// where it is a NICK, MODE, 353 or PRIVMSG. Where memory is refused the server stays as it
+    /// was.
     ///
     /// The first 001 gives the own nick, tells it to each buffer of the server that has another
     /// one, and joins the channels of `autojoin`. A PING is answered by a PONG with the same last
     /// parameter (RFC 2812). Before the first 001 each of four 433 is answered by a NICK with the
     /// next of `nicks`, or with the last one and `_`, and a fifth gives the server up. While a
     /// channel is joined a 005 changes nothing.
-    pub fn on_server_message(
+    ///
+    /// The own JOIN opens the channel's buffer where it is not there, with the groups of its nicks.
+    /// A nick comes onto the list of a joined channel at a JOIN, and leaves it at a PART, KICK or
+    /// QUIT; where it is the own one, a PART or KICK takes all of them out.
+    pub fn on_message(
         &mut self,
         alloc: Global,
         buffers: &Buffers,
         m: &Message,
     ) -> Result<Option<Items<Act>>, NoMemory>
+        requires { MessageIsUtf8 m.now }
         ensures acts { IfOk result (λ acts. acts
             ≡ acts_of_server buffers.now self.old m.now) }
         ensures after { OnOk result (self.new ≡ after_server self.old m.now) }
         ensures unchanged { OnErr result (self.new ≡ self.old) }
     {
-        on_server_message(&mut self.state, alloc, buffers, m)
+        on_message(&mut self.state, alloc, buffers, m)
     }
 }

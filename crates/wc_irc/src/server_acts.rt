@@ -1,13 +1,16 @@
 ghost use Rattle.std.specs.Prelude.{◌≡◌, ◌++◌, IfOk, OnOk, OnErr};
 ghost use Rattle.wc_irc.specs.ServerActs.{acts_of_kind, after_kind, kind_to};
-ghost use Rattle.wc_irc.specs.ServerActs.{is_of_server, some_acts, acts_of_server, after_server};
+ghost use Rattle.wc_irc.specs.ServerActs.{has_row, some_acts, acts_of_server, after_server};
 ghost use Rattle.wc_irc.specs.ServersSeen.{seen};
+ghost use Rattle.wc_ircmsg.specs.Utf8.{MessageIsUtf8};
 
 use crate::act::Act;
+use crate::channel_acts::{put_join, put_kick, put_part, put_quit};
 use crate::kind::{MessageKind, kind_of};
 use crate::params::param;
 use crate::state::State;
 use crate::talk_acts::{put_error, put_notice, put_other, put_ping, put_taken, put_welcome};
+use crate::title_acts::{put_mode_reply, put_names_end, put_topic, put_topic_reply};
 use std::alloc::Global;
 use wc_buffers::Buffers;
 use wc_ircmsg::Message;
@@ -21,7 +24,7 @@ impl State {
         kind_of(self.features.chan_types.as_slice(), self.is_registered, m)
     }
 
-    /// Takes in a message of the server itself. Another one changes nothing.
+    /// Takes in a message. One of a kind without a row changes nothing.
     #[tactic(auto, unfolding(crate::specs::ServerActs::after_kind))]
     pub(crate) fn take_in(
         &mut self,
@@ -30,26 +33,47 @@ impl State {
         kind: MessageKind,
     ) -> Result<(), NoMemory>
         ensures after { OnOk result (seen self.new ≡ after_kind (seen self.old) m.now kind) }
-        ensures unchanged { OnErr result (self.new ≡ self.old) }
+        ensures unchanged { OnErr result (seen self.new ≡ seen self.old) }
     {
         match kind {
             MessageKind::Welcome => self.welcome(alloc, param(m, 0)),
             MessageKind::Tokens => self.take_tokens(alloc, m.params.as_slice()),
             MessageKind::NickInUse => self.try_next(alloc),
+            MessageKind::Join => self.join(alloc, m.nick.as_slice(), param(m, 0)),
+            MessageKind::Part => {
+                self.leave(m.nick.as_slice(), param(m, 0));
+                Ok(())
+            }
+            MessageKind::Kick => {
+                self.leave(param(m, 1), param(m, 0));
+                Ok(())
+            }
+            MessageKind::Quit => {
+                self.quit(m.nick.as_slice());
+                Ok(())
+            }
             _ => Ok(()),
         }
     }
 }
 
-/// Whether a message of a kind is one of the server itself, or a notice.
-pub(crate) fn is_of_server(kind: MessageKind) -> bool
-    ensures { result ≡ is_of_server kind }
+/// Whether a kind of messages has a row here.
+pub(crate) fn has_row(kind: MessageKind) -> bool
+    ensures { result ≡ has_row kind }
 {
     matches!(
         kind,
         MessageKind::Welcome
             | MessageKind::Tokens
             | MessageKind::NickInUse
+            | MessageKind::Join
+            | MessageKind::Part
+            | MessageKind::Quit
+            | MessageKind::Kick
+            | MessageKind::Topic
+            | MessageKind::TopicReply
+            | MessageKind::NamesEnd
+            | MessageKind::ModeReply
             | MessageKind::Notice
             | MessageKind::Ping
             | MessageKind::Error
@@ -57,7 +81,7 @@ pub(crate) fn is_of_server(kind: MessageKind) -> bool
     )
 }
 
-/// Puts what follows of a message of the server itself after the acts, and nothing of another one.
+/// Puts what follows of a message after the acts, and nothing where its kind has no row.
 #[tactic(auto, unfolding(crate::specs::ServerActs::acts_of_kind))]
 fn put_acts(
     acts: &mut Items<Act>,
@@ -67,12 +91,21 @@ fn put_acts(
     m: &Message,
     kind: MessageKind,
 ) -> Result<(), NoMemory>
+    requires { MessageIsUtf8 m.now }
     ensures { OnOk result (acts.new
         ≡ acts.old ++ some_acts (acts_of_kind buffers.now (seen state.now) m.now kind)) }
 {
     match kind {
         MessageKind::Welcome => put_welcome(acts, alloc, buffers, state, m),
         MessageKind::NickInUse => put_taken(acts, alloc, state),
+        MessageKind::Join => put_join(acts, alloc, buffers, state, m),
+        MessageKind::Part => put_part(acts, alloc, buffers, state, m),
+        MessageKind::Kick => put_kick(acts, alloc, buffers, state, m),
+        MessageKind::Quit => put_quit(acts, alloc, buffers, state, m),
+        MessageKind::Topic => put_topic(acts, alloc, buffers, state, m),
+        MessageKind::TopicReply => put_topic_reply(acts, alloc, buffers, state, m),
+        MessageKind::NamesEnd => put_names_end(acts, alloc, buffers, state, m),
+        MessageKind::ModeReply => put_mode_reply(acts, alloc, buffers, state, m),
         MessageKind::Notice => put_notice(acts, alloc, buffers, state, m),
         MessageKind::Ping => put_ping(acts, alloc, m),
         MessageKind::Error => put_error(acts, alloc, state, m),
@@ -81,8 +114,8 @@ fn put_acts(
     }
 }
 
-/// What follows of a message of the server itself, or of a notice. None for one of another kind.
-#[tactic(auto, using(crate::proofs::ServerActLemmas::of_server))]
+/// What follows of a message. None where its kind has no row.
+#[tactic(auto, using(crate::proofs::ServerActLemmas::of_row))]
 pub(crate) fn acts_of(
     alloc: Global,
     buffers: &Buffers,
@@ -90,10 +123,11 @@ pub(crate) fn acts_of(
     m: &Message,
     kind: MessageKind,
 ) -> Result<Option<Items<Act>>, NoMemory>
+    requires { MessageIsUtf8 m.now }
     ensures { IfOk result (λ acts. acts
         ≡ acts_of_kind buffers.now (seen state.now) m.now kind) }
 {
-    if !is_of_server(kind) {
+    if !has_row(kind) {
         return Ok(None);
     }
     let mut acts = Items::new(alloc);
@@ -102,16 +136,17 @@ pub(crate) fn acts_of(
 }
 
 /// The same, and takes the message in. Where memory is refused the server stays as it was.
-pub(crate) fn on_server_message(
+pub(crate) fn on_message(
     state: &mut State,
     alloc: Global,
     buffers: &Buffers,
     m: &Message,
 ) -> Result<Option<Items<Act>>, NoMemory>
+    requires { MessageIsUtf8 m.now }
     ensures acts { IfOk result (λ acts. acts
         ≡ acts_of_server buffers.now (seen state.old) m.now) }
     ensures after { OnOk result (seen state.new ≡ after_server (seen state.old) m.now) }
-    ensures unchanged { OnErr result (state.new ≡ state.old) }
+    ensures unchanged { OnErr result (seen state.new ≡ seen state.old) }
 {
     let kind = state.kind(m);
     let acts = acts_of(alloc, buffers, state, m, kind)?;

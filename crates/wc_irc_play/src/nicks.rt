@@ -37,7 +37,8 @@ fn put_seat(out: &mut String, seat: &Seat) -> Result<(), AllocError> {
     put_modes(out, seat.modes)
 }
 
-fn put_all(out: &mut String, members: &Members) -> Result<(), AllocError> {
+/// Writes how many nicks there are, and each with its modes.
+pub fn put_all(out: &mut String, members: &Members) -> Result<(), AllocError> {
     write!(out, "{}", members.count())?;
     for seat in members.iter() {
         out.push(' ')?;

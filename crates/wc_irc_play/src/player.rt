@@ -41,7 +41,7 @@ impl Player {
             "come" | "go" | "name" | "give" | "find" | "nicks" => {
                 nicks_answer(alloc, &mut self.members, call, rest, out)
             }
-            "set" | "buffer" | "var" | "begin" | "hear" | "told" => {
+            "set" | "buffer" | "var" | "begin" | "hear" | "told" | "lists" => {
                 self.scene.answer(alloc, call, rest, out)
             }
             _ => texts_answer(alloc, call, rest, out),

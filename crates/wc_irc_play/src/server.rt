@@ -1,11 +1,15 @@
 //! A server, and what follows of its messages.
 
+ghost use Rattle.std.specs.Prelude.{IfOk};
+ghost use Rattle.wc_ircmsg.specs.Utf8.{MessageIsUtf8};
+
 use crate::acts::put_acts;
+use crate::nicks::put_all;
 use crate::rows::put_features;
 use crate::stage::Stage;
 use std::alloc::{AllocError, Global};
 use wc_buffers::Buffers;
-use wc_irc::Server;
+use wc_irc::{Channel, Server};
 use wc_ircmsg::{LineRefused, Message, read_line};
 use wc_notation::{Wrong, put_named, unescape};
 use wc_text::{Address, NoMemory, Text};
@@ -37,6 +41,20 @@ fn put_told(out: &mut String, server: &Server) -> Result<(), AllocError> {
     put_features(out, server.features())
 }
 
+fn put_channel(out: &mut String, channel: &Channel) -> Result<(), AllocError> {
+    put_named(out, "on", channel.name.as_slice())?;
+    out.push(' ')?;
+    put_all(out, &channel.nicks)?;
+    out.push('\n')
+}
+
+fn put_channels(out: &mut String, channels: &[Channel]) -> Result<(), AllocError> {
+    for channel in channels {
+        put_channel(out, channel)?;
+    }
+    Ok(())
+}
+
 /// Takes in a message, and writes what follows.
 fn heard(
     alloc: Global,
@@ -44,15 +62,19 @@ fn heard(
     buffers: &Buffers,
     message: &Message,
     out: &mut String,
-) -> Result<(), Wrong> {
-    match server.on_server_message(alloc, buffers, message)? {
+) -> Result<(), Wrong>
+    requires { MessageIsUtf8 message.now }
+{
+    match server.on_message(alloc, buffers, message)? {
         Some(acts) => put_acts(out, acts.as_slice())?,
         None => out.push_str("of another kind\n")?,
     }
     Ok(put_server(out, server)?)
 }
 
-fn read(alloc: Global, line: &Text) -> Result<Message, Wrong> {
+fn read(alloc: Global, line: &Text) -> Result<Message, Wrong>
+    ensures { IfOk result MessageIsUtf8 }
+{
     match read_line(alloc, line.as_slice()) {
         Ok(message) => Ok(message),
         Err(LineRefused::NoMemory) => Err(Wrong::NoMemory),
@@ -99,6 +121,13 @@ impl Scene {
         }
     }
 
+    fn lists(&self, out: &mut String) -> Result<(), Wrong> {
+        match &self.server {
+            Some(server) => Ok(put_channels(out, server.channels())?),
+            None => Err(Wrong::Missing),
+        }
+    }
+
     /// Writes the answer of a call on a server.
     pub fn answer(
         &mut self,
@@ -111,6 +140,7 @@ impl Scene {
             "begin" => self.begin(alloc, rest, out),
             "hear" => self.hear(alloc, rest, out),
             "told" => self.told(out),
+            "lists" => self.lists(out),
             _ => self.stage.change(alloc, call, rest),
         }
     }
