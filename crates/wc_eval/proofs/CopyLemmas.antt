@@ -5,6 +5,8 @@ use Rattle.std.proofs.lemmas.List.{nil_from_length}
 use Rattle.std.proofs.lemmas.Bool.{cases_lt}
 use Rattle.std.proofs.lemmas.Nat.{le-div}
 use mathlib.Core.Logic.{inl, inr}
+use Rattle.std.proofs.Common.{IsUtf8}
+use Rattle.std.proofs.lemmas.Str.{IsUtf8-nil, IsUtf8-append}
 use Rattle.wc_eval.specs.Values.{copies_of}
 
 copies_none : (n : ℕ) → copies_of n [] ≡ []
@@ -39,3 +41,7 @@ copies_over n text some over =
       | inl more ↦ omega (arith, long, more)
       | inr less ↦ let few = le-div n 65536 (length text) some less in absurd (omega (arith, few, over))
     ]
+
+pub copies_utf8 : (n : ℕ) (text : List ℕ) → IsUtf8 text → IsUtf8 (copies_of n text)
+copies_utf8 zero text utf8 = IsUtf8-nil
+copies_utf8 (suc n) text utf8 = IsUtf8-append text (copies_of n text) utf8 (copies_utf8 n text utf8)

@@ -19,6 +19,8 @@ pub mod CopyLemmas
 pub mod StepLemmas
 pub mod TurnLemmas
 pub mod KeptLemmas
-pub mod PlainLemmas
+pub mod EndLemmas
+pub mod MeaningLemmas
+pub mod KindValues
 pub mod CharacterLemmas
 pub mod ArgumentLemmas

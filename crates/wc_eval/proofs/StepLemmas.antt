@@ -43,6 +43,12 @@ stay_both a b c one two = record {
 
 -- ---- steps
 
+-- what is left of a step
+abbrev pub Comes : {A : Type 0} → (Oracle → Progress → Answer A) → (Oracle → Progress → Answer A) →
+    VerdictsView → Progress → Progress → Type 0
+Comes whole rest verdicts old now = (oracle : Oracle) → Agrees oracle verdicts →
+    whole oracle old ≡ rest oracle now
+
 module _ {A : Type 0} (v : VerdictsView) (a b : Progress) where
   -- the same step
   pub gives_same : (f g : Oracle → Progress → Answer A) →
@@ -57,6 +63,12 @@ module _ {A : Type 0} (v : VerdictsView) (a b : Progress) where
       IsErrAnd result (λ e. e ≡ stop) → Gives f v a b (Err stop) → Gives f v a b result
   gives_error f stop (Ok value) is gives = absurd is
   gives_error f stop (Err e) is gives = subst (λ s. Gives f v a b (Err s)) (sym is) gives
+
+  -- a limit is passed, if that is why
+  pub gives_over : (f : Oracle → Progress → Answer A) (stop : Stop) →
+      (stop ≡ Over → (oracle : Oracle) → Agrees oracle v → f oracle a ≡ None) → Gives f v a b (Err stop)
+  gives_over f Over passed = passed refl
+  gives_over f NoMemory passed = tt
 
 module _ {A B : Type 0} (f : Oracle → Progress → Answer A) (g : Oracle → A → Progress → Answer B)
     (one two : VerdictsView) (a b c : Progress) where

@@ -20,7 +20,7 @@ use Rattle.wc_eval.specs.Conditions.{Test, some_holds, all_hold, side_of, worth_
 use Rattle.wc_eval.specs.Conditions.{single_holds, holds_with, never, holds_at, inside_at}
 use Rattle.wc_eval.specs.Turns.{turn_among, next_turn, found_after, found_from, turn_of}
 use Rattle.wc_eval.specs.Turns.{turn_size, ranks_size, EachUtf8, TurnUtf8}
-use Rattle.wc_eval.proofs.StepLemmas.{agrees_earlier, gives_same, gives_then, gives_stop}
+use Rattle.wc_eval.proofs.StepLemmas.{Comes, agrees_earlier, gives_same, gives_then, gives_stop}
 use Rattle.wc_eval.proofs.Utf8Lemmas.{parts_utf8, comparing_utf8}
 
 -- ---- turns
@@ -62,12 +62,6 @@ inside_none : (oracle : Oracle) (evaluate : Evaluator) (groups : ℕ) → groups
     inside_at oracle evaluate groups ≡ never
 inside_none oracle evaluate zero e = refl
 inside_none oracle evaluate (suc groups) e = absurd (omega (arith, e))
-
--- what is left of a step
-abbrev pub Comes : (Oracle → Progress → Answer Bool) → (Oracle → Progress → Answer Bool) →
-    VerdictsView → Progress → Progress → Type 0
-Comes whole rest verdicts old now = (oracle : Oracle) → Agrees oracle verdicts →
-    whole oracle old ≡ rest oracle now
 
 module _ (evaluate : Oracle → Evaluator) (groups : ℕ) (text : List ℕ) where
   abbrev single : Oracle → Test

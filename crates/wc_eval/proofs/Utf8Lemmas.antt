@@ -42,7 +42,7 @@ split_utf8 : (c : ℕ) (ps : List Piece) (parts : List Piece × List Piece) → 
 split_utf8 c ps parts small e utf8 = utf8_parts (text_of parts.0) c (text_of parts.1) small
     (subst IsUtf8 (split_text c ps parts e) utf8)
 
-texts_utf8 : (c : ℕ) (ps : List Piece) (a b : List ℕ) → c < 128 →
+pub texts_utf8 : (c : ℕ) (ps : List Piece) (a b : List ℕ) → c < 128 →
     ◌≡◌ {A = Option (List ℕ × List ℕ)} (Some (a, b)) (option_map texts_of (split_at c ps)) →
     IsUtf8 (text_of ps) → IsUtf8 a × IsUtf8 b
 texts_utf8 c ps a b small e utf8 = by (split_at c ps) refl e

@@ -7,8 +7,7 @@ use Rattle.wc_eval.specs.Pieces.{most_open}
 use Rattle.wc_eval.specs.declared.comparison.Comparison.{Comparison}
 use Rattle.wc_eval.specs.Comparisons.{has_text_sides, holds_by}
 use Rattle.wc_eval.specs.Parts.{Comparing, parts_of, whole_group, comparing_in}
-use Rattle.wc_eval.specs.Progress.{Progress, Answer, Evaluator, then_do, answer_of, if_short}
-use Rattle.wc_eval.specs.Progress.{value_or, fresh}
+use Rattle.wc_eval.specs.Progress.{Progress, Answer, Evaluator, then_do, answer_of}
 
 -- how a condition is tested
 abbrev pub Test : Type 0
@@ -97,13 +96,3 @@ most_groups = 32
 unfoldable pub condition_by : Oracle → Evaluator → Test
 condition_by oracle evaluate text progress = if nat_le (most_open text) most_groups
     then holds_at oracle evaluate most_groups text progress else answer_of false progress
-
--- ---- without forms
-
--- a text as it is
-abbrev pub as_it_is : Evaluator
-as_it_is text progress = if_short (answer_of text progress)
-
--- whether a condition holds whose texts stay as they are; where a limit is passed it does not
-unfoldable pub holds_as_it_is : Oracle → List ℕ → Bool
-holds_as_it_is oracle text = value_or false (condition_by oracle as_it_is text fresh)

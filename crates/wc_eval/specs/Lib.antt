@@ -22,3 +22,5 @@ pub mod Stored
 pub mod Cuts
 pub mod Arguments
 pub mod Names
+pub mod Meaning
+pub mod LongValues

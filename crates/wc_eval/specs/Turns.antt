@@ -9,7 +9,7 @@ use Rattle.wc_eval.specs.Reading.{texts_left, size_of}
 use Rattle.wc_eval.specs.Progress.{Progress, Answer, then_do, answer_of}
 use Rattle.wc_eval.specs.Conditions.{Test, some_holds, all_hold}
 
--- A text that is tested, with those after it up to the next `||` and those behind that; or the end.
+-- A text that is tested, with those after it up to the next `||` and those after that; or the end.
 pub data Turn : Type 0 where
   Tests : List ℕ → List (List ℕ) → List (List ℕ) → Turn
   Ends : Bool → Turn

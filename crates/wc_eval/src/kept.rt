@@ -1,13 +1,14 @@
-ghost use Rattle.std.specs.Prelude.{◌≡◌, ◌≤◌, ◌<◌, IfErr, OnOk, OnErr};
-ghost use Rattle.std.specs.Option.{option_copied};
+ghost use Rattle.std.specs.Prelude.{◌≡◌, ◌≤◌, ◌<◌, IfErr, OnOk, OnErr, option_map};
+ghost use Rattle.std.specs.Str.{IsUtf8};
 ghost use Rattle.wc_eval.specs.Progress.{fresh, counted, define};
 ghost use Rattle.wc_eval.specs.Names.{defined_in};
 
+use crate::characters::as_text;
 use crate::values::Stop;
 use indexmap::IndexMap;
 use std::alloc::Global;
 use std::marker::Model;
-use wc_text::{NoMemory, Text};
+use wc_text::NoMemory;
 
 /// The most forms that one evaluation has.
 const MOST_FORMS: u32 = 65_536;
@@ -16,7 +17,7 @@ const MOST_FORMS: u32 = 65_536;
 /// how many forms were evaluated.
 #[derive(Drop)]
 pub(crate) struct Kept {
-    names: IndexMap<Vec<u8>, Text>,
+    names: IndexMap<Vec<u8>, String>,
     forms: u32,
 }
 
@@ -60,10 +61,11 @@ impl Kept {
         name: &[u8],
         value: &[u8],
     ) -> Result<(), NoMemory>
+        requires { IsUtf8 value.now }
         ensures ok { OnOk result (self.new ≡ define name.now value.now self.old) }
     {
         let key = name.to_vec(alloc)?;
-        let value = Text::from_slice(alloc, value)?;
+        let value = as_text(value).to_string(alloc)?;
         let Ok(_) = self.names.insert(key, value) else {
             return Err(NoMemory);
         };
@@ -71,9 +73,12 @@ impl Kept {
     }
 
     /// The value of a name that was set.
-    pub(crate) fn value(&self, name: &[u8]) -> Option<&Text>
-        ensures { option_copied result ≡ defined_in name.now self.now.names }
+    pub(crate) fn value(&self, name: &[u8]) -> Option<&str>
+        ensures { option_map (λ value. value.now) result ≡ defined_in name.now self.now.names }
     {
-        self.names.get(name)
+        match self.names.get(name) {
+            Some(value) => Some(value.as_str()),
+            None => None,
+        }
     }
 }

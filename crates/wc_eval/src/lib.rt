@@ -1,14 +1,16 @@
-//! Patterns with verdicts on them, expressions of whole numbers, comparisons and conditions.
+//! Texts with forms in them evaluated, and conditions; patterns with verdicts on them.
 #![tactic(auto)]
 
 mod arguments;
 mod blanks;
 mod branches;
+mod calls;
 mod characters;
 mod comparison;
 mod compiler;
-mod conditions;
+mod context;
 mod cuts;
+mod evaluation;
 mod forms;
 mod kept;
 mod kind;
@@ -27,7 +29,8 @@ mod verdicts;
 pub use blanks::is_true;
 pub use comparison::{Comparison, compare};
 pub use compiler::{CompileRefused, Compiler};
-pub use conditions::plain_condition;
+pub use evaluation::{condition, eval};
+pub use scope::Scope;
 pub use search::{Span, all_groups, is_match};
 pub use sums::calc;
 pub use verdict::Verdict;

@@ -1,6 +1,7 @@
-ghost use Rattle.std.specs.Prelude.{◌≡◌, option_map};
+ghost use Rattle.std.specs.Prelude.{◌≡◌, All, IfSome, option_map};
+ghost use Rattle.std.specs.Str.{IsUtf8};
 ghost use Rattle.wc_eval.specs.Names.{facts_of, value_of, known_in};
-ghost use Rattle.wc_eval.specs.Names.{group_value};
+ghost use Rattle.wc_eval.specs.Names.{group_value, HasText, AreTexts};
 
 use crate::values::read_size;
 use wc_text::{Items, Pair, Text};
@@ -20,7 +21,9 @@ pub struct Scope<'a> {
 
 /// The value of the first pair with this name.
 fn value_of<'a>(pairs: &'a [Pair], name: &[u8]) -> Option<&'a [u8]>
-    ensures { option_map (λ value. value.now) result ≡ value_of name.now pairs.now }
+    requires { All HasText pairs.now }
+    ensures utf8 { IfSome result (λ value. IsUtf8 value.now) }
+    ensures value { option_map (λ value. value.now) result ≡ value_of name.now pairs.now }
 {
     for pair in pairs {
         if pair.name.as_slice() == name {
@@ -33,7 +36,9 @@ fn value_of<'a>(pairs: &'a [Pair], name: &[u8]) -> Option<&'a [u8]>
 impl<'a> Scope<'a> {
     /// What a name stands for that is not defined in the text.
     pub(crate) fn known(self, name: &[u8]) -> Option<&'a [u8]>
-        ensures { option_map (λ value. value.now) result
+        requires { AreTexts (facts_of self) }
+        ensures utf8 { IfSome result (λ value. IsUtf8 value.now) }
+        ensures value { option_map (λ value. value.now) result
             ≡ known_in (facts_of self.entry) name.now }
     {
         if let Some(value) = value_of(self.vars.as_slice(), name) {
@@ -48,7 +53,9 @@ impl<'a> Scope<'a> {
     /// A group of the last match, or nothing.
     #[tactic(auto, unfolding(crate::specs::Names::group_value))]
     pub(crate) fn group(self, number: &[u8]) -> &'a [u8]
-        ensures { result.now ≡ group_value (facts_of self.entry) number.now }
+        requires { AreTexts (facts_of self) }
+        ensures utf8 { IsUtf8 result.now }
+        ensures value { result.now ≡ group_value (facts_of self.entry) number.now }
     {
         let Some(place) = read_size(number) else {
             return b"";

@@ -22,7 +22,7 @@ pub(crate) enum Turn<'a> {
     End(bool),
 }
 
-/// The first of the texts between `&&`, where these others are behind the next `||`.
+/// The first of the texts between `&&`, where these others come after the next `||`.
 fn turn_among<'a>(parts: Parts<'a>, others: Parts<'a>) -> Turn<'a>
     ensures turn { turn_of result ≡ turn_among (texts_left parts.entry) (texts_left others.entry) }
     ensures smaller { turn_size result ≤ size_of parts.entry + size_of others.entry }
@@ -34,7 +34,7 @@ fn turn_among<'a>(parts: Parts<'a>, others: Parts<'a>) -> Turn<'a>
 }
 
 /// The turn that tests the first text of those between `||`, from the left.
-fn turn_behind(others: Parts<'_>) -> Turn<'_>
+fn turn_after(others: Parts<'_>) -> Turn<'_>
     ensures turn { turn_of result ≡ next_turn false [] (texts_left others.entry) }
     ensures smaller { turn_size result ≤ size_of others.entry }
 {
@@ -49,7 +49,7 @@ impl<'a> Ranks<'a> {
     pub(crate) fn begin(text: &'a [u8]) -> Turn<'a>
         ensures { turn_of result ≡ next_turn false [] (parts_of 124 text.now) }
     {
-        turn_behind(Parts::new(text, b'|'))
+        turn_after(Parts::new(text, b'|'))
     }
 
     /// The turn after a text that holds or does not.
@@ -61,6 +61,6 @@ impl<'a> Ranks<'a> {
         if holds {
             return turn_among(self.rest, self.others);
         }
-        turn_behind(self.others)
+        turn_after(self.others)
     }
 }

@@ -1,4 +1,4 @@
-ghost use Rattle.std.specs.Prelude.{◌≡◌, ◌≤◌, ◌<◌, ◌+◌, ◌++◌, Err, length, OnOk};
+ghost use Rattle.std.specs.Prelude.{◌≡◌, ◌≤◌, ◌<◌, ◌+◌, ◌++◌, Err, length, OnOk, IfOk};
 ghost use Rattle.std.specs.Str.{IsUtf8};
 ghost use Rattle.wc_eval.specs.Values.{Makes, size_in, copies_of, repeat_value, hide_value};
 ghost use Rattle.wc_eval.specs.declared.values.Stop.TheVariants.{NoMemory as no_memory};
@@ -77,7 +77,9 @@ fn copies_of(alloc: Global, count: u64, text: &[u8]) -> Result<Text, Stop>
 
 /// The value of `${repeat:}`.
 pub(crate) fn repeat_value(alloc: Global, size: &[u8], text: &[u8]) -> Result<Text, Stop>
-    ensures { Makes (repeat_value size.now text.now) result }
+    requires { IsUtf8 text.now }
+    ensures utf8 { IfOk result IsUtf8 }
+    ensures made { Makes (repeat_value size.now text.now) result }
 {
     match read_size(size) {
         Some(count) => copies_of(alloc, count, text),
@@ -87,8 +89,10 @@ pub(crate) fn repeat_value(alloc: Global, size: &[u8], text: &[u8]) -> Result<Te
 
 /// The value of `${hide:}`.
 pub(crate) fn hide_value(alloc: Global, cover: &[u8], text: &[u8]) -> Result<Text, Stop>
-    requires { IsUtf8 text.now }
-    ensures { Makes (hide_value cover.now text.now) result }
+    requires cover { IsUtf8 cover.now }
+    requires text { IsUtf8 text.now }
+    ensures utf8 { IfOk result IsUtf8 }
+    ensures made { Makes (hide_value cover.now text.now) result }
 {
     copies_of(alloc, character_count(text) as u64, cover)
 }

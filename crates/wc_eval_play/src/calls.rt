@@ -1,9 +1,11 @@
 ghost use Rattle.std.specs.Prelude.{IfOk};
 ghost use Rattle.std.specs.Str.{IsUtf8};
+ghost use Rattle.wc_eval.specs.Names.{facts_of, AreTexts};
 
+use crate::scenery::{facts, groups, locals, vars};
 use std::alloc::Global;
-use wc_eval::{Comparison, Verdicts, calc, compare, plain_condition};
-use wc_notation::{Wrong, cut_word, put_either, unescape};
+use wc_eval::{Comparison, Scope, Verdicts, calc, compare, condition, eval};
+use wc_notation::{Wrong, cut_word, put_either, put_quoted, unescape};
 use wc_text::Text;
 
 /// The text that the rest of a line writes.
@@ -57,17 +59,65 @@ fn put_comparison(
     Ok(put_either(out, holds, "holds", "does not hold")?)
 }
 
-/// Whether a condition holds in which forms stay as they are.
+/// Writes the value of a text, or how long it is.
+fn put_value(
+    alloc: Global,
+    scope: Scope<'_>,
+    verdicts: &mut Verdicts,
+    text: &Text,
+    out: &mut String,
+) -> Result<(), Wrong>
+    requires scope { AreTexts (facts_of scope) }
+    requires text { IsUtf8 text.now }
+{
+    let value = eval(alloc, scope, verdicts, text)?;
+    let bytes = value.as_slice();
+    if bytes.len() > 200 {
+        return Ok(write!(out, "{} bytes", bytes.len())?);
+    }
+    Ok(put_quoted(out, bytes)?)
+}
+
+/// Whether a condition holds.
 fn put_condition(
     alloc: Global,
+    scope: Scope<'_>,
     verdicts: &mut Verdicts,
+    text: &Text,
+    out: &mut String,
+) -> Result<(), Wrong>
+    requires scope { AreTexts (facts_of scope) }
+    requires text { IsUtf8 text.now }
+{
+    let holds = condition(alloc, scope, verdicts, text)?;
+    Ok(put_either(out, holds, "holds", "does not hold")?)
+}
+
+/// Writes the answer of a call on a text that may name what there is.
+fn answer_in_scope(
+    alloc: Global,
+    verdicts: &mut Verdicts,
+    call: &str,
     text: &Text,
     out: &mut String,
 ) -> Result<(), Wrong>
     requires { IsUtf8 text.now }
 {
-    let holds = plain_condition(alloc, verdicts, text)?;
-    Ok(put_either(out, holds, "holds", "does not hold")?)
+    let vars = vars(alloc)?;
+    let facts = facts(alloc)?;
+    let locals = locals(alloc)?;
+    let groups = groups(alloc)?;
+    let scope = Scope {
+        vars: &vars,
+        facts: &facts,
+        locals: &locals,
+        groups: &groups,
+    };
+    match call {
+        "eval" => put_value(alloc, scope, verdicts, text, out),
+        "condition" => put_condition(alloc, scope, verdicts, text, out),
+        _ => Err(Wrong::Word),
+    }
 }
 
 /// Writes the answer of a call on one text.
@@ -82,8 +132,7 @@ fn answer_on_text(
     match call {
         "calc" => put_number(&text, out),
         "judge" => put_verdict(verdicts, &text, out),
-        "condition" => put_condition(alloc, verdicts, &text, out),
-        _ => Err(Wrong::Word),
+        _ => answer_in_scope(alloc, verdicts, call, &text, out),
     }
 }
 

@@ -1,13 +1,14 @@
-//! Plays tables of patterns, expressions, comparisons and conditions, and prints each line and its
-//! answer.
+//! Plays tables of texts, conditions, comparisons, expressions and patterns, and prints each line
+//! and its answer.
 //!
-//! Each word of the command line is the name of a file. Each line of it is a call: `judge` or
-//! `calc` or `condition` and a text, or `compare`, the sign and two texts. Lines that are empty or
-//! begin with `#` are passed over. Nothing is claimed here: what is printed is compared.
+//! Each word of the command line is the name of a file. Each line of it is a call: `eval`,
+//! `condition`, `calc` or `judge` and a text, or `compare`, the sign and two texts. Lines that are
+//! empty or begin with `#` are passed over. Nothing is claimed here: what is printed is compared.
 #![tactic(auto)]
 
 mod calls;
 mod player;
+mod scenery;
 
 use player::Player;
 use std::alloc::Global;

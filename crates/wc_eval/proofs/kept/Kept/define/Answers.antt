@@ -1,4 +1,5 @@
 use Rattle.std.proofs.Common.{rules, ◌≡◌, ◌∙◌, ap, List, ℕ}
+use Rattle.std.specs.Prelude.{string_bytes}
 use Rattle.wc_eval.specs.Stored.{names_of}
 use Rattle.wc_eval.specs.Progress.{Progress, with_name, define}
 use Rattle.wc_eval.proofs.KeptLemmas.{names_set}
@@ -8,12 +9,12 @@ pub returns : goal.returns
 returns c =
     let kept = c.self.inside in
     let name : c.in_ok-key.key.items ≡ c.args.name.now = search rules in
-    let value : c.in_ok-value.value ≡ c.args.value.now = c.in_ok-value.ensures in
+    let value : string_bytes c.in_ok-value.value ≡ c.args.value.now = search rules in
     let names : names_of c.insert.new.self.entries
     ≡ with_name c.args.name.now c.args.value.now (names_of kept.names.entries) =
     ap names_of c.in-Ok.ensures.entries
     ∙ names_set c.in_ok-key.key c.in_ok-value.value kept.names.entries
-    ∙ ap (λ n. with_name n c.in_ok-value.value (names_of kept.names.entries)) name
+    ∙ ap (λ n. with_name n (string_bytes c.in_ok-value.value) (names_of kept.names.entries)) name
     ∙ ap (λ v. with_name c.args.name.now v (names_of kept.names.entries)) value in
     let is = ap {B = Progress} (λ (l : List (List ℕ × List ℕ)). record { names = l; forms = kept.forms })
     names ∙ ap (define c.args.name.now c.args.value.now) c.self.view_is in
