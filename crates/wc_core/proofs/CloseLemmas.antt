@@ -10,6 +10,8 @@ use Rattle.wc_nickdiff.specs.declared.diff_item.Push.{Push}
 use Rattle.wc_session.specs.Event.{push_told}
 use Rattle.wc_objects.specs.declared.object.WireMessage.{WireMessage}
 use Rattle.wc_session.specs.declared.client.Client.{Client}
+use Rattle.wc_outside.specs.Keyed.{put_at}
+use Rattle.wc_session.specs.Reply.{Answer}
 use Rattle.wc_session.specs.declared.outcome.Outcome.{Outcome}
 use Rattle.wc_session.specs.declared.outcome.Outcome.TheVariants as outcome
 use Rattle.wc_text.specs.declared.names.Handle.{Handle}
@@ -27,10 +29,11 @@ use Rattle.wc_options.specs.Options.{refusal_of, value_of}
 use Rattle.wc_options.specs.declared.refusal.SetRefused.{SetRefused}
 use Rattle.wc_options.specs.declared.refusal.SetRefused.TheVariants.{UnknownOption}
 use Rattle.wc_core.specs.Typed.{TypedCommand, typed_line, lines_of_text}
-use Rattle.wc_core.specs.State.{State, Stepped}
-use Rattle.wc_core.specs.Step.{set_step_if, unset_step_if, client_link, pushed_to, push_at, pushes_of, push_step, no_step, then_does, sends, tell_all_step, change_step, change_step_if, refusal_step, ask_step_if, effect_step, typed_step, is_quit, lines_step, outcome_step, loss_step}
+use Rattle.wc_core.specs.State.{State, Stepped, has_end}
+use Rattle.wc_core.specs.Step.{set_step_if, unset_step_if, client_link, pushed_to, push_at, pushes_of, push_step, no_step, then_does, sends, tell_all_step, change_step, change_step_if, refusal_step, ask_step_if, effect_step, typed_step, is_quit, lines_step, outcome_step, answer_step, loss_step, core_buffer, commands_step}
 use Rattle.wc_core.specs.CoreView.{CoreView}
-use Rattle.wc_core.specs.Served.{state_of, or_else, close_of, StaysOrStarves, LeavesBy}
+use Rattle.wc_core.specs.Served.{state_of, or_else, close_of, LeavesBy}
+use Rattle.wc_board.specs.Served.{StaysOrStarves}
 use Rattle.wc_core.proofs.DidLemmas.{close_of-append, ClosesLater}
 use Rattle.wc_core.proofs.ConnectionLemmas.{close-sends, close-told}
 
@@ -93,7 +96,7 @@ resolved-closes j state (UnsetsOption name) = unsets_if-closes j state name (val
 pub does-closes : (j : ℕ) (state : State) (buffer : Handle) (typed : TypedCommand) → close_of j (typed_step state buffer typed).acts ≡ None
 does-closes j state buffer typed = resolved-closes j state (effect_of state.world state.moment buffer typed)
 
-then-closes : (j : ℕ) (first : Stepped) (next : State → Stepped) → close_of j first.acts ≡ None → close_of j (next first.state).acts ≡ None → close_of j (then_does first next).acts ≡ None
+pub then-closes : (j : ℕ) (first : Stepped) (next : State → Stepped) → close_of j first.acts ≡ None → close_of j (next first.state).acts ≡ None → close_of j (then_does first next).acts ≡ None
 then-closes j first next p q = close_of-append j first.acts (next first.state).acts ∙ ap (λ o. or_else o (close_of j (next first.state).acts)) p ∙ q
 
 pub runs-closes : (j : ℕ) (state : State) (buffer : Handle) (lines : List (List ℕ)) → close_of j (lines_step state buffer lines).acts ≡ None
@@ -103,6 +106,13 @@ runs-closes j state buffer (line ∷ lines) =
     closes_none-if j (not (is_there buffer state.world.groups)) (no_step state) (cond (is_quit (typed_line line)) first (then_does first (λ next. lines_step next buffer lines))) refl
     (closes_none-if j (is_quit (typed_line line)) first (then_does first (λ next. lines_step next buffer lines)) (does-closes j state buffer (typed_line line))
     (then-closes j first (λ next. lines_step next buffer lines) (does-closes j state buffer (typed_line line)) (runs-closes j first.state buffer lines)))
+
+pub commands-closes : (j : ℕ) (state : State) (commands : List (List ℕ)) → close_of j (commands_step state commands).acts ≡ None
+commands-closes j state [] = refl
+commands-closes j state (command ∷ commands) =
+    let first = lines_step state core_buffer (lines_of_text command) in
+    closes_none-if j (has_end first.acts) first (then_does first (λ next. commands_step next commands)) (runs-closes j state core_buffer (lines_of_text command))
+    (then-closes j first (λ next. commands_step next commands) (runs-closes j state core_buffer (lines_of_text command)) (commands-closes j first.state commands))
 
 pub typed-later : (b : CoreView) (state : State) (buffer : Handle) (typed : TypedCommand) (lines : List (List ℕ)) → ClosesLater b (typed_step state buffer typed) (λ next. lines_step next buffer lines)
 typed-later b state buffer typed lines =
@@ -118,6 +128,13 @@ follows-same j k outcome.NoMemory s t = refl
 
 pub reply-later : (b : CoreView) (k : ℕ) (state : State) (messages : List WireMessage) (o : Outcome) → ClosesLater b (record { state = state; acts = sends k messages }) (λ next. outcome_step next k o)
 reply-later b k state messages o = record { first_none = λ j. close-sends j k messages; same = λ j. follows-same j k o (state_of b state.told) state }
+
+-- whom an answer closes does not hang on the state
+pub answer-closes-same : (j k : ℕ) (answer : Answer) (s t : State) → close_of j (answer_step s k answer).acts ≡ close_of j (answer_step t k answer).acts
+answer-closes-same j k answer s t =
+    let sent = sends k answer.messages in
+    let after : State → State = λ state. record state { clients = put_at client_link k answer.client state.clients } in
+    close_of-append j sent (outcome_step (after s) k answer.outcome).acts ∙ ap (or_else (close_of j sent)) (follows-same j k answer.outcome (after s) (after t)) ∙ sym (close_of-append j sent (outcome_step (after t) k answer.outcome).acts)
 
 starve_else : (before closes after : Option Cause) → StaysOrStarves None closes → after ≡ or_else before closes → StaysOrStarves before after
 starve_else None closes after (inl none) e = inl (e ∙ none)

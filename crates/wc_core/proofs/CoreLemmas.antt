@@ -1,5 +1,5 @@
 -- What each of the core's calls does.
-use Rattle.std.proofs.Common.{◌≡◌, ℕ, ◌+◌, ◌-◌, ◌^◌, ◌<◌, ◌≤◌, true, false, List, [], ◌∷◌, ◌++◌, length, inl, inr, Option, Some, None, Bool, not, nat_eq, ◌≢◌, refl, ap, sym, subst, ◌∙◌, arith, append-nil, nat_lt, set, get_or, min, filter, IfSome}
+use Rattle.std.proofs.Common.{◌≡◌, cond, ◌&&◌, ℕ, ◌+◌, ◌-◌, ◌^◌, ◌<◌, ◌≤◌, true, false, List, [], ◌∷◌, ◌++◌, length, inl, inr, Option, Some, None, Bool, not, nat_eq, ◌≢◌, refl, ap, sym, subst, ◌∙◌, arith, append-nil, nat_lt, get_or, min, filter, IfSome}
 use Rattle.std.specs.Prelude.{map}
 use Rattle.std.proofs.lemmas.Bool.{false≢true}
 use Rattle.std.proofs.lemmas.Bool.Decides.{nat_tests}
@@ -7,7 +7,7 @@ use Rattle.wc_text.specs.declared.names.Cause.{Cause}
 use Rattle.wc_text.specs.declared.names.Cause.TheVariants.{Surplus, NoMemory}
 use Rattle.wc_text.specs.declared.names.LinkId.{LinkId}
 use Rattle.wc_outside.specs.Keyed.{at_key, put_at, IsKeyPlace}
-use Rattle.wc_outside.proofs.KeyedLemmas.{at_key-key, at_key-put_same}
+use Rattle.wc_outside.proofs.KeyedLemmas.{at_key-key}
 use Rattle.wc_relaycmd.specs.declared.request.Request.{Request}
 use Rattle.wc_relaycmd.specs.Answers.{request_of}
 use Rattle.wc_relaycmd.specs.Utf8.{RequestIsUtf8}
@@ -17,8 +17,8 @@ use Rattle.wc_session.specs.declared.outcome.Outcome.TheVariants as outcome
 use Rattle.wc_session.specs.Known.{Known, new_session}
 use Rattle.wc_session.specs.Reply.{Answer, reply_of}
 use Rattle.wc_session.specs.Served.{OnServed, OnNoMemory, AnswersRequest}
-use Rattle.wc_core.specs.declared.connection.Connection.{Connection}
-use Rattle.wc_core.specs.CoreView.{CoreView, HasNoRows}
+use Rattle.wc_board.specs.declared.connection.Connection.{Connection}
+use Rattle.wc_core.specs.CoreView.{CoreView}
 use Rattle.wc_text.specs.declared.names.Handle.{Handle}
 use Rattle.wc_buffers.specs.Calls.{EntryGroups}
 use Rattle.wc_model.specs.declared.change.Change.{Change}
@@ -28,33 +28,46 @@ use Rattle.wc_model.specs.declared.refused.ChangeRefused.{ChangeRefused}
 use Rattle.wc_model.specs.World.{World}
 use Rattle.wc_model.specs.Apply.{refusal, after}
 use Rattle.wc_model.specs.Notices.{Accepted}
-use Rattle.wc_model.specs.Touches.{touched_key, told_after}
+use Rattle.wc_model.specs.Touches.{told_after}
 use Rattle.wc_nickdiff.specs.Held.{OfBuffer}
 use Rattle.wc_options.specs.Options.{OptionsValue}
 use Rattle.wc_core.specs.Typed.{TypedCommand, Nothing, Quits, Refused, Prints, Adds, Closes, Merges, Names, Changes as TypedChanges, Sets, Unsets, Switches}
 use Rattle.wc_core.specs.Resolved.{Effect, Stays, Ends as ResolvedEnds, Tells, Asks, SetsOption, UnsetsOption, switched, buffer_meant, of_meant, of_named, change_of, line_spec, effect_of, refusal_text, told_refusal}
-use Rattle.wc_core.specs.Inputs.{MakesChange, TellsSome, MayTell}
+use Rattle.wc_core.specs.Inputs.{MakesChange, RefusesChange, push_before, AnswersRequestOf}
 use Rattle.wc_core.specs.Limits.{client_limit}
-use Rattle.wc_core.specs.State.{State, Stepped}
-use Rattle.wc_core.specs.Step.{client_link, no_step, push_step, reply_step, sends, tell_all_step, change_step, change_step_if, refusal_step, ask_step_if, ask_step, effect_step, typed_step, is_quit, leave_step, loss_step, arrival_step, outcome_step, answer_step, request_step, line_step}
-use Rattle.wc_core.specs.Served.{connection_link, is_open, is_open_at, clients_of, state_of, WereTold, unsent_on, leaving_on, close_of, Distinct, StaysOrStarves, LeavesBy, FollowsUnlessStarved, Does, AdmitsUnlessStarved, RanOutOfMemory, told_connection, ConnectionsServed, OutcomeUtf8, ConnectionsKept}
-use Rattle.wc_core.specs.Told.{Told, NothingTouched}
-use Rattle.wc_core.proofs.CloseLemmas.{reply-later, lost-starves}
-use Rattle.wc_core.proofs.DidLemmas.{or-true, leaves-none, Follows-stays, KeepsClients-refl, KeepsClients-trans, KeepsClients-connections, FollowsUnlessStarved-exact, Does-stays, Does-starved, FollowsUnlessStarved-then}
-use Rattle.wc_core.proofs.ConnectionLemmas.{open-length, clients-push, links-push, unsent-push, leaving-push, kept-push, ConnectionsKept-causes, client-open, client-missing, client-leaving}
-use Rattle.wc_core.proofs.EventLemmas.{served_map, served_kept}
+use Rattle.wc_core.specs.State.{State, Act, Stepped}
+use Rattle.wc_core.specs.Step.{client_link, no_step, then_does, push_step, reply_step, sends, tell_all_step, change_step, change_step_if, refusal_step, ask_step_if, ask_step, effect_step, typed_step, is_quit, leave_step, loss_step, arrival_step, outcome_step, answer_step, request_step, line_step}
+use Rattle.wc_board.specs.Connections.{connection_link, is_open, is_open_at, unsent_on, leaving_on, left_if, left_at}
+use Rattle.wc_core.specs.Served.{clients_of, state_of, WereTold, close_of, Distinct, LeavesBy, FollowsUnlessStarved, Does, AdmitsUnlessStarved, RanOutOfMemory, OutcomeUtf8}
+use Rattle.wc_board.specs.Served.{StaysOrStarves, told_connection, ConnectionsServed, ConnectionsKept}
+use Rattle.wc_board.specs.Answered.{is_nicklist, AnsweredIf, AnsweredAt}
+use Rattle.wc_board.specs.BoardView.{BoardView, NoStrayTouches}
+use Rattle.wc_board.specs.Told.{Told, told_of, AreTold, AreTouched}
+use Rattle.wc_board.proofs.TellLaw.{change_keeps_told}
+use Rattle.wc_buffers.specs.Kept.{AreBuffers}
+use Rattle.wc_core.proofs.CloseLemmas.{reply-later, lost-starves, pushes-closes, answer-closes-same}
+use Rattle.wc_core.proofs.DidLemmas.{ClosesLater, or-true, leaves-none, Follows-stays, KeepsClients-refl, KeepsClients-trans, KeepsClients-connections, FollowsUnlessStarved-exact, Does-stays, Does-starved, FollowsUnlessStarved-then}
+use Rattle.wc_core.proofs.ConnectionLemmas.{open-length, clients-push, links-push, unsent-push, leaving-push, kept-push, client-open, client-missing, client-leaving}
+use Rattle.wc_board.proofs.ConnectionLemmas.{ConnectionsKept-causes}
+use Rattle.wc_board.proofs.EventLemmas.{served_map, served_kept}
 use Rattle.wc_core.proofs.ServeLemmas.{open_none, told_to_all, told-left, Follows-told, KeepsClients-told, KeepsClients-put, reply-left, Follows-reply, leave-left, Follows-leave, leaving-put}
 use Rattle.wc_core.proofs.ReplyLemmas.{reply_fits}
-use Rattle.wc_core.proofs.PushLemmas.{asked-pushed, told_follows}
+use Rattle.wc_core.proofs.PushLemmas.{Does-over}
 
 -- ---- want of memory
 
+-- want of memory alone
+pub starves-only : (old new : CoreView) → new ≡ record old { starved = min (old.starved + 1) (2 ^ 64 - 1) } → old.starved ≤ new.starved → RanOutOfMemory old new
+starves-only old new e rises =
+    let count : new.starved ≡ min (old.starved + 1) (2 ^ 64 - 1) = ap (λ (c : CoreView). c.starved) e in
+    record {
+      keeps = KeepsClients-connections old new (ap (λ (c : CoreView). c.connections) e) rises;
+      causes = λ distinct j. inl (ap (λ (c : CoreView). leaving_on j c.connections) e);
+      counted = λ below. omega arith;
+    }
+
 pub starved_only : (old new : CoreView) (step : State → Stepped) → new ≡ record old { starved = min (old.starved + 1) (2 ^ 64 - 1) } → old.starved ≤ new.starved → Does old new step
-starved_only old new step e rises = Does-starved old new step (record {
-  keeps = KeepsClients-connections old new (ap (λ (c : CoreView). c.connections) e) rises;
-  causes = λ distinct j. inl (ap (λ (c : CoreView). leaving_on j c.connections) e);
-  count = ap (λ (c : CoreView). c.starved) e;
-})
+starved_only old new step e rises = Does-starved old new step (starves-only old new e rises)
 
 -- what was done stays done where want of memory is counted after it
 pub done-starved : (old mid new : CoreView) (step : State → Stepped) → Does old mid step → new ≡ record mid { starved = min (mid.starved + 1) (2 ^ 64 - 1) } → mid.starved ≤ new.starved → Does old new step
@@ -71,69 +84,56 @@ done-starved old mid new step done e rises = λ told.
 
 -- ---- notices
 
-told-all : (told told' : Told) (old : CoreView) (world : World) (n : Notice) (new : CoreView) → new ≡ record old { world = world; connections = map (told_connection world n) old.connections } → (WereTold old told → WereTold (told_to_all old world n) told')
+told-all : (told told' : Told) (old : CoreView) (world : World) (pending : List OfBuffer) (n : Notice) (new : CoreView) → new ≡ told_to_all old world pending n → (WereTold old told → WereTold (told_to_all old world pending n) told')
     → FollowsUnlessStarved told old new (tell_all_step (state_of old told) told' world n)
-told-all told told' old world n new e were =
+told-all told told' old world pending n new e were =
     let step = tell_all_step (state_of old told) told' world n in
     let P : CoreView → Type 0 = λ c. FollowsUnlessStarved told old c step in
     subst P (sym e)
-    (FollowsUnlessStarved-exact told old (told_to_all old world n) step
-    (KeepsClients-told old (told_to_all old world n) (served_kept world n old.connections (map (told_connection world n) old.connections) (served_map n.kind n.buffer.0 (told_connection world n) old.connections)) (omega arith))
-    (λ distinct. told-left told told' old world n) (λ distinct before. Follows-told told told' old world n distinct (were before)))
+    (FollowsUnlessStarved-exact told old (told_to_all old world pending n) step
+    (KeepsClients-told old (told_to_all old world pending n) (served_kept world n old.connections (map (told_connection world n) old.connections) (served_map n.kind n.buffer.0 (told_connection world n) old.connections)) (omega arith))
+    (λ distinct. told-left told told' old world n) (λ distinct before. Follows-told told told' old world pending n distinct (were before)))
 
-told-some : (old : CoreView) (world : World) (n : Notice) (new : CoreView) → TellsSome (record old { world = world }) new n → RanOutOfMemory old new
-told-some old world n new refusal_step =
-    let kept : ConnectionsKept old.connections new.connections = served_kept world n old.connections new.connections refusal_step.served in
-    let count : new.starved ≡ min (old.starved + 1) (2 ^ 64 - 1) = ap (λ (c : CoreView). c.starved) refusal_step.counts in
-    record {
-      keeps = KeepsClients-told old new kept refusal_step.rises;
-      causes = λ distinct j. ConnectionsKept-causes j old.connections new.connections kept;
-      count = count;
-    }
-
-pub tell-told : (old : CoreView) (n : Notice) (connections : List Connection) → connections ≡ map (told_connection old.world n) old.connections → MayTell old (record old { connections = connections }) n
-tell-told old n connections e = inl (ap (λ (connections : List Connection). record old { connections = connections }) e)
-
-pub tell-some : (old mid new : CoreView) (n : Notice) → mid ≡ record old { connections = mid.connections } → ConnectionsServed n.kind n.buffer.0 (told_connection old.world n) old.connections mid.connections
-    → new ≡ record mid { starved = min (mid.starved + 1) (2 ^ 64 - 1) } → mid.starved ≤ new.starved → MayTell old new n
-tell-some old mid new n e served counts rises =
-    let same : mid.starved ≡ old.starved = ap (λ (c : CoreView). c.starved) e in
-    let connections : mid.connections ≡ new.connections = sym (ap (λ (c : CoreView). c.connections) counts) in
-    let P : List Connection → Type 0 = λ connections. ConnectionsServed n.kind n.buffer.0 (told_connection old.world n) old.connections connections in
-    inr (record {
-      served = subst P connections served;
-      rises = omega (arith, same, rises);
-      counts = counts ∙ ap (λ (c : CoreView). record c { starved = min (c.starved + 1) (2 ^ 64 - 1) }) e ∙ ap (λ (connections : List Connection). record old { connections = connections; starved = min (old.starved + 1) (2 ^ 64 - 1) }) connections;
-    })
-
--- a change that was made, of which this was noticed
-pub changes-told : (old mid new : CoreView) (change : Change) (n : Notice) → touched_key change.what ≡ None → HasNoRows old.world → HasNoRows mid.world → NothingTouched old.pending → mid ≡ record old { world = mid.world; pending = mid.pending } → mid.pending ≡ old.pending
-    → Accepted old.world change mid.world n → MayTell mid new n → MakesChange old change new
-changes-told old mid new change n plain none following nothing e still accepted refusal_step =
-    let P : CoreView → Type 0 = λ c. MayTell c new n in
-    by (subst P (e ∙ ap (λ (pending : List OfBuffer). record old { world = mid.world; pending = pending }) still) refusal_step)
+-- the board made a change, and told it to all whom its notice is for
+pub changes-all : (old new : CoreView) (change : Change) (n : Notice) → new ≡ record old { world = new.world; pending = new.pending; connections = new.connections } → Accepted old.world change new.world n → AreTouched old.world change old.pending new.pending
+    → AreBuffers new.world.groups → NoStrayTouches old.world old.pending → new.connections ≡ map (told_connection new.world n) old.connections → MakesChange old change new
+changes-all old new change n e accepted touched are stray told = inl (accepted.accepted, λ rows. made rows)
   where
-    told' : Told → Told
-    told' told = told_after old.world change.buffer change.what told
+    following : World
+    following = after old.world change
 
-    made : (told : Told) → FollowsUnlessStarved told old new (tell_all_step (state_of old told) (told' told) mid.world n) → FollowsUnlessStarved told old new (change_step (state_of old told) change)
-    made told done =
-        let following = after old.world change in
-        let P : World → Type 0 = λ w. FollowsUnlessStarved told old new (tell_all_step (state_of old told) (told' told) w n) in
-        let Q : Notice → Type 0 = λ n. FollowsUnlessStarved told old new (tell_all_step (state_of old told) (told' told) following n) in
-        subst Q accepted.notice (subst P accepted.after done)
+    whole : new ≡ told_to_all old new.world new.pending n
+    whole = e ∙ ap (λ (connections : List Connection). record old { world = new.world; pending = new.pending; connections = connections }) told
 
-    by : MayTell (record old { world = mid.world }) new n → MakesChange old change new
-    by (inl all) = inl (accepted.accepted, λ told. made told (told-all told (told' told) old mid.world n new all (told_follows old mid.world (map (told_connection mid.world n) old.connections) change.buffer change.what told plain none following nothing)))
-    by (inr some) = inr (told-some old mid.world n new some)
+    rows' : Told → Told
+    rows' rows = told_after old.world change.buffer change.what rows
 
--- want of memory alone
-pub starves-only : (old new : CoreView) → new ≡ record old { starved = min (old.starved + 1) (2 ^ 64 - 1) } → old.starved ≤ new.starved → RanOutOfMemory old new
-starves-only old new e rises = record {
-  keeps = KeepsClients-connections old new (ap (λ (c : CoreView). c.connections) e) rises;
-  causes = λ distinct j. inl (ap (λ (c : CoreView). leaving_on j c.connections) e);
-  count = ap (λ (c : CoreView). c.starved) e;
-}
+    were : (rows : Told) → WereTold old rows → WereTold (told_to_all old new.world new.pending n) (rows' rows)
+    were rows before =
+        let P : World → Type 0 = λ w. AreTold w new.pending (told_of (rows' rows)) in
+        let Q : World → Type 0 = λ w. AreBuffers w.groups in
+        subst P (sym accepted.after) (change_keeps_told old.world change old.pending new.pending rows accepted.accepted (subst Q accepted.after are) stray touched before)
+
+    made : (rows : Told) → FollowsUnlessStarved rows old new (change_step (state_of old rows) change)
+    made rows =
+        let P : World → Type 0 = λ w. FollowsUnlessStarved rows old new (tell_all_step (state_of old rows) (rows' rows) w n) in
+        let Q : Notice → Type 0 = λ n. FollowsUnlessStarved rows old new (tell_all_step (state_of old rows) (rows' rows) following n) in
+        subst Q accepted.notice (subst P accepted.after (told-all rows (rows' rows) old new.world new.pending n new whole (were rows)))
+
+-- someone found no memory for it
+pub changes-some : (old mid new : CoreView) (change : Change) (n : Notice) (service : Connection → Connection) → mid ≡ record old { world = mid.world; pending = mid.pending; connections = mid.connections } → ConnectionsServed n.kind n.buffer.0 (told_connection mid.world n) old.connections mid.connections
+    → new ≡ record mid { starved = min (mid.starved + 1) (2 ^ 64 - 1) } → mid.starved ≤ new.starved → MakesChange old change new
+changes-some old mid new change n service e served counts rises =
+    let kept : ConnectionsKept old.connections mid.connections = served_kept mid.world n old.connections mid.connections served in
+    let same : mid.starved ≡ old.starved = ap (λ (c : CoreView). c.starved) e in
+    let count : new.starved ≡ min (mid.starved + 1) (2 ^ 64 - 1) = ap (λ (c : CoreView). c.starved) counts in
+    let P : List Connection → Type 0 = λ connections. ConnectionsKept old.connections connections in
+    let now : ConnectionsKept old.connections new.connections = subst P (sym (ap (λ (c : CoreView). c.connections) counts)) kept in
+    inr (record {
+      keeps = KeepsClients-told old new now (omega (arith, same, rises));
+      causes = λ distinct j. ConnectionsKept-causes j old.connections new.connections now;
+      counted = λ below. omega arith;
+    })
 
 -- ---- changes and refusals
 
@@ -143,11 +143,11 @@ asks-made old new change (inl made) = λ told.
     subst P (sym made.0) (made.1 told)
 asks-made old new change (inr starves) = Does-starved old new (λ state. ask_step state change) starves
 
-pub asks-told : (old new : CoreView) (change : Change) (reason : ChangeRefused) (text : List ℕ) → refusal old.world change ≡ Some reason → text ≡ refusal_text reason → Does old new (λ state. refusal_step state text) → Does old new (λ state. ask_step state change)
-asks-told old new change reason text refuses e done = λ told.
+pub asks-told : (old mid new : CoreView) (change : Change) (reason : ChangeRefused) (text : List ℕ) → RefusesChange old change reason mid → text ≡ refusal_text reason → Does mid new (λ state. refusal_step state text) → Does old new (λ state. ask_step state change)
+asks-told old mid new change reason text refuses e done = λ told.
     let P : Option ChangeRefused → Type 0 = λ o. FollowsUnlessStarved told old new (ask_step_if (state_of old told) change o) in
     let Q : List ℕ → Type 0 = λ t. FollowsUnlessStarved told old new (refusal_step (state_of old told) t) in
-    subst P (sym refuses) (subst Q e (done told))
+    subst P (sym refuses.refused) (subst Q e (Does-over old mid new (λ state. refusal_step state text) refuses.stays refuses.touches done told))
 
 abbrev refusal_line : CoreView → List ℕ → Change
 refusal_line old text = told_refusal old.moment text
@@ -161,17 +161,15 @@ pub tells-made : (old new : CoreView) (text : List ℕ) → MakesChange old (tol
 tells-made old new text (inl made) = tells-by old new text None made.0 made.1
 tells-made old new text (inr starves) = Does-starved old new (λ state. refusal_step state text) starves
 
-pub tells-skipped : (old new : CoreView) (text : List ℕ) (reason : ChangeRefused) → new ≡ old → refusal old.world (told_refusal old.moment text) ≡ Some reason → Does old new (λ state. refusal_step state text)
-tells-skipped old new text reason e refuses =
-    let P : CoreView → Type 0 = λ c. Does old c (λ state. refusal_step state text) in
-    subst P (sym e) (tells-by old old text (Some reason) refuses (Does-stays old))
+pub tells-skipped : (old new : CoreView) (text : List ℕ) (reason : ChangeRefused) → RefusesChange old (told_refusal old.moment text) reason new → Does old new (λ state. refusal_step state text)
+tells-skipped old new text reason refuses = tells-by old new text (Some reason) refuses.refused (Does-over old new new no_step refuses.stays refuses.touches (Does-stays new))
 
 pub tells-changed : (old new : CoreView) (text : List ℕ) (line : Change) (o : Option ChangeRefused) → line ≡ told_refusal old.moment text → (o ≡ None → MakesChange old line new)
-    → IfSome o (λ reason. (new ≡ old) × (refusal old.world line ≡ Some reason)) → Does old new (λ state. refusal_step state text)
+    → IfSome o (λ reason. RefusesChange old line reason new) → Does old new (λ state. refusal_step state text)
 tells-changed old new text line None e made refuses = let P : Change → Type 0 = λ line. MakesChange old line new in tells-made old new text (subst P e (made refl))
 tells-changed old new text line (Some reason) e made refuses =
-    let P : Change → Type 0 = λ line. refusal old.world line ≡ Some reason in
-    tells-skipped old new text reason refuses.0 (subst P e refuses.1)
+    let P : Change → Type 0 = λ line. RefusesChange old line reason new in
+    tells-skipped old new text reason (subst P e refuses)
 
 -- numbers that a test tells apart
 pub not_same : (m n : ℕ) → not (nat_eq m n) ≡ true → m ≢ n
@@ -240,23 +238,14 @@ open_of o s at sits = sym (ap is_open_at at) ∙ sits
 pub connection-at : (link : LinkId) (connections : List Connection) (place : ℕ) (s : Connection) → IsKeyPlace connection_link link.0 connections place → s ≡ get_or connections place s → at_key connection_link link.0 connections ≡ Some s
 connection-at link connections place s p e = p.found s ∙ ap Some (sym e)
 
-pub leave-at : (old : CoreView) (link : LinkId) (place : ℕ) (s : Connection) (why : Cause) → IsKeyPlace connection_link link.0 old.connections place → s ≡ get_or old.connections place s → is_open_at (at_key connection_link link.0 old.connections) ≡ true
-    → Does old (record old { connections = set old.connections place (record { session = s.session; leaving = Some why }) }) (λ state. leave_step state link.0 why)
-leave-at old link place s why p e opened = λ told.
-    let at = connection-at link old.connections place s p e in
-    let sits = open_of (at_key connection_link link.0 old.connections) s at opened in
+-- the client of a link is marked as leaving
+leave-put : (old : CoreView) (k : ℕ) (s : Connection) (why : Cause) → at_key connection_link k old.connections ≡ Some s → is_open s ≡ true
+    → Does old (record old { connections = put_at connection_link k (record { session = s.session; leaving = Some why }) old.connections }) (λ state. leave_step state k why)
+leave-put old k s why at sits = λ told.
     let y : Connection = record { session = s.session; leaving = Some why } in
-    rw (p.put y)
-    (FollowsUnlessStarved-exact told old (record old { connections = put_at connection_link link.0 y old.connections }) (leave_step (state_of old told) link.0 why)
-    (KeepsClients-put old link.0 s y at sits (at_key-key connection_link link.0 old.connections s at)) (λ distinct j. leave-left told old link.0 s why j at sits)
-    (λ distinct were. Follows-leave told old link.0 s why distinct at sits were))
-
-pub leave-gone : (link : LinkId) (connections : List Connection) (place : ℕ) (s : Connection) (why : Cause) → IsKeyPlace connection_link link.0 connections place → s ≡ get_or connections place s
-    → is_open_at (at_key connection_link link.0 (set connections place (record { session = s.session; leaving = Some why }))) ≡ false
-leave-gone link connections place s why p e =
-    let at = connection-at link connections place s p e in
-    let y : Connection = record { session = s.session; leaving = Some why } in
-    ap (λ ss. is_open_at (at_key connection_link link.0 ss)) (p.put y) ∙ ap is_open_at (at_key-put_same connection_link link.0 s y connections (at_key-key connection_link link.0 connections s at) at)
+    FollowsUnlessStarved-exact told old (record old { connections = put_at connection_link k y old.connections }) (leave_step (state_of old told) k why)
+    (KeepsClients-put old k s y at sits (at_key-key connection_link k old.connections s at)) (λ distinct j. leave-left told old k s why j at sits)
+    (λ distinct were. Follows-leave told old k s why distinct at sits were)
 
 pub starve-at : (old mid new : CoreView) (k : ℕ) → Does old mid (λ state. loss_step state k NoMemory (at_key client_link k state.clients)) → mid.starved ≡ old.starved → new ≡ record mid { starved = min (mid.starved + 1) (2 ^ 64 - 1) } → mid.starved ≤ new.starved → RanOutOfMemory old new
 starve-at old mid new k done same e rises =
@@ -268,7 +257,7 @@ starve-at old mid new k done same e rises =
           subst P (sym (ap (λ (c : CoreView). c.connections) e))
           (lost-starves j k state (at_key client_link k (clients_of old.connections)) (leaving_on j old.connections) (leaving_on j mid.connections) (lost.causes distinct j));
       keeps = KeepsClients-trans old mid new lost.keeps (KeepsClients-connections mid new (ap (λ (c : CoreView). c.connections) e) rises);
-      count = ap (λ (c : CoreView). c.starved) e ∙ ap (λ n. min (n + 1) (2 ^ 64 - 1)) same;
+      counted = λ below. (let count : new.starved ≡ min (mid.starved + 1) (2 ^ 64 - 1) = ap (λ (c : CoreView). c.starved) e in omega (arith, count, same, below));
     }
 
 -- ---- losses
@@ -285,6 +274,18 @@ lost-leaving old k why s at leaving = λ told.
 pub lost-open : (old new : CoreView) (k : ℕ) (why : Cause) (s : Connection) → at_key connection_link k old.connections ≡ Some s → is_open s ≡ true → Does old new (λ state. leave_step state k why)
     → Does old new (λ state. loss_step state k why (at_key client_link k state.clients))
 lost-open old new k why s at sits done = λ told. rw (client-open k old.connections s at sits) (done told)
+
+-- the client of a link is lost, where it is open
+pub lost-done : (old : CoreView) (k : ℕ) (why : Cause) → Does old (record old { connections = left_at k why old.connections (at_key connection_link k old.connections) }) (λ state. loss_step state k why (at_key client_link k state.clients))
+lost-done old k why = by (at_key connection_link k old.connections) refl
+  where
+    by : (o : Option Connection) → at_key connection_link k old.connections ≡ o → Does old (record old { connections = left_at k why old.connections o }) (λ state. loss_step state k why (at_key client_link k state.clients))
+    by None at = lost-missing old k why at
+    by (Some s) at = open-by (is_open s) refl
+      where
+        open-by : (t : Bool) → is_open s ≡ t → Does old (record old { connections = left_if t k why old.connections s }) (λ state. loss_step state k why (at_key client_link k state.clients))
+        open-by true sits = lost-open old _ k why s at sits (leave-put old k s why at sits)
+        open-by false leaving = lost-leaving old k why s at leaving
 
 -- the loss of an open client
 pub lost-leaves : (old new : CoreView) (k : ℕ) (why : Cause) → is_open_at (at_key connection_link k old.connections) ≡ true → Does old new (λ state. loss_step state k why (at_key client_link k state.clients)) → Does old new (λ state. leave_step state k why)
@@ -312,15 +313,6 @@ pub line-asked : (old new : CoreView) (k : ℕ) (line : List ℕ) (s : Connectio
 line-asked old new k line s request at sits e done = λ told.
     let P : Option Request → Type 0 = λ r. FollowsUnlessStarved told old new (request_step (state_of old told) s.session.client r) in
     rw (client-open k old.connections s at sits) (subst P e (done told))
-
-pub same_open : (o : Option Connection) (s t : Connection) → o ≡ Some s → o ≡ Some t → is_open s ≡ true → is_open t ≡ true
-same_open o s t a b sits = sym (ap is_open_at b) ∙ ap is_open_at a ∙ sits
-
-pub asked-at : (old new : CoreView) (k : ℕ) (s : Connection) (request : Request) → at_key connection_link k old.connections ≡ Some s → IfSome (at_key connection_link k old.connections) (λ connection. Does old new (λ state. request_step state connection.session.client (Some request)))
-    → Does old new (λ state. request_step state s.session.client (Some request))
-asked-at old new k s request at done =
-    let P : Option Connection → Type 0 = λ o. IfSome o (λ connection. Does old new (λ state. request_step state connection.session.client (Some request))) in
-    subst P at done
 
 -- ---- requests
 
@@ -363,7 +355,7 @@ ask-served old new k s session' request outcome.NoMemory at sits utf8 answered s
       causes = λ distinct j.
           let P : Option Cause → Type 0 = λ before. StaysOrStarves before (leaving_on j new.connections) in
           subst P (leaving-put old k s session' j at sits key) (starved.causes (subst Distinct (sym keeps.links) distinct) j);
-      count = starved.count;
+      counted = starved.counted;
     })
 
 -- the text that a request types is text
@@ -375,38 +367,84 @@ outcome-text world options client request old new (outcome.Input buffer text) ut
 outcome-text world options client request old new (outcome.Leave why) utf8 answered = tt
 outcome-text world options client request old new outcome.NoMemory utf8 answered = tt
 
-link_same : (world : World) (options : OptionsValue) (request : Request) (old new : Known) (result : Outcome) → RequestIsUtf8 request → OnServed result (AnswersRequest old new result (reply_of world options old.client request)) → OnNoMemory result (new ≡ old)
-    → client_link new.client ≡ client_link old.client
-link_same world options request old new outcome.Replied utf8 answered same = ap (λ (c : Client). client_link c) answered.client ∙ ap (λ (l : LinkId). l.0) (reply_fits world options old.client request utf8).link
-link_same world options request old new outcome.Silent utf8 answered same = ap (λ (c : Client). client_link c) answered.client ∙ ap (λ (l : LinkId). l.0) (reply_fits world options old.client request utf8).link
-link_same world options request old new (outcome.Input buffer text) utf8 answered same = ap (λ (c : Client). client_link c) answered.client ∙ ap (λ (l : LinkId). l.0) (reply_fits world options old.client request utf8).link
-link_same world options request old new (outcome.Leave why) utf8 answered same = ap (λ (c : Client). client_link c) answered.client ∙ ap (λ (l : LinkId). l.0) (reply_fits world options old.client request utf8).link
-link_same world options request old new outcome.NoMemory utf8 answered same = ap (λ (k : Known). client_link k.client) same
+request-parts : (client : Client) (request : Request) (state : State) → request_step state client (Some request) ≡ then_does (push_before client request state) (λ next. reply_step next client request)
+request-parts client request state = by (client.logged_in && is_nicklist request.command) where
+  by : (b : Bool) → cond b (then_does (push_step state) (λ next. reply_step next client request)) (reply_step state client request) ≡ then_does (cond b (push_step state) (no_step state)) (λ next. reply_step next client request)
+  by true = refl
+  by false = refl
 
--- the client stays open after its reply
-pub ask-opened : (link : LinkId) (connections : List Connection) (place : ℕ) (s : Connection) (session' : Known) (world : World) (options : OptionsValue) (request : Request) (result : Outcome) → IsKeyPlace connection_link link.0 connections place → s ≡ get_or connections place s
-    → is_open_at (at_key connection_link link.0 connections) ≡ true → RequestIsUtf8 request → OnServed result (AnswersRequest s.session session' result (reply_of world options s.session.client request)) → OnNoMemory result (session' ≡ s.session)
-    → is_open_at (at_key connection_link link.0 (set connections place (record { session = session'; leaving = s.leaving }))) ≡ true
-ask-opened link connections place s session' world options request result p e opened utf8 answered same =
-    let at = connection-at link connections place s p e in
-    let y : Connection = record { session = session'; leaving = s.leaving } in
-    let key : connection_link y ≡ link.0 = link_same world options request s.session session' result utf8 answered same ∙ at_key-key connection_link link.0 connections s at in
-    ap (λ ss. is_open_at (at_key connection_link link.0 ss)) (p.put y) ∙ ap is_open_at (at_key-put_same connection_link link.0 s y connections key at) ∙ open_of (at_key connection_link link.0 connections) s at opened
+pushes_before-closes : (j : ℕ) (client : Client) (request : Request) (state : State) → close_of j (push_before client request state).acts ≡ None
+pushes_before-closes j client request state = by (client.logged_in && is_nicklist request.command) where
+  by : (b : Bool) → close_of j (cond b (push_step state) (no_step state)).acts ≡ None
+  by true = pushes-closes j state
+  by false = refl
 
-pub ask-at : (old new : CoreView) (link : LinkId) (place : ℕ) (s : Connection) (session' : Known) (request : Request) (result : Outcome) → Does old old push_step → IsKeyPlace connection_link link.0 old.connections place → s ≡ get_or old.connections place s
-    → is_open_at (at_key connection_link link.0 old.connections) ≡ true → RequestIsUtf8 request → OnServed result (AnswersRequest s.session session' result (reply_of old.world old.options s.session.client request)) → OnNoMemory result (session' ≡ s.session)
-    → OnServed result (Does (record old { connections = set old.connections place (record { session = session'; leaving = s.leaving }) }) new (λ state. outcome_step state link.0 result))
-    → OnNoMemory result (RanOutOfMemory (record old { connections = set old.connections place (record { session = session'; leaving = s.leaving }) }) new)
-    → IfSome (at_key connection_link link.0 old.connections) (λ connection. Does old new (λ state. request_step state connection.session.client (Some request)))
-ask-at old new link place s session' request result pushed p e opened utf8 answered same done starved =
-    let at = connection-at link old.connections place s p e in
-    let sits = open_of (at_key connection_link link.0 old.connections) s at opened in
-    let y : Connection = record { session = session'; leaving = s.leaving } in
-    let there : set old.connections place y ≡ put_at connection_link link.0 (record { session = session'; leaving = None }) old.connections = p.put y ∙ ap (λ l. put_at connection_link link.0 (record { session = session'; leaving = l }) old.connections) (open_none s sits) in
-    let P : List Connection → Type 0 = λ ss. OnServed result (Does (record old { connections = ss }) new (λ state. outcome_step state link.0 result)) in
-    let Q : List Connection → Type 0 = λ ss. OnNoMemory result (RanOutOfMemory (record old { connections = ss }) new) in
-    let R : Option Connection → Type 0 = λ o. IfSome o (λ connection. Does old new (λ state. request_step state connection.session.client (Some request))) in
-    subst R (sym at) (asked-pushed old new s.session.client request pushed (ask-served old new link.0 s session' request result at sits utf8 answered same (subst P there done) (subst Q there starved)))
+-- nothing is answered, for want of memory
+answer-starved : (between mid new : CoreView) (result : Outcome) (step : State → Stepped) → mid ≡ record between { connections = mid.connections } → result ≡ outcome.NoMemory → mid.connections ≡ between.connections → OnNoMemory result (RanOutOfMemory mid new) → Does between new step
+answer-starved between mid new result step e starves stays starved =
+    let P : Outcome → Type 0 = λ o. OnNoMemory o (RanOutOfMemory mid new) in
+    let Q : CoreView → Type 0 = λ c. RanOutOfMemory c new in
+    Does-starved between new step (subst Q (e ∙ ap (λ (connections : List Connection). record between { connections = connections }) stays) (subst P starves starved))
+
+-- whom a reply closes hangs on the world and the options alone
+reply-closes-same : (j : ℕ) (client : Client) (request : Request) (s t : State) → s.world ≡ t.world → s.options ≡ t.options → close_of j (reply_step s client request).acts ≡ close_of j (reply_step t client request).acts
+reply-closes-same j client request s t world options =
+    let k = client_link client in
+    let of : State → Answer → List Act = λ state answer. (answer_step state k answer).acts in
+    let a = reply_of s.world s.options client request in
+    let b = reply_of t.world t.options client request in
+    let same : a ≡ b = ap (λ w. reply_of w s.options client request) world ∙ ap (λ o. reply_of t.world o client request) options in
+    ap (λ answer. close_of j (of s answer)) same ∙ answer-closes-same j k b s t
+
+-- the answer to a request that may have found no memory
+answer-done : (between mid new : CoreView) (k : ℕ) (client : Client) (request : Request) (result : Outcome) (o : Option Connection) → at_key connection_link k between.connections ≡ o → ((now : Connection) → o ≡ Some now → is_open now ≡ true → now.session.client ≡ client)
+    → RequestIsUtf8 request → mid ≡ record between { connections = mid.connections }
+    → AnsweredAt k between.options request result (record { world = between.world; pending = between.pending; connections = between.connections }) (record { world = mid.world; pending = mid.pending; connections = mid.connections }) o
+    → OnServed result (Does mid new (λ state. outcome_step state k result)) → OnNoMemory result (RanOutOfMemory mid new) → Does between new (λ state. reply_step state client request)
+answer-done between mid new k client request result None at same utf8 e answered done starved = answer-starved between mid new result (λ state. reply_step state client request) e answered.starves (ap (λ (b : BoardView). b.connections) answered.stays) starved
+answer-done between mid new k client request result (Some now) at same utf8 e answered done starved = by (is_open now) refl answered
+  where
+    by : (t : Bool) → is_open now ≡ t
+        → AnsweredIf t k between.options request result (record { world = between.world; pending = between.pending; connections = between.connections }) (record { world = mid.world; pending = mid.pending; connections = mid.connections }) now → Does between new (λ state. reply_step state client request)
+    by false sits answered = answer-starved between mid new result (λ state. reply_step state client request) e answered.starves (ap (λ (b : BoardView). b.connections) answered.stays) starved
+    by true sits answered =
+        let put : mid.connections ≡ put_at connection_link k (record { session = answered.session; leaving = None }) between.connections =
+        ap (λ (b : BoardView). b.connections) answered.put ∙ ap (λ leaving. put_at connection_link k (record { session = answered.session; leaving = leaving }) between.connections) (open_none now sits) in
+        let there : mid ≡ replied between k answered.session = e ∙ ap (λ (connections : List Connection). record between { connections = connections }) put in
+        let P : CoreView → Type 0 = λ c. OnServed result (Does c new (λ state. outcome_step state k result)) in
+        let Q : CoreView → Type 0 = λ c. OnNoMemory result (RanOutOfMemory c new) in
+        let R : Client → Type 0 = λ client. Does between new (λ state. reply_step state client request) in
+        subst R (same now refl sits) (ask-served between new k now answered.session request result at sits utf8 answered.answered answered.refused (subst P there done) (subst Q there starved))
+
+push_before-world : (client : Client) (request : Request) (state : State) → (push_before client request state).state.world ≡ state.world
+push_before-world client request state = by (client.logged_in && is_nicklist request.command) where
+  by : (b : Bool) → (cond b (push_step state) (no_step state)).state.world ≡ state.world
+  by true = refl
+  by false = refl
+
+push_before-options : (client : Client) (request : Request) (state : State) → (push_before client request state).state.options ≡ state.options
+push_before-options client request state = by (client.logged_in && is_nicklist request.command) where
+  by : (b : Bool) → (cond b (push_step state) (no_step state)).state.options ≡ state.options
+  by true = refl
+  by false = refl
+
+pub ask-done : (old mid new : CoreView) (k : ℕ) (request : Request) (result : Outcome) → AnswersRequestOf k request result old mid → RequestIsUtf8 request
+    → OnServed result (Does mid new (λ state. outcome_step state k result)) → OnNoMemory result (RanOutOfMemory mid new)
+    → IfSome (at_key connection_link k old.connections) (λ connection. Does old new (λ state. request_step state connection.session.client (Some request)))
+ask-done old mid new k request result is utf8 done starved = by (at_key connection_link k old.connections) refl is.pushed
+  where
+    by : (o : Option Connection) → at_key connection_link k old.connections ≡ o → IfSome o (λ connection. Does old is.between (λ state. push_before connection.session.client request state)) → IfSome o (λ connection. Does old new (λ state. request_step state connection.session.client (Some request)))
+    by None at pushed = tt
+    by (Some s) at pushed = λ told.
+        let client = s.session.client in
+        let state = state_of old told in
+        let first = push_before client request state in
+        let next : State → Stepped = λ next. reply_step next client request in
+        let P : Stepped → Type 0 = λ step. FollowsUnlessStarved told old new step in
+        let Q : OptionsValue → Type 0 = λ options. AnsweredAt k options request result (record { world = is.between.world; pending = is.between.pending; connections = is.between.connections }) (record { world = mid.world; pending = mid.pending; connections = mid.connections }) (at_key connection_link k is.between.connections) in
+        let reply = answer-done is.between mid new k client request result (at_key connection_link k is.between.connections) refl (λ now here sits. is.same s now at here sits) utf8 is.answered (subst Q (sym is.options) is.board) done starved in
+        let closes : ClosesLater is.between first next = record { first_none = λ j. pushes_before-closes j client request state; same = λ j. reply-closes-same j client request (state_of is.between first.state.told) first.state (is.world ∙ sym (push_before-world client request state)) (is.options ∙ sym (push_before-options client request state)) } in
+        subst P (sym (request-parts client request state)) (FollowsUnlessStarved-then told old is.between new first next closes (pushed told) reply)
 
 -- ---- arrivals
 

@@ -4,12 +4,14 @@ use Rattle.std.specs.Prelude.{map}
 use Rattle.wc_text.specs.declared.names.Cause.{Cause}
 use Rattle.wc_text.specs.declared.names.Cause.TheVariants.{NoMemory}
 use Rattle.wc_outside.specs.Keyed.{at_key}
-use Rattle.wc_core.specs.declared.connection.Connection.{Connection}
+use Rattle.wc_board.specs.declared.connection.Connection.{Connection}
 use Rattle.wc_core.specs.CoreView.{CoreView}
-use Rattle.wc_core.specs.State.{State, Act, Stepped}
+use Rattle.wc_core.specs.State.{State, Act, Stepped, is_end, has_end}
 use Rattle.wc_core.specs.Step.{no_step, then_does}
-use Rattle.wc_core.specs.Served.{connection_link, links_of, state_of, WereTold, unsent_on, leaving_in, leaving_on, sent_by, sent_to, or_else, close_by, close_of, is_end, has_end, Distinct, Follows, StaysOrStarves, LeavesBy, KeepsClients, FollowsUnlessStarved, Does, RanOutOfMemory}
-use Rattle.wc_core.specs.Told.{Told}
+use Rattle.wc_board.specs.Connections.{connection_link, unsent_on, leaving_in, leaving_on}
+use Rattle.wc_core.specs.Served.{links_of, state_of, WereTold, sent_by, sent_to, or_else, close_by, close_of, Distinct, Follows, LeavesBy, KeepsClients, FollowsUnlessStarved, Does, RanOutOfMemory}
+use Rattle.wc_board.specs.Served.{StaysOrStarves}
+use Rattle.wc_board.specs.Told.{Told}
 
 pub sent_to-append : (j : ℕ) (a b : List Act) → sent_to j (a ++ b) ≡ sent_to j a ++ sent_to j b
 sent_to-append j [] b = refl
@@ -89,7 +91,7 @@ pub Does-stays : (a : CoreView) → Does a a no_step
 Does-stays a = λ told. FollowsUnlessStarved-exact told a a (no_step (state_of a told)) (KeepsClients-refl a) (λ distinct. leaves-none a (no_step (state_of a told)) (λ j. refl)) (λ distinct were. Follows-stays told a were)
 
 pub FollowsUnlessStarved-starved : (told : Told) (a b : CoreView) (s : Stepped) → RanOutOfMemory a b → FollowsUnlessStarved told a b s
-FollowsUnlessStarved-starved told a b s f = record { keeps = f.keeps; causes = λ distinct j. inr (f.causes distinct j); does = λ same below distinct were. (let e = f.count in absurd (omega arith)) }
+FollowsUnlessStarved-starved told a b s f = record { keeps = f.keeps; causes = λ distinct j. inr (f.causes distinct j); does = λ same below distinct were. (let more = f.counted below in absurd (omega arith)) }
 
 pub Does-starved : (a b : CoreView) (step : State → Stepped) → RanOutOfMemory a b → Does a b step
 Does-starved a b step f = λ told. FollowsUnlessStarved-starved told a b (step (state_of a told)) f

@@ -4,14 +4,13 @@ pub mod ResolvedWords
 pub mod ResolvedTexts
 pub mod DidLemmas
 pub mod ConnectionLemmas
-pub mod EventLemmas
 pub mod CloseLemmas
 pub mod ServeLemmas
 pub mod ReplyLemmas
-pub mod NickPushes
-pub mod PushConnections
 pub mod PushBytes
 pub mod PushLemmas
 pub mod CoreLemmas
+pub mod AnswerLemmas
+pub mod StartLemmas
 pub mod MessageLemmas
 pub mod OptionLemmas

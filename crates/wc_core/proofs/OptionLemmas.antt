@@ -12,8 +12,9 @@ use Rattle.wc_core.specs.CoreView.{CoreView}
 use Rattle.wc_core.specs.Resolved.{option_text}
 use Rattle.wc_core.specs.State.{State, Stepped}
 use Rattle.wc_core.specs.Step.{no_step, refusal_step, set_step, set_step_if, unset_step, unset_step_if}
-use Rattle.wc_core.specs.Served.{state_of, unsent_on, FollowsUnlessStarved, Does}
-use Rattle.wc_core.specs.Told.{Told}
+use Rattle.wc_core.specs.Served.{state_of, FollowsUnlessStarved, Does}
+use Rattle.wc_board.specs.Connections.{unsent_on}
+use Rattle.wc_board.specs.Told.{Told}
 use Rattle.wc_core.proofs.DidLemmas.{or-false, leaves-none, KeepsClients-connections, FollowsUnlessStarved-exact}
 use Rattle.wc_core.proofs.TypedLemmas.{ascii_text}
 

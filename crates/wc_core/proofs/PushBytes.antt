@@ -11,14 +11,15 @@ use Rattle.wc_objects.specs.declared.object.WireMessage.{WireMessage}
 use Rattle.wc_session.specs.declared.client.Client.{Client}
 use Rattle.wc_session.specs.Event.{push_told}
 use Rattle.wc_session.specs.Sending.{spelling}
-use Rattle.wc_core.specs.declared.connection.Connection.{Connection}
+use Rattle.wc_board.specs.declared.connection.Connection.{Connection}
 use Rattle.wc_core.specs.State.{State, Act, told_at}
 use Rattle.wc_core.specs.Step.{client_link, sends, pushed_to, push_step}
-use Rattle.wc_core.specs.Pushes.{push_of, sent_connection, push_connection, pushed_connection}
-use Rattle.wc_core.specs.Served.{connection_link, is_open, clients_of, unsent_in, unsent_on, sent_to, Absent, Distinct}
+use Rattle.wc_board.specs.Connections.{connection_link, is_open, unsent_in, unsent_on}
+use Rattle.wc_board.specs.Pushes.{push_of, pushes_told, sent_connection, push_connection, pushed_connection}
+use Rattle.wc_core.specs.Served.{clients_of, sent_to, Absent, Distinct}
 use Rattle.wc_core.proofs.DidLemmas.{sent_to-append}
 use Rattle.wc_core.proofs.ConnectionLemmas.{sent-sends, other_link, same_number, kept-bytes}
-use Rattle.wc_core.proofs.PushConnections.{pushed_first, pushed_none, map_more, map_none}
+use Rattle.wc_board.proofs.PushConnections.{pushed_first, pushed_none, map_more, map_none}
 use Rattle.wc_outside.specs.Keyed.{at_key}
 
 abbrev spelt : List WireMessage → List ℕ
@@ -125,3 +126,7 @@ pushes-sent j state w old new same clients distinct e =
     ∙ buffer_bytes j w told (order w.groups) old distinct
     ∙ ap (λ cs. unsent_on j old ++ sent_to j (pushed_all w told cs (order w.groups))) (sym clients)
     ∙ ap (λ (world : World). unsent_on j old ++ sent_to j (pushed_all world told state.clients (order world.groups))) (sym same)
+
+-- pushes change no client
+pub pushed-clients : (w : World) (told : ℕ → List Row) (buffers : List ℕ) (connections : List Connection) → clients_of (map (pushed_connection w told buffers) connections) ≡ clients_of connections
+pushed-clients w told buffers connections = sent_clients (pushes_told w told buffers) connections

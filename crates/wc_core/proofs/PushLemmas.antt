@@ -1,45 +1,44 @@
--- No command changes a nicklist: no buffer has rows, and nothing is pushed.
-use Rattle.std.proofs.Common.{◌≡◌, ℕ, Bool, true, false, cond, eqb, ◌&&◌, List, [], ◌∷◌, ◌++◌, Some, None, Result, Ok, Err, unwrap_or, refl, ap, sym, subst, ◌∙◌}
+-- The core at first, and what it does of nicklists.
+use Rattle.std.proofs.Common.{◌≡◌, ℕ, ◌-◌, ◌^◌, ◌<◌, ◌≤◌, Bool, true, false, cond, eqb, List, [], ◌∷◌, ◌++◌, inr, Some, unwrap_or, refl, ap, sym, subst, ◌∙◌, ◌||◌}
+use Rattle.std.specs.Prelude.{map}
 use Rattle.std.specs.List.{flat_map}
-use Rattle.std.specs.FinMap.{FinMap, get, insert, remove, empty, get-empty, get-insert, get-remove}
+use Rattle.std.specs.FinMap.{FinMap, get, insert, empty, get-empty, get-insert}
 use Rattle.std.specs.Ordering.{nat_cmp}
 use Rattle.std.specs.Cmp.{nat_cmp_total}
 use Rattle.wc_text.specs.declared.names.Handle.{Handle}
-use Rattle.wc_nicklist.specs.declared.item.Key.{Key}
+use Rattle.wc_nickdiff.specs.declared.diff_item.Push.{Push}
+use Rattle.wc_session.specs.Event.{push_told}
+use Rattle.wc_session.specs.Sending.{spelling}
+use Rattle.wc_outside.specs.Keyed.{at_key}
 use Rattle.wc_nicklist.specs.declared.item.Row.{Row}
 use Rattle.wc_nicklist.specs.Rows.{IsRows, find_row}
-use Rattle.wc_nickdiff.specs.Held.{OfBuffer, before_at, touches_of}
+use Rattle.wc_nickdiff.specs.Held.{OfBuffer}
 use Rattle.wc_nickdiff.specs.Told.{told_or}
-use Rattle.wc_nickdiff.proofs.TouchLaw.{untouched_told}
-use Rattle.wc_nickdiff.specs.declared.diff_item.Push.TheVariants.{Nothing}
-use Rattle.wc_nickdiff.specs.NickPush.{nick_push}
-use Rattle.wc_model.specs.declared.change.Change.{Change}
-use Rattle.wc_model.specs.declared.change.What.{What}
-use Rattle.wc_model.specs.declared.change.What.TheVariants as what
-use Rattle.wc_model.specs.World.{World, rows_at, root_at, first_world}
+use Rattle.wc_model.specs.World.{World, rows_at, first_world}
 use Rattle.wc_model.specs.Order.{order}
-use Rattle.wc_model.specs.declared.notice.Notice.{Notice}
-use Rattle.wc_model.specs.declared.refused.ChangeRefused.{ChangeRefused}
-use Rattle.wc_model.specs.declared.refused.ChangeRefused.TheVariants as refused
-use Rattle.wc_model.specs.Notices.{Outcome}
-use Rattle.wc_model.specs.Apply.{after_of}
-use Rattle.wc_model.specs.Touches.{touched_key, told_after}
-use Rattle.wc_world.proofs.HeldLemmas.{tied}
-use Rattle.wc_relaycmd.specs.declared.request.Request.{Request}
-use Rattle.wc_session.specs.declared.client.Client.{Client}
-use Rattle.wc_session.specs.Event.{push_told}
-use Rattle.wc_core.specs.declared.connection.Connection.{Connection}
-use Rattle.wc_core.specs.CoreView.{CoreView, HasNoRows}
-use Rattle.wc_core.specs.Events.{Tick}
-use Rattle.wc_core.specs.State.{State, Act, Stepped, first_state, told_at}
-use Rattle.wc_core.specs.Step.{step, then_does, is_nicklist, pushed_to, pushes_of, push_step, reply_step, request_step}
-use Rattle.wc_core.specs.Told.{Told, told_of, NothingTouched}
-use Rattle.wc_core.specs.Served.{clients_of, state_of, WereTold, Means, Follows, FollowsUnlessStarved, Does}
+use Rattle.wc_objects.specs.declared.object.WireMessage.{WireMessage}
 use Rattle.wc_options.specs.Options.{OptionsValue}
+use Rattle.wc_session.specs.declared.client.Client.{Client}
+use Rattle.wc_world.proofs.HeldLemmas.{tied}
+use Rattle.wc_board.specs.declared.connection.Connection.{Connection}
+use Rattle.wc_board.specs.Connections.{connection_link, is_open, leaving_in, leaving_on}
+use Rattle.wc_board.specs.Pushes.{pushes_told, sent_connection, pushed_connection, AreHeld}
+use Rattle.wc_board.specs.Served.{ConnectionsKept}
+use Rattle.wc_board.specs.Told.{Told, told_of, AreTold, AreSameTouches}
+use Rattle.wc_board.proofs.ConnectionLemmas.{ConnectionsKept-links, ConnectionsKept-leaving, ConnectionsKept-causes}
+use Rattle.wc_board.proofs.PushConnections.{sent_client}
+use Rattle.wc_board.proofs.TellLaw.{rows_told}
+use Rattle.wc_core.specs.CoreView.{CoreView}
+use Rattle.wc_core.specs.Events.{Tick}
+use Rattle.wc_core.specs.State.{State, Stepped, first_state, has_end}
+use Rattle.wc_core.specs.Step.{step, client_link, pushed_to, push_step, pushes_of, push_at}
+use Rattle.wc_core.specs.Served.{links_of, clients_of, state_of, WereTold, Means, or_else, Distinct, Follows, KeepsClients, Does}
 use Rattle.wc_core.proofs.CloseLemmas.{pushes-closes}
-use Rattle.wc_core.proofs.DidLemmas.{ClosesLater, leaves-none, KeepsClients-refl, Follows-stays, FollowsUnlessStarved-exact, FollowsUnlessStarved-then}
+use Rattle.wc_core.proofs.ConnectionLemmas.{end-sends}
+use Rattle.wc_core.proofs.DidLemmas.{or_else-none, or-false, has_end-append}
+use Rattle.wc_core.proofs.PushBytes.{pushes-sent, pushed-clients}
 
--- ---- no rows
+-- ---- the core at first
 
 rows_inserted : (nicks : FinMap nat_cmp (List Row)) (k q : ℕ) → unwrap_or (get nicks q) [] ≡ [] → unwrap_or (get (insert nicks k []) q) [] ≡ []
 rows_inserted nicks k q none = ap (λ o. unwrap_or o []) (get-insert nat_cmp_total nicks k [] q ∙ ap (λ b. cond b (Some []) (get nicks q)) (tied q k)) ∙ by (eqb q k) where
@@ -50,144 +49,123 @@ rows_inserted nicks k q none = ap (λ o. unwrap_or o []) (get-insert nat_cmp_tot
   by true = refl
   by false = none
 
-rows_removed : (nicks : FinMap nat_cmp (List Row)) (k q : ℕ) → unwrap_or (get nicks q) [] ≡ [] → unwrap_or (get (remove nicks k) q) [] ≡ []
-rows_removed nicks k q none = ap (λ o. unwrap_or o []) (get-remove nat_cmp_total nicks k q ∙ ap (λ b. cond b None (get nicks q)) (tied q k)) ∙ by (eqb q k) where
-  no_rows : List Row
-  no_rows = []
-
-  by : (b : Bool) → unwrap_or (cond b None (get nicks q)) no_rows ≡ no_rows
-  by true = refl
-  by false = none
-
-pub first_rows : (world : World) (limit : ℕ) → world ≡ first_world limit → HasNoRows world
-first_rows world limit e = subst HasNoRows (sym e) (λ b. rows_inserted empty 1 b (ap (λ o. unwrap_or o []) (get-empty nat_cmp b)))
-
-after_rows : (world : World) (buffer : Handle) (w : What) → touched_key w ≡ None → HasNoRows world → HasNoRows (after_of world buffer w)
-unfolding after_of
-after_rows world buffer (what.Add spec) e none = λ b. rows_inserted world.nicks world.next b (none b)
-after_rows world buffer what.Close e none = λ b. rows_removed world.nicks buffer.0 b (none b)
-after_rows world buffer (what.MoveTo number) e none = none
-after_rows world buffer (what.MergeInto into) e none = none
-after_rows world buffer what.Unmerge e none = none
-after_rows world buffer what.Hide e none = none
-after_rows world buffer what.Unhide e none = none
-after_rows world buffer (what.Rename name flips) e none = none
-after_rows world buffer (what.ShortName name) e none = none
-after_rows world buffer (what.Title title) e none = none
-after_rows world buffer (what.SetVar var) e none = none
-after_rows world buffer (what.RemoveVar name) e none = none
-after_rows world buffer (what.Print line) e none = none
-after_rows world buffer what.Clear e none = none
-after_rows world buffer (what.Flips flips) e none = none
-after_rows world buffer (what.AddGroup parent item) e none = absurd (cc)
-after_rows world buffer (what.AddNick group item) e none = absurd (cc)
-after_rows world buffer (what.RemoveGroup name) e none = absurd (cc)
-after_rows world buffer (what.RemoveNick name) e none = absurd (cc)
-after_rows world buffer (what.ChangeGroup item) e none = absurd (cc)
-after_rows world buffer (what.ChangeNick item) e none = absurd (cc)
-
--- what a change comes to that touches no row
-pub rows_stay : (before : World) (change : Change) (following : World) (result : Result Notice ChangeRefused) → Outcome before change following result → touched_key change.what ≡ None → HasNoRows before → HasNoRows following
-rows_stay before change following (Ok notice) made plain none = subst HasNoRows (sym made.after) (after_rows before change.buffer change.what plain none)
-rows_stay before change following (Err (refused.Buffer reason)) made plain none = subst HasNoRows (sym made.0) none
-rows_stay before change following (Err (refused.Nick reason)) made plain none = subst HasNoRows (sym made.0) none
-rows_stay before change following (Err (refused.NoLine h)) made plain none = subst HasNoRows (sym made.0) none
-rows_stay before change following (Err (refused.TooManyRows limit)) made plain none = subst HasNoRows (sym made.0) none
-rows_stay before change following (Err refused.Spent) made plain none = subst HasNoRows (sym made.0) none
-rows_stay before change following (Err refused.NoMemory) made plain none = subst HasNoRows (sym made) none
-
--- ---- the rows that were told
+first_rows : (limit : ℕ) (b : ℕ) → rows_at (first_world limit) b ≡ []
+first_rows limit b = rows_inserted empty 1 b (ap (λ o. unwrap_or o []) (get-empty nat_cmp b))
 
 no_rows_held : IsRows []
 no_rows_held = record { ascending = tt; keyed = tt; held = λ k r e. absurd (cc) }
 
-none_touched : (pending : List OfBuffer) (b : Handle) → NothingTouched pending → (k : Key) → before_at k (touches_of b pending) ≡ None
-none_touched pending b nothing k = ap (before_at k) (nothing b)
+first_held : (limit : ℕ) → AreHeld (first_world limit)
+first_held limit b = subst IsRows (sym (first_rows limit b)) no_rows_held
 
--- where no buffer has rows and nothing was touched, none were told
-pub none_told : (core : CoreView) (told : Told) → HasNoRows core.world → NothingTouched core.pending → WereTold core told → (b : ℕ) → told_of told b ≡ []
-none_told core told none nothing were b =
-    let h : Handle = record { 0 = b } in
-    let now = rows_at core.world b in
-    untouched_told (λ k. before_at k (touches_of h core.pending)) now (told_of told b) (subst IsRows (sym (none b)) no_rows_held) (none_touched core.pending h nothing) (were h) ∙ none b
+pub first-means : (options : OptionsValue) (limit : ℕ) (commands : List (List ℕ)) (starved : ℕ) (quits : Bool)
+    → Means (record { options = options; world = first_world limit; pending = []; connections = []; moment = 0; commands = commands; starved = starved; quits = quits }) (first_state options limit commands)
+first-means options limit commands starved quits = record { same = refl; told = rows_told (first_world limit) [] (first_held limit) (λ b. refl) }
 
-pub were_none : (core : CoreView) (told : Told) → HasNoRows core.world → NothingTouched core.pending → ((b : ℕ) → told_of told b ≡ []) → WereTold core told
-were_none core told none nothing are h = record {
-  held = subst IsRows (sym (are h.0)) no_rows_held;
-  found = λ k.
-      ap (λ first. told_or first (find_row k (rows_at core.world h.0))) (none_touched core.pending h nothing k)
-      ∙ ap (find_row k) (none h.0 ∙ sym (are h.0));
+-- ---- what is kept of touches
+
+-- what the core means stays where the same is kept
+pub same-told : (old : CoreView) (pending : List OfBuffer) (told : Told) → AreSameTouches old.pending pending → WereTold old told → WereTold (record old { pending = pending }) told
+same-told old pending told same were b = record {
+  held = (were b).held;
+  found = λ k. ap (λ first. told_or first (find_row k (rows_at old.world b.0))) (same b k) ∙ (were b).found k;
 }
 
-pub first-means : (options : OptionsValue) (limit : ℕ) (world : World) (pending : List OfBuffer) (connections : List Connection) (starved : ℕ) (quits : Bool) → world ≡ first_world limit → pending ≡ [] → connections ≡ []
-    → Means (record { options = options; world = world; pending = pending; connections = connections; moment = 0; starved = starved; quits = quits }) (first_state options limit)
-first-means options limit world pending connections starved quits w p s =
-    let told : Told = (first_world limit).nicks in
-    let of : List Connection → World → State = λ connections world. record { options = options; clients = clients_of connections; world = world; told = told; moment = 0 } in
-    record {
-      same = ap (λ connections. of connections (first_world limit)) (sym s) ∙ ap (of connections) (sym w);
-      told = were_none (record { options = options; world = world; pending = pending; connections = connections; moment = 0; starved = starved; quits = quits }) told (first_rows world limit w) (λ b. ap (touches_of b) p) (first_rows (first_world limit) limit refl);
-    }
-
--- a change without nicks tells no rows
-told_stays : (world : World) (buffer : Handle) (w : What) (told : Told) → touched_key w ≡ None → ((b : ℕ) → told_of told b ≡ []) → (b : ℕ) → told_of (told_after world buffer w told) b ≡ []
-told_stays world buffer (what.Add spec) told e none b = rows_inserted told world.next b (none b)
-told_stays world buffer what.Close told e none b = rows_removed told buffer.0 b (none b)
-told_stays world buffer (what.MoveTo number) told e none b = none b
-told_stays world buffer (what.MergeInto into) told e none b = none b
-told_stays world buffer what.Unmerge told e none b = none b
-told_stays world buffer what.Hide told e none b = none b
-told_stays world buffer what.Unhide told e none b = none b
-told_stays world buffer (what.Rename name flips) told e none b = none b
-told_stays world buffer (what.ShortName name) told e none b = none b
-told_stays world buffer (what.Title title) told e none b = none b
-told_stays world buffer (what.SetVar var) told e none b = none b
-told_stays world buffer (what.RemoveVar name) told e none b = none b
-told_stays world buffer (what.Print line) told e none b = none b
-told_stays world buffer what.Clear told e none b = none b
-told_stays world buffer (what.Flips flips) told e none b = none b
-told_stays world buffer (what.AddGroup parent item) told e none b = absurd (cc)
-told_stays world buffer (what.AddNick group item) told e none b = absurd (cc)
-told_stays world buffer (what.RemoveGroup name) told e none b = absurd (cc)
-told_stays world buffer (what.RemoveNick name) told e none b = absurd (cc)
-told_stays world buffer (what.ChangeGroup item) told e none b = absurd (cc)
-told_stays world buffer (what.ChangeNick item) told e none b = absurd (cc)
-
--- such a change keeps what was told
-pub told_follows : (old : CoreView) (world : World) (connections : List Connection) (buffer : Handle) (w : What) (told : Told) → touched_key w ≡ None → HasNoRows old.world → HasNoRows world → NothingTouched old.pending → WereTold old told
-    → WereTold (record old { world = world; connections = connections }) (told_after old.world buffer w told)
-told_follows old world connections buffer w told plain none following nothing were =
-    were_none (record old { world = world; connections = connections }) (told_after old.world buffer w told) following nothing (told_stays old.world buffer w told plain (none_told old told none nothing were))
-
--- ---- the steps
-
-told_none : (buffer : Handle) (clients : List Client) → flat_map (pushed_to buffer Nothing) clients ≡ []
-unfolding push_told
-told_none buffer [] = refl
-told_none buffer (client ∷ clients) = told_none buffer clients
-
-pushed_none : (state : State) (buffer : ℕ) → told_at state buffer ≡ [] → rows_at state.world buffer ≡ [] → pushes_of state buffer ≡ []
-pushed_none state buffer told none =
-    let of : List Row → List Row → List Act = λ told now. flat_map (pushed_to (record { 0 = buffer }) (nick_push (root_at buffer) told now)) state.clients in
-    ap (λ rows. of rows (rows_at state.world buffer)) told ∙ ap (of []) none ∙ told_none (record { 0 = buffer }) state.clients
-
-all_none : (state : State) (buffers : List ℕ) → ((b : ℕ) → told_at state b ≡ []) → HasNoRows state.world → flat_map (pushes_of state) buffers ≡ []
-all_none state [] told none = refl
-all_none state (buffer ∷ buffers) told none =
-    ap (λ acts. acts ++ flat_map (pushes_of state) buffers) (pushed_none state buffer (told buffer) (none buffer)) ∙ all_none state buffers told none
-
--- nothing is pushed
-pub push-done : (core : CoreView) → HasNoRows core.world → NothingTouched core.pending → Does core core push_step
-push-done core none nothing = λ told. FollowsUnlessStarved-exact told core core (push_step (state_of core told)) (KeepsClients-refl core)
-    (λ distinct. leaves-none core (push_step (state_of core told)) (λ j. pushes-closes j (state_of core told)))
-    (λ distinct were. by told were)
+-- so what is done after that is done
+pub Does-over : (old mid new : CoreView) (step : State → Stepped) → mid ≡ record old { pending = mid.pending } → AreSameTouches old.pending mid.pending → Does mid new step → Does old new step
+Does-over old mid new step e same done =
+    let P : CoreView → Type 0 = λ c. Does c new step in
+    over (subst P e done)
   where
-    by : (told : Told) → WereTold core told → Follows core core (push_step (state_of core told))
-    by told were =
-        let P : List Act → Type 0 = λ acts. Follows core core (record { state = state_of core core.world.nicks; acts = acts }) in
-        let state = state_of core told in
-        subst P (sym (all_none state (order core.world.groups) (none_told core told none nothing were) none))
-        (Follows-stays core.world.nicks core (were_none core core.world.nicks none nothing none))
+    over : Does (record old { pending = mid.pending }) new step → Does old new step
+    over done = λ told.
+        let f = done told in
+        record {
+          keeps = record { rises = f.keeps.rises; links = f.keeps.links; kept = f.keeps.kept };
+          causes = f.causes;
+          does = λ stays below distinct were.
+              let g = f.does stays below distinct (same-told old mid.pending told same were) in
+              record { means = g.means; bytes = g.bytes; leaving = g.leaving; quits = g.quits };
+        }
+
+-- ---- pushes
+
+pushed-ends : (buffer : Handle) (push : Push) (clients : List Client) → has_end (flat_map (pushed_to buffer push) clients) ≡ false
+pushed-ends buffer push [] = refl
+pushed-ends buffer push (client ∷ clients) =
+    has_end-append (pushed_to buffer push client) (flat_map (pushed_to buffer push) clients)
+    ∙ ap (λ t. t || has_end (flat_map (pushed_to buffer push) clients)) (end-sends (client_link client) (push_told buffer push client)) ∙ pushed-ends buffer push clients
+
+each-ends : (state : State) (buffers : List ℕ) → has_end (flat_map (pushes_of state) buffers) ≡ false
+each-ends state [] = refl
+each-ends state (buffer ∷ buffers) =
+    has_end-append (pushes_of state buffer) (flat_map (pushes_of state) buffers)
+    ∙ ap (λ t. t || has_end (flat_map (pushes_of state) buffers)) (pushed-ends (record { 0 = buffer }) (push_at state buffer) state.clients) ∙ each-ends state buffers
+
+pub pushes-end : (state : State) → has_end (push_step state).acts ≡ false
+pushes-end state = each-ends state (order state.world.groups)
+
+sent_leaving : (messages : List WireMessage) (connection : Connection) → (sent_connection messages connection).leaving ≡ connection.leaving
+sent_leaving messages connection = by (is_open connection) where
+  by : (b : Bool) → (cond b (record connection { session = record connection.session { unsent = connection.session.unsent ++ flat_map (λ m. spelling m) messages } }) connection).leaving ≡ connection.leaving
+  by true = refl
+  by false = refl
+
+pushed_link : (w : World) (told : ℕ → List Row) (ns : List ℕ) (connection : Connection) → connection_link (pushed_connection w told ns connection) ≡ connection_link connection
+pushed_link w told ns connection = ap client_link (sent_client (pushes_told w told ns connection.session.client) connection)
+
+pushed_leaving : (j : ℕ) (w : World) (told : ℕ → List Row) (ns : List ℕ) (connections : List Connection) → leaving_on j (map (pushed_connection w told ns) connections) ≡ leaving_on j connections
+pushed_leaving j w told ns [] = refl
+pushed_leaving j w told ns (connection ∷ connections) =
+    let push = pushed_connection w told ns in
+    ap (λ n. leaving_in (cond (eqb n j) (Some (push connection)) (at_key connection_link j (map push connections)))) (pushed_link w told ns connection)
+    ∙ by (eqb (connection_link connection) j) (pushed_leaving j w told ns connections)
+  where
+    by : (t : Bool) → leaving_on j (map (pushed_connection w told ns) connections) ≡ leaving_on j connections
+        → leaving_in (cond t (Some (pushed_connection w told ns connection)) (at_key connection_link j (map (pushed_connection w told ns) connections))) ≡ leaving_in (cond t (Some connection) (at_key connection_link j connections))
+    by true more = sent_leaving (pushes_told w told ns connection.session.client) connection
+    by false more = more
+
+-- the core after its pushes, whatever memory was refused
+pub record IsPushedCore (old new : CoreView) : Type 0 where
+  pub stays : new ≡ record old { pending = new.pending; connections = new.connections; starved = new.starved }
+  pub kept : ConnectionsKept old.connections new.connections
+  pub rows : AreTold new.world new.pending (rows_at new.world)
+  pub rises : old.starved ≤ new.starved
+  -- all of it is done, or want of memory was counted
+  pub all : (old.starved < 2 ^ 64 - 1 → new.starved ≡ old.starved → (told : ℕ → List Row) → AreTold old.world old.pending told → new.connections ≡ map (pushed_connection old.world told (order old.world.groups)) old.connections)
+
+pushed_keeps : (old new : CoreView) → IsPushedCore old new → KeepsClients old new
+pushed_keeps old new is = record {
+  rises = is.rises;
+  links = ConnectionsKept-links old.connections new.connections is.kept;
+  kept = λ j some. ConnectionsKept-leaving j old.connections new.connections is.kept some;
+}
+
+pub push-done : (old new : CoreView) → IsPushedCore old new → Does old new push_step
+push-done old new is = λ told. record {
+  keeps = pushed_keeps old new is;
+  causes = λ distinct j. inr (ConnectionsKept-causes j old.connections new.connections is.kept);
+  does = λ same below distinct were. by told same below distinct were;
+} where
+  next : CoreView
+  next = record old { pending = new.pending; connections = new.connections; starved = new.starved }
+
+  rows : AreTold old.world new.pending (rows_at old.world)
+  rows = let P : World → Type 0 = λ w. AreTold w new.pending (rows_at w) in subst P (ap (λ (c : CoreView). c.world) is.stays) is.rows
+
+  by : (told : Told) → new.starved ≡ old.starved → old.starved < 2 ^ 64 - 1 → Distinct (links_of old) → WereTold old told → Follows old new (push_step (state_of old told))
+  by told same below distinct were =
+      let state = state_of old told in
+      let pushed = is.all below same (told_of told) were in
+      let of : List Client → State = λ clients. record { options = old.options; clients = clients; world = old.world; told = old.world.nicks; moment = old.moment; commands = old.commands } in
+      let P : CoreView → Type 0 = λ c. Follows old c (push_step state) in
+      subst P (sym is.stays) (record {
+        means = record { same = ap of (sym (ap clients_of pushed ∙ pushed-clients old.world (told_of told) (order old.world.groups) old.connections)); told = rows };
+        bytes = λ j. pushes-sent j state old.world old.connections new.connections refl refl distinct pushed;
+        leaving = λ j. ap (leaving_on j) pushed ∙ pushed_leaving j old.world (told_of told) (order old.world.groups) old.connections ∙ sym (ap (or_else (leaving_on j old.connections)) (pushes-closes j state) ∙ or_else-none (leaving_on j old.connections));
+        quits = sym (ap (λ t. old.quits || t) (pushes-end state) ∙ or-false old.quits);
+      })
 
 pub tick-done : (old new : CoreView) (moment : ℕ) → Does (record old { moment = moment }) new push_step → Does old new (λ state. step state (Tick moment))
 tick-done old new moment done = λ told.
@@ -197,15 +175,3 @@ tick-done old new moment done = λ told.
       causes = f.causes;
       does = λ same below distinct were. (let g = f.does same below distinct were in record { means = g.means; bytes = g.bytes; leaving = g.leaving; quits = g.quits });
     }
-
--- what is to be pushed comes before nicklists that are asked for
-pub asked-pushed : (old new : CoreView) (client : Client) (request : Request) → Does old old push_step → Does old new (λ state. reply_step state client request) → Does old new (λ state. request_step state client (Some request))
-asked-pushed old new client request pushed done = λ told. by told (client.logged_in && is_nicklist request.command) where
-  first : Told → Stepped
-  first told = push_step (state_of old told)
-
-  by : (told : Told) (b : Bool) → FollowsUnlessStarved told old new (cond b (then_does (first told) (λ next. reply_step next client request)) (reply_step (state_of old told) client request))
-  by told true =
-      let closes : ClosesLater old (first told) (λ next. reply_step next client request) = record { first_none = λ j. pushes-closes j (state_of old told); same = λ j. refl } in
-      FollowsUnlessStarved-then told old old new (first told) (λ next. reply_step next client request) closes (pushed told) done
-  by told false = done told

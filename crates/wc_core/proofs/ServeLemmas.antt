@@ -15,32 +15,36 @@ use Rattle.wc_text.specs.declared.names.Handle.{Handle}
 use Rattle.wc_buffers.specs.Calls.{is_there}
 use Rattle.wc_model.specs.declared.notice.Notice.{Notice}
 use Rattle.wc_model.specs.World.{World}
+use Rattle.wc_nickdiff.specs.Held.{OfBuffer}
 use Rattle.wc_objects.specs.declared.object.WireMessage.{WireMessage}
 use Rattle.wc_session.specs.Known.{Known}
 use Rattle.wc_session.specs.Sending.{spelling}
-use Rattle.wc_core.specs.declared.connection.Connection.{Connection}
+use Rattle.wc_board.specs.declared.connection.Connection.{Connection}
 use Rattle.wc_core.specs.CoreView.{CoreView}
 use Rattle.wc_core.specs.Typed.{typed_line}
 use Rattle.wc_core.specs.TypedSeen.{lines_left}
 use Rattle.wc_core.specs.State.{State, Stepped}
 use Rattle.wc_core.specs.Inputs.{GoesOn, Stops}
 use Rattle.wc_core.specs.Step.{client_link, sends, no_step, then_does, tell_all_step, typed_step, is_quit, lines_step, leave_step}
-use Rattle.wc_core.specs.Served.{connection_link, links_of, is_open, clients_of, state_of, WereTold, unsent_in, unsent_on, leaving_in, leaving_on, or_else, close_of, StaysOrStarves, LeavesBy, Distinct, Follows, KeepsClients, FollowsUnlessStarved, Does, told_connection, ConnectionsKept}
-use Rattle.wc_core.specs.Told.{Told}
+use Rattle.wc_board.specs.Connections.{connection_link, is_open, unsent_in, unsent_on, leaving_in, leaving_on}
+use Rattle.wc_core.specs.Served.{links_of, clients_of, state_of, WereTold, or_else, close_of, LeavesBy, Distinct, Follows, KeepsClients, FollowsUnlessStarved, Does}
+use Rattle.wc_board.specs.Served.{StaysOrStarves, told_connection, ConnectionsKept}
+use Rattle.wc_board.specs.Told.{Told}
 use Rattle.wc_core.proofs.DidLemmas.{or_else-none, or-false, Does-stays, FollowsUnlessStarved-then}
 use Rattle.wc_core.proofs.CloseLemmas.{does-closes, typed-later}
-use Rattle.wc_core.proofs.ConnectionLemmas.{sent-sends, close-sends, end-sends, close-told, end-told, told-clients, told-leaving, told-bytes, ConnectionsKept-links, ConnectionsKept-leaving, clients-put, clients-leave}
+use Rattle.wc_core.proofs.ConnectionLemmas.{sent-sends, close-sends, end-sends, close-told, end-told, told-clients, told-leaving, told-bytes, clients-put, clients-leave}
+use Rattle.wc_board.proofs.ConnectionLemmas.{ConnectionsKept-links, ConnectionsKept-leaving}
 
 -- ---- a notice that is told
 
-abbrev pub told_to_all : CoreView → World → Notice → CoreView
-told_to_all old world n = record old { world = world; connections = map (told_connection world n) old.connections }
+abbrev pub told_to_all : CoreView → World → List OfBuffer → Notice → CoreView
+told_to_all old world pending n = record old { world = world; pending = pending; connections = map (told_connection world n) old.connections }
 
 pub told-left : (told told' : Told) (old : CoreView) (world : World) (n : Notice) (j : ℕ) → leaving_on j (map (told_connection world n) old.connections) ≡ or_else (leaving_on j old.connections) (close_of j (tell_all_step (state_of old told) told' world n).acts)
 told-left told told' old world n j = told-leaving j world n old.connections ∙ sym (ap (or_else (leaving_on j old.connections)) (close-told j world n (clients_of old.connections)) ∙ or_else-none (leaving_on j old.connections))
 
-pub Follows-told : (told told' : Told) (old : CoreView) (world : World) (n : Notice) → Distinct (links_of old) → WereTold (told_to_all old world n) told' → Follows old (told_to_all old world n) (tell_all_step (state_of old told) told' world n)
-Follows-told told told' old world n distinct were = record {
+pub Follows-told : (told told' : Told) (old : CoreView) (world : World) (pending : List OfBuffer) (n : Notice) → Distinct (links_of old) → WereTold (told_to_all old world pending n) told' → Follows old (told_to_all old world pending n) (tell_all_step (state_of old told) told' world n)
+Follows-told told told' old world pending n distinct were = record {
   means = record { same = rw (told-clients world n old.connections) refl; told = were };
   bytes = λ j. told-bytes j world n old.connections distinct;
   leaving = told-left told told' old world n;

@@ -1,9 +1,9 @@
 -- What contracts see of the core.
-use Rattle.std.specs.Prelude.{◌≡◌, ℕ, Bool, List, []}
+use Rattle.std.specs.Prelude.{ℕ, Bool, List}
 use Rattle.wc_nickdiff.specs.Held.{OfBuffer}
 use Rattle.wc_options.specs.Options.{OptionsValue}
-use Rattle.wc_model.specs.World.{World, rows_at}
-use Rattle.wc_core.specs.declared.connection.Connection.{Connection}
+use Rattle.wc_model.specs.World.{World}
+use Rattle.wc_board.specs.declared.connection.Connection.{Connection}
 
 pub record CoreView : Type 0 where
   pub options : OptionsValue
@@ -14,11 +14,9 @@ pub record CoreView : Type 0 where
   pub connections : List Connection
   -- the last moment, in milliseconds since 1970
   pub moment : ℕ
+  -- what is run at the start
+  pub commands : List (List ℕ)
   -- how often memory was refused
   pub starved : ℕ
   -- whether the run is to end
   pub quits : Bool
-
--- no buffer has rows in its nicklist
-abbrev pub HasNoRows : World → Type 0
-HasNoRows world = (buffer : ℕ) → rows_at world buffer ≡ []

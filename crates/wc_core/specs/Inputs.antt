@@ -1,15 +1,24 @@
 -- How the core runs what is typed.
-use Rattle.std.specs.Prelude.{◌≡◌, ℕ, ◌+◌, ◌-◌, ◌^◌, ◌≤◌, true, false, ◌⊎◌, List}
-use Rattle.std.specs.Prelude.{◌∷◌, map, min, None}
+use Rattle.std.specs.Prelude.{◌≡◌, ℕ, true, false, ◌⊎◌, ◌&&◌, if◌then◌else◌, List, ◌∷◌, Some, None}
+use Rattle.std.specs.Prelude.{IfSome}
 use Rattle.wc_text.specs.declared.names.Handle.{Handle}
 use Rattle.wc_buffers.specs.Calls.{is_there}
 use Rattle.wc_model.specs.declared.change.Change.{Change}
-use Rattle.wc_model.specs.declared.notice.Notice.{Notice}
+use Rattle.wc_model.specs.declared.refused.ChangeRefused.{ChangeRefused}
 use Rattle.wc_model.specs.Apply.{refusal}
 use Rattle.wc_core.specs.CoreView.{CoreView}
 use Rattle.wc_core.specs.Typed.{typed_line}
-use Rattle.wc_core.specs.Step.{change_step, typed_step, is_quit, lines_step}
-use Rattle.wc_core.specs.Served.{told_connection, ConnectionsServed, Does}
+use Rattle.wc_core.specs.Step.{no_step, push_step, change_step, typed_step, is_quit, lines_step}
+use Rattle.wc_outside.specs.Keyed.{at_key}
+use Rattle.wc_relaycmd.specs.declared.request.Request.{Request}
+use Rattle.wc_session.specs.declared.client.Client.{Client}
+use Rattle.wc_session.specs.declared.outcome.Outcome.{Outcome}
+use Rattle.wc_board.specs.declared.connection.Connection.{Connection}
+use Rattle.wc_board.specs.Answered.{is_nicklist, AnsweredAt}
+use Rattle.wc_board.specs.Connections.{connection_link, is_open}
+use Rattle.wc_board.specs.Told.{AreSameTouches}
+use Rattle.wc_core.specs.State.{State, Stepped}
+use Rattle.wc_core.specs.Served.{Does}
 use Rattle.wc_core.specs.Served.{RanOutOfMemory}
 
 -- a change is made and told, or memory was refused
@@ -17,22 +26,35 @@ abbrev pub MakesChange : CoreView → Change → CoreView → Type 0
 MakesChange old change new = ((refusal old.world change ≡ None)
     × Does old new (λ state. change_step state change)) ⊎ RanOutOfMemory old new
 
--- memory was refused to someone whom a notice is for
-pub record TellsSome (old new : CoreView) (notice : Notice) : Type 0 where
-  pub served : ConnectionsServed notice.kind notice.buffer.0 (told_connection old.world notice)
-      old.connections new.connections
-  pub rises : old.starved ≤ new.starved
-  pub counts : new ≡ record old {
-    connections = new.connections;
-    starved = min (old.starved + 1) (2 ^ 64 - 1);
-  }
+-- a change is refused for this reason, and nothing is told
+pub record RefusesChange (old : CoreView) (change : Change) (reason : ChangeRefused)
+    (new : CoreView) : Type 0 where
+  pub refused : refusal old.world change ≡ Some reason
+  pub stays : new ≡ record old { pending = new.pending }
+  pub touches : AreSameTouches old.pending new.pending
 
--- a notice of a change that led to this world is told, or memory was refused to someone
-abbrev pub MayTell : CoreView → CoreView → Notice → Type 0
-MayTell old new notice = (new ≡ record old {
-  connections = map (told_connection old.world notice)
-      old.connections;
-}) ⊎ TellsSome old new notice
+-- what is to be pushed before a request of a client is answered
+abbrev pub push_before : Client → Request → State → Stepped
+push_before client request state =
+    if client.logged_in && is_nicklist request.command then push_step state else no_step state
+
+-- a request of an open client is answered after the pushes that stand before it
+pub record AnswersRequestOf (link : ℕ) (request : Request) (result : Outcome)
+    (old new : CoreView) : Type 0 where
+  pub between : CoreView
+  pub pushed : IfSome (at_key connection_link link old.connections)
+      (λ connection. Does old between (λ state. push_before connection.session.client request state))
+  -- the pushes change no client that goes on
+  pub same : (before now : Connection) → at_key connection_link link old.connections ≡ Some before →
+      at_key connection_link link between.connections ≡ Some now → is_open now ≡ true →
+      now.session.client ≡ before.session.client
+  pub world : between.world ≡ old.world
+  pub options : between.options ≡ old.options
+  pub answered : new ≡ record between { connections = new.connections }
+  pub board : AnsweredAt link old.options request result
+      (record { world = between.world; pending = between.pending; connections = between.connections })
+      (record { world = new.world; pending = new.pending; connections = new.connections })
+      (at_key connection_link link between.connections)
 
 -- after a line that is typed into a buffer the others are run
 pub record GoesOn (old new : CoreView) (buffer : Handle) (line : List ℕ) : Type 0 where

@@ -1,7 +1,6 @@
 pub mod Events
 pub mod Inputs
 pub mod Limits
-pub mod Pushes
 pub mod Resolved
 pub mod ResolvedSeen
 pub mod Served
@@ -9,6 +8,5 @@ pub mod CoreView
 pub mod State
 pub mod Step
 pub mod Texts
-pub mod Told
 pub mod Typed
 pub mod TypedSeen

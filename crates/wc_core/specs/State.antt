@@ -1,12 +1,12 @@
 -- What the core is, seen flat.
-use Rattle.std.specs.Prelude.{ℕ, List, []}
+use Rattle.std.specs.Prelude.{ℕ, Bool, true, false, ◌||◌, List, [], ◌∷◌}
 use Rattle.wc_text.specs.declared.names.Cause.{Cause}
 use Rattle.wc_options.specs.Options.{OptionsValue}
 use Rattle.wc_nicklist.specs.declared.item.Row.{Row}
 use Rattle.wc_model.specs.World.{World, first_world}
 use Rattle.wc_objects.specs.declared.object.WireMessage.{WireMessage}
 use Rattle.wc_session.specs.declared.client.Client.{Client}
-use Rattle.wc_core.specs.Told.{Told, told_of}
+use Rattle.wc_board.specs.Told.{Told, told_of}
 
 pub record State : Type 0 where
   -- the options and their values
@@ -19,6 +19,8 @@ pub record State : Type 0 where
   pub told : Told
   -- the last moment, in milliseconds since 1970
   pub moment : ℕ
+  -- what is run at the start, as if it were typed into the core buffer
+  pub commands : List (List ℕ)
 
 -- what the core asks of the loop
 pub data Act : Type 0 where
@@ -28,18 +30,29 @@ pub data Act : Type 0 where
   -- the run is to end
   Quits : Act
 
+abbrev pub is_end : Act → Bool
+is_end (Sends to m) = false
+is_end (Closes to cause) = false
+is_end Quits = true
+
+-- whether the run is to end by these acts
+abbrev pub has_end : List Act → Bool
+has_end [] = false
+has_end (act ∷ acts) = is_end act || has_end acts
+
 pub record Stepped : Type 0 where
   pub state : State
   pub acts : List Act
 
--- no client, and the core buffer alone, whose lines are bounded
-abbrev pub first_state : OptionsValue → ℕ → State
-first_state options limit = record {
+-- no client, and the core buffer alone, whose lines are bounded, before these commands are run
+abbrev pub first_state : OptionsValue → ℕ → List (List ℕ) → State
+first_state options limit commands = record {
   options = options;
   clients = [];
   world = first_world limit;
   told = (first_world limit).nicks;
   moment = 0;
+  commands = commands;
 }
 
 abbrev pub told_at : State → ℕ → List Row

@@ -22,8 +22,6 @@ use Rattle.wc_options.specs.Options.{refusal_of, value_of, with_value, without_v
 use Rattle.wc_options.specs.declared.refusal.SetRefused.{SetRefused}
 use Rattle.wc_options.specs.declared.refusal.SetRefused.TheVariants.{UnknownOption}
 use Rattle.wc_relaycmd.specs.Answers.{request_of}
-use Rattle.wc_relaycmd.specs.declared.request.Command.{Command}
-use Rattle.wc_relaycmd.specs.declared.request.Command.TheVariants as ask
 use Rattle.wc_relaycmd.specs.declared.request.Request.{Request}
 use Rattle.wc_session.specs.declared.client.Client.{Client}
 use Rattle.wc_session.specs.declared.outcome.Outcome.{Outcome}
@@ -37,12 +35,16 @@ use Rattle.wc_core.specs.Events.{ListenFails}
 use Rattle.wc_core.specs.Limits.{client_limit}
 use Rattle.wc_core.specs.Resolved.{Effect, Stays, Ends as ResolvedEnds, Tells, Asks, SetsOption}
 use Rattle.wc_core.specs.Resolved.{UnsetsOption, effect_of, refusal_text, option_text, told_refusal}
-use Rattle.wc_core.specs.State.{State, Act, Sends, Closes, Quits, Stepped, told_at}
-use Rattle.wc_core.specs.Told.{Told}
+use Rattle.wc_core.specs.State.{State, Act, Sends, Closes, Quits, Stepped, has_end, told_at}
+use Rattle.wc_board.specs.Answered.{is_nicklist}
+use Rattle.wc_board.specs.Told.{Told}
 use Rattle.wc_core.specs.Typed.{TypedCommand, Quits as TypedQuits, typed_line, lines_of_text}
 
 abbrev pub client_link : Client → ℕ
 client_link client = client.link.0
+
+abbrev pub core_buffer : Handle
+core_buffer = record { 0 = 1 }
 
 abbrev pub no_step : State → Stepped
 no_step state = record { state = state; acts = [] }
@@ -197,10 +199,6 @@ answer_step state link answer =
     })
     (λ next. outcome_step next link answer.outcome)
 
-abbrev pub is_nicklist : Command → Bool
-is_nicklist (ask.Nicklist buffer) = true
-is_nicklist _ = false
-
 abbrev pub reply_step : State → Client → Request → Stepped
 reply_step state client request = answer_step state (client_link client)
     (reply_of state.world state.options client request)
@@ -222,6 +220,15 @@ abbrev pub loss_step : State → ℕ → Cause → Option Client → Stepped
 loss_step state link cause None = no_step state
 loss_step state link cause (Some client) = leave_step state link cause
 
+-- The commands of the start, one after another, each an input of its own on the core buffer. Those
+-- after a `/quit` are not run.
+abbrev pub commands_step : State → List (List ℕ) → Stepped
+commands_step state [] = no_step state
+commands_step state (command ∷ commands) =
+    let first = lines_step state core_buffer (lines_of_text command) in
+    if has_end first.acts then first
+    else then_does first (λ next. commands_step next commands)
+
 abbrev pub arrival_step : State → ℕ → List ℕ → Stepped
 arrival_step state link nonce =
     if nat_lt (length state.clients) (client_limit state.options)
@@ -233,7 +240,8 @@ arrival_step state link nonce =
 
 -- what the core does at an event
 abbrev pub step : State → Event → Stepped
-step state (Start moment) = no_step (record state { moment = moment })
+step state (Start moment) = commands_step (record state { moment = moment; commands = [] })
+    state.commands
 step state (Tick moment) = push_step (record state { moment = moment })
 step state (Arrives link nonce) = arrival_step state link nonce
 step state (LineCame link line) = line_step state line (at_key client_link link state.clients)

@@ -1,17 +1,15 @@
 //! What the loop sees of the core, and what it takes of its clients.
 
-ghost use Rattle.std.specs.Prelude.{◌≡◌, ◌≤◌, ℕ, length, IfSome};
+ghost use Rattle.std.specs.Prelude.{◌≡◌, ◌≤◌, nat_le, length, filter, IfSome};
 ghost use Rattle.std.specs.Option.{option_copied};
 ghost use Rattle.wc_outside.specs.Keyed.{at_key, without};
-ghost use Rattle.wc_core.specs.Events.{Tick};
-ghost use Rattle.wc_core.specs.Step.{step};
-ghost use Rattle.wc_core.specs.Served.{connection_link, unsent_at, gone_at, is_open_at, Does};
-ghost use Rattle.wc_core.specs.Served.{departure_of};
+ghost use Rattle.wc_board.specs.Connections.{connection_link, is_open, unsent_at, gone_at};
+ghost use Rattle.wc_board.specs.Connections.{is_open_at, departure_of};
+ghost use Rattle.wc_core.specs.Limits.{client_limit};
 
-use crate::connection::{
-    Connection, Departure, connection_place, drop_connection, first_departure,
-};
 use crate::core_state::Core;
+use crate::limits::client_limit;
+use wc_board::{Connection, Departure};
 use wc_text::LinkId;
 use wc_world::World;
 
@@ -20,7 +18,7 @@ impl Core {
     pub fn departure(&self) -> Option<Departure>
         ensures { result ≡ departure_of self.now.connections }
     {
-        first_departure(&self.connections)
+        self.board.departure()
     }
 
     /// Forgets the client of a link, as the link is closed.
@@ -30,7 +28,7 @@ impl Core {
               without connection_link link.0 self.old.connections;
         } }
     {
-        drop_connection(&mut self.connections, link);
+        self.board.forget(link);
     }
 
     /// The unsent bytes of the client of a link, also while it is leaving. None where there is no
@@ -39,8 +37,8 @@ impl Core {
         ensures { option_copied result
             ≡ unsent_at (at_key connection_link link.0 self.now.connections) }
     {
-        let place = connection_place(&self.connections, link)?;
-        Some(self.connections[place].session.unsent())
+        let session = self.board.session(link)?;
+        Some(session.unsent())
     }
 
     /// Takes the first unsent bytes of a client away.
@@ -53,26 +51,21 @@ impl Core {
               (at_key connection_link link.0 self.old.connections);
         } }
     {
-        if let Some(place) = connection_place(&self.connections, link) {
-            self.connections[place].session.gone(count);
-        }
+        self.board.gone(link, count);
     }
 
     /// Whether a link has a client that is not leaving.
     pub fn is_open(&self, link: LinkId) -> bool
         ensures { result ≡ is_open_at (at_key connection_link link.0 self.now.connections) }
     {
-        match connection_place(&self.connections, link) {
-            Some(place) => self.connections[place].is_open(),
-            None => false,
-        }
+        self.board.is_open(link)
     }
 
     /// The clients that are open and those that are leaving, in the order in which they came.
     pub fn connections(&self) -> &[Connection]
         ensures { result.now ≡ self.now.connections }
     {
-        self.connections.as_slice()
+        self.board.connections()
     }
 
     /// How often want of memory cut something short or made a client leave.
@@ -89,12 +82,18 @@ impl Core {
         self.quits
     }
 
-    /// The buffers, with their lines and nicklists, of which a tick pushes nothing.
+    /// The buffers, with their lines and nicklists.
     pub fn world(&self) -> &World
-        ensures world { result.now ≡ self.now.world }
-        ensures idle { (moment : ℕ) → Does self.now (record self.now { moment = moment })
-            (λ state. step state (Tick moment)) }
+        ensures { result.now ≡ self.now.world }
     {
-        &self.world
+        self.board.world()
+    }
+
+    /// Whether as many clients are open as the options allow.
+    pub(crate) fn is_full(&self) -> bool
+        ensures { result ≡ nat_le (client_limit self.now.options)
+            (length (filter (λ connection. is_open connection) self.now.connections)) }
+    {
+        self.board.open_count() >= client_limit(&self.options) as usize
     }
 }

@@ -1,11 +1,10 @@
 ghost use Rattle.std.specs.Prelude.{◌≡◌, ◌≢◌, ◌⊎◌, ◌∷◌, ◌≤◌, ◌^◌, ◌-◌, ◌+◌};
-ghost use Rattle.std.specs.Prelude.{◌<◌, ◌++◌, [], ℕ, min, List, length, true, false, Some, None};
-ghost use Rattle.std.specs.Prelude.{IfOk, IfSome};
+ghost use Rattle.std.specs.Prelude.{◌<◌, ◌++◌, [], min, true, false, Some, None};
+ghost use Rattle.std.specs.Prelude.{IfOk, IfSome, map, string_bytes};
 ghost use Rattle.std.specs.Str.{IsUtf8};
-ghost use Rattle.wc_outside.specs.Keyed.{at_key, without, IsKeyPlace};
+ghost use Rattle.wc_outside.specs.Keyed.{at_key, without};
 ghost use Rattle.wc_buffers.specs.Calls.{is_there};
 ghost use Rattle.wc_model.specs.Apply.{refusal};
-ghost use Rattle.wc_model.specs.Touches.{touched_key};
 ghost use Rattle.wc_world.specs.Texts.{IsChangeText};
 ghost use Rattle.wc_relaycmd.specs.Utf8.{RequestIsUtf8};
 ghost use Rattle.wc_session.specs.Served.{OnServed, OnNoMemory};
@@ -13,44 +12,44 @@ ghost use Rattle.wc_core.specs.Events.{Start, Tick, Arrives, Line as LineCame};
 ghost use Rattle.wc_core.specs.Typed.{typed_line, lines_of_text};
 ghost use Rattle.wc_core.specs.Limits.{most_lines};
 ghost use Rattle.wc_core.specs.State.{first_state};
-ghost use Rattle.wc_core.specs.Step.{step, push_step, change_step, refusal_step, ask_step};
-ghost use Rattle.wc_core.specs.Step.{typed_step, is_quit, lines_step, leave_step, loss_step};
+ghost use Rattle.wc_core.specs.Step.{step, commands_step, push_step, refusal_step, ask_step};
+ghost use Rattle.wc_core.specs.Step.{typed_step, is_quit, lines_step, loss_step};
 ghost use Rattle.wc_core.specs.Step.{outcome_step, request_step, client_link};
 ghost use Rattle.wc_core.specs.Texts.{WhatUtf8};
-ghost use Rattle.wc_core.specs.Told.{Told};
-ghost use Rattle.wc_core.specs.Served.{connection_link, state_of, is_open_at, Means, Does};
-ghost use Rattle.wc_core.specs.Served.{left_at, new_connection, Absent, links_of};
+ghost use Rattle.wc_board.specs.Told.{Told};
+ghost use Rattle.wc_board.specs.Connections.{connection_link, is_open_at};
+ghost use Rattle.wc_core.specs.Served.{state_of, Means, Does};
+ghost use Rattle.wc_board.specs.Connections.{left_at, new_connection};
+ghost use Rattle.wc_core.specs.Served.{Absent, links_of};
 ghost use Rattle.wc_core.specs.Served.{AdmitsUnlessStarved, RanOutOfMemory};
 ghost use Rattle.wc_core.specs.Served.{OutcomeUtf8};
-ghost use Rattle.wc_core.specs.Inputs.{MakesChange, MayTell, GoesOn, Stops};
+ghost use Rattle.wc_core.specs.Inputs.{MakesChange, RefusesChange, AnswersRequestOf, GoesOn, Stops};
 
-use crate::connection::{Connection, connection_place, is_full, tell_notice};
-use crate::limits::{client_limit, most_lines};
-use crate::nick_change::change_world;
-use crate::pushes::{forget_nicks, push_nicks};
+use crate::limits::most_lines;
 use crate::refusals::refusal_text;
 use crate::resolve::{Resolution, resolve, told_refusal};
 use crate::typed::read_typed;
 use std::alloc::Global;
 use std::marker::Model;
-use wc_model::{Change, ChangeRefused, Notice};
-use wc_nickdiff::Pending;
+use std::mem;
+use wc_board::Board;
+use wc_model::{Change, ChangeRefused};
 use wc_options::Options;
-use wc_relaycmd::{Command, Request, read_request};
-use wc_session::{Outcome, Session};
+use wc_relaycmd::{Request, read_request};
+use wc_session::Outcome;
 use wc_text::{Arrival, Cause, Handle, LinkId, NoMemory, Text, split_once};
-use wc_world::World;
 
-/// The engine between the loop and the sessions: the clients, and the buffers with their lines and
-/// nicklists.
+/// The core buffer.
+const CORE: Handle = Handle(1);
+
+/// The engine between the loop and the board: the options, the moment, and what is typed.
 #[derive(Drop)]
 pub struct Core {
     pub(crate) alloc: Global,
     pub(crate) options: Options,
-    pub(crate) world: World,
-    pending: Pending,
-    pub(crate) connections: Vec<Connection>,
+    pub(crate) board: Board,
     moment: u64,
+    commands: Vec<String>,
     pub(crate) starved: u64,
     pub(crate) quits: bool,
 }
@@ -58,8 +57,8 @@ pub struct Core {
 impl Model for Core {
     ghost use Rattle.std.specs.Coded.{codes};
     ghost use Rattle.std.specs.FinMap as map;
-    ghost use Rattle.wc_core.specs.Told.{NothingTouched};
-    ghost use Rattle.wc_core.specs.CoreView.{CoreView, HasNoRows};
+    ghost use Rattle.std.specs.Prelude.{map as mapped, string_bytes};
+    ghost use Rattle.wc_core.specs.CoreView.{CoreView};
 
     ghost Value = { CoreView };
 
@@ -67,70 +66,88 @@ impl Model for Core {
 
     ghost view = { λ core. record {
       options = core.options;
-      world = core.world;
-      pending = core.pending;
-      connections = core.connections.items;
+      world = core.board.world;
+      pending = core.board.pending;
+      connections = core.board.connections;
       moment = core.moment;
+      commands = mapped string_bytes core.commands.items;
       starved = core.starved;
       quits = core.quits;
     } };
-
-    ghost invariant = { λ core. HasNoRows core.world × NothingTouched core.pending };
 }
 
 impl Core {
     /// A core without clients and with the core buffer alone, where these are the options. They
-    /// say how many lines a buffer holds at most.
-    pub fn new(alloc: Global, options: Options) -> Result<Core, NoMemory>
-        ensures means { IfOk result (λ core.
-            Means core (first_state options (most_lines options))) }
+    /// say how many lines a buffer holds at most. The commands are run at the start.
+    pub fn new(alloc: Global, options: Options, commands: Vec<String>) -> Result<Core, NoMemory>
+        ensures means { IfOk result (λ core. Means core (first_state options (most_lines options)
+            (map string_bytes commands.items))) }
         ensures fresh { IfOk result (λ core. (core.connections ≡ []) × (core.starved ≡ 0)
             × (core.quits ≡ false)) }
     {
-        let world = World::new(alloc, most_lines(&options))?;
-        let pending = Pending::new(alloc)?;
+        let board = Board::new(alloc, most_lines(&options))?;
         Ok(Core {
             alloc,
             options,
-            world,
-            pending,
-            connections: Vec::new(alloc),
+            board,
             moment: 0,
+            commands,
             starved: 0,
             quits: false,
         })
     }
 
-    /// Sets the starting moment, in milliseconds since 1970.
+    /// Sets the starting moment, in milliseconds since 1970, and runs the commands of the start on
+    /// the core buffer, in order and each as an input of its own, up to `/quit`.
     pub fn start(&mut self, moment: u64)
-        ensures does { Does self.old self.new (λ state. step state (Start moment)) }
-        ensures moves { self.new ≡ record self.old { moment = moment } }
+        ensures { Does self.old self.new (λ state. step state (Start moment)) }
     {
         self.moment = moment;
+        let commands = mem::replace(&mut self.commands, Vec::new(self.alloc));
+        let quit = mem::replace(&mut self.quits, false);
+        self.run_commands(commands.as_slice());
+        self.quits |= quit;
     }
 
-    /// Sets the last moment, in milliseconds since 1970.
+    /// Runs the commands of the start, where `/quit` was not run. Each is an input of its own: where
+    /// one finds no memory, the next one is run.
+    fn run_commands(&mut self, commands: &[String])
+        requires { self.old.quits ≡ false }
+        ensures { Does self.old self.new
+            (λ state. commands_step state (map string_bytes commands.now)) }
+    {
+        for command in commands {
+            self.run_lines(CORE, command.as_str().as_bytes());
+            if self.quits {
+                return;
+            }
+        }
+    }
+
+    /// Sets the last moment, in milliseconds since 1970, and pushes what became of the nicklists.
     pub fn tick(&mut self, moment: u64)
         ensures does { Does self.old self.new (λ state. step state (Tick moment)) }
-        ensures moves { self.new ≡ record self.old { moment = moment } }
+        ensures stays { self.new ≡ record self.old {
+          pending = self.new.pending;
+          connections = self.new.connections;
+          moment = moment;
+          starved = self.new.starved;
+        } }
     {
         self.moment = moment;
-        self.push_nicks();
+        self.push();
     }
 
-    /// Pushes what became of each nicklist since it was last pushed. That is nothing, since no
-    /// command changes a nicklist.
-    fn push_nicks(&mut self)
-        ensures { self.new ≡ self.old }
+    /// Pushes what became of each nicklist since it was last pushed.
+    fn push(&mut self)
+        ensures does { Does self.old self.new (λ state. push_step state) }
+        ensures stays { self.new ≡ record self.old {
+          pending = self.new.pending;
+          connections = self.new.connections;
+          starved = self.new.starved;
+        } }
     {
-        let told = push_nicks(
-            &mut self.connections,
-            self.alloc,
-            &self.world,
-            &self.pending,
-        );
-        forget_nicks(&self.world, &mut self.pending);
-        if told {
+        if self.board.push() {
             return;
         }
         self.starve();
@@ -163,19 +180,10 @@ impl Core {
             ⊎ (cause ≡ Cause.NoMemory)) }
         ensures rises { self.old.starved ≤ self.new.starved }
     {
-        if is_full(&self.connections, client_limit(&self.options)) {
+        if self.is_full() {
             return Some(Cause::Surplus);
         }
-        let Ok(session) = Session::new(self.alloc, arrival.link, arrival.nonce, &self.options)
-        else {
-            self.starve();
-            return Some(Cause::NoMemory);
-        };
-        let connection = Connection {
-            session,
-            leaving: None,
-        };
-        if self.connections.push(connection).is_err() {
+        if self.board.admit(arrival, &self.options).is_err() {
             self.starve();
             return Some(Cause::NoMemory);
         }
@@ -187,52 +195,50 @@ impl Core {
     pub fn relay_line(&mut self, link: LinkId, line: &[u8])
         ensures { Does self.old self.new (λ state. step state (LineCame link.0 line.now)) }
     {
-        let Some(place) = connection_place(&self.connections, link) else {
-            return;
-        };
-        if !self.connections[place].is_open() {
+        if !self.board.is_open(link) {
             return;
         }
-        match read_request(self.alloc, line, self.connections[place].session.escaped()) {
-            Ok(Some(request)) => self.ask(place, link, request),
+        let Some(session) = self.board.session(link) else {
+            return;
+        };
+        match read_request(self.alloc, line, session.escaped()) {
+            Ok(Some(request)) => self.ask(link, request),
             Ok(None) => {}
             Err(NoMemory) => self.starve_out(link),
         }
     }
 
-    /// Pushes what is to be pushed before a request of a client that is open is answered: nicklists
-    /// are asked for as they then were told.
-    fn push_before(&mut self, place: usize, request: &Request)
-        requires { place < length self.old.connections }
-        ensures does { Does self.old self.new (λ state. push_step state) }
-        ensures same { self.new ≡ self.old }
-    {
-        if self.connections[place].session.logged_in()
-            && matches!(request.command, Command::Nicklist(_))
-        {
-            self.push_nicks();
-        }
-    }
-
     /// Serves a request of a client that is open.
-    fn ask(&mut self, place: usize, link: LinkId, request: Request)
-        requires place { IsKeyPlace connection_link link.0 self.old.connections place }
+    fn ask(&mut self, link: LinkId, request: Request)
         requires opened { is_open_at (at_key connection_link link.0 self.old.connections) ≡ true }
         requires text { RequestIsUtf8 request }
         ensures { IfSome (at_key connection_link link.0 self.old.connections)
             (λ connection. Does self.old self.new
             (λ state. request_step state connection.session.client (Some request))) }
     {
-        self.push_before(place, &request);
-        let outcome = self.connections[place]
-            .session
-            .request(self.alloc, &self.world, &self.options, request);
+        let outcome = self.answer(link, request);
         self.follow(link, outcome);
+    }
+
+    /// Answers a request of a client that is open. A client that finds no memory for what is pushed
+    /// before is counted.
+    fn answer(&mut self, link: LinkId, request: Request) -> Outcome
+        requires opened { is_open_at (at_key connection_link link.0 self.old.connections) ≡ true }
+        requires text { RequestIsUtf8 request }
+        ensures { AnswersRequestOf link.0 request result self.old self.new }
+    {
+        let before = self.board.open_count();
+        let outcome = self.board.request(&self.options, link, request);
+        if self.board.open_count() < before {
+            self.starve();
+        }
+        outcome
     }
 
     /// Does what an answer asks, after its messages.
     fn follow(&mut self, link: LinkId, outcome: Outcome)
-        requires opened { is_open_at (at_key connection_link link.0 self.old.connections) ≡ true }
+        requires opened { OnServed outcome
+            (is_open_at (at_key connection_link link.0 self.old.connections) ≡ true) }
         requires text { OutcomeUtf8 outcome }
         ensures does { OnServed outcome
             (Does self.old self.new (λ state. outcome_step state link.0 outcome)) }
@@ -244,22 +250,6 @@ impl Core {
             Outcome::Leave(cause) => self.lose(link, cause),
             Outcome::NoMemory => self.starve_out(link),
         }
-    }
-
-    /// Marks a client that is open as leaving.
-    fn leave(&mut self, place: usize, link: LinkId, cause: Cause)
-        requires place { IsKeyPlace connection_link link.0 self.old.connections place }
-        requires opened { is_open_at (at_key connection_link link.0 self.old.connections) ≡ true }
-        ensures does { Does self.old self.new (λ state. leave_step state link.0 cause) }
-        ensures gone { is_open_at (at_key connection_link link.0 self.new.connections) ≡ false }
-        ensures starved { self.new.starved ≡ self.old.starved }
-        ensures leaves { self.new ≡ record self.old {
-          connections =
-              left_at link.0 cause self.old.connections
-              (at_key connection_link link.0 self.old.connections);
-        } }
-    {
-        self.connections[place].leaving = Some(cause);
     }
 
     /// Marks the client of a link as leaving for want of memory.
@@ -293,7 +283,7 @@ impl Core {
     fn has_buffer(&self, buffer: Handle) -> bool
         ensures { result ≡ is_there buffer self.now.world.groups }
     {
-        match self.world.buffers().get(buffer) {
+        match self.board.world().buffers().get(buffer) {
             Some(_) => true,
             None => false,
         }
@@ -320,9 +310,9 @@ impl Core {
             (λ state. typed_step state buffer (typed_line line.now)) }
         ensures quits { result ≡ is_quit (typed_line line.now) }
     {
-        let _texts = self.world.buffers().groups();
+        let _texts = self.board.world().buffers().groups();
         let asked = read_typed(line);
-        match resolve(self.alloc, &self.world, self.moment, buffer, asked) {
+        match resolve(self.alloc, self.board.world(), self.moment, buffer, asked) {
             Ok(Resolution::Stays) => false,
             Ok(Resolution::Ends) => {
                 self.quits = true;
@@ -381,17 +371,17 @@ impl Core {
     /// Makes a change, and tells it to each client that asked for its event. It answers why the
     /// change is refused, and nothing where it is made or memory was refused.
     fn change(&mut self, change: Change) -> Option<ChangeRefused>
-        requires text { IsChangeText change.what }
-        requires plain { touched_key change.what ≡ None }
+        requires { IsChangeText change.what }
         ensures made { result ≡ None → MakesChange self.old change self.new }
-        ensures refused { IfSome result (λ reason. (self.new ≡ self.old)
-            × (refusal self.old.world change ≡ Some reason)) }
+        ensures refused { IfSome result (λ reason. RefusesChange self.old change reason self.new) }
     {
-        let _texts = self.world.buffers().groups();
-        match change_world(self.alloc, &mut self.world, &mut self.pending, change) {
-            Ok(notice) => {
-                let _texts_after = self.world.buffers().groups();
-                self.tell(&notice);
+        let _before = self.board.world();
+        match self.board.tell(change) {
+            Ok(told) => {
+                let _after = self.board.world().buffers().groups();
+                if !told.to_all {
+                    self.starve();
+                }
                 None
             }
             Err(ChangeRefused::NoMemory) => {
@@ -400,18 +390,6 @@ impl Core {
             }
             Err(reason) => Some(reason),
         }
-    }
-
-    /// Tells what was noticed of a change.
-    fn tell(&mut self, notice: &Notice)
-        requires { IsUtf8 notice.now.full_name }
-        ensures { MayTell self.old self.new notice.now }
-    {
-        let told = tell_notice(&mut self.connections, self.alloc, &self.world, notice);
-        if told {
-            return;
-        }
-        self.starve();
     }
 
     /// Serves the loss of a link for this cause: its client, if it is open, is leaving. The cause
@@ -448,12 +426,6 @@ impl Core {
               (at_key connection_link link.0 self.old.connections);
         } }
     {
-        let Some(place) = connection_place(&self.connections, link) else {
-            return;
-        };
-        if !self.connections[place].is_open() {
-            return;
-        }
-        self.leave(place, link, cause);
+        self.board.retire(link, cause);
     }
 }

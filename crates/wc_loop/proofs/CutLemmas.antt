@@ -1,9 +1,9 @@
 -- Runs whose happenings spell the same events.
 use Rattle.std.proofs.Common.{◌≡◌, sym, ap, ◌∙◌}
 use Rattle.wc_outside.specs.Seen.{Seen}
-use Rattle.wc_core.specs.State.{State}
+use Rattle.wc_core.specs.State.{State, has_end}
 use Rattle.wc_core.specs.Step.{run}
-use Rattle.wc_core.specs.Served.{sent_to, has_end}
+use Rattle.wc_core.specs.Served.{sent_to}
 use Rattle.wc_turns.specs.declared.headless.Headless.{Headless}
 use Rattle.wc_turns.specs.Events.{whole}
 use Rattle.wc_turns.specs.Run.{up_to_quit}

@@ -32,13 +32,13 @@ readable : (contents : Option (List ℕ)) (P : Type 0) → IfSome contents IsRea
 readable None P known = tt
 readable (Some kept) P known = λ n bad. (let e : Ok known.0 ≡ Err n = sym known.1 ∙ bad in cc)
 
-pub known-readable : (contents : Option (List ℕ)) (first : Headless) (port : ℕ) → IfSome contents (IsConfigured first port) → IfSome contents IsReadable
-known-readable None first port known = tt
-known-readable (Some kept) first port known = (known.options, known.set)
+pub known-readable : (commands : List (List ℕ)) (contents : Option (List ℕ)) (first : Headless) (port : ℕ) → IfSome contents (IsConfigured commands first port) → IfSome contents IsReadable
+known-readable commands None first port known = tt
+known-readable commands (Some kept) first port known = (known.options, known.set)
 
-pub known-port : (contents : Option (List ℕ)) (first : Headless) (port : ℕ) → IfSome contents (IsConfigured first port) → IsPort contents port
-known-port None first port known = tt
-known-port (Some kept) first port known = subst (λ r. IfOk r (λ options. port ≡ port_of options)) (sym known.set) known.port_set
+pub known-port : (commands : List (List ℕ)) (contents : Option (List ℕ)) (first : Headless) (port : ℕ) → IfSome contents (IsConfigured commands first port) → IsPort contents port
+known-port commands None first port known = tt
+known-port commands (Some kept) first port known = subst (λ r. IfOk r (λ options. port ≡ port_of options)) (sym known.set) known.port_set
 
 -- the listener was asked for at the port that is set
 pub record Listened (contents : Option (List ℕ)) (asked : List Asked) : Type 0 where
@@ -58,277 +58,279 @@ LastOf-kept seen h woke = go (eqb h.turns 0) refl
     go true e = λ t. (let w = woke t in grind (arith, nat_tests))
     go false e = (grind (arith, nat_tests), woke)
 
--- what comes after the last turn
-pub record After (turns : ℕ) (contents : Option (List ℕ)) (before after : Seen) (then : TurnEnd) (h : Headless) : Type 0 where
-  pub above : 1 ≤ turns
-  pub known : IfSome contents IsReadable
-  pub woke : IsTrue after.tells → wake_count after.taken ≡ h.turns
-  pub listens : IsTrue after.tells → listen_faults after.taken ≡ faults_then then
-  pub quit : then ≡ Quit → h.core.quits ≡ true
-  pub going : then ≢ Quit → then ≢ ListenFault → h.core.quits ≡ false
-  pub all : then ≡ GoOn → h.turns ≡ turns
-  pub fewer : then ≡ WaitFault → h.turns ≢ turns
-  pub some : (then ≡ ListenFault) ⊎ (then ≡ Quit) → 1 ≤ h.turns
-  pub most : h.turns ≤ turns
-  pub wait_fault : then ≡ WaitFault → Rose before.faults.waits after.faults.waits
-  pub listen_fault : then ≡ ListenFault → Rose before.faults.listens after.faults.listens
-  pub asked : IsTrue after.tells → Listened contents after.asked
-  pub served : then ≡ GoOn → AllServed h.core.connections before after
-  pub sent : then ≡ Quit → AllSent h.core.connections before after
-  pub left : 1 ≤ h.turns → IsLastState contents before after h
+-- over the commands of the start
+module _ (commands : List (List ℕ)) where
+  -- what comes after the last turn
+  pub record After (turns : ℕ) (contents : Option (List ℕ)) (before after : Seen) (then : TurnEnd) (h : Headless) : Type 0 where
+    pub above : 1 ≤ turns
+    pub known : IfSome contents IsReadable
+    pub woke : IsTrue after.tells → wake_count after.taken ≡ h.turns
+    pub listens : IsTrue after.tells → listen_faults after.taken ≡ faults_then then
+    pub quit : then ≡ Quit → h.core.quits ≡ true
+    pub going : then ≢ Quit → then ≢ ListenFault → h.core.quits ≡ false
+    pub all : then ≡ GoOn → h.turns ≡ turns
+    pub fewer : then ≡ WaitFault → h.turns ≢ turns
+    pub some : (then ≡ ListenFault) ⊎ (then ≡ Quit) → 1 ≤ h.turns
+    pub most : h.turns ≤ turns
+    pub wait_fault : then ≡ WaitFault → Rose before.faults.waits after.faults.waits
+    pub listen_fault : then ≡ ListenFault → Rose before.faults.listens after.faults.listens
+    pub asked : IsTrue after.tells → Listened contents after.asked
+    pub served : then ≡ GoOn → AllServed h.core.connections before after
+    pub sent : then ≡ Quit → AllSent h.core.connections before after
+    pub left : 1 ≤ h.turns → IsLastState commands contents before after h
 
-at-most : (turns : ℕ) (after : Seen) (h : Headless) → h.turns ≤ turns → (IsTrue after.tells → wake_count after.taken ≡ h.turns) → WaitsAtMost turns after (kept_of h)
-at-most turns after h most woke = record { counted = IfSome-last (kept_of h) h _ refl (λ above. most); told = λ t. (let w = woke t in omega arith) }
+  at-most : (turns : ℕ) (after : Seen) (h : Headless) → h.turns ≤ turns → (IsTrue after.tells → wake_count after.taken ≡ h.turns) → WaitsAtMost turns after (kept_of h)
+  at-most turns after h most woke = record { counted = IfSome-last (kept_of h) h _ refl (λ above. most); told = λ t. (let w = woke t in omega arith) }
 
-kept-quit : (b : Bool) (h : Headless) → 1 ≤ h.turns → h.core.quits ≡ b → IsSomeAnd (kept_of h) (HasQuit b)
-kept-quit b h above q = rw (kept_of-some h above) q
+  kept-quit : (b : Bool) (h : Headless) → 1 ≤ h.turns → h.core.quits ≡ b → IsSomeAnd (kept_of h) (HasQuit b)
+  kept-quit b h above q = rw (kept_of-some h above) q
 
--- a state in which `/quit` was not run
-not-quit : (h : Headless) → h.core.quits ≡ false → IsSomeAnd (kept_of h) (HasQuit true) → ⊥
-not-quit h going = go (eqb h.turns 0)
-  where
-    go : (b : Bool) → IsSomeAnd (cond b None (Some h)) (HasQuit true) → ⊥
-    go true q = q
-    go false q = false≢true (sym going ∙ q)
+  -- a state in which `/quit` was not run
+  not-quit : (h : Headless) → h.core.quits ≡ false → IsSomeAnd (kept_of h) (HasQuit true) → ⊥
+  not-quit h going = go (eqb h.turns 0)
+    where
+      go : (b : Bool) → IsSomeAnd (cond b None (Some h)) (HasQuit true) → ⊥
+      go true q = q
+      go false q = false≢true (sym going ∙ q)
 
--- a state in which it was
-not-going : (h : Headless) → 1 ≤ h.turns → h.core.quits ≡ true → IfSome (kept_of h) (HasQuit false) → ⊥
-not-going h above over q = false≢true (sym (rw (kept_of-some h above) at q) ∙ over)
+  -- a state in which it was
+  not-going : (h : Headless) → 1 ≤ h.turns → h.core.quits ≡ true → IfSome (kept_of h) (HasQuit false) → ⊥
+  not-going h above over q = false≢true (sym (rw (kept_of-some h above) at q) ∙ over)
 
--- the ends after the last turn
-pub Runs-following : (turns : ℕ) (contents : Option (List ℕ)) (k k' : ℕ) (before after : Seen) (then : TurnEnd) (ending : Ending) (h : Headless) → After turns contents before after then h → EndsAt then ending
-    → Runs turns contents k k' before after ending (kept_of h)
-Runs-following turns contents k k' before after GoOn ending h b at = rw at (record {
-  ends = record {
-    later = λ q. omega arith;
-    known = omega arith;
+  -- the ends after the last turn
+  pub Runs-following : (turns : ℕ) (contents : Option (List ℕ)) (k k' : ℕ) (before after : Seen) (then : TurnEnd) (ending : Ending) (h : Headless) → After turns contents before after then h → EndsAt then ending
+      → Runs commands turns contents k k' before after ending (kept_of h)
+  Runs-following turns contents k k' before after GoOn ending h b at = rw at (record {
+    ends = record {
+      later = λ q. omega arith;
+      known = omega arith;
+      line = λ q. absurd (omega arith);
+      unreadable = readable contents _ b.known;
+      quit = λ q. absurd (omega arith);
+      quit_told = λ q t. absurd (omega arith);
+      quit_due = λ q six. absurd (not-quit h (b.going (λ r. cc) (λ r. cc)) q);
+      all = λ q. rw (kept_of-some h (let a = b.above in let n = b.all refl in omega arith)) (b.all refl, b.going (λ r. cc) (λ r. cc));
+      told = λ q t. (b.woke t ∙ b.all refl, b.listens t);
+      due = λ t w g l. refl;
+      failed = λ q t. absurd (omega arith);
+      listened = λ q t. absurd (omega arith);
+      early = λ q. absurd (not_early 8 (λ q. omega arith) (λ q. omega arith) (λ q. omega arith) q);
+    };
     line = λ q. absurd (omega arith);
-    unreadable = readable contents _ b.known;
-    quit = λ q. absurd (omega arith);
-    quit_told = λ q t. absurd (omega arith);
-    quit_due = λ q six. absurd (not-quit h (b.going (λ r. cc) (λ r. cc)) q);
-    all = λ q. rw (kept_of-some h (let a = b.above in let n = b.all refl in omega arith)) (b.all refl, b.going (λ r. cc) (λ r. cc));
-    told = λ q t. (b.woke t ∙ b.all refl, b.listens t);
-    due = λ t w g l. refl;
-    failed = λ q t. absurd (omega arith);
-    listened = λ q t. absurd (omega arith);
-    early = λ q. absurd (not_early 8 (λ q. omega arith) (λ q. omega arith) (λ q. omega arith) q);
-  };
-  line = λ q. absurd (omega arith);
-  version = refl;
-  counted = LastOf-kept after h b.woke;
-  most = at-most turns after h b.most b.woke;
-  left = IfSome-last (kept_of h) h _ refl b.left;
-  served = λ q. IfSome-last (kept_of h) h _ refl (λ above. b.served refl);
-  sent = λ q. absurd (omega arith);
-  faults = record { wait = λ q. absurd (omega arith); keeper = λ q. absurd (omega arith); listener = λ q. absurd (omega arith) };
-  asked = λ t. (let l = b.asked t in record { port = l.port; set = l.set; is = l.is });
-})
-Runs-following turns contents k k' before after Quit ending h b at = rw at (record {
-  ends = record {
-    later = λ q. omega arith;
-    known = omega arith;
+    version = refl;
+    counted = LastOf-kept after h b.woke;
+    most = at-most turns after h b.most b.woke;
+    left = IfSome-last (kept_of h) h _ refl b.left;
+    served = λ q. IfSome-last (kept_of h) h _ refl (λ above. b.served refl);
+    sent = λ q. absurd (omega arith);
+    faults = record { wait = λ q. absurd (omega arith); keeper = λ q. absurd (omega arith); listener = λ q. absurd (omega arith) };
+    asked = λ t. (let l = b.asked t in record { port = l.port; set = l.set; is = l.is });
+  })
+  Runs-following turns contents k k' before after Quit ending h b at = rw at (record {
+    ends = record {
+      later = λ q. omega arith;
+      known = omega arith;
+      line = λ q. absurd (omega arith);
+      unreadable = readable contents _ b.known;
+      quit = λ q. kept-quit true h (b.some (inr refl)) (b.quit refl);
+      quit_told = λ q t. b.listens t;
+      quit_due = λ q six. refl;
+      all = λ q. absurd (omega arith);
+      told = λ q t. absurd (omega arith);
+      due = λ t w g l. absurd (not-going h (b.some (inr refl)) (b.quit refl) g);
+      failed = λ q t. absurd (omega arith);
+      listened = λ q t. absurd (omega arith);
+      early = λ q. absurd (not_early 0 (λ q. omega arith) (λ q. omega arith) (λ q. omega arith) q);
+    };
     line = λ q. absurd (omega arith);
-    unreadable = readable contents _ b.known;
-    quit = λ q. kept-quit true h (b.some (inr refl)) (b.quit refl);
-    quit_told = λ q t. b.listens t;
-    quit_due = λ q six. refl;
-    all = λ q. absurd (omega arith);
-    told = λ q t. absurd (omega arith);
-    due = λ t w g l. absurd (not-going h (b.some (inr refl)) (b.quit refl) g);
-    failed = λ q t. absurd (omega arith);
-    listened = λ q t. absurd (omega arith);
-    early = λ q. absurd (not_early 0 (λ q. omega arith) (λ q. omega arith) (λ q. omega arith) q);
-  };
-  line = λ q. absurd (omega arith);
-  version = refl;
-  counted = LastOf-kept after h b.woke;
-  most = at-most turns after h b.most b.woke;
-  left = IfSome-last (kept_of h) h _ refl b.left;
-  served = λ q. absurd (omega arith);
-  sent = λ q. IfSome-last (kept_of h) h _ refl (λ above. b.sent refl);
-  faults = record { wait = λ q. absurd (omega arith); keeper = λ q. absurd (omega arith); listener = λ q. absurd (omega arith) };
-  asked = λ t. (let l = b.asked t in record { port = l.port; set = l.set; is = l.is });
-})
-Runs-following turns contents k k' before after WaitFault ending h b at = rw at (record {
-  ends = record {
-    later = λ q. omega arith;
-    known = omega arith;
+    version = refl;
+    counted = LastOf-kept after h b.woke;
+    most = at-most turns after h b.most b.woke;
+    left = IfSome-last (kept_of h) h _ refl b.left;
+    served = λ q. absurd (omega arith);
+    sent = λ q. IfSome-last (kept_of h) h _ refl (λ above. b.sent refl);
+    faults = record { wait = λ q. absurd (omega arith); keeper = λ q. absurd (omega arith); listener = λ q. absurd (omega arith) };
+    asked = λ t. (let l = b.asked t in record { port = l.port; set = l.set; is = l.is });
+  })
+  Runs-following turns contents k k' before after WaitFault ending h b at = rw at (record {
+    ends = record {
+      later = λ q. omega arith;
+      known = omega arith;
+      line = λ q. absurd (omega arith);
+      unreadable = readable contents _ b.known;
+      quit = λ q. absurd (omega arith);
+      quit_told = λ q t. absurd (omega arith);
+      quit_due = λ q six. absurd (not-quit h (b.going (λ r. cc) (λ r. cc)) q);
+      all = λ q. absurd (omega arith);
+      told = λ q t. absurd (omega arith);
+      due = λ t w g l. absurd (b.fewer refl (sym (b.woke t) ∙ w));
+      failed = λ q t. b.listens t;
+      listened = λ q t. absurd (omega arith);
+      early = λ q. absurd (not_early 2 (λ q. omega arith) (λ q. omega arith) (λ q. omega arith) q);
+    };
     line = λ q. absurd (omega arith);
-    unreadable = readable contents _ b.known;
-    quit = λ q. absurd (omega arith);
-    quit_told = λ q t. absurd (omega arith);
-    quit_due = λ q six. absurd (not-quit h (b.going (λ r. cc) (λ r. cc)) q);
-    all = λ q. absurd (omega arith);
-    told = λ q t. absurd (omega arith);
-    due = λ t w g l. absurd (b.fewer refl (sym (b.woke t) ∙ w));
-    failed = λ q t. b.listens t;
-    listened = λ q t. absurd (omega arith);
-    early = λ q. absurd (not_early 2 (λ q. omega arith) (λ q. omega arith) (λ q. omega arith) q);
-  };
-  line = λ q. absurd (omega arith);
-  version = refl;
-  counted = LastOf-kept after h b.woke;
-  most = at-most turns after h b.most b.woke;
-  left = IfSome-last (kept_of h) h _ refl b.left;
-  served = λ q. absurd (omega arith);
-  sent = λ q. absurd (omega arith);
-  faults = record { wait = λ q. b.wait_fault refl; keeper = λ q. absurd (omega arith); listener = λ q. absurd (omega arith) };
-  asked = λ t. (let l = b.asked t in record { port = l.port; set = l.set; is = l.is });
-})
-Runs-following turns contents k k' before after ListenFault ending h b at = rw at (record {
-  ends = record {
-    later = λ q. omega arith;
-    known = omega arith;
+    version = refl;
+    counted = LastOf-kept after h b.woke;
+    most = at-most turns after h b.most b.woke;
+    left = IfSome-last (kept_of h) h _ refl b.left;
+    served = λ q. absurd (omega arith);
+    sent = λ q. absurd (omega arith);
+    faults = record { wait = λ q. b.wait_fault refl; keeper = λ q. absurd (omega arith); listener = λ q. absurd (omega arith) };
+    asked = λ t. (let l = b.asked t in record { port = l.port; set = l.set; is = l.is });
+  })
+  Runs-following turns contents k k' before after ListenFault ending h b at = rw at (record {
+    ends = record {
+      later = λ q. omega arith;
+      known = omega arith;
+      line = λ q. absurd (omega arith);
+      unreadable = readable contents _ b.known;
+      quit = λ q. absurd (omega arith);
+      quit_told = λ q t. absurd (omega arith);
+      quit_due = λ q six. absurd (six refl);
+      all = λ q. absurd (omega arith);
+      told = λ q t. absurd (omega arith);
+      due = λ t w g l. absurd (let n = b.listens t in omega arith);
+      failed = λ q t. absurd (omega arith);
+      listened = λ q t. (let n = b.listens t in omega arith);
+      early = λ q. absurd (not_early 6 (λ q. omega arith) (λ q. omega arith) (λ q. omega arith) q);
+    };
     line = λ q. absurd (omega arith);
-    unreadable = readable contents _ b.known;
-    quit = λ q. absurd (omega arith);
-    quit_told = λ q t. absurd (omega arith);
-    quit_due = λ q six. absurd (six refl);
-    all = λ q. absurd (omega arith);
-    told = λ q t. absurd (omega arith);
-    due = λ t w g l. absurd (let n = b.listens t in omega arith);
-    failed = λ q t. absurd (omega arith);
-    listened = λ q t. (let n = b.listens t in omega arith);
-    early = λ q. absurd (not_early 6 (λ q. omega arith) (λ q. omega arith) (λ q. omega arith) q);
-  };
-  line = λ q. absurd (omega arith);
-  version = refl;
-  counted = LastOf-kept after h b.woke;
-  most = at-most turns after h b.most b.woke;
-  left = IfSome-last (kept_of h) h _ refl b.left;
-  served = λ q. absurd (omega arith);
-  sent = λ q. absurd (omega arith);
-  faults = record { wait = λ q. absurd (omega arith); keeper = λ q. absurd (omega arith); listener = λ q. b.listen_fault refl };
-  asked = λ t. (let l = b.asked t in record { port = l.port; set = l.set; is = l.is });
-})
+    version = refl;
+    counted = LastOf-kept after h b.woke;
+    most = at-most turns after h b.most b.woke;
+    left = IfSome-last (kept_of h) h _ refl b.left;
+    served = λ q. absurd (omega arith);
+    sent = λ q. absurd (omega arith);
+    faults = record { wait = λ q. absurd (omega arith); keeper = λ q. absurd (omega arith); listener = λ q. b.listen_fault refl };
+    asked = λ t. (let l = b.asked t in record { port = l.port; set = l.set; is = l.is });
+  })
 
-bad-line : (contents : Option (List ℕ)) (n : ℕ) → IfSome contents (λ kept. config_of kept ≡ Err n) → IfSome contents (λ kept. (options : OptionsValue) → config_of kept ≢ Ok options)
-bad-line None n bad = tt
-bad-line (Some kept) n bad = λ options ok. (let e : Ok options ≡ Err n = sym ok ∙ bad in cc)
+  bad-line : (contents : Option (List ℕ)) (n : ℕ) → IfSome contents (λ kept. config_of kept ≡ Err n) → IfSome contents (λ kept. (options : OptionsValue) → config_of kept ≢ Ok options)
+  bad-line None n bad = tt
+  bad-line (Some kept) n bad = λ options ok. (let e : Ok options ≡ Err n = sym ok ∙ bad in cc)
 
-always : (contents : Option (List ℕ)) (P : List ℕ → Type 0) → ((kept : List ℕ) → P kept) → IfSome contents P
-always None P p = tt
-always (Some kept) P p = p kept
+  always : (contents : Option (List ℕ)) (P : List ℕ → Type 0) → ((kept : List ℕ) → P kept) → IfSome contents P
+  always None P p = tt
+  always (Some kept) P p = p kept
 
--- no wait returned
-pub record Unawaited (turns : ℕ) (seen : Seen) : Type 0 where
-  pub above : 1 ≤ turns
-  pub woke : IsTrue seen.tells → wake_count seen.taken ≡ 0
+  -- no wait returned
+  pub record Unawaited (turns : ℕ) (seen : Seen) : Type 0 where
+    pub above : 1 ≤ turns
+    pub woke : IsTrue seen.tells → wake_count seen.taken ≡ 0
 
--- the ends before the listener is asked for
-pub Runs-early : (turns : ℕ) (contents : Option (List ℕ)) (k k' : ℕ) (seen : Seen) (ending : Ending) → Unawaited turns seen → (IsTrue seen.tells → seen.asked ≡ []) → IsEarly contents k k' ending → Runs turns contents k k' seen seen ending None
-Runs-early turns contents k k' seen NoConfiguration u asked early = record {
-  ends = record {
-    later = λ q. omega arith;
-    known = omega arith;
+  -- the ends before the listener is asked for
+  pub Runs-early : (turns : ℕ) (contents : Option (List ℕ)) (k k' : ℕ) (seen : Seen) (ending : Ending) → Unawaited turns seen → (IsTrue seen.tells → seen.asked ≡ []) → IsEarly contents k k' ending → Runs commands turns contents k k' seen seen ending None
+  Runs-early turns contents k k' seen NoConfiguration u asked early = record {
+    ends = record {
+      later = λ q. omega arith;
+      known = omega arith;
+      line = λ q. absurd (omega arith);
+      unreadable = always contents _ (λ kept n bad three five. absurd (three refl));
+      quit = λ q. absurd (omega arith);
+      quit_told = λ q t. absurd (omega arith);
+      quit_due = λ q six. absurd q;
+      all = λ q. absurd (omega arith);
+      told = λ q t. absurd (omega arith);
+      due = λ t w g l. absurd (let z = u.woke t in let a = u.above in omega arith);
+      failed = λ q t. absurd (omega arith);
+      listened = λ q t. absurd (omega arith);
+      early = λ q. refl;
+    };
     line = λ q. absurd (omega arith);
-    unreadable = always contents _ (λ kept n bad three five. absurd (three refl));
-    quit = λ q. absurd (omega arith);
-    quit_told = λ q t. absurd (omega arith);
-    quit_due = λ q six. absurd q;
-    all = λ q. absurd (omega arith);
-    told = λ q t. absurd (omega arith);
-    due = λ t w g l. absurd (let z = u.woke t in let a = u.above in omega arith);
-    failed = λ q t. absurd (omega arith);
-    listened = λ q t. absurd (omega arith);
-    early = λ q. refl;
-  };
-  line = λ q. absurd (omega arith);
-  version = refl;
-  counted = u.woke;
-  most = record { counted = tt; told = λ t. (let z = u.woke t in omega arith) };
-  left = tt;
-  served = λ q. tt;
-  sent = λ q. tt;
-  faults = record { wait = λ q. absurd (omega arith); keeper = λ q. early; listener = λ q. absurd (omega arith) };
-  asked = λ t. (let p = some_port contents in record { port = p.0; set = p.1; is = asked t });
-}
-Runs-early turns contents k k' seen (BadLine n) u asked early = record {
-  ends = record {
-    later = λ q. omega arith;
-    known = omega arith;
-    line = λ q. bad-line contents n early;
-    unreadable = always contents _ (λ kept n bad three five. refl);
-    quit = λ q. absurd (omega arith);
-    quit_told = λ q t. absurd (omega arith);
-    quit_due = λ q six. absurd q;
-    all = λ q. absurd (omega arith);
-    told = λ q t. absurd (omega arith);
-    due = λ t w g l. absurd (let z = u.woke t in let a = u.above in omega arith);
-    failed = λ q t. absurd (omega arith);
-    listened = λ q t. absurd (omega arith);
-    early = λ q. refl;
-  };
-  line = λ q. early;
-  version = refl;
-  counted = u.woke;
-  most = record { counted = tt; told = λ t. (let z = u.woke t in omega arith) };
-  left = tt;
-  served = λ q. tt;
-  sent = λ q. tt;
-  faults = record { wait = λ q. absurd (omega arith); keeper = λ q. absurd (omega arith); listener = λ q. absurd (omega arith) };
-  asked = λ t. (let p = some_port contents in record { port = p.0; set = p.1; is = asked t });
-}
-Runs-early turns contents k k' seen NoMemory u asked early = record {
-  ends = record {
-    later = λ q. omega arith;
-    known = omega arith;
+    version = refl;
+    counted = u.woke;
+    most = record { counted = tt; told = λ t. (let z = u.woke t in omega arith) };
+    left = tt;
+    served = λ q. tt;
+    sent = λ q. tt;
+    faults = record { wait = λ q. absurd (omega arith); keeper = λ q. early; listener = λ q. absurd (omega arith) };
+    asked = λ t. (let p = some_port contents in record { port = p.0; set = p.1; is = asked t });
+  }
+  Runs-early turns contents k k' seen (BadLine n) u asked early = record {
+    ends = record {
+      later = λ q. omega arith;
+      known = omega arith;
+      line = λ q. bad-line contents n early;
+      unreadable = always contents _ (λ kept n bad three five. refl);
+      quit = λ q. absurd (omega arith);
+      quit_told = λ q t. absurd (omega arith);
+      quit_due = λ q six. absurd q;
+      all = λ q. absurd (omega arith);
+      told = λ q t. absurd (omega arith);
+      due = λ t w g l. absurd (let z = u.woke t in let a = u.above in omega arith);
+      failed = λ q t. absurd (omega arith);
+      listened = λ q t. absurd (omega arith);
+      early = λ q. refl;
+    };
+    line = λ q. early;
+    version = refl;
+    counted = u.woke;
+    most = record { counted = tt; told = λ t. (let z = u.woke t in omega arith) };
+    left = tt;
+    served = λ q. tt;
+    sent = λ q. tt;
+    faults = record { wait = λ q. absurd (omega arith); keeper = λ q. absurd (omega arith); listener = λ q. absurd (omega arith) };
+    asked = λ t. (let p = some_port contents in record { port = p.0; set = p.1; is = asked t });
+  }
+  Runs-early turns contents k k' seen NoMemory u asked early = record {
+    ends = record {
+      later = λ q. omega arith;
+      known = omega arith;
+      line = λ q. absurd (omega arith);
+      unreadable = always contents _ (λ kept n bad three five. absurd (five refl));
+      quit = λ q. absurd (omega arith);
+      quit_told = λ q t. absurd (omega arith);
+      quit_due = λ q six. absurd q;
+      all = λ q. absurd (omega arith);
+      told = λ q t. absurd (omega arith);
+      due = λ t w g l. absurd (let z = u.woke t in let a = u.above in omega arith);
+      failed = λ q t. absurd (omega arith);
+      listened = λ q t. absurd (omega arith);
+      early = λ q. refl;
+    };
     line = λ q. absurd (omega arith);
-    unreadable = always contents _ (λ kept n bad three five. absurd (five refl));
-    quit = λ q. absurd (omega arith);
-    quit_told = λ q t. absurd (omega arith);
-    quit_due = λ q six. absurd q;
-    all = λ q. absurd (omega arith);
-    told = λ q t. absurd (omega arith);
-    due = λ t w g l. absurd (let z = u.woke t in let a = u.above in omega arith);
-    failed = λ q t. absurd (omega arith);
-    listened = λ q t. absurd (omega arith);
-    early = λ q. refl;
-  };
-  line = λ q. absurd (omega arith);
-  version = refl;
-  counted = u.woke;
-  most = record { counted = tt; told = λ t. (let z = u.woke t in omega arith) };
-  left = tt;
-  served = λ q. tt;
-  sent = λ q. tt;
-  faults = record { wait = λ q. absurd (omega arith); keeper = λ q. absurd (omega arith); listener = λ q. absurd (omega arith) };
-  asked = λ t. (let p = some_port contents in record { port = p.0; set = p.1; is = asked t });
-}
-Runs-early turns contents k k' seen Version u asked early = absurd early
-Runs-early turns contents k k' seen (BadWord n) u asked early = absurd early
-Runs-early turns contents k k' seen WaitFailed u asked early = absurd early
-Runs-early turns contents k k' seen ListenFailed u asked early = absurd early
-Runs-early turns contents k k' seen TurnsTaken u asked early = absurd early
-Runs-early turns contents k k' seen EndsQuit u asked early = absurd early
+    version = refl;
+    counted = u.woke;
+    most = record { counted = tt; told = λ t. (let z = u.woke t in omega arith) };
+    left = tt;
+    served = λ q. tt;
+    sent = λ q. tt;
+    faults = record { wait = λ q. absurd (omega arith); keeper = λ q. absurd (omega arith); listener = λ q. absurd (omega arith) };
+    asked = λ t. (let p = some_port contents in record { port = p.0; set = p.1; is = asked t });
+  }
+  Runs-early turns contents k k' seen Version u asked early = absurd early
+  Runs-early turns contents k k' seen (BadWord n) u asked early = absurd early
+  Runs-early turns contents k k' seen WaitFailed u asked early = absurd early
+  Runs-early turns contents k k' seen ListenFailed u asked early = absurd early
+  Runs-early turns contents k k' seen TurnsTaken u asked early = absurd early
+  Runs-early turns contents k k' seen EndsQuit u asked early = absurd early
 
--- the listener was asked for in vain
-pub Runs-unheard : (turns : ℕ) (contents : Option (List ℕ)) (k k' : ℕ) (before after : Seen) (first : Headless) (port : ℕ) → Unawaited turns after → IfSome contents (IsConfigured first port)
-    → (IsTrue after.tells → listen_faults after.taken ≡ 1) → Rose before.faults.listens after.faults.listens → (IsTrue after.tells → after.asked ≡ Listen port ∷ []) → Runs turns contents k k' before after ListenFailed None
-Runs-unheard turns contents k k' before after first port u known listens rose asked = record {
-  ends = record {
-    later = λ q. omega arith;
-    known = omega arith;
+  -- the listener was asked for in vain
+  pub Runs-unheard : (turns : ℕ) (contents : Option (List ℕ)) (k k' : ℕ) (before after : Seen) (first : Headless) (port : ℕ) → Unawaited turns after → IfSome contents (IsConfigured commands first port)
+      → (IsTrue after.tells → listen_faults after.taken ≡ 1) → Rose before.faults.listens after.faults.listens → (IsTrue after.tells → after.asked ≡ Listen port ∷ []) → Runs commands turns contents k k' before after ListenFailed None
+  Runs-unheard turns contents k k' before after first port u known listens rose asked = record {
+    ends = record {
+      later = λ q. omega arith;
+      known = omega arith;
+      line = λ q. absurd (omega arith);
+      unreadable = readable contents _ (known-readable commands contents first port known);
+      quit = λ q. absurd (omega arith);
+      quit_told = λ q t. absurd (omega arith);
+      quit_due = λ q six. absurd q;
+      all = λ q. absurd (omega arith);
+      told = λ q t. absurd (omega arith);
+      due = λ t w g l. absurd (let z = u.woke t in let a = u.above in omega arith);
+      failed = λ q t. absurd (omega arith);
+      listened = λ q t. (let n = listens t in omega arith);
+      early = λ q. refl;
+    };
     line = λ q. absurd (omega arith);
-    unreadable = readable contents _ (known-readable contents first port known);
-    quit = λ q. absurd (omega arith);
-    quit_told = λ q t. absurd (omega arith);
-    quit_due = λ q six. absurd q;
-    all = λ q. absurd (omega arith);
-    told = λ q t. absurd (omega arith);
-    due = λ t w g l. absurd (let z = u.woke t in let a = u.above in omega arith);
-    failed = λ q t. absurd (omega arith);
-    listened = λ q t. (let n = listens t in omega arith);
-    early = λ q. refl;
-  };
-  line = λ q. absurd (omega arith);
-  version = refl;
-  counted = u.woke;
-  most = record { counted = tt; told = λ t. (let z = u.woke t in omega arith) };
-  left = tt;
-  served = λ q. tt;
-  sent = λ q. tt;
-  faults = record { wait = λ q. absurd (omega arith); keeper = λ q. absurd (omega arith); listener = λ q. rose };
-  asked = λ t. record { port = port; set = known-port contents first port known; is = asked t };
-}
+    version = refl;
+    counted = u.woke;
+    most = record { counted = tt; told = λ t. (let z = u.woke t in omega arith) };
+    left = tt;
+    served = λ q. tt;
+    sent = λ q. tt;
+    faults = record { wait = λ q. absurd (omega arith); keeper = λ q. absurd (omega arith); listener = λ q. rose };
+    asked = λ t. record { port = port; set = known-port commands contents first port known; is = asked t };
+  }

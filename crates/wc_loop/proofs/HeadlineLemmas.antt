@@ -8,12 +8,13 @@ use Rattle.wc_outside.specs.Seen.{Seen, IsNew}
 use Rattle.wc_outside.specs.Keyed.{at_key}
 use Rattle.wc_outside.specs.declared.happening.Happening.{Happening}
 use Rattle.wc_session.specs.declared.client.Client.{Client}
-use Rattle.wc_core.specs.declared.connection.Connection.{Connection}
+use Rattle.wc_board.specs.declared.connection.Connection.{Connection}
 use Rattle.wc_core.specs.Events.{Event}
-use Rattle.wc_core.specs.State.{State}
+use Rattle.wc_core.specs.State.{State, has_end}
 use Rattle.wc_core.specs.Step.{client_link, run}
-use Rattle.wc_core.specs.Told.{Told}
-use Rattle.wc_core.specs.Served.{connection_link, clients_of, state_of, WereTold, unsent_on, sent_to, has_end}
+use Rattle.wc_board.specs.Told.{Told}
+use Rattle.wc_board.specs.Connections.{connection_link, unsent_on}
+use Rattle.wc_core.specs.Served.{clients_of, state_of, WereTold, sent_to}
 use Rattle.wc_turns.specs.declared.headless.Headless.{Headless}
 use Rattle.wc_turns.specs.declared.links.Closed.{Closed}
 use Rattle.wc_loop.specs.Endings.{kept_of}
@@ -126,9 +127,9 @@ Fresh-listening a b new told taken sent used there undrained listening = record 
   sent = λ t k. sent t k ∙ new.sent (told t) k;
 }
 
-pub Headline-known : (contents : Option (List ℕ)) (first : Headless) (port : ℕ) (seen : Seen) (last : Headless) → IfSome contents (IsConfigured first port) → (IsTrue seen.tells → last.core.starved ≡ 0 → (told : Told) → WereTold first.core told → HandsOut (state_of first.core told) seen last) → Headline contents seen last
-Headline-known None first port seen last known hands = tt
-Headline-known (Some kept) first port seen last known hands = rw known.set (λ t fed. subst (λ state. HandsOut state seen last) (sym known.means.same) (hands t fed _ known.means.told))
+pub Headline-known : (commands : List (List ℕ)) (contents : Option (List ℕ)) (first : Headless) (port : ℕ) (seen : Seen) (last : Headless) → IfSome contents (IsConfigured commands first port) → (IsTrue seen.tells → last.core.starved ≡ 0 → (told : Told) → WereTold first.core told → HandsOut (state_of first.core told) seen last) → Headline commands contents seen last
+Headline-known commands None first port seen last known hands = tt
+Headline-known commands (Some kept) first port seen last known hands = rw known.set (λ t fed. subst (λ state. HandsOut state seen last) (sym known.means.same) (hands t fed _ known.means.told))
 
 pub IfSome-last : (o : Option Headless) (h : Headless) (P : Headless → Type 0) → o ≡ kept_of h → (1 ≤ h.turns → P h) → IfSome o P
 IfSome-last o h P e p = rw e (go (eqb h.turns 0) refl)

@@ -1,6 +1,7 @@
 -- What the clients that settled hold at the end of a run.
 use Rattle.std.proofs.Common.{◌≡◌, ℕ, ◌-◌, ◌≤◌, Bool, true, false, cond, eqb, nat_le, List, [], ◌∷◌, ◌++◌, length, take, slice_index, Option, Some, None, IfSome, IfOk, Result, Ok, Err, refl, sym, ap, subst, arith}
 use Rattle.std.specs.List.{AllByRecursion, flat_map}
+use Rattle.std.specs.Str.{IsUtf8}
 use Rattle.std.proofs.lemmas.Bool.{false≢true}
 use Rattle.std.proofs.lemmas.Bool.Decides.{nat_tests}
 use Rattle.std.proofs.lemmas.List.{length-take}
@@ -12,7 +13,8 @@ use Rattle.wc_session.specs.declared.client.Client.{Client}
 use Rattle.wc_core.specs.Events.{Event, Tick, Line}
 use Rattle.wc_core.specs.State.{State, first_state}
 use Rattle.wc_core.specs.Step.{client_link, run}
-use Rattle.wc_core.specs.Served.{unsent_on, sent_to}
+use Rattle.wc_board.specs.Connections.{unsent_on}
+use Rattle.wc_core.specs.Served.{sent_to}
 use Rattle.wc_mirror_laws.specs.Held.{HeldPart}
 use Rattle.wc_mirror_laws.specs.Bytes.{ShowsPart}
 use Rattle.wc_mirror_laws.specs.Mirrors.{IsShortLine}
@@ -81,24 +83,24 @@ open-client : (P : Type 0) (o : Option Client) → is_following o ≡ true → (
 open-client P None e f = absurd (false≢true e)
 open-client P (Some client) e f = f client refl
 
-shows-by : (options : OptionsValue) (limit : ℕ) (seen : Seen) (last : Headless) → limit ≤ 4096 → (handed : HandsOut (first_state options limit) seen last) (which : HeldPart) (link : ℕ) (id : List ℕ) → 1 ≤ link → SettledBy which link id (first_state options limit) handed.events
+shows-by : (commands : List (List ℕ)) (texts : AllByRecursion IsUtf8 commands) (options : OptionsValue) (limit : ℕ) (seen : Seen) (last : Headless) → limit ≤ 4096 → (handed : HandsOut (first_state options limit commands) seen last) (which : HeldPart) (link : ℕ) (id : List ℕ) → 1 ≤ link → SettledBy which link id (first_state options limit commands) handed.events
     → ShowsPart which limit id (seen.sent link ++ unsent_on link last.core.connections) last.core.world
-shows-by options limit seen last most handed which link id one settled =
-    let first = first_state options limit in
+shows-by commands texts options limit seen last most handed which link id one settled =
+    let first = first_state options limit commands in
     let short = short-front handed.events handed.reaches.rest (subst (AllByRecursion IsShortLine) handed.reaches.front (short-from [] seen.taken)) in
-    let shows : ShowsPart which limit id (sent_to link (run first handed.events).acts) (run first handed.events).state.world = part_shows which options limit handed.events link id most short settled in
+    let shows : ShowsPart which limit id (sent_to link (run first handed.events).acts) (run first handed.events).state.world = part_shows which options limit commands handed.events link id most texts short settled in
     let bytes = open-client _ (at_key client_link link (run first handed.events).state.clients) settled.still (λ client there. handed.opened link client one there) in
     subst (λ sent. ShowsPart which limit id sent last.core.world) (sym bytes) (subst (λ world. ShowsPart which limit id (sent_to link (run first handed.events).acts) world) (ap (λ (s : State). s.world) handed.means.same) shows)
 
-pub ClientsHoldDumps-known : (contents : Option (List ℕ)) (seen : Seen) (last : Headless) → ClientsHoldDumps contents seen last
-ClientsHoldDumps-known None seen last = tt
-ClientsHoldDumps-known (Some kept) seen last = go (config_of kept)
+pub ClientsHoldDumps-known : (commands : List (List ℕ)) → AllByRecursion IsUtf8 commands → (contents : Option (List ℕ)) (seen : Seen) (last : Headless) → ClientsHoldDumps commands contents seen last
+ClientsHoldDumps-known commands texts None seen last = tt
+ClientsHoldDumps-known commands texts (Some kept) seen last = go (config_of kept)
   where
-    go : (r : Result OptionsValue ℕ) → IfOk r (λ options. (handed : HandsOut (first_state options (most_lines options)) seen last) (which : HeldPart) (link : ℕ) (id : List ℕ) → 1 ≤ link → SettledBy which link id (first_state options (most_lines options)) handed.events
+    go : (r : Result OptionsValue ℕ) → IfOk r (λ options. (handed : HandsOut (first_state options (most_lines options) commands) seen last) (which : HeldPart) (link : ℕ) (id : List ℕ) → 1 ≤ link → SettledBy which link id (first_state options (most_lines options) commands) handed.events
         → ShowsPart which (most_lines options) id (seen.sent link ++ unsent_on link last.core.connections) last.core.world)
-    go (Ok options) = λ handed which link id one settled. shows-by options (most_lines options) seen last (limit_most options) handed which link id one settled
+    go (Ok options) = λ handed which link id one settled. shows-by commands texts options (most_lines options) seen last (limit_most options) handed which link id one settled
     go (Err n) = tt
 
-pub ClientsHoldDumps-last : (contents : Option (List ℕ)) (seen : Seen) (last : Option Headless) → IfSome last (ClientsHoldDumps contents seen)
-ClientsHoldDumps-last contents seen None = tt
-ClientsHoldDumps-last contents seen (Some last) = ClientsHoldDumps-known contents seen last
+pub ClientsHoldDumps-last : (commands : List (List ℕ)) → AllByRecursion IsUtf8 commands → (contents : Option (List ℕ)) (seen : Seen) (last : Option Headless) → IfSome last (ClientsHoldDumps commands contents seen)
+ClientsHoldDumps-last commands texts contents seen None = tt
+ClientsHoldDumps-last commands texts contents seen (Some last) = ClientsHoldDumps-known commands texts contents seen last

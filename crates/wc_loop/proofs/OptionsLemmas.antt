@@ -57,7 +57,7 @@ some_port None = (0, tt)
 some_port (Some configuration) = port_by (config_of configuration)
 
 -- a state and a port that were made by the options
-pub configured_by : (contents : Option (List ℕ)) (headless : Headless) (port : ℕ) (options : OptionsValue) → IfSome contents (λ configuration. config_of configuration ≡ Ok options)
-    → Means headless.core (first_state options (most_lines options)) → port ≡ port_of options → IfSome contents (IsConfigured headless port)
-configured_by None headless port options set means at = tt
-configured_by (Some configuration) headless port options set means at = record { options = options; set = set; means = means; port_set = at }
+pub configured_by : (commands : List (List ℕ)) (contents : Option (List ℕ)) (headless : Headless) (port : ℕ) (options : OptionsValue) → IfSome contents (λ configuration. config_of configuration ≡ Ok options)
+    → Means headless.core (first_state options (most_lines options) commands) → port ≡ port_of options → IfSome contents (IsConfigured commands headless port)
+configured_by commands None headless port options set means at = tt
+configured_by commands (Some configuration) headless port options set means at = record { options = options; set = set; means = means; port_set = at }

@@ -13,84 +13,86 @@ use Rattle.wc_turns.specs.Served.{NobodyLeaving}
 use Rattle.wc_turns.specs.Turns.{wake_count, AgreesWithSockets, IsCaused}
 use Rattle.wc_loop.specs.Endings.{LastOf, StatusOf, StatusFor, IsNumber, IsLastState, HasCause, WaitsAtMost, AsksNothing, RunsBy, RunsFor, asks_turns, asks_version, IsAsked, printed_text, status_of, number_of, tells_version}
 
-status_for : (b : Bool) (turns : ℕ) (contents : Option (List ℕ)) (k k' : ℕ) (before after : Seen) (ending : Ending) (last : Option Headless) → RunsFor b turns contents k k' before after ending last → StatusFor b turns contents after (status_of ending) last
-status_for true turns contents k k' before after ending last r = rw (r.ends, r.none) (refl, refl)
-status_for false turns contents k k' before after ending last r = r.ends
+-- over the commands of the start
+module _ (commands : List (List ℕ)) where
+  status_for : (b : Bool) (turns : ℕ) (contents : Option (List ℕ)) (k k' : ℕ) (before after : Seen) (ending : Ending) (last : Option Headless) → RunsFor b commands turns contents k k' before after ending last → StatusFor b turns contents after (status_of ending) last
+  status_for true turns contents k k' before after ending last r = rw (r.ends, r.none) (refl, refl)
+  status_for false turns contents k k' before after ending last r = r.ends
 
-pub StatusOf-runs : (wish : Result Wish ℕ) (contents : Option (List ℕ)) (k k' : ℕ) (before after : Seen) (ending : Ending) (last : Option Headless) → RunsBy wish contents k k' before after ending last → StatusOf wish contents after (status_of ending) last
-StatusOf-runs (Err n) contents k k' before after ending last r = rw (r.ends, r.none) (refl, refl)
-StatusOf-runs (Ok wish) contents k k' before after ending last r = status_for wish.version wish.turns contents k k' before after ending last r
+  pub StatusOf-runs : (wish : Result Wish ℕ) (contents : Option (List ℕ)) (k k' : ℕ) (before after : Seen) (ending : Ending) (last : Option Headless) → RunsBy commands wish contents k k' before after ending last → StatusOf wish contents after (status_of ending) last
+  StatusOf-runs (Err n) contents k k' before after ending last r = rw (r.ends, r.none) (refl, refl)
+  StatusOf-runs (Ok wish) contents k k' before after ending last r = status_for wish.version wish.turns contents k k' before after ending last r
 
-number_for : (b : Bool) (wish : Wish) (turns : ℕ) (contents : Option (List ℕ)) (k k' : ℕ) (before after : Seen) (ending : Ending) (last : Option Headless) → RunsFor b turns contents k k' before after ending last → IsNumber (Ok wish) contents (status_of ending) (number_of ending)
-number_for true wish turns contents k k' before after ending last r = rw r.ends (record { word = λ q. absurd (omega arith); line = λ q. absurd (omega arith) })
-number_for false wish turns contents k k' before after ending last r = record { word = λ q. absurd (r.ends.later q); line = r.line }
+  number_for : (b : Bool) (wish : Wish) (turns : ℕ) (contents : Option (List ℕ)) (k k' : ℕ) (before after : Seen) (ending : Ending) (last : Option Headless) → RunsFor b commands turns contents k k' before after ending last → IsNumber (Ok wish) contents (status_of ending) (number_of ending)
+  number_for true wish turns contents k k' before after ending last r = rw r.ends (record { word = λ q. absurd (omega arith); line = λ q. absurd (omega arith) })
+  number_for false wish turns contents k k' before after ending last r = record { word = λ q. absurd (r.ends.later q); line = r.line }
 
-pub IsNumber-runs : (wish : Result Wish ℕ) (contents : Option (List ℕ)) (k k' : ℕ) (before after : Seen) (ending : Ending) (last : Option Headless) → RunsBy wish contents k k' before after ending last → IsNumber wish contents (status_of ending) (number_of ending)
-IsNumber-runs (Err n) contents k k' before after ending last r = rw r.ends (record { word = λ q. refl; line = λ q. absurd (omega arith) })
-IsNumber-runs (Ok wish) contents k k' before after ending last r = number_for wish.version wish wish.turns contents k k' before after ending last r
+  pub IsNumber-runs : (wish : Result Wish ℕ) (contents : Option (List ℕ)) (k k' : ℕ) (before after : Seen) (ending : Ending) (last : Option Headless) → RunsBy commands wish contents k k' before after ending last → IsNumber wish contents (status_of ending) (number_of ending)
+  IsNumber-runs (Err n) contents k k' before after ending last r = rw r.ends (record { word = λ q. refl; line = λ q. absurd (omega arith) })
+  IsNumber-runs (Ok wish) contents k k' before after ending last r = number_for wish.version wish wish.turns contents k k' before after ending last r
 
--- what is the same however the words are
-pub record Common (wish : Result Wish ℕ) (contents : Option (List ℕ)) (k k' : ℕ) (before after : Seen) (ending : Ending) (last : Option Headless) : Type 0 where
-  pub version : tells_version ending ≡ asks_version wish
-  pub counted : LastOf after last
-  pub left : IfSome last (IsLastState contents before after)
-  pub served : status_of ending ≡ 8 → IfSome last (λ last. AllServed last.core.connections before after)
-  pub sent : status_of ending ≡ 0 → IfSome last (λ last. AllSent last.core.connections before after)
-  pub faults : HasCause before.faults after.faults k k' (status_of ending)
-  pub asked : IsTrue after.tells → IsAsked (asks_turns wish) contents (status_of ending) after.asked
+  -- what is the same however the words are
+  pub record Common (wish : Result Wish ℕ) (contents : Option (List ℕ)) (k k' : ℕ) (before after : Seen) (ending : Ending) (last : Option Headless) : Type 0 where
+    pub version : tells_version ending ≡ asks_version wish
+    pub counted : LastOf after last
+    pub left : IfSome last (IsLastState commands contents before after)
+    pub served : status_of ending ≡ 8 → IfSome last (λ last. AllServed last.core.connections before after)
+    pub sent : status_of ending ≡ 0 → IfSome last (λ last. AllSent last.core.connections before after)
+    pub faults : HasCause before.faults after.faults k k' (status_of ending)
+    pub asked : IsTrue after.tells → IsAsked (asks_turns wish) contents (status_of ending) after.asked
 
-few : (wish : Result Wish ℕ) (n : ℕ) (contents : Option (List ℕ)) (k k' : ℕ) (before after : Seen) (wanted ending : Ending) (last : Option Headless) → IsNew before → AsksNothing k k' before after wanted ending last → tells_version wanted ≡ asks_version wish → asks_turns wish ≡ false
-    → status_of wanted ≡ n → n ≢ 2 → n ≢ 3 → n ≢ 6 → Common wish contents k k' before after ending last
-few wish n contents k k' before after wanted ending last new r version none e two three six = rw (r.ends, r.none, r.seen) (record {
-  version = version;
-  counted = λ t. ap wake_count (new.taken t);
-  left = tt;
-  served = λ q. tt;
-  sent = λ q. tt;
-  faults = record { wait = λ q. absurd (two (sym e ∙ q)); keeper = λ q. absurd (three (sym e ∙ q)); listener = λ q. absurd (six (sym e ∙ q)) };
-  asked = λ t. (let p = some_port contents in record { port = p.0; set = p.1; is = new.asked t ∙ sym (rw none refl) });
-})
+  few : (wish : Result Wish ℕ) (n : ℕ) (contents : Option (List ℕ)) (k k' : ℕ) (before after : Seen) (wanted ending : Ending) (last : Option Headless) → IsNew before → AsksNothing k k' before after wanted ending last → tells_version wanted ≡ asks_version wish → asks_turns wish ≡ false
+      → status_of wanted ≡ n → n ≢ 2 → n ≢ 3 → n ≢ 6 → Common wish contents k k' before after ending last
+  few wish n contents k k' before after wanted ending last new r version none e two three six = rw (r.ends, r.none, r.seen) (record {
+    version = version;
+    counted = λ t. ap wake_count (new.taken t);
+    left = tt;
+    served = λ q. tt;
+    sent = λ q. tt;
+    faults = record { wait = λ q. absurd (two (sym e ∙ q)); keeper = λ q. absurd (three (sym e ∙ q)); listener = λ q. absurd (six (sym e ∙ q)) };
+    asked = λ t. (let p = some_port contents in record { port = p.0; set = p.1; is = new.asked t ∙ sym (rw none refl) });
+  })
 
-common_for : (b : Bool) (wish : Wish) → wish.version ≡ b → (contents : Option (List ℕ)) (k k' : ℕ) (before after : Seen) (ending : Ending) (last : Option Headless) → IsNew before → RunsFor b wish.turns contents k k' before after ending last → Common (Ok wish) contents k k' before after ending last
-common_for true wish e contents k k' before after ending last new r = few (Ok wish) 0 contents k k' before after _ ending last new r (sym e) (ap not e) refl (λ q. omega arith) (λ q. omega arith) (λ q. omega arith)
-common_for false wish e contents k k' before after ending last new r = record { version = r.version ∙ sym e; counted = r.counted; left = r.left; served = r.served; sent = r.sent; faults = r.faults; asked = λ t. (let a = r.asked t in record { port = a.port; set = a.set; is = a.is ∙ sym (rw e refl) }) }
+  common_for : (b : Bool) (wish : Wish) → wish.version ≡ b → (contents : Option (List ℕ)) (k k' : ℕ) (before after : Seen) (ending : Ending) (last : Option Headless) → IsNew before → RunsFor b commands wish.turns contents k k' before after ending last → Common (Ok wish) contents k k' before after ending last
+  common_for true wish e contents k k' before after ending last new r = few (Ok wish) 0 contents k k' before after _ ending last new r (sym e) (ap not e) refl (λ q. omega arith) (λ q. omega arith) (λ q. omega arith)
+  common_for false wish e contents k k' before after ending last new r = record { version = r.version ∙ sym e; counted = r.counted; left = r.left; served = r.served; sent = r.sent; faults = r.faults; asked = λ t. (let a = r.asked t in record { port = a.port; set = a.set; is = a.is ∙ sym (rw e refl) }) }
 
-pub Common-runs : (wish : Result Wish ℕ) (contents : Option (List ℕ)) (k k' : ℕ) (before after : Seen) (ending : Ending) (last : Option Headless) → IsNew before → RunsBy wish contents k k' before after ending last → Common wish contents k k' before after ending last
-Common-runs (Err n) contents k k' before after ending last new r = few (Err n) 1 contents k k' before after _ ending last new r refl refl refl (λ q. omega arith) (λ q. omega arith) (λ q. omega arith)
-Common-runs (Ok wish) contents k k' before after ending last new r = common_for wish.version wish refl contents k k' before after ending last new r
+  pub Common-runs : (wish : Result Wish ℕ) (contents : Option (List ℕ)) (k k' : ℕ) (before after : Seen) (ending : Ending) (last : Option Headless) → IsNew before → RunsBy commands wish contents k k' before after ending last → Common wish contents k k' before after ending last
+  Common-runs (Err n) contents k k' before after ending last new r = few (Err n) 1 contents k k' before after _ ending last new r refl refl refl (λ q. omega arith) (λ q. omega arith) (λ q. omega arith)
+  Common-runs (Ok wish) contents k k' before after ending last new r = common_for wish.version wish refl contents k k' before after ending last new r
 
-waits_for : (b : Bool) (turns : ℕ) (contents : Option (List ℕ)) (k k' : ℕ) (before after : Seen) (ending : Ending) (last : Option Headless) → IsNew before → RunsFor b turns contents k k' before after ending last → WaitsAtMost turns after last
-waits_for true turns contents k k' before after ending last new r = rw (r.none, r.seen) (record { counted = tt; told = λ t. (let e = ap wake_count (new.taken t) in omega arith) })
-waits_for false turns contents k k' before after ending last new r = r.most
+  waits_for : (b : Bool) (turns : ℕ) (contents : Option (List ℕ)) (k k' : ℕ) (before after : Seen) (ending : Ending) (last : Option Headless) → IsNew before → RunsFor b commands turns contents k k' before after ending last → WaitsAtMost turns after last
+  waits_for true turns contents k k' before after ending last new r = rw (r.none, r.seen) (record { counted = tt; told = λ t. (let e = ap wake_count (new.taken t) in omega arith) })
+  waits_for false turns contents k k' before after ending last new r = r.most
 
--- at most as many waits returned as words ask for
-pub Waits-runs : (wish : Result Wish ℕ) (contents : Option (List ℕ)) (k k' : ℕ) (before after : Seen) (ending : Ending) (last : Option Headless) → IsNew before → RunsBy wish contents k k' before after ending last → IfOk wish (λ wish. WaitsAtMost wish.turns after last)
-Waits-runs (Err n) contents k k' before after ending last new r = tt
-Waits-runs (Ok wish) contents k k' before after ending last new r = waits_for wish.version wish.turns contents k k' before after ending last new r
+  -- at most as many waits returned as words ask for
+  pub Waits-runs : (wish : Result Wish ℕ) (contents : Option (List ℕ)) (k k' : ℕ) (before after : Seen) (ending : Ending) (last : Option Headless) → IsNew before → RunsBy commands wish contents k k' before after ending last → IfOk wish (λ wish. WaitsAtMost wish.turns after last)
+  Waits-runs (Err n) contents k k' before after ending last new r = tt
+  Waits-runs (Ok wish) contents k k' before after ending last new r = waits_for wish.version wish.turns contents k k' before after ending last new r
 
-untouched_for : (b : Bool) (turns : ℕ) (contents : Option (List ℕ)) (k k' : ℕ) (before after : Seen) (ending : Ending) (last : Option Headless) → not b ≡ false → RunsFor b turns contents k k' before after ending last → after ≡ before
-untouched_for true turns contents k k' before after ending last e r = r.seen
-untouched_for false turns contents k k' before after ending last e r = absurd (false≢true (sym e))
+  untouched_for : (b : Bool) (turns : ℕ) (contents : Option (List ℕ)) (k k' : ℕ) (before after : Seen) (ending : Ending) (last : Option Headless) → not b ≡ false → RunsFor b commands turns contents k k' before after ending last → after ≡ before
+  untouched_for true turns contents k k' before after ending last e r = r.seen
+  untouched_for false turns contents k k' before after ending last e r = absurd (false≢true (sym e))
 
-pub untouched : (wish : Result Wish ℕ) (contents : Option (List ℕ)) (k k' : ℕ) (before after : Seen) (ending : Ending) (last : Option Headless) → RunsBy wish contents k k' before after ending last → asks_turns wish ≡ false → after ≡ before
-untouched (Err n) contents k k' before after ending last r e = r.seen
-untouched (Ok wish) contents k k' before after ending last r e = untouched_for wish.version wish.turns contents k k' before after ending last e r
+  pub untouched : (wish : Result Wish ℕ) (contents : Option (List ℕ)) (k k' : ℕ) (before after : Seen) (ending : Ending) (last : Option Headless) → RunsBy commands wish contents k k' before after ending last → asks_turns wish ≡ false → after ≡ before
+  untouched (Err n) contents k k' before after ending last r e = r.seen
+  untouched (Ok wish) contents k k' before after ending last r e = untouched_for wish.version wish.turns contents k k' before after ending last e r
 
-pub IfSome-headline : (last : Option Headless) (contents : Option (List ℕ)) (before after : Seen) → IfSome last (IsLastState contents before after) → IfSome last (Headline contents after)
-IfSome-headline None contents before after left = tt
-IfSome-headline (Some last) contents before after left = left.headline
+  pub IfSome-headline : (last : Option Headless) (contents : Option (List ℕ)) (before after : Seen) → IfSome last (IsLastState commands contents before after) → IfSome last (Headline commands contents after)
+  IfSome-headline None contents before after left = tt
+  IfSome-headline (Some last) contents before after left = left.headline
 
-pub IfSome-agrees : (last : Option Headless) (contents : Option (List ℕ)) (before after : Seen) → IfSome last (IsLastState contents before after) → IfSome last (λ last. AgreesWithSockets last after)
-IfSome-agrees None contents before after left = tt
-IfSome-agrees (Some last) contents before after left = left.agrees
+  pub IfSome-agrees : (last : Option Headless) (contents : Option (List ℕ)) (before after : Seen) → IfSome last (IsLastState commands contents before after) → IfSome last (λ last. AgreesWithSockets last after)
+  IfSome-agrees None contents before after left = tt
+  IfSome-agrees (Some last) contents before after left = left.agrees
 
-pub IfSome-calm : (last : Option Headless) (contents : Option (List ℕ)) (before after : Seen) → IfSome last (IsLastState contents before after) → IfSome last (λ last. NobodyLeaving last.core.connections)
-IfSome-calm None contents before after left = tt
-IfSome-calm (Some last) contents before after left = left.calm
+  pub IfSome-calm : (last : Option Headless) (contents : Option (List ℕ)) (before after : Seen) → IfSome last (IsLastState commands contents before after) → IfSome last (λ last. NobodyLeaving last.core.connections)
+  IfSome-calm None contents before after left = tt
+  IfSome-calm (Some last) contents before after left = left.calm
 
-pub IfSome-causes : (last : Option Headless) (contents : Option (List ℕ)) (before after : Seen) → IfSome last (IsLastState contents before after) → IfSome last (λ last. All (IsCaused before after) last.links.closed.items)
-IfSome-causes None contents before after left = tt
-IfSome-causes (Some last) contents before after left = left.causes
+  pub IfSome-causes : (last : Option Headless) (contents : Option (List ℕ)) (before after : Seen) → IfSome last (IsLastState commands contents before after) → IfSome last (λ last. All (IsCaused before after) last.links.closed.items)
+  IfSome-causes None contents before after left = tt
+  IfSome-causes (Some last) contents before after left = left.causes
 
 pub printed-by : (version version' : Bool) (status number : ℕ) (before after : Option (List ℕ)) → version ≡ version' → after ≡ append_known before (printed_text version status number) → after ≡ append_known before (printed_text version' status number)
 printed-by version version' status number before after e h = subst (λ v. after ≡ append_known before (printed_text v status number)) e h

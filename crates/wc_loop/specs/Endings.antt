@@ -197,15 +197,15 @@ IsEarly contents kept kept' TurnsTaken = ⊥
 IsEarly contents kept kept' Quit = ⊥
 
 -- the state after the last turn
-pub record IsLastState (contents : Option (List ℕ)) (before after : Seen) (last : Headless) :
-    Type 0 where
-  pub headline : Headline contents after last
+pub record IsLastState (commands : List (List ℕ)) (contents : Option (List ℕ)) (before after : Seen)
+    (last : Headless) : Type 0 where
+  pub headline : Headline commands contents after last
   pub agrees : AgreesWithSockets last after
   pub calm : NobodyLeaving last.core.connections
   pub causes : All (IsCaused before after) last.links.closed.items
 
 -- a run that was asked for this number of waits ends
-pub record Runs (turns : ℕ) (contents : Option (List ℕ)) (kept kept' : ℕ) (before after : Seen)
+pub record Runs (commands : List (List ℕ)) (turns : ℕ) (contents : Option (List ℕ)) (kept kept' : ℕ) (before after : Seen)
     (ending : Ending) (last : Option Headless) : Type 0 where
   pub ends : Ends turns contents after (status_of ending) last
   pub line : status_of ending ≡ 4 → IfSome contents (λ configuration. config_of configuration
@@ -213,7 +213,7 @@ pub record Runs (turns : ℕ) (contents : Option (List ℕ)) (kept kept' : ℕ) 
   pub version : tells_version ending ≡ false
   pub counted : LastOf after last
   pub most : WaitsAtMost turns after last
-  pub left : IfSome last (IsLastState contents before after)
+  pub left : IfSome last (IsLastState commands contents before after)
   -- after the last turn each source is served, and each link is written
   pub served : status_of ending ≡ 8 →
       IfSome last (λ last. AllServed last.core.connections before after)
@@ -230,17 +230,17 @@ pub record AsksNothing (kept kept' : ℕ) (before after : Seen) (wanted ending :
   pub seen : after ≡ before
   pub faults : kept' ≡ kept
 
-abbrev pub RunsFor : Bool → ℕ → Option (List ℕ) → ℕ → ℕ → Seen → Seen → Ending →
+abbrev pub RunsFor : Bool → List (List ℕ) → ℕ → Option (List ℕ) → ℕ → ℕ → Seen → Seen → Ending →
     Option Headless → Type 0
-RunsFor true turns contents kept kept' before after ending last =
+RunsFor true commands turns contents kept kept' before after ending last =
     AsksNothing kept kept' before after Version ending last
-RunsFor false turns contents kept kept' before after ending last =
-    Runs turns contents kept kept' before after ending last
+RunsFor false commands turns contents kept kept' before after ending last =
+    Runs commands turns contents kept kept' before after ending last
 
 -- the program ends, by its words
-abbrev pub RunsBy : Result Wish ℕ → Option (List ℕ) → ℕ → ℕ → Seen → Seen → Ending →
-    Option Headless → Type 0
-RunsBy (Err n) contents kept kept' before after ending last = AsksNothing kept kept' before after
+abbrev pub RunsBy : List (List ℕ) → Result Wish ℕ → Option (List ℕ) → ℕ → ℕ → Seen → Seen →
+    Ending → Option Headless → Type 0
+RunsBy commands (Err n) contents kept kept' before after ending last = AsksNothing kept kept' before after
     (BadWord n) ending last
-RunsBy (Ok wish) contents kept kept' before after ending last =
-    RunsFor wish.version wish.turns contents kept kept' before after ending last
+RunsBy commands (Ok wish) contents kept kept' before after ending last =
+    RunsFor wish.version commands wish.turns contents kept kept' before after ending last

@@ -11,9 +11,10 @@ use Rattle.wc_turns.specs.Hands.{IsFrontOf}
 use Rattle.wc_turns.specs.Links.{link_number}
 use Rattle.wc_turns.specs.Run.{up_to_quit}
 use Rattle.wc_core.specs.Events.{Event}
-use Rattle.wc_core.specs.State.{State, first_state}
+use Rattle.wc_core.specs.State.{State, first_state, has_end}
 use Rattle.wc_core.specs.Step.{client_link, run}
-use Rattle.wc_core.specs.Served.{Means, unsent_on, sent_to, has_end}
+use Rattle.wc_core.specs.Served.{Means, sent_to}
+use Rattle.wc_board.specs.Connections.{unsent_on}
 use Rattle.wc_session.specs.declared.client.Client.{Client}
 use Rattle.wc_mirror_laws.specs.Held.{HeldPart}
 use Rattle.wc_mirror_laws.specs.Bytes.{ShowsPart}
@@ -44,30 +45,31 @@ pub record HandsOut (first : State) (seen : Seen) (last : Headless) : Type 0 whe
       at_key client_link link (run first events).state.clients ≡ None
       → IsFrontOf (sent_to link (run first events).acts) (point link (moment last seen))
 
--- the same, where the sockets and the keeper tell what they hold and no growth was refused
-abbrev pub Headline : Option (List ℕ) → Seen → Headless → Type 0
-Headline contents seen last =
+-- the same of a run that runs these commands at its start, where the sockets and the keeper tell what they hold and no growth was refused
+abbrev pub Headline : List (List ℕ) → Option (List ℕ) → Seen → Headless → Type 0
+Headline commands contents seen last =
     IfSome contents (λ configuration. IfOk (config_of configuration)
     (λ options. IsTrue seen.tells → last.core.starved ≡ 0 →
-    HandsOut (first_state options (most_lines options)) seen last))
+    HandsOut (first_state options (most_lines options) commands) seen last))
 
 -- Where that is so, each client that settled by the dump of a part, the lines of all buffers, the
 -- buffers in their groups or the nicklists, has exactly this part of the world, by the bytes that
 -- were sent to it and those that are unsent.
-abbrev pub ClientsHoldDumps : Option (List ℕ) → Seen → Headless → Type 0
-ClientsHoldDumps contents seen last =
+abbrev pub ClientsHoldDumps : List (List ℕ) → Option (List ℕ) → Seen → Headless → Type 0
+ClientsHoldDumps commands contents seen last =
     IfSome contents (λ configuration. IfOk (config_of configuration) (λ options.
-    (handed : HandsOut (first_state options (most_lines options)) seen last) (which : HeldPart)
+    (handed : HandsOut (first_state options (most_lines options) commands) seen last) (which : HeldPart)
     (link : ℕ) (id : List ℕ) → 1 ≤ link →
-    SettledBy which link id (first_state options (most_lines options)) handed.events
+    SettledBy which link id (first_state options (most_lines options) commands) handed.events
     → ShowsPart which (most_lines options) id (seen.sent link ++ unsent_on link last.core.connections)
     last.core.world))
 
 -- a state and a port that a configuration sets
-pub record IsConfigured (headless : Headless) (port : ℕ) (configuration : List ℕ) : Type 0 where
+pub record IsConfigured (commands : List (List ℕ)) (headless : Headless) (port : ℕ)
+    (configuration : List ℕ) : Type 0 where
   pub options : OptionsValue
   pub set : config_of configuration ≡ Ok options
-  pub means : Means headless.core (first_state options (most_lines options))
+  pub means : Means headless.core (first_state options (most_lines options) commands)
   pub port_set : port ≡ port_of options
 
 -- a state before the first turn

@@ -1,5 +1,5 @@
 -- What the words of a call ask.
-use Rattle.std.specs.Prelude.{ℕ, ◌+◌, ◌^◌, Bool, true, false, ◌&&◌, List, [], ◌∷◌}
+use Rattle.std.specs.Prelude.{ℕ, ◌+◌, ◌^◌, ◌==◌, Bool, true, false, ◌&&◌, ◌||◌, List, [], ◌∷◌, ◌++◌}
 use Rattle.std.specs.Prelude.{if◌then◌else◌, nat_le, Option, Some, None, Result, Ok, Err, codes, ℤ}
 use Rattle.std.specs.Prelude.{pos, negsuc}
 use Rattle.std.specs.Str.{bytes_eq}
@@ -24,20 +24,40 @@ is_folder word = bytes_eq word (codes "-d")
 unfoldable pub is_turns : List ℕ → Bool
 is_turns word = bytes_eq word (codes "--turns")
 
+-- a command of the start comes after it
+unfoldable pub is_command : List ℕ → Bool
+is_command word = bytes_eq word (codes "-r")
+
+-- no server is connected at the start
+unfoldable pub is_unconnected : List ℕ → Bool
+is_unconnected word = bytes_eq word (codes "-a")
+
+-- what is asked after a word that takes no value; none where the word takes one, or is none
+unfoldable pub asked_by : Wish → List ℕ → Option Wish
+asked_by wish word = if is_version word then Some (record wish { version = true }) else (
+    if is_unconnected word then Some wish else None)
+
+-- whether a word takes a value that is text
+abbrev pub takes_text : List ℕ → Bool
+takes_text word = is_folder word || is_command word
+
 abbrev pub with_number : Option ℕ → ℕ → (ℕ → Result Wish ℕ) → Result Wish ℕ
 with_number (Some n) place others = others n
 with_number None place others = Err place
+
+abbrev pub with_flag : Option Wish → (Wish → Result Wish ℕ) → Result Wish ℕ → Result Wish ℕ
+with_flag (Some wish) others valued = others wish
+with_flag None others valued = valued
 
 -- what words ask after the first `place` of them, which asked `wish`; or the number of the first
 -- one with a fault
 abbrev pub wish_from : ℕ → Wish → List (List ℕ) → Result Wish ℕ
 wish_from place wish [] = Ok wish
-wish_from place wish (word ∷ []) = if is_version word then Ok (record wish { version = true })
-    else Err (place + 1)
-wish_from place wish (word ∷ value ∷ words) =
-    if is_version word then wish_from (place + 1) (record wish { version = true })
-    (value ∷ words) else (
-    if is_folder word then wish_from (place + 2) wish words else (
+wish_from place wish (word ∷ []) = with_flag (asked_by wish word) (λ asked. Ok asked)
+    (Err (place + 1))
+wish_from place wish (word ∷ value ∷ words) = with_flag (asked_by wish word)
+    (λ asked. wish_from (place + 1) asked (value ∷ words)) (
+    if takes_text word then wish_from (place + 2) wish words else (
     if is_turns word then with_number (turns_of value) (place + 2)
     (λ n. wish_from (place + 2) (record wish { turns = n }) words) else Err (place + 1)))
 
@@ -51,7 +71,26 @@ folder_from folder [] = folder
 folder_from folder (word ∷ []) = folder
 folder_from folder (word ∷ value ∷ words) =
     if is_folder word then folder_from (Some value) words else (
-    if is_turns word then folder_from folder words else folder_from folder (value ∷ words))
+    if is_turns word || is_command word then folder_from folder words
+    else folder_from folder (value ∷ words))
 
 abbrev pub folder_of : List (List ℕ) → Option (List ℕ)
 folder_of words = folder_from None words
+
+-- a command has a slash in front
+abbrev pub with_slash : List ℕ → List ℕ
+with_slash [] = 47 ∷ []
+with_slash (byte ∷ bytes) = if byte == 47 then byte ∷ bytes else 47 ∷ byte ∷ bytes
+
+-- the commands that words name, after these
+abbrev pub commands_from : List (List ℕ) → List (List ℕ) → List (List ℕ)
+commands_from commands [] = commands
+commands_from commands (word ∷ []) = commands
+commands_from commands (word ∷ value ∷ words) =
+    if is_command word then commands_from (commands ++ with_slash value ∷ []) words else (
+    if is_turns word || is_folder word then commands_from commands words
+    else commands_from commands (value ∷ words))
+
+-- the commands that are run at the start
+abbrev pub commands_of : List (List ℕ) → List (List ℕ)
+commands_of words = commands_from [] words

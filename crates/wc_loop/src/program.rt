@@ -14,12 +14,12 @@ ghost use Rattle.wc_core.specs.State.{first_state};
 ghost use Rattle.wc_loop.specs.Headline.{Headline, ClientsHoldDumps, IsFirst, IsConfigured};
 ghost use Rattle.wc_turns.specs.Served.{NobodyLeaving};
 ghost use Rattle.wc_turns.specs.Sources.{AllServed, AllSent};
-ghost use Rattle.wc_loop.specs.Words.{wish_of};
+ghost use Rattle.wc_loop.specs.Words.{commands_of, wish_of};
 ghost use Rattle.wc_turns.specs.Turns.{LoopStep, AgreesWithSockets, IsCaused, faults_then};
 
 use crate::ending::Ending;
 use crate::print::print;
-use crate::words::read_words;
+use crate::words::{read_words, start_commands};
 use std::alloc::Global;
 use wc_core::port_of;
 use wc_options::{ConfigRefused, Options, read_config};
@@ -67,31 +67,39 @@ struct Configured {
     port: u16,
 }
 
-/// Makes the state of a run by the options.
-fn state_by(alloc: Global, options: Options) -> Result<Configured, NoMemory>
+/// Makes the state of a run by the options, which runs the commands after its first wait.
+fn state_by(alloc: Global, options: Options, commands: Vec<String>) -> Result<Configured, NoMemory>
     ensures first { IfOk result (λ made. IsFirst made.headless) }
     ensures means { IfOk result (λ made. Means made.headless.core
-        (first_state options (most_lines options))) }
+        (first_state options (most_lines options) (map string_bytes commands.items))) }
     ensures port { IfOk result (λ made. made.port ≡ port_of options) }
     ensures calm { IfOk result (λ made. NobodyLeaving made.headless.core.connections) }
 {
     let port = port_of(&options);
-    let headless = Headless::new(alloc, options)?;
+    let headless = Headless::new(alloc, options, commands)?;
     Ok(Configured { headless, port })
 }
 
-/// Makes the state of a run, by the configuration.
-fn configure<K: Keeper>(alloc: Global, keeper: &mut K) -> Result<Configured, Ending>
+/// Makes the state of a run, by the configuration and the words.
+fn configure<K: Keeper>(
+    alloc: Global,
+    words: &[String],
+    keeper: &mut K,
+) -> Result<Configured, Ending>
     ensures first { IfOk result (λ made. IsFirst made.headless) }
     ensures known { IfOk result (λ made. IfSome (K.contents keeper.old)
-        (IsConfigured made.headless made.port)) }
+        (IsConfigured (commands_of (map string_bytes words.now)) made.headless made.port)) }
     ensures calm { IfOk result (λ made. NobodyLeaving made.headless.core.connections) }
     ensures early { IfErr result (IsEarly (K.contents keeper.old) (K.faults keeper.old)
         (K.faults keeper.new)) }
     ensures kept { K.contents keeper.new ≡ K.contents keeper.old }
 {
     let options = read_options(alloc, keeper)?;
-    match state_by(alloc, options) {
+    let commands = match start_commands(alloc, words) {
+        Ok(commands) => commands,
+        Err(NoMemory) => return Err(Ending::NoMemory),
+    };
+    match state_by(alloc, options, commands) {
         Ok(made) => Ok(made),
         Err(_) => Err(Ending::NoMemory),
     }
@@ -170,14 +178,20 @@ struct Outcome {
 }
 
 /// Runs the program where words ask for turns.
-fn run<S: Sockets, K: Keeper>(alloc: Global, turns: u64, sockets: &mut S, keeper: &mut K) -> Outcome
+fn run<S: Sockets, K: Keeper>(
+    alloc: Global,
+    words: &[String],
+    turns: u64,
+    sockets: &mut S,
+    keeper: &mut K,
+) -> Outcome
     requires above { 1 ≤ turns }
     requires new { IsNew (S.seen sockets.old) }
-    ensures runs { Runs turns (K.contents keeper.old) (K.faults keeper.old) (K.faults keeper.new)
+    ensures runs { Runs (commands_of (map string_bytes words.now)) turns (K.contents keeper.old) (K.faults keeper.old) (K.faults keeper.new)
         (S.seen sockets.old) (S.seen sockets.new) result.ending result.last }
     ensures kept { K.contents keeper.new ≡ K.contents keeper.old }
 {
-    let Configured { mut headless, port } = match configure(alloc, keeper) {
+    let Configured { mut headless, port } = match configure(alloc, words, keeper) {
         Ok(made) => made,
         Err(ending) => return Outcome { ending, last: None },
     };
@@ -202,7 +216,8 @@ fn run_words<S: Sockets, K: Keeper>(
     keeper: &mut K,
 ) -> Outcome
     requires { IsNew (S.seen sockets.old) }
-    ensures runs { RunsBy (wish_of (map string_bytes words.now)) (K.contents keeper.old)
+    ensures runs { RunsBy (commands_of (map string_bytes words.now))
+        (wish_of (map string_bytes words.now)) (K.contents keeper.old)
         (K.faults keeper.old) (K.faults keeper.new) (S.seen sockets.old) (S.seen sockets.new)
         result.ending result.last }
     ensures kept { K.contents keeper.new ≡ K.contents keeper.old }
@@ -222,7 +237,7 @@ fn run_words<S: Sockets, K: Keeper>(
             last: None,
         };
     }
-    run(alloc, wish.turns, sockets, keeper)
+    run(alloc, words, wish.turns, sockets, keeper)
 }
 
 /// Prints what is to be told of an outcome.
@@ -246,8 +261,9 @@ fn end<O: Sink>(out: &mut O, outcome: Outcome) -> Ended
 }
 
 /// Runs the program for these words: it reads the options of the configuration, listens at 127.0.0.1
-/// and the port that they set, and serves clients of the relay protocol `weechat` until as many
-/// waits returned as `--turns` asks for, or `/quit` is run. The sockets are new. At its end it prints what is to be told.
+/// and the port that they set, runs the commands of `-r` on the core buffer after the first wait, and
+/// serves clients of the relay protocol `weechat` until as many waits returned as `--turns` asks for,
+/// or `/quit` is run. The sockets are new. At its end it prints what is to be told.
 ///
 /// A sink that fails gives the status 7 in place of the one that was to come.
 pub fn run_program<S: Sockets, K: Keeper, O: Sink>(
@@ -258,8 +274,11 @@ pub fn run_program<S: Sockets, K: Keeper, O: Sink>(
     out: &mut O,
 ) -> Ended
     requires { IsNew (S.seen sockets.old) }
-    ensures headline { IfSome result.last (Headline (K.contents keeper.old) (S.seen sockets.new)) }
-    ensures mirrored { IfSome result.last (ClientsHoldDumps (K.contents keeper.old)
+    ensures headline { IfSome result.last (Headline
+        (commands_of (map string_bytes words.now.items)) (K.contents keeper.old)
+        (S.seen sockets.new)) }
+    ensures mirrored { IfSome result.last (ClientsHoldDumps
+        (commands_of (map string_bytes words.now.items)) (K.contents keeper.old)
         (S.seen sockets.new)) }
     ensures status { result.status ≢ 7 → StatusOf (wish_of (map string_bytes words.now.items))
         (K.contents keeper.old) (S.seen sockets.new) result.status result.last }

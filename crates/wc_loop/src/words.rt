@@ -1,10 +1,12 @@
-ghost use Rattle.std.specs.Prelude.{◌≡◌, ◌^◌, ◌≤◌, ◌+◌, Option, Some, None, IfOk, IfSome, []};
+ghost use Rattle.std.specs.Prelude.{◌≡◌, ◌||◌, ◌^◌, ◌≤◌, ◌+◌, Option, Some, None, IfOk, IfSome, []};
 ghost use Rattle.std.specs.Prelude.{◌∷◌, length, map, string_bytes};
 ghost use Rattle.std.specs.Option.{option_copied};
-ghost use Rattle.wc_loop.specs.Words.{turns_of, is_version, is_folder, is_turns, wish_of};
-ghost use Rattle.wc_loop.specs.Words.{folder_of};
+ghost use Rattle.wc_loop.specs.Words.{turns_of, is_version, is_folder, is_turns, is_command};
+ghost use Rattle.wc_loop.specs.Words.{is_unconnected, asked_by, takes_text, with_slash};
+ghost use Rattle.wc_loop.specs.Words.{wish_of, folder_of, commands_of};
 
-use wc_text::read_i64;
+use std::alloc::Global;
+use wc_text::{NoMemory, read_i64};
 
 /// What the words ask.
 #[derive(Clone, Copy)]
@@ -49,6 +51,59 @@ fn is_turns(word: &str) -> bool
     word == "--turns"
 }
 
+#[tactic(auto, unfolding(crate::specs::Words::is_command))]
+fn is_command(word: &str) -> bool
+    ensures { result ≡ is_command word.now }
+{
+    word == "-r"
+}
+
+#[tactic(auto, unfolding(crate::specs::Words::is_unconnected))]
+fn is_unconnected(word: &str) -> bool
+    ensures { result ≡ is_unconnected word.now }
+{
+    word == "-a"
+}
+
+/// What is asked after a word that takes no value. None where it takes one, or is unknown.
+#[tactic(auto, unfolding(crate::specs::Words::asked_by))]
+fn asked_by(wish: Wish, word: &str) -> Option<Wish>
+    ensures asked { result ≡ asked_by wish word.now }
+    ensures turns { IfSome result (λ asked. asked.turns ≡ wish.turns) }
+{
+    if is_version(word) {
+        return Some(Wish {
+            version: true,
+            ..wish
+        });
+    }
+    if is_unconnected(word) {
+        return Some(wish);
+    }
+    None
+}
+
+/// Whether a word takes a value that is text.
+fn takes_text(word: &str) -> bool
+    ensures { result ≡ takes_text word.now }
+{
+    is_folder(word) || is_command(word)
+}
+
+/// Whether a word takes a value that is no folder.
+fn passes_folder(word: &str) -> bool
+    ensures { result ≡ (is_turns word.now || is_command word.now) }
+{
+    is_turns(word) || is_command(word)
+}
+
+/// Whether a word takes a value that is no command.
+fn passes_command(word: &str) -> bool
+    ensures { result ≡ (is_turns word.now || is_folder word.now) }
+{
+    is_turns(word) || is_folder(word)
+}
+
 /// The first word, and the words after it.
 fn first(words: &[String]) -> Option<(&str, &[String])>
     ensures some { IfSome result (λ found. map string_bytes words.now
@@ -62,8 +117,8 @@ fn first(words: &[String]) -> Option<(&str, &[String])>
     }
 }
 
-/// Reads the words: `-v`, `--turns` and a number, `-d` and a folder. Of a repeated one the last
-/// counts. The number is that of the first fault, counted from 1: the unknown word, the word whose
+/// Reads the words: `-v`, `-a`, `--turns` and a number, `-d` and a folder, `-r` and
+/// a command. Of a repeated number the last counts. The number is that of the first fault, counted from 1: the unknown word, the word whose
 /// value is missing, or the unreadable value.
 #[tactic(auto, using(crate::proofs::WordsLemmas::read_words_facts))]
 pub fn read_words(words: &[String]) -> Result<Wish, u64>
@@ -77,8 +132,8 @@ pub fn read_words(words: &[String]) -> Result<Wish, u64>
     let mut place = 0;
     let mut rest = words;
     while let Some((word, others)) = first(rest) {
-        if is_version(word) {
-            wish.version = true;
+        if let Some(asked) = asked_by(wish, word) {
+            wish = asked;
             place += 1;
             rest = others;
             continue;
@@ -86,7 +141,7 @@ pub fn read_words(words: &[String]) -> Result<Wish, u64>
         let Some((value, following)) = first(others) else {
             return Err(place + 1);
         };
-        if is_folder(word) {
+        if takes_text(word) {
             place += 2;
             rest = following;
             continue;
@@ -118,11 +173,49 @@ pub fn config_dir(words: &Vec<String>) -> Option<&str>
         if is_folder(word) {
             folder = Some(value);
             rest = following;
-        } else if is_turns(word) {
+        } else if passes_folder(word) {
             rest = following;
         } else {
             rest = others;
         }
     }
     folder
+}
+
+/// A command with a slash in front.
+fn with_slash(alloc: Global, command: &str) -> Result<String, NoMemory>
+    ensures { IfOk result (λ slashed. string_bytes slashed ≡ with_slash command.now) }
+{
+    let mut slashed = String::new(alloc);
+    if command.as_bytes().first() != Some(&b'/') {
+        slashed.push_str("/")?;
+    }
+    slashed.push_str(command)?;
+    Ok(slashed)
+}
+
+/// The commands that are run at the start, in order: the value of each `-r`, with a slash in front.
+pub fn start_commands(alloc: Global, words: &[String]) -> Result<Vec<String>, NoMemory>
+    ensures { IfOk result (λ commands. map string_bytes commands.items
+        ≡ commands_of (map string_bytes words.now)) }
+{
+    let mut commands = Vec::new(alloc);
+    let mut rest = words;
+    while let Some((word, others)) = first(rest) {
+        let Some((value, following)) = first(others) else {
+            return Ok(commands);
+        };
+        if is_command(word) {
+            let command = with_slash(alloc, value)?;
+            if commands.push(command).is_err() {
+                return Err(NoMemory);
+            }
+            rest = following;
+        } else if passes_command(word) {
+            rest = following;
+        } else {
+            rest = others;
+        }
+    }
+    Ok(commands)
 }

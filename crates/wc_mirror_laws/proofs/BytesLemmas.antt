@@ -31,7 +31,7 @@ use Rattle.wc_core.proofs.MessageLemmas.{sent_to-messages}
 use Rattle.wc_mirror_laws.specs.Held.{HeldPart, Lines, Buffers, Nicks}
 use Rattle.wc_mirror_laws.specs.Kept.{IsStateKept}
 use Rattle.wc_mirror_laws.specs.Bytes.{IsSpelt, SpellOnce, RunSpells, PartShows, BytesShow, BuffersShow, NicksShow}
-use Rattle.wc_mirror_laws.proofs.ChangeLemmas.{acts_spelt, sends_spelt, Tells-runs}
+use Rattle.wc_mirror_laws.proofs.ChangeLemmas.{acts_spelt, sends_spelt, Tells-runs, Tells-start}
 use Rattle.wc_mirror_laws.proofs.StepLemmas.{reply_link, reply_text, kept-put, step_keeps}
 use Rattle.wc_mirror_laws.proofs.PushLemmas.{pushes_stay, asked_replies}
 use Rattle.wc_mirror_laws.proofs.SpeltLemmas.{answer_spelt}
@@ -70,7 +70,7 @@ lost_spelt link state k why None = tt
 lost_spelt link state k why (Some client) = tt
 
 step_spelt : (limit link : ℕ) (state : State) (event : Event) → IsStateKept limit link state → AllSpelt (messages_to link (step state event).acts)
-step_spelt limit link state (Start moment) kept = tt
+step_spelt limit link state (Start moment) kept = (Tells-start Lines limit link [] state moment tt kept).spelt
 step_spelt limit link state (Tick moment) kept =
     subst (λ (s : Stepped). AllSpelt (messages_to link s.acts)) (sym (pushes_stay (record state { moment = moment }) kept.told kept.world.empty)) tt
 step_spelt limit link state (Arrives k nonce) kept = by (nat_lt (length state.clients) (client_limit state.options)) where
@@ -91,15 +91,15 @@ spelt_on limit link state (event ∷ events) kept =
 -- ---- the bytes
 
 pub run_spells : RunSpells
-run_spells options limit events link most =
-    let acts = (run (first_state options limit) events).acts in
-    record { each = spelt_on limit link (first_state options limit) events (start_kept limit link options most); whole = sent_to-messages link acts }
+run_spells options limit commands events link most texts =
+    let acts = (run (first_state options limit commands) events).acts in
+    record { each = spelt_on limit link (first_state options limit commands) events (start_kept limit link options commands most texts); whole = sent_to-messages link acts }
 
 pub part_shows : (which : HeldPart) → PartShows which
-part_shows which options limit events link id most short settled = record {
-  messages = messages_to link (run (first_state options limit) events).acts;
-  spell = run_spells options limit events link most;
-  has = mirrors which options limit events link id most short settled;
+part_shows which options limit commands events link id most texts short settled = record {
+  messages = messages_to link (run (first_state options limit commands) events).acts;
+  spell = run_spells options limit commands events link most texts;
+  has = mirrors which options limit commands events link id most texts short settled;
 }
 
 pub bytes_show : BytesShow

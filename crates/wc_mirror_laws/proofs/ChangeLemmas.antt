@@ -21,9 +21,9 @@ use Rattle.wc_core.specs.Resolved.{Effect, Stays, Ends as ResolvedEnds, Tells as
 use Rattle.wc_options.specs.Options.{OptionsValue, refusal_of, value_of, with_value, without_value}
 use Rattle.wc_options.specs.declared.refusal.SetRefused.{SetRefused}
 use Rattle.wc_options.specs.declared.refusal.SetRefused.TheVariants.{UnknownOption}
-use Rattle.wc_core.specs.State.{State, Act, Stepped}
-use Rattle.wc_core.specs.Step.{client_link, no_step, then_does, sends, told_to, tell_all_step, change_step, change_step_if, refusal_step, set_step_if, unset_step_if, ask_step_if, ask_step, effect_step, typed_step, is_quit, lines_step}
-use Rattle.wc_core.specs.Typed.{typed_line}
+use Rattle.wc_core.specs.State.{State, Act, Stepped, has_end}
+use Rattle.wc_core.specs.Step.{client_link, no_step, then_does, sends, told_to, tell_all_step, change_step, change_step_if, refusal_step, set_step_if, unset_step_if, ask_step_if, ask_step, effect_step, typed_step, is_quit, lines_step, core_buffer, commands_step}
+use Rattle.wc_core.specs.Typed.{typed_line, lines_of_text}
 use Rattle.wc_core.specs.Served.{messages_to}
 use Rattle.wc_core.proofs.MessageLemmas.{messages_to-append}
 use Rattle.wc_view.specs.NickFold.{NickPart}
@@ -37,7 +37,7 @@ use Rattle.wc_mirror_laws.proofs.HeldLemmas.{change_right, told_follows}
 use Rattle.wc_mirror_laws.proofs.NoticeLemmas.{telling}
 use Rattle.wc_mirror_laws.proofs.PrintLemmas.{level_fits}
 use Rattle.wc_mirror_laws.proofs.TellingLemmas.{AllSpelt, event_spelt}
-use Rattle.wc_mirror_laws.proofs.TypedLemmas.{OnAsks, typed_text, resolved_told}
+use Rattle.wc_mirror_laws.proofs.TypedLemmas.{OnAsks, parted_text, typed_text, resolved_told}
 use Rattle.wc_mirror_laws.proofs.WorldLemmas.{IsTold, after_kept}
 
 pub fold_all-append : (which : HeldPart) (limit : ℕ) (id : List ℕ) (part : HeldOf which) (a b : List WireMessage) → fold_all which limit id part (a ++ b) ≡ fold_all which limit id (fold_all which limit id part a) b
@@ -121,7 +121,7 @@ Tells-changes which limit link id state change free kept told good =
     let refusal_step = telling limit w change.buffer change.what kept.world told good in
     record {
       following = following-heard n.kind n.buffer.0 link state.clients;
-      kept = record { most = kept.most; world = is; told = ap (told_after w change.buffer change.what) kept.told ∙ told_follows w change.buffer change.what told; first = first-heard n.kind n.buffer.0 link state.clients kept.first };
+      kept = record { most = kept.most; texts = kept.texts; world = is; told = ap (told_after w change.buffer change.what) kept.told ∙ told_follows w change.buffer change.what told; first = first-heard n.kind n.buffer.0 link state.clients kept.first };
       spelt = clients_spelt link v n state.clients (event_spelt limit v n is refusal_step);
       right = λ follows part had.
           subst (λ part. Has which part v) (sym (ap (fold_all which limit id part) (told_event limit link state (told_after w change.buffer change.what state.told) v n kept follows)))
@@ -145,7 +145,7 @@ Tells-asks which limit link id state change free kept told = by (refusal state.w
 
 -- the options have no part in what is held
 Tells-options : (which : HeldPart) (limit link : ℕ) (id : List ℕ) (state : State) (options : OptionsValue) → IsStateKept limit link state → Tells which limit link id state (no_step (record state { options = options }))
-Tells-options which limit link id state options kept = record { following = refl; kept = record { most = kept.most; world = kept.world; told = kept.told; first = kept.first }; spelt = tt; right = λ follows part had. had }
+Tells-options which limit link id state options kept = record { following = refl; kept = record { most = kept.most; world = kept.world; told = kept.told; texts = kept.texts; first = kept.first }; spelt = tt; right = λ follows part had. had }
 
 Tells-sets : (which : HeldPart) (limit link : ℕ) (id : List ℕ) (state : State) (name value : List ℕ) (o : Option SetRefused) → BeginsWithout 95 id → IsStateKept limit link state → Tells which limit link id state (set_step_if state name value o)
 Tells-sets which limit link id state name value None free kept = Tells-options which limit link id state (with_value state.options name value) kept
@@ -184,3 +184,27 @@ Tells-runs which limit link id state buffer (line ∷ lines) free kept utf8 =
     by true quits first others = Tells-stays which limit link id state kept
     by false true first others = first
     by false false first others = Tells-then which limit link id state one (λ next. lines_step next buffer lines) first (others one.state first.kept)
+
+-- the commands of the start
+pub Tells-commands : (which : HeldPart) (limit link : ℕ) (id : List ℕ) (state : State) (commands : List (List ℕ)) → BeginsWithout 95 id → IsStateKept limit link state → AllByRecursion IsUtf8 commands
+    → Tells which limit link id state (commands_step state commands)
+Tells-commands which limit link id state [] free kept utf8 = Tells-stays which limit link id state kept
+Tells-commands which limit link id state (command ∷ commands) free kept utf8 =
+    by (has_end one.acts) (Tells-runs which limit link id state core_buffer (lines_of_text command) free kept (parted_text command utf8.0))
+    (λ next k. Tells-commands which limit link id next commands free k utf8.1)
+  where
+    one : Stepped
+    one = lines_step state core_buffer (lines_of_text command)
+
+    by : (quits : Bool) → Tells which limit link id state one → ((next : State) → IsStateKept limit link next → Tells which limit link id next (commands_step next commands))
+        → Tells which limit link id state (cond quits one (then_does one (λ next. commands_step next commands)))
+    by true first others = first
+    by false first others = Tells-then which limit link id state one (λ next. commands_step next commands) first (others one.state first.kept)
+
+-- the state in which the commands of the start are run
+abbrev pub opened_at : State → ℕ → State
+opened_at state moment = record state { moment = moment; commands = [] }
+
+pub Tells-start : (which : HeldPart) (limit link : ℕ) (id : List ℕ) (state : State) (moment : ℕ) → BeginsWithout 95 id → IsStateKept limit link state → Tells which limit link id (opened_at state moment) (commands_step (opened_at state moment) state.commands)
+Tells-start which limit link id state moment free kept =
+    Tells-commands which limit link id (opened_at state moment) state.commands free (record { most = kept.most; world = kept.world; told = kept.told; texts = tt; first = kept.first }) kept.texts

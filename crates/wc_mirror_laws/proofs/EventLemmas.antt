@@ -22,6 +22,7 @@ use Rattle.wc_mirror_laws.specs.Mirrors.{mirror_after, IsFair, StepMirrors, Dump
 use Rattle.wc_mirror_laws.proofs.IdLemmas.{request_free}
 use Rattle.wc_mirror_laws.proofs.PushLemmas.{pushes_stay, asked_replies}
 use Rattle.wc_mirror_laws.proofs.ReplyLemmas.{dump_right, reply_right, sends_right}
+use Rattle.wc_mirror_laws.proofs.ChangeLemmas.{Tells-start}
 use Rattle.wc_mirror_laws.proofs.StepLemmas.{asked_here, reply_link, reply_text, right-answers}
 
 -- ---- what the client of a link asks at an event
@@ -101,7 +102,9 @@ lost_right which limit link id state k why None part had = had
 lost_right which limit link id state k why (Some client) part had = had
 
 pub step_mirrors : (which : HeldPart) → StepMirrors which
-step_mirrors which limit link id state (Start moment) part kept free within fair after had = had
+step_mirrors which limit link id state (Start moment) part kept free within fair after had =
+    let tells = Tells-start which limit link id state moment free kept in
+    tells.right (sym tells.following ∙ after) part had
 step_mirrors which limit link id state (Tick moment) part kept free within fair after had =
     subst (HasAfter which limit link id part) (sym (pushes_stay (record state { moment = moment }) kept.told kept.world.empty)) had
 step_mirrors which limit link id state (Arrives k nonce) part kept free within fair after had = by (nat_lt (length state.clients) (client_limit state.options)) where

@@ -147,16 +147,16 @@ nicks_answered limit = refl
 -- ---- the run
 
 abbrev with_client : ℕ → Client → State
-with_client limit client = record (first_state only_password limit) { clients = client ∷ [] }
+with_client limit client = record (first_state only_password limit []) { clients = client ∷ [] }
 
 most_are : client_limit only_password ≡ 5
 unfolding client_limit value_of with_value fresh located globals place_in number_in
 most_are = refl
 
 -- the state after the arrival
-first_step : (limit : ℕ) → (step (first_state only_password limit) (Arrives 1 [])).state ≡ with_client limit came
+first_step : (limit : ℕ) → (step (first_state only_password limit []) (Arrives 1 [])).state ≡ with_client limit came
 first_step limit =
-    let state = first_state only_password limit in
+    let state = first_state only_password limit [] in
     ap (λ n. (cond (nat_lt 0 n) (no_step (with_client limit came)) (record { state = state; acts = Closes 1 cause.Surplus ∷ [] })).state) most_are
 
 found : (client : Client) → client_link client ≡ 1 → at_key client_link 1 (client ∷ []) ≡ Some client
@@ -174,7 +174,7 @@ silent_step : (limit : ℕ) (before after : Client) (line : List ℕ) (request :
     → reply_of (first_world limit) only_password before request ≡ silent after → (step (with_client limit before) (Line 1 line)).state ≡ with_client limit after
 silent_step limit before after line request key reads answered =
     line_state limit before line request (silent after) key reads answered
-    ∙ ap (λ n. record (first_state only_password limit) { clients = cond (eqb n 1) (after ∷ []) (before ∷ []) }) key
+    ∙ ap (λ n. record (first_state only_password limit []) { clients = cond (eqb n 1) (after ∷ []) (before ∷ []) }) key
 
 -- what is asked by it
 abbrev request_by : Client → Request → AskedFor
@@ -216,14 +216,14 @@ module _ (line : List ℕ) (request : Request) (told : ℕ → List WireMessage)
   unfolding synchronized
   line_reads = reads
 
-  all_asked : (limit : ℕ) → asked_on 1 (first_state only_password limit) (three_lines line) ≡ request_by came init_request ∷ request_by known sync_request ∷ request_by synced request ∷ []
+  all_asked : (limit : ℕ) → asked_on 1 (first_state only_password limit []) (three_lines line) ≡ request_by came init_request ∷ request_by known sync_request ∷ request_by synced request ∷ []
   all_asked limit =
       ap (λ s. asked_on 1 s (Line 1 init_line ∷ Line 1 sync_line ∷ Line 1 line ∷ [])) (first_step limit)
       ∙ next_asked limit came known init_line init_request (Line 1 sync_line ∷ Line 1 line ∷ []) refl init_reads (init_answered limit)
       ∙ ap (λ a. request_by came init_request ∷ a) (next_asked limit known synced sync_line sync_request (Line 1 line ∷ []) refl sync_reads (sync_answered limit))
       ∙ ap (λ a. request_by came init_request ∷ request_by known sync_request ∷ (a ++ [])) (line_asked limit synced line request synced_link line_reads)
 
-  still : (limit : ℕ) → is_following (client_on 1 (run (first_state only_password limit) (three_lines line)).state) ≡ true
+  still : (limit : ℕ) → is_following (client_on 1 (run (first_state only_password limit []) (three_lines line)).state) ≡ true
   still limit =
       ap (λ s. is_following (client_on 1 (step (step (step s (Line 1 init_line)).state (Line 1 sync_line)).state (Line 1 line)).state)) (first_step limit)
       ∙ ap (λ s. is_following (client_on 1 (step (step s (Line 1 sync_line)).state (Line 1 line)).state)) (silent_step limit came known init_line init_request refl init_reads (init_answered limit))
@@ -232,7 +232,7 @@ module _ (line : List ℕ) (request : Request) (told : ℕ → List WireMessage)
       ∙ replied_follows limit (told limit)
 
   settles_by : (which : HeldPart) (id : List ℕ) (limit : ℕ) → TakesDump which id (request_by synced request) → has_id id (request_by came init_request) ≡ false
-      → has_id id (request_by known sync_request) ≡ false → SettledBy which 1 id (first_state only_password limit) (three_lines line)
+      → has_id id (request_by known sync_request) ≡ false → SettledBy which 1 id (first_state only_password limit []) (three_lines line)
   settles_by which id limit takes first second = record {
     before = request_by came init_request ∷ request_by known sync_request ∷ [];
     dump = request_by synced request;

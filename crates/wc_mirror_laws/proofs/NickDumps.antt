@@ -16,8 +16,7 @@ use Rattle.wc_objects.specs.Within.{ItemWithin}
 use Rattle.wc_events.specs.NickForms.{nick_kinds, are_nicks}
 use Rattle.wc_events.specs.NickObjects.{nick_path, nick_keys, nick_values, nick_item, nick_objects, root_and_rows, nick_dump}
 use Rattle.wc_events.proofs.NicksFormed.{nicks_formed, list_formed}
-use Rattle.wc_core.specs.CoreView.{HasNoRows}
-use Rattle.wc_mirror_laws.specs.Worlds.{IsBufferKept, IsWorldKept}
+use Rattle.wc_mirror_laws.specs.Worlds.{NoRows, IsBufferKept, IsWorldKept}
 use Rattle.wc_mirror_laws.proofs.HandleLemmas.{rows_handles}
 use Rattle.wc_mirror_laws.proofs.ListLemmas.{all_flat}
 use Rattle.wc_mirror_laws.proofs.SizeLemmas.{IsSmall, AreAtMost, level_short, number_short, text_short, item_size, spelt_size, message_size}
@@ -28,7 +27,7 @@ use Rattle.wc_mirror_laws.proofs.WithinLemmas.{nick_within, nicks_within}
 root_of : BufferEntry → HdaItem
 root_of e = nick_item e.row.handle (root_item (root_at e.row.handle.0))
 
-listed_root : (world : World) (e : BufferEntry) → HasNoRows world → root_and_rows world e ≡ root_of e ∷ []
+listed_root : (world : World) (e : BufferEntry) → NoRows world → root_and_rows world e ≡ root_of e ∷ []
 unfolding root_of
 listed_root world e empty = ap (λ rows. map (nick_item e.row.handle) (full_list (root_item (root_at e.row.handle.0)) rows)) (empty e.row.handle.0)
 
@@ -37,10 +36,10 @@ no_rows = record { ascending = tt; keyed = tt; held = λ k r e. absurd (let h = 
 
 -- ---- the rules
 
-one_formed : (world : World) (e : BufferEntry) → HasNoRows world → are_nicks (root_and_rows world e) ≡ true
+one_formed : (world : World) (e : BufferEntry) → NoRows world → are_nicks (root_and_rows world e) ≡ true
 one_formed world e empty = list_formed [] e.row.handle (root_at e.row.handle.0) (rows_at world e.row.handle.0) (subst IsRows (sym (empty e.row.handle.0)) no_rows) refl
 
-all_formed : (world : World) (es : List BufferEntry) → HasNoRows world → are_nicks (flat_map (root_and_rows world) es) ≡ true
+all_formed : (world : World) (es : List BufferEntry) → NoRows world → are_nicks (flat_map (root_and_rows world) es) ≡ true
 all_formed world [] empty = refl
 all_formed world (e ∷ es) empty =
     list_all-append (λ item. item_of 2 (Some nick_kinds) item) (root_and_rows world e) (flat_map (root_and_rows world) es) ∙ (λ i. one_formed world e empty i && all_formed world es empty i)
@@ -88,7 +87,7 @@ root_small next e ended kept =
     let root : Handle = root_at e.row.handle.0 in
     item_size (e.row.handle.0 ∷ root.0 ∷ []) (nick_values (root_item root)) root_sizes (omega arith) (omega arith, (omega arith, tt)) (root_short root) (omega arith)
 
-listed_count : (world : World) (es : List BufferEntry) → HasNoRows world → length (flat_map (root_and_rows world) es) ≡ length es
+listed_count : (world : World) (es : List BufferEntry) → NoRows world → length (flat_map (root_and_rows world) es) ≡ length es
 listed_count world [] empty = refl
 listed_count world (e ∷ es) empty =
     let more = listed_count world es empty in

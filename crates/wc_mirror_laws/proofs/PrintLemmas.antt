@@ -1,6 +1,6 @@
 -- A line that is printed is short.
 use Rattle.std.proofs.Common.{◌≡◌, ℕ, ◌+◌, ◌≤◌, ◌^◌, Bool, true, false, cond, ◌||◌, ltb, List, [], ◌∷◌, length, sum_by, All, refl, sym, subst, arith, IsUtf8}
-use Rattle.std.specs.Prelude.{ℤ, pos, negsuc, codes}
+use Rattle.std.specs.Prelude.{pos, negsuc, codes}
 use Rattle.std.specs.Int.{w8}
 use Rattle.std.specs.Int.RustNames.{FitsSigned}
 use Rattle.std.proofs.lemmas.Bool.Decides.{nat_tests}

@@ -12,9 +12,10 @@ use Rattle.wc_model.specs.World.{rows_at, root_at}
 use Rattle.wc_relaycmd.specs.declared.request.Request.{Request}
 use Rattle.wc_session.specs.declared.client.Client.{Client}
 use Rattle.wc_session.specs.Event.{push_told}
-use Rattle.wc_core.specs.CoreView.{HasNoRows}
+use Rattle.wc_mirror_laws.specs.Worlds.{NoRows}
 use Rattle.wc_core.specs.State.{State, Act, Stepped}
-use Rattle.wc_core.specs.Step.{no_step, then_does, pushed_to, push_at, pushes_of, push_step, is_nicklist, reply_step, request_step}
+use Rattle.wc_core.specs.Step.{no_step, then_does, pushed_to, push_at, pushes_of, push_step, reply_step, request_step}
+use Rattle.wc_board.specs.Answered.{is_nicklist}
 
 -- what became of no rows is told to nobody
 told_nobody : (buffer : Handle) (client : Client) → pushed_to buffer Nothing client ≡ []
@@ -28,7 +29,7 @@ told_none buffer (client ∷ clients) = ap (λ acts. acts ++ flat_map (pushed_to
 no_push : (root : Handle) → nick_push root [] [] ≡ Nothing
 no_push root = refl
 
-module _ (state : State) (told : state.told ≡ state.world.nicks) (empty : HasNoRows state.world) where
+module _ (state : State) (told : state.told ≡ state.world.nicks) (empty : NoRows state.world) where
   push_none : (buffer : ℕ) → push_at state buffer ≡ Nothing
   push_none buffer =
       ap (λ rows. nick_push (root_at buffer) rows (rows_at state.world buffer)) (ap (λ nicks. unwrap_or (get nicks buffer) []) told ∙ empty buffer)

@@ -1,5 +1,5 @@
 -- What a reply leaves of what a client has.
-use Rattle.std.proofs.Common.{◌≡◌, ℕ, ◌≤◌, Bool, true, false, cond, ◌||◌, List, [], ◌∷◌, length, codes, Option, Some, None, is_none, refl, sym, ap, subst, ◌∙◌, arith, eqb, bytes_eq}
+use Rattle.std.proofs.Common.{◌≡◌, ℕ, ◌≤◌, Bool, true, false, cond, ◌||◌, List, [], ◌∷◌, length, codes, Some, None, refl, sym, ap, subst, ◌∙◌, arith, eqb, bytes_eq}
 use Rattle.std.specs.Prelude.{Ok, Err}
 use Rattle.std.proofs.lemmas.Bool.{false≢true, and_parts}
 use Rattle.std.proofs.lemmas.Slice.Eq.{bytes_eq-Decides}

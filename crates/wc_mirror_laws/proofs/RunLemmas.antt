@@ -1,6 +1,7 @@
 -- A client that settled by the dump of a part has it after all events.
 use Rattle.std.proofs.Common.{◌≡◌, ℕ, ◌≤◌, true, false, List, [], ◌∷◌, ◌++◌, refl, sym, ap, subst, ◌∙◌}
 use Rattle.std.specs.List.{AllByRecursion}
+use Rattle.std.specs.Str.{IsUtf8}
 use Rattle.std.proofs.lemmas.Bool.{false≢true}
 use Rattle.wc_text.specs.Splits.{BeginsWithout}
 use Rattle.wc_options.specs.Options.{OptionsValue}
@@ -127,19 +128,19 @@ settles which limit link id state (event ∷ events) part before following dump 
 
 -- ---- from the start
 
-pub start_kept : (limit link : ℕ) (options : OptionsValue) → limit ≤ 4096 → IsStateKept limit link (first_state options limit)
-start_kept limit link options most = record { most = most; world = first_kept limit; told = refl; first = refl }
+pub start_kept : (limit link : ℕ) (options : OptionsValue) (commands : List (List ℕ)) → limit ≤ 4096 → AllByRecursion IsUtf8 commands → IsStateKept limit link (first_state options limit commands)
+start_kept limit link options commands most texts = record { most = most; world = first_kept limit; told = refl; texts = texts; first = refl }
 
 kept_on : (limit link : ℕ) (state : State) (events : List Event) → IsStateKept limit link state → IsStateKept limit link (run state events).state
 kept_on limit link state [] kept = kept
 kept_on limit link state (event ∷ events) kept = kept_on limit link (step state event).state events (step_keeps limit link state event kept)
 
 pub run_keeps : RunKeeps
-run_keeps options limit events link most = kept_on limit link (first_state options limit) events (start_kept limit link options most)
+run_keeps options limit commands events link most texts = kept_on limit link (first_state options limit commands) events (start_kept limit link options commands most texts)
 
 pub mirrors : (which : HeldPart) → Mirrors which
-mirrors which options limit events link id most within settled =
-    settles which limit link id (first_state options limit) events (nothing which) settled.before settled.following settled.dump (start_kept limit link options most) within
+mirrors which options limit commands events link id most texts within settled =
+    settles which limit link id (first_state options limit commands) events (nothing which) settled.before settled.following settled.dump (start_kept limit link options commands most texts) within
     (record {
       takes = settled.takes;
       alone = all_back (HasOther id) settled.before settled.following settled.alone;

@@ -29,12 +29,12 @@ use Rattle.wc_mirror_laws.specs.Settled.{asked_by, asked_with, asked_in, client_
 use Rattle.wc_mirror_laws.specs.Kept.{is_first_alone, IsStateKept}
 use Rattle.wc_mirror_laws.specs.Mirrors.{mirror_after, StepKeeps}
 use Rattle.wc_mirror_laws.proofs.ClientLemmas.{following-push, first-push, first-put, first-without}
-use Rattle.wc_mirror_laws.proofs.ChangeLemmas.{mirror-append, Tells-runs}
+use Rattle.wc_mirror_laws.proofs.ChangeLemmas.{mirror-append, Tells-runs, Tells-start}
 use Rattle.wc_mirror_laws.proofs.PushLemmas.{asked_replies}
 use Rattle.wc_mirror_laws.proofs.TypedLemmas.{parted_text}
 
 kept-clients : (limit link : ℕ) (state : State) (clients : List Client) → IsStateKept limit link state → is_first_alone link clients ≡ true → IsStateKept limit link (record state { clients = clients })
-kept-clients limit link state clients kept e = record { most = kept.most; world = kept.world; told = kept.told; first = e }
+kept-clients limit link state clients kept e = record { most = kept.most; world = kept.world; told = kept.told; texts = kept.texts; first = e }
 
 kept-leaves : (limit link : ℕ) (state : State) (k : ℕ) (why : Cause) → IsStateKept limit link state → IsStateKept limit link (leave_step state k why).state
 kept-leaves limit link state k why kept = kept-clients limit link state (without client_link k state.clients) kept (first-without link k state.clients kept.first)
@@ -118,8 +118,8 @@ kept-lost limit link state k why None kept = kept
 kept-lost limit link state k why (Some client) kept = kept-leaves limit link state k why kept
 
 pub step_keeps : StepKeeps
-step_keeps limit link state (Start moment) kept = record { most = kept.most; world = kept.world; told = kept.told; first = kept.first }
-step_keeps limit link state (Tick moment) kept = record { most = kept.most; world = kept.world; told = refl; first = kept.first }
+step_keeps limit link state (Start moment) kept = (Tells-start Lines limit link [] state moment tt kept).kept
+step_keeps limit link state (Tick moment) kept = record { most = kept.most; world = kept.world; told = refl; texts = kept.texts; first = kept.first }
 step_keeps limit link state (Arrives k nonce) kept = by (nat_lt (length state.clients) (client_limit state.options)) where
   came : Client
   came = new_client state.options (record { 0 = k }) nonce
@@ -186,7 +186,7 @@ following-line limit link state k line kept none after = came (at_key client_lin
 -- A client that asked nothing at an event, and follows all events after it, did so before.
 pub followed : (limit link : ℕ) (state : State) (event : Event) → IsStateKept limit link state → asked_in link state event ≡ [] → is_following (client_on link (step state event).state) ≡ true
     → is_following (client_on link state) ≡ true
-followed limit link state (Start moment) kept none after = after
+followed limit link state (Start moment) kept none after = sym (Tells-start Lines limit link [] state moment tt kept).following ∙ after
 followed limit link state (Tick moment) kept none after = after
 followed limit link state (Arrives k nonce) kept none after = by (nat_lt (length state.clients) (client_limit state.options)) after where
   came : Client

@@ -1,35 +1,23 @@
 -- The numbers of objects lie within their types.
-use Rattle.std.proofs.Common.{◌≡◌, ℕ, ◌+◌, ◌-◌, ◌^◌, ◌<◌, ◌≤◌, Bool, true, false, cond, List, [], ◌∷◌, map, length, Option, Some, refl, sym, subst, arith, leb}
-use Rattle.std.specs.Prelude.{ℤ, pos, codes}
-use Rattle.std.specs.List.{AllByRecursion, flat_map}
-use Rattle.std.specs.Int.{w8, w32, w64}
-use Rattle.std.specs.Int.RustNames.{FitsSigned}
-use Rattle.std.proofs.lemmas.Bool.Decides.{nat_tests}
-use Rattle.std.proofs.lemmas.List.Elements.{recursion_from_All}
-use denote.Hole.Carrier.{out}
+use Rattle.std.proofs.Common.{ℕ, ◌^◌, ◌<◌, List, [], ◌∷◌, Some}
+use Rattle.std.specs.Prelude.{codes}
+use Rattle.std.specs.List.{AllByRecursion}
 use Rattle.wc_text.specs.declared.names.Handle.{Handle}
-use Rattle.wc_text.specs.declared.names.Pair.{Pair}
 use Rattle.wc_lines.specs.declared.line.Line.{Line}
 use Rattle.wc_nicklist.specs.declared.item.Item.{Item}
 use Rattle.wc_buffers.specs.declared.row.BufferEntry.{BufferEntry}
-use Rattle.wc_buffers.specs.Calls.{EntryGroups}
-use Rattle.wc_buffers.specs.Groups.{rows}
 use Rattle.wc_model.specs.declared.notice.Notice.{Notice}
-use Rattle.wc_model.specs.World.{World, lines_at}
-use Rattle.wc_objects.specs.declared.kind.Kind.TheVariants as k
 use Rattle.wc_objects.specs.declared.object.Object.{Object}
 use Rattle.wc_objects.specs.declared.object.Object.TheVariants as o
-use Rattle.wc_objects.specs.declared.object.Object.TheViews.{out-Object, out-roll-Object, out-roll-Hda}
+use Rattle.wc_objects.specs.declared.object.Object.TheViews.{out-roll-Object, out-roll-Hda}
 use Rattle.wc_objects.specs.declared.object.Hda.{Hda, roll-Hda}
 use Rattle.wc_objects.specs.declared.object.HdaItem.{HdaItem, roll-HdaItem}
-use Rattle.wc_objects.specs.Within.{SimpleWithin, PairWithin, ValueWithin, ItemWithin, HdaWithin, ObjectWithin}
-use Rattle.wc_events.specs.LineObjects.{truth, moment, texts, line_keys, line_values, added_item, added_objects, dumped_item, dumped_lines, line_dump}
-use Rattle.wc_events.specs.BufferObjects.{count, pair_of, table, about, opened_keys, opened_values, opened_objects, placed_keys, placed_values, placed_objects, renamed_keys, renamed_values, renamed_objects, title_keys, title_values, title_objects, vars_keys, vars_values, vars_objects, named_keys, named_values, named_objects, dump_keys, dumped_values, dumped_buffer, dumped_groups, buffer_dump}
+use Rattle.wc_objects.specs.Within.{ValueWithin, ItemWithin, HdaWithin, ObjectWithin}
+use Rattle.wc_events.specs.LineObjects.{truth, moment, line_keys, line_values, added_item, added_objects}
+use Rattle.wc_events.specs.BufferObjects.{about, opened_keys, opened_values, opened_objects, placed_keys, placed_values, placed_objects, renamed_keys, renamed_values, renamed_objects, title_keys, title_values, title_objects, vars_keys, vars_values, vars_objects, named_keys, named_values, named_objects}
 use Rattle.wc_events.specs.NickObjects.{nick_path, nick_keys, nick_values, nick_item, nick_objects}
-use Rattle.wc_hdata.proofs.ValuesWithin.{moment_within, count_within, truth_within, flag_within, value_tim, value_chr, value_int, value_ptr, value_str, simple_str, value_texts, value_table}
+use Rattle.wc_hdata.proofs.ValuesWithin.{moment_within, count_within, truth_within, flag_within, value_tim, value_chr, value_int, value_ptr, value_str, value_texts, value_table}
 use Rattle.wc_mirror_laws.specs.Printed.{IsPrinted}
-use Rattle.wc_mirror_laws.specs.Worlds.{IsBufferKept, IsWorldKept}
-use Rattle.wc_mirror_laws.proofs.ListLemmas.{all_append, all_front, all_back, all_map, all_flat}
 use Rattle.wc_mirror_laws.proofs.NoticeLemmas.{IsTelling}
 
 -- ---- objects of items

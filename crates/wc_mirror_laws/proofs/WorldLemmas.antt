@@ -38,7 +38,7 @@ use Rattle.wc_model.specs.declared.refused.ChangeRefused.TheVariants as refused
 use Rattle.wc_model.specs.World.{World, core_row, first_world, lines_at, last_handle}
 use Rattle.wc_model.specs.LineCuts.{line_of}
 use Rattle.wc_model.specs.Apply.{refusal_of, after_of, of_buffers, or_else as or_refused, refusal_of_handles, with_groups, with_lines, flip_all, with_flips, row_of as new_row}
-use Rattle.wc_core.specs.CoreView.{HasNoRows}
+use Rattle.wc_mirror_laws.specs.Worlds.{NoRows}
 use Rattle.wc_mirror_laws.specs.Printed.{IsPrinted}
 use Rattle.wc_mirror_laws.specs.Worlds.{IsBufferKept, IsWorldKept}
 use Rattle.wc_mirror_laws.proofs.ListLemmas.{all_more}
@@ -173,7 +173,7 @@ unflipped limit w is = record {
 -- a world in which the lines of one buffer were changed
 relined : (limit : ℕ) (w v : World) (k : ℕ) (ms : List Line) → IsWorldKept limit w → v.limit ≡ w.limit → 0 < v.next → v.next ≤ 2 ^ 62 + 1
     → AreGroups (handles v.groups) → AllByRecursion (IsBufferKept v.next) (rows v.groups) → ((q : ℕ) → lines_at v q ≡ cond (eqb q k) ms (lines_at w q))
-    → length ms ≤ limit → All IsPrinted ms → ((q : ℕ) → has handle_of q v.groups ≡ false → cond (eqb q k) ms (lines_at w q) ≡ []) → AreListed v → HasNoRows v → IsWorldKept limit v
+    → length ms ≤ limit → All IsPrinted ms → ((q : ℕ) → has handle_of q v.groups ≡ false → cond (eqb q k) ms (lines_at w q) ≡ []) → AreListed v → NoRows v → IsWorldKept limit v
 relined limit w v k ms is same started ended groups each lines few printed none lists empty = record {
   same = same ∙ is.same;
   started = started;

@@ -1,6 +1,7 @@
 -- What a client makes of all bytes that it was sent.
 use Rattle.std.specs.Prelude.{◌≡◌, ℕ, ◌≤◌, List}
 use Rattle.std.specs.List.{AllByRecursion, flat_map}
+use Rattle.std.specs.Str.{IsUtf8}
 use Rattle.wc_model.specs.World.{World}
 use Rattle.wc_objects.specs.declared.object.WireMessage.{WireMessage}
 use Rattle.wc_objects.specs.Spells.{Spells}
@@ -50,18 +51,20 @@ SpellOnce = (bytes : List ℕ) (a b : List WireMessage) → Spell bytes a → Sp
 
 -- What is sent to a link spells the messages for it.
 abbrev pub RunSpells : Type 0
-RunSpells = (options : OptionsValue) (limit : ℕ) (events : List Event) (link : ℕ) → limit ≤ 4096
-    → Spell (sent_to link (run (first_state options limit) events).acts)
-    (messages_to link (run (first_state options limit) events).acts)
+RunSpells = (options : OptionsValue) (limit : ℕ) (commands : List (List ℕ)) (events : List Event)
+    (link : ℕ) → limit ≤ 4096 → AllByRecursion IsUtf8 commands
+    → Spell (sent_to link (run (first_state options limit commands) events).acts)
+    (messages_to link (run (first_state options limit commands) events).acts)
 
 -- Whoever settled by the dump of a part has exactly this part of the world, by all bytes that it
 -- was sent.
 abbrev pub PartShows : HeldPart → Type 0
-PartShows which = (options : OptionsValue) (limit : ℕ) (events : List Event) (link : ℕ) (id : List ℕ)
-    → limit ≤ 4096 → AllByRecursion IsShortLine events →
-    SettledBy which link id (first_state options limit) events
-    → ShowsPart which limit id (sent_to link (run (first_state options limit) events).acts)
-    (run (first_state options limit) events).state.world
+PartShows which = (options : OptionsValue) (limit : ℕ) (commands : List (List ℕ))
+    (events : List Event) (link : ℕ) (id : List ℕ)
+    → limit ≤ 4096 → AllByRecursion IsUtf8 commands → AllByRecursion IsShortLine events →
+    SettledBy which link id (first_state options limit commands) events
+    → ShowsPart which limit id (sent_to link (run (first_state options limit commands) events).acts)
+    (run (first_state options limit commands) events).state.world
 
 -- the lines that each buffer holds
 abbrev pub BytesShow : Type 0

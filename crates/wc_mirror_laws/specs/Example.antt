@@ -33,15 +33,15 @@ three_lines line = Arrives 1 [] ∷ Line 1 init_line ∷ Line 1 sync_line ∷ Li
 
 -- whoever takes the line dump by it has settled
 abbrev pub ThreeLinesSettle : Type 0
-ThreeLinesSettle = (limit : ℕ) → Settled 1 (codes "l") (first_state only_password limit)
+ThreeLinesSettle = (limit : ℕ) → Settled 1 (codes "l") (first_state only_password limit [])
     (three_lines dump_line)
 
 -- and so has whoever takes the buffer dump
 abbrev pub ThreeLinesSettleBuffers : Type 0
-ThreeLinesSettleBuffers = (limit : ℕ) → SettledBuffers 1 (codes "b") (first_state only_password limit)
+ThreeLinesSettleBuffers = (limit : ℕ) → SettledBuffers 1 (codes "b") (first_state only_password limit [])
     (three_lines buffers_line)
 
 -- and whoever takes the nicklists of all buffers
 abbrev pub ThreeLinesSettleNicks : Type 0
-ThreeLinesSettleNicks = (limit : ℕ) → SettledNicks 1 (codes "n") (first_state only_password limit)
+ThreeLinesSettleNicks = (limit : ℕ) → SettledNicks 1 (codes "n") (first_state only_password limit [])
     (three_lines nicks_line)

@@ -1,6 +1,8 @@
 -- What always holds of the core, as far as its lines are told.
 use Rattle.std.specs.Prelude.{◌≡◌, ℕ, ◌≤◌, Bool, true, false, not, ◌&&◌, ◌||◌, ◌==◌}
 use Rattle.std.specs.Prelude.{if◌then◌else◌, List, [], ◌∷◌}
+use Rattle.std.specs.List.{AllByRecursion}
+use Rattle.std.specs.Str.{IsUtf8}
 use Rattle.wc_session.specs.declared.client.Client.{Client}
 use Rattle.wc_session.specs.declared.sync_set.BufferSet.{BufferSet}
 use Rattle.wc_session.specs.declared.sync_set.SyncSet.{SyncSet}
@@ -36,4 +38,6 @@ pub record IsStateKept (limit link : ℕ) (state : State) : Type 0 where
   pub world : IsWorldKept limit state.world
   -- nothing is ever left to be pushed
   pub told : state.told ≡ state.world.nicks
+  -- the commands of the start are text
+  pub texts : AllByRecursion IsUtf8 state.commands
   pub first : is_first_alone link state.clients ≡ true

@@ -1,6 +1,7 @@
 -- A client that settled by the dump of a part has this part of the world.
 use Rattle.std.specs.Prelude.{◌≡◌, ℕ, ◌≤◌, true, List, [], ◌∷◌, length}
 use Rattle.std.specs.List.{AllByRecursion}
+use Rattle.std.specs.Str.{IsUtf8}
 use Rattle.wc_objects.specs.declared.object.WireMessage.{WireMessage}
 use Rattle.wc_text.specs.Splits.{BeginsWithout}
 use Rattle.wc_options.specs.Options.{OptionsValue}
@@ -33,12 +34,13 @@ IsShortLine _ = Unit {0}
 -- Whoever settled by the dump of a part has exactly this part of the world, by all messages that it
 -- was sent.
 abbrev pub Mirrors : HeldPart → Type 0
-Mirrors which = (options : OptionsValue) (limit : ℕ) (events : List Event) (link : ℕ) (id : List ℕ)
-    → limit ≤ 4096 → AllByRecursion IsShortLine events →
-    SettledBy which link id (first_state options limit) events
+Mirrors which = (options : OptionsValue) (limit : ℕ) (commands : List (List ℕ)) (events : List Event)
+    (link : ℕ) (id : List ℕ)
+    → limit ≤ 4096 → AllByRecursion IsUtf8 commands → AllByRecursion IsShortLine events →
+    SettledBy which link id (first_state options limit commands) events
     → Has which (mirror_after which limit link id (nothing which)
-    (run (first_state options limit) events).acts)
-    (run (first_state options limit) events).state.world
+    (run (first_state options limit commands) events).acts)
+    (run (first_state options limit commands) events).state.world
 
 -- a request has the id of the dump only where it is the dump
 abbrev pub IsFair : HeldPart → List ℕ → AskedFor → Type 0
@@ -72,5 +74,6 @@ StepKeeps = (limit link : ℕ) (state : State) (event : Event) → IsStateKept l
     IsStateKept limit link (step state event).state
 
 abbrev pub RunKeeps : Type 0
-RunKeeps = (options : OptionsValue) (limit : ℕ) (events : List Event) (link : ℕ) → limit ≤ 4096 →
-    IsStateKept limit link (run (first_state options limit) events).state
+RunKeeps = (options : OptionsValue) (limit : ℕ) (commands : List (List ℕ)) (events : List Event)
+    (link : ℕ) → limit ≤ 4096 → AllByRecursion IsUtf8 commands →
+    IsStateKept limit link (run (first_state options limit commands) events).state

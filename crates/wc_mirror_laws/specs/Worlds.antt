@@ -24,6 +24,10 @@ pub record IsBufferKept (next : ℕ) (e : BufferEntry) : Type 0 where
   pub own : e.row.own_lines.0 < next
   pub mixed : e.row.mixed_lines.0 < next
 
+-- no buffer has rows in its nicklist
+abbrev pub NoRows : World → Type 0
+NoRows world = (buffer : ℕ) → rows_at world buffer ≡ []
+
 pub record IsWorldKept (limit : ℕ) (world : World) : Type 0 where
   pub same : world.limit ≡ limit
   pub started : 0 < world.next
@@ -37,4 +41,4 @@ pub record IsWorldKept (limit : ℕ) (world : World) : Type 0 where
   pub none : (h : ℕ) → has handle_of h world.groups ≡ false → lines_at world h ≡ []
   -- each buffer that is there has a nicklist, nothing else has, and no command puts a row in
   pub lists : (h : ℕ) → is_some (get world.nicks h) ≡ has handle_of h world.groups
-  pub empty : (h : ℕ) → rows_at world h ≡ []
+  pub empty : NoRows world

@@ -125,7 +125,7 @@ impl Stage {
     ///
     /// The others are:
     ///
-    /// - `words WORDS`: words of the command line;
+    /// - `words WORDS`: words of the command line; `word TEXT`: one that may have blanks;
     /// - `config BYTES`: a line of the configuration; `config_end BYTES`: one without a line feed;
     /// - `wake NUMBER`: a wait comes back at this moment, in milliseconds since 1970;
     /// - `arrive`: a client comes; `arrive NUMBER`: so many;
@@ -164,6 +164,7 @@ impl Stage {
     fn settle(&mut self, word: &str, rest: &str) -> Result<(), Wrong> {
         match word {
             "words" => self.take_words(rest),
+            "word" => self.take_word(rest),
             "piece" => self.cut(rest),
             "window" => self.narrow(rest),
             "fail_sockets" => add_number(&mut self.wires.faults, rest),
@@ -183,10 +184,16 @@ impl Stage {
     /// Words of the command line, which blanks part.
     fn take_words(&mut self, rest: &str) -> Result<(), Wrong> {
         for word in rest.split_whitespace() {
-            let word = String::from_str(self.alloc, word)?;
-            if self.words.push(word).is_err() {
-                return Err(Wrong::NoMemory);
-            }
+            self.take_word(word)?;
+        }
+        Ok(())
+    }
+
+    /// One word of the command line.
+    fn take_word(&mut self, rest: &str) -> Result<(), Wrong> {
+        let word = String::from_str(self.alloc, rest)?;
+        if self.words.push(word).is_err() {
+            return Err(Wrong::NoMemory);
         }
         Ok(())
     }

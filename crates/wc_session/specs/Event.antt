@@ -61,6 +61,11 @@ pub record IsPushOf (event : Spelled) (at : Handle) (push : Push) : Type 0 where
   pub buffer : event.buffer ≡ at
   pub bytes : Sends [] event.bytes (push_messages at push)
 
+-- this is of a kind that pushes have
+pub record IsPushKind (kind : EventKind) : Type 0 where
+  pub push : Push
+  pub same : kind ≡ push_kind push
+
 -- what a client is told of a push
 unfoldable pub push_told : Handle → Push → Client → List WireMessage
 push_told buffer push client = if follows (push_kind push) buffer.0 client

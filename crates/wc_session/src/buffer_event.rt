@@ -1,4 +1,4 @@
-ghost use Rattle.std.specs.Prelude.{◌≡◌, List, [], false, IfOk, MatchOption};
+ghost use Rattle.std.specs.Prelude.{◌≡◌, List, [], false, IfOk, IfSome, MatchOption};
 ghost use Rattle.std.specs.Str.{IsUtf8};
 ghost use Rattle.wc_buffers.specs.Calls.{is_there};
 ghost use Rattle.wc_model.specs.World.{rows_at, root_at};
@@ -6,7 +6,7 @@ ghost use Rattle.wc_nickdiff.specs.Held.{before_at, touches_of};
 ghost use Rattle.wc_nickdiff.specs.NickPush.{nick_push};
 ghost use Rattle.wc_nickdiff.specs.Told.{IsTold};
 ghost use Rattle.wc_nicklist.specs.declared.item.Row.{Row};
-ghost use Rattle.wc_session.specs.Event.{IsEventOf, IsPushOf, push_messages};
+ghost use Rattle.wc_session.specs.Event.{IsEventOf, IsPushOf, IsPushKind, push_messages};
 ghost use Rattle.wc_session.specs.Sending.{Sends};
 ghost use Rattle.wc_events.specs.NickForms.{IsPushText};
 
@@ -77,11 +77,12 @@ impl BufferEvent {
         pending: &Pending,
         buffer: Handle,
     ) -> Result<Option<BufferEvent>, NoMemory>
-        ensures { IfOk result (λ told. MatchOption told (is_there buffer world.now.groups ≡ false)
+        ensures told { IfOk result (λ told. MatchOption told (is_there buffer world.now.groups ≡ false)
             (λ event. (told : List Row) → IsTold (λ k. before_at k (touches_of buffer pending.now))
             (rows_at world.now buffer.0) told →
             IsPushOf event buffer
             (nick_push (root_at buffer.0) told (rows_at world.now buffer.0)))) }
+        ensures kind { IfOk result (λ told. IfSome told (λ event. IsPushKind event.kind)) }
     {
         let Some(list) = world.nicks(buffer) else {
             return Ok(None);
@@ -114,7 +115,8 @@ impl BufferEvent {
 }
 
 fn push_event(alloc: Global, buffer: Handle, push: &Push) -> Result<BufferEvent, NoMemory>
-    ensures { IfOk result (λ event. IsPushText push.now → IsPushOf event buffer push.now) }
+    ensures event { IfOk result (λ event. IsPushText push.now → IsPushOf event buffer push.now) }
+    ensures kind { IfOk result (λ event. IsPushKind event.kind) }
 {
     let kind = push_kind(push);
     let bytes = push_bytes(alloc, buffer, push)?;

@@ -5,15 +5,16 @@ use Rattle.std.proofs.lemmas.Bool.Decides.{nat_tests}
 use Rattle.wc_text.specs.declared.names.LinkId.{LinkId}
 use Rattle.wc_text.specs.declared.names.Cause.{Cause}
 use Rattle.wc_outside.specs.Keyed.{at_key, without}
-use Rattle.wc_core.specs.declared.connection.Connection.{Connection}
+use Rattle.wc_board.specs.declared.connection.Connection.{Connection}
 use Rattle.wc_core.specs.Events.{Arrives}
 use Rattle.wc_core.specs.CoreView.{CoreView}
 use Rattle.wc_core.specs.State.{State, Act, Stepped}
 use Rattle.wc_core.specs.Step.{step}
 use Rattle.wc_options.specs.Options.{OptionsValue}
-use Rattle.wc_core.specs.Served.{connection_link, links_of, state_of, WereTold, Means, is_open, left_if, left_at, new_connection, refusal, Absent, AdmitsUnlessStarved}
+use Rattle.wc_board.specs.Connections.{connection_link, is_open, left_if, left_at, new_connection}
+use Rattle.wc_core.specs.Served.{links_of, state_of, WereTold, Means, refusal, Absent, AdmitsUnlessStarved}
 use Rattle.wc_core.specs.Limits.{client_limit}
-use Rattle.wc_core.specs.Told.{Told}
+use Rattle.wc_board.specs.Told.{Told}
 use Rattle.wc_core.proofs.ConnectionLemmas.{absent-connection}
 use Rattle.wc_turns.specs.declared.links.LinkState.{LinkState}
 use Rattle.wc_turns.specs.declared.links.Closed.{Closed}

@@ -5,11 +5,12 @@ use Rattle.std.proofs.lemmas.Bool.Decides.{nat_tests}
 use Rattle.std.proofs.lemmas.List.{append-nil, take-append-drop, length-drop}
 use Rattle.wc_outside.specs.Seen.{Seen}
 use Rattle.wc_outside.specs.Keyed.{at_key, put_at, without}
-use Rattle.wc_core.specs.declared.connection.Connection.{Connection}
-use Rattle.wc_core.specs.declared.connection.Departure.{Departure}
+use Rattle.wc_board.specs.declared.connection.Connection.{Connection}
+use Rattle.wc_board.specs.declared.connection.Departure.{Departure}
 use Rattle.wc_core.specs.CoreView.{CoreView}
-use Rattle.wc_core.specs.Told.{Told}
-use Rattle.wc_core.specs.Served.{connection_link, clients_of, state_of, WereTold, Means, unsent_in, unsent_on, unsent_at, gone_at, departure_of, Distinct}
+use Rattle.wc_board.specs.Told.{Told}
+use Rattle.wc_board.specs.Connections.{connection_link, unsent_in, unsent_on, unsent_at, gone_at, departure_of}
+use Rattle.wc_core.specs.Served.{clients_of, state_of, WereTold, Means, Distinct}
 use Rattle.wc_turns.specs.declared.links.LinkState.{LinkState}
 use Rattle.wc_turns.specs.declared.links.Closed.{Closed}
 use Rattle.wc_turns.specs.declared.headless.Headless.{Headless}

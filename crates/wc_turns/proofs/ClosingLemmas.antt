@@ -28,8 +28,9 @@ use Rattle.wc_session.specs.Reply.{Answer, silent, replies, leaves as drops, typ
 use Rattle.wc_core.specs.Events.{Event, Start, Tick, Arrives, Line as LineCame, Ends, Fails, ListenFails}
 use Rattle.wc_core.specs.Typed.{lines_of_text}
 use Rattle.wc_core.specs.State.{State, Act, Sends, Closes, Quits, Stepped}
-use Rattle.wc_core.specs.Step.{step, run, no_step, then_does, push_step, is_nicklist, reply_step as answered, outcome_step, leave_step, sends, request_step, answer_step, line_step, loss_step, client_link}
+use Rattle.wc_core.specs.Step.{step, run, no_step, then_does, push_step, reply_step as answered, outcome_step, leave_step, sends, request_step, answer_step, line_step, loss_step, client_link}
 use Rattle.wc_core.specs.Served.{or_else, close_of}
+use Rattle.wc_board.specs.Answered.{is_nicklist}
 use Rattle.wc_core.proofs.DidLemmas.{close_of-append}
 use Rattle.wc_core.proofs.ConnectionLemmas.{close-sends}
 use Rattle.wc_core.proofs.CloseLemmas.{runs-closes, pushes-closes}

@@ -10,13 +10,14 @@ use Rattle.wc_outside.specs.Seen.{Seen}
 use Rattle.wc_outside.specs.declared.happening.Happening.{Happening}
 use Rattle.wc_outside.specs.declared.happening.Happening.TheVariants.{Accepted}
 use Rattle.wc_outside.specs.Keyed.{at_key}
-use Rattle.wc_core.specs.declared.connection.Connection.{Connection}
+use Rattle.wc_board.specs.declared.connection.Connection.{Connection}
 use Rattle.wc_core.specs.Events.{Arrives}
 use Rattle.wc_core.specs.CoreView.{CoreView}
-use Rattle.wc_core.specs.State.{State}
+use Rattle.wc_core.specs.State.{State, has_end}
 use Rattle.wc_core.specs.Step.{step, run}
-use Rattle.wc_core.specs.Told.{Told}
-use Rattle.wc_core.specs.Served.{connection_link, state_of, WereTold, Means, unsent_in, unsent_on, sent_to, has_end, new_connection, refusal, Distinct}
+use Rattle.wc_board.specs.Told.{Told}
+use Rattle.wc_board.specs.Connections.{connection_link, unsent_in, unsent_on, new_connection}
+use Rattle.wc_core.specs.Served.{state_of, WereTold, Means, sent_to, refusal, Distinct}
 use Rattle.wc_core.proofs.ConnectionLemmas.{links-push}
 use Rattle.wc_turns.specs.declared.links.LinkState.{LinkState}
 use Rattle.wc_turns.specs.declared.headless.Headless.{Headless}

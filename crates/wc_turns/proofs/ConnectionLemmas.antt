@@ -7,9 +7,10 @@ use Rattle.std.proofs.lemmas.List.Elements.{All-nil, All-cons, All-head, All-tai
 use Rattle.wc_text.specs.declared.names.LinkId.{LinkId}
 use Rattle.wc_text.specs.declared.names.Cause.{Cause}
 use Rattle.wc_outside.specs.Keyed.{at_key, put_at, without}
-use Rattle.wc_core.specs.declared.connection.Connection.{Connection}
-use Rattle.wc_core.specs.declared.connection.Departure.{Departure}
-use Rattle.wc_core.specs.Served.{connection_link, is_open, clients_of, leaving_in, leaving_on, left_at, left_if, gone_at, departure_by, departure_of, Absent, Distinct}
+use Rattle.wc_board.specs.declared.connection.Connection.{Connection}
+use Rattle.wc_board.specs.declared.connection.Departure.{Departure}
+use Rattle.wc_board.specs.Connections.{connection_link, is_open, leaving_in, leaving_on, left_at, left_if, gone_at, departure_by, departure_of}
+use Rattle.wc_core.specs.Served.{clients_of, Absent, Distinct}
 use Rattle.wc_core.proofs.ConnectionLemmas.{absent-connection}
 use Rattle.wc_turns.specs.declared.links.Closed.{Closed}
 use Rattle.wc_turns.specs.Served.{closed_by, leaving_closes, NobodyLeaving, closed_number}
@@ -40,7 +41,7 @@ leaving-rest : (k : ℕ) (connection : Connection) (connections : List Connectio
 leaving-rest k connection connections true e absent h = let same : connection_link connection ≡ k = grind (arith, nat_tests) in ap leaving_in (absent-connection k connections (subst (λ n. Absent n (map connection_link connections)) same absent))
 leaving-rest k connection connections false e absent h = rw e at h
 
-all-calm : (connections : List Connection) → Distinct (map connection_link connections) → ((k : ℕ) → leaving_on k connections ≡ None) → NobodyLeaving connections
+pub all-calm : (connections : List Connection) → Distinct (map connection_link connections) → ((k : ℕ) → leaving_on k connections ≡ None) → NobodyLeaving connections
 all-calm [] d h = refl
 all-calm (connection ∷ connections) d h =
     let stays : connection.leaving ≡ None = sym (leaving-first connection connections) ∙ h (connection_link connection) in

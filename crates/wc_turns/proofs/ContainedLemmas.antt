@@ -20,11 +20,11 @@ use Rattle.wc_turns.proofs.KeyedLemmas.{or-true, is_some-push, at_key-filter_oth
 pub KeepsLinks-refl : (x : Headless) → KeepsLinks x x
 KeepsLinks-refl x = record { used = omega arith; rises = omega arith; known = λ k h. h; came = λ k above below. absurd (omega arith) }
 
-starved-following : (a b c : ℕ) → a ≤ b → HasStarved b c → HasStarved a c
+pub starved-following : (a b c : ℕ) → a ≤ b → HasStarved b c → HasStarved a c
 starved-following a b c low (inl h) = inl (omega arith)
 starved-following a b c low (inr h) = inr h
 
-starved-later : (a b c : ℕ) → b ≤ c → HasStarved a b → HasStarved a c
+pub starved-later : (a b c : ℕ) → b ≤ c → HasStarved a b → HasStarved a c
 starved-later a b c low (inl h) = inl (omega arith)
 starved-later a b c low (inr h) = inr (omega arith)
 

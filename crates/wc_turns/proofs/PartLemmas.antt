@@ -10,10 +10,11 @@ use Rattle.wc_outside.specs.Seen.{Seen}
 use Rattle.wc_outside.specs.Faults.{NeverFall}
 use Rattle.wc_outside.specs.declared.happening.Happening.TheVariants.{Failed}
 use Rattle.wc_outside.specs.Keyed.{at_key, without}
-use Rattle.wc_core.specs.declared.connection.Connection.{Connection}
-use Rattle.wc_core.specs.declared.connection.Departure.{Departure}
+use Rattle.wc_board.specs.declared.connection.Connection.{Connection}
+use Rattle.wc_board.specs.declared.connection.Departure.{Departure}
 use Rattle.wc_core.specs.CoreView.{CoreView}
-use Rattle.wc_core.specs.Served.{connection_link, links_of, leaving_in, leaving_on, gone_at, departure_by, departure_of, Distinct}
+use Rattle.wc_board.specs.Connections.{connection_link, leaving_in, leaving_on, gone_at, departure_by, departure_of}
+use Rattle.wc_core.specs.Served.{links_of, Distinct}
 use Rattle.wc_turns.specs.declared.links.Closed.{Closed}
 use Rattle.wc_turns.specs.declared.headless.Headless.{Headless}
 use Rattle.wc_turns.specs.Contained.{KeepsLinks}

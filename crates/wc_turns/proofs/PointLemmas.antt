@@ -5,13 +5,14 @@ use Rattle.std.proofs.lemmas.Bool.Decides.{nat_tests}
 use Rattle.std.proofs.lemmas.List.{append-nil}
 use Rattle.std.proofs.lemmas.List.Folds.{list_any-append}
 use Rattle.wc_outside.specs.declared.happening.Happening.{Happening}
-use Rattle.wc_core.specs.declared.connection.Connection.{Connection}
+use Rattle.wc_board.specs.declared.connection.Connection.{Connection}
 use Rattle.wc_core.specs.Events.{Event}
 use Rattle.wc_core.specs.CoreView.{CoreView}
-use Rattle.wc_core.specs.State.{State, Stepped}
+use Rattle.wc_core.specs.State.{State, Stepped, has_end}
 use Rattle.wc_core.specs.Step.{run, no_step}
-use Rattle.wc_core.specs.Served.{connection_link, state_of, WereTold, Means, unsent_in, unsent_on, sent_to, has_end, Follows}
-use Rattle.wc_core.specs.Told.{Told}
+use Rattle.wc_board.specs.Connections.{connection_link, unsent_in, unsent_on}
+use Rattle.wc_core.specs.Served.{state_of, WereTold, Means, sent_to, Follows}
+use Rattle.wc_board.specs.Told.{Told}
 use Rattle.wc_outside.specs.Keyed.{at_key}
 use Rattle.wc_turns.specs.declared.links.Closed.{Closed}
 use Rattle.wc_turns.specs.Hands.{Delivers}

@@ -10,8 +10,8 @@ use Rattle.wc_outside.specs.Seen.{Seen}
 use Rattle.wc_outside.specs.declared.happening.Happening.{Happening}
 use Rattle.wc_outside.specs.declared.happening.Happening.TheVariants.{Read, Accepted, ListenFailed}
 use Rattle.wc_outside.specs.Keyed.{at_key}
-use Rattle.wc_core.specs.declared.connection.Connection.{Connection}
-use Rattle.wc_core.specs.Served.{connection_link, unsent_in, unsent_on, is_open, is_open_at, leaving_in, leaving_on, left_if, left_at}
+use Rattle.wc_board.specs.declared.connection.Connection.{Connection}
+use Rattle.wc_board.specs.Connections.{connection_link, unsent_in, unsent_on, is_open, is_open_at, leaving_in, leaving_on, left_if, left_at}
 use Rattle.wc_core.specs.CoreView.{CoreView}
 use Rattle.wc_turns.specs.declared.links.Closed.{Closed}
 use Rattle.wc_turns.specs.declared.headless.Headless.{Headless}

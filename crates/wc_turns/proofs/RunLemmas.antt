@@ -5,9 +5,8 @@ use Rattle.std.proofs.lemmas.List.{append-nil, length-append}
 use Rattle.std.proofs.lemmas.Grind.{common_steps, flat_map-append}
 use Rattle.wc_outside.specs.declared.happening.Happening.{Happening}
 use Rattle.wc_core.specs.Events.{Event}
-use Rattle.wc_core.specs.State.{State, Act}
+use Rattle.wc_core.specs.State.{State, Act, has_end}
 use Rattle.wc_core.specs.Step.{step, run}
-use Rattle.wc_core.specs.Served.{has_end}
 use Rattle.wc_core.proofs.DidLemmas.{has_end-append}
 use Rattle.wc_turns.specs.Events.{events_of, events_from}
 use Rattle.wc_turns.specs.Run.{act_closes, closings, EndsAtQuit, up_to_quit}

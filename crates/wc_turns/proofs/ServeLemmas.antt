@@ -12,8 +12,8 @@ use Rattle.wc_outside.specs.Seen.{Seen}
 use Rattle.wc_outside.specs.declared.happening.Failed.{Failed as Fault}
 use Rattle.wc_outside.specs.declared.sockets.Token.{Token}
 use Rattle.wc_outside.specs.declared.sockets.Token.TheVariants.{Listener, Link}
-use Rattle.wc_core.specs.declared.connection.Connection.{Connection}
-use Rattle.wc_core.specs.Served.{connection_link, unsent_in, unsent_on}
+use Rattle.wc_board.specs.declared.connection.Connection.{Connection}
+use Rattle.wc_board.specs.Connections.{connection_link, unsent_in, unsent_on}
 use Rattle.wc_turns.specs.declared.headless.Headless.{Headless}
 use Rattle.wc_turns.specs.declared.links.LinkState.{LinkState}
 use Rattle.wc_turns.specs.Contained.{KeepsLinks}
@@ -69,6 +69,9 @@ reported-or true P named other = named refl
 reported-or false P named other = other refl
 
 -- ---- what is taken
+
+pub TakesWithin-refl : (a : Seen) → TakesWithin a a
+TakesWithin-refl a = record { bytes = λ t k one. omega arith; clients = λ t. omega arith }
 
 pub Within-nothing : (a b c : Seen) → Later b c → TakesWithin a b → TakesNothing b c → TakesWithin a c
 Within-nothing a b c later h g = record {

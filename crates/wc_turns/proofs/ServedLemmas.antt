@@ -6,10 +6,11 @@ use Rattle.std.proofs.lemmas.List.{append-nil}
 use Rattle.wc_text.specs.declared.names.Cause.{Cause}
 use Rattle.wc_core.specs.Events.{Event, Line}
 use Rattle.wc_core.specs.CoreView.{CoreView}
-use Rattle.wc_core.specs.State.{State, Act}
+use Rattle.wc_core.specs.State.{State, Act, has_end}
 use Rattle.wc_core.specs.Step.{step, run}
-use Rattle.wc_core.specs.Served.{links_of, state_of, WereTold, Means, leaving_in, leaving_on, unsent_on, sent_to, close_of, or_else, has_end, Distinct, Follows, FollowsUnlessStarved, Does, LeavesBy}
-use Rattle.wc_core.specs.Told.{Told}
+use Rattle.wc_core.specs.Served.{links_of, state_of, WereTold, Means, sent_to, close_of, or_else, Distinct, Follows, FollowsUnlessStarved, Does, LeavesBy}
+use Rattle.wc_board.specs.Connections.{leaving_in, leaving_on, unsent_on}
+use Rattle.wc_board.specs.Told.{Told}
 use Rattle.wc_core.proofs.DidLemmas.{Follows-stays, Follows-then, KeepsClients-refl, KeepsClients-trans}
 use Rattle.wc_turns.specs.Served.{MayRun, LeavesFor, LeavesAtLine}
 use Rattle.wc_turns.specs.Run.{EndsAtQuit}

@@ -11,8 +11,8 @@ use Rattle.wc_outside.specs.Seen.{Seen}
 use Rattle.wc_outside.specs.declared.happening.Happening.{Happening}
 use Rattle.wc_outside.specs.declared.happening.Happening.TheVariants.{Read, Accepted}
 use Rattle.wc_turns.specs.declared.headless.Headless.{Headless}
-use Rattle.wc_core.specs.declared.connection.Connection.{Connection}
-use Rattle.wc_core.specs.Served.{connection_link, unsent_at, unsent_in, unsent_on, gone_at}
+use Rattle.wc_board.specs.declared.connection.Connection.{Connection}
+use Rattle.wc_board.specs.Connections.{connection_link, unsent_at, unsent_in, unsent_on, gone_at}
 use Rattle.wc_turns.specs.Events.{bytes_on}
 use Rattle.wc_turns.specs.Sources.{bytes_taken, arrivals, NothingBecameReady, IsServed, IsHeard, IsWritten, TakesNothing}
 use Rattle.wc_turns.specs.Turns.{LoopStep}

@@ -9,11 +9,12 @@ use Rattle.wc_text.specs.declared.names.Cause.{Cause}
 use Rattle.wc_outside.specs.Seen.{Seen}
 use Rattle.wc_outside.specs.declared.happening.Happening.{Happening}
 use Rattle.wc_outside.specs.declared.happening.Happening.TheVariants.{Failed}
-use Rattle.wc_core.specs.declared.connection.Connection.{Connection}
+use Rattle.wc_board.specs.declared.connection.Connection.{Connection}
 use Rattle.wc_core.specs.CoreView.{CoreView}
 use Rattle.wc_core.specs.Step.{run, no_step, client_link}
-use Rattle.wc_core.specs.Told.{Told}
-use Rattle.wc_core.specs.Served.{connection_link, state_of, clients_of, links_of, leaving_in, leaving_on, Distinct}
+use Rattle.wc_board.specs.Told.{Told}
+use Rattle.wc_board.specs.Connections.{connection_link, leaving_in, leaving_on}
+use Rattle.wc_core.specs.Served.{state_of, clients_of, links_of, Distinct}
 use Rattle.wc_core.proofs.ConnectionLemmas.{client-leaving}
 use Rattle.wc_turns.specs.declared.links.LinkState.{LinkState}
 use Rattle.wc_turns.specs.declared.headless.Headless.{Headless}

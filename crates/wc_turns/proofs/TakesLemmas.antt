@@ -11,12 +11,13 @@ use Rattle.wc_outside.specs.Seen.{Seen}
 use Rattle.wc_outside.specs.declared.happening.Happening.{Happening}
 use Rattle.wc_outside.specs.declared.happening.Happening.TheVariants.{Read}
 use Rattle.wc_outside.specs.Keyed.{at_key, put_at, IsKeyPlace}
-use Rattle.wc_core.specs.declared.connection.Connection.{Connection}
+use Rattle.wc_board.specs.declared.connection.Connection.{Connection}
 use Rattle.wc_core.specs.Events.{Event}
 use Rattle.wc_core.specs.CoreView.{CoreView}
-use Rattle.wc_core.specs.State.{State, Act}
+use Rattle.wc_core.specs.State.{State, Act, has_end}
 use Rattle.wc_core.specs.Step.{run, step}
-use Rattle.wc_core.specs.Served.{connection_link, links_of, state_of, leaving_on, left_at, close_of, or_else, has_end, Distinct, Does}
+use Rattle.wc_board.specs.Connections.{connection_link, leaving_on, left_at}
+use Rattle.wc_core.specs.Served.{links_of, state_of, close_of, or_else, Distinct, Does}
 use Rattle.wc_turns.specs.declared.links.LinkState.{LinkState}
 use Rattle.wc_turns.specs.declared.headless.Headless.{Headless}
 use Rattle.wc_turns.specs.Lines.{rest}
@@ -109,11 +110,11 @@ among-takes states states' connections connections' used used' listening listeni
   unknown = λ k below. none_of _ (links k ∙ ap is_some (s.unknown k (rw u at below)));
 }
 
-some-events : (state : State) (events : List Event) → has_end (run state events).acts ≡ true → 0 < length events
+pub some-events : (state : State) (events : List Event) → has_end (run state events).acts ≡ true → 0 < length events
 some-events state [] e = absurd (false≢true e)
 some-events state (event ∷ events) e = omega arith
 
-end-by : (before after end : Bool) → before ≡ false → after ≡ (before || end) → after ≡ true → end ≡ true
+pub end-by : (before after end : Bool) → before ≡ false → after ≡ (before || end) → after ≡ true → end ≡ true
 end-by before after end going e over = sym (ap (λ b. b || end) going) ∙ sym e ∙ over
 
 -- the sockets gave a happening of a link, and its client may begin to leave, and others for want of memory

@@ -9,16 +9,16 @@ use Rattle.wc_outside.specs.Faults.{Faults, NeverFall, Rose}
 use Rattle.wc_outside.specs.declared.happening.Happening.{Happening}
 use Rattle.wc_outside.specs.declared.happening.Failed.{Failed as Fault}
 use Rattle.wc_core.specs.Events.{Event}
-use Rattle.wc_core.specs.State.{State}
+use Rattle.wc_core.specs.State.{State, has_end}
 use Rattle.wc_core.specs.Step.{run}
-use Rattle.wc_core.specs.Served.{state_of, WereTold, Means, sent_to, has_end}
-use Rattle.wc_core.specs.Told.{Told}
+use Rattle.wc_core.specs.Served.{state_of, WereTold, Means, sent_to}
+use Rattle.wc_board.specs.Told.{Told}
 use Rattle.wc_core.proofs.DidLemmas.{sent_to-append, has_end-append}
 use Rattle.wc_turns.specs.declared.links.Closed.{Closed}
 use Rattle.wc_turns.specs.declared.headless.Headless.{Headless}
 use Rattle.wc_turns.specs.Events.{events_from}
 use Rattle.wc_turns.specs.Run.{closings, EndsAtQuit}
-use Rattle.wc_turns.specs.Served.{leaving_closes, NobodyLeaving, ReachesEvents}
+use Rattle.wc_turns.specs.Served.{NobodyLeaving, ReachesEvents}
 use Rattle.wc_turns.specs.Turns.{AgreesWithHappenings, AgreesOnLinks, AgreesWithSockets, Moment, moment, point, MomentAdvances, gives, GivesNothing, QuitsWithin, CoreTakes, IsCaused, wake_count, listen_faults, faults_of, closed_so_far, LoopStep, ClosesExactly}
 use Rattle.wc_turns.proofs.RunLemmas.{run-append-state, run-append-acts, closings-append, events_from-append, ReachesEvents-trans, ReachesEvents-none, EndsAtQuit-append}
 use Rattle.wc_turns.proofs.HandsLemmas.{Delivers-trans}
@@ -215,6 +215,11 @@ LoopStep-wider x y a b h = record {
   goes = h.goes;
 }
 
+-- a turn begins, and what it closes then goes on
+pub LoopStep-joined : (x y z : Headless) (a b c : Seen) (h : LoopStep false 1 0 x y a b) (q : LoopStep true 0 0 y z b c) → (j : LoopStep false 1 0 x z a c) × (j.closed ≡ h.closed ++ q.closed)
+unfolding LoopStep-sum LoopStep-wider
+LoopStep-joined x y z a b c h q = (LoopStep-sum (omega arith) (omega arith) x y z a b c h (LoopStep-wider y z b c q), refl)
+
 -- nothing is taken, and the loop changes nothing that its clients or the happenings see
 pub LoopStep-still : (x y : Headless) (a b : Seen) → Call a b [] → y.turns ≡ x.turns → y.core.starved ≡ x.core.starved → y.core.quits ≡ x.core.quits → y.ran ≡ x.ran
     → (AgreesWithSockets x a → closed_so_far y ≡ closed_so_far x)
@@ -237,27 +242,28 @@ Rose-later (Ok v) p q n below h = tt
 Rose-later (Err f) p q n below h = omega arith
 
 -- the links that a turn closes
-pub turn-closes : {f : ℕ} (x z w : Headless) (a b c : Seen) → AgreesWithSockets x a → z.links.closed.items ≡ [] → NobodyLeaving z.core.connections → NobodyLeaving w.core.connections → (h : LoopStep false 1 0 x z a b) → (q : LoopStep true 0 f z w b c) → w.links.closed.items ≡ q.closed
-turn-closes x z w a b c s empty calm calm' h q =
-    sym (ap (λ cs. w.links.closed.items ++ cs) calm' ∙ append-nil _) ∙ q.grows refl (h.agrees s) ∙ ap (λ cs. (cs ++ leaving_closes z.core.connections) ++ q.closed) empty ∙ ap (λ cs. cs ++ q.closed) calm
+pub turn-closes : {f : ℕ} (x z w : Headless) (a b c : Seen) → AgreesWithSockets x a → NobodyLeaving z.core.connections → NobodyLeaving w.core.connections → (h : LoopStep false 1 0 x z a b) → z.links.closed.items ≡ h.closed → (q : LoopStep true 0 f z w b c) → w.links.closed.items ≡ h.closed ++ q.closed
+turn-closes x z w a b c s calm calm' h lists q =
+    sym (ap (λ cs. w.links.closed.items ++ cs) calm' ∙ append-nil _) ∙ q.grows refl (h.agrees s) ∙ ap (λ cs. cs ++ q.closed) (ap (λ cs. z.links.closed.items ++ cs) calm ∙ append-nil _ ∙ lists)
 
-pub turn-causes : {f : ℕ} (x z w : Headless) (a b c : Seen) → AgreesWithSockets x a → z.links.closed.items ≡ [] → NobodyLeaving z.core.connections → NobodyLeaving w.core.connections → (h : LoopStep false 1 0 x z a b) → (q : LoopStep true 0 f z w b c) → All (IsCaused a c) w.links.closed.items
-turn-causes x z w a b c s empty calm calm' h q = rw (turn-closes x z w a b c s empty calm calm' h q) (caused-following a b c q.closed h.gained q.told h.taken h.counts (q.causes (h.agrees s)))
+pub turn-causes : {f : ℕ} (x z w : Headless) (a b c : Seen) → AgreesWithSockets x a → NobodyLeaving z.core.connections → NobodyLeaving w.core.connections → (h : LoopStep false 1 0 x z a b) → z.links.closed.items ≡ h.closed → (q : LoopStep true 0 f z w b c) → All (IsCaused a c) w.links.closed.items
+turn-causes x z w a b c s calm calm' h lists q = rw (turn-closes x z w a b c s calm calm' h lists q)
+    (All-append (IsCaused a c) h.closed q.closed (caused-later a b c h.closed q.gained q.told q.taken q.counts (h.causes s)) (caused-following a b c q.closed h.gained q.told h.taken h.counts (q.causes (h.agrees s))))
 
 pub turn-continues : {f : ℕ} (x z w : Headless) (a b c : Seen) → LoopStep false 1 0 x z a b → LoopStep true 0 f z w b c → LoopStep false 1 f x w a c
 turn-continues {f} x z w a b c h q = LoopStep-sum (omega arith) (omega arith) x z w a b c h (LoopStep-wider z w b c q)
 
-exactly-by : {f : ℕ} (x z w : Headless) (a b c : Seen) → AgreesWithSockets x a → z.links.closed.items ≡ [] → NobodyLeaving z.core.connections → NobodyLeaving w.core.connections → (h : LoopStep false 1 0 x z a b) → h.closed ≡ [] → (q : LoopStep true 0 f z w b c) → (t : Bool) → c.tells ≡ t → ClosesExactly x w a c
-exactly-by x z w a b c s empty calm calm' h none q true t' =
+exactly-by : {f : ℕ} (x z w : Headless) (a b c : Seen) → AgreesWithSockets x a → NobodyLeaving z.core.connections → NobodyLeaving w.core.connections → (h : LoopStep false 1 0 x z a b) → z.links.closed.items ≡ h.closed → (q : LoopStep true 0 f z w b c) → (t : Bool) → c.tells ≡ t → ClosesExactly x w a c
+exactly-by x z w a b c s calm calm' h lists q true t' =
     let done = CoreTakes-trans (moment x a) (moment z b) (moment w c) x.ran z.ran w.ran h.closed q.closed h.gained q.gained (h.taken (q.told t')) h.quits q.quits (h.goes (q.told t') s) (q.goes t' (h.agrees s)) in
     record {
       gained = h.gained ++ q.gained;
       taken = λ t. q.taken t ∙ ap (λ ts. ts ++ q.gained) (h.taken (q.told t)) ∙ append_assoc a.taken h.gained q.gained;
       events = done.events;
       reaches = λ t. done.reaches;
-      closed = λ t same below told were. turn-closes x z w a b c s empty calm calm' h q ∙ ap (λ cs. cs ++ q.closed) (sym none) ∙ sym (done.advances same below told were).closes;
+      closed = λ t same below told were. turn-closes x z w a b c s calm calm' h lists q ∙ sym (done.advances same below told were).closes;
     }
-exactly-by x z w a b c s empty calm calm' h none q false t' = record {
+exactly-by x z w a b c s calm calm' h lists q false t' = record {
   gained = h.gained ++ q.gained;
   taken = λ t. q.taken t ∙ ap (λ ts. ts ++ q.gained) (h.taken (q.told t)) ∙ append_assoc a.taken h.gained q.gained;
   events = [];
@@ -265,5 +271,5 @@ exactly-by x z w a b c s empty calm calm' h none q false t' = record {
   closed = λ t. absurd (false≢true (sym t' ∙ t));
 }
 
-pub turn-closes-exactly : {f : ℕ} (x z w : Headless) (a b c : Seen) → AgreesWithSockets x a → z.links.closed.items ≡ [] → NobodyLeaving z.core.connections → NobodyLeaving w.core.connections → (h : LoopStep false 1 0 x z a b) → h.closed ≡ [] → (q : LoopStep true 0 f z w b c) → ClosesExactly x w a c
-turn-closes-exactly x z w a b c s empty calm calm' h none q = exactly-by x z w a b c s empty calm calm' h none q c.tells refl
+pub turn-closes-exactly : {f : ℕ} (x z w : Headless) (a b c : Seen) → AgreesWithSockets x a → NobodyLeaving z.core.connections → NobodyLeaving w.core.connections → (h : LoopStep false 1 0 x z a b) → z.links.closed.items ≡ h.closed → (q : LoopStep true 0 f z w b c) → ClosesExactly x w a c
+turn-closes-exactly x z w a b c s calm calm' h lists q = exactly-by x z w a b c s calm calm' h lists q c.tells refl

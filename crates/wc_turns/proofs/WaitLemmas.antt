@@ -1,6 +1,7 @@
 -- How a turn waits, and how it ends.
-use Rattle.std.proofs.Common.{◌≡◌, ℕ, Bool, true, false, ◌||◌, IsTrue, [], ◌∷◌, ◌++◌, is_some, Result, Ok, Err, OnOk, OnErr, is_err, refl, sym, ap, ◌∙◌, arith}
+use Rattle.std.proofs.Common.{◌≡◌, ◌⊎◌, inl, inr, ℕ, ◌<◌, ◌≤◌, nat_le, Bool, true, false, ◌||◌, IsTrue, [], ◌∷◌, ◌++◌, is_some, Result, Ok, Err, OnOk, OnErr, is_err, refl, sym, ap, ◌∙◌, arith}
 use Rattle.std.proofs.lemmas.Bool.{false≢true}
+use Rattle.std.proofs.lemmas.Bool.Decides.{nat_tests}
 use Rattle.std.proofs.lemmas.List.{append-nil}
 use Rattle.std.proofs.lemmas.List.Elements.{All-nil}
 use Rattle.wc_outside.specs.Seen.{Seen}
@@ -10,12 +11,13 @@ use Rattle.wc_turns.specs.declared.headless.Headless.{Headless}
 use Rattle.wc_turns.specs.declared.turn.TurnEnd.{TurnEnd}
 use Rattle.wc_turns.specs.declared.turn.TurnEnd.TheVariants.{GoOn, Quit}
 use Rattle.wc_outside.specs.Keyed.{at_key}
-use Rattle.wc_turns.specs.Contained.{is_known, KeepsLinks}
+use Rattle.wc_turns.specs.Contained.{is_known, HasStarved, KeepsLinks}
 use Rattle.wc_turns.specs.Links.{link_number}
 use Rattle.wc_turns.specs.Served.{closed_number}
 use Rattle.wc_turns.specs.Sources.{TakesNothing, TakesWithin}
 use Rattle.wc_turns.specs.Turns.{AgreesWithSockets, LoopStep, ClosesExactly, moment, waits_then, faults_then, faults_of}
 use Rattle.wc_turns.specs.Waits.{then_of, WakesCore, LosesNone}
+use Rattle.wc_turns.proofs.ContainedLemmas.{starved-following, starved-later}
 use Rattle.wc_turns.proofs.PointLemmas.{MomentAdvances-same}
 use Rattle.wc_turns.proofs.RunLemmas.{ReachesEvents-none}
 use Rattle.wc_turns.proofs.SourceLemmas.{TakesNothing-call}
@@ -63,7 +65,7 @@ closes-by x y a b s w true told =
       taken = w.continues.taken;
       events = goes.events;
       reaches = λ t. goes.reaches;
-      closed = λ t fed below told' were. w.closed ∙ sym w.none ∙ sym (goes.advances fed below told' were).closes;
+      closed = λ t fed below told' were. w.closed ∙ sym (goes.advances fed below told' were).closes;
     }
 closes-by x y a b s w false told = record {
   gained = w.continues.gained;
@@ -104,11 +106,27 @@ quits-by (Ok v) false then e q = cc
 
 -- ---- no link is lost
 
-open-known : (k : ℕ) (x y z : Headless) → KeepsLinks y z → is_some (at_key link_number k y.links.opened.items) ≡ is_some (at_key link_number k x.links.opened.items) → is_some (at_key link_number k x.links.opened.items) ≡ true → is_known k z ≡ true
-open-known k x y z h links there = h.known k (ap (λ b. b || is_some (at_key closed_number k y.links.closed.items)) (links ∙ there))
+pub loses-none : (x y z : Headless) → LosesNone x y → x.core.starved ≤ y.core.starved → KeepsLinks y z → LosesNone x z
+loses-none x y z loses rises h = record {
+  opened = λ k there. h.known k (loses.opened k there);
+  came = λ k above below. came-by k above below (nat_le k y.used) refl;
+}
+  where
+    later-by : (k : ℕ) → (is_known k y ≡ true) ⊎ HasStarved x.core.starved y.core.starved → (is_known k z ≡ true) ⊎ HasStarved x.core.starved z.core.starved
+    later-by k (inl known) = inl (h.known k known)
+    later-by k (inr starved) = inr (starved-later x.core.starved y.core.starved z.core.starved h.rises starved)
 
-pub loses-none : {n : ℕ} (x y z : Headless) (a b : Seen) → WakesCore n x y a b → KeepsLinks y z → LosesNone x z
-loses-none x y z a b w h = record {
-  opened = λ k there. open-known k x y z h (w.links k) there;
-  came = λ k above below. rw w.starved at (h.came k (let u = w.used in omega arith) below);
+    following-by : (k : ℕ) → (is_known k z ≡ true) ⊎ HasStarved y.core.starved z.core.starved → (is_known k z ≡ true) ⊎ HasStarved x.core.starved z.core.starved
+    following-by k (inl known) = inl known
+    following-by k (inr starved) = inr (starved-following x.core.starved y.core.starved z.core.starved rises starved)
+
+    came-by : (k : ℕ) → x.used < k → k ≤ z.used → (t : Bool) → nat_le k y.used ≡ t → (is_known k z ≡ true) ⊎ HasStarved x.core.starved z.core.starved
+    came-by k above below true e = later-by k (loses.came k above (grind (arith, nat_tests)))
+    came-by k above below false e = following-by k (h.came k (grind (arith, nat_tests)) below)
+
+-- the same links are there as before a wait that failed
+pub unwoken-loses : (x y : Headless) → y.used ≡ x.used → ((k : ℕ) → is_some (at_key link_number k y.links.opened.items) ≡ is_some (at_key link_number k x.links.opened.items)) → LosesNone x y
+unwoken-loses x y used links = record {
+  opened = λ k there. ap (λ b. b || is_some (at_key closed_number k y.links.closed.items)) (links k ∙ there);
+  came = λ k above below. absurd (omega arith);
 }

@@ -2,8 +2,7 @@
 use Rattle.std.specs.Prelude.{◌≡◌, true, List, [], ◌∷◌, if◌then◌else◌}
 use Rattle.std.specs.List.{flat_map}
 use Rattle.wc_core.specs.Events.{Event}
-use Rattle.wc_core.specs.Served.{has_end}
-use Rattle.wc_core.specs.State.{State, Act, Sends, Closes, Quits}
+use Rattle.wc_core.specs.State.{State, Act, Sends, Closes, Quits, has_end}
 use Rattle.wc_core.specs.Step.{step}
 use Rattle.wc_turns.specs.declared.links.Closed.{Closed}
 

@@ -5,13 +5,14 @@ use Rattle.wc_text.specs.declared.names.LinkId.{LinkId}
 use Rattle.wc_text.specs.declared.names.Cause.{Cause}
 use Rattle.wc_text.specs.declared.names.Cause.TheVariants.{Ended, Failed, LoginFailed, NoMemory}
 use Rattle.wc_text.specs.declared.names.Cause.TheVariants.{Surplus, Quit, Disconnected, NickTaken}
-use Rattle.wc_core.specs.declared.connection.Connection.{Connection}
+use Rattle.wc_board.specs.declared.connection.Connection.{Connection}
 use Rattle.wc_core.specs.Events.{Event}
 use Rattle.wc_core.specs.CoreView.{CoreView}
 use Rattle.wc_core.specs.Step.{run}
-use Rattle.wc_core.specs.Served.{links_of, leaving_on, state_of, WereTold, Distinct, KeepsClients}
+use Rattle.wc_core.specs.Served.{links_of, state_of, WereTold, Distinct, KeepsClients}
+use Rattle.wc_board.specs.Connections.{leaving_on}
 use Rattle.wc_core.specs.Served.{Follows}
-use Rattle.wc_core.specs.Told.{Told}
+use Rattle.wc_board.specs.Told.{Told}
 use Rattle.wc_turns.specs.declared.links.Closed.{Closed}
 use Rattle.wc_turns.specs.Run.{EndsAtQuit}
 

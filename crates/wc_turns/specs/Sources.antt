@@ -14,9 +14,9 @@ use Rattle.wc_outside.specs.declared.happening.Happening.TheVariants.{Woke, Acce
 use Rattle.wc_outside.specs.declared.happening.Happening.TheVariants.{Failed, ListenFailed}
 use Rattle.wc_outside.specs.declared.sockets.Token.{Token}
 use Rattle.wc_turns.specs.declared.links.LinkState.{LinkState}
-use Rattle.wc_core.specs.declared.connection.Connection.{Connection}
+use Rattle.wc_board.specs.declared.connection.Connection.{Connection}
 use Rattle.wc_turns.specs.Events.{bytes_on}
-use Rattle.wc_core.specs.Served.{unsent_on}
+use Rattle.wc_board.specs.Connections.{unsent_on}
 
 -- how many bytes were taken of a link
 abbrev pub bytes_taken : ℕ → List Happening → ℕ

@@ -7,20 +7,21 @@ use Rattle.wc_text.specs.declared.names.LinkId.{LinkId}
 use Rattle.wc_text.specs.declared.names.Cause.{Cause}
 use Rattle.wc_text.specs.declared.names.Cause.TheVariants.{NoMemory, Surplus}
 use Rattle.wc_core.specs.Events.{Arrives}
-use Rattle.wc_core.specs.CoreView.{CoreView}
 use Rattle.wc_core.specs.Step.{step}
-use Rattle.wc_core.specs.Served.{state_of, WereTold, links_of, new_connection, refusal, Absent}
+use Rattle.wc_core.specs.Served.{state_of, WereTold, links_of, refusal, Absent, Distinct}
+use Rattle.wc_board.specs.Connections.{new_connection, leaving_on}
+use Rattle.wc_board.specs.Served.{StaysOrStarves}
 use Rattle.wc_core.specs.Served.{AdmitsUnlessStarved}
-use Rattle.wc_core.specs.Told.{Told}
+use Rattle.wc_board.specs.Told.{Told}
 use Rattle.wc_turns.specs.Contained.{HasStarved}
-use Rattle.wc_turns.specs.Served.{closed_by, NobodyLeaving}
+use Rattle.wc_turns.specs.Served.{closed_by, NobodyLeaving, MayRun}
 use Rattle.wc_outside.specs.Happenings.{is_link, is_listener}
 use Rattle.wc_outside.specs.declared.sockets.Token.{Token}
 use Rattle.wc_outside.specs.declared.happening.Happening.TheVariants.{Woke}
 use Rattle.wc_turns.specs.declared.links.LinkState.{LinkState}
 use Rattle.wc_turns.specs.declared.headless.Headless.{Headless}
 use Rattle.wc_outside.specs.Keyed.{at_key}
-use Rattle.wc_turns.specs.Events.{clock_from, is_event, wake_events}
+use Rattle.wc_turns.specs.Events.{clock_from, wake_events}
 use Rattle.wc_turns.specs.Links.{link_number, is_undrained, new_state}
 use Rattle.wc_turns.specs.Tails.{IsTail}
 
@@ -115,13 +116,12 @@ pub record ReportsSources (x y : Headless) (tokens : List Token) : Type 0 where
       || (list_any (is_link k) tokens && is_some (at_key link_number k x.links.opened.items)))
   pub tails : SameTails x.links.opened.items y.links.opened.items
 
--- the core after the return of a wait
-abbrev pub after_wait : Option ℕ → ℕ → CoreView → CoreView
-after_wait last moment core = if is_event last moment then record core { moment = moment } else core
-
--- a turn begins: no link is closed in it yet, and the clock shows the moment
+-- A turn begins: no link is closed in it yet, the core takes the event of the wait, and the clock
+-- shows the moment. Clients may begin to leave for want of memory.
 pub record BeginsTurn (x y : Headless) (moment : ℕ) : Type 0 where
-  pub core : y.core ≡ after_wait x.clock moment x.core
+  pub takes : MayRun x.core y.core (wake_events x.clock moment)
+  pub causes : Distinct (links_of x.core) → (link : ℕ) →
+      StaysOrStarves (leaving_on link x.core.connections) (leaving_on link y.core.connections)
   pub used : y.used ≡ x.used
   pub listening : y.listening ≡ x.listening
   pub opened : y.links.opened.items ≡ x.links.opened.items

@@ -14,13 +14,15 @@ use Rattle.wc_outside.specs.declared.happening.Happening.{Happening}
 use Rattle.wc_outside.specs.declared.happening.Happening.TheVariants.{Woke, Accepted, Read, Ended}
 use Rattle.wc_outside.specs.declared.happening.Happening.TheVariants.{Failed, ListenFailed}
 use Rattle.wc_outside.specs.declared.happening.Failed.{Failed as Fault}
-use Rattle.wc_core.specs.declared.connection.Connection.{Connection}
+use Rattle.wc_board.specs.declared.connection.Connection.{Connection}
 use Rattle.wc_core.specs.Events.{Event}
 use Rattle.wc_core.specs.CoreView.{CoreView}
 use Rattle.wc_core.specs.Step.{run}
-use Rattle.wc_core.specs.Served.{connection_link, state_of, WereTold, Means, unsent_on, sent_to}
-use Rattle.wc_core.specs.Served.{has_end, Distinct}
-use Rattle.wc_core.specs.Told.{Told}
+use Rattle.wc_board.specs.Connections.{connection_link, unsent_on}
+use Rattle.wc_core.specs.Served.{state_of, WereTold, Means, sent_to}
+use Rattle.wc_core.specs.Served.{Distinct}
+use Rattle.wc_core.specs.State.{has_end}
+use Rattle.wc_board.specs.Told.{Told}
 use Rattle.wc_turns.specs.declared.links.LinkState.{LinkState}
 use Rattle.wc_turns.specs.declared.links.Closed.{Closed}
 use Rattle.wc_turns.specs.declared.headless.Headless.{Headless}

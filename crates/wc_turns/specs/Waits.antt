@@ -1,6 +1,6 @@
 -- How a turn waits, and how it ends.
 use Rattle.std.specs.Prelude.{ℕ, ◌≡◌, ◌<◌, ◌≤◌, ◌⊎◌, ◌==◌, Bool, true, false, ◌||◌}
-use Rattle.std.specs.Prelude.{if◌then◌else◌, is_some, [], Result, Ok, Err}
+use Rattle.std.specs.Prelude.{if◌then◌else◌, is_some, Result, Ok, Err}
 use Rattle.std.specs.List.{list_any}
 use Rattle.wc_outside.specs.Seen.{Seen}
 use Rattle.wc_outside.specs.declared.happening.Failed.{Failed as Fault}
@@ -29,19 +29,6 @@ then_of (Err fault) quits = ListenFault
 then_of (Ok done) true = Quit
 then_of (Ok done) false = GoOn
 
--- so many waits return, and a turn begins
-pub record WakesCore (waits : ℕ) (old new : Headless) (before after : Seen) : Type 0 where
-  pub continues : LoopStep false waits 0 old new before after
-  pub none : continues.closed ≡ []
-  pub closed : new.links.closed.items ≡ []
-  pub calm : NobodyLeaving new.core.connections
-  pub going : new.core.quits ≡ false
-  pub used : new.used ≡ old.used
-  pub starved : new.core.starved ≡ old.core.starved
-  pub links : (link : ℕ) → is_some (at_key link_number link new.links.opened.items)
-      ≡ is_some (at_key link_number link old.links.opened.items)
-  pub nothing : TakesNothing before after
-
 -- In a turn no link is lost: one that was open before is open after it or listed as closed, and so
 -- is one whose number came to be used, unless it was refused for want of memory.
 pub record LosesNone (x y : Headless) : Type 0 where
@@ -49,3 +36,12 @@ pub record LosesNone (x y : Headless) : Type 0 where
       is_known link y ≡ true
   pub came : (link : ℕ) → x.used < link → link ≤ y.used → (is_known link y ≡ true)
       ⊎ HasStarved x.core.starved y.core.starved
+
+-- so many waits return, and a turn begins, at which clients may leave for want of memory
+pub record WakesCore (waits : ℕ) (old new : Headless) (before after : Seen) : Type 0 where
+  pub continues : LoopStep false waits 0 old new before after
+  pub closed : new.links.closed.items ≡ continues.closed
+  pub calm : NobodyLeaving new.core.connections
+  pub rises : old.core.starved ≤ new.core.starved
+  pub loses : LosesNone old new
+  pub nothing : TakesNothing before after

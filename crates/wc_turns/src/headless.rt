@@ -1,12 +1,15 @@
 ghost use Rattle.std.specs.Prelude.{◌≡◌, ◌≢◌, ◌⊎◌, ◌+◌, ◌-◌, ◌^◌, ◌<◌, ◌≤◌};
-ghost use Rattle.std.specs.Prelude.{◌++◌, ◌∷◌, [], None, false, IfOk, IfSome, min, take};
+ghost use Rattle.std.specs.Prelude.{◌++◌, ◌∷◌, [], None, false, IfOk, IfSome, map, min, take};
+ghost use Rattle.std.specs.Prelude.{string_bytes};
 ghost use Rattle.std.specs.Option.{option_copied};
 ghost use Rattle.wc_outside.specs.declared.happening.Happening.TheVariants.{Read, Ended, Failed};
 ghost use Rattle.wc_outside.specs.Keyed.{at_key, IsKeyPlace};
 ghost use Rattle.wc_core.specs.Limits.{most_lines};
 ghost use Rattle.wc_core.specs.State.{first_state};
-ghost use Rattle.wc_core.specs.Served.{connection_link, Means, links_of, left_at, unsent_at};
-ghost use Rattle.wc_core.specs.Served.{is_open_at, Absent};
+ghost use Rattle.wc_board.specs.Connections.{connection_link, left_at, unsent_at};
+ghost use Rattle.wc_core.specs.Served.{Means, links_of};
+ghost use Rattle.wc_board.specs.Connections.{is_open_at};
+ghost use Rattle.wc_core.specs.Served.{Absent};
 ghost use Rattle.wc_turns.specs.Events.{is_tick};
 ghost use Rattle.wc_turns.specs.Links.{link_number};
 ghost use Rattle.wc_turns.specs.Served.{NobodyLeaving, LeavesAtLine};
@@ -49,10 +52,11 @@ impl Headless {
     ghost use Rattle.wc_turns.specs.Steps.{LinkComes, ServesArrival, MarksLink, ReportsSources};
     ghost use Rattle.wc_turns.specs.Steps.{BeginsTurn, reached_after_miss};
 
-    /// The state before the first turn, where these are the options.
-    pub fn new(alloc: Global, options: Options) -> Result<Headless, NoMemory>
-        ensures means { IfOk result (λ headless. Means headless.core
-            (first_state options (most_lines options))) }
+    /// The state before the first turn, where these are the options. The commands are run after the
+    /// first wait.
+    pub fn new(alloc: Global, options: Options, commands: Vec<String>) -> Result<Headless, NoMemory>
+        ensures means { IfOk result (λ headless. Means headless.core (first_state options
+            (most_lines options) (map string_bytes commands.items))) }
         ensures core { IfOk result (λ headless. (headless.core.connections ≡ [])
             × (headless.core.starved ≡ 0) × (headless.core.quits ≡ false)) }
         ensures links { IfOk result (λ headless. (headless.links.opened.items ≡ [])
@@ -61,7 +65,7 @@ impl Headless {
             × (headless.listening ≡ false) × (headless.turns ≡ 0) × (headless.ran ≡ 0)) }
     {
         let links = Links::new(alloc)?;
-        let core = Core::new(alloc, options)?;
+        let core = Core::new(alloc, options, commands)?;
         Ok(Headless {
             alloc,
             core,

@@ -4,7 +4,7 @@ ghost use Rattle.std.specs.List.{list_any};
 ghost use Rattle.wc_outside.specs.Faults.{Rose};
 ghost use Rattle.wc_outside.specs.Happenings.{is_link, is_listener};
 ghost use Rattle.wc_outside.specs.Keyed.{at_key};
-ghost use Rattle.wc_core.specs.Served.{connection_link};
+ghost use Rattle.wc_board.specs.Connections.{connection_link};
 ghost use Rattle.wc_turns.specs.Contained.{KeepsLinks};
 ghost use Rattle.wc_turns.specs.Links.{link_number};
 ghost use Rattle.wc_turns.specs.Served.{NobodyLeaving};
@@ -276,6 +276,32 @@ fn serve_sources<S: Sockets>(
     accept_rest(headless, sockets, tokens)
 }
 
+/// Serves the sources, unless `/quit` was run at the start.
+fn serve_unless_quit<S: Sockets>(
+    headless: &mut Headless,
+    sockets: &mut S,
+    tokens: &[Token],
+) -> Result<(), Failed>
+    requires calm { NobodyLeaving headless.old.core.connections }
+    ensures continues { LoopStep true 0 (faults_of result) headless.old headless.new
+        (S.seen sockets.old) (S.seen sockets.new) }
+    ensures calm { NobodyLeaving headless.new.core.connections }
+    ensures contained { AgreesWithSockets headless.old (S.seen sockets.old) →
+        KeepsLinks headless.old headless.new }
+    ensures served { AgreesWithSockets headless.old (S.seen sockets.old) → headless.new.core.quits
+        ≡ false → (link : ℕ) → 1 ≤ link → IsServed link (S.seen sockets.old) (S.seen sockets.new) }
+    ensures heard { OnOk result (AgreesWithSockets headless.old (S.seen sockets.old) →
+        headless.new.core.quits ≡ false → IsHeard (S.seen sockets.old) (S.seen sockets.new)) }
+    ensures failed { OnErr result (Rose (S.seen sockets.old).faults.listens
+        (S.seen sockets.new).faults.listens) }
+    ensures within { TakesWithin (S.seen sockets.old) (S.seen sockets.new) }
+{
+    if headless.core.quits() {
+        return Ok(());
+    }
+    serve_sources(headless, sockets, tokens)
+}
+
 /// Writes what is unsent, or sends it after `/quit`.
 fn write_unsent<S: Sockets>(headless: &mut Headless, sockets: &mut S)
     requires calm { NobodyLeaving headless.old.core.connections }
@@ -306,7 +332,6 @@ pub fn serve_ready<S: Sockets>(
     ready: &Ready,
 ) -> Result<(), Failed>
     requires calm { NobodyLeaving headless.old.core.connections }
-    requires going { headless.old.core.quits ≡ false }
     ensures continues { LoopStep true 0 (faults_of result) headless.old headless.new
         (S.seen sockets.old) (S.seen sockets.new) }
     ensures calm { NobodyLeaving headless.new.core.connections }
@@ -321,7 +346,7 @@ pub fn serve_ready<S: Sockets>(
         (S.seen sockets.new).faults.listens) }
     ensures within { TakesWithin (S.seen sockets.old) (S.seen sockets.new) }
 {
-    let listened = serve_sources(headless, sockets, &ready.tokens[..ready.count]);
+    let listened = serve_unless_quit(headless, sockets, &ready.tokens[..ready.count]);
     write_unsent(headless, sockets);
     listened
 }

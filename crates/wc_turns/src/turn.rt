@@ -5,6 +5,7 @@ ghost use Rattle.wc_outside.specs.Faults.{Rose};
 use crate::headless::Headless;
 use crate::links::LinkState;
 use crate::serve::serve_ready;
+use crate::turns::close_all_leaving;
 use wc_outside::{Failed, Keeper, Ready, Sockets};
 
 /// How a turn ended.
@@ -94,7 +95,8 @@ impl Headless {
         self.turn_end(listened)
     }
 
-    /// Waits, and begins a turn where the wait returns.
+    /// Waits, and begins a turn where the wait returns: the first one runs the commands of the start.
+    /// Clients that found no memory for what is told then are parted with.
     fn wake<S: Sockets>(&mut self, sockets: &mut S, ready: &mut Ready) -> Result<(), Failed>
         requires agrees { AgreesWithSockets self.old (S.seen sockets.old) }
         requires calm { NobodyLeaving self.old.core.connections }
@@ -105,12 +107,13 @@ impl Headless {
             (S.seen sockets.new)) }
         ensures fault { OnErr result
             (Rose (S.seen sockets.old).faults.waits (S.seen sockets.new).faults.waits) }
+        ensures going { OnErr result (self.new.core.quits ≡ false) }
     {
-        let _idle = self.core.world();
         match sockets.wait(self.timeout(), ready) {
             Ok(moment) => {
                 self.begin_turn(moment);
                 self.report(ready);
+                close_all_leaving(self, sockets, None);
                 Ok(())
             }
             Err(Failed) => {

@@ -1,7 +1,7 @@
 ghost use Rattle.std.specs.Prelude.{◌≡◌, ◌≢◌, ◌+◌, ◌<◌, ◌≤◌, ℕ, None, Some, Ok, IfSome};
 ghost use Rattle.std.specs.Prelude.{IsSome, OnOk, OnErr, IsTrue, true, false, length};
 ghost use Rattle.wc_outside.specs.Faults.{Rose};
-ghost use Rattle.wc_core.specs.Served.{unsent_on, departure_of};
+ghost use Rattle.wc_board.specs.Connections.{unsent_on, departure_of};
 ghost use Rattle.wc_turns.specs.Contained.{KeepsLinks};
 ghost use Rattle.wc_turns.specs.Parts.{FailureIgnored, SendsOn, ClosesLeaving, HasFailed, ReadsOn};
 ghost use Rattle.wc_turns.specs.Parts.{ReadBytes, came_of};
@@ -110,7 +110,7 @@ fn close_leaving<S: Sockets>(
 }
 
 /// Closes the links of all clients that are leaving.
-fn close_all_leaving<S: Sockets>(headless: &mut Headless, sockets: &mut S, lost: Option<LinkId>)
+pub fn close_all_leaving<S: Sockets>(headless: &mut Headless, sockets: &mut S, lost: Option<LinkId>)
     requires failed { HasFailed lost (S.seen sockets.old) }
     ensures continues { LoopStep true 0 0 headless.old headless.new (S.seen sockets.old)
         (S.seen sockets.new) }

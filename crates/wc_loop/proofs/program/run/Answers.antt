@@ -17,11 +17,11 @@ returns-clause-runs g c =
     let ran = c.take_turns-then.ensures in
     let first = c.in-Ok.ensures.first in
     let fresh = Fresh-listening (seen c.args.sockets.now) (seen c.listen.new.self) new listened.told listened.taken listened.sent listened.used listened.there listened.undrained listened.listening in
-    rw c.last_state.ensures (Runs-following c.args.turns (g.K.Keeper.contents c.args.keeper.now) (g.K.Keeper.faults c.args.keeper.now) (g.K.Keeper.faults c.take_turns-then.new.keeper)
+    rw c.last_state.ensures (Runs-following _ c.args.turns (g.K.Keeper.contents c.args.keeper.now) (g.K.Keeper.faults c.args.keeper.now) (g.K.Keeper.faults c.take_turns-then.new.keeper)
     (seen c.args.sockets.now) (seen c.take_turns-then.new.sockets) c.take_turns-then.result c.ending_of.result c.take_turns-then.new.headless
     (record {
       above = c.requires.above;
-      known = known-readable _ _ _ c.in-Ok.ensures.known;
+      known = known-readable _ _ _ _ c.in-Ok.ensures.known;
       woke = λ t. (let w = ran.continues.wakes t in let z : wake_count (seen c.listen.new.self).taken ≡ 0 = ap wake_count (fresh.taken (ran.continues.told t)) in omega arith);
       listens = λ t. (let w = ran.continues.listens t in let z : listen_faults (seen c.listen.new.self).taken ≡ 0 = ap listen_faults (fresh.taken (ran.continues.told t)) in omega arith);
       quit = ran.quit;
@@ -34,13 +34,13 @@ returns-clause-runs g c =
       listen_fault = λ q. Rose-before _ _ _ listened.counts.listens (ran.listen_fault q);
       asked = λ t. record {
         port = c.in-Ok.made.port;
-        set = known-port _ _ _ c.in-Ok.ensures.known;
+        set = known-port _ _ _ _ c.in-Ok.ensures.known;
         is = ran.continues.asked t ∙ listened.asked (ran.continues.told t) ∙ ap (λ xs. xs ++ Listen c.in-Ok.made.port ∷ []) (new.asked (listened.told (ran.continues.told t)));
       };
       served = λ q. AllServed-following c.take_turns-then.new.headless.core.connections (seen c.args.sockets.now) (seen c.listen.new.self) (seen c.take_turns-then.new.sockets) (record { told = listened.told; more = []; taken = listened.taken }) (later-of _ _ ran.continues) (ran.served q c.requires.above);
       sent = λ q. AllSent-following c.take_turns-then.new.headless.core.connections (seen c.args.sockets.now) (seen c.listen.new.self) (seen c.take_turns-then.new.sockets) (record { told = listened.told; more = []; taken = listened.taken }) (later-of _ _ ran.continues) listened.counts (ran.sent q);
       left = λ above. record {
-        headline = Headline-known _ c.in-Ok.made.headless _ _ _ c.in-Ok.ensures.known (λ t fed rows were. HandsOut-run c.in-Ok.made.headless c.take_turns-then.new.headless (seen c.listen.new.self) (seen c.take_turns-then.new.sockets) ran.continues first fresh ran.calm t fed rows were);
+        headline = Headline-known _ _ c.in-Ok.made.headless _ _ _ c.in-Ok.ensures.known (λ t fed rows were. HandsOut-run c.in-Ok.made.headless c.take_turns-then.new.headless (seen c.listen.new.self) (seen c.take_turns-then.new.sockets) ran.continues first fresh ran.calm t fed rows were);
         agrees = ran.agrees;
         calm = ran.calm;
         causes = caused-following (seen c.args.sockets.now) (seen c.listen.new.self) (seen c.take_turns-then.new.sockets) _ [] ran.continues.told listened.taken listened.counts ran.causes;
@@ -52,7 +52,7 @@ pub returns-in-Err-clause-runs : goal.returns-in-Err-clause-runs
 returns-in-Err-clause-runs g c =
     let seen = g.S.Sockets.seen in
     let new = c.requires.new in
-    Runs-early c.args.turns (g.K.Keeper.contents c.args.keeper.now) (g.K.Keeper.faults c.args.keeper.now) (g.K.Keeper.faults c.configure.new.keeper) (seen c.args.sockets.now) c.in-Err.ending
+    Runs-early _ c.args.turns (g.K.Keeper.contents c.args.keeper.now) (g.K.Keeper.faults c.args.keeper.now) (g.K.Keeper.faults c.configure.new.keeper) (seen c.args.sockets.now) c.in-Err.ending
     (record { above = c.requires.above; woke = λ t. ap wake_count (new.taken t) })
     new.asked
     c.in-Err.ensures.early

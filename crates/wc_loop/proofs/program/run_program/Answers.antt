@@ -2,72 +2,74 @@ use Rattle.std.proofs.Common.{sym, ◌∙◌, arith}
 use Rattle.wc_loop.specs.Endings.{number_of, status_of}
 use Rattle.wc_loop.proofs.OutcomeLemmas.{IsNumber-runs, Common-runs, Waits-runs, IfSome-headline, IfSome-agrees, IfSome-calm, IfSome-causes, printed-by}
 use Rattle.wc_loop.proofs.MirrorLemmas.{ClientsHoldDumps-last}
+use Rattle.wc_loop.proofs.WordsLemmas.{commands_texts}
 use Rattle.wc_loop.proofs.program.run_program.Goals as goal
 
 pub returns-clause-headline : goal.returns-clause-headline
 returns-clause-headline g c =
     let seen = g.S.Sockets.seen in
-    let common = Common-runs _ _ _ _ (seen c.args.sockets.now) (seen c.run_words-outcome.new.sockets) _ _ c.requires c.run_words-outcome.ensures.runs in
-    rw c.end.ensures.last (IfSome-headline _ _ _ _ common.left)
+    let runs = rw c.as_slice.ensures.value at c.run_words-outcome.ensures.runs in
+    let common = Common-runs _ _ _ _ _ (seen c.args.sockets.now) (seen c.run_words-outcome.new.sockets) _ _ c.requires runs in
+    rw c.end.ensures.last (IfSome-headline _ _ _ _ _ common.left)
 
 pub returns-clause-mirrored : goal.returns-clause-mirrored
-returns-clause-mirrored g c = ClientsHoldDumps-last _ _ _
+returns-clause-mirrored g c = ClientsHoldDumps-last _ (commands_texts c.args.words.now.items) _ _ _
 
 pub returns-clause-waits : goal.returns-clause-waits
 returns-clause-waits g c =
     let seen = g.S.Sockets.seen in
     let runs = rw c.as_slice.ensures.value at c.run_words-outcome.ensures.runs in
-    rw c.end.ensures.last (Waits-runs _ _ _ _ (seen c.args.sockets.now) (seen c.run_words-outcome.new.sockets) _ _ c.requires runs)
+    rw c.end.ensures.last (Waits-runs _ _ _ _ _ (seen c.args.sockets.now) (seen c.run_words-outcome.new.sockets) _ _ c.requires runs)
 
 pub returns-clause-causes : goal.returns-clause-causes
 returns-clause-causes g c =
     let seen = g.S.Sockets.seen in
-    let common = Common-runs _ _ _ _ (seen c.args.sockets.now) (seen c.run_words-outcome.new.sockets) _ _ c.requires c.run_words-outcome.ensures.runs in
-    rw c.end.ensures.last (IfSome-causes _ _ _ _ common.left)
+    let common = Common-runs _ _ _ _ _ (seen c.args.sockets.now) (seen c.run_words-outcome.new.sockets) _ _ c.requires c.run_words-outcome.ensures.runs in
+    rw c.end.ensures.last (IfSome-causes _ _ _ _ _ common.left)
 
 pub returns-clause-printed : goal.returns-clause-printed
 returns-clause-printed g c = λ seven.
     let seen = g.S.Sockets.seen in
     let runs = rw c.as_slice.ensures.value at c.run_words-outcome.ensures.runs in
-    let common = Common-runs _ _ _ _ (seen c.args.sockets.now) (seen c.run_words-outcome.new.sockets) _ _ c.requires runs in
-    let is = IsNumber-runs _ _ _ _ _ _ _ _ runs in
+    let common = Common-runs _ _ _ _ _ (seen c.args.sockets.now) (seen c.run_words-outcome.new.sockets) _ _ c.requires runs in
+    let is = IsNumber-runs _ _ _ _ _ _ _ _ _ runs in
     rw (c.end.ensures.status seven) (record { number = number_of c.run_words-outcome.result.ending; is = is; holds = printed-by _ _ (status_of c.run_words-outcome.result.ending) (number_of c.run_words-outcome.result.ending) (g.O.Sink.contents c.args.out.now) (g.O.Sink.contents c.end.new.out) common.version (c.end.ensures.printed seven) })
 
 pub returns-clause-served : goal.returns-clause-served
 returns-clause-served g c = λ eight.
     let seen = g.S.Sockets.seen in
-    let common = Common-runs _ _ _ _ (seen c.args.sockets.now) (seen c.run_words-outcome.new.sockets) _ _ c.requires c.run_words-outcome.ensures.runs in
+    let common = Common-runs _ _ _ _ _ (seen c.args.sockets.now) (seen c.run_words-outcome.new.sockets) _ _ c.requires c.run_words-outcome.ensures.runs in
     let status = c.end.ensures.status (λ seven. omega arith) in
     rw c.end.ensures.last (common.served (sym status ∙ eight))
 
 pub returns-clause-sent : goal.returns-clause-sent
 returns-clause-sent g c = λ none.
     let seen = g.S.Sockets.seen in
-    let common = Common-runs _ _ _ _ (seen c.args.sockets.now) (seen c.run_words-outcome.new.sockets) _ _ c.requires c.run_words-outcome.ensures.runs in
+    let common = Common-runs _ _ _ _ _ (seen c.args.sockets.now) (seen c.run_words-outcome.new.sockets) _ _ c.requires c.run_words-outcome.ensures.runs in
     let status = c.end.ensures.status (λ seven. omega arith) in
     rw c.end.ensures.last (common.sent (sym status ∙ none))
 
 pub returns-clause-last : goal.returns-clause-last
 returns-clause-last g c =
     let seen = g.S.Sockets.seen in
-    let common = Common-runs _ _ _ _ (seen c.args.sockets.now) (seen c.run_words-outcome.new.sockets) _ _ c.requires c.run_words-outcome.ensures.runs in
+    let common = Common-runs _ _ _ _ _ (seen c.args.sockets.now) (seen c.run_words-outcome.new.sockets) _ _ c.requires c.run_words-outcome.ensures.runs in
     rw c.end.ensures.last common.counted
 
 pub returns-clause-agrees : goal.returns-clause-agrees
 returns-clause-agrees g c =
     let seen = g.S.Sockets.seen in
-    let common = Common-runs _ _ _ _ (seen c.args.sockets.now) (seen c.run_words-outcome.new.sockets) _ _ c.requires c.run_words-outcome.ensures.runs in
-    rw c.end.ensures.last (IfSome-agrees _ _ _ _ common.left)
+    let common = Common-runs _ _ _ _ _ (seen c.args.sockets.now) (seen c.run_words-outcome.new.sockets) _ _ c.requires c.run_words-outcome.ensures.runs in
+    rw c.end.ensures.last (IfSome-agrees _ _ _ _ _ common.left)
 
 pub returns-clause-calm : goal.returns-clause-calm
 returns-clause-calm g c =
     let seen = g.S.Sockets.seen in
-    let common = Common-runs _ _ _ _ (seen c.args.sockets.now) (seen c.run_words-outcome.new.sockets) _ _ c.requires c.run_words-outcome.ensures.runs in
-    rw c.end.ensures.last (IfSome-calm _ _ _ _ common.left)
+    let common = Common-runs _ _ _ _ _ (seen c.args.sockets.now) (seen c.run_words-outcome.new.sockets) _ _ c.requires c.run_words-outcome.ensures.runs in
+    rw c.end.ensures.last (IfSome-calm _ _ _ _ _ common.left)
 
 pub returns-clause-asked : goal.returns-clause-asked
 returns-clause-asked g c = λ seven.
     let seen = g.S.Sockets.seen in
     let runs = rw c.as_slice.ensures.value at c.run_words-outcome.ensures.runs in
-    let common = Common-runs _ _ _ _ (seen c.args.sockets.now) (seen c.run_words-outcome.new.sockets) _ _ c.requires runs in
+    let common = Common-runs _ _ _ _ _ (seen c.args.sockets.now) (seen c.run_words-outcome.new.sockets) _ _ c.requires runs in
     rw (c.end.ensures.status seven) common.asked

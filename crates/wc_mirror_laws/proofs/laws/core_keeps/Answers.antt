@@ -6,4 +6,4 @@ pub returns-clause-event : goal.returns-clause-event
 returns-clause-event c = λ limit link state event kept. step_keeps limit link state event kept
 
 pub returns-clause-run : goal.returns-clause-run
-returns-clause-run c = λ options limit events link most. run_keeps options limit events link most
+returns-clause-run c = λ options limit commands events link most texts. run_keeps options limit commands events link most texts

@@ -1,5 +1,5 @@
 use Rattle.std.proofs.Common.{sym, ◌∙◌, arith}
-use Rattle.wc_core.specs.Served.{connection_link}
+use Rattle.wc_board.specs.Connections.{connection_link}
 use Rattle.wc_turns.specs.Sources.{has_unsent}
 use Rattle.wc_turns.proofs.LeastLemmas.{least_between, passed_between, other_between, none_more}
 use Rattle.wc_turns.proofs.serve.next_unsent.Goals as goal

@@ -1,6 +1,6 @@
 use Rattle.std.proofs.Common.{◌≡◌, ℕ, ◌<◌, false, None, IfSome, take}
 use Rattle.wc_outside.specs.Keyed.{at_key}
-use Rattle.wc_core.specs.Served.{connection_link}
+use Rattle.wc_board.specs.Connections.{connection_link}
 use Rattle.wc_turns.specs.Sources.{has_flag, has_unsent}
 use Rattle.wc_turns.proofs.serve.next_unsent.Given as goal
 

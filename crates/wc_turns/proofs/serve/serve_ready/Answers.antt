@@ -8,16 +8,16 @@ use Rattle.wc_turns.proofs.serve.serve_ready.Goals as goal
 pub returns-clause-continues : goal.returns-clause-continues
 returns-clause-continues g c =
     let seen = g.S.Sockets.seen in
-    LoopStep-trans c.args.headless.now c.serve_sources-listened.new.headless c.write_unsent.new.headless (seen c.args.sockets.now) (seen c.serve_sources-listened.new.sockets) (seen c.write_unsent.new.sockets) c.serve_sources-listened.ensures.continues c.write_unsent.ensures.continues
+    LoopStep-trans c.args.headless.now c.serve_unless_quit-listened.new.headless c.write_unsent.new.headless (seen c.args.sockets.now) (seen c.serve_unless_quit-listened.new.sockets) (seen c.write_unsent.new.sockets) c.serve_unless_quit-listened.ensures.continues c.write_unsent.ensures.continues
 
 pub returns-clause-served : goal.returns-clause-served
 returns-clause-served g c =
-    let s = c.serve_sources-listened.ensures in
+    let s = c.serve_unless_quit-listened.ensures in
     let e = c.write_unsent.ensures in
     let before = g.S.Sockets.seen c.args.sockets.now in
-    let between = g.S.Sockets.seen c.serve_sources-listened.new.sockets in
+    let between = g.S.Sockets.seen c.serve_unless_quit-listened.new.sockets in
     let after = g.S.Sockets.seen c.write_unsent.new.sockets in
-    OnOk-map c.serve_sources-listened.result _ _ s.heard (λ heard agrees on. record {
+    OnOk-map c.serve_unless_quit-listened.result _ _ s.heard (λ heard agrees on. record {
       links = λ k one. IsServed-later k before between after (s.served agrees (sym e.quits ∙ on) k one) (e.falls on) (later-of _ _ e.continues);
       listener = IsHeard-later before between after (heard agrees (sym e.quits ∙ on)) (e.falls on) (later-of _ _ e.continues);
       written = e.written on;
@@ -26,12 +26,12 @@ returns-clause-served g c =
 pub returns-clause-sent : goal.returns-clause-sent
 returns-clause-sent g c = λ over.
     let seen = g.S.Sockets.seen in
-    AllSent-following c.write_unsent.new.headless.core.connections (seen c.args.sockets.now) (seen c.serve_sources-listened.new.sockets) (seen c.write_unsent.new.sockets) (later-of _ _ c.serve_sources-listened.ensures.continues) (later-of _ _ c.write_unsent.ensures.continues) c.serve_sources-listened.ensures.continues.counts (c.write_unsent.ensures.sent over)
+    AllSent-following c.write_unsent.new.headless.core.connections (seen c.args.sockets.now) (seen c.serve_unless_quit-listened.new.sockets) (seen c.write_unsent.new.sockets) (later-of _ _ c.serve_unless_quit-listened.ensures.continues) (later-of _ _ c.write_unsent.ensures.continues) c.serve_unless_quit-listened.ensures.continues.counts (c.write_unsent.ensures.sent over)
 
 pub returns-clause-contained : goal.returns-clause-contained
-returns-clause-contained g c = λ agrees. KeepsLinks-trans c.args.headless.now c.serve_sources-listened.new.headless c.write_unsent.new.headless (c.serve_sources-listened.ensures.contained agrees) c.write_unsent.ensures.contained
+returns-clause-contained g c = λ agrees. KeepsLinks-trans c.args.headless.now c.serve_unless_quit-listened.new.headless c.write_unsent.new.headless (c.serve_unless_quit-listened.ensures.contained agrees) c.write_unsent.ensures.contained
 
 pub returns-clause-within : goal.returns-clause-within
 returns-clause-within g c =
     let seen = g.S.Sockets.seen in
-    Within-nothing (seen c.args.sockets.now) (seen c.serve_sources-listened.new.sockets) (seen c.write_unsent.new.sockets) (later-of _ _ c.write_unsent.ensures.continues) c.serve_sources-listened.ensures.within c.write_unsent.ensures.nothing
+    Within-nothing (seen c.args.sockets.now) (seen c.serve_unless_quit-listened.new.sockets) (seen c.write_unsent.new.sockets) (later-of _ _ c.write_unsent.ensures.continues) c.serve_unless_quit-listened.ensures.within c.write_unsent.ensures.nothing

@@ -1,5 +1,5 @@
 use Rattle.std.proofs.Common.{true, length}
-use Rattle.wc_core.specs.Served.{unsent_on}
+use Rattle.wc_board.specs.Connections.{unsent_on}
 use Rattle.wc_turns.specs.Parts.{FailureIgnored, SendsOn}
 use Rattle.wc_turns.specs.Turns.{LoopStep}
 use Rattle.wc_turns.proofs.turns.send_link.Given as goal

@@ -1,7 +1,7 @@
 use Rattle.std.proofs.Common.{◌≤◌, refl, ◌∙◌, inr, [], ◌∷◌, length, rules}
 use Rattle.wc_outside.specs.declared.happening.Happening.TheVariants.{Failed}
 use Rattle.wc_outside.specs.Keyed.{at_key}
-use Rattle.wc_core.specs.Served.{connection_link}
+use Rattle.wc_board.specs.Connections.{connection_link}
 use Rattle.wc_turns.proofs.AgreesLemmas.{timeless-failed}
 use Rattle.wc_turns.proofs.StepLemmas.{LoopStep-missed, failed-left}
 use Rattle.wc_turns.proofs.CloseLemmas.{LoopStep-refl, LoopStep-quiet, LoopStep-sent, fewer-sent, nothing_sent}

@@ -1,5 +1,5 @@
 use Rattle.std.proofs.Common.{◌≡◌, ◌≢◌, ℕ, true, false, length}
-use Rattle.wc_core.specs.Served.{unsent_on}
+use Rattle.wc_board.specs.Connections.{unsent_on}
 use Rattle.wc_turns.specs.Contained.{KeepsLinks}
 use Rattle.wc_turns.specs.Served.{NobodyLeaving}
 use Rattle.wc_turns.specs.Sources.{NothingBecameReady, IsWritten, TakesNothing}

@@ -1,7 +1,7 @@
 use Rattle.std.proofs.Common.{◌≤◌, refl, ap, ◌∙◌, inl, [], ◌∷◌, length, rules, arith}
 use Rattle.wc_outside.specs.declared.happening.Happening.TheVariants.{Failed}
 use Rattle.wc_outside.specs.Keyed.{at_key}
-use Rattle.wc_core.specs.Served.{connection_link, unsent_in}
+use Rattle.wc_board.specs.Connections.{connection_link, unsent_in}
 use Rattle.wc_turns.specs.Parts.{SparesOthers}
 use Rattle.wc_turns.specs.Served.{leaving_closes}
 use Rattle.wc_turns.proofs.TurnLemmas.{LoopStep-trans}

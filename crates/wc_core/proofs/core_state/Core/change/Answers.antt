@@ -1,14 +1,20 @@
-use Rattle.std.proofs.Common.{refl}
-use Rattle.wc_core.proofs.CoreLemmas.{changes-told}
-use Rattle.wc_core.proofs.ResolvedTexts.{notice-utf8}
+use Rattle.std.proofs.Common.{sym, subst, ap, ◌∙◌}
+use Rattle.wc_buffers.specs.Kept.{AreBuffers}
+use Rattle.wc_model.specs.World.{World}
+use Rattle.wc_core.specs.CoreView.{CoreView}
+use Rattle.wc_core.specs.Inputs.{MakesChange}
+use Rattle.wc_core.proofs.AnswerLemmas.{changed-all, changed-some, not_not}
+use Rattle.wc_core.proofs.core_state.Core.change.Goals.{then-not-told, else-not-told}
 use Rattle.wc_core.proofs.core_state.Core.change.Goals as goal
 
-pub tell-requires : goal.tell-requires
-tell-requires c =
-    notice-utf8 c.self.inside.world c.args.change c.change_world.new.world c.in-Ok.notice c.buffers.result.now c.buffers-in-Ok.result.now c.in-Ok.ensures.outcome c.buffers.ensures c.buffers-in-Ok.ensures
-    c.groups-texts.ensures.held c.groups-texts_after.ensures.held
-
-pub returns-in-Ok-clause-made : goal.returns-in-Ok-clause-made
-returns-in-Ok-clause-made c = λ none. rw (← c.self.view_is)
-    (changes-told _ _ c.tell.new.self c.args.change c.in-Ok.notice c.requires.plain c.self.invariant.0 (c.change_world.ensures.none c.self.invariant.0) c.self.invariant.1 refl (c.change_world.ensures.still c.self.invariant.1)
-    c.in-Ok.ensures.outcome c.tell.ensures)
+pub returns-after-not-told-clause-made : goal.returns-after-not-told-clause-made
+returns-after-not-told-clause-made c = λ none.
+    let told = c.in-Ok.told in
+    let e = c.in-Ok.ensures in
+    let P : CoreView → Type 0 = λ core. MakesChange c.args.self.now c.args.change core in
+    elim c.if-not-told.branch [
+      | then-not-told w ↦ subst P (sym w.self-is) (rw (← c.self.view_is) (changed-some _ c.tell.new.self w.starve.new.self c.args.change told.notice e.each w.starve.ensures.counts w.starve.ensures.rises))
+      | else-not-told w ↦
+          let are = subst AreBuffers (c.buffers.ensures ∙ ap (λ (w : World). w.groups) c.world.ensures.world) c.groups-after.ensures.held in
+          subst P (sym w.self-is) (rw (← c.self.view_is) (changed-all _ c.tell.new.self c.args.change told.notice e.outcome e.touched are c.world-before.ensures.stray (e.told (not_not told.to_all w.if-not-told.false))))
+    ]

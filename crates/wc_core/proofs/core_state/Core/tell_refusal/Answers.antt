@@ -1,6 +1,5 @@
-use Rattle.std.proofs.Common.{◌≡◌, None, refl, sym, subst}
+use Rattle.std.proofs.Common.{◌≡◌, sym, subst}
 use Rattle.wc_model.specs.declared.change.Change.{Change}
-use Rattle.wc_model.specs.Touches.{touched_key}
 use Rattle.wc_world.specs.Texts.{IsChangeText}
 use Rattle.wc_core.specs.CoreView.{CoreView}
 use Rattle.wc_core.specs.Resolved.{told_refusal}
@@ -8,15 +7,10 @@ use Rattle.wc_core.proofs.CoreLemmas.{tells-changed}
 use Rattle.wc_core.proofs.ResolvedTexts.{told_text}
 use Rattle.wc_core.proofs.core_state.Core.tell_refusal.Goals as goal
 
-pub change-skipped-requires-clause-text : goal.change-skipped-requires-clause-text
-change-skipped-requires-clause-text c =
+pub change-skipped-requires : goal.change-skipped-requires
+change-skipped-requires c =
     let P : Change → Type 0 = λ line. IsChangeText line.what in
     subst P (sym c.in-Ok.ensures) (told_text _ c.args.text c.requires)
-
-pub change-skipped-requires-clause-plain : goal.change-skipped-requires-clause-plain
-change-skipped-requires-clause-plain c =
-    let P : Change → Type 0 = λ line. touched_key line.what ≡ None in
-    subst P (sym c.in-Ok.ensures) refl
 
 pub returns-in-Ok : goal.returns-in-Ok
 returns-in-Ok c =

@@ -10,8 +10,8 @@ use Rattle.wc_events.proofs.PushTexts.{push_text}
 use Rattle.wc_session.specs.Event.{IsPushOf}
 use Rattle.wc_session.proofs.buffer_event.BufferEvent.of_nicks.Goals as goal
 
-pub returns : goal.returns
-returns c = λ (told : List Row) is.
+pub returns-clause-told : goal.returns-clause-told
+returns-clause-told c = λ (told : List Row) is.
     let buffer = c.args.buffer in
     let list = c.in-Some.list.now in
     let among : List Row → Type 0 = λ rows. IsTold (λ k. before_at k (touches_of buffer c.args.pending.now)) rows told in
@@ -20,4 +20,4 @@ returns c = λ (told : List Row) is.
     let P : Push → Type 0 = λ push. IsPushOf c.in_ok-push_event.field-0 buffer push in
     let now : nick_push list.root told list.rows ≡ nick_push (root_at buffer.0) told (rows_at c.args.world.now buffer.0) =
     λ i. nick_push (c.in-Some.ensures.root i) told (c.in-Some.ensures.rows i) in
-    subst P (pushed ∙ now) (c.in_ok-push_event.ensures (subst IsPushText (sym pushed) text))
+    subst P (pushed ∙ now) (c.in_ok-push_event.ensures.event (subst IsPushText (sym pushed) text))

@@ -1,7 +1,7 @@
 use Rattle.std.proofs.Common.{refl, ap, ◌∙◌, arith}
 use Rattle.wc_text.specs.declared.names.Cause.TheVariants.{NoMemory}
 use Rattle.wc_outside.specs.Keyed.{without}
-use Rattle.wc_core.specs.Served.{connection_link}
+use Rattle.wc_board.specs.Connections.{connection_link}
 use Rattle.wc_turns.proofs.ArriveLemmas.{starved-more, starve-connections, starve-same, starve-calm}
 use Rattle.wc_turns.proofs.headless.Headless.starve.Goals as goal
 

@@ -14,7 +14,7 @@ returns-then-is_err-clause-within g c =
 pub returns-then-is_err-clause-contained : goal.returns-then-is_err-clause-contained
 returns-then-is_err-clause-contained g c =
     let woken = OnErr-get c.wake.result _ (sym c.is_err.ensures.value ∙ c.if-is_err.true) c.wake.ensures.failed in
-    loses-none _ _ _ _ _ woken (KeepsLinks-refl _)
+    loses-none _ _ _ woken.loses woken.rises (KeepsLinks-refl _)
 
 pub returns-then-is_err-clause-closes : goal.returns-then-is_err-clause-closes
 returns-then-is_err-clause-closes g c =
@@ -32,7 +32,7 @@ pub returns-clause-causes : goal.returns-clause-causes
 returns-clause-causes g c =
     let woken = OnOk-get c.wake.result _ (sym c.is_err.ensures.value ∙ c.if-is_err.false) c.wake.ensures.woken in
     let seen = g.S.Sockets.seen in
-    turn-causes c.args.self.now c.wake.new.self c.serve_ready-listened.new.headless (seen c.args.sockets.now) (seen c.wake.new.sockets) (seen c.serve_ready-listened.new.sockets) c.requires.agrees woken.closed woken.calm c.serve_ready-listened.ensures.calm woken.continues c.serve_ready-listened.ensures.continues
+    turn-causes c.args.self.now c.wake.new.self c.serve_ready-listened.new.headless (seen c.args.sockets.now) (seen c.wake.new.sockets) (seen c.serve_ready-listened.new.sockets) c.requires.agrees woken.calm c.serve_ready-listened.ensures.calm woken.continues woken.closed c.serve_ready-listened.ensures.continues
 
 pub returns-clause-served : goal.returns-clause-served
 returns-clause-served g c = λ on.
@@ -61,10 +61,10 @@ returns-clause-within g c =
 pub returns-clause-contained : goal.returns-clause-contained
 returns-clause-contained g c =
     let woken = OnOk-get c.wake.result _ (sym c.is_err.ensures.value ∙ c.if-is_err.false) c.wake.ensures.woken in
-    loses-none _ _ _ _ _ woken (c.serve_ready-listened.ensures.contained (woken.continues.agrees c.requires.agrees))
+    loses-none _ _ _ woken.loses woken.rises (c.serve_ready-listened.ensures.contained (woken.continues.agrees c.requires.agrees))
 
 pub returns-clause-closes : goal.returns-clause-closes
 returns-clause-closes g c =
     let woken = OnOk-get c.wake.result _ (sym c.is_err.ensures.value ∙ c.if-is_err.false) c.wake.ensures.woken in
     let seen = g.S.Sockets.seen in
-    turn-closes-exactly c.args.self.now c.wake.new.self c.serve_ready-listened.new.headless (seen c.args.sockets.now) (seen c.wake.new.sockets) (seen c.serve_ready-listened.new.sockets) c.requires.agrees woken.closed woken.calm c.serve_ready-listened.ensures.calm woken.continues woken.none c.serve_ready-listened.ensures.continues
+    turn-closes-exactly c.args.self.now c.wake.new.self c.serve_ready-listened.new.headless (seen c.args.sockets.now) (seen c.wake.new.sockets) (seen c.serve_ready-listened.new.sockets) c.requires.agrees woken.calm c.serve_ready-listened.ensures.calm woken.continues woken.closed c.serve_ready-listened.ensures.continues

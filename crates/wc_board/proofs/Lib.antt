@@ -1,0 +1,10 @@
+pub mod ConnectionLemmas
+pub mod EventLemmas
+pub mod NickPushes
+pub mod NoticeText
+pub mod PushConnections
+pub mod PushEach
+pub mod PushedBytes
+pub mod RequestLemmas
+pub mod StrayTouches
+pub mod TellLaw

@@ -1,0 +1,57 @@
+use Rattle.std.proofs.Common.{◌≡◌, ◌+◌, arith, refl, sym, ap, subst, ◌∙◌, ◌∷◌, [], List, map, drop, get_or}
+use Rattle.std.proofs.lemmas.List.{drop_more}
+use Rattle.wc_text.specs.declared.names.Handle.{Handle}
+use Rattle.wc_world.specs.Near.{numbers}
+use Rattle.wc_board.specs.declared.connection.Connection.{Connection}
+use Rattle.wc_board.specs.Pushes.{AreThere, push_of, push_connection, pushed_connection, EachPushed}
+use Rattle.wc_board.proofs.ConnectionLemmas.{and_left, and_right}
+use Rattle.wc_board.proofs.PushConnections.{pushed_first, pushed_none, map_more, map_none, drop_end, ConnectionsKept-refl, ConnectionsKept-trans}
+use Rattle.wc_board.proofs.PushEach.{each_first, each_map}
+use Rattle.wc_board.proofs.pushes.push_group.Goals as goal
+
+pub loop-buffer-init : goal.loop-buffer-init
+loop-buffer-init c = record { told = λ t there told are. refl; each = λ there told are final pushed. pushed; there = λ there. there; kept = ConnectionsKept-refl c.args.connections.now; clients = refl }
+
+pub loop-buffer-preserved : goal.loop-buffer-preserved
+loop-buffer-preserved c =
+    let w = c.args.world.now in
+    let group = c.args.group.now in
+    let i = c.loop-buffer.buffer-index in
+    let connections = c.loop-buffer.connections in
+    let holds = c.loop-buffer.invariant in
+    let pushed = c.push_buffer-pushed.ensures in
+    let h : Handle = get_or group i (record { 0 = 0 }) in
+    let rest = numbers (drop (i + 1) group) in
+    let next : drop i group ≡ h ∷ drop (i + 1) group = drop_more group i (record { 0 = 0 }) c.loop-buffer-test.true in
+    record {
+      told = λ both there told are.
+          ap (map (pushed_connection w told rest)) (pushed.told (and_right c.loop-buffer.told c.push_buffer-pushed.result both) (subst (AreThere w) next (holds.there there)).0 (told h.0) (are h))
+          ∙ sym (map_more (pushed_connection w told (h.0 ∷ rest)) (pushed_connection w told rest) (push_connection h (push_of w h.0 (told h.0))) (pushed_first w told h rest) connections)
+          ∙ ap (λ hs. map (pushed_connection w told (numbers hs)) connections) (sym next)
+          ∙ holds.told (and_left c.loop-buffer.told c.push_buffer-pushed.result both) there told are;
+      each = λ there told are final others.
+          let P : List Handle → Type 0 = λ hs. EachPushed (numbers hs) (pushed_connection w told (numbers hs)) connections final in
+          holds.each there told are final
+          (subst P (sym next) (each_first w told h rest connections c.push_buffer-pushed.new.connections final (pushed.each (subst (AreThere w) next (holds.there there)).0 (told h.0) (are h)) others));
+      there = λ there. (subst (AreThere w) next (holds.there there)).1;
+      kept = ConnectionsKept-trans c.args.connections.now connections c.push_buffer-pushed.new.connections holds.kept pushed.kept;
+      clients = pushed.clients ∙ holds.clients;
+    }
+
+pub returns-clause-told : goal.returns-clause-told
+returns-clause-told c = λ t there told are.
+    let w = c.args.world.now in
+    let connections = c.loop-buffer.connections in
+    let end : drop c.loop-buffer.buffer-index c.args.group.now ≡ [] = drop_end c.loop-buffer.buffer-index c.args.group.now (omega arith) in
+    sym (map_none (pushed_connection w told []) (pushed_none w told) connections)
+    ∙ ap (λ hs. map (pushed_connection w told (numbers hs)) connections) (sym end)
+    ∙ c.loop-buffer.invariant.told t there told are
+
+pub returns-clause-each : goal.returns-clause-each
+returns-clause-each c = λ there told are.
+    let w = c.args.world.now in
+    let connections = c.loop-buffer.connections in
+    let end : drop c.loop-buffer.buffer-index c.args.group.now ≡ [] = drop_end c.loop-buffer.buffer-index c.args.group.now (omega arith) in
+    let P : List Handle → Type 0 = λ hs. EachPushed (numbers hs) (pushed_connection w told (numbers hs)) connections connections in
+    let Q : List Connection → Type 0 = λ final. EachPushed [] (pushed_connection w told []) connections final in
+    c.loop-buffer.invariant.each there told are connections (subst P (sym end) (subst Q (map_none (pushed_connection w told []) (pushed_none w told) connections) (each_map [] (pushed_connection w told []) connections)))

@@ -1,0 +1,18 @@
+use Rattle.std.proofs.Common.{◌≡◌, ℕ, true, List, map, drop}
+use Rattle.wc_nicklist.specs.declared.item.Row.{Row}
+use Rattle.wc_world.specs.Near.{numbers}
+use Rattle.wc_board.specs.declared.connection.Connection.{Connection}
+use Rattle.wc_board.specs.Connections.{client_of}
+use Rattle.wc_board.specs.Pushes.{AreThere, pushed_connection, EachPushed}
+use Rattle.wc_board.specs.Told.{AreTold}
+use Rattle.wc_board.specs.Served.{ConnectionsKept}
+use Rattle.wc_board.proofs.pushes.push_group.Given as goal
+
+abbrev pub invariant-loop-buffer : goal.invariant-loop-buffer
+invariant-loop-buffer l = record {
+  told : l.told ≡ true → AreThere l.world l.group → (told : ℕ → List Row) → AreTold l.world l.pending told → map (pushed_connection l.world told (numbers (drop l.buffer-index l.group))) l.connections ≡ map (pushed_connection l.world told (numbers l.group)) l.initial.connections;
+  each : AreThere l.world l.group → (told : ℕ → List Row) → AreTold l.world l.pending told → (final : List Connection) → EachPushed (numbers (drop l.buffer-index l.group)) (pushed_connection l.world told (numbers (drop l.buffer-index l.group))) l.connections final → EachPushed (numbers l.group) (pushed_connection l.world told (numbers l.group)) l.initial.connections final;
+  there : AreThere l.world l.group → AreThere l.world (drop l.buffer-index l.group);
+  kept : ConnectionsKept l.initial.connections l.connections;
+  clients : map client_of l.connections ≡ map client_of l.initial.connections;
+}

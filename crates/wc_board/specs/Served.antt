@@ -1,0 +1,80 @@
+-- What becomes of the clients at an event, also where memory is refused.
+use Rattle.std.specs.Prelude.{◌≡◌, ℕ, Bool, false, ◌&&◌, ◌⊎◌, if◌then◌else◌, List, [], ◌∷◌, ◌++◌}
+use Rattle.std.specs.Prelude.{Option, Some}
+use Rattle.std.specs.List.{flat_map}
+use Rattle.wc_text.specs.declared.names.Cause.{Cause}
+use Rattle.wc_text.specs.declared.names.Cause.TheVariants.{NoMemory}
+use Rattle.wc_model.specs.declared.notice.EventKind.{EventKind}
+use Rattle.wc_model.specs.declared.notice.Notice.{Notice}
+use Rattle.wc_model.specs.World.{World}
+use Rattle.wc_session.specs.Event.{Spelled, with_event, notice_told}
+use Rattle.wc_session.specs.Sending.{spelling}
+use Rattle.wc_session.specs.Sync.{follows, after_event}
+use Rattle.wc_board.specs.declared.connection.Connection.{Connection}
+use Rattle.wc_board.specs.Connections.{connection_link, is_open}
+
+-- why a client is leaving: as before, or for want of memory
+abbrev pub StaysOrStarves : Option Cause → Option Cause → Type 0
+StaysOrStarves before after = (after ≡ before) ⊎ (after ≡ Some NoMemory)
+
+-- an event is for an open client that asked for it
+abbrev pub listens : EventKind → ℕ → Connection → Bool
+listens kind buffer connection = is_open connection && follows kind buffer connection.session.client
+
+-- a connection after an event that is not told
+abbrev pub noted_connection : EventKind → ℕ → Connection → Connection
+noted_connection kind buffer connection =
+    if is_open connection then record connection {
+      session =
+          record connection.session { client = after_event kind buffer connection.session.client };
+    }
+    else connection
+
+-- a connection after an event
+abbrev pub heard_connection : Spelled → Connection → Connection
+heard_connection event connection = if is_open connection
+    then record connection { session = with_event event connection.session } else connection
+
+-- a connection where no memory is found for an event: its client leaves, where the event is for it
+abbrev pub starved_connection : EventKind → ℕ → Connection → Connection
+starved_connection kind buffer connection =
+    if listens kind buffer connection then record connection { leaving = Some NoMemory }
+    else noted_connection kind buffer connection
+
+-- a connection once a notice is told, in the world after the change
+abbrev pub told_connection : World → Notice → Connection → Connection
+told_connection world notice connection =
+    if is_open connection then record connection {
+      session = record {
+        client = after_event notice.kind notice.buffer.0 connection.session.client;
+        unsent = connection.session.unsent ++ flat_map (λ m. spelling m)
+            (notice_told world notice connection.session.client);
+      };
+    } else connection
+
+-- a connection after this service of it, or one whose client leaves for want of memory, where the
+-- service was for it
+abbrev pub ConnectionServed : EventKind → ℕ → (Connection → Connection) → Connection →
+    Connection → Type 0
+ConnectionServed kind buffer service old new = (new ≡ service old)
+    ⊎ (new ≡ starved_connection kind buffer old)
+
+abbrev pub ConnectionsServed : EventKind → ℕ → (Connection → Connection) → List Connection →
+    List Connection → Type 0
+ConnectionsServed kind buffer service [] [] = Unit {0}
+ConnectionsServed kind buffer service [] (b ∷ new) = ⊥
+ConnectionsServed kind buffer service (a ∷ old) [] = ⊥
+ConnectionsServed kind buffer service (a ∷ old) (b ∷ new) = ConnectionServed kind buffer service a b
+    × ConnectionsServed kind buffer service old new
+
+-- a client that is leaving is left alone, and another one leaves for want of memory at most
+pub record ConnectionKept (old new : Connection) : Type 0 where
+  pub link : connection_link new ≡ connection_link old
+  pub kept : is_open old ≡ false → new ≡ old
+  pub cause : StaysOrStarves old.leaving new.leaving
+
+abbrev pub ConnectionsKept : List Connection → List Connection → Type 0
+ConnectionsKept [] [] = Unit {0}
+ConnectionsKept [] (b ∷ new) = ⊥
+ConnectionsKept (a ∷ old) [] = ⊥
+ConnectionsKept (a ∷ old) (b ∷ new) = ConnectionKept a b × ConnectionsKept old new

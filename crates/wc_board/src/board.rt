@@ -1,0 +1,160 @@
+ghost use Rattle.std.specs.Prelude.{◌≡◌, ◌≤◌, ◌++◌, ℕ, List, [], true, map, IfOk, OnOk, OnErr};
+ghost use Rattle.wc_text.specs.declared.names.Handle.{Handle as HandleValue};
+ghost use Rattle.wc_nicklist.specs.declared.item.Row.{Row};
+ghost use Rattle.wc_nickdiff.specs.Held.{touches_of};
+ghost use Rattle.wc_outside.specs.Keyed.{at_key};
+ghost use Rattle.wc_model.specs.Notices.{Outcome};
+ghost use Rattle.wc_model.specs.Order.{order};
+ghost use Rattle.wc_model.specs.World.{rows_at};
+ghost use Rattle.wc_world.specs.Texts.{IsChangeText};
+ghost use Rattle.wc_board.specs.Answered.{noticed, IsUnchanged};
+ghost use Rattle.wc_board.specs.BoardView.{NoStrayTouches, first_board};
+ghost use Rattle.wc_board.specs.Connections.{connection_link, client_of, unsent_on};
+ghost use Rattle.wc_board.specs.Pushes.{pushed_connection, pushed_bytes, EachPushed};
+ghost use Rattle.wc_board.specs.Served.{told_connection, ConnectionsServed, ConnectionsKept};
+ghost use Rattle.wc_board.specs.Told.{AreTold, AreTouched};
+
+use crate::connection::{Connection, tell_notice};
+use crate::nick_change::change_world;
+use crate::pushes::{forget_nicks, push_nicks};
+use std::alloc::Global;
+use std::marker::Model;
+use wc_model::{Change, ChangeRefused, Notice};
+use wc_nickdiff::Pending;
+use wc_text::{Handle, NoMemory};
+use wc_world::World;
+
+/// The world, what was touched of the nicklists since their last push, and the clients. They are
+/// changed by these calls alone, so that no change goes untold.
+#[derive(Drop)]
+pub struct Board {
+    pub(crate) alloc: Global,
+    pub(crate) world: World,
+    pending: Pending,
+    pub(crate) connections: Vec<Connection>,
+}
+
+/// A change that was made and told.
+#[derive(Drop)]
+pub struct Told {
+    /// What was noticed of it.
+    pub notice: Notice,
+    /// Whether each client that it was for found memory for it. Who found none is leaving.
+    pub to_all: bool,
+}
+
+impl Model for Board {
+    ghost use Rattle.std.specs.Coded.{codes};
+    ghost use Rattle.std.specs.FinMap as map;
+    ghost use Rattle.wc_board.specs.BoardView.{BoardView, NoStrayTouches};
+
+    ghost Value = { BoardView };
+
+    ghost coded = { Prim.hlevel (codes, map.code) };
+
+    ghost view = { λ board. record {
+      world = board.world;
+      pending = board.pending;
+      connections = board.connections.items;
+    } };
+
+    ghost invariant = { λ board. NoStrayTouches board.world board.pending };
+}
+
+/// The handle of the core buffer.
+const CORE: Handle = Handle(1);
+
+impl Board {
+    /// The core buffer alone, which holds as many lines as the limit, and no client.
+    pub fn new(alloc: Global, limit: u32) -> Result<Board, NoMemory>
+        requires some { 1 ≤ limit }
+        requires most { limit ≤ 4096 }
+        ensures { IfOk result (λ board. board ≡ first_board limit) }
+    {
+        let world = World::new(alloc, limit)?;
+        let pending = Pending::new(alloc)?;
+        Ok(Board {
+            alloc,
+            world,
+            pending,
+            connections: Vec::new(alloc),
+        })
+    }
+
+    /// The buffers, with their lines and nicklists.
+    pub fn world(&self) -> &World
+        ensures world { result.now ≡ self.now.world }
+        ensures stray { NoStrayTouches self.now.world self.now.pending }
+    {
+        &self.world
+    }
+
+    /// Makes a change, and tells it to each client that is open and asked for its event, which is
+    /// spelled once. The refusals are those of the world. A client that finds no memory for the
+    /// event is leaving, and the change stands.
+    pub fn tell(&mut self, change: Change) -> Result<Told, ChangeRefused>
+        requires { IsChangeText change.what }
+        ensures outcome { Outcome self.old.world change self.new.world (noticed result) }
+        ensures touched { OnOk result
+            (AreTouched self.old.world change self.old.pending self.new.pending) }
+        ensures told { IfOk result (λ told. told.to_all ≡ true →
+            self.new.connections ≡ map (told_connection self.new.world told.notice)
+            self.old.connections) }
+        ensures each { IfOk result (λ told.
+            ConnectionsServed told.notice.kind told.notice.buffer.0
+            (told_connection self.new.world told.notice)
+            self.old.connections self.new.connections) }
+        ensures unchanged { OnErr result (IsUnchanged self.old self.new) }
+    {
+        let notice = change_world(self.alloc, &mut self.world, &mut self.pending, change)?;
+        let to_all = tell_notice(&mut self.connections, self.alloc, &self.world, &notice);
+        Ok(Told { notice, to_all })
+    }
+
+    /// Pushes what became of each nicklist since its last push to each client that is open and
+    /// asked for it, in the order of buffers. False where a client found no memory for a push: it
+    /// is leaving.
+    pub fn push(&mut self) -> bool
+        ensures told { result ≡ true → (told : ℕ → List Row) →
+            AreTold self.old.world self.old.pending told → self.new.connections
+            ≡ map (pushed_connection self.old.world told (order self.old.world.groups))
+            self.old.connections }
+        ensures sent { result ≡ true → (told : ℕ → List Row) →
+            AreTold self.old.world self.old.pending told → (link : ℕ) →
+            unsent_on link self.new.connections ≡ unsent_on link self.old.connections
+            ++ pushed_bytes self.old.world told (order self.old.world.groups)
+            (at_key connection_link link self.old.connections) }
+        ensures each { (told : ℕ → List Row) → AreTold self.old.world self.old.pending told →
+            EachPushed (order self.old.world.groups)
+            (pushed_connection self.old.world told (order self.old.world.groups))
+            self.old.connections self.new.connections }
+        ensures kept { ConnectionsKept self.old.connections self.new.connections }
+        ensures clients { map client_of self.new.connections ≡ map client_of self.old.connections }
+        ensures forgets { (buffer : HandleValue) → touches_of buffer self.new.pending ≡ [] }
+        ensures rows { AreTold self.new.world self.new.pending (rows_at self.new.world) }
+        ensures world { self.new.world ≡ self.old.world }
+    {
+        let _rows = self.world.nicks(CORE);
+        let told = push_nicks(
+            &mut self.connections,
+            self.alloc,
+            &self.world,
+            &self.pending,
+        );
+        self.forget_touches();
+        told
+    }
+
+    /// Forgets what was touched, at once for all buffers. That takes no memory; if it did, they
+    /// would be gone through.
+    fn forget_touches(&mut self)
+        ensures forgets { (buffer : HandleValue) → touches_of buffer self.new.pending ≡ [] }
+        ensures world { self.new.world ≡ self.old.world }
+        ensures connections { self.new.connections ≡ self.old.connections }
+    {
+        match Pending::new(self.alloc) {
+            Ok(pending) => self.pending = pending,
+            Err(NoMemory) => forget_nicks(&self.world, &mut self.pending),
+        }
+    }
+}

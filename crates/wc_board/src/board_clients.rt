@@ -1,0 +1,124 @@
+//! The clients of a board: how they come and go, and what is seen of them.
+
+ghost use Rattle.std.specs.Prelude.{◌≡◌, ◌≤◌, ◌++◌, ◌∷◌, [], false, length, filter, IfSome};
+ghost use Rattle.std.specs.Prelude.{OnOk, OnErr, option_copied};
+ghost use Rattle.wc_outside.specs.Keyed.{at_key, without};
+ghost use Rattle.wc_board.specs.Connections.{connection_link, is_open, is_open_at, session_at};
+ghost use Rattle.wc_board.specs.Connections.{unsent_at, gone_at, left_at, new_connection};
+ghost use Rattle.wc_board.specs.Connections.{departure_of};
+
+use crate::board::Board;
+use crate::connection::{
+    Connection, Departure, connection_place, drop_connection, first_departure, open_count,
+};
+use wc_options::Options;
+use wc_session::Session;
+use wc_text::{Arrival, Cause, LinkId, NoMemory};
+
+impl Board {
+    /// Admits a client, which comes after the others.
+    pub fn admit(&mut self, arrival: Arrival, options: &Options) -> Result<(), NoMemory>
+        ensures admitted { OnOk result (self.new ≡ record self.old {
+          connections =
+              self.old.connections
+              ++ new_connection options.now arrival.link arrival.nonce ∷ [];
+        }) }
+        ensures refused { OnErr result (self.new ≡ self.old) }
+    {
+        let session = Session::new(self.alloc, arrival.link, arrival.nonce, options)?;
+        let connection = Connection {
+            session,
+            leaving: None,
+        };
+        if self.connections.push(connection).is_err() {
+            return Err(NoMemory);
+        }
+        Ok(())
+    }
+
+    /// Lets the client of a link leave for this cause, where it is open. It takes part in nothing
+    /// more, and its unsent bytes are lent until it is forgotten.
+    pub fn retire(&mut self, link: LinkId, cause: Cause)
+        ensures leaves { self.new ≡ record self.old {
+          connections =
+              left_at link.0 cause self.old.connections
+              (at_key connection_link link.0 self.old.connections);
+        } }
+        ensures shut { is_open_at (at_key connection_link link.0 self.new.connections) ≡ false }
+    {
+        let Some(place) = connection_place(&self.connections, link) else {
+            return;
+        };
+        if !self.connections[place].is_open() {
+            return;
+        }
+        self.connections[place].leaving = Some(cause);
+    }
+
+    /// Forgets the client of a link, as the link is closed.
+    pub fn forget(&mut self, link: LinkId)
+        ensures { self.new ≡ record self.old {
+          connections =
+              without connection_link link.0 self.old.connections;
+        } }
+    {
+        drop_connection(&mut self.connections, link);
+    }
+
+    /// Takes the first unsent bytes of a client away.
+    pub fn gone(&mut self, link: LinkId, count: usize)
+        requires { IfSome (unsent_at (at_key connection_link link.0 self.old.connections))
+            (λ unsent. count ≤ length unsent) }
+        ensures { self.new ≡ record self.old {
+          connections =
+              gone_at link.0 count self.old.connections
+              (at_key connection_link link.0 self.old.connections);
+        } }
+    {
+        if let Some(place) = connection_place(&self.connections, link) {
+            self.connections[place].session.gone(count);
+        }
+    }
+
+    /// Whether a link has a client that is not leaving.
+    pub fn is_open(&self, link: LinkId) -> bool
+        ensures { result ≡ is_open_at (at_key connection_link link.0 self.now.connections) }
+    {
+        match connection_place(&self.connections, link) {
+            Some(place) => self.connections[place].is_open(),
+            None => false,
+        }
+    }
+
+    /// The session of the client of a link, also while it is leaving. None where there is no such
+    /// client.
+    pub fn session(&self, link: LinkId) -> Option<&Session>
+        ensures { option_copied result
+            ≡ session_at (at_key connection_link link.0 self.now.connections) }
+    {
+        let place = connection_place(&self.connections, link)?;
+        Some(&self.connections[place].session)
+    }
+
+    /// The first client that is leaving.
+    pub fn departure(&self) -> Option<Departure>
+        ensures { result ≡ departure_of self.now.connections }
+    {
+        first_departure(&self.connections)
+    }
+
+    /// How many clients are open.
+    pub fn open_count(&self) -> usize
+        ensures { result ≡ length (filter (λ connection. is_open connection)
+            self.now.connections) }
+    {
+        open_count(&self.connections)
+    }
+
+    /// The clients that are open and those that are leaving, in the order in which they came.
+    pub fn connections(&self) -> &[Connection]
+        ensures { result.now ≡ self.now.connections }
+    {
+        self.connections.as_slice()
+    }
+}

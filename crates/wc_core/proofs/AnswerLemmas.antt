@@ -1,0 +1,304 @@
+-- What the board does before and at a request, as the core means it.
+use Rattle.std.proofs.Common.{◌≡◌, ℕ, ◌+◌, ◌-◌, ◌^◌, ◌<◌, ◌≤◌, suc, Bool, true, false, cond, eqb, ◌&&◌, List, [], ◌∷◌, inl, inr, ◌⊎◌, Option, Some, None, IfSome, unwrap_or, min, length, filter, ◌++◌, Result, Ok, Err, OnOk, is_err, not, refl, ap, sym, subst, ◌∙◌, arith}
+use Rattle.std.specs.Prelude.{map}
+use Rattle.std.proofs.lemmas.Bool.{false≢true}
+use Rattle.wc_text.specs.declared.names.Cause.{Cause}
+use Rattle.wc_text.specs.declared.names.LinkId.{LinkId}
+use Rattle.wc_nicklist.specs.declared.item.Row.{Row}
+use Rattle.wc_options.specs.Options.{OptionsValue}
+use Rattle.wc_outside.specs.Keyed.{at_key, put_at}
+use Rattle.wc_outside.proofs.KeyedLemmas.{at_key-put_same, at_key-key}
+use Rattle.wc_buffers.specs.Kept.{AreBuffers}
+use Rattle.wc_model.specs.declared.change.Change.{Change}
+use Rattle.wc_model.specs.declared.notice.Notice.{Notice}
+use Rattle.wc_model.specs.Notices.{Accepted}
+use Rattle.wc_model.specs.Order.{order}
+use Rattle.wc_model.specs.World.{World, rows_at}
+use Rattle.wc_relaycmd.specs.declared.request.Request.{Request}
+use Rattle.wc_relaycmd.specs.Answers.{request_of}
+use Rattle.wc_relaycmd.specs.Utf8.{RequestIsUtf8}
+use Rattle.wc_session.specs.declared.client.Client.{Client}
+use Rattle.wc_session.specs.declared.outcome.Outcome.{Outcome}
+use Rattle.wc_session.specs.declared.outcome.Outcome.TheVariants as outcome
+use Rattle.wc_session.specs.Known.{Known}
+use Rattle.wc_session.specs.Reply.{reply_of}
+use Rattle.wc_session.specs.Served.{OnServed, AnswersRequest}
+use Rattle.wc_board.specs.declared.connection.Connection.{Connection}
+use Rattle.wc_board.specs.Answered.{is_nicklist, pushes_before, PushedIf, IsPushed, AnsweredIf, AnsweredAt, AnswersAfterPushes}
+use Rattle.wc_board.specs.BoardView.{BoardView, NoStrayTouches}
+use Rattle.wc_board.specs.Connections.{connection_link, client_of, is_open, is_open_at, session_at, left_at, new_connection}
+use Rattle.wc_board.specs.Pushes.{pushed_connection}
+use Rattle.wc_board.specs.Served.{told_connection, ConnectionsKept, ConnectionsServed}
+use Rattle.wc_board.specs.Told.{Told, AreTold, AreTouched}
+use Rattle.wc_board.proofs.PushEach.{open_number, number_more, not_more, none_left, all_is}
+use Rattle.wc_core.specs.CoreView.{CoreView}
+use Rattle.wc_core.specs.Inputs.{MakesChange, push_before, AnswersRequestOf}
+use Rattle.wc_core.specs.Limits.{client_limit}
+use Rattle.wc_core.specs.Step.{client_link, no_step, push_step, request_step, line_step, loss_step, arrival_step}
+use Rattle.wc_core.specs.Served.{state_of, Does, AdmitsUnlessStarved, OutcomeUtf8}
+use Rattle.wc_core.proofs.CoreLemmas.{starved_only, lost-done, came, changes-all, changes-some, outcome-text, line-missing, line-leaving, line-asked}
+use Rattle.wc_core.proofs.DidLemmas.{Does-stays}
+use Rattle.wc_core.proofs.PushLemmas.{IsPushedCore, push-done}
+use Rattle.wc_core.proofs.ReplyLemmas.{reply_fits}
+
+abbrev pub board_of : CoreView → BoardView
+board_of core = record { world = core.world; pending = core.pending; connections = core.connections }
+
+-- the core with this board and count
+abbrev pub with_board : CoreView → BoardView → ℕ → CoreView
+with_board core board starved = record core { world = board.world; pending = board.pending; connections = board.connections; starved = starved }
+
+-- want of memory was counted, or as many clients are open as before
+abbrev pub Counted : CoreView → List Connection → ℕ → Type 0
+Counted old connections n = ((n ≡ old.starved) × (open_number old.connections ≤ open_number connections)) ⊎ ((n ≡ min (old.starved + 1) (2 ^ 64 - 1)) × (old.starved ≤ n))
+
+-- the board lets a client leave
+pub lost-by : (old : CoreView) (board : BoardView) (k : ℕ) (why : Cause) → board ≡ record (board_of old) { connections = left_at k why old.connections (at_key connection_link k old.connections) } → Does old (with_board old board old.starved) (λ state. loss_step state k why (at_key client_link k state.clients))
+lost-by old board k why e = let P : BoardView → Type 0 = λ b. Does old (with_board old b old.starved) (λ state. loss_step state k why (at_key client_link k state.clients)) in subst P (sym e) (lost-done old k why)
+
+-- ---- pushes
+
+-- the board made its pushes, or want of memory was counted
+pub push-by : (old : CoreView) (board : BoardView) (n : ℕ) → board.world ≡ old.world → ConnectionsKept old.connections board.connections → AreTold board.world board.pending (rows_at board.world)
+    → ((n ≡ old.starved) × ((told : ℕ → List Row) → AreTold old.world old.pending told → board.connections ≡ map (pushed_connection old.world told (order old.world.groups)) old.connections)) ⊎ ((n ≡ min (old.starved + 1) (2 ^ 64 - 1)) × (old.starved ≤ n)) → Does old (with_board old board n) push_step
+push-by old board n world kept rows counted = push-done old (with_board old board n) (record {
+  stays = ap (λ (world : World). record old { world = world; pending = board.pending; connections = board.connections; starved = n }) world;
+  kept = kept;
+  rows = rows;
+  rises = rises counted;
+  all = all counted;
+}) where
+  Pushes : Type 0
+  Pushes = (told : ℕ → List Row) → AreTold old.world old.pending told → board.connections ≡ map (pushed_connection old.world told (order old.world.groups)) old.connections
+
+  rises : ((n ≡ old.starved) × Pushes) ⊎ ((n ≡ min (old.starved + 1) (2 ^ 64 - 1)) × (old.starved ≤ n)) → old.starved ≤ n
+  rises (inl c) = (let same = c.0 in omega (arith, same))
+  rises (inr c) = c.1
+
+  all : ((n ≡ old.starved) × Pushes) ⊎ ((n ≡ min (old.starved + 1) (2 ^ 64 - 1)) × (old.starved ≤ n)) → old.starved < 2 ^ 64 - 1 → n ≡ old.starved → Pushes
+  all (inl c) below same = c.1
+  all (inr c) below same = (let count = c.0 in absurd (omega (arith, count, same, below)))
+
+pushed-core : (old : CoreView) (between : BoardView) (n : ℕ) → IsPushed (board_of old) between → Counted old between.connections n → IsPushedCore old (with_board old between n)
+pushed-core old between n is counted = record {
+  stays = ap (λ (world : World). record old { world = world; pending = between.pending; connections = between.connections; starved = n }) is.world;
+  kept = is.kept;
+  rows = is.rows;
+  rises = rises counted;
+  all = all counted;
+} where
+  rises : Counted old between.connections n → old.starved ≤ n
+  rises (inl c) = (let same = c.0 in omega (arith, same))
+  rises (inr c) = c.1
+
+  all : Counted old between.connections n → old.starved < 2 ^ 64 - 1 → n ≡ old.starved → (told : ℕ → List Row) → AreTold old.world old.pending told
+      → between.connections ≡ map (pushed_connection old.world told (order old.world.groups)) old.connections
+  all (inl c) below same told are =
+      let ns = order old.world.groups in
+      let push = pushed_connection old.world told ns in
+      let each = is.each told are in
+      let most = not_more ns push (all_is old.world told ns) old.connections between.connections each in
+      let least = c.1 in
+      none_left ns push (all_is old.world told ns) old.connections between.connections each (omega (arith, most, least))
+  all (inr c) below same told are = (let count = c.0 in absurd (omega (arith, count, same, below)))
+
+-- what is pushed before a request
+before-done : (old : CoreView) (between : BoardView) (n : ℕ) (client : Client) (request : Request) → PushedIf (client.logged_in && is_nicklist request.command) (board_of old) between → Counted old between.connections n → Does old (with_board old between n) (λ state. push_before client request state)
+before-done old between n client request pushed counted = by (client.logged_in && is_nicklist request.command) pushed where
+  stays : Counted old between.connections n → Does old (with_board old (board_of old) n) no_step
+  stays (inl c) = let P : ℕ → Type 0 = λ m. Does old (record old { starved = m }) no_step in subst P (sym c.0) (Does-stays old)
+  stays (inr c) = starved_only old (record old { starved = n }) no_step (ap (λ (m : ℕ). record old { starved = m }) c.0) c.1
+
+  by : (b : Bool) → PushedIf b (board_of old) between → Does old (with_board old between n) (λ state. cond b (push_step state) (no_step state))
+  by true is = push-done old (with_board old between n) (pushed-core old between n is counted)
+  by false same = let P : BoardView → Type 0 = λ b. Does old (with_board old b n) no_step in subst P (sym same) (stays counted)
+
+pushed-world : (b : Bool) (old between : BoardView) → PushedIf b old between → between.world ≡ old.world
+pushed-world true old between is = is.world
+pushed-world false old between same = ap (λ (b : BoardView). b.world) same
+
+pushed-clients-same : (b : Bool) (old between : BoardView) → PushedIf b old between → map client_of between.connections ≡ map client_of old.connections
+pushed-clients-same true old between is = is.clients
+pushed-clients-same false old between same = ap (λ (b : BoardView). map client_of b.connections) same
+
+abbrev client_in : Option Connection → Option Client
+client_in None = None
+client_in (Some connection) = Some (client_of connection)
+
+at-clients : (k : ℕ) (connections : List Connection) → at_key client_link k (map client_of connections) ≡ client_in (at_key connection_link k connections)
+at-clients k [] = refl
+at-clients k (x ∷ connections) = by (eqb (connection_link x) k) (at-clients k connections) where
+  by : (t : Bool) → at_key client_link k (map client_of connections) ≡ client_in (at_key connection_link k connections)
+      → cond t (Some (client_of x)) (at_key client_link k (map client_of connections)) ≡ client_in (cond t (Some x) (at_key connection_link k connections))
+  by true more = refl
+  by false more = more
+
+client-same : (k : ℕ) (old new : List Connection) (before now : Connection) → map client_of new ≡ map client_of old → at_key connection_link k old ≡ Some before → at_key connection_link k new ≡ Some now → client_of now ≡ client_of before
+client-same k old new before now same was is =
+    ap (λ o. unwrap_or o (client_of now)) (sym (ap client_in is) ∙ sym (at-clients k new) ∙ ap (at_key client_link k) same ∙ at-clients k old ∙ ap client_in was)
+
+-- ---- the answer
+
+answered-board : (k : ℕ) (options : OptionsValue) (request : Request) (result : Outcome) (old new : BoardView) (o : Option Connection) → AnsweredAt k options request result old new o → new ≡ record old { connections = new.connections }
+answered-board k options request result old new None answered = answered.stays ∙ ap (λ (b : BoardView). record old { connections = b.connections }) (sym answered.stays)
+answered-board k options request result old new (Some s) answered = by (is_open s) answered where
+  by : (t : Bool) → AnsweredIf t k options request result old new s → new ≡ record old { connections = new.connections }
+  by true answered = answered.put ∙ ap (λ (b : BoardView). record old { connections = b.connections }) (sym answered.put)
+  by false answered = answered.stays ∙ ap (λ (b : BoardView). record old { connections = b.connections }) (sym answered.stays)
+
+put-open : (k : ℕ) (s y : Connection) (connections : List Connection) → is_open y ≡ is_open s → at_key connection_link k connections ≡ Some s → open_number (put_at connection_link k y connections) ≡ open_number connections
+put-open k s y [] same at = refl
+put-open k s y (x ∷ connections) same at = by (eqb (connection_link x) k) (λ a. put-open k s y connections same a) at where
+  by : (t : Bool) → (at_key connection_link k connections ≡ Some s → open_number (put_at connection_link k y connections) ≡ open_number connections) → cond t (Some x) (at_key connection_link k connections) ≡ Some s
+      → open_number (cond t (y ∷ connections) (x ∷ put_at connection_link k y connections)) ≡ open_number (x ∷ connections)
+  by true more a =
+      let here : x ≡ s = ap (λ o. unwrap_or o x) a in
+      number_more y connections (is_open x) (same ∙ sym (ap is_open here)) ∙ sym (number_more x connections (is_open x) refl)
+  by false more a =
+      number_more x (put_at connection_link k y connections) (is_open x) refl ∙ ap (λ n. cond (is_open x) (suc n) n) (more a) ∙ sym (number_more x connections (is_open x) refl)
+
+answered-open : (k : ℕ) (options : OptionsValue) (request : Request) (result : Outcome) (old new : BoardView) (o : Option Connection) → at_key connection_link k old.connections ≡ o → AnsweredAt k options request result old new o → open_number new.connections ≡ open_number old.connections
+answered-open k options request result old new None at answered = ap (λ (b : BoardView). open_number b.connections) answered.stays
+answered-open k options request result old new (Some s) at answered = by (is_open s) answered where
+  by : (t : Bool) → AnsweredIf t k options request result old new s → open_number new.connections ≡ open_number old.connections
+  by true answered = ap (λ (b : BoardView). open_number b.connections) answered.put ∙ put-open k s (record s { session = answered.session }) old.connections refl at
+  by false answered = ap (λ (b : BoardView). open_number b.connections) answered.stays
+
+-- a request is answered after what is pushed before it
+pub answers : (old : CoreView) (board : BoardView) (n k : ℕ) (request : Request) (result : Outcome) → AnswersAfterPushes k old.options request result (board_of old) board → Counted old board.connections n → AnswersRequestOf k request result old (with_board old board n)
+answers old board n k request result is counted = record {
+  between = with_board old between n;
+  pushed = by (at_key connection_link k old.connections) is.pushed;
+  same = λ before now was here sits. client-same k old.connections between.connections before now (pushed-clients-same pushes (board_of old) between is.pushed) was here;
+  world = pushed-world pushes (board_of old) between is.pushed;
+  options = refl;
+  answered = ap (λ (b : BoardView). with_board old b n) (answered-board k old.options request result between board (at_key connection_link k between.connections) is.answered);
+  board = is.answered;
+} where
+  between : BoardView
+  between = is.between
+
+  pushes : Bool
+  pushes = pushes_before (at_key connection_link k old.connections) request.command
+
+  opened : open_number board.connections ≡ open_number between.connections
+  opened = answered-open k old.options request result between board (at_key connection_link k between.connections) refl is.answered
+
+  now : Counted old board.connections n → Counted old between.connections n
+  now (inl c) = (let least = c.1 in inl (c.0, omega (arith, least, opened)))
+  now (inr c) = inr c
+
+  by : (o : Option Connection) → PushedIf (pushes_before o request.command) (board_of old) between → IfSome o (λ connection. Does old (with_board old between n) (λ state. push_before connection.session.client request state))
+  by None pushed = tt
+  by (Some s) pushed = before-done old between n s.session.client request pushed (now counted)
+
+-- ---- who asked
+
+none-open : is_open_at None ≡ true → ⊥
+none-open e = false≢true e
+
+open-answered : (k : ℕ) (options : OptionsValue) (request : Request) (result : Outcome) (between new : BoardView) (o : Option Connection) → at_key connection_link k between.connections ≡ o → RequestIsUtf8 request → AnsweredAt k options request result between new o
+    → OnServed result (is_open_at (at_key connection_link k new.connections) ≡ true)
+open-answered k options request result between new None at utf8 answered = let P : Outcome → Type 0 = λ r. OnServed r (is_open_at (at_key connection_link k new.connections) ≡ true) in subst P (sym answered.starves) tt
+open-answered k options request result between new (Some s) at utf8 answered = by (is_open s) refl answered where
+  by : (t : Bool) → is_open s ≡ t → AnsweredIf t k options request result between new s → OnServed result (is_open_at (at_key connection_link k new.connections) ≡ true)
+  by false sits answered = let P : Outcome → Type 0 = λ r. OnServed r (is_open_at (at_key connection_link k new.connections) ≡ true) in subst P (sym answered.starves) tt
+  by true sits answered = of result answered.answered where
+    put : new.connections ≡ put_at connection_link k (record s { session = answered.session }) between.connections
+    put = ap (λ (b : BoardView). b.connections) answered.put
+
+    opens : answered.session.client.link ≡ s.session.client.link → is_open_at (at_key connection_link k new.connections) ≡ true
+    opens same =
+        let key : client_link answered.session.client ≡ k = ap (λ (l : LinkId). l.0) same ∙ at_key-key connection_link k between.connections s at in
+        ap (λ connections. is_open_at (at_key connection_link k connections)) put ∙ ap is_open_at (at_key-put_same connection_link k s (record s { session = answered.session }) between.connections key at) ∙ sits
+
+    link : (r : Outcome) → AnswersRequest s.session answered.session r (reply_of between.world options s.session.client request) → answered.session.client.link ≡ s.session.client.link
+    link r a = ap (λ (c : Client). c.link) a.client ∙ (reply_fits between.world options s.session.client request utf8).link
+
+    of : (r : Outcome) → OnServed r (AnswersRequest s.session answered.session r (reply_of between.world options s.session.client request)) → OnServed r (is_open_at (at_key connection_link k new.connections) ≡ true)
+    of outcome.Replied a = opens (link outcome.Replied a)
+    of outcome.Silent a = opens (link outcome.Silent a)
+    of (outcome.Input buffer text) a = opens (link (outcome.Input buffer text) a)
+    of (outcome.Leave why) a = opens (link (outcome.Leave why) a)
+    of outcome.NoMemory a = tt
+
+text-answered : (k : ℕ) (options : OptionsValue) (request : Request) (result : Outcome) (between new : BoardView) (o : Option Connection) → RequestIsUtf8 request → AnsweredAt k options request result between new o → OutcomeUtf8 result
+text-answered k options request result between new None utf8 answered = subst OutcomeUtf8 (sym answered.starves) tt
+text-answered k options request result between new (Some s) utf8 answered = by (is_open s) answered where
+  by : (t : Bool) → AnsweredIf t k options request result between new s → OutcomeUtf8 result
+  by false answered = subst OutcomeUtf8 (sym answered.starves) tt
+  by true answered = outcome-text between.world options s.session.client request s.session answered.session result utf8 answered.answered
+
+-- who asked is open after the answer, unless it found no memory
+pub asked-open : (k : ℕ) (request : Request) (result : Outcome) (old new : CoreView) → RequestIsUtf8 request → AnswersRequestOf k request result old new → OnServed result (is_open_at (at_key connection_link k new.connections) ≡ true)
+asked-open k request result old new utf8 is = open-answered k old.options request result (board_of is.between) (board_of new) (at_key connection_link k is.between.connections) refl utf8 is.board
+
+-- what it asked to be typed is text
+pub asked-text : (k : ℕ) (request : Request) (result : Outcome) (old new : CoreView) → RequestIsUtf8 request → AnswersRequestOf k request result old new → OutcomeUtf8 result
+asked-text k request result old new utf8 is = text-answered k old.options request result (board_of is.between) (board_of new) (at_key connection_link k is.between.connections) utf8 is.board
+
+-- ---- lines
+
+-- the line of a client that is not open, or not there
+pub line-shut : (old : CoreView) (k : ℕ) (line : List ℕ) → is_open_at (at_key connection_link k old.connections) ≡ false → Does old old (λ state. line_step state line (at_key client_link k state.clients))
+line-shut old k line shut = by (at_key connection_link k old.connections) refl shut where
+  by : (o : Option Connection) → at_key connection_link k old.connections ≡ o → is_open_at o ≡ false → Does old old (λ state. line_step state line (at_key client_link k state.clients))
+  by None at shut = line-missing old k line at
+  by (Some s) at shut = line-leaving old k line s at shut
+
+-- the line of an open client, whose request was served
+pub line-served : (old new : CoreView) (k : ℕ) (line : List ℕ) (session : Known) (request : Option Request) → session_at (at_key connection_link k old.connections) ≡ Some session → is_open_at (at_key connection_link k old.connections) ≡ true → request ≡ request_of session.client.escaped line
+    → IfSome (at_key connection_link k old.connections) (λ connection. Does old new (λ state. request_step state connection.session.client request)) → Does old new (λ state. line_step state line (at_key client_link k state.clients))
+line-served old new k line session request there sits e done = by (at_key connection_link k old.connections) refl there sits done where
+  by : (o : Option Connection) → at_key connection_link k old.connections ≡ o → session_at o ≡ Some session → is_open_at o ≡ true → IfSome o (λ connection. Does old new (λ state. request_step state connection.session.client request)) → Does old new (λ state. line_step state line (at_key client_link k state.clients))
+  by None at there sits done = absurd (none-open sits)
+  by (Some s) at there sits done =
+      let same : s.session ≡ session = ap (λ o. unwrap_or o session) there in
+      line-asked old new k line s request at sits (e ∙ ap (λ (known : Known). request_of known.client.escaped line) (sym same)) done
+
+-- a line that is no request
+pub line-passed : (old : CoreView) (o : Option Connection) → IfSome o (λ connection. Does old old (λ state. request_step state connection.session.client None))
+line-passed old None = tt
+line-passed old (Some s) = Does-stays old
+
+-- ---- by what the calls of the board say
+
+pub answers-starved : (old : CoreView) (board : BoardView) (new : CoreView) (k : ℕ) (request : Request) (result : Outcome) → AnswersAfterPushes k old.options request result (board_of old) board → new ≡ record (with_board old board old.starved) { starved = min (old.starved + 1) (2 ^ 64 - 1) } → old.starved ≤ new.starved
+    → AnswersRequestOf k request result old new
+answers-starved old board new k request result is counts rises =
+    let count : new.starved ≡ min (old.starved + 1) (2 ^ 64 - 1) = ap (λ (c : CoreView). c.starved) counts in
+    let P : CoreView → Type 0 = λ new. AnswersRequestOf k request result old new in
+    subst P (sym counts) (answers old board (min (old.starved + 1) (2 ^ 64 - 1)) k request result is (inr (refl, omega (arith, count, rises))))
+
+pub answers-all : (old : CoreView) (board : BoardView) (k : ℕ) (request : Request) (result : Outcome) → AnswersAfterPushes k old.options request result (board_of old) board → open_number old.connections ≤ open_number board.connections → AnswersRequestOf k request result old (with_board old board old.starved)
+answers-all old board k request result is least = answers old board old.starved k request result is (inl (refl, least))
+
+pub push-starved : (old : CoreView) (board : BoardView) (new : CoreView) → board.world ≡ old.world → ConnectionsKept old.connections board.connections → AreTold board.world board.pending (rows_at board.world) → new ≡ record (with_board old board old.starved) { starved = min (old.starved + 1) (2 ^ 64 - 1) } → old.starved ≤ new.starved
+    → Does old new push_step
+push-starved old board new world kept rows counts rises =
+    let count : new.starved ≡ min (old.starved + 1) (2 ^ 64 - 1) = ap (λ (c : CoreView). c.starved) counts in
+    let P : CoreView → Type 0 = λ new. Does old new push_step in
+    subst P (sym counts) (push-by old board (min (old.starved + 1) (2 ^ 64 - 1)) world kept rows (inr (refl, omega (arith, count, rises))))
+
+pub came-by : (told : Told) (old : CoreView) (board : BoardView) (link : LinkId) (nonce : List ℕ) → length (filter (λ connection. is_open connection) old.connections) < client_limit old.options
+    → board ≡ record (board_of old) { connections = old.connections ++ new_connection old.options link nonce ∷ [] } → AdmitsUnlessStarved told link.0 old (with_board old board old.starved) None (arrival_step (state_of old told) link.0 nonce)
+came-by told old board link nonce few e =
+    let P : BoardView → Type 0 = λ b. AdmitsUnlessStarved told link.0 old (with_board old b old.starved) None (arrival_step (state_of old told) link.0 nonce) in
+    subst P (sym e) (came told old link nonce few)
+
+pub changed-all : (old : CoreView) (board : BoardView) (change : Change) (n : Notice) → Accepted old.world change board.world n → AreTouched old.world change old.pending board.pending → AreBuffers board.world.groups → NoStrayTouches old.world old.pending
+    → board.connections ≡ map (told_connection board.world n) old.connections → MakesChange old change (with_board old board old.starved)
+changed-all old board change n accepted touched are stray told = changes-all old (with_board old board old.starved) change n refl accepted touched are stray told
+
+pub changed-some : (old : CoreView) (board : BoardView) (new : CoreView) (change : Change) (n : Notice) → ConnectionsServed n.kind n.buffer.0 (told_connection board.world n) old.connections board.connections → new ≡ record (with_board old board old.starved) { starved = min (old.starved + 1) (2 ^ 64 - 1) } → old.starved ≤ new.starved
+    → MakesChange old change new
+changed-some old board new change n served counts rises = changes-some old (with_board old board old.starved) new change n (told_connection board.world n) refl served counts rises
+
+-- what holds where a call did not fail
+pub on_ok : {A E : Type 0} (r : Result A E) (P : Type 0) → is_err r ≡ false → OnOk r P → P
+on_ok (Ok v) P e h = h
+on_ok (Err f) P e h = absurd (false≢true (sym e))
+
+pub not_not : (b : Bool) → not b ≡ false → b ≡ true
+not_not true e = refl
+not_not false e = absurd (false≢true (sym e))

@@ -1,0 +1,100 @@
+-- The commands of the start.
+use Rattle.std.proofs.Common.{◌≡◌, ℕ, ◌≤◌, zero, suc, length, drop, Bool, true, false, cond, List, [], ◌∷◌, inl, inr, None, refl, ap, sym, subst, ◌∙◌, ◌||◌, arith}
+use Rattle.wc_core.specs.CoreView.{CoreView}
+use Rattle.wc_core.specs.Typed.{lines_of_text}
+use Rattle.wc_core.specs.State.{State, Stepped, has_end}
+use Rattle.wc_core.specs.Step.{core_buffer, then_does, lines_step, commands_step}
+use Rattle.wc_board.specs.Connections.{leaving_on}
+use Rattle.wc_board.specs.Served.{StaysOrStarves}
+use Rattle.wc_core.specs.Served.{state_of, or_else, close_of, LeavesBy, Follows, Does}
+use Rattle.wc_core.proofs.CloseLemmas.{then-closes, runs-closes, commands-closes}
+use Rattle.wc_core.proofs.DidLemmas.{or_else-none, ClosesLater, FollowsUnlessStarved-then}
+
+abbrev first_of : State → List ℕ → Stepped
+first_of state command = lines_step state core_buffer (lines_of_text command)
+
+-- a step that closes none, in the place of another one that closes none
+stays-by : (j : ℕ) (a b : CoreView) (s : Stepped) → close_of j s.acts ≡ None → LeavesBy (leaving_on j a.connections) (close_of j s.acts) (leaving_on j b.connections) → StaysOrStarves (leaving_on j a.connections) (leaving_on j b.connections)
+stays-by j a b s none (inl e) = inl (e ∙ ap (or_else (leaving_on j a.connections)) none ∙ or_else-none (leaving_on j a.connections))
+stays-by j a b s none (inr e) = e
+
+ended : (before after end : Bool) → before ≡ false → after ≡ (before || end) → end ≡ after
+ended before after end going e = sym (e ∙ ap (λ t. t || end) going)
+
+-- a command that ran `/quit`
+pub commands-quit : (a b : CoreView) (command : List ℕ) (commands : List (List ℕ)) → a.quits ≡ false → b.quits ≡ true → Does a b (λ state. lines_step state core_buffer (lines_of_text command)) → Does a b (λ state. commands_step state (command ∷ commands))
+commands-quit a b command commands going quit done = λ told.
+    let f = done told in
+    let first = first_of (state_of a told) command in
+    let then = then_does first (λ next. commands_step next commands) in
+    let P : Bool → Type 0 = λ t. Follows a b (cond t first then) in
+    record {
+      keeps = f.keeps;
+      causes = λ distinct j. inr (stays-by j a b first (runs-closes j (state_of a told) core_buffer (lines_of_text command)) (f.causes distinct j));
+      does = λ same below distinct were.
+          let did = f.does same below distinct were in
+          subst P (sym (ended a.quits b.quits (has_end first.acts) going did.quits ∙ quit)) did;
+    }
+
+-- a command that did not, and those after it
+pub commands-more : (a b c : CoreView) (command : List ℕ) (commands : List (List ℕ)) → a.quits ≡ false → b.quits ≡ false → Does a b (λ state. lines_step state core_buffer (lines_of_text command)) → Does b c (λ state. commands_step state commands)
+    → Does a c (λ state. commands_step state (command ∷ commands))
+commands-more a b c command commands going on done more = λ told.
+    let f = done told in
+    let state = state_of a told in
+    let first = first_of state command in
+    let next : State → Stepped = λ next. commands_step next commands in
+    let then = then_does first next in
+    let closes : ClosesLater b first next = record { first_none = λ j. runs-closes j state core_buffer (lines_of_text command); same = λ j. commands-closes j (state_of b first.state.told) commands ∙ sym (commands-closes j first.state commands) } in
+    let h = FollowsUnlessStarved-then told a b c first next closes f more in
+    let g = more first.state.told in
+    let P : Bool → Type 0 = λ t. Follows a c (cond t first then) in
+    record {
+      keeps = h.keeps;
+      causes = λ distinct j. inr (stays-by j a c then (then-closes j first next (runs-closes j state core_buffer (lines_of_text command)) (commands-closes j first.state commands)) (h.causes distinct j));
+      does = λ same below distinct were.
+          let p = f.keeps.rises in
+          let q = g.keeps.rises in
+          let half : b.starved ≡ a.starved = omega arith in
+          let did = f.does half below distinct were in
+          subst P (sym (ended a.quits b.quits (has_end first.acts) going did.quits ∙ on)) (h.does same below distinct were);
+    }
+
+-- the start sets the moment, and its commands are run as if no `/quit` had been run before
+pub started : (old new : CoreView) (moment : ℕ) → Does (record old { moment = moment; commands = []; quits = false }) new (λ state. commands_step state old.commands) → Does old (record new { quits = new.quits || old.quits }) (λ state. commands_step (record state { moment = moment; commands = [] }) state.commands)
+started old new moment done = λ told.
+    let f = done told in
+    record {
+      keeps = record { rises = f.keeps.rises; links = f.keeps.links; kept = f.keeps.kept };
+      causes = f.causes;
+      does = λ same below distinct were.
+          let g = f.does same below distinct were in
+          record { means = record { same = g.means.same; told = g.means.told }; bytes = g.bytes; leaving = g.leaving; quits = ap (λ t. t || old.quits) g.quits ∙ or-turned _ old.quits };
+    }
+  where
+    or-turned : (a b : Bool) → (a || b) ≡ (b || a)
+    or-turned true true = refl
+    or-turned true false = refl
+    or-turned false true = refl
+    or-turned false false = refl
+
+pub started-by : (old mid : CoreView) (commands rest : List (List ℕ)) (quit' quit : Bool) (moment : ℕ) → rest ≡ [] → quit' ≡ false → quit ≡ old.quits → commands ≡ old.commands
+    → Does (record old { moment = moment; commands = rest; quits = quit' }) mid (λ state. commands_step state commands) → Does old (record mid { quits = mid.quits || quit }) (λ state. commands_step (record state { moment = moment; commands = [] }) state.commands)
+started-by old mid commands rest quit' quit moment none going was same done =
+    let P : List (List ℕ) → Type 0 = λ rest. Does (record old { moment = moment; commands = rest; quits = quit' }) mid (λ state. commands_step state commands) in
+    let Q : Bool → Type 0 = λ quits. Does (record old { moment = moment; commands = []; quits = quits }) mid (λ state. commands_step state commands) in
+    let R : List (List ℕ) → Type 0 = λ commands. Does (record old { moment = moment; commands = []; quits = false }) mid (λ state. commands_step state commands) in
+    let S : Bool → Type 0 = λ quit. Does old (record mid { quits = mid.quits || quit }) (λ state. commands_step (record state { moment = moment; commands = [] }) state.commands) in
+    subst S (sym was) (started old mid moment (subst R same (subst Q going (subst P none done))))
+
+abbrev nothing : (X : Type 0) → List X
+nothing X = []
+
+drop_empty : (X : Type 0) (i : ℕ) → drop i (nothing X) ≡ nothing X
+drop_empty X zero = refl
+drop_empty X (suc i) = refl
+
+pub drop_past : {X : Type 0} (i : ℕ) (xs : List X) → length xs ≤ i → drop i xs ≡ []
+drop_past {X} i [] e = drop_empty X i
+drop_past zero (x ∷ xs) e = absurd (omega (arith, e))
+drop_past (suc i) (x ∷ xs) e = drop_past i xs (omega (arith, e))
