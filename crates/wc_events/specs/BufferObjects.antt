@@ -1,15 +1,17 @@
 -- What a client is told of buffers: the event of each notice, and the dump of all buffers.
-use Rattle.std.specs.Prelude.{ℕ, ◌+◌, ◌-◌, ◌^◌, ◌==◌, ℤ, pos, Bool, nat_le, List, [], ◌∷◌}
-use Rattle.std.specs.Prelude.{◌++◌, map, filter, Option, Some, None, option_map}
-use Rattle.std.specs.Prelude.{if◌then◌else◌}
+use Rattle.std.specs.Prelude.{ℕ, ◌+◌, ◌-◌, ◌^◌, ◌==◌, ℤ, pos, Bool, false, nat_le, List, [], ◌∷◌}
+use Rattle.std.specs.Prelude.{◌++◌, map, filter, Option, Some, None, option_map, unwrap_or}
+use Rattle.std.specs.Prelude.{if◌then◌else◌, codes, bytes_eq}
 use Rattle.std.specs.List.{filter_map, list_any}
 use Rattle.std.specs.Option.{option_or}
 use Rattle.wc_text.specs.declared.names.Handle.{Handle}
 use Rattle.wc_text.specs.declared.names.Pair.{Pair}
+use Rattle.wc_text.specs.Splits.{text_after}
 use Rattle.wc_lines.specs.declared.line.Line.{Line}
 use Rattle.wc_lines.specs.Ring.{newest}
 use Rattle.wc_buffers.specs.declared.row.BufferEntry.{BufferEntry}
 use Rattle.wc_buffers.specs.Calls.{EntryGroups, entry_of}
+use Rattle.wc_buffers.specs.Vars.{value_of}
 use Rattle.wc_model.specs.declared.notice.EventKind.{EventKind}
 use Rattle.wc_model.specs.declared.notice.EventKind.TheVariants as kind
 use Rattle.wc_model.specs.declared.notice.Notice.{Notice}
@@ -67,13 +69,29 @@ noticed_value notice key.PrevBuffer = Some (o.Ptr notice.prev.0)
 noticed_value notice key.NextBuffer = Some (o.Ptr notice.next.0)
 noticed_value notice _ = None
 
--- what it has where it is there
+-- its name without its plugin: what is after the first dot of its full name, or all where there is none
+abbrev pub bare_name : List ℕ → List ℕ
+bare_name full_name = unwrap_or (text_after 46 full_name) full_name
+
+-- whether it is of a channel, by its variable `type`
+abbrev pub is_value : List ℕ → Option (List ℕ) → Bool
+is_value text None = false
+is_value text (Some value) = bytes_eq value text
+
+abbrev pub is_channel : List Pair → Bool
+is_channel vars = is_value (codes "channel") (value_of (codes "type") vars)
+
+-- what it has where it is there; each buffer is of the plain type, and all of its lines call for notice
 abbrev pub entry_value : BufferEntry → Key → Option Object
 entry_value e key.FullName = Some (text e.row.full_name)
 entry_value e key.ShortName = Some (text e.row.short_name)
 entry_value e key.Hidden = Some (o.Int (truth e.row.hidden))
 entry_value e key.Title = Some (text e.row.title)
 entry_value e key.LocalVariables = Some (table e.vars)
+entry_value e key.Name = Some (text (bare_name e.row.full_name))
+entry_value e key.BufferType = Some (o.Int (pos 0))
+entry_value e key.Notify = Some (o.Int (pos 3))
+entry_value e key.Nicklist = Some (o.Int (truth (is_channel e.vars)))
 entry_value e _ = None
 
 -- its number beside that

@@ -3,7 +3,7 @@
 ghost use Rattle.std.specs.Prelude.{◌≡◌, IfOk, option_map};
 ghost use Rattle.std.specs.List.{filter_map};
 ghost use Rattle.wc_events.specs.BufferObjects.{noticed_value, entry_value, numbered_value};
-ghost use Rattle.wc_events.specs.BufferObjects.{told_value};
+ghost use Rattle.wc_events.specs.BufferObjects.{told_value, bare_name, is_channel};
 ghost use Rattle.wc_events.specs.LentValues.{object_of};
 
 use crate::lent_value::LentValue;
@@ -13,7 +13,13 @@ use wc_buffers::{BufferRow, Vars};
 use wc_keys::Key;
 use wc_model::Notice;
 use wc_objects::Object;
-use wc_text::{Items, NoMemory};
+use wc_text::{Items, NoMemory, split_once};
+
+/// The plain type of a buffer, which has lines.
+const PLAIN: i32 = 0;
+
+/// All lines of a buffer call for notice.
+const ALL_LINES: i32 = 3;
 
 /// What a notice says of its buffer under a key. None under another key.
 fn noticed_value<'a>(notice: &'a Notice, key: Key) -> Option<LentValue<'a>>
@@ -29,6 +35,25 @@ fn noticed_value<'a>(notice: &'a Notice, key: Key) -> Option<LentValue<'a>>
     Some(value)
 }
 
+/// The name of a buffer without its plugin: what is after the first dot of its full name, or all of
+/// it where it has no dot.
+fn bare_name(full_name: &[u8]) -> &[u8]
+    ensures { result.now ≡ bare_name full_name.now }
+{
+    let (_, text_after) = split_once(full_name, b'.');
+    text_after.unwrap_or(full_name)
+}
+
+/// Whether a buffer is of a channel, by its variable `type`.
+fn is_channel(vars: &Vars) -> bool
+    ensures { result ≡ is_channel vars.now }
+{
+    match vars.get(b"type") {
+        Some(value) => value.as_slice() == b"channel".as_slice(),
+        None => false,
+    }
+}
+
 /// What a buffer has under a key, by its row and its variables. None under a key that is of no
 /// buffer, and under those that say where it is among the others.
 pub fn entry_value<'a>(row: &'a BufferRow, vars: &'a Vars, key: Key) -> Option<LentValue<'a>>
@@ -41,6 +66,10 @@ pub fn entry_value<'a>(row: &'a BufferRow, vars: &'a Vars, key: Key) -> Option<L
         Key::Hidden => LentValue::Int(truth(row.hidden)),
         Key::Title => LentValue::Str(row.title.as_slice()),
         Key::LocalVariables => LentValue::Vars(vars),
+        Key::Name => LentValue::Str(bare_name(row.full_name.as_slice())),
+        Key::BufferType => LentValue::Int(PLAIN),
+        Key::Notify => LentValue::Int(ALL_LINES),
+        Key::Nicklist => LentValue::Int(truth(is_channel(vars))),
         _ => return None,
     };
     Some(value)

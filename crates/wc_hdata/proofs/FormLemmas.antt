@@ -127,6 +127,9 @@ keyed k.Title = record { whole = refl; kind = refl; small = refl }
 keyed k.LocalVariables = record { whole = refl; kind = refl; small = refl }
 keyed k.PrevBuffer = record { whole = refl; kind = refl; small = refl }
 keyed k.NextBuffer = record { whole = refl; kind = refl; small = refl }
+keyed k.BufferType = record { whole = refl; kind = refl; small = refl }
+keyed k.Notify = record { whole = refl; kind = refl; small = refl }
+keyed k.Nicklist = record { whole = refl; kind = refl; small = refl }
 keyed k.FirstLine = record { whole = refl; kind = refl; small = refl }
 keyed k.LastLine = record { whole = refl; kind = refl; small = refl }
 keyed k.LinesCount = record { whole = refl; kind = refl; small = refl }

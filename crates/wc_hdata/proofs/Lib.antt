@@ -14,6 +14,7 @@ pub mod KeyLemmas
 pub mod Lasts
 pub mod MadeLemmas
 pub mod Mixed
+pub mod NameTexts
 pub mod NarrowLemmas
 pub mod Orders
 pub mod PathLemmas

@@ -1,7 +1,7 @@
 -- What a path leads to in a sound world keeps the rules of messages, and each number is one of its
 -- type.
 use Rattle.std.proofs.Common.{◌≡◌, ℕ, ◌^◌, ◌<◌, Bool, true, false, cond, eqb, List, [], ◌∷◌, map, length, Option, Some, None, subst, arith}
-use Rattle.std.specs.Prelude.{unwrap_or}
+use Rattle.std.specs.Prelude.{pos, unwrap_or}
 use Rattle.std.specs.List.{AllByRecursion, cons_option}
 use Rattle.wc_text.specs.declared.names.Handle.{Handle}
 use Rattle.wc_buffers.specs.declared.row.BufferEntry.{BufferEntry}
@@ -16,7 +16,7 @@ use Rattle.wc_objects.specs.declared.object.Hda.{roll-Hda}
 use Rattle.wc_objects.specs.declared.object.HdaItem.{HdaItem}
 use Rattle.wc_objects.specs.Forms.{well_formed}
 use Rattle.wc_objects.specs.Within.{ValueWithin, ItemWithin, HdaWithin, ObjectWithin}
-use Rattle.wc_events.specs.BufferObjects.{count}
+use Rattle.wc_events.specs.BufferObjects.{count, bare_name, is_channel}
 use Rattle.wc_keys.specs.declared.key.Key.{Key}
 use Rattle.wc_keys.specs.declared.key.Key.TheVariants as k
 use Rattle.wc_hdata.specs.declared.path.Path.{Path}
@@ -79,6 +79,10 @@ entry_within groups buffer k.Title e small = value_str e.row.title
 entry_within groups buffer k.LocalVariables e small = value_table e.vars
 entry_within groups buffer k.PrevBuffer e small = value_ptr (prev_of buffer.0 groups) (before_small 0 buffer.0 (order groups) (omega arith) small)
 entry_within groups buffer k.NextBuffer e small = value_ptr (next_of buffer.0 groups) (after_small buffer.0 (order groups) small)
+entry_within groups buffer k.Name e small = value_str (bare_name e.row.full_name)
+entry_within groups buffer k.BufferType e small = value_int (pos 0) (record { sfits = omega arith })
+entry_within groups buffer k.Notify e small = value_int (pos 3) (record { sfits = omega arith })
+entry_within groups buffer k.Nicklist e small = value_int _ (flag_within (is_channel e.vars))
 entry_within groups buffer _ e small = tt
 
 buffer_within : (groups : EntryGroups) (buffer : Handle) (key : Key) (o : Option BufferEntry) → AllByRecursion Small (order groups) → OnSome ValueWithin (of_buffer groups buffer key o)

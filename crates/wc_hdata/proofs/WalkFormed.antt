@@ -22,7 +22,7 @@ use Rattle.wc_objects.specs.declared.object.Object.TheViews.{out-Object, out-rol
 use Rattle.wc_objects.specs.declared.object.Hda.{roll-Hda}
 use Rattle.wc_objects.specs.declared.object.HdaItem.{HdaItem, roll-HdaItem}
 use Rattle.wc_objects.specs.Forms.{kinds_of, simple_is, value_is, values_are, item_of as item_is, values_of as kinds_hold, hda_is, object_is, well_formed, names_of, is_path}
-use Rattle.wc_events.specs.BufferObjects.{pair_of, table, text}
+use Rattle.wc_events.specs.BufferObjects.{pair_of, table, text, bare_name}
 use Rattle.wc_events.specs.LineObjects.{texts}
 use Rattle.wc_model.specs.World.{World}
 use Rattle.wc_hdata.specs.declared.element.Element.{Element}
@@ -33,7 +33,7 @@ use Rattle.wc_hdata.specs.Hdata.{keys_asked, walk_object}
 use Rattle.wc_hdata.specs.Kept.{Listed, IsKept}
 use Rattle.wc_keys.specs.Keys.{kind_of_key, same_key, keys_text}
 use Rattle.wc_hdata.specs.Keys.{keys_at, key_named, firsts, named_keys, keys_of}
-use Rattle.wc_keys.specs.Keys.{key_name}
+use Rattle.wc_keys.specs.Keys.{key_name, is_own, own_keys}
 use Rattle.wc_hdata.specs.Paths.{element_at, h_path_of}
 use Rattle.wc_hdata.specs.Reached.{Place, HeldLine, Buffer, Lines, Line_at, Data_at}
 use Rattle.wc_hdata.specs.Refusals.{reached}
@@ -42,6 +42,7 @@ use Rattle.wc_hdata.specs.Walk.{Node}
 use Rattle.wc_hdata.specs.WalkForms.{element_of_place, AreNodesKept}
 use Rattle.wc_hdata.proofs.Everywhere.{all_weaken}
 use Rattle.wc_hdata.proofs.FormLemmas.{h_path_is_path, h_path_depth, h_path_is_utf8, keys_text_kinds, keys_text_is_utf8}
+use Rattle.wc_hdata.proofs.NameTexts.{bare_name_text}
 use Rattle.wc_hdata.proofs.ReachedForms.{IsNodeOf, AreNodesOf, reached_are}
 
 -- ---- what holds of the keys of an element holds of those that are asked for
@@ -75,7 +76,7 @@ firsts_are P (key ∷ keys) all = (all.0, filtered_are P (λ other. not (same_ke
 
 asked_are : (P : Key → Type 0) (element : Element) (text : List ℕ) → AllByRecursion P (keys_at element) → AllByRecursion P (keys_of element text)
 unfolding named_keys
-asked_are P element [] all = all
+asked_are P element [] all = filtered_are P (λ key. not (is_own key)) (keys_at element) all
 asked_are P element (b ∷ text) all =
     firsts_are P _ (mapped_are P (key_named element) (λ name key found. found_is P (λ key. bytes_eq name (key_name key)) (keys_at element) key all found) (slice_split (λ b. eqb b 44) (b ∷ text)))
 
@@ -134,7 +135,10 @@ table_formed vars h = rw (← o.rolls-Htb kind.Str kind.Str (map pair_of vars), 
 
 -- ---- the values of each element
 entry_fits : (groups : EntryGroups) (buffer : Handle) (e : BufferEntry) → IsBuffer e → AllByRecursion (λ key. IsValue key (of_buffer groups buffer key (Some e))) (keys_at Elements.Buffer)
-entry_fits groups buffer e is = (int_formed _, (str_formed e.row.full_name is.text.full_name, (str_formed e.row.short_name is.text.short_name, (int_formed _, (str_formed e.row.title is.text.title, (table_formed e.vars is.vars, (ptr_formed _, (ptr_formed _, tt))))))))
+entry_fits groups buffer e is = (int_formed _, (str_formed e.row.full_name is.text.full_name, (str_formed e.row.short_name is.text.short_name, (int_formed _, (str_formed e.row.title is.text.title, (table_formed e.vars is.vars, (ptr_formed _, (ptr_formed _, own_fit))))))))
+  where
+    own_fit : AllByRecursion (λ key. IsValue key (of_buffer groups buffer key (Some e))) own_keys
+    own_fit = (str_formed (bare_name e.row.full_name) (bare_name_text e.row.full_name is.text.full_name), (int_formed _, (int_formed _, (int_formed _, tt))))
 
 -- each buffer that is there keeps its limits
 abbrev pub AreFit : EntryGroups → Type 0

@@ -20,6 +20,13 @@ info_of name =
     if bytes_eq name (codes "version") then Some (codes "4.0.0")
     else (if bytes_eq name (codes "version_number") then Some (codes "67108864") else None)
 
+-- the values of the settings of WeeChat that clients ask for; they are no options
+abbrev pub setting_of : List ℕ → Option (List ℕ)
+setting_of name =
+    if bytes_eq name (codes "weechat.look.buffer_time_format") then Some (codes "%H:%M:%S") else (
+    if bytes_eq name (codes "weechat.completion.nick_completer") then Some (codes ":") else (
+    if bytes_eq name (codes "weechat.completion.nick_add_space") then Some (codes "on") else None))
+
 -- a variable of a list
 unfoldable pub variable : List ℕ → Object → InlVar
 variable name value = roll-InlVar (record { name = name; value = value })
@@ -51,7 +58,21 @@ buffer_items groups [] = []
 buffer_items groups (buffer ∷ buffers) = buffer_item groups buffer (entry_of buffer groups)
     ++ buffer_items groups buffers
 
--- the list of all buffers in their order; one of another name is empty
-abbrev pub infolist_object : EntryGroups → List ℕ → Object
-infolist_object groups name = o.Inl name (if bytes_eq name (codes "buffer")
-    then buffer_items groups (all_buffers groups) else [])
+-- what the list of options has of a setting
+unfoldable pub setting_variables : List ℕ → List ℕ → List InlVar
+setting_variables name value =
+    variable (key_name k.FullName) (text name) ∷ variable (codes "value") (text value) ∷ []
+
+abbrev pub setting_item : List ℕ → Option (List ℕ) → List (List InlVar)
+setting_item name None = []
+setting_item name (Some value) = setting_variables name value ∷ []
+
+-- the items of the list of all buffers in their order, and of the list of the option that the
+-- argument names, where it is one of the settings; a list of another name is empty
+abbrev pub listed : EntryGroups → List ℕ → List ℕ → List (List InlVar)
+listed groups name argument =
+    if bytes_eq name (codes "buffer") then buffer_items groups (all_buffers groups) else (
+    if bytes_eq name (codes "option") then setting_item argument (setting_of argument) else [])
+
+unfoldable pub infolist_object : EntryGroups → List ℕ → List ℕ → Object
+infolist_object groups name argument = o.Inl name (listed groups name argument)

@@ -8,7 +8,7 @@ use Rattle.wc_hdata.specs.declared.element.Element.TheVariants as Elements
 use Rattle.wc_keys.specs.declared.key.Key.{Key}
 use Rattle.wc_keys.specs.declared.key.KeyList.{KeyList}
 use Rattle.wc_keys.specs.declared.key.KeyList.TheVariants as l
-use Rattle.wc_keys.specs.Keys.{keys_in, key_name}
+use Rattle.wc_keys.specs.Keys.{keys_in, key_name, is_own}
 pub use Rattle.wc_keys.specs.Keys.{kind_of_key, same_key, key_text}
 unfoldable pub use Rattle.wc_keys.specs.Keys.{keys_text}
 
@@ -38,9 +38,13 @@ firsts (key ∷ keys) = key ∷ filter (λ other. not (same_key key other)) (fir
 unfoldable pub named_keys : Element → List ℕ → List Key
 named_keys element text = firsts (filter_map (key_named element) (slice_split (λ b. b == 44) text))
 
--- the same, or all where the text is empty
+-- keys without those that are our own
+abbrev pub without_own : List Key → List Key
+without_own keys = filter (λ key. not (is_own key)) keys
+
+-- the same, or all but our own where the text is empty
 abbrev pub keys_of : Element → List ℕ → List Key
-keys_of element [] = keys_at element
+keys_of element [] = without_own (keys_at element)
 keys_of element (b ∷ text) = named_keys element (b ∷ text)
 
 -- keys with one more, unless it is among them

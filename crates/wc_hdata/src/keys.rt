@@ -1,5 +1,5 @@
 ghost use Rattle.std.specs.Prelude.{◌≡◌, ◌++◌, IfOk, OnOk, Option};
-ghost use Rattle.wc_hdata.specs.Keys.{keys_of, has_key, with_key};
+ghost use Rattle.wc_hdata.specs.Keys.{keys_of, has_key, with_key, without_own};
 ghost use Rattle.wc_keys.specs.Keys.{keys_text, key_text};
 
 use crate::element::Element;
@@ -8,13 +8,13 @@ use std::alloc::Global;
 use wc_text::{Items, NoMemory, Text, split_once};
 
 /// The keys of an element that a request asks for: those that the text names between commas, in its
-/// order, or all where it is empty. A repeated key is where it came first, and a name that is no
-/// key of the element is passed over.
+/// order, or all but our own where it is empty. A repeated key is where it came first, and a name
+/// that is no key of the element is passed over.
 pub fn read_keys(alloc: Global, element: Element, text: &[u8]) -> Result<Items<Key>, NoMemory>
     ensures { IfOk result (λ keys. keys ≡ keys_of element text.now) }
 {
     if text.is_empty() {
-        return copy_keys(alloc, element.keys());
+        return without_own(alloc, element.keys());
     }
     let mut keys = Items::new(alloc);
     let mut rest = Some(text);
@@ -26,14 +26,17 @@ pub fn read_keys(alloc: Global, element: Element, text: &[u8]) -> Result<Items<K
     Ok(keys)
 }
 
-fn copy_keys(alloc: Global, keys: &[Key]) -> Result<Items<Key>, NoMemory>
-    ensures { IfOk result (λ copy. copy ≡ keys.now) }
+/// Keys without those that are our own.
+fn without_own(alloc: Global, keys: &[Key]) -> Result<Items<Key>, NoMemory>
+    ensures { IfOk result (λ usual. usual ≡ without_own keys.now) }
 {
-    let mut copy = Items::new(alloc);
+    let mut usual = Items::new(alloc);
     for key in keys {
-        copy.push(*key)?;
+        if !key.is_own() {
+            usual.push(*key)?;
+        }
     }
-    Ok(copy)
+    Ok(usual)
 }
 
 /// Puts a key after the others, unless it is among them.

@@ -27,7 +27,7 @@ fn gives_one(element: Element, step: Step) -> bool
     element.leads(step.variable).is_some() && is_narrow(step)
 }
 
-/// The place of a step behind which each step leads from each place to one.
+/// The place of a step after which each step leads from each place to one.
 pub(crate) fn last_wide(steps: &[Step]) -> usize
     requires { 0 < length steps.now }
     ensures inside { result < length steps.now }

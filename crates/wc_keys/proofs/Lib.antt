@@ -1,2 +1,3 @@
 pub mod EventIds
 pub mod ListTexts
+pub mod OwnKeys

@@ -1,5 +1,5 @@
-ghost use Rattle.std.specs.Prelude.{◌≡◌};
-ghost use Rattle.wc_keys.specs.Keys.{key_name, kind_of_key, same_key, keys_in, list_text};
+ghost use Rattle.std.specs.Prelude.{◌≡◌, true, false};
+ghost use Rattle.wc_keys.specs.Keys.{key_name, kind_of_key, is_own, same_key, keys_in, list_text};
 
 use wc_objects::Kind;
 
@@ -22,6 +22,12 @@ pub enum Key {
     PrevBuffer,
     /// `next_buffer`, the buffer after this one.
     NextBuffer,
+    /// `type`, the kind of content of a buffer.
+    BufferType,
+    /// `notify`, how much the lines of a buffer call for notice.
+    Notify,
+    /// `nicklist`, whether a buffer shows nicks.
+    Nicklist,
     /// `first_line`, the first of the lines.
     FirstLine,
     /// `last_line`, the last of the lines.
@@ -56,7 +62,7 @@ pub enum Key {
     Visible,
     /// `level`, how deep a group is in others.
     Level,
-    /// `name`, the name of a group or a nick.
+    /// `name`, the name of a group or a nick, and that of a buffer without its plugin.
     Name,
     /// `color`, the color of a group or a nick.
     Color,
@@ -64,25 +70,45 @@ pub enum Key {
     PrefixColor,
 }
 
-/// How a key is written, and the type of its values.
+/// How a key is written, the type of its values, and whether it is a key of our own of buffers.
 #[derive(Clone, Copy)]
 struct KeyRow {
     name: &'static [u8],
     kind: Kind,
+    is_own: bool,
 }
 
 fn row(name: &'static [u8], kind: Kind) -> KeyRow
     ensures name { result.name.now ≡ name.now }
     ensures kind { result.kind ≡ kind }
+    ensures own { result.is_own ≡ false }
 {
-    KeyRow { name, kind }
+    KeyRow {
+        name,
+        kind,
+        is_own: false,
+    }
+}
+
+/// The row of a key of our own of buffers.
+fn own_row(name: &'static [u8], kind: Kind) -> KeyRow
+    ensures name { result.name.now ≡ name.now }
+    ensures kind { result.kind ≡ kind }
+    ensures own { result.is_own ≡ true }
+{
+    KeyRow {
+        name,
+        kind,
+        is_own: true,
+    }
 }
 
 impl Key {
-    /// Each key once: its name and the type of its values.
+    /// Each key once: its name, the type of its values, and whether it is our own.
     fn row(self) -> KeyRow
         ensures name { result.name.now ≡ key_name self }
         ensures kind { result.kind ≡ kind_of_key self }
+        ensures own { result.is_own ≡ is_own self }
     {
         match self {
             Key::Number => row(b"number", Kind::Int),
@@ -93,6 +119,9 @@ impl Key {
             Key::LocalVariables => row(b"local_variables", Kind::Htb),
             Key::PrevBuffer => row(b"prev_buffer", Kind::Ptr),
             Key::NextBuffer => row(b"next_buffer", Kind::Ptr),
+            Key::BufferType => own_row(b"type", Kind::Int),
+            Key::Notify => own_row(b"notify", Kind::Int),
+            Key::Nicklist => own_row(b"nicklist", Kind::Int),
             Key::FirstLine => row(b"first_line", Kind::Ptr),
             Key::LastLine => row(b"last_line", Kind::Ptr),
             Key::LinesCount => row(b"lines_count", Kind::Int),
@@ -110,7 +139,7 @@ impl Key {
             Key::Group => row(b"group", Kind::Chr),
             Key::Visible => row(b"visible", Kind::Chr),
             Key::Level => row(b"level", Kind::Int),
-            Key::Name => row(b"name", Kind::Str),
+            Key::Name => own_row(b"name", Kind::Str),
             Key::Color => row(b"color", Kind::Str),
             Key::PrefixColor => row(b"prefix_color", Kind::Str),
         }
@@ -128,6 +157,13 @@ impl Key {
         ensures { result ≡ kind_of_key self }
     {
         self.row().kind
+    }
+
+    /// Whether it is a key of our own of buffers, which is told only where a request names it.
+    pub fn is_own(self) -> bool
+        ensures { result ≡ is_own self }
+    {
+        self.row().is_own
     }
 
     /// Whether two keys are the same, which are then written the same.
@@ -149,9 +185,28 @@ const BUFFER: &[Key] = &[
     Key::LocalVariables,
     Key::PrevBuffer,
     Key::NextBuffer,
+    Key::Name,
+    Key::BufferType,
+    Key::Notify,
+    Key::Nicklist,
 ];
 
 const BUFFER_TEXT: &[u8] =
+    b"number:int,full_name:str,short_name:str,hidden:int,title:str,local_variables:htb,\
+prev_buffer:ptr,next_buffer:ptr,name:str,type:int,notify:int,nicklist:int";
+
+const OPENED: &[Key] = &[
+    Key::Number,
+    Key::FullName,
+    Key::ShortName,
+    Key::Hidden,
+    Key::Title,
+    Key::LocalVariables,
+    Key::PrevBuffer,
+    Key::NextBuffer,
+];
+
+const OPENED_TEXT: &[u8] =
     b"number:int,full_name:str,short_name:str,hidden:int,title:str,local_variables:htb,\
 prev_buffer:ptr,next_buffer:ptr";
 
@@ -213,7 +268,7 @@ const DIFF_TEXT: &[u8] =
 /// Keys that are told together, in this order.
 #[derive(Clone, Copy, Debug, PartialEq, Eq)]
 pub enum KeyList {
-    /// Every key of a buffer.
+    /// Every key of a buffer, our own last.
     Buffer,
     /// Every key of a list of lines.
     Lines,
@@ -249,11 +304,12 @@ impl KeyList {
         ensures { result.now ≡ keys_in self }
     {
         match self {
-            KeyList::Buffer | KeyList::Opened => BUFFER,
+            KeyList::Buffer => BUFFER,
             KeyList::Lines => &[Key::FirstLine, Key::LastLine, Key::LinesCount],
             KeyList::Line => &[Key::Data],
             KeyList::LineData => LINE_DATA,
             KeyList::Dump => DUMP,
+            KeyList::Opened => OPENED,
             KeyList::Placed => &[Key::Number, Key::FullName, Key::PrevBuffer, Key::NextBuffer],
             KeyList::Renamed => &[
                 Key::Number,
@@ -276,11 +332,12 @@ impl KeyList {
         ensures { result.now ≡ list_text self }
     {
         match self {
-            KeyList::Buffer | KeyList::Opened => BUFFER_TEXT,
+            KeyList::Buffer => BUFFER_TEXT,
             KeyList::Lines => b"first_line:ptr,last_line:ptr,lines_count:int",
             KeyList::Line => b"data:ptr",
             KeyList::LineData => LINE_DATA_TEXT,
             KeyList::Dump => DUMP_TEXT,
+            KeyList::Opened => OPENED_TEXT,
             KeyList::Placed => b"number:int,full_name:str,prev_buffer:ptr,next_buffer:ptr",
             KeyList::Renamed => b"number:int,full_name:str,short_name:str,local_variables:htb",
             KeyList::Titled => b"number:int,full_name:str,title:str",

@@ -189,10 +189,10 @@ test_good = record { formed = test_formed; within = test_within }
 info_good : (name : List ℕ) → IsUtf8 name → AreGood (info_objects name)
 info_good name text = record { formed = info_formed name text; within = (inf_within (Some name) (info_of name), tt) }
 
-infolist_good : (limit : ℕ) (world : World) (name : List ℕ) → IsWorldKept limit world → IsUtf8 name → AreGood (infolist_objects world name)
-infolist_good limit world name is text = record {
-  formed = infolist_formed world name (λ h e at. (row_has (IsBufferKept world.next) handle_of h.0 (rows world.groups) e at is.each).fit) text;
-  within = infolist_within limit world name is;
+infolist_good : (limit : ℕ) (world : World) (name argument : List ℕ) → IsWorldKept limit world → IsUtf8 name → AreGood (infolist_objects world name argument)
+infolist_good limit world name argument is text = record {
+  formed = infolist_formed world name argument (λ h e at. (row_has (IsBufferKept world.next) handle_of h.0 (rows world.groups) e at is.each).fit) text;
+  within = infolist_within limit world name argument is;
 }
 
 pong_good : (text : List ℕ) → IsUtf8 text → AreGood (pong_objects text)
@@ -265,7 +265,7 @@ served_spelt limit world options client id (ask.Handshake pairs) is text utf8 = 
 served_spelt limit world options client id (ask.Init pairs) is text utf8 = init_spelt (password_of options) client pairs
 served_spelt limit world options client id (ask.Hdata path keys) is text utf8 = replies_spelt client _ (reply_spelt id _ text (hdata_good limit world path keys is))
 served_spelt limit world options client id (ask.Info name) is text utf8 = replies_spelt client _ (reply_spelt id _ text (info_good name utf8))
-served_spelt limit world options client id (ask.Infolist name) is text utf8 = replies_spelt client _ (reply_spelt id _ text (infolist_good limit world name is utf8))
+served_spelt limit world options client id (ask.Infolist name argument) is text utf8 = replies_spelt client _ (reply_spelt id _ text (infolist_good limit world name argument is utf8.0))
 served_spelt limit world options client id (ask.Nicklist buffer) is text utf8 = replies_spelt client _ (reply_spelt id _ text (nicklist_good limit world buffer is))
 served_spelt limit world options client id (ask.Input buffer typed) is text utf8 = input_spelt world.groups client buffer typed
 served_spelt limit world options client id (ask.Completion buffer position typed) is text utf8 = replies_spelt client _ (reply_spelt id _ text null_good)

@@ -18,7 +18,7 @@ use Rattle.wc_objects.specs.declared.object.Object.TheVariants as o
 use Rattle.wc_objects.specs.declared.object.Object.TheViews.{out-Object, out-roll-Object}
 use Rattle.wc_objects.specs.Within.{SimpleWithin, VariableWithin, ObjectWithin}
 use Rattle.wc_events.specs.BufferObjects.{count, text}
-use Rattle.wc_hdata.specs.Infos.{variable, variables_of, buffer_item, buffer_items}
+use Rattle.wc_hdata.specs.Infos.{variable, variables_of, buffer_item, buffer_items, setting_of, setting_variables, setting_item, infolist_object}
 use Rattle.wc_hdata.specs.Sound.{IsSoundBuffer, IsSoundLine, IsSound}
 use Rattle.wc_hdata.specs.Steps.{all_buffers}
 use Rattle.wc_hdata.proofs.SoundPlaces.{IsSoundHandle, buffers_sound}
@@ -82,9 +82,15 @@ inl_within : (name : List ℕ) (items : List (List InlVar)) → AllByRecursion (
 unfolding ObjectWithin
 inl_within name items all = rw (← o.rolls-Inl name items, out-roll-Object) all
 
-pub infolist_within : (limit : ℕ) (world : World) (name : List ℕ) → IsWorldKept limit world → AllByRecursion ObjectWithin (infolist_objects world name)
-unfolding infolist_objects
-infolist_within limit world name is = (inl_within name _ (by (bytes_eq name (codes "buffer"))), tt) where
-  by : (b : Bool) → AllByRecursion (AllByRecursion VariableWithin) (cond b (buffer_items world.groups (all_buffers world.groups)) [])
-  by true = listed_within world.groups (all_buffers world.groups) (buffers_sound world (world_sound limit world is))
-  by false = tt
+setting_within : (name : List ℕ) (value : Option (List ℕ)) → AllByRecursion (AllByRecursion VariableWithin) (setting_item name value)
+unfolding setting_variables
+setting_within name None = tt
+setting_within name (Some value) = ((str_variable _ _, (str_variable _ _, tt)), tt)
+
+pub infolist_within : (limit : ℕ) (world : World) (name argument : List ℕ) → IsWorldKept limit world → AllByRecursion ObjectWithin (infolist_objects world name argument)
+unfolding infolist_objects infolist_object
+infolist_within limit world name argument is = (inl_within name _ (by (bytes_eq name (codes "buffer")) (bytes_eq name (codes "option"))), tt) where
+  by : (buffers options : Bool) → AllByRecursion (AllByRecursion VariableWithin) (cond buffers (buffer_items world.groups (all_buffers world.groups)) (cond options (setting_item argument (setting_of argument)) []))
+  by true options = listed_within world.groups (all_buffers world.groups) (buffers_sound world (world_sound limit world is))
+  by false true = setting_within argument (setting_of argument)
+  by false false = tt

@@ -9,7 +9,7 @@ use Rattle.wc_text.specs.Integer.{integer_of}
 use Rattle.wc_text.specs.Splits.{before, text_after, Lacks, BeginsWithout, WordAndRest, word_of, rest_of}
 use Rattle.wc_relaycmd.specs.Lists.{pieces_of, pairs_of}
 use Rattle.wc_relaycmd.specs.Grammar.{TwoParts, AreOptions, Selects, AsksNicks, Asks}
-use Rattle.wc_relaycmd.specs.Answers.{if_filled, leading_of, second_of, hdata_of, input_of, completion_of, buffers_of, options_of, command_of}
+use Rattle.wc_relaycmd.specs.Answers.{if_filled, leading_of, second_of, third_of, hdata_of, infolist_of, input_of, completion_of, buffers_of, options_of, command_of}
 use Rattle.wc_text.proofs.WordLemmas.{other_byte, before-at, text_after-at, Lacks-before, cut_after, WordAndRest-same, WordAndRest-made}
 
 -- a value of a text that is not empty
@@ -73,6 +73,14 @@ hdata_asked text path keys rest two =
     let known = filled-some text (Commands.Hdata (word_of text) (second_of text)) same.filled in
     cc
 
+infolist_asked : (text name pointer following argument rest : List ℕ) → TwoParts text name pointer following → WordAndRest following argument rest → infolist_of text ≡ Some (Commands.Infolist name argument)
+infolist_asked text name pointer following argument rest two parts =
+    let same = TwoParts-same text name pointer following two in
+    let name_is = same.first_is in
+    let argument_is = (WordAndRest-same following argument rest parts).0 ∙ ap word_of same.rest_is in
+    let known = filled-some text (Commands.Infolist (word_of text) (third_of text)) same.filled in
+    cc
+
 input_asked : (text buffer typed : List ℕ) → typed ≢ [] → Lacks 32 buffer → text ≡ buffer ++ 32 ∷ typed → input_of text ≡ Some (Commands.Input buffer typed)
 input_asked text buffer typed some lacks is =
     ap (λ o. option_and_then (λ typed. if_filled typed (Commands.Input (word_of text) typed)) o) (ap (text_after 32) is ∙ text_after-at 32 buffer typed lacks) ∙
@@ -117,7 +125,7 @@ command_of-asks Words.Handshake text command asks = ap (λ c. Some c) (sym asks)
 command_of-asks Words.Init text command asks = filled-some text (Commands.Init (pairs_of text)) asks.0 ∙ ap (λ c. Some c) (sym asks.1)
 command_of-asks Words.Hdata text command (path, keys, rest, two, is) = hdata_asked text path keys rest two ∙ ap (λ c. Some c) (sym is)
 command_of-asks Words.Info text command (name, rest, some, parts, is) = ap (λ o. option_map (λ name. Commands.Info name) o) (leading-some text name rest some parts) ∙ ap (λ c. Some c) (sym is)
-command_of-asks Words.Infolist text command (name, rest, some, parts, is) = ap (λ o. option_map (λ name. Commands.Infolist name) o) (leading-some text name rest some parts) ∙ ap (λ c. Some c) (sym is)
+command_of-asks Words.Infolist text command (name, pointer, following, argument, rest, two, parts, is) = infolist_asked text name pointer following argument rest two parts ∙ ap (λ c. Some c) (sym is)
 command_of-asks Words.Nicklist text command asks = nicks_asked text command asks
 command_of-asks Words.Input text command (buffer, typed, some_buffer, some_typed, lacks, spelled, is) = input_asked text buffer typed some_typed lacks spelled ∙ ap (λ c. Some c) (sym is)
 command_of-asks Words.Completion text command (buffer, number, typed, position, two, reads, is) = completion_asked text buffer number typed position two reads ∙ ap (λ c. Some c) (sym is)
@@ -145,6 +153,12 @@ hdata_asks : (text : List ℕ) (command : Command) → BeginsWithout 32 text →
 hdata_asks text command bare is =
     let given = filled_given text (Commands.Hdata (word_of text) (second_of text)) command is in
     (word_of text, second_of text, rest_of (rest_of text), TwoParts-made text bare given.0, sym given.1)
+
+infolist_asks : (text : List ℕ) (command : Command) → BeginsWithout 32 text → infolist_of text ≡ Some command →
+    (name pointer following argument rest : List ℕ) × TwoParts text name pointer following × WordAndRest following argument rest × (command ≡ Commands.Infolist name argument)
+infolist_asks text command bare is =
+    let given = filled_given text (Commands.Infolist (word_of text) (third_of text)) command is in
+    (word_of text, second_of text, rest_of (rest_of text), third_of text, rest_of (rest_of (rest_of text)), TwoParts-made text bare given.0, WordAndRest-made (rest_of (rest_of text)), sym given.1)
 
 nicks_asks : (text : List ℕ) (command : Command) → BeginsWithout 32 text → Some (Commands.Nicklist (leading_of text)) ≡ Some command → AsksNicks text command
 nicks_asks [] command bare is = cc
@@ -184,7 +198,7 @@ asks-command_of Words.Handshake text command bare is = cc
 asks-command_of Words.Init text command bare is = let given = filled_given text (Commands.Init (pairs_of text)) command is in (given.0, sym given.1)
 asks-command_of Words.Hdata text command bare is = hdata_asks text command bare is
 asks-command_of Words.Info text command bare is = named_asks text command (λ name. Commands.Info name) bare (leading_of text) refl is
-asks-command_of Words.Infolist text command bare is = named_asks text command (λ name. Commands.Infolist name) bare (leading_of text) refl is
+asks-command_of Words.Infolist text command bare is = infolist_asks text command bare is
 asks-command_of Words.Nicklist text command bare is = nicks_asks text command bare is
 asks-command_of Words.Input text command bare is = input_asks text command bare (text_after 32 text) refl is
 asks-command_of Words.Completion text command bare is = completion_asks text command bare is

@@ -66,7 +66,9 @@ command_text Words.Init text command asks utf8 = subst CommandUtf8 (sym asks.1) 
 command_text Words.Hdata text command (path, keys, rest, two, is) utf8 =
     let texts = two_texts text path keys rest two utf8 in subst CommandUtf8 (sym is) (texts.first_text, texts.second_text)
 command_text Words.Info text command (name, rest, some, parts, is) utf8 = subst CommandUtf8 (sym is) (parts_text text name rest parts utf8).0
-command_text Words.Infolist text command (name, rest, some, parts, is) utf8 = subst CommandUtf8 (sym is) (parts_text text name rest parts utf8).0
+command_text Words.Infolist text command (name, pointer, following, argument, rest, two, parts, is) utf8 =
+    let texts = two_texts text name pointer following two utf8 in
+    subst CommandUtf8 (sym is) (texts.first_text, (parts_text following argument rest parts texts.rest_text).0)
 command_text Words.Nicklist text command asks utf8 = nicks_text text command asks utf8
 command_text Words.Input text command (buffer, typed, some_buffer, some_typed, lacks, spelled, is) utf8 =
     subst CommandUtf8 (sym is) (cut_text buffer 32 typed (lit< tt) (subst IsUtf8 spelled utf8))

@@ -33,6 +33,13 @@ init_of text = if_filled text (Commands.Init (pairs_of text))
 abbrev pub hdata_of : List ℕ → Option Command
 hdata_of text = if_filled text (Commands.Hdata (word_of text) (second_of text))
 
+-- the word after the first two
+abbrev pub third_of : List ℕ → List ℕ
+third_of text = word_of (rest_of (rest_of text))
+
+abbrev pub infolist_of : List ℕ → Option Command
+infolist_of text = if_filled text (Commands.Infolist (word_of text) (third_of text))
+
 abbrev pub input_of : List ℕ → Option Command
 input_of text = option_and_then (λ typed. if_filled typed (Commands.Input (word_of text) typed))
     (text_after 32 text)
@@ -56,7 +63,7 @@ command_of Words.Handshake text = Some (Commands.Handshake (pairs_of text))
 command_of Words.Init text = init_of text
 command_of Words.Hdata text = hdata_of text
 command_of Words.Info text = option_map (λ name. Commands.Info name) (leading_of text)
-command_of Words.Infolist text = option_map (λ name. Commands.Infolist name) (leading_of text)
+command_of Words.Infolist text = infolist_of text
 command_of Words.Nicklist text = Some (Commands.Nicklist (leading_of text))
 command_of Words.Input text = input_of text
 command_of Words.Completion text = completion_of text

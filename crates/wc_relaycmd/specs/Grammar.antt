@@ -99,8 +99,9 @@ Asks Words.Hdata text command = (path keys rest : List ℕ) × TwoParts text pat
     × (command ≡ Commands.Hdata path keys)
 Asks Words.Info text command = (name rest : List ℕ) × (name ≢ []) × WordAndRest text name rest
     × (command ≡ Commands.Info name)
-Asks Words.Infolist text command = (name rest : List ℕ) × (name ≢ []) × WordAndRest text name rest
-    × (command ≡ Commands.Infolist name)
+Asks Words.Infolist text command = (name pointer following argument rest : List ℕ) ×
+    TwoParts text name pointer following × WordAndRest following argument rest
+    × (command ≡ Commands.Infolist name argument)
 Asks Words.Nicklist text command = AsksNicks text command
 Asks Words.Input text command = (buffer typed : List ℕ) × (buffer ≢ []) × (typed ≢ []) ×
     Lacks 32 buffer × (text ≡ buffer ++ 32 ∷ typed) × (command ≡ Commands.Input buffer typed)

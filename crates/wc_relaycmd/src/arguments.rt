@@ -1,5 +1,6 @@
 ghost use Rattle.std.specs.Prelude.{◌≡◌, IfOk, option_map};
-ghost use Rattle.wc_relaycmd.specs.Answers.{leading_of, init_of, hdata_of, input_of, completion_of};
+ghost use Rattle.wc_relaycmd.specs.Answers.{leading_of, init_of, hdata_of, infolist_of, input_of};
+ghost use Rattle.wc_relaycmd.specs.Answers.{completion_of};
 ghost use Rattle.wc_relaycmd.specs.Answers.{buffers_of, options_of, command_of, if_filled};
 ghost use Rattle.wc_relaycmd.specs.Lists.{pieces_of};
 
@@ -40,6 +41,22 @@ fn hdata(alloc: Global, text: &[u8]) -> Result<Option<Command>, NoMemory>
     let path = Text::from_slice(alloc, path)?;
     let keys = Text::from_slice(alloc, keys)?;
     Ok(Some(Command::Hdata { path, keys }))
+}
+
+/// The name of a list, a pointer, and the word that says of what the list is to be. What is after
+/// the name may be missing.
+fn infolist(alloc: Global, text: &[u8]) -> Result<Option<Command>, NoMemory>
+    ensures { IfOk result (λ command. command ≡ infolist_of text.now) }
+{
+    if text.is_empty() {
+        return Ok(None);
+    }
+    let (name, after_name) = cut_word(text);
+    let (_, after_pointer) = cut_word(after_name);
+    let (argument, _) = cut_word(after_pointer);
+    let name = Text::from_slice(alloc, name)?;
+    let argument = Text::from_slice(alloc, argument)?;
+    Ok(Some(Command::Infolist { name, argument }))
 }
 
 /// A buffer, one blank, and a text that is not empty.
@@ -117,13 +134,6 @@ fn info(alloc: Global, text: &[u8]) -> Result<Option<Command>, NoMemory>
     ensures { IfOk result (λ command. command ≡ command_of Word.Info text.now) }
 {
     Ok(leading_option(alloc, text)?.map(Command::Info))
-}
-
-#[tactic(auto, unfolding(crate::specs::Answers::command_of))]
-fn infolist(alloc: Global, text: &[u8]) -> Result<Option<Command>, NoMemory>
-    ensures { IfOk result (λ command. command ≡ command_of Word.Infolist text.now) }
-{
-    Ok(leading_option(alloc, text)?.map(Command::Infolist))
 }
 
 #[tactic(auto, unfolding(crate::specs::Answers::command_of))]

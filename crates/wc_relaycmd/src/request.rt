@@ -22,8 +22,12 @@ pub enum Command {
     },
     /// The information of that name.
     Info(Text),
-    /// The list of that name.
-    Infolist(Text),
+    /// The list of that name. The argument, which comes after a pointer, says of what it is to be,
+    /// and is empty where it is not written.
+    Infolist {
+        name: Text,
+        argument: Text,
+    },
     /// The nicks of that buffer, or of all buffers.
     Nicklist(Option<Text>),
     /// A text that is typed into a buffer.

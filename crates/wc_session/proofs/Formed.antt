@@ -1,11 +1,12 @@
 -- What is replied keeps the rules of messages.
-use Rattle.std.proofs.Common.{◌≡◌, ℕ, ℤ, true, false, Bool, cond, ◌++◌, ◌&&◌, nat_lt, arith, List, [], ◌∷◌, codes, Option, Some, None, refl}
+use Rattle.std.proofs.Common.{◌≡◌, ℕ, ℤ, true, false, Bool, cond, ◌++◌, ◌&&◌, nat_lt, arith, List, [], ◌∷◌, codes, Option, Some, None, refl, sym, subst}
 use Rattle.std.specs.List.{list_all}
 use Rattle.std.specs.Prelude.{unwrap_or, bytes_eq}
 use Rattle.std.specs.Str.{IsUtf8, IsAscii, is_utf8, chars}
-use Rattle.std.proofs.lemmas.Str.{is_utf8-from_IsUtf8, IsUtf8-from_ascii}
+use Rattle.std.proofs.lemmas.Str.{is_utf8-from_IsUtf8, IsUtf8-from_is_utf8, IsUtf8-from_ascii}
 use Rattle.std.proofs.lemmas.Str.Ascii.{IsAscii-nil, IsAscii-cons}
 use Rattle.std.proofs.lemmas.Bool.Decides.{nat_tests}
+use Rattle.std.proofs.lemmas.Slice.Eq.{bytes_eq-Decides}
 use Rattle.hex.specs.Hex.{encode_upper, upper_digits}
 use Rattle.hex.proofs.HexLemmas.{IsAscii-encode_with}
 use lib.Utf8.{encode}
@@ -24,7 +25,7 @@ use Rattle.wc_buffers.specs.Kept.{IsBuffer, HasUtf8Row}
 use Rattle.wc_model.specs.World.{World}
 use Rattle.wc_events.specs.BufferObjects.{count, text}
 use Rattle.wc_events.specs.LineObjects.{truth}
-use Rattle.wc_hdata.specs.Infos.{info_of, variable, variables_of, buffer_item, buffer_items}
+use Rattle.wc_hdata.specs.Infos.{info_of, variable, variables_of, buffer_item, buffer_items, setting_of, setting_variables, setting_item, infolist_object}
 use Rattle.wc_hdata.specs.Steps.{all_buffers}
 use Rattle.wc_relaycmd.specs.declared.algorithm.Algorithm.{Algorithm}
 use Rattle.wc_relaycmd.specs.declared.algorithm.Algorithm.TheVariants as a
@@ -98,12 +99,33 @@ inl_formed : (name : List ℕ) (items : List (List InlVar)) → IsUtf8 name → 
 unfolding well_formed object_is
 inl_formed name items h are = rw (← o.rolls-Inl name items, out-roll-Object, is_utf8-from_IsUtf8 name h, are) refl
 
-pub infolist_formed : (world : World) (name : List ℕ) → AreFit world.groups → IsUtf8 name → well_formed (infolist_objects world name) ≡ true
-unfolding infolist_objects
-infolist_formed world name are h = inl_formed name _ h (by (bytes_eq name (codes "buffer"))) where
-  by : (b : Bool) → list_all are_variables (cond b (buffer_items world.groups (all_buffers world.groups)) []) ≡ true
-  by true = items_formed world.groups (all_buffers world.groups) are
-  by false = refl
+setting_formed : (name value : List ℕ) → IsUtf8 name → is_utf8 value ≡ true → list_all are_variables (setting_variables name value ∷ []) ≡ true
+unfolding setting_variables is_utf8 chars encode
+setting_formed name value name_text value_text =
+    rw (str_variable (codes "full_name") name refl name_text, str_variable (codes "value") value refl (IsUtf8-from_is_utf8 value value_text)) refl
+
+-- a name that is one of the settings is text
+known_text : (name known : List ℕ) → bytes_eq name known ≡ true → is_utf8 known ≡ true → IsUtf8 name
+known_text name known same known_is = subst IsUtf8 (sym ((bytes_eq-Decides name known).0 same)) (IsUtf8-from_is_utf8 known known_is)
+
+setting_items_formed : (name : List ℕ) → list_all are_variables (setting_item name (setting_of name)) ≡ true
+unfolding is_utf8 chars encode
+setting_items_formed name =
+    by (bytes_eq name (codes "weechat.look.buffer_time_format")) (bytes_eq name (codes "weechat.completion.nick_completer")) (bytes_eq name (codes "weechat.completion.nick_add_space")) refl refl refl where
+      by : (format completer space : Bool) → bytes_eq name (codes "weechat.look.buffer_time_format") ≡ format → bytes_eq name (codes "weechat.completion.nick_completer") ≡ completer → bytes_eq name (codes "weechat.completion.nick_add_space") ≡ space
+          → list_all are_variables (setting_item name (cond format (Some (codes "%H:%M:%S")) (cond completer (Some (codes ":")) (cond space (Some (codes "on")) None)))) ≡ true
+      by true completer space e f g = setting_formed name (codes "%H:%M:%S") (known_text name (codes "weechat.look.buffer_time_format") e refl) refl
+      by false true space e f g = setting_formed name (codes ":") (known_text name (codes "weechat.completion.nick_completer") f refl) refl
+      by false false true e f g = setting_formed name (codes "on") (known_text name (codes "weechat.completion.nick_add_space") g refl) refl
+      by false false false e f g = refl
+
+pub infolist_formed : (world : World) (name argument : List ℕ) → AreFit world.groups → IsUtf8 name → well_formed (infolist_objects world name argument) ≡ true
+unfolding infolist_objects infolist_object
+infolist_formed world name argument are h = inl_formed name _ h (by (bytes_eq name (codes "buffer")) (bytes_eq name (codes "option"))) where
+  by : (buffers options : Bool) → list_all are_variables (cond buffers (buffer_items world.groups (all_buffers world.groups)) (cond options (setting_item argument (setting_of argument)) [])) ≡ true
+  by true options = items_formed world.groups (all_buffers world.groups) are
+  by false true = setting_items_formed argument
+  by false false = refl
 
 pub pong_formed : (text : List ℕ) → IsUtf8 text → well_formed (pong_objects text) ≡ true
 unfolding well_formed object_is value_is simple_is out-Object out

@@ -115,8 +115,8 @@ abbrev pub info_objects : List ℕ → List Object
 info_objects name = o.Inf (Some name) (info_of name) ∷ []
 
 -- a list of informations, empty where it is unknown
-unfoldable pub infolist_objects : World → List ℕ → List Object
-infolist_objects world name = infolist_object world.groups name ∷ []
+unfoldable pub infolist_objects : World → List ℕ → List ℕ → List Object
+infolist_objects world name argument = infolist_object world.groups name argument ∷ []
 
 abbrev pub pong_objects : List ℕ → List Object
 pong_objects text = o.Str (Some text) ∷ []
@@ -179,8 +179,8 @@ served world options client id (ask.Init pairs) = init_answer (password_of optio
 served world options client id (ask.Hdata path keys) =
     replies client (reply id (hdata_objects world path keys))
 served world options client id (ask.Info name) = replies client (reply id (info_objects name))
-served world options client id (ask.Infolist name) =
-    replies client (reply id (infolist_objects world name))
+served world options client id (ask.Infolist name argument) =
+    replies client (reply id (infolist_objects world name argument))
 served world options client id (ask.Nicklist buffer) =
     replies client (reply id (nicklist_objects world buffer))
 served world options client id (ask.Input buffer text) =

@@ -129,15 +129,21 @@ pub fn info_objects(alloc: Global, name: Text) -> Result<[Object; 1], NoMemory>
     }])
 }
 
-/// The list of informations of a name, empty where it is unknown.
+/// The list of informations of a name and an argument, empty where it is unknown.
 #[tactic(auto, unfolding(crate::specs::Reply::infolist_objects))]
-pub fn infolist_objects(alloc: Global, world: &World, name: &Text) -> Result<[Object; 1], NoMemory>
+pub fn infolist_objects(
+    alloc: Global,
+    world: &World,
+    name: &Text,
+    argument: &Text,
+) -> Result<[Object; 1], NoMemory>
     requires { IsUtf8 name.now }
-    ensures objects { IfOk result (λ objects. objects ≡ infolist_objects world.now name.now) }
+    ensures objects { IfOk result (λ objects. objects
+        ≡ infolist_objects world.now name.now argument.now) }
     ensures formed { IfOk result (λ objects. well_formed objects ≡ true) }
 {
     let _ = world.buffers().groups();
-    Ok([infolist(alloc, world, name.as_slice())?])
+    Ok([infolist(alloc, world, name.as_slice(), argument.as_slice())?])
 }
 
 /// The text of a `ping`.

@@ -137,16 +137,17 @@ fn give_infolist(
     out: &mut BytesMut,
     world: &World,
     id: &[u8],
-    name: Text,
+    name: &Text,
+    argument: &Text,
 ) -> Result<Outcome, NoMemory>
     requires id { IsUtf8 id.now }
-    requires name { IsUtf8 name }
+    requires name { IsUtf8 name.now }
     ensures ok { IfOk result (λ outcome. (client : Client) →
         GivesAnswer out.old.items out.new.items outcome client
-        (replies client (reply id.now (infolist_objects world.now name)))) }
+        (replies client (reply id.now (infolist_objects world.now name.now argument.now)))) }
     ensures err { OnErr result (out.new.items ≡ out.old.items) }
 {
-    let objects = infolist_objects(alloc, world, &name)?;
+    let objects = infolist_objects(alloc, world, name, argument)?;
     give(alloc, out, id, objects.as_slice())
 }
 
@@ -240,7 +241,9 @@ fn serve_command(
             give_hdata(alloc, out, world, id, path.as_slice(), keys.as_slice())
         }
         Command::Info(name) => give_info(alloc, out, id, name),
-        Command::Infolist(name) => give_infolist(alloc, out, world, id, name),
+        Command::Infolist { name, argument } => {
+            give_infolist(alloc, out, world, id, &name, &argument)
+        }
         Command::Nicklist(buffer) => give_nicks(alloc, out, world, id, buffer),
         Command::Completion { .. } => give_null(alloc, out, id),
         Command::Input { buffer, text } => Ok(input(world.buffers(), buffer.as_slice(), text)),

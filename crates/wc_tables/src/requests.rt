@@ -69,7 +69,7 @@ fn put_command(out: &mut String, command: &Command) -> Result<(), AllocError> {
         Command::Init(pairs) => put_pairs(out, "init", pairs),
         Command::Hdata { path, keys } => put_two(out, "hdata", path, keys),
         Command::Info(name) => put_named(out, "info", name.as_slice()),
-        Command::Infolist(name) => put_named(out, "infolist", name.as_slice()),
+        Command::Infolist { name, argument } => put_two(out, "infolist", name, argument),
         Command::Nicklist(buffer) => put_nicklist(out, buffer),
         Command::Input { buffer, text } => put_two(out, "input", buffer, text),
         Command::Completion {

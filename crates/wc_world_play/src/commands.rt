@@ -86,7 +86,10 @@ impl Stage {
             ["walk", path] => Ok(show_walk(alloc, out, &self.world, path, "")?),
             ["walk", path, keys] => Ok(show_walk(alloc, out, &self.world, path, keys)?),
             ["info", name] => Ok(show_info(out, name)?),
-            ["infolist", name] => Ok(show_infolist(alloc, out, &self.world, name)?),
+            ["infolist", name] => Ok(show_infolist(alloc, out, &self.world, name, "")?),
+            ["infolist", name, argument] => {
+                Ok(show_infolist(alloc, out, &self.world, name, argument)?)
+            }
             _ => Err(Wrong::NoWord),
         }
     }

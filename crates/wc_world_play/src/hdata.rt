@@ -123,14 +123,15 @@ fn show_list(out: &mut String, list: &Object) -> Result<(), AllocError> {
     Ok(())
 }
 
-/// A list of informations of a name.
+/// A list of informations of a name and an argument.
 pub fn show_infolist(
     alloc: Global,
     out: &mut String,
     world: &World,
     name: &str,
+    argument: &str,
 ) -> Result<(), NoMemory> {
-    let list = infolist(alloc, world, name.as_bytes())?;
+    let list = infolist(alloc, world, name.as_bytes(), argument.as_bytes())?;
     show_list(out, &list)?;
     Ok(())
 }

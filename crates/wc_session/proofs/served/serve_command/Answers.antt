@@ -7,7 +7,7 @@ give_info-requires-clause-name c = rw c.in-Info.is at c.requires.command
 
 pub give_infolist-requires-clause-name : goal.give_infolist-requires-clause-name
 unfolding CommandUtf8
-give_infolist-requires-clause-name c = rw c.in-Infolist.is at c.requires.command
+give_infolist-requires-clause-name c = (rw c.in-Infolist.is at c.requires.command).0
 
 pub give_pong-requires : goal.give_pong-requires
 unfolding CommandUtf8
