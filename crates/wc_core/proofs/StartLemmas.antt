@@ -1,5 +1,6 @@
 -- The commands of the start.
 use Rattle.std.proofs.Common.{◌≡◌, ℕ, ◌≤◌, zero, suc, length, drop, Bool, true, false, cond, List, [], ◌∷◌, inl, inr, None, refl, ap, sym, subst, ◌∙◌, ◌||◌, arith}
+use Rattle.std.specs.Prelude.{map}
 use Rattle.wc_core.specs.CoreView.{CoreView}
 use Rattle.wc_core.specs.Typed.{lines_of_text}
 use Rattle.wc_core.specs.State.{State, Stepped, has_end}
@@ -98,3 +99,18 @@ pub drop_past : {X : Type 0} (i : ℕ) (xs : List X) → length xs ≤ i → dro
 drop_past {X} i [] e = drop_empty X i
 drop_past zero (x ∷ xs) e = absurd (omega (arith, e))
 drop_past (suc i) (x ∷ xs) e = drop_past i xs (omega (arith, e))
+
+pub none-of : {X Y : Type 0} (f : X → Y) (xs : List X) → map f xs ≡ [] → length xs ≡ 0
+none-of f [] e = refl
+none-of f (x ∷ xs) e = absurd (omega (arith, ap length e))
+
+-- a start without commands sets the moment alone
+pub idle-by : (old now mid : CoreView) (rest : List (List ℕ)) (quit' quit : Bool) (moment : ℕ) → old ≡ now → rest ≡ [] → quit' ≡ false → quit ≡ old.quits → now.commands ≡ []
+    → mid ≡ record old { moment = moment; commands = rest; quits = quit' } → record mid { quits = mid.quits || quit } ≡ record now { moment = moment }
+idle-by old now mid rest quit' quit moment is none going was empty same =
+    let F : CoreView → CoreView = λ core. record core { quits = core.quits || quit } in
+    let G : Bool → CoreView = λ quits. record old { moment = moment; commands = rest; quits = quits || quit } in
+    let H : Bool → CoreView = λ quits. record old { moment = moment; commands = rest; quits = quits } in
+    let I : List (List ℕ) → CoreView = λ commands. record old { moment = moment; commands = commands } in
+    let J : CoreView → CoreView = λ core. record core { moment = moment } in
+    ap F same ∙ ap G going ∙ ap H was ∙ ap I (none ∙ sym (ap (λ (core : CoreView). core.commands) is ∙ empty)) ∙ ap J is

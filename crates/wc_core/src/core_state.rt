@@ -98,9 +98,11 @@ impl Core {
     }
 
     /// Sets the starting moment, in milliseconds since 1970, and runs the commands of the start on
-    /// the core buffer, in order and each as an input of its own, up to `/quit`.
+    /// the core buffer, in order and each as an input of its own, up to `/quit`. Where there are no
+    /// commands, nothing but the moment changes.
     pub fn start(&mut self, moment: u64)
-        ensures { Does self.old self.new (λ state. step state (Start moment)) }
+        ensures does { Does self.old self.new (λ state. step state (Start moment)) }
+        ensures idle { self.old.commands ≡ [] → self.new ≡ record self.old { moment = moment } }
     {
         self.moment = moment;
         let commands = mem::replace(&mut self.commands, Vec::new(self.alloc));
@@ -113,8 +115,9 @@ impl Core {
     /// one finds no memory, the next one is run.
     fn run_commands(&mut self, commands: &[String])
         requires { self.old.quits ≡ false }
-        ensures { Does self.old self.new
+        ensures does { Does self.old self.new
             (λ state. commands_step state (map string_bytes commands.now)) }
+        ensures idle { map string_bytes commands.now ≡ [] → self.new ≡ self.old }
     {
         for command in commands {
             self.run_lines(CORE, command.as_str().as_bytes());

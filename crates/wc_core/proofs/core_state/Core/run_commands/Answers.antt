@@ -1,4 +1,4 @@
-use Rattle.std.proofs.Common.{◌≡◌, ℕ, ◌+◌, ◌∷◌, List, ap, sym, subst, ◌∙◌, drop, get_or}
+use Rattle.std.proofs.Common.{◌≡◌, ℕ, ◌+◌, ◌∷◌, List, ap, sym, subst, ◌∙◌, drop, get_or, arith}
 use Rattle.std.specs.Prelude.{map, string_bytes}
 use Rattle.std.proofs.lemmas.List.{drop_more}
 use Rattle.wc_core.specs.CoreView.{CoreView}
@@ -6,14 +6,14 @@ use Rattle.wc_core.specs.Typed.{lines_of_text}
 use Rattle.wc_core.specs.Step.{core_buffer, lines_step, commands_step}
 use Rattle.wc_core.specs.Served.{Does}
 use Rattle.wc_core.proofs.DidLemmas.{Does-stays}
-use Rattle.wc_core.proofs.StartLemmas.{commands-quit, commands-more, drop_past}
+use Rattle.wc_core.proofs.StartLemmas.{commands-quit, commands-more, drop_past, none-of}
 use Rattle.wc_core.proofs.core_state.Core.run_commands.Goals as goal
 
 pub run_lines-requires : goal.run_lines-requires
 run_lines-requires c = c.as_bytes.ensures.utf8
 
-pub returns-then-self : goal.returns-then-self
-returns-then-self c =
+pub returns-then-self-clause-does : goal.returns-then-self-clause-does
+returns-then-self-clause-does c =
     let a = c.loop-command.self in
     let b = c.run_lines.new.self in
     let i = c.loop-command.command-index in
@@ -26,6 +26,9 @@ returns-then-self c =
     let Q : List ℕ → Type 0 = λ command. Does a b (λ state. lines_step state core_buffer (lines_of_text command)) in
     let quit = ap (λ (core : CoreView). core.quits) (sym c.self.view_is) ∙ c.if-self.true in
     c.loop-command.invariant.onward b (subst P (sym next) (commands-quit a b (string_bytes (get_or all i item)) rest c.loop-command.invariant.going quit (subst Q text c.run_lines.ensures)))
+
+pub returns-then-self-clause-idle : goal.returns-then-self-clause-idle
+returns-then-self-clause-idle c empty = absurd (omega (arith, c.loop-command-test.true, none-of string_bytes c.args.commands.now empty))
 
 pub loop-command-preserved : goal.loop-command-preserved
 loop-command-preserved c =
@@ -44,10 +47,11 @@ loop-command-preserved c =
       onward = λ final more.
           let P : List (List ℕ) → Type 0 = λ commands. Does a final (λ state. commands_step state commands) in
           c.loop-command.invariant.onward final (subst P (sym next) (commands-more a b final (string_bytes (get_or all i item)) rest c.loop-command.invariant.going on (subst Q text c.run_lines.ensures) more));
+      idle = λ empty. absurd (omega (arith, c.loop-command-test.true, none-of string_bytes all empty));
     }
 
-pub returns : goal.returns
-returns c =
+pub returns-clause-does : goal.returns-clause-does
+returns-clause-does c =
     let a = c.loop-command.self in
     let P : List (List ℕ) → Type 0 = λ commands. Does a a (λ state. commands_step state commands) in
     c.loop-command.invariant.onward a (subst P (sym (ap (map string_bytes) (drop_past c.loop-command.command-index c.args.commands.now c.loop-command-test.false))) (Does-stays a))

@@ -1,4 +1,4 @@
-use Rattle.std.proofs.Common.{◌≡◌, false, drop}
+use Rattle.std.proofs.Common.{◌≡◌, false, [], drop}
 use Rattle.std.specs.Prelude.{map, string_bytes}
 use Rattle.wc_core.specs.CoreView.{CoreView}
 use Rattle.wc_core.specs.Step.{commands_step}
@@ -10,4 +10,5 @@ abbrev pub invariant-loop-command : goal.invariant-loop-command
 invariant-loop-command l = record {
   going : l.self.quits ≡ false;
   onward : (final : CoreView) → Does l.self final (λ state. commands_step state (map string_bytes (drop l.command-index l.commands))) → Does l.fn.self final (λ state. commands_step state (map string_bytes l.commands));
+  idle : map string_bytes l.commands ≡ [] → l.self ≡ l.fn.self;
 }

@@ -1,11 +1,20 @@
 use Rattle.std.proofs.Common.{ap, ◌∙◌}
 use Rattle.std.specs.Prelude.{map, string_bytes}
-use Rattle.wc_core.proofs.StartLemmas.{started-by}
+use Rattle.wc_core.specs.CoreView.{CoreView}
+use Rattle.wc_core.proofs.StartLemmas.{started-by, idle-by}
 use Rattle.wc_core.proofs.core_state.Core.start.Goals as goal
 
-pub returns : goal.returns
-returns c =
+pub returns-clause-does : goal.returns-clause-does
+returns-clause-does c =
     let none = ap (λ v. map string_bytes v.items) c.replace-commands.ensures.after ∙ ap (map string_bytes) c.new.ensures.items in
     let commands = ap (map string_bytes) (c.as_slice.ensures.value ∙ ap (λ v. v.items) c.replace-commands.ensures.value) in
-    let done = rw (← c.self-2.view_is) at c.run_commands.ensures in
+    let done = rw (← c.self-2.view_is) at c.run_commands.ensures.does in
     rw (← c.self.view_is) (started-by _ _ _ _ _ _ c.args.moment none c.replace-quit.ensures.after c.replace-quit.ensures.value commands done)
+
+pub returns-clause-idle : goal.returns-clause-idle
+returns-clause-idle c empty =
+    let none = ap (λ v. map string_bytes v.items) c.replace-commands.ensures.after ∙ ap (map string_bytes) c.new.ensures.items in
+    let commands = ap (map string_bytes) (c.as_slice.ensures.value ∙ ap (λ v. v.items) c.replace-commands.ensures.value) in
+    let same = rw (← c.self-2.view_is) at c.run_commands.ensures.idle in
+    let without = ap (λ (core : CoreView). core.commands) c.self.view_is ∙ empty in
+    idle-by _ _ _ _ _ _ c.args.moment c.self.view_is none c.replace-quit.ensures.after c.replace-quit.ensures.value empty (same (commands ∙ without))

@@ -12,6 +12,6 @@ returns-clause-begins c =
     let opened = ap (λ v. v.items) c.begin_turn.ensures.opened in
     let P : Headless → Type 0 = λ z. BeginsTurn x (record z { clock = Some c.args.moment; ran = reached }) c.args.moment in
     elim c.match-self.branch [
-      | in-None w ↦ subst P (sym w.self-is) (began-start x (record x { core = w.start.new.self; links = c.begin_turn.new.self; turns = c.saturating_add-self.result }) c.args.moment reached w.in-None.is w.start.ensures refl refl opened c.saturating_add-self.ensures c.saturating_add-reached.ensures)
+      | in-None w ↦ subst P (sym w.self-is) (began-start x (record x { core = w.start.new.self; links = c.begin_turn.new.self; turns = c.saturating_add-self.result }) c.args.moment reached w.in-None.is w.start.ensures.does refl refl opened c.saturating_add-self.ensures c.saturating_add-reached.ensures)
       | in-Some w ↦ subst P (sym w.self-is) (began-tick x (record x { core = w.tick.new.self; links = c.begin_turn.new.self; turns = c.saturating_add-self.result }) w.in-Some.last c.args.moment reached w.in-Some.is (sym w.is_tick.ensures ∙ w.if-is_tick.true) w.tick.ensures.does refl refl opened c.saturating_add-self.ensures c.saturating_add-reached.ensures)
     ]
