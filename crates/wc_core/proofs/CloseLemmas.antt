@@ -24,7 +24,7 @@ use Rattle.wc_model.specs.Order.{order}
 use Rattle.wc_model.specs.Apply.{refusal, after}
 use Rattle.wc_model.specs.Notices.{notice}
 use Rattle.wc_model.specs.Touches.{told_after}
-use Rattle.wc_core.specs.Resolved.{Effect, Stays, Ends as ResolvedEnds, Tells, Asks, SetsOption, UnsetsOption, effect_of, refusal_text, option_text, told_refusal}
+use Rattle.wc_core.specs.Resolved.{Effect, Stays, Ends as ResolvedEnds, Tells, Asks, SetsOption, UnsetsOption, SavesOptions, effect_of, refusal_text, option_text, told_refusal}
 use Rattle.wc_options.specs.Options.{refusal_of, value_of}
 use Rattle.wc_options.specs.declared.refusal.SetRefused.{SetRefused}
 use Rattle.wc_options.specs.declared.refusal.SetRefused.TheVariants.{UnknownOption}
@@ -92,6 +92,7 @@ resolved-closes j state (Tells text) = tells-closes j state text
 resolved-closes j state (Asks change) = asks_if-closes j state change (refusal state.world change)
 resolved-closes j state (SetsOption name value) = sets_if-closes j state name value (refusal_of state.options name value)
 resolved-closes j state (UnsetsOption name) = unsets_if-closes j state name (value_of state.options name)
+resolved-closes j state SavesOptions = refl
 
 pub does-closes : (j : ℕ) (state : State) (buffer : Handle) (typed : TypedCommand) → close_of j (typed_step state buffer typed).acts ≡ None
 does-closes j state buffer typed = resolved-closes j state (effect_of state.world state.moment buffer typed)

@@ -1,12 +1,12 @@
 -- What each of the core's calls does.
-use Rattle.std.proofs.Common.{◌≡◌, cond, ◌&&◌, ℕ, ◌+◌, ◌-◌, ◌^◌, ◌<◌, ◌≤◌, true, false, List, [], ◌∷◌, ◌++◌, length, inl, inr, Option, Some, None, Bool, not, nat_eq, ◌≢◌, refl, ap, sym, subst, ◌∙◌, arith, append-nil, nat_lt, get_or, min, filter, IfSome}
+use Rattle.std.proofs.Common.{◌≡◌, cond, ◌&&◌, ℕ, ◌+◌, ◌-◌, ◌^◌, ◌<◌, ◌≤◌, true, false, List, [], ◌∷◌, ◌++◌, length, inl, inr, Option, Some, None, Bool, not, nat_eq, ◌≢◌, refl, ap, sym, subst, ◌∙◌, arith, append-nil, nat_lt, min, filter, IfSome}
 use Rattle.std.specs.Prelude.{map}
 use Rattle.std.proofs.lemmas.Bool.{false≢true}
 use Rattle.std.proofs.lemmas.Bool.Decides.{nat_tests}
 use Rattle.wc_text.specs.declared.names.Cause.{Cause}
 use Rattle.wc_text.specs.declared.names.Cause.TheVariants.{Surplus, NoMemory}
 use Rattle.wc_text.specs.declared.names.LinkId.{LinkId}
-use Rattle.wc_outside.specs.Keyed.{at_key, put_at, IsKeyPlace}
+use Rattle.wc_outside.specs.Keyed.{at_key, put_at}
 use Rattle.wc_outside.proofs.KeyedLemmas.{at_key-key}
 use Rattle.wc_relaycmd.specs.declared.request.Request.{Request}
 use Rattle.wc_relaycmd.specs.Answers.{request_of}
@@ -31,8 +31,8 @@ use Rattle.wc_model.specs.Notices.{Accepted}
 use Rattle.wc_model.specs.Touches.{told_after}
 use Rattle.wc_nickdiff.specs.Held.{OfBuffer}
 use Rattle.wc_options.specs.Options.{OptionsValue}
-use Rattle.wc_core.specs.Typed.{TypedCommand, Nothing, Quits, Refused, Prints, Adds, Closes, Merges, Names, Changes as TypedChanges, Sets, Unsets, Switches}
-use Rattle.wc_core.specs.Resolved.{Effect, Stays, Ends as ResolvedEnds, Tells, Asks, SetsOption, UnsetsOption, switched, buffer_meant, of_meant, of_named, change_of, line_spec, effect_of, refusal_text, told_refusal}
+use Rattle.wc_core.specs.Typed.{TypedCommand, Nothing, Quits, Refused, Prints, Adds, Closes, Merges, Names, Changes as TypedChanges, Sets, Unsets, Switches, Saves}
+use Rattle.wc_core.specs.Resolved.{Effect, Stays, Ends as ResolvedEnds, Tells, Asks, SetsOption, UnsetsOption, SavesOptions, switched, buffer_meant, of_meant, of_named, change_of, line_spec, effect_of, refusal_text, told_refusal}
 use Rattle.wc_core.specs.Inputs.{MakesChange, RefusesChange, push_before, AnswersRequestOf}
 use Rattle.wc_core.specs.Limits.{client_limit}
 use Rattle.wc_core.specs.State.{State, Act, Stepped}
@@ -46,7 +46,7 @@ use Rattle.wc_board.specs.Told.{Told, told_of, AreTold, AreTouched}
 use Rattle.wc_board.proofs.TellLaw.{change_keeps_told}
 use Rattle.wc_buffers.specs.Kept.{AreBuffers}
 use Rattle.wc_core.proofs.CloseLemmas.{reply-later, lost-starves, pushes-closes, answer-closes-same}
-use Rattle.wc_core.proofs.DidLemmas.{ClosesLater, or-true, leaves-none, Follows-stays, KeepsClients-refl, KeepsClients-trans, KeepsClients-connections, FollowsUnlessStarved-exact, Does-stays, Does-starved, FollowsUnlessStarved-then}
+use Rattle.wc_core.proofs.DidLemmas.{ClosesLater, or-true, leaves-none, Follows-stays, KeepsClients-refl, KeepsClients-trans, KeepsClients-connections, saves-as, KeepsSaved-trans, FollowsUnlessStarved-exact, Does-stays, Does-starved, FollowsUnlessStarved-then}
 use Rattle.wc_core.proofs.ConnectionLemmas.{open-length, clients-push, links-push, unsent-push, leaving-push, kept-push, client-open, client-missing, client-leaving}
 use Rattle.wc_board.proofs.ConnectionLemmas.{ConnectionsKept-causes}
 use Rattle.wc_board.proofs.EventLemmas.{served_map, served_kept}
@@ -61,7 +61,7 @@ pub starves-only : (old new : CoreView) → new ≡ record old { starved = min (
 starves-only old new e rises =
     let count : new.starved ≡ min (old.starved + 1) (2 ^ 64 - 1) = ap (λ (c : CoreView). c.starved) e in
     record {
-      keeps = KeepsClients-connections old new (ap (λ (c : CoreView). c.connections) e) rises;
+      keeps = KeepsClients-connections old new (ap (λ (c : CoreView). c.connections) e) rises (saves-as old new (record old { starved = min (old.starved + 1) (2 ^ 64 - 1) }) e refl refl);
       causes = λ distinct j. inl (ap (λ (c : CoreView). leaving_on j c.connections) e);
       counted = λ below. omega arith;
     }
@@ -77,7 +77,7 @@ done-starved old mid new step done e rises = λ told.
     let count : new.starved ≡ min (mid.starved + 1) (2 ^ 64 - 1) = ap (λ (c : CoreView). c.starved) e in
     let P : ℕ → List Connection → Type 0 = λ j connections. LeavesBy (leaving_on j old.connections) (close_of j (step (state_of old told)).acts) (leaving_on j connections) in
     record {
-      keeps = KeepsClients-trans old mid new f.keeps (KeepsClients-connections mid new connections rises);
+      keeps = KeepsClients-trans old mid new f.keeps (KeepsClients-connections mid new connections rises (saves-as mid new (record mid { starved = min (mid.starved + 1) (2 ^ 64 - 1) }) e refl refl));
       causes = λ distinct j. subst (P j) (sym connections) (f.causes distinct j);
       does = λ same below distinct were. (let more = f.keeps.rises in absurd (omega arith));
     }
@@ -91,7 +91,7 @@ told-all told told' old world pending n new e were =
     let P : CoreView → Type 0 = λ c. FollowsUnlessStarved told old c step in
     subst P (sym e)
     (FollowsUnlessStarved-exact told old (told_to_all old world pending n) step
-    (KeepsClients-told old (told_to_all old world pending n) (served_kept world n old.connections (map (told_connection world n) old.connections) (served_map n.kind n.buffer.0 (told_connection world n) old.connections)) (omega arith))
+    (KeepsClients-told old (told_to_all old world pending n) (served_kept world n old.connections (map (told_connection world n) old.connections) (served_map n.kind n.buffer.0 (told_connection world n) old.connections)) (omega arith) (inl (refl, refl)))
     (λ distinct. told-left told told' old world n) (λ distinct before. Follows-told told told' old world pending n distinct (were before)))
 
 -- the board made a change, and told it to all whom its notice is for
@@ -130,7 +130,7 @@ changes-some old mid new change n service e served counts rises =
     let P : List Connection → Type 0 = λ connections. ConnectionsKept old.connections connections in
     let now : ConnectionsKept old.connections new.connections = subst P (sym (ap (λ (c : CoreView). c.connections) counts)) kept in
     inr (record {
-      keeps = KeepsClients-told old new now (omega (arith, same, rises));
+      keeps = KeepsClients-told old new now (omega (arith, same, rises)) (KeepsSaved-trans old mid new (saves-as old mid (record old { world = mid.world; pending = mid.pending; connections = mid.connections }) e refl refl) (saves-as mid new (record mid { starved = min (mid.starved + 1) (2 ^ 64 - 1) }) counts refl refl));
       causes = λ distinct j. ConnectionsKept-causes j old.connections new.connections now;
       counted = λ below. omega arith;
     })
@@ -188,7 +188,7 @@ pub quits-done : (old : CoreView) → Does old (record old { quits = true }) (λ
 quits-done old = λ told.
     let new : CoreView = record old { quits = true } in
     let step = effect_step (state_of old told) ResolvedEnds in
-    FollowsUnlessStarved-exact told old new step (KeepsClients-connections old new refl (omega arith)) (λ distinct. leaves-none old step (λ j. refl))
+    FollowsUnlessStarved-exact told old new step (KeepsClients-connections old new refl (omega arith) (inl (refl, refl))) (λ distinct. leaves-none old step (λ j. refl))
     (λ distinct were. record { means = record { same = refl; told = were }; bytes = λ j. sym (append-nil (unsent_on j old.connections)); leaving = leaves-none old step (λ j. refl); quits = sym (or-true old.quits) })
 
 -- whether the run is to end
@@ -199,6 +199,7 @@ quit_of (Tells text) = false
 quit_of (Asks change) = false
 quit_of (SetsOption name value) = false
 quit_of (UnsetsOption name) = false
+quit_of SavesOptions = false
 
 quit_of-meant : (change : Handle → Change) (o : Option Handle) → quit_of (of_meant change o) ≡ false
 quit_of-meant change None = refl
@@ -226,6 +227,7 @@ quit_of-resolved world moment buffer (TypedChanges w) = refl
 quit_of-resolved world moment buffer (Sets name value) = refl
 quit_of-resolved world moment buffer (Unsets name) = refl
 quit_of-resolved world moment buffer (Switches name) = quit_of-switched (buffer_meant world.groups name)
+quit_of-resolved world moment buffer Saves = refl
 
 pub quits-by : (world : World) (moment : ℕ) (buffer : Handle) (typed : TypedCommand) (r : Effect) (b : Bool) → r ≡ effect_of world moment buffer typed → quit_of r ≡ b → b ≡ is_quit typed
 quits-by world moment buffer typed r b e q = sym q ∙ ap quit_of e ∙ quit_of-resolved world moment buffer typed
@@ -234,9 +236,6 @@ quits-by world moment buffer typed r b e q = sym q ∙ ap quit_of e ∙ quit_of-
 
 open_of : (o : Option Connection) (s : Connection) → o ≡ Some s → is_open_at o ≡ true → is_open s ≡ true
 open_of o s at sits = sym (ap is_open_at at) ∙ sits
-
-pub connection-at : (link : LinkId) (connections : List Connection) (place : ℕ) (s : Connection) → IsKeyPlace connection_link link.0 connections place → s ≡ get_or connections place s → at_key connection_link link.0 connections ≡ Some s
-connection-at link connections place s p e = p.found s ∙ ap Some (sym e)
 
 -- the client of a link is marked as leaving
 leave-put : (old : CoreView) (k : ℕ) (s : Connection) (why : Cause) → at_key connection_link k old.connections ≡ Some s → is_open s ≡ true
@@ -256,7 +255,7 @@ starve-at old mid new k done same e rises =
           let P : List Connection → Type 0 = λ connections. StaysOrStarves (leaving_on j old.connections) (leaving_on j connections) in
           subst P (sym (ap (λ (c : CoreView). c.connections) e))
           (lost-starves j k state (at_key client_link k (clients_of old.connections)) (leaving_on j old.connections) (leaving_on j mid.connections) (lost.causes distinct j));
-      keeps = KeepsClients-trans old mid new lost.keeps (KeepsClients-connections mid new (ap (λ (c : CoreView). c.connections) e) rises);
+      keeps = KeepsClients-trans old mid new lost.keeps (KeepsClients-connections mid new (ap (λ (c : CoreView). c.connections) e) rises (saves-as mid new (record mid { starved = min (mid.starved + 1) (2 ^ 64 - 1) }) e refl refl));
       counted = λ below. (let count : new.starved ≡ min (mid.starved + 1) (2 ^ 64 - 1) = ap (λ (c : CoreView). c.starved) e in omega (arith, count, same, below));
     }
 

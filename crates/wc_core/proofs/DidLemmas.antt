@@ -9,7 +9,7 @@ use Rattle.wc_core.specs.CoreView.{CoreView}
 use Rattle.wc_core.specs.State.{State, Act, Stepped, is_end, has_end}
 use Rattle.wc_core.specs.Step.{no_step, then_does}
 use Rattle.wc_board.specs.Connections.{connection_link, unsent_on, leaving_in, leaving_on}
-use Rattle.wc_core.specs.Served.{links_of, state_of, WereTold, sent_by, sent_to, or_else, close_by, close_of, Distinct, Follows, LeavesBy, KeepsClients, FollowsUnlessStarved, Does, RanOutOfMemory}
+use Rattle.wc_core.specs.Served.{links_of, state_of, WereTold, sent_by, sent_to, or_else, close_by, close_of, Distinct, Follows, LeavesBy, KeepsSaved, KeepsClients, FollowsUnlessStarved, Does, RanOutOfMemory}
 use Rattle.wc_board.specs.Served.{StaysOrStarves}
 use Rattle.wc_board.specs.Told.{Told}
 
@@ -62,8 +62,13 @@ Follows-then a b c first next f g =
       quits = h.quits ∙ ap (λ t. t || has_end acts) f.quits ∙ or-assoc a.quits (has_end first.acts) (has_end acts) ∙ ap (λ t. a.quits || t) (sym (has_end-append first.acts acts));
     }
 
+pub KeepsSaved-trans : (a b c : CoreView) → KeepsSaved a b → KeepsSaved b c → KeepsSaved a c
+KeepsSaved-trans a b c (inl f) (inl g) = inl (g.0 ∙ f.0, g.1 ∙ f.1)
+KeepsSaved-trans a b c (inr f) (inl g) = inr (g.0 ∙ f.0, subst IsSome (sym g.1) f.1)
+KeepsSaved-trans a b c f (inr g) = inr g
+
 pub KeepsClients-refl : (a : CoreView) → KeepsClients a a
-KeepsClients-refl a = record { rises = omega arith; links = refl; kept = λ j s. refl }
+KeepsClients-refl a = record { rises = omega arith; links = refl; kept = λ j s. refl; saves = inl (refl, refl) }
 
 pub KeepsClients-trans : (a b c : CoreView) → KeepsClients a b → KeepsClients b c → KeepsClients a c
 KeepsClients-trans a b c f g = record {
@@ -73,11 +78,16 @@ KeepsClients-trans a b c f g = record {
       let same = f.kept j s in
       let P : Option Connection → Type 0 = λ o. IsSome (leaving_in o) in
       g.kept j (subst P (sym same) s) ∙ same;
+  saves = KeepsSaved-trans a b c f.saves g.saves;
 }
 
 -- the same connections, and want of memory may be counted
-pub KeepsClients-connections : (a b : CoreView) → b.connections ≡ a.connections → a.starved ≤ b.starved → KeepsClients a b
-KeepsClients-connections a b e rises = record { rises = rises; links = ap (map connection_link) e; kept = λ j s. ap (at_key connection_link j) e }
+pub KeepsClients-connections : (a b : CoreView) → b.connections ≡ a.connections → a.starved ≤ b.starved → KeepsSaved a b → KeepsClients a b
+KeepsClients-connections a b e rises saves = record { rises = rises; links = ap (map connection_link) e; kept = λ j s. ap (at_key connection_link j) e; saves = saves }
+
+-- nothing is saved where this is all that is known of what was saved
+pub saves-as : (a b c : CoreView) → b ≡ c → c.saved ≡ a.saved → c.unwritten ≡ a.unwritten → KeepsSaved a b
+saves-as a b c e saved unwritten = inl (ap (λ (core : CoreView). core.unwritten) e ∙ unwritten, ap (λ (core : CoreView). core.saved) e ∙ saved)
 
 pub FollowsUnlessStarved-exact : (told : Told) (a b : CoreView) (s : Stepped) → KeepsClients a b → (Distinct (links_of a) → (j : ℕ) → leaving_on j b.connections ≡ or_else (leaving_on j a.connections) (close_of j s.acts))
     → (Distinct (links_of a) → WereTold a told → Follows a b s) → FollowsUnlessStarved told a b s

@@ -1,7 +1,8 @@
 -- What becomes of an option, and what is told where it does not get a value.
-use Rattle.std.proofs.Common.{◌≡◌, ◌≢◌, ℕ, zero, suc, Bool, true, false, cond, not, List, [], ◌∷◌, codes, length, nat_le, ◌&&◌, Option, Some, None, refl, sym, subst, arith, append-nil, get_or}
+use Rattle.std.proofs.Common.{◌≡◌, ◌≢◌, ℕ, zero, suc, Bool, true, false, cond, not, List, [], ◌∷◌, codes, length, nat_le, ◌&&◌, Option, Some, None, refl, ap, sym, subst, inl, inr, arith, append-nil, get_or}
 use Rattle.std.specs.Str.{IsUtf8}
 use Rattle.std.proofs.lemmas.Str.{IsUtf8-nil, IsUtf8-append}
+use Rattle.wc_options.specs.Config.{config_text}
 use Rattle.wc_options.specs.Names.{Located, AtGlobal, AtServer, located, row_of_located}
 use Rattle.wc_options.specs.Options.{OptionsValue, refusal_of, refusal_in, refusal_at, value_of, with_value, without_value, makes_server, most_servers}
 use Rattle.wc_options.specs.Table.{OptionRow, globals, of_server, no_row}
@@ -11,7 +12,7 @@ use Rattle.wc_options.specs.declared.refusal.SetRefused.TheVariants as option
 use Rattle.wc_core.specs.CoreView.{CoreView}
 use Rattle.wc_core.specs.Resolved.{option_text}
 use Rattle.wc_core.specs.State.{State, Stepped}
-use Rattle.wc_core.specs.Step.{no_step, refusal_step, set_step, set_step_if, unset_step, unset_step_if}
+use Rattle.wc_core.specs.Step.{no_step, refusal_step, set_step, set_step_if, unset_step, unset_step_if, save_step}
 use Rattle.wc_core.specs.Served.{state_of, FollowsUnlessStarved, Does}
 use Rattle.wc_board.specs.Connections.{unsent_on}
 use Rattle.wc_board.specs.Told.{Told}
@@ -23,8 +24,17 @@ use Rattle.wc_core.proofs.TypedLemmas.{ascii_text}
 options-are : (told : Told) (old : CoreView) (options : OptionsValue) → FollowsUnlessStarved told old (record old { options = options }) (no_step (record (state_of old told) { options = options }))
 options-are told old options =
     let step = no_step (record (state_of old told) { options = options }) in
-    FollowsUnlessStarved-exact told old (record old { options = options }) step (KeepsClients-connections old (record old { options = options }) refl (omega arith)) (λ distinct. leaves-none old step (λ j. refl))
+    FollowsUnlessStarved-exact told old (record old { options = options }) step (KeepsClients-connections old (record old { options = options }) refl (omega arith) (inl (refl, refl))) (λ distinct. leaves-none old step (λ j. refl))
     (λ distinct were. record { means = record { same = refl; told = were }; bytes = λ j. sym (append-nil (unsent_on j old.connections)); leaving = leaves-none old step (λ j. refl); quits = sym (or-false old.quits) })
+
+-- the text of the options is kept as the one that was saved last
+pub save-done : (old : CoreView) (text : List ℕ) → text ≡ config_text old.options → Does old (record old { saved = Some text; unwritten = true }) save_step
+save-done old text e = λ told.
+    let new : CoreView = record old { saved = Some text; unwritten = true } in
+    let step = save_step (state_of old told) in
+    let of : List ℕ → State = λ text. record (state_of old told) { saved = Some text } in
+    FollowsUnlessStarved-exact told old new step (KeepsClients-connections old new refl (omega arith) (inr (refl, refl))) (λ distinct. leaves-none old step (λ j. refl))
+    (λ distinct were. record { means = record { same = ap of (sym e); told = were }; bytes = λ j. sym (append-nil (unsent_on j old.connections)); leaving = leaves-none old step (λ j. refl); quits = sym (or-false old.quits) })
 
 pub set-done : (old : CoreView) (options : OptionsValue) (name value : List ℕ) → refusal_of old.options name value ≡ None → options ≡ with_value old.options name value → Does old (record old { options = options }) (λ state. set_step state name value)
 set-done old options name value accepted e = λ told.

@@ -1,5 +1,5 @@
 -- The core at first, and what it does of nicklists.
-use Rattle.std.proofs.Common.{◌≡◌, ℕ, ◌-◌, ◌^◌, ◌<◌, ◌≤◌, Bool, true, false, cond, eqb, List, [], ◌∷◌, ◌++◌, inr, Some, unwrap_or, refl, ap, sym, subst, ◌∙◌, ◌||◌}
+use Rattle.std.proofs.Common.{◌≡◌, ℕ, ◌-◌, ◌^◌, ◌<◌, ◌≤◌, Bool, true, false, cond, eqb, List, [], ◌∷◌, ◌++◌, inr, None, Some, unwrap_or, refl, ap, sym, subst, ◌∙◌, ◌||◌}
 use Rattle.std.specs.Prelude.{map}
 use Rattle.std.specs.List.{flat_map}
 use Rattle.std.specs.FinMap.{FinMap, get, insert, empty, get-empty, get-insert}
@@ -35,7 +35,7 @@ use Rattle.wc_core.specs.Step.{step, client_link, pushed_to, push_step, pushes_o
 use Rattle.wc_core.specs.Served.{links_of, clients_of, state_of, WereTold, Means, or_else, Distinct, Follows, KeepsClients, Does}
 use Rattle.wc_core.proofs.CloseLemmas.{pushes-closes}
 use Rattle.wc_core.proofs.ConnectionLemmas.{end-sends}
-use Rattle.wc_core.proofs.DidLemmas.{or_else-none, or-false, has_end-append}
+use Rattle.wc_core.proofs.DidLemmas.{or_else-none, or-false, has_end-append, saves-as}
 use Rattle.wc_core.proofs.PushBytes.{pushes-sent, pushed-clients}
 
 -- ---- the core at first
@@ -59,7 +59,7 @@ first_held : (limit : ℕ) → AreHeld (first_world limit)
 first_held limit b = subst IsRows (sym (first_rows limit b)) no_rows_held
 
 pub first-means : (options : OptionsValue) (limit : ℕ) (commands : List (List ℕ)) (starved : ℕ) (quits : Bool)
-    → Means (record { options = options; world = first_world limit; pending = []; connections = []; moment = 0; commands = commands; starved = starved; quits = quits }) (first_state options limit commands)
+    → Means (record { options = options; world = first_world limit; pending = []; connections = []; moment = 0; commands = commands; saved = None; unwritten = false; starved = starved; quits = quits }) (first_state options limit commands)
 first-means options limit commands starved quits = record { same = refl; told = rows_told (first_world limit) [] (first_held limit) (λ b. refl) }
 
 -- ---- what is kept of touches
@@ -81,7 +81,7 @@ Does-over old mid new step e same done =
     over done = λ told.
         let f = done told in
         record {
-          keeps = record { rises = f.keeps.rises; links = f.keeps.links; kept = f.keeps.kept };
+          keeps = record { rises = f.keeps.rises; links = f.keeps.links; kept = f.keeps.kept; saves = f.keeps.saves };
           causes = f.causes;
           does = λ stays below distinct were.
               let g = f.does stays below distinct (same-told old mid.pending told same were) in
@@ -140,6 +140,7 @@ pushed_keeps old new is = record {
   rises = is.rises;
   links = ConnectionsKept-links old.connections new.connections is.kept;
   kept = λ j some. ConnectionsKept-leaving j old.connections new.connections is.kept some;
+  saves = saves-as old new (record old { pending = new.pending; connections = new.connections; starved = new.starved }) is.stays refl refl;
 }
 
 pub push-done : (old new : CoreView) → IsPushedCore old new → Does old new push_step
@@ -158,7 +159,7 @@ push-done old new is = λ told. record {
   by told same below distinct were =
       let state = state_of old told in
       let pushed = is.all below same (told_of told) were in
-      let of : List Client → State = λ clients. record { options = old.options; clients = clients; world = old.world; told = old.world.nicks; moment = old.moment; commands = old.commands } in
+      let of : List Client → State = λ clients. record { options = old.options; clients = clients; world = old.world; told = old.world.nicks; moment = old.moment; commands = old.commands; saved = old.saved } in
       let P : CoreView → Type 0 = λ c. Follows old c (push_step state) in
       subst P (sym is.stays) (record {
         means = record { same = ap of (sym (ap clients_of pushed ∙ pushed-clients old.world (told_of told) (order old.world.groups) old.connections)); told = rows };
@@ -171,7 +172,7 @@ pub tick-done : (old new : CoreView) (moment : ℕ) → Does (record old { momen
 tick-done old new moment done = λ told.
     let f = done told in
     record {
-      keeps = record { rises = f.keeps.rises; links = f.keeps.links; kept = f.keeps.kept };
+      keeps = record { rises = f.keeps.rises; links = f.keeps.links; kept = f.keeps.kept; saves = f.keeps.saves };
       causes = f.causes;
       does = λ same below distinct were. (let g = f.does same below distinct were in record { means = g.means; bytes = g.bytes; leaving = g.leaving; quits = g.quits });
     }

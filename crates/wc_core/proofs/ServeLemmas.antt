@@ -27,7 +27,7 @@ use Rattle.wc_core.specs.State.{State, Stepped}
 use Rattle.wc_core.specs.Inputs.{GoesOn, Stops}
 use Rattle.wc_core.specs.Step.{client_link, sends, no_step, then_does, tell_all_step, typed_step, is_quit, lines_step, leave_step}
 use Rattle.wc_board.specs.Connections.{connection_link, is_open, unsent_in, unsent_on, leaving_in, leaving_on}
-use Rattle.wc_core.specs.Served.{links_of, clients_of, state_of, WereTold, or_else, close_of, LeavesBy, Distinct, Follows, KeepsClients, FollowsUnlessStarved, Does}
+use Rattle.wc_core.specs.Served.{links_of, clients_of, state_of, WereTold, or_else, close_of, LeavesBy, Distinct, Follows, KeepsSaved, KeepsClients, FollowsUnlessStarved, Does}
 use Rattle.wc_board.specs.Served.{StaysOrStarves, told_connection, ConnectionsKept}
 use Rattle.wc_board.specs.Told.{Told}
 use Rattle.wc_core.proofs.DidLemmas.{or_else-none, or-false, Does-stays, FollowsUnlessStarved-then}
@@ -51,8 +51,8 @@ Follows-told told told' old world pending n distinct were = record {
   quits = sym (ap (λ t. old.quits || t) (end-told world n (clients_of old.connections)) ∙ or-false old.quits);
 }
 
-pub KeepsClients-told : (old new : CoreView) → ConnectionsKept old.connections new.connections → old.starved ≤ new.starved → KeepsClients old new
-KeepsClients-told old new kept rises = record { rises = rises; links = ConnectionsKept-links old.connections new.connections kept; kept = λ j some. ConnectionsKept-leaving j old.connections new.connections kept some }
+pub KeepsClients-told : (old new : CoreView) → ConnectionsKept old.connections new.connections → old.starved ≤ new.starved → KeepsSaved old new → KeepsClients old new
+KeepsClients-told old new kept rises saves = record { saves = saves; rises = rises; links = ConnectionsKept-links old.connections new.connections kept; kept = λ j some. ConnectionsKept-leaving j old.connections new.connections kept some }
 
 -- ---- a connection that is changed
 
@@ -80,6 +80,7 @@ KeepsClients-put old k s y at sits key = record {
   rises = omega arith;
   links = put-links k y old.connections key;
   kept = λ j some. by j (eqb j k) refl some;
+  saves = inl (refl, refl);
 } where
   by : (j : ℕ) (t : Bool) → eqb j k ≡ t → IsSome (leaving_on j old.connections) → at_key connection_link j (put_at connection_link k y old.connections) ≡ at_key connection_link j old.connections
   by j true e some =

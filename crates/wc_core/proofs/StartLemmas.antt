@@ -66,7 +66,7 @@ pub started : (old new : CoreView) (moment : ℕ) → Does (record old { moment 
 started old new moment done = λ told.
     let f = done told in
     record {
-      keeps = record { rises = f.keeps.rises; links = f.keeps.links; kept = f.keeps.kept };
+      keeps = record { rises = f.keeps.rises; links = f.keeps.links; kept = f.keeps.kept; saves = f.keeps.saves };
       causes = f.causes;
       does = λ same below distinct were.
           let g = f.does same below distinct were in

@@ -18,7 +18,7 @@ use Rattle.wc_text.specs.Integer.{is_numeral}
 use Rattle.wc_text.specs.Words.{is_filled}
 use Rattle.wc_model.specs.declared.change.What.TheVariants as what
 use Rattle.wc_core.specs.Texts.{WhatUtf8}
-use Rattle.wc_core.specs.Typed.{TypedCommand, Nothing, Quits, Refused, Prints, Adds, Closes, Merges, Names, Changes, Sets, Unsets, no_text_here, wrong_arguments, unknown_command, print_unless_empty, print_words, tags_of, is_first, second_of, after_second, print_tagged, print_on, print_command, wrong_buffer, one_word, without_words, some_text, moves_to, close_command, starts, set_property, buffer_word, buffer_command, quit_command, set_option, set_command, unset_command, option_command, command, slash_command, typed_line, lines_parted, lines_of_text, Switches, switch_command, input_command}
+use Rattle.wc_core.specs.Typed.{TypedCommand, Nothing, Quits, Refused, Prints, Adds, Closes, Merges, Names, Changes, Sets, Unsets, no_text_here, wrong_arguments, unknown_command, print_unless_empty, print_words, tags_of, is_first, second_of, after_second, print_tagged, print_on, print_command, wrong_buffer, one_word, without_words, some_text, moves_to, close_command, starts, set_property, buffer_word, buffer_command, quit_command, set_option, set_command, unset_command, option_command, command, slash_command, typed_line, lines_parted, lines_of_text, Switches, switch_command, input_command, Saves, save_command}
 use Rattle.wc_core.specs.TypedSeen.{lines_left, LeftUtf8}
 
 -- whether each byte is ASCII
@@ -53,6 +53,7 @@ TypedUtf8 (Changes w) = WhatUtf8 w
 TypedUtf8 (Sets name value) = IsUtf8 name × IsUtf8 value
 TypedUtf8 (Unsets name) = IsUtf8 name
 TypedUtf8 (Switches name) = Unit {0}
+TypedUtf8 Saves = Unit {0}
 
 typed_if : (b : Bool) (x y : TypedCommand) → TypedUtf8 x → TypedUtf8 y → TypedUtf8 (cond b x y)
 typed_if true x y p q = p
@@ -201,11 +202,16 @@ unsets_text (b ∷ text) utf8 =
     let wrong = wrong_text (codes "unset") (ascii_text (codes "unset") refl) in
     typed_if (nat_lt 0 (length (rest_of (b ∷ text)))) (wrong_arguments (codes "unset")) (Unsets (word_of (b ∷ text))) wrong (word_text (b ∷ text) utf8).0
 
+saves_text : (text : List ℕ) → TypedUtf8 (save_command text)
+saves_text [] = tt
+saves_text (b ∷ text) = wrong_text (codes "save") (ascii_text (codes "save") refl)
+
 options_text : (name text : List ℕ) → IsUtf8 name → IsUtf8 text → TypedUtf8 (option_command name text)
 unfolding option_command
 options_text name text n t =
     typed_if (bytes_eq name (codes "set")) _ _ (sets_text text t)
-    (typed_if (bytes_eq name (codes "unset")) _ _ (unsets_text text t) (unknown_text name n))
+    (typed_if (bytes_eq name (codes "unset")) _ _ (unsets_text text t)
+    (typed_if (bytes_eq name (codes "save")) _ _ (saves_text text) (unknown_text name n)))
 
 input_text : (text : List ℕ) → TypedUtf8 (input_command text)
 input_text text =

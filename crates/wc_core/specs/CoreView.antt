@@ -1,5 +1,5 @@
 -- What contracts see of the core.
-use Rattle.std.specs.Prelude.{ℕ, Bool, List}
+use Rattle.std.specs.Prelude.{ℕ, Bool, List, Option}
 use Rattle.wc_nickdiff.specs.Held.{OfBuffer}
 use Rattle.wc_options.specs.Options.{OptionsValue}
 use Rattle.wc_model.specs.World.{World}
@@ -16,6 +16,9 @@ pub record CoreView : Type 0 where
   pub moment : ℕ
   -- what is run at the start
   pub commands : List (List ℕ)
+  -- the text of the options that was saved last, and whether it is still to be written
+  pub saved : Option (List ℕ)
+  pub unwritten : Bool
   -- how often memory was refused
   pub starved : ℕ
   -- whether the run is to end

@@ -23,7 +23,7 @@ use Rattle.wc_options.specs.declared.refusal.SetRefused.{SetRefused}
 use Rattle.wc_options.specs.declared.refusal.SetRefused.TheVariants as option
 use Rattle.wc_session.specs.Names.{buffer_named}
 use Rattle.wc_core.specs.Typed.{TypedCommand, Nothing, Quits, Refused, Prints, Adds, Closes, Merges}
-use Rattle.wc_core.specs.Typed.{Names, Changes, Sets, Unsets, Switches}
+use Rattle.wc_core.specs.Typed.{Names, Changes, Sets, Unsets, Switches, Saves}
 
 pub data Effect : Type 0 where
   Stays : Effect
@@ -35,6 +35,8 @@ pub data Effect : Type 0 where
   -- an option is to get a value, or its default
   SetsOption : List ℕ → List ℕ → Effect
   UnsetsOption : List ℕ → Effect
+  -- the options are to be saved
+  SavesOptions : Effect
 
 -- ---- buffers that a command names
 
@@ -130,6 +132,7 @@ effect_of world moment buffer (Changes w) = Asks (change_of buffer w)
 effect_of world moment buffer (Sets name value) = SetsOption name value
 effect_of world moment buffer (Unsets name) = UnsetsOption name
 effect_of world moment buffer (Switches name) = switched (buffer_meant world.groups name)
+effect_of world moment buffer Saves = SavesOptions
 
 -- ---- the texts of refusals
 

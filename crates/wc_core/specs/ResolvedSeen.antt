@@ -5,7 +5,7 @@ use Rattle.wc_buffers.specs.declared.refused.BufferRefused.TheVariants as buffer
 use Rattle.wc_core.specs.declared.resolve.Resolution.{Resolution}
 use Rattle.wc_core.specs.declared.resolve.Resolution.TheVariants as resolution
 use Rattle.wc_core.specs.Resolved.{Effect, Stays, Ends, Tells, Asks, SetsOption}
-use Rattle.wc_core.specs.Resolved.{UnsetsOption}
+use Rattle.wc_core.specs.Resolved.{UnsetsOption, SavesOptions}
 
 abbrev pub outcome_of : Resolution → Effect
 outcome_of resolution.Stays = Stays
@@ -14,6 +14,7 @@ outcome_of (resolution.Tells text) = Tells text
 outcome_of (resolution.Asks change) = Asks change
 outcome_of (resolution.SetsOption pair) = SetsOption pair.name pair.value
 outcome_of (resolution.UnsetsOption name) = UnsetsOption name
+outcome_of resolution.SavesOptions = SavesOptions
 
 -- the name that a refusal tells
 abbrev pub name_in_refusal : BufferRefused → List ℕ

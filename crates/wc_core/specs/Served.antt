@@ -1,6 +1,6 @@
 -- How the core follows what it is to do.
 use Rattle.std.specs.Prelude.{◌≡◌, ℕ, ◌-◌, ◌^◌, ◌<◌, ◌≤◌}
-use Rattle.std.specs.Prelude.{◌||◌, ◌⊎◌, IfSome, if◌then◌else◌, ◌==◌, List, []}
+use Rattle.std.specs.Prelude.{true, ◌||◌, ◌⊎◌, IfSome, if◌then◌else◌, ◌==◌, List, []}
 use Rattle.std.specs.Prelude.{◌∷◌, ◌++◌, map, Option, Some, None, IsSome}
 use Rattle.wc_text.specs.declared.names.Cause.{Cause}
 use Rattle.wc_text.specs.declared.names.Cause.TheVariants.{NoMemory}
@@ -36,6 +36,7 @@ state_of core told = record {
   told = told;
   moment = core.moment;
   commands = core.commands;
+  saved = core.saved;
 }
 
 -- these rows were told, by what was touched since then
@@ -109,13 +110,23 @@ pub record Follows (old new : CoreView) (stepped : Stepped) : Type 0 where
 abbrev pub LeavesBy : Option Cause → Option Cause → Option Cause → Type 0
 LeavesBy before closes after = (after ≡ or_else before closes) ⊎ StaysOrStarves before after
 
--- what holds also where memory was refused: the same links have a client, and a client that is
--- leaving stays as it is
+-- nothing was saved, or the text that was saved last is to be written
+abbrev pub KeepsSaved : CoreView → CoreView → Type 0
+KeepsSaved old new = ((new.unwritten ≡ old.unwritten) × (new.saved ≡ old.saved))
+    ⊎ ((new.unwritten ≡ true) × IsSome new.saved)
+
+-- the text that is to be written, if one is
+abbrev pub unwritten_of : CoreView → Option (List ℕ)
+unwritten_of core = if core.unwritten then core.saved else None
+
+-- what holds also where memory was refused: the same links have a client, a client that is leaving
+-- stays as it is, and what was saved is not lost
 pub record KeepsClients (old new : CoreView) : Type 0 where
   pub rises : old.starved ≤ new.starved
   pub links : links_of new ≡ links_of old
   pub kept : (link : ℕ) → IsSome (leaving_on link old.connections) →
       at_key connection_link link new.connections ≡ at_key connection_link link old.connections
+  pub saves : KeepsSaved old new
 
 -- The step of the state that the core meant where these rows were told is done, unless some growth
 -- was refused. Who begins to leave does so for the cause that the step's acts give, or for want of

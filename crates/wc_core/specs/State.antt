@@ -1,5 +1,5 @@
 -- What the core is, seen flat.
-use Rattle.std.specs.Prelude.{ℕ, Bool, true, false, ◌||◌, List, [], ◌∷◌}
+use Rattle.std.specs.Prelude.{ℕ, Bool, true, false, ◌||◌, List, [], ◌∷◌, Option, None}
 use Rattle.wc_text.specs.declared.names.Cause.{Cause}
 use Rattle.wc_options.specs.Options.{OptionsValue}
 use Rattle.wc_nicklist.specs.declared.item.Row.{Row}
@@ -21,6 +21,8 @@ pub record State : Type 0 where
   pub moment : ℕ
   -- what is run at the start, as if it were typed into the core buffer
   pub commands : List (List ℕ)
+  -- the text of the options that was saved last, and none before the first time
+  pub saved : Option (List ℕ)
 
 -- what the core asks of the loop
 pub data Act : Type 0 where
@@ -53,6 +55,7 @@ first_state options limit commands = record {
   told = (first_world limit).nicks;
   moment = 0;
   commands = commands;
+  saved = None;
 }
 
 abbrev pub told_at : State → ℕ → List Row

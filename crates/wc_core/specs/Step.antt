@@ -18,6 +18,7 @@ use Rattle.wc_model.specs.Apply.{refusal, after}
 use Rattle.wc_model.specs.Notices.{notice}
 use Rattle.wc_model.specs.Touches.{told_after}
 use Rattle.wc_objects.specs.declared.object.WireMessage.{WireMessage}
+use Rattle.wc_options.specs.Config.{config_text}
 use Rattle.wc_options.specs.Options.{refusal_of, value_of, with_value, without_value}
 use Rattle.wc_options.specs.declared.refusal.SetRefused.{SetRefused}
 use Rattle.wc_options.specs.declared.refusal.SetRefused.TheVariants.{UnknownOption}
@@ -34,7 +35,7 @@ use Rattle.wc_core.specs.Events.{Event, Start, Tick, Arrives, Line as LineCame, 
 use Rattle.wc_core.specs.Events.{ListenFails}
 use Rattle.wc_core.specs.Limits.{client_limit}
 use Rattle.wc_core.specs.Resolved.{Effect, Stays, Ends as ResolvedEnds, Tells, Asks, SetsOption}
-use Rattle.wc_core.specs.Resolved.{UnsetsOption, effect_of, refusal_text, option_text, told_refusal}
+use Rattle.wc_core.specs.Resolved.{UnsetsOption, SavesOptions, effect_of, refusal_text, option_text, told_refusal}
 use Rattle.wc_core.specs.State.{State, Act, Sends, Closes, Quits, Stepped, has_end, told_at}
 use Rattle.wc_board.specs.Answered.{is_nicklist}
 use Rattle.wc_board.specs.Told.{Told}
@@ -143,6 +144,10 @@ unset_step_if state name (Some value) = no_step (record state {
 abbrev pub unset_step : State → List ℕ → Stepped
 unset_step state name = unset_step_if state name (value_of state.options name)
 
+-- the options are saved as the text of their file
+abbrev pub save_step : State → Stepped
+save_step state = no_step (record state { saved = Some (config_text state.options) })
+
 -- ---- what is typed
 
 abbrev pub effect_step : State → Effect → Stepped
@@ -152,6 +157,7 @@ effect_step state (Tells text) = refusal_step state text
 effect_step state (Asks change) = ask_step state change
 effect_step state (SetsOption name value) = set_step state name value
 effect_step state (UnsetsOption name) = unset_step state name
+effect_step state SavesOptions = save_step state
 
 -- one line that is typed into a buffer
 abbrev pub typed_step : State → Handle → TypedCommand → Stepped

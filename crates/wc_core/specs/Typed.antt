@@ -33,6 +33,8 @@ pub data TypedCommand : Type 0 where
   Unsets : List ℕ → TypedCommand
   -- the buffer that is named is to be shown, which changes nothing where it is there
   Switches : List ℕ → TypedCommand
+  -- the options are to be saved
+  Saves : TypedCommand
 
 -- the lines of a text, which LFs part, where `line` is before the text
 abbrev pub lines_parted : List ℕ → List ℕ → List (List ℕ)
@@ -185,10 +187,16 @@ unset_command [] = wrong_arguments (codes "unset")
 unset_command (b ∷ text) = if nat_lt 0 (length (rest_of (b ∷ text)))
     then wrong_arguments (codes "unset") else Unsets (word_of (b ∷ text))
 
+-- nothing is after it
+abbrev pub save_command : List ℕ → TypedCommand
+save_command [] = Saves
+save_command (b ∷ text) = wrong_arguments (codes "save")
+
 unfoldable pub option_command : List ℕ → List ℕ → TypedCommand
 option_command name rest =
     if bytes_eq name (codes "set") then set_command rest else (
-    if bytes_eq name (codes "unset") then unset_command rest else unknown_command name)
+    if bytes_eq name (codes "unset") then unset_command rest else (
+    if bytes_eq name (codes "save") then save_command rest else unknown_command name))
 
 -- ---- commands
 

@@ -14,7 +14,7 @@ use Rattle.wc_core.specs.declared.typed_buffer.Property.TheVariants as propertie
 use Rattle.wc_core.specs.declared.typed.CommandText.{CommandText}
 use Rattle.wc_core.specs.declared.typed.CommandText.TheVariants as asked
 use Rattle.wc_core.specs.Typed.{TypedCommand, Nothing, Quits, Refused, Prints, Adds, Closes, Merges}
-use Rattle.wc_core.specs.Typed.{Names, Changes, Sets, Unsets, Switches, lines_of_text, tags_of}
+use Rattle.wc_core.specs.Typed.{Names, Changes, Sets, Unsets, Switches, Saves, lines_of_text, tags_of}
 use Rattle.wc_core.specs.Typed.{wrong_buffer, some_text, without_words, starts}
 
 -- a word that was found
@@ -45,6 +45,7 @@ meaning (asked.RemoveVar name) = Changes (what.RemoveVar name.now)
 meaning (asked.SetOption name value) = Sets name.now value.now
 meaning (asked.UnsetOption name) = Unsets name.now
 meaning (asked.Switch name) = Switches name.now
+meaning asked.Save = Saves
 
 -- ---- the words of `/buffer`
 

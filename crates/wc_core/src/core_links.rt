@@ -5,7 +5,9 @@ ghost use Rattle.std.specs.Option.{option_copied};
 ghost use Rattle.wc_outside.specs.Keyed.{at_key, without};
 ghost use Rattle.wc_board.specs.Connections.{connection_link, is_open, unsent_at, gone_at};
 ghost use Rattle.wc_board.specs.Connections.{is_open_at, departure_of};
+ghost use Rattle.std.specs.Prelude.{false};
 ghost use Rattle.wc_core.specs.Limits.{client_limit};
+ghost use Rattle.wc_core.specs.Served.{unwritten_of};
 
 use crate::core_state::Core;
 use crate::limits::client_limit;
@@ -66,6 +68,25 @@ impl Core {
         ensures { result.now ≡ self.now.connections }
     {
         self.board.connections()
+    }
+
+    /// The text of the options that is to be written: that of the last `/save`, unless it is
+    /// written already.
+    pub fn unwritten(&self) -> Option<&[u8]>
+        ensures { option_copied result ≡ unwritten_of self.now }
+    {
+        if !self.unwritten {
+            return None;
+        }
+        let text = self.saved.as_ref()?;
+        Some(text.as_slice())
+    }
+
+    /// Notes that the text that was saved last is written.
+    pub fn written(&mut self)
+        ensures { self.new ≡ record self.old { unwritten = false } }
+    {
+        self.unwritten = false;
     }
 
     /// How often want of memory cut something short or made a client leave.

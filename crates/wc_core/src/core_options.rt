@@ -5,7 +5,7 @@ ghost use Rattle.std.specs.Str.{IsUtf8};
 ghost use Rattle.wc_core.specs.Resolved.{option_text};
 ghost use Rattle.wc_core.specs.Served.{Does};
 ghost use Rattle.wc_core.specs.State.{State, Stepped};
-ghost use Rattle.wc_core.specs.Step.{set_step, unset_step, refusal_step};
+ghost use Rattle.wc_core.specs.Step.{set_step, unset_step, save_step, refusal_step};
 
 use crate::core_state::Core;
 use crate::refusals::option_text;
@@ -34,6 +34,19 @@ impl Core {
         match self.options.unset(self.alloc, name) {
             Ok(()) => {}
             Err(refused) => self.refuse_option(name, &refused),
+        }
+    }
+
+    /// Saves the options: the loop is to write their text.
+    pub(crate) fn save(&mut self)
+        ensures { Does self.old self.new (λ state. save_step state) }
+    {
+        match self.options.write_config(self.alloc) {
+            Ok(text) => {
+                self.saved = Some(text);
+                self.unwritten = true;
+            }
+            Err(NoMemory) => self.starve(),
         }
     }
 

@@ -50,6 +50,9 @@ pub struct Core {
     pub(crate) board: Board,
     moment: u64,
     commands: Vec<String>,
+    /// The text of the options that was saved last, and whether the loop is still to write it.
+    pub(crate) saved: Option<Text>,
+    pub(crate) unwritten: bool,
     pub(crate) starved: u64,
     pub(crate) quits: bool,
 }
@@ -71,6 +74,8 @@ impl Model for Core {
       connections = core.board.connections;
       moment = core.moment;
       commands = mapped string_bytes core.commands.items;
+      saved = core.saved;
+      unwritten = core.unwritten;
       starved = core.starved;
       quits = core.quits;
     } };
@@ -84,6 +89,7 @@ impl Core {
             (map string_bytes commands.items))) }
         ensures fresh { IfOk result (λ core. (core.connections ≡ []) × (core.starved ≡ 0)
             × (core.quits ≡ false)) }
+        ensures written { IfOk result (λ core. (core.unwritten ≡ false) × (core.saved ≡ None)) }
     {
         let board = Board::new(alloc, most_lines(&options))?;
         Ok(Core {
@@ -92,6 +98,8 @@ impl Core {
             board,
             moment: 0,
             commands,
+            saved: None,
+            unwritten: false,
             starved: 0,
             quits: false,
         })
@@ -335,6 +343,10 @@ impl Core {
             }
             Ok(Resolution::UnsetsOption(name)) => {
                 self.unset_option(&name);
+                false
+            }
+            Ok(Resolution::SavesOptions) => {
+                self.save();
                 false
             }
             Err(NoMemory) => {

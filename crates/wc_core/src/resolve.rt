@@ -37,6 +37,8 @@ pub(crate) enum Resolution {
     SetsOption(Pair),
     /// An option is to get its default.
     UnsetsOption(Text),
+    /// The options are to be saved.
+    SavesOptions,
 }
 
 fn asks(buffer: Handle, what: What) -> Resolution
@@ -203,6 +205,7 @@ pub(crate) fn resolve(
         CommandText::SetOption { name, value } => set_option(alloc, name, value),
         CommandText::UnsetOption(name) => unset_option(alloc, name),
         CommandText::Switch(name) => switch(alloc, buffer_meant(buffers, name)),
+        CommandText::Save => Ok(Resolution::SavesOptions),
     }
 }
 

@@ -2,7 +2,7 @@ ghost use Rattle.std.specs.Prelude.{◌≡◌, Some, ◌++◌, ◌∷◌, [], If
 ghost use Rattle.wc_core.specs.Typed.{no_text_here, unknown_command, wrong_arguments, quit_command};
 ghost use Rattle.wc_core.specs.Typed.{command, slash_command, typed_line, print_words};
 ghost use Rattle.wc_core.specs.Typed.{set_option, set_command, unset_command, option_command};
-ghost use Rattle.wc_core.specs.Typed.{input_command};
+ghost use Rattle.wc_core.specs.Typed.{input_command, save_command};
 ghost use Rattle.wc_core.specs.Typed.{print_tagged, print_on, print_command, tags_of};
 ghost use Rattle.wc_core.specs.TypedSeen.{meaning, word_in, number_of};
 ghost use Rattle.wc_text.specs.Words.{is_filled};
@@ -63,6 +63,8 @@ pub enum CommandText<'a> {
     UnsetOption(&'a [u8]),
     /// The buffer that is named is to be shown.
     Switch(&'a [u8]),
+    /// The options are to be saved.
+    Save,
 }
 
 fn no_text_here<'a>() -> CommandText<'a>
@@ -127,6 +129,16 @@ fn unset_command(text: &[u8]) -> CommandText<'_>
     }
 }
 
+fn save_command(text: &[u8]) -> CommandText<'_>
+    ensures { meaning result ≡ save_command text.now }
+{
+    if text.is_empty() {
+        CommandText::Save
+    } else {
+        wrong_arguments(b"save")
+    }
+}
+
 /// The commands for options.
 #[tactic(auto, unfolding(crate::specs::Typed::option_command))]
 fn option_command<'a>(name: &'a [u8], text: &'a [u8]) -> CommandText<'a>
@@ -136,6 +148,8 @@ fn option_command<'a>(name: &'a [u8], text: &'a [u8]) -> CommandText<'a>
         set_command(text)
     } else if name == b"unset".as_slice() {
         unset_command(text)
+    } else if name == b"save".as_slice() {
+        save_command(text)
     } else {
         unknown_command(name)
     }

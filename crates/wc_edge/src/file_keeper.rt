@@ -1,14 +1,18 @@
 ghost use Rattle.std.specs.Prelude.{◌≡◌, IfOk};
 
 use std::alloc::{AllocError, Global};
-use std::fs::{self, OpenFile};
+use std::fs::{self, OpenFile, OpenOptions};
 use std::io::{self, ErrorKind, Read, Write};
+use std::os::unix::fs::OpenOptionsExt;
 use std::rt::Files;
 use wc_outside::{Failed, KeepFault, Keeper};
 use wc_text::Text;
 
 /// The name of the file that is kept.
 const NAME: &str = "weechat.conf";
+
+/// Its owner alone may read and write it.
+const PRIVATE: u32 = 0o600;
 
 /// A longer file is not read.
 const SIZE_LIMIT: usize = 16_777_216;
@@ -17,7 +21,7 @@ const SIZE_LIMIT: usize = 16_777_216;
 /// 16,777,216 bytes is not read.
 ///
 /// The bytes that take its place are first written to a file beside it, which then gets its name,
-/// so that a failure loses nothing.
+/// so that a failure loses nothing. Its owner alone can read either, since the bytes have a password.
 #[derive(Drop)]
 pub struct FileKeeper<'a, R: Files> {
     rt: &'a R,
@@ -69,9 +73,19 @@ fn read_file<R: Files>(rt: &R, alloc: Global, path: &str) -> Result<Text, KeepFa
     Err(KeepFault::Failed)
 }
 
+/// Makes a file that its owner alone can read, in the place of one that was left over.
+fn create_private<R: Files>(rt: &R, path: &str) -> io::Result<R::File> {
+    let _ = fs::remove_file(rt, path);
+    OpenOptions::new()
+        .write(true)
+        .create_new(true)
+        .mode(PRIVATE)
+        .open(rt, path)
+}
+
 /// Writes a file and its bytes to the disk.
 fn write_file<R: Files>(rt: &R, path: &str, bytes: &[u8]) -> io::Result<()> {
-    let mut file = fs::create(rt, path)?;
+    let mut file = create_private(rt, path)?;
     file.write_all(bytes)?;
     file.sync_all()
 }

@@ -1,5 +1,6 @@
 //! A file that is kept in a folder.
 
+use std::os::unix::fs::PermissionsExt;
 use std::rt::Files;
 use std::time::{SystemTime, UNIX_EPOCH};
 use std::{fs, io};
@@ -41,6 +42,13 @@ fn replace_twice(rt: &HostRuntime, folder: &str) -> io::Result<()> {
     replace(rt, &mut keeper, b"relay\n")
 }
 
+/// Shows who may read and write the file.
+fn show_mode(rt: &HostRuntime, folder: &str) -> io::Result<()> {
+    let path = format!(in rt.alloc(); "{folder}/weechat.conf")?;
+    let mode = fs::metadata(rt, path.as_str())?.permissions().mode() & 0o777;
+    print!(rt; "mode {mode:o}\n")
+}
+
 fn replace_in_no_folder(rt: &HostRuntime) -> io::Result<()> {
     let mut keeper = FileKeeper::new(rt, rt.alloc(), "/tmp/wc_edge_no_such_folder")?;
     let is_replaced = keeper.replace(b"x").is_ok();
@@ -51,6 +59,7 @@ pub fn play(rt: &HostRuntime) -> io::Result<()> {
     print!(rt; "== the keeper replaces its file\n")?;
     let folder = new_folder(rt)?;
     replace_twice(rt, folder.as_str())?;
+    show_mode(rt, folder.as_str())?;
     fs::remove_dir_all(rt, folder.as_str())?;
     replace_in_no_folder(rt)
 }

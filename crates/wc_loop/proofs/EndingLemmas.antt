@@ -1,5 +1,5 @@
 -- How a run ends.
-use Rattle.std.proofs.Common.{◌≡◌, ◌≢◌, ◌⊎◌, inl, inr, ℕ, ◌≤◌, Bool, true, false, eqb, cond, IsTrue, List, [], ◌∷◌, Option, Some, None, Ok, Err, IfOk, IfSome, IsSomeAnd, refl, sym, subst, ◌∙◌, arith}
+use Rattle.std.proofs.Common.{◌≡◌, ◌≢◌, ◌⊎◌, inl, inr, ℕ, ◌≤◌, Bool, true, false, eqb, cond, IsTrue, List, [], ◌∷◌, Option, Some, None, Ok, Err, IfOk, IfSome, IsSomeAnd, is_some, refl, sym, ap, subst, ◌∙◌, arith}
 use Rattle.std.proofs.lemmas.Bool.{false≢true}
 use Rattle.std.proofs.lemmas.Bool.Decides.{nat_tests}
 use Rattle.wc_outside.specs.Faults.{Rose}
@@ -7,9 +7,9 @@ use Rattle.wc_outside.specs.Seen.{Seen}
 use Rattle.wc_outside.specs.declared.happening.Asked.TheVariants.{Listen}
 use Rattle.wc_turns.specs.declared.headless.Headless.{Headless}
 use Rattle.wc_loop.specs.declared.ending.Ending.{Ending}
-use Rattle.wc_loop.specs.declared.ending.Ending.TheVariants.{Version, BadWord, WaitFailed, NoConfiguration, BadLine, NoMemory, ListenFailed, TurnsTaken, Quit as EndsQuit}
+use Rattle.wc_loop.specs.declared.ending.Ending.TheVariants.{Version, Help, BadWord, WaitFailed, NoConfiguration, BadLine, NoMemory, ListenFailed, NotSaved, TurnsTaken, Quit as EndsQuit}
 use Rattle.wc_turns.specs.declared.turn.TurnEnd.{TurnEnd}
-use Rattle.wc_turns.specs.declared.turn.TurnEnd.TheVariants.{GoOn, Quit, WaitFault, ListenFault}
+use Rattle.wc_turns.specs.declared.turn.TurnEnd.TheVariants.{GoOn, Quit, WaitFault, ListenFault, KeeperFault}
 use Rattle.wc_outside.specs.declared.happening.Asked.{Asked}
 use Rattle.wc_options.specs.Config.{config_of}
 use Rattle.wc_options.specs.Options.{OptionsValue}
@@ -18,7 +18,8 @@ use Rattle.wc_loop.proofs.OptionsLemmas.{some_port}
 use Rattle.wc_turns.specs.Sources.{AllServed, AllSent}
 use Rattle.wc_turns.specs.Turns.{wake_count, listen_faults, faults_then}
 use Rattle.wc_loop.specs.Headline.{IsConfigured}
-use Rattle.wc_loop.specs.Endings.{IsPort, kept_of, LastOf, WaitsAtMost, HasQuit, EndsAt, IsEarly, IsLastState, Runs}
+use Rattle.wc_turns.specs.Saves.{held_by, SavesTurn}
+use Rattle.wc_loop.specs.Endings.{KeepsText, saved_in, status_of, asked_in, IsPort, kept_of, LastOf, WaitsAtMost, HasQuit, EndsAt, IsEarly, IsLastState, Runs}
 use Rattle.wc_loop.proofs.HeadlineLemmas.{IfSome-last}
 
 kept_of-some : (h : Headless) → 1 ≤ h.turns → kept_of h ≡ Some h
@@ -46,10 +47,9 @@ pub record Listened (contents : Option (List ℕ)) (asked : List Asked) : Type 0
   pub set : IsPort contents port
   pub is : asked ≡ Listen port ∷ []
 
-not_early : (status : ℕ) → status ≢ 3 → status ≢ 4 → status ≢ 5 → (status ≡ 3) ⊎ ((status ≡ 4) ⊎ (status ≡ 5)) → ⊥
-not_early status a b c (inl q) = a q
-not_early status a b c (inr (inl q)) = b q
-not_early status a b c (inr (inr q)) = c q
+not_early : (status : ℕ) → status ≢ 4 → status ≢ 5 → (status ≡ 4) ⊎ (status ≡ 5) → ⊥
+not_early status a b (inl q) = a q
+not_early status a b (inr q) = b q
 
 LastOf-kept : (seen : Seen) (h : Headless) → (IsTrue seen.tells → wake_count seen.taken ≡ h.turns) → LastOf seen (kept_of h)
 LastOf-kept seen h woke = go (eqb h.turns 0) refl
@@ -58,22 +58,35 @@ LastOf-kept seen h woke = go (eqb h.turns 0) refl
     go true e = λ t. (let w = woke t in grind (arith, nat_tests))
     go false e = (grind (arith, nat_tests), woke)
 
+-- what the keeper holds after the last turn
+pub kept-text : (x h : Headless) (before mid after : Option (List ℕ)) → x.core.saved ≡ None → mid ≡ before → SavesTurn x.core h.core mid after → (h.turns ≡ 0 → h.core.saved ≡ None) → KeepsText before after (kept_of h)
+kept-text x h before mid after none same saves unsaved some =
+    saves before (λ here. same ∙ ap (λ o. held_by o before) (sym none)) some ∙ ap (λ o. held_by o before) (go (eqb h.turns 0) refl)
+  where
+    go : (b : Bool) → eqb h.turns 0 ≡ b → h.core.saved ≡ saved_in (cond b None (Some h))
+    go true e = unsaved (grind (arith, nat_tests))
+    go false e = refl
+
+pub not-keeper : (then : TurnEnd) (ending : Ending) → EndsAt then ending → status_of ending ≢ 3 → then ≢ KeeperFault
+not-keeper then ending at three q = three (ap status_of (subst (λ end. EndsAt end ending) q at))
+
 -- over the commands of the start
 module _ (commands : List (List ℕ)) where
   -- what comes after the last turn
-  pub record After (turns : ℕ) (contents : Option (List ℕ)) (before after : Seen) (then : TurnEnd) (h : Headless) : Type 0 where
+  pub record After (turns : ℕ) (contents : Option (List ℕ)) (k k' : ℕ) (before after : Seen) (then : TurnEnd) (h : Headless) : Type 0 where
     pub above : 1 ≤ turns
     pub known : IfSome contents IsReadable
     pub woke : IsTrue after.tells → wake_count after.taken ≡ h.turns
-    pub listens : IsTrue after.tells → listen_faults after.taken ≡ faults_then then
+    pub listens : IsTrue after.tells → then ≢ KeeperFault → listen_faults after.taken ≡ faults_then then
     pub quit : then ≡ Quit → h.core.quits ≡ true
-    pub going : then ≢ Quit → then ≢ ListenFault → h.core.quits ≡ false
+    pub going : then ≢ Quit → then ≢ ListenFault → then ≢ KeeperFault → h.core.quits ≡ false
     pub all : then ≡ GoOn → h.turns ≡ turns
     pub fewer : then ≡ WaitFault → h.turns ≢ turns
-    pub some : (then ≡ ListenFault) ⊎ (then ≡ Quit) → 1 ≤ h.turns
+    pub some : (then ≡ ListenFault) ⊎ ((then ≡ Quit) ⊎ (then ≡ KeeperFault)) → 1 ≤ h.turns
     pub most : h.turns ≤ turns
     pub wait_fault : then ≡ WaitFault → Rose before.faults.waits after.faults.waits
     pub listen_fault : then ≡ ListenFault → Rose before.faults.listens after.faults.listens
+    pub keeper_fault : then ≡ KeeperFault → Rose k k'
     pub asked : IsTrue after.tells → Listened contents after.asked
     pub served : then ≡ GoOn → AllServed h.core.connections before after
     pub sent : then ≡ Quit → AllSent h.core.connections before after
@@ -98,7 +111,7 @@ module _ (commands : List (List ℕ)) where
   not-going h above over q = false≢true (sym (rw (kept_of-some h above) at q) ∙ over)
 
   -- the ends after the last turn
-  pub Runs-following : (turns : ℕ) (contents : Option (List ℕ)) (k k' : ℕ) (before after : Seen) (then : TurnEnd) (ending : Ending) (h : Headless) → After turns contents before after then h → EndsAt then ending
+  pub Runs-following : (turns : ℕ) (contents : Option (List ℕ)) (k k' : ℕ) (before after : Seen) (then : TurnEnd) (ending : Ending) (h : Headless) → After turns contents k k' before after then h → EndsAt then ending
       → Runs commands turns contents k k' before after ending (kept_of h)
   Runs-following turns contents k k' before after GoOn ending h b at = rw at (record {
     ends = record {
@@ -108,16 +121,17 @@ module _ (commands : List (List ℕ)) where
       unreadable = readable contents _ b.known;
       quit = λ q. absurd (omega arith);
       quit_told = λ q t. absurd (omega arith);
-      quit_due = λ q six. absurd (not-quit h (b.going (λ r. cc) (λ r. cc)) q);
-      all = λ q. rw (kept_of-some h (let a = b.above in let n = b.all refl in omega arith)) (b.all refl, b.going (λ r. cc) (λ r. cc));
-      told = λ q t. (b.woke t ∙ b.all refl, b.listens t);
-      due = λ t w g l. refl;
+      quit_due = λ q six three. absurd (not-quit h (b.going (λ r. cc) (λ r. cc) (λ r. cc)) q);
+      all = λ q. rw (kept_of-some h (let a = b.above in let n = b.all refl in omega arith)) (b.all refl, b.going (λ r. cc) (λ r. cc) (λ r. cc));
+      told = λ q t. (b.woke t ∙ b.all refl, b.listens t (λ r. cc));
+      due = λ t w g l three. refl;
       failed = λ q t. absurd (omega arith);
       listened = λ q t. absurd (omega arith);
-      early = λ q. absurd (not_early 8 (λ q. omega arith) (λ q. omega arith) (λ q. omega arith) q);
+      early = λ q. absurd (not_early 8 (λ q. omega arith) (λ q. omega arith) q);
     };
     line = λ q. absurd (omega arith);
-    version = refl;
+    shown = refl;
+    saving = λ q. absurd (omega arith);
     counted = LastOf-kept after h b.woke;
     most = at-most turns after h b.most b.woke;
     left = IfSome-last (kept_of h) h _ refl b.left;
@@ -132,18 +146,19 @@ module _ (commands : List (List ℕ)) where
       known = omega arith;
       line = λ q. absurd (omega arith);
       unreadable = readable contents _ b.known;
-      quit = λ q. kept-quit true h (b.some (inr refl)) (b.quit refl);
-      quit_told = λ q t. b.listens t;
-      quit_due = λ q six. refl;
+      quit = λ q. kept-quit true h (b.some (inr (inl refl))) (b.quit refl);
+      quit_told = λ q t. b.listens t (λ r. cc);
+      quit_due = λ q six three. refl;
       all = λ q. absurd (omega arith);
       told = λ q t. absurd (omega arith);
-      due = λ t w g l. absurd (not-going h (b.some (inr refl)) (b.quit refl) g);
+      due = λ t w g l three. absurd (not-going h (b.some (inr (inl refl))) (b.quit refl) g);
       failed = λ q t. absurd (omega arith);
       listened = λ q t. absurd (omega arith);
-      early = λ q. absurd (not_early 0 (λ q. omega arith) (λ q. omega arith) (λ q. omega arith) q);
+      early = λ q. absurd (not_early 0 (λ q. omega arith) (λ q. omega arith) q);
     };
     line = λ q. absurd (omega arith);
-    version = refl;
+    shown = refl;
+    saving = λ q. absurd (omega arith);
     counted = LastOf-kept after h b.woke;
     most = at-most turns after h b.most b.woke;
     left = IfSome-last (kept_of h) h _ refl b.left;
@@ -160,16 +175,17 @@ module _ (commands : List (List ℕ)) where
       unreadable = readable contents _ b.known;
       quit = λ q. absurd (omega arith);
       quit_told = λ q t. absurd (omega arith);
-      quit_due = λ q six. absurd (not-quit h (b.going (λ r. cc) (λ r. cc)) q);
+      quit_due = λ q six three. absurd (not-quit h (b.going (λ r. cc) (λ r. cc) (λ r. cc)) q);
       all = λ q. absurd (omega arith);
       told = λ q t. absurd (omega arith);
-      due = λ t w g l. absurd (b.fewer refl (sym (b.woke t) ∙ w));
-      failed = λ q t. b.listens t;
+      due = λ t w g l three. absurd (b.fewer refl (sym (b.woke t) ∙ w));
+      failed = λ q t. b.listens t (λ r. cc);
       listened = λ q t. absurd (omega arith);
-      early = λ q. absurd (not_early 2 (λ q. omega arith) (λ q. omega arith) (λ q. omega arith) q);
+      early = λ q. absurd (not_early 2 (λ q. omega arith) (λ q. omega arith) q);
     };
     line = λ q. absurd (omega arith);
-    version = refl;
+    shown = refl;
+    saving = λ q. absurd (omega arith);
     counted = LastOf-kept after h b.woke;
     most = at-most turns after h b.most b.woke;
     left = IfSome-last (kept_of h) h _ refl b.left;
@@ -186,16 +202,17 @@ module _ (commands : List (List ℕ)) where
       unreadable = readable contents _ b.known;
       quit = λ q. absurd (omega arith);
       quit_told = λ q t. absurd (omega arith);
-      quit_due = λ q six. absurd (six refl);
+      quit_due = λ q six three. absurd (six refl);
       all = λ q. absurd (omega arith);
       told = λ q t. absurd (omega arith);
-      due = λ t w g l. absurd (let n = b.listens t in omega arith);
+      due = λ t w g l three. absurd (let n = b.listens t (λ r. cc) in omega arith);
       failed = λ q t. absurd (omega arith);
-      listened = λ q t. (let n = b.listens t in omega arith);
-      early = λ q. absurd (not_early 6 (λ q. omega arith) (λ q. omega arith) (λ q. omega arith) q);
+      listened = λ q t. (let n = b.listens t (λ r. cc) in omega arith);
+      early = λ q. absurd (not_early 6 (λ q. omega arith) (λ q. omega arith) q);
     };
     line = λ q. absurd (omega arith);
-    version = refl;
+    shown = refl;
+    saving = λ q. absurd (omega arith);
     counted = LastOf-kept after h b.woke;
     most = at-most turns after h b.most b.woke;
     left = IfSome-last (kept_of h) h _ refl b.left;
@@ -203,6 +220,33 @@ module _ (commands : List (List ℕ)) where
     sent = λ q. absurd (omega arith);
     faults = record { wait = λ q. absurd (omega arith); keeper = λ q. absurd (omega arith); listener = λ q. b.listen_fault refl };
     asked = λ t. (let l = b.asked t in record { port = l.port; set = l.set; is = l.is });
+  })
+  Runs-following turns contents k k' before after KeeperFault ending h b at = rw at (record {
+    ends = record {
+      later = λ q. omega arith;
+      known = omega arith;
+      line = λ q. absurd (omega arith);
+      unreadable = readable contents _ b.known;
+      quit = λ q. absurd (omega arith);
+      quit_told = λ q t. absurd (omega arith);
+      quit_due = λ q six three. absurd (three refl);
+      all = λ q. absurd (omega arith);
+      told = λ q t. absurd (omega arith);
+      due = λ t w g l three. absurd (three refl);
+      failed = λ q t. absurd (omega arith);
+      listened = λ q t. absurd (omega arith);
+      early = λ q. absurd (not_early 3 (λ q. omega arith) (λ q. omega arith) q);
+    };
+    line = λ q. absurd (omega arith);
+    shown = refl;
+    saving = λ q. sym (ap is_some (kept_of-some h (b.some (inr (inr refl)))));
+    counted = LastOf-kept after h b.woke;
+    most = at-most turns after h b.most b.woke;
+    left = IfSome-last (kept_of h) h _ refl b.left;
+    served = λ q. absurd (omega arith);
+    sent = λ q. absurd (omega arith);
+    faults = record { wait = λ q. absurd (omega arith); keeper = λ q. b.keeper_fault refl; listener = λ q. absurd (omega arith) };
+    asked = λ t. (let l = b.asked t in record { port = l.port; set = l.set; is = subst (λ o. after.asked ≡ asked_in l.port 3 (is_some o)) (sym (kept_of-some h (b.some (inr (inr refl))))) l.is });
   })
 
   bad-line : (contents : Option (List ℕ)) (n : ℕ) → IfSome contents (λ kept. config_of kept ≡ Err n) → IfSome contents (λ kept. (options : OptionsValue) → config_of kept ≢ Ok options)
@@ -228,16 +272,17 @@ module _ (commands : List (List ℕ)) where
       unreadable = always contents _ (λ kept n bad three five. absurd (three refl));
       quit = λ q. absurd (omega arith);
       quit_told = λ q t. absurd (omega arith);
-      quit_due = λ q six. absurd q;
+      quit_due = λ q six three. absurd q;
       all = λ q. absurd (omega arith);
       told = λ q t. absurd (omega arith);
-      due = λ t w g l. absurd (let z = u.woke t in let a = u.above in omega arith);
+      due = λ t w g l three. absurd (let z = u.woke t in let a = u.above in omega arith);
       failed = λ q t. absurd (omega arith);
       listened = λ q t. absurd (omega arith);
       early = λ q. refl;
     };
     line = λ q. absurd (omega arith);
-    version = refl;
+    shown = refl;
+    saving = λ q. refl;
     counted = u.woke;
     most = record { counted = tt; told = λ t. (let z = u.woke t in omega arith) };
     left = tt;
@@ -254,16 +299,17 @@ module _ (commands : List (List ℕ)) where
       unreadable = always contents _ (λ kept n bad three five. refl);
       quit = λ q. absurd (omega arith);
       quit_told = λ q t. absurd (omega arith);
-      quit_due = λ q six. absurd q;
+      quit_due = λ q six three. absurd q;
       all = λ q. absurd (omega arith);
       told = λ q t. absurd (omega arith);
-      due = λ t w g l. absurd (let z = u.woke t in let a = u.above in omega arith);
+      due = λ t w g l three. absurd (let z = u.woke t in let a = u.above in omega arith);
       failed = λ q t. absurd (omega arith);
       listened = λ q t. absurd (omega arith);
       early = λ q. refl;
     };
     line = λ q. early;
-    version = refl;
+    shown = refl;
+    saving = λ q. absurd (omega arith);
     counted = u.woke;
     most = record { counted = tt; told = λ t. (let z = u.woke t in omega arith) };
     left = tt;
@@ -280,16 +326,17 @@ module _ (commands : List (List ℕ)) where
       unreadable = always contents _ (λ kept n bad three five. absurd (five refl));
       quit = λ q. absurd (omega arith);
       quit_told = λ q t. absurd (omega arith);
-      quit_due = λ q six. absurd q;
+      quit_due = λ q six three. absurd q;
       all = λ q. absurd (omega arith);
       told = λ q t. absurd (omega arith);
-      due = λ t w g l. absurd (let z = u.woke t in let a = u.above in omega arith);
+      due = λ t w g l three. absurd (let z = u.woke t in let a = u.above in omega arith);
       failed = λ q t. absurd (omega arith);
       listened = λ q t. absurd (omega arith);
       early = λ q. refl;
     };
     line = λ q. absurd (omega arith);
-    version = refl;
+    shown = refl;
+    saving = λ q. absurd (omega arith);
     counted = u.woke;
     most = record { counted = tt; told = λ t. (let z = u.woke t in omega arith) };
     left = tt;
@@ -299,9 +346,11 @@ module _ (commands : List (List ℕ)) where
     asked = λ t. (let p = some_port contents in record { port = p.0; set = p.1; is = asked t });
   }
   Runs-early turns contents k k' seen Version u asked early = absurd early
+  Runs-early turns contents k k' seen Help u asked early = absurd early
   Runs-early turns contents k k' seen (BadWord n) u asked early = absurd early
   Runs-early turns contents k k' seen WaitFailed u asked early = absurd early
   Runs-early turns contents k k' seen ListenFailed u asked early = absurd early
+  Runs-early turns contents k k' seen NotSaved u asked early = absurd early
   Runs-early turns contents k k' seen TurnsTaken u asked early = absurd early
   Runs-early turns contents k k' seen EndsQuit u asked early = absurd early
 
@@ -316,16 +365,17 @@ module _ (commands : List (List ℕ)) where
       unreadable = readable contents _ (known-readable commands contents first port known);
       quit = λ q. absurd (omega arith);
       quit_told = λ q t. absurd (omega arith);
-      quit_due = λ q six. absurd q;
+      quit_due = λ q six three. absurd q;
       all = λ q. absurd (omega arith);
       told = λ q t. absurd (omega arith);
-      due = λ t w g l. absurd (let z = u.woke t in let a = u.above in omega arith);
+      due = λ t w g l three. absurd (let z = u.woke t in let a = u.above in omega arith);
       failed = λ q t. absurd (omega arith);
       listened = λ q t. (let n = listens t in omega arith);
       early = λ q. refl;
     };
     line = λ q. absurd (omega arith);
-    version = refl;
+    shown = refl;
+    saving = λ q. absurd (omega arith);
     counted = u.woke;
     most = record { counted = tt; told = λ t. (let z = u.woke t in omega arith) };
     left = tt;

@@ -1,20 +1,24 @@
 -- How a run ends, and what it prints.
 use Rattle.std.specs.Prelude.{ℕ, ◌≡◌, ◌≢◌, ◌≤◌, ◌⊎◌, Bool, true, false, not, List, []}
 use Rattle.std.specs.Prelude.{◌∷◌, ◌++◌, All, ◌&&◌, nat_le, Option, Some, None, Result, Ok, Err}
-use Rattle.std.specs.Prelude.{IfSome, IfOk, IsTrue, IsSomeAnd, if◌then◌else◌, ◌==◌, codes, decimal}
+use Rattle.std.specs.Prelude.{IfSome, IfOk, IsSome, is_some, IsTrue, IsSomeAnd, if◌then◌else◌, ◌==◌, codes, decimal}
 use Rattle.std.specs.Io.KnownBytes.{append_known}
 use Rattle.wc_outside.specs.Faults.{Faults, Rose}
 use Rattle.wc_outside.specs.Seen.{Seen}
 use Rattle.wc_outside.specs.declared.happening.Asked.{Asked}
 use Rattle.wc_outside.specs.declared.happening.Asked.TheVariants.{Listen}
 use Rattle.wc_loop.specs.declared.ending.Ending.{Ending}
-use Rattle.wc_loop.specs.declared.ending.Ending.TheVariants.{Version, BadWord, WaitFailed}
+use Rattle.wc_loop.specs.declared.ending.Ending.TheVariants.{Version, Help, BadWord, WaitFailed}
 use Rattle.wc_loop.specs.declared.ending.Ending.TheVariants.{NoConfiguration, BadLine, NoMemory}
-use Rattle.wc_loop.specs.declared.ending.Ending.TheVariants.{ListenFailed, TurnsTaken, Quit}
+use Rattle.wc_loop.specs.declared.ending.Ending.TheVariants.{ListenFailed, NotSaved, TurnsTaken}
+use Rattle.wc_loop.specs.declared.ending.Ending.TheVariants.{Quit}
 use Rattle.wc_turns.specs.declared.headless.Headless.{Headless}
 use Rattle.wc_turns.specs.declared.turn.TurnEnd.{TurnEnd}
 use Rattle.wc_turns.specs.declared.turn.TurnEnd.TheVariants.{GoOn, Quit as ThenQuit, WaitFault}
-use Rattle.wc_turns.specs.declared.turn.TurnEnd.TheVariants.{ListenFault}
+use Rattle.wc_turns.specs.declared.turn.TurnEnd.TheVariants.{ListenFault, KeeperFault}
+use Rattle.wc_turns.specs.Saves.{held_by}
+use Rattle.wc_loop.specs.declared.words.Shows.{Shows}
+use Rattle.wc_loop.specs.declared.words.Shows.TheVariants as shows
 use Rattle.wc_loop.specs.declared.words.Wish.{Wish}
 use Rattle.wc_options.specs.Config.{config_of}
 use Rattle.wc_options.specs.Options.{OptionsValue}
@@ -23,6 +27,7 @@ use Rattle.wc_loop.specs.Headline.{Headline}
 use Rattle.wc_turns.specs.Served.{NobodyLeaving}
 use Rattle.wc_turns.specs.Sources.{AllServed, AllSent}
 use Rattle.wc_turns.specs.Turns.{AgreesWithSockets, IsCaused, wake_count, listen_faults}
+use Rattle.wc_turns.specs.Turns.{FaultsIn, LoopStep}
 
 -- the state at the end is there where a wait returned
 abbrev pub kept_of : Headless → Option Headless
@@ -39,6 +44,15 @@ pub record WaitsAtMost (turns : ℕ) (seen : Seen) (last : Option Headless) : Ty
   pub counted : IfSome last (λ last. last.turns ≤ turns)
   pub told : IsTrue seen.tells → wake_count seen.taken ≤ turns
 
+-- the text that was saved last, if one was
+abbrev pub saved_in : Option Headless → Option (List ℕ)
+saved_in None = None
+saved_in (Some last) = last.core.saved
+
+-- a keeper that tells what it holds has the text that was saved last, or what it held before
+abbrev pub KeepsText : Option (List ℕ) → Option (List ℕ) → Option Headless → Type 0
+KeepsText before after last = IsSome after → after ≡ held_by (saved_in last) before
+
 -- whether `/quit` was run
 abbrev pub HasQuit : Bool → Headless → Type 0
 HasQuit quits last = last.core.quits ≡ quits
@@ -54,56 +68,93 @@ pub record Ends (turns : ℕ) (contents : Option (List ℕ)) (seen : Seen) (stat
       config_of configuration ≢ Ok options)
   pub unreadable : IfSome contents (λ configuration. (n : ℕ) → config_of configuration ≡ Err n →
       status ≢ 3 → status ≢ 5 → status ≡ 4)
-  -- `/quit` was run, and the listener did not fail
+  -- `/quit` was run, and neither the listener nor the keeper failed
   pub quit : status ≡ 0 → IsSomeAnd last (HasQuit true)
   pub quit_told : status ≡ 0 → IsTrue seen.tells → listen_faults seen.taken ≡ 0
-  pub quit_due : IsSomeAnd last (HasQuit true) → status ≢ 6 → status ≡ 0
-  -- all waits returned, `/quit` was not run, and the listener did not fail
+  pub quit_due : IsSomeAnd last (HasQuit true) → status ≢ 6 → status ≢ 3 → status ≡ 0
+  -- all waits returned, `/quit` was not run, and neither the listener nor the keeper failed
   pub all : status ≡ 8 → IsSomeAnd last (λ last. (last.turns ≡ turns) × HasQuit false last)
   pub told : status ≡ 8 → IsTrue seen.tells → (wake_count seen.taken ≡ turns)
       × (listen_faults seen.taken ≡ 0)
   pub due : IsTrue seen.tells → wake_count seen.taken ≡ turns → IfSome last (HasQuit false) →
-      listen_faults seen.taken ≡ 0 → status ≡ 8
+      listen_faults seen.taken ≡ 0 → status ≢ 3 → status ≡ 8
   pub failed : status ≡ 2 → IsTrue seen.tells → listen_faults seen.taken ≡ 0
   pub listened : status ≡ 6 → IsTrue seen.tells → 1 ≤ listen_faults seen.taken
   -- what comes before the first wait
-  pub early : (status ≡ 3) ⊎ ((status ≡ 4) ⊎ (status ≡ 5)) → last ≡ None
+  pub early : (status ≡ 4) ⊎ (status ≡ 5) → last ≡ None
 
 -- the status of a run with readable words
-abbrev pub StatusFor : Bool → ℕ → Option (List ℕ) → Seen → ℕ → Option Headless → Type 0
-StatusFor true turns contents seen status last = (status ≡ 0) × (last ≡ None)
-StatusFor false turns contents seen status last = Ends turns contents seen status last
+abbrev pub StatusFor : Shows → ℕ → Option (List ℕ) → Seen → ℕ → Option Headless → Type 0
+StatusFor shows.Version turns contents seen status last = (status ≡ 0) × (last ≡ None)
+StatusFor shows.Help turns contents seen status last = (status ≡ 0) × (last ≡ None)
+StatusFor shows.Nothing turns contents seen status last = Ends turns contents seen status last
 
 -- the status of a run
 abbrev pub StatusOf : Result Wish ℕ → Option (List ℕ) → Seen → ℕ → Option Headless → Type 0
 StatusOf (Err n) contents seen status last = (status ≡ 1) × (last ≡ None)
-StatusOf (Ok wish) contents seen status last = StatusFor wish.version wish.turns contents seen
+StatusOf (Ok wish) contents seen status last = StatusFor wish.shows wish.turns contents seen
     status last
 
 -- a text and an LF
 abbrev pub line_of : List ℕ → List ℕ
 line_of text = text ++ 10 ∷ []
 
--- whether words ask for the version, and whether they ask for turns
-abbrev pub asks_version : Result Wish ℕ → Bool
-asks_version (Err n) = false
-asks_version (Ok wish) = wish.version
+-- what words ask to be shown, and whether they ask for turns
+abbrev pub shown_by : Result Wish ℕ → Shows
+shown_by (Err n) = shows.Nothing
+shown_by (Ok wish) = wish.shows
+
+abbrev pub runs_for : Shows → Bool
+runs_for shows.Nothing = true
+runs_for shows.Version = false
+runs_for shows.Help = false
 
 abbrev pub asks_turns : Result Wish ℕ → Bool
 asks_turns (Err n) = false
-asks_turns (Ok wish) = not wish.version
+asks_turns (Ok wish) = runs_for wish.shows
 
--- what is printed for a status, with the number of a word or a line; the version where it was asked
--- for
-abbrev pub printed_text : Bool → ℕ → ℕ → List ℕ
-printed_text version status number =
-    if version then line_of (codes "wc-headless 1") else (
+-- the words, and what each status means
+unfoldable pub help_text : List ℕ
+help_text = codes "wc-headless: a chat core without a screen, read through relays\n"
+    ++ codes "\n"
+    ++ codes "  -d FOLDER   keeps weechat.conf in this folder, in place of the current one\n"
+    ++ codes "  -r COMMAND  runs a command at the start; may be repeated\n"
+    ++ codes "  -a          connects no server at the start\n"
+    ++ codes "  --turns N   ends after N waits\n"
+    ++ codes "  -v          prints the version\n"
+    ++ codes "  -h, --help  prints this\n"
+    ++ codes "\n"
+    ++ codes "Status:\n"
+    ++ codes "  0  /quit was run, or the version or this was printed\n"
+    ++ codes "  1  a word is unknown, or lacks its value\n"
+    ++ codes "  2  waiting failed\n"
+    ++ codes "  3  the configuration cannot be read or written\n"
+    ++ codes "  4  a line of the configuration is unreadable\n"
+    ++ codes "  5  there was no memory before the first wait\n"
+    ++ codes "  6  listening failed\n"
+    ++ codes "  7  printing failed\n"
+    ++ codes "  8  N waits returned\n"
+
+-- the configuration was read, or a wait returned before it could not be written
+abbrev pub keeper_text : Bool → List ℕ
+keeper_text false = codes "cannot read configuration"
+keeper_text true = codes "cannot write configuration"
+
+-- what is printed for a status, where a wait returned or not, with the number of a word or a line
+abbrev pub status_text : Bool → ℕ → ℕ → List ℕ
+status_text woken status number =
     if status == 1 then line_of (codes "bad word " ++ decimal number) else (
     if status == 2 then line_of (codes "wait failed") else (
-    if status == 3 then line_of (codes "cannot read configuration") else (
+    if status == 3 then line_of (keeper_text woken) else (
     if status == 4 then line_of (codes "configuration line " ++ decimal number) else (
     if status == 5 then line_of (codes "out of memory") else (
-    if status == 6 then line_of (codes "listen failed") else []))))))
+    if status == 6 then line_of (codes "listen failed") else [])))))
+
+-- what is printed, where words ask for this
+abbrev pub printed_text : Shows → Bool → ℕ → ℕ → List ℕ
+printed_text shows.Version woken status number = line_of (codes "wc-headless 1")
+printed_text shows.Help woken status number = help_text
+printed_text shows.Nothing woken status number = status_text woken status number
 
 -- the number that is printed is that of the word with a fault, or of the unreadable line
 pub record IsNumber (wish : Result Wish ℕ) (contents : Option (List ℕ)) (status number : ℕ) :
@@ -113,15 +164,17 @@ pub record IsNumber (wish : Result Wish ℕ) (contents : Option (List ℕ)) (sta
 
 -- what the sink holds is what it held, and what is printed after it
 pub record Prints (wish : Result Wish ℕ) (contents : Option (List ℕ)) (status : ℕ)
-    (before after : Option (List ℕ)) : Type 0 where
+    (last : Option Headless) (before after : Option (List ℕ)) : Type 0 where
   pub number : ℕ
   pub is : IsNumber wish contents status number
-  pub holds : after ≡ append_known before (printed_text (asks_version wish) status number)
+  pub holds : after
+      ≡ append_known before (printed_text (shown_by wish) (is_some last) status number)
 
 -- what the sockets are asked for where words ask for turns: the listener at a port, unless the run
 -- ended before
-abbrev pub asked_in : ℕ → ℕ → List Asked
-asked_in port status = if nat_le 3 status && nat_le status 5 then [] else Listen port ∷ []
+abbrev pub asked_in : ℕ → ℕ → Bool → List Asked
+asked_in port status woken =
+    if nat_le 3 status && nat_le status 5 && not woken then [] else Listen port ∷ []
 
 -- the port is the one that the options of the configuration set
 abbrev pub IsPort : Option (List ℕ) → ℕ → Type 0
@@ -129,11 +182,11 @@ IsPort contents port = IfSome contents (λ configuration. IfOk (config_of config
     (λ options. port ≡ port_of options))
 
 -- what the sockets were asked for in a run with this status, which may ask for turns
-pub record IsAsked (turns : Bool) (contents : Option (List ℕ)) (status : ℕ) (asked : List Asked) :
-    Type 0 where
+pub record IsAsked (turns : Bool) (contents : Option (List ℕ)) (status : ℕ) (woken : Bool)
+    (asked : List Asked) : Type 0 where
   pub port : ℕ
   pub set : IsPort contents port
-  pub is : asked ≡ (if turns then asked_in port status else [])
+  pub is : asked ≡ (if turns then asked_in port status woken else [])
 
 -- each status that tells a fault comes only where that count rose
 pub record HasCause (before after : Faults) (kept kept' : ℕ) (status : ℕ) : Type 0 where
@@ -144,37 +197,59 @@ pub record HasCause (before after : Faults) (kept kept' : ℕ) (status : ℕ) : 
 -- the status of an end, and the number in its text
 abbrev pub status_of : Ending → ℕ
 status_of Version = 0
+status_of Help = 0
 status_of (BadWord n) = 1
 status_of WaitFailed = 2
 status_of NoConfiguration = 3
 status_of (BadLine n) = 4
 status_of NoMemory = 5
 status_of ListenFailed = 6
+status_of NotSaved = 3
 status_of TurnsTaken = 8
 status_of Quit = 0
 
 abbrev pub number_of : Ending → ℕ
 number_of Version = 0
+number_of Help = 0
 number_of (BadWord n) = n
 number_of WaitFailed = 0
 number_of NoConfiguration = 0
 number_of (BadLine n) = n
 number_of NoMemory = 0
 number_of ListenFailed = 0
+number_of NotSaved = 0
 number_of TurnsTaken = 0
 number_of Quit = 0
 
--- whether it prints the version
-abbrev pub tells_version : Ending → Bool
-tells_version Version = true
-tells_version (BadWord n) = false
-tells_version WaitFailed = false
-tells_version NoConfiguration = false
-tells_version (BadLine n) = false
-tells_version NoMemory = false
-tells_version ListenFailed = false
-tells_version TurnsTaken = false
-tells_version Quit = false
+-- what it shows in the place of a run
+abbrev pub shown_at : Ending → Shows
+shown_at Version = shows.Version
+shown_at Help = shows.Help
+shown_at (BadWord n) = shows.Nothing
+shown_at WaitFailed = shows.Nothing
+shown_at NoConfiguration = shows.Nothing
+shown_at (BadLine n) = shows.Nothing
+shown_at NoMemory = shows.Nothing
+shown_at ListenFailed = shows.Nothing
+shown_at NotSaved = shows.Nothing
+shown_at TurnsTaken = shows.Nothing
+shown_at Quit = shows.Nothing
+
+-- whether the configuration could not be written
+abbrev pub is_unsaved : Ending → Bool
+is_unsaved NotSaved = true
+is_unsaved _ = false
+
+-- what an end prints
+abbrev pub ending_text : Ending → List ℕ
+ending_text ending = printed_text (shown_at ending) (is_unsaved ending) (status_of ending)
+    (number_of ending)
+
+-- so many turns were taken, the last of which ended so
+pub record RunStep (end : TurnEnd) (old new : Headless) (before after : Seen) : Type 0 where
+  pub faults : ℕ
+  pub fits : FaultsIn end faults
+  pub step : LoopStep false new.turns faults old new before after
 
 -- how a run ends after a turn that ended so
 abbrev pub EndsAt : TurnEnd → Ending → Type 0
@@ -182,6 +257,7 @@ EndsAt GoOn ending = ending ≡ TurnsTaken
 EndsAt ThenQuit ending = ending ≡ Quit
 EndsAt WaitFault ending = ending ≡ WaitFailed
 EndsAt ListenFault ending = ending ≡ ListenFailed
+EndsAt KeeperFault ending = ending ≡ NotSaved
 
 -- an end before the listener is asked for
 abbrev pub IsEarly : Option (List ℕ) → ℕ → ℕ → Ending → Type 0
@@ -190,9 +266,11 @@ IsEarly contents kept kept' (BadLine n) =
     IfSome contents (λ configuration. config_of configuration ≡ Err n)
 IsEarly contents kept kept' NoMemory = Unit {0}
 IsEarly contents kept kept' Version = ⊥
+IsEarly contents kept kept' Help = ⊥
 IsEarly contents kept kept' (BadWord n) = ⊥
 IsEarly contents kept kept' WaitFailed = ⊥
 IsEarly contents kept kept' ListenFailed = ⊥
+IsEarly contents kept kept' NotSaved = ⊥
 IsEarly contents kept kept' TurnsTaken = ⊥
 IsEarly contents kept kept' Quit = ⊥
 
@@ -210,7 +288,9 @@ pub record Runs (commands : List (List ℕ)) (turns : ℕ) (contents : Option (L
   pub ends : Ends turns contents after (status_of ending) last
   pub line : status_of ending ≡ 4 → IfSome contents (λ configuration. config_of configuration
       ≡ Err (number_of ending))
-  pub version : tells_version ending ≡ false
+  pub shown : shown_at ending ≡ shows.Nothing
+  -- the text of a failure of the keeper tells whether it came before the first wait
+  pub saving : status_of ending ≡ 3 → is_unsaved ending ≡ is_some last
   pub counted : LastOf after last
   pub most : WaitsAtMost turns after last
   pub left : IfSome last (IsLastState commands contents before after)
@@ -220,7 +300,8 @@ pub record Runs (commands : List (List ℕ)) (turns : ℕ) (contents : Option (L
   -- after `/quit` each link is written once
   pub sent : status_of ending ≡ 0 → IfSome last (λ last. AllSent last.core.connections before after)
   pub faults : HasCause before.faults after.faults kept kept' (status_of ending)
-  pub asked : IsTrue after.tells → IsAsked true contents (status_of ending) after.asked
+  pub asked : IsTrue after.tells → IsAsked true contents (status_of ending) (is_some last)
+      after.asked
 
 -- nothing is asked of the outside
 pub record AsksNothing (kept kept' : ℕ) (before after : Seen) (wanted ending : Ending)
@@ -230,11 +311,13 @@ pub record AsksNothing (kept kept' : ℕ) (before after : Seen) (wanted ending :
   pub seen : after ≡ before
   pub faults : kept' ≡ kept
 
-abbrev pub RunsFor : Bool → List (List ℕ) → ℕ → Option (List ℕ) → ℕ → ℕ → Seen → Seen → Ending →
+abbrev pub RunsFor : Shows → List (List ℕ) → ℕ → Option (List ℕ) → ℕ → ℕ → Seen → Seen → Ending →
     Option Headless → Type 0
-RunsFor true commands turns contents kept kept' before after ending last =
+RunsFor shows.Version commands turns contents kept kept' before after ending last =
     AsksNothing kept kept' before after Version ending last
-RunsFor false commands turns contents kept kept' before after ending last =
+RunsFor shows.Help commands turns contents kept kept' before after ending last =
+    AsksNothing kept kept' before after Help ending last
+RunsFor shows.Nothing commands turns contents kept kept' before after ending last =
     Runs commands turns contents kept kept' before after ending last
 
 -- the program ends, by its words
@@ -243,4 +326,4 @@ abbrev pub RunsBy : List (List ℕ) → Result Wish ℕ → Option (List ℕ) �
 RunsBy commands (Err n) contents kept kept' before after ending last = AsksNothing kept kept' before after
     (BadWord n) ending last
 RunsBy commands (Ok wish) contents kept kept' before after ending last =
-    RunsFor wish.version commands wish.turns contents kept kept' before after ending last
+    RunsFor wish.shows commands wish.turns contents kept kept' before after ending last

@@ -84,6 +84,8 @@ pub record IsFirst (headless : Headless) : Type 0 where
   pub ran : headless.ran ≡ 0
   pub turns : headless.turns ≡ 0
   pub closed : headless.links.closed.items ≡ []
+  pub saved : headless.core.saved ≡ None
+  pub unwritten : headless.core.unwritten ≡ false
 
 -- sockets of which nothing was taken
 pub record NothingTaken (seen : Seen) : Type 0 where

@@ -4,6 +4,7 @@ use Rattle.std.specs.Prelude.{if◌then◌else◌, nat_le, Option, Some, None, R
 use Rattle.std.specs.Prelude.{pos, negsuc}
 use Rattle.std.specs.Str.{bytes_eq}
 use Rattle.wc_text.specs.Integer.{integer_of}
+use Rattle.wc_loop.specs.declared.words.Shows.TheVariants.{Nothing, Version, Help}
 use Rattle.wc_loop.specs.declared.words.Wish.{Wish}
 
 -- a number of turns is 1 to 2^62
@@ -17,6 +18,9 @@ turns_of text = turns_by (integer_of text)
 
 unfoldable pub is_version : List ℕ → Bool
 is_version word = bytes_eq word (codes "-v")
+
+unfoldable pub is_help : List ℕ → Bool
+is_help word = bytes_eq word (codes "-h") || bytes_eq word (codes "--help")
 
 unfoldable pub is_folder : List ℕ → Bool
 is_folder word = bytes_eq word (codes "-d")
@@ -34,8 +38,9 @@ is_unconnected word = bytes_eq word (codes "-a")
 
 -- what is asked after a word that takes no value; none where the word takes one, or is none
 unfoldable pub asked_by : Wish → List ℕ → Option Wish
-asked_by wish word = if is_version word then Some (record wish { version = true }) else (
-    if is_unconnected word then Some wish else None)
+asked_by wish word = if is_version word then Some (record wish { shows = Version }) else (
+    if is_help word then Some (record wish { shows = Help }) else (
+    if is_unconnected word then Some wish else None))
 
 -- whether a word takes a value that is text
 abbrev pub takes_text : List ℕ → Bool
@@ -63,7 +68,7 @@ wish_from place wish (word ∷ value ∷ words) = with_flag (asked_by wish word)
 
 -- what the words ask, or the number of the first one with a fault, counted from 1
 abbrev pub wish_of : List (List ℕ) → Result Wish ℕ
-wish_of words = wish_from 0 (record { version = false; turns = 2 ^ 62 }) words
+wish_of words = wish_from 0 (record { shows = Nothing; turns = 2 ^ 62 }) words
 
 -- the folder that words name after others that named one, the last of which counts
 abbrev pub folder_from : Option (List ℕ) → List (List ℕ) → Option (List ℕ)

@@ -1,5 +1,7 @@
 ghost use Rattle.std.specs.Prelude.{◌≡◌, codes};
-ghost use Rattle.wc_loop.specs.Endings.{status_of, number_of, tells_version, line_of, printed_text};
+ghost use Rattle.wc_loop.specs.Endings.{status_of, number_of, shown_at, is_unsaved, line_of};
+ghost use Rattle.wc_loop.specs.Endings.{status_text, ending_text};
+ghost use Rattle.wc_loop.specs.declared.words.Shows.TheVariants as shows;
 
 use crate::print::{line, put_number};
 use arrayvec::ArrayVec;
@@ -9,6 +11,8 @@ use arrayvec::ArrayVec;
 pub enum Ending {
     /// Words asked for the version.
     Version,
+    /// Words asked for the words.
+    Help,
     /// The word of this number is unknown, lacks its value, or has an unreadable one.
     BadWord(u64),
     WaitFailed,
@@ -17,6 +21,8 @@ pub enum Ending {
     BadLine(u64),
     NoMemory,
     ListenFailed,
+    /// The configuration could not be written.
+    NotSaved,
     /// As many waits returned as were asked for.
     TurnsTaken,
     /// `/quit` was run.
@@ -29,10 +35,10 @@ impl Ending {
         ensures { result ≡ status_of self }
     {
         match self {
-            Ending::Version | Ending::Quit => 0,
+            Ending::Version | Ending::Help | Ending::Quit => 0,
             Ending::BadWord(_) => 1,
             Ending::WaitFailed => 2,
-            Ending::NoConfiguration => 3,
+            Ending::NoConfiguration | Ending::NotSaved => 3,
             Ending::BadLine(_) => 4,
             Ending::NoMemory => 5,
             Ending::ListenFailed => 6,
@@ -40,10 +46,9 @@ impl Ending {
         }
     }
 
-    /// What is printed.
+    /// What is printed, but for the help, which is longer.
     pub fn text(self) -> ArrayVec<u8, 64>
-        ensures { result.items ≡ printed_text (tells_version self) (status_of self)
-            (number_of self) }
+        ensures { self ≢ Ending.Help → result.items ≡ ending_text self }
     {
         match self {
             Ending::Version => line(b"wc-headless 1"),
@@ -53,7 +58,8 @@ impl Ending {
             Ending::BadLine(number) => put_number(b"configuration line ", number),
             Ending::NoMemory => line(b"out of memory"),
             Ending::ListenFailed => line(b"listen failed"),
-            Ending::TurnsTaken | Ending::Quit => ArrayVec::new(),
+            Ending::NotSaved => line(b"cannot write configuration"),
+            Ending::Help | Ending::TurnsTaken | Ending::Quit => ArrayVec::new(),
         }
     }
 }

@@ -2,11 +2,12 @@
 #![tactic(auto)]
 
 mod ending;
+mod help;
 mod laws;
 mod print;
 mod program;
 mod words;
 
 pub use laws::cuts_change_nothing;
-pub use program::{Ended, run_program};
+pub use program::{Ended, needs_sockets, run_program};
 pub use words::config_dir;

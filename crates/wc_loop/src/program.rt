@@ -6,7 +6,8 @@ ghost use Rattle.wc_outside.specs.Faults.{Rose};
 ghost use Rattle.wc_outside.specs.Seen.{IsNew};
 ghost use Rattle.wc_loop.specs.Endings.{LastOf, StatusOf, WaitsAtMost, Prints, IsEarly, HasCause};
 ghost use Rattle.wc_loop.specs.Endings.{Runs, RunsBy, asks_turns, IsAsked, EndsAt, kept_of};
-ghost use Rattle.wc_loop.specs.Endings.{number_of, printed_text, status_of, tells_version};
+ghost use Rattle.wc_loop.specs.Endings.{number_of, status_of, ending_text, KeepsText};
+ghost use Rattle.wc_turns.specs.Saves.{SavesTurn};
 ghost use Rattle.wc_options.specs.Config.{config_of};
 ghost use Rattle.wc_core.specs.Limits.{most_lines, port_of};
 ghost use Rattle.wc_core.specs.Served.{Means};
@@ -15,23 +16,26 @@ ghost use Rattle.wc_loop.specs.Headline.{Headline, ClientsHoldDumps, IsFirst, Is
 ghost use Rattle.wc_turns.specs.Served.{NobodyLeaving};
 ghost use Rattle.wc_turns.specs.Sources.{AllServed, AllSent};
 ghost use Rattle.wc_loop.specs.Words.{commands_of, wish_of};
-ghost use Rattle.wc_turns.specs.Turns.{LoopStep, AgreesWithSockets, IsCaused, faults_then};
+ghost use Rattle.wc_loop.specs.Endings.{RunStep};
+ghost use Rattle.std.specs.Prelude.{OnOk, OnErr, is_some};
+ghost use Rattle.wc_turns.specs.Turns.{AgreesWithSockets, IsCaused};
 
 use crate::ending::Ending;
+use crate::help::help;
 use crate::print::print;
-use crate::words::{read_words, start_commands};
+use crate::words::{Shows, read_words, start_commands};
 use std::alloc::Global;
 use wc_core::port_of;
 use wc_options::{ConfigRefused, Options, read_config};
-use wc_outside::{KeepFault, Keeper, Sink, Sockets};
+use wc_outside::{Failed, KeepFault, Keeper, Sink, Sockets};
 use wc_text::NoMemory;
 use wc_turns::{Headless, TurnEnd};
 
 /// How a run ended.
 #[derive(Drop)]
 pub struct Ended {
-    /// 0 where words asked for the version, or `/quit` was run; 1 for a bad word; 2 where a wait
-    /// failed; 3 where the configuration could not be read; 4 where a line of it is unreadable; 5
+    /// 0 where words asked for the version or the help, or `/quit` was run; 1 for a bad word; 2 where
+    /// a wait failed; 3 where the configuration could not be read, or not be written; 4 where a line of it is unreadable; 5
     /// for want of memory before the first wait; 6 where the listener failed; 7 where printing
     /// failed; and 8 where as many waits returned as were asked for.
     pub status: u8,
@@ -47,6 +51,7 @@ fn read_options<K: Keeper>(alloc: Global, keeper: &mut K) -> Result<Options, End
     ensures early { IfErr result (IsEarly (K.contents keeper.old) (K.faults keeper.old)
         (K.faults keeper.new)) }
     ensures kept { K.contents keeper.new ≡ K.contents keeper.old }
+    ensures counts { K.faults keeper.old ≤ K.faults keeper.new }
 {
     let text = match keeper.read_all(alloc) {
         Ok(text) => text,
@@ -93,6 +98,7 @@ fn configure<K: Keeper>(
     ensures early { IfErr result (IsEarly (K.contents keeper.old) (K.faults keeper.old)
         (K.faults keeper.new)) }
     ensures kept { K.contents keeper.new ≡ K.contents keeper.old }
+    ensures counts { K.faults keeper.old ≤ K.faults keeper.new }
 {
     let options = read_options(alloc, keeper)?;
     let commands = match start_commands(alloc, words) {
@@ -115,8 +121,8 @@ fn take_turns<S: Sockets, K: Keeper>(
 ) -> TurnEnd
     requires first { IsFirst headless.old }
     requires agrees { AgreesWithSockets headless.old (S.seen sockets.old) }
-    ensures continues { LoopStep false headless.new.turns (faults_then result) headless.old
-        headless.new (S.seen sockets.old) (S.seen sockets.new) }
+    ensures continues { RunStep result headless.old headless.new (S.seen sockets.old)
+        (S.seen sockets.new) }
     ensures agrees { AgreesWithSockets headless.new (S.seen sockets.new) }
     ensures calm { NobodyLeaving headless.new.core.connections }
     ensures causes { All (IsCaused (S.seen sockets.old) (S.seen sockets.new))
@@ -127,17 +133,21 @@ fn take_turns<S: Sockets, K: Keeper>(
         (S.seen sockets.old) (S.seen sockets.new) }
     ensures quit { result ≡ TurnEnd.Quit → headless.new.core.quits ≡ true }
     ensures going { result ≢ TurnEnd.Quit → result ≢ TurnEnd.ListenFault →
-        headless.new.core.quits ≡ false }
+        result ≢ TurnEnd.KeeperFault → headless.new.core.quits ≡ false }
     ensures all { result ≡ TurnEnd.GoOn → headless.new.turns ≡ turns }
     ensures fewer { result ≡ TurnEnd.WaitFault → headless.new.turns ≢ turns }
-    ensures some { (result ≡ TurnEnd.ListenFault) ⊎ (result ≡ TurnEnd.Quit) →
-        1 ≤ headless.new.turns }
+    ensures some { (result ≡ TurnEnd.ListenFault) ⊎ ((result ≡ TurnEnd.Quit)
+        ⊎ (result ≡ TurnEnd.KeeperFault)) → 1 ≤ headless.new.turns }
     ensures most { headless.new.turns ≤ turns }
     ensures wait_fault { result ≡ TurnEnd.WaitFault → Rose (S.seen sockets.old).faults.waits
         (S.seen sockets.new).faults.waits }
     ensures listen_fault { result ≡ TurnEnd.ListenFault → Rose (S.seen sockets.old).faults.listens
         (S.seen sockets.new).faults.listens }
-    ensures kept { K.contents keeper.new ≡ K.contents keeper.old }
+    ensures saves { result ≢ TurnEnd.KeeperFault → SavesTurn headless.old.core headless.new.core
+        (K.contents keeper.old) (K.contents keeper.new) }
+    ensures unsaved { headless.new.turns ≡ 0 → headless.new.core.saved ≡ None }
+    ensures keeper_fault { result ≡ TurnEnd.KeeperFault →
+        Rose (K.faults keeper.old) (K.faults keeper.new) }
 {
     for _ in 0..turns {
         match headless.turn(sockets, keeper) {
@@ -157,6 +167,7 @@ fn ending_of(then: TurnEnd) -> Ending
         TurnEnd::Quit => Ending::Quit,
         TurnEnd::WaitFault => Ending::WaitFailed,
         TurnEnd::ListenFault => Ending::ListenFailed,
+        TurnEnd::KeeperFault => Ending::NotSaved,
     }
 }
 
@@ -189,7 +200,8 @@ fn run<S: Sockets, K: Keeper>(
     requires new { IsNew (S.seen sockets.old) }
     ensures runs { Runs (commands_of (map string_bytes words.now)) turns (K.contents keeper.old) (K.faults keeper.old) (K.faults keeper.new)
         (S.seen sockets.old) (S.seen sockets.new) result.ending result.last }
-    ensures kept { K.contents keeper.new ≡ K.contents keeper.old }
+    ensures kept { status_of result.ending ≢ 3 → KeepsText (K.contents keeper.old)
+        (K.contents keeper.new) result.last }
 {
     let Configured { mut headless, port } = match configure(alloc, words, keeper) {
         Ok(made) => made,
@@ -220,7 +232,8 @@ fn run_words<S: Sockets, K: Keeper>(
         (wish_of (map string_bytes words.now)) (K.contents keeper.old)
         (K.faults keeper.old) (K.faults keeper.new) (S.seen sockets.old) (S.seen sockets.new)
         result.ending result.last }
-    ensures kept { K.contents keeper.new ≡ K.contents keeper.old }
+    ensures kept { status_of result.ending ≢ 3 → KeepsText (K.contents keeper.old)
+        (K.contents keeper.new) result.last }
 {
     let wish = match read_words(words) {
         Ok(wish) => wish,
@@ -231,13 +244,30 @@ fn run_words<S: Sockets, K: Keeper>(
             };
         }
     };
-    if wish.version {
-        return Outcome {
+    match wish.shows {
+        Shows::Nothing => run(alloc, words, wish.turns, sockets, keeper),
+        Shows::Version => Outcome {
             ending: Ending::Version,
             last: None,
-        };
+        },
+        Shows::Help => Outcome {
+            ending: Ending::Help,
+            last: None,
+        },
     }
-    run(alloc, words, wish.turns, sockets, keeper)
+}
+
+/// Prints the text of an end.
+fn print_ending<O: Sink>(out: &mut O, ending: Ending) -> Result<(), Failed>
+    ensures ok { OnOk result (O.contents out.new
+        ≡ append_known (O.contents out.old) (ending_text ending)) }
+    ensures count { OnOk result (O.faults out.new ≡ O.faults out.old) }
+    ensures failed { OnErr result (Rose (O.faults out.old) (O.faults out.new)) }
+{
+    match ending {
+        Ending::Help => print(out, help()),
+        _ => print(out, ending.text().as_slice()),
+    }
 }
 
 /// Prints what is to be told of an outcome.
@@ -245,12 +275,11 @@ fn end<O: Sink>(out: &mut O, outcome: Outcome) -> Ended
     ensures last { result.last ≡ outcome.last }
     ensures status { result.status ≢ 7 → result.status ≡ status_of outcome.ending }
     ensures printed { result.status ≢ 7 → O.contents out.new ≡ append_known (O.contents out.old)
-        (printed_text (tells_version outcome.ending) (status_of outcome.ending)
-        (number_of outcome.ending)) }
+        (ending_text outcome.ending) }
     ensures count { result.status ≢ 7 → O.faults out.new ≡ O.faults out.old }
     ensures sink { result.status ≡ 7 → Rose (O.faults out.old) (O.faults out.new) }
 {
-    let status = match print(out, outcome.ending.text().as_slice()) {
+    let status = match print_ending(out, outcome.ending) {
         Ok(()) => outcome.ending.status(),
         Err(_) => 7,
     };
@@ -260,10 +289,22 @@ fn end<O: Sink>(out: &mut O, outcome: Outcome) -> Ended
     }
 }
 
+/// Whether words ask for a run, which needs sockets. A bad word, and words that ask for a text alone,
+/// need none.
+pub fn needs_sockets(words: &Vec<String>) -> bool
+    ensures { result ≡ asks_turns (wish_of (map string_bytes words.now.items)) }
+{
+    match read_words(words.as_slice()) {
+        Ok(wish) => wish.shows == Shows::Nothing,
+        Err(_) => false,
+    }
+}
+
 /// Runs the program for these words: it reads the options of the configuration, listens at 127.0.0.1
 /// and the port that they set, runs the commands of `-r` on the core buffer after the first wait, and
 /// serves clients of the relay protocol `weechat` until as many waits returned as `--turns` asks for,
-/// or `/quit` is run. The sockets are new. At its end it prints what is to be told.
+/// or `/quit` is run. What `/save` saves takes the place of the configuration. The sockets are new.
+/// At its end it prints what is to be told.
 ///
 /// A sink that fails gives the status 7 in place of the one that was to come.
 pub fn run_program<S: Sockets, K: Keeper, O: Sink>(
@@ -283,7 +324,8 @@ pub fn run_program<S: Sockets, K: Keeper, O: Sink>(
     ensures status { result.status ≢ 7 → StatusOf (wish_of (map string_bytes words.now.items))
         (K.contents keeper.old) (S.seen sockets.new) result.status result.last }
     ensures printed { result.status ≢ 7 → Prints (wish_of (map string_bytes words.now.items))
-        (K.contents keeper.old) result.status (O.contents out.old) (O.contents out.new) }
+        (K.contents keeper.old) result.status result.last (O.contents out.old)
+        (O.contents out.new) }
     ensures last { LastOf (S.seen sockets.new) result.last }
     ensures waits { IfOk (wish_of (map string_bytes words.now.items))
         (λ wish. WaitsAtMost wish.turns (S.seen sockets.new) result.last) }
@@ -303,10 +345,11 @@ pub fn run_program<S: Sockets, K: Keeper, O: Sink>(
     ensures sink_count { result.status ≢ 7 → O.faults out.new ≡ O.faults out.old }
     ensures asked { result.status ≢ 7 → IsTrue (S.seen sockets.new).tells →
         IsAsked (asks_turns (wish_of (map string_bytes words.now.items)))
-        (K.contents keeper.old) result.status (S.seen sockets.new).asked }
+        (K.contents keeper.old) result.status (is_some result.last) (S.seen sockets.new).asked }
     ensures untouched { asks_turns (wish_of (map string_bytes words.now.items)) ≡ false →
         S.seen sockets.new ≡ S.seen sockets.old }
-    ensures kept { K.contents keeper.new ≡ K.contents keeper.old }
+    ensures kept { result.status ≢ 3 → result.status ≢ 7 → KeepsText (K.contents keeper.old)
+        (K.contents keeper.new) result.last }
 {
     let outcome = run_words(alloc, words.as_slice(), sockets, keeper);
     end(out, outcome)

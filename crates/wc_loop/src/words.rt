@@ -1,18 +1,28 @@
 ghost use Rattle.std.specs.Prelude.{◌≡◌, ◌||◌, ◌^◌, ◌≤◌, ◌+◌, Option, Some, None, IfOk, IfSome, []};
 ghost use Rattle.std.specs.Prelude.{◌∷◌, length, map, string_bytes};
 ghost use Rattle.std.specs.Option.{option_copied};
-ghost use Rattle.wc_loop.specs.Words.{turns_of, is_version, is_folder, is_turns, is_command};
+ghost use Rattle.wc_loop.specs.Words.{turns_of, is_version, is_help, is_folder, is_turns, is_command};
 ghost use Rattle.wc_loop.specs.Words.{is_unconnected, asked_by, takes_text, with_slash};
 ghost use Rattle.wc_loop.specs.Words.{wish_of, folder_of, commands_of};
 
 use std::alloc::Global;
 use wc_text::{NoMemory, read_i64};
 
+/// What is printed in the place of a run.
+#[derive(Clone, Copy, PartialEq, Eq)]
+pub enum Shows {
+    /// Nothing is: the program runs.
+    Nothing,
+    Version,
+    /// The words, and what each status means.
+    Help,
+}
+
 /// What the words ask.
 #[derive(Clone, Copy)]
 pub struct Wish {
-    /// To print the version and end.
-    pub version: bool,
+    /// What to print and end.
+    pub shows: Shows,
     /// For so many waits.
     pub turns: u64,
 }
@@ -35,6 +45,13 @@ fn is_version(word: &str) -> bool
     ensures { result ≡ is_version word.now }
 {
     word == "-v"
+}
+
+#[tactic(auto, unfolding(crate::specs::Words::is_help))]
+fn is_help(word: &str) -> bool
+    ensures { result ≡ is_help word.now }
+{
+    word == "-h" || word == "--help"
 }
 
 #[tactic(auto, unfolding(crate::specs::Words::is_folder))]
@@ -73,7 +90,13 @@ fn asked_by(wish: Wish, word: &str) -> Option<Wish>
 {
     if is_version(word) {
         return Some(Wish {
-            version: true,
+            shows: Shows::Version,
+            ..wish
+        });
+    }
+    if is_help(word) {
+        return Some(Wish {
+            shows: Shows::Help,
             ..wish
         });
     }
@@ -117,16 +140,17 @@ fn first(words: &[String]) -> Option<(&str, &[String])>
     }
 }
 
-/// Reads the words: `-v`, `-a`, `--turns` and a number, `-d` and a folder, `-r` and
-/// a command. Of a repeated number the last counts. The number is that of the first fault, counted from 1: the unknown word, the word whose
-/// value is missing, or the unreadable value.
+/// Reads the words: `-v`, `-h` or `--help`, `-a`, `--turns` and a number, `-d` and a folder, `-r`
+/// and a command. Of `-v` and `-h`, and of a repeated number, the last counts. The number is that of
+/// the first fault, counted from 1: the unknown word, the word whose value is missing, or the
+/// unreadable value.
 #[tactic(auto, using(crate::proofs::WordsLemmas::read_words_facts))]
 pub fn read_words(words: &[String]) -> Result<Wish, u64>
     ensures wish { result ≡ wish_of (map string_bytes words.now) }
     ensures above { IfOk result (λ wish. 1 ≤ wish.turns) }
 {
     let mut wish = Wish {
-        version: false,
+        shows: Shows::Nothing,
         turns: 1 << 62,
     };
     let mut place = 0;

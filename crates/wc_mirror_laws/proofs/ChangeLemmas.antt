@@ -17,7 +17,7 @@ use Rattle.wc_text.specs.Splits.{BeginsWithout}
 use Rattle.wc_session.specs.declared.client.Client.{Client}
 use Rattle.wc_session.specs.Event.{event_messages, notice_told}
 use Rattle.wc_session.specs.Sync.{follows}
-use Rattle.wc_core.specs.Resolved.{Effect, Stays, Ends as ResolvedEnds, Tells as TellsRefusal, Asks, SetsOption, UnsetsOption, effect_of, refusal_text, option_text, told_refusal}
+use Rattle.wc_core.specs.Resolved.{Effect, Stays, Ends as ResolvedEnds, Tells as TellsRefusal, Asks, SetsOption, UnsetsOption, SavesOptions, effect_of, refusal_text, option_text, told_refusal}
 use Rattle.wc_options.specs.Options.{OptionsValue, refusal_of, value_of, with_value, without_value}
 use Rattle.wc_options.specs.declared.refusal.SetRefused.{SetRefused}
 use Rattle.wc_options.specs.declared.refusal.SetRefused.TheVariants.{UnknownOption}
@@ -162,6 +162,7 @@ Tells-resolved which limit link id state (TellsRefusal text) free kept told = Te
 Tells-resolved which limit link id state (Asks change) free kept told = Tells-asks which limit link id state change free kept told
 Tells-resolved which limit link id state (SetsOption name value) free kept told = Tells-sets which limit link id state name value (refusal_of state.options name value) free kept
 Tells-resolved which limit link id state (UnsetsOption name) free kept told = Tells-unsets which limit link id state name (value_of state.options name) free kept
+Tells-resolved which limit link id state SavesOptions free kept told = record { following = refl; kept = record { most = kept.most; world = kept.world; told = kept.told; texts = kept.texts; first = kept.first }; spelt = tt; right = λ follows part had. had }
 
 Tells-does : (which : HeldPart) (limit link : ℕ) (id : List ℕ) (state : State) (buffer : Handle) (line : List ℕ) → BeginsWithout 95 id → IsStateKept limit link state → IsUtf8 line
     → Tells which limit link id state (typed_step state buffer (typed_line line))

@@ -20,8 +20,8 @@ use Rattle.wc_model.specs.declared.change.What.TheVariants as what
 use Rattle.wc_model.specs.World.{World}
 use Rattle.wc_text.specs.Splits.{onward, text_after, word_of, rest_of}
 use Rattle.wc_relaycmd.proofs.Utf8Lemmas.{cut_text, put_byte, before_text, past_text}
-use Rattle.wc_core.specs.Resolved.{Effect, Stays, Ends, Tells, Asks, SetsOption, UnsetsOption, switched, buffer_meant, of_meant, of_named, change_of, line_spec, plugin_in, effect_of}
-use Rattle.wc_core.specs.Typed.{TypedCommand, Nothing, Quits, Refused, Prints, Adds, Closes, Merges, Names, Changes, Sets, Unsets, Switches, switch_command, input_command, set_option, set_command, unset_command, option_command, unknown_command, wrong_arguments, lines_parted, lines_of_text, print_unless_empty, print_words, tags_of, is_first, second_of, after_second, print_tagged, print_on, print_command, wrong_buffer, one_word, without_words, some_text, moves_to, close_command, starts, set_property, buffer_word, buffer_command, quit_command, command, slash_command, typed_line}
+use Rattle.wc_core.specs.Resolved.{Effect, Stays, Ends, Tells, Asks, SetsOption, UnsetsOption, SavesOptions, switched, buffer_meant, of_meant, of_named, change_of, line_spec, plugin_in, effect_of}
+use Rattle.wc_core.specs.Typed.{TypedCommand, Nothing, Quits, Refused, Prints, Adds, Closes, Merges, Names, Changes, Sets, Unsets, Switches, Saves, save_command, switch_command, input_command, set_option, set_command, unset_command, option_command, unknown_command, wrong_arguments, lines_parted, lines_of_text, print_unless_empty, print_words, tags_of, is_first, second_of, after_second, print_tagged, print_on, print_command, wrong_buffer, one_word, without_words, some_text, moves_to, close_command, starts, set_property, buffer_word, buffer_command, quit_command, command, slash_command, typed_line}
 use Rattle.wc_mirror_laws.specs.Worlds.{IsBufferKept, IsWorldKept}
 use Rattle.wc_mirror_laws.proofs.ListLemmas.{all_filter}
 use Rattle.wc_mirror_laws.proofs.RowLemmas.{row_has}
@@ -108,6 +108,7 @@ IsTypedText (Changes w) = IsTold w
 IsTypedText (Sets name value) = Unit {0}
 IsTypedText (Unsets name) = Unit {0}
 IsTypedText (Switches name) = Unit {0}
+IsTypedText Saves = Unit {0}
 
 if_text : (b : Bool) (x y : TypedCommand) → (b ≡ true → IsTypedText x) → IsTypedText y → IsTypedText (cond b x y)
 if_text true x y p q = p refl
@@ -229,12 +230,18 @@ unset_text : (text : List ℕ) → IsTypedText (unset_command text)
 unset_text [] = tt
 unset_text (b ∷ text) = if_text (ltb 0 (length (rest_of (b ∷ text)))) (wrong_arguments (codes "unset")) (Unsets (word_of (b ∷ text))) (λ here. tt) tt
 
+save_text : (text : List ℕ) → IsTypedText (save_command text)
+save_text [] = tt
+save_text (b ∷ text) = tt
+
 option_text : (name rest : List ℕ) → IsTypedText (option_command name rest)
 unfolding option_command
 option_text name rest =
-    let unsets = cond (bytes_eq name (codes "unset")) (unset_command rest) (unknown_command name) in
+    let saves = cond (bytes_eq name (codes "save")) (save_command rest) (unknown_command name) in
+    let unsets = cond (bytes_eq name (codes "unset")) (unset_command rest) saves in
     if_text (bytes_eq name (codes "set")) (set_command rest) unsets (λ here. set_text (word_of rest) (rest_of rest))
-    (if_text (bytes_eq name (codes "unset")) (unset_command rest) (unknown_command name) (λ here. unset_text rest) tt)
+    (if_text (bytes_eq name (codes "unset")) (unset_command rest) saves (λ here. unset_text rest)
+    (if_text (bytes_eq name (codes "save")) (save_command rest) (unknown_command name) (λ here. save_text rest) tt))
 
 input_text : (text : List ℕ) → IsTypedText (input_command text)
 input_text text =
@@ -273,6 +280,7 @@ OnAsks (Tells text) = Unit {0}
 OnAsks (Asks change) = IsTold change.what
 OnAsks (SetsOption name value) = Unit {0}
 OnAsks (UnsetsOption name) = Unit {0}
+OnAsks SavesOptions = Unit {0}
 
 meant_told : (f : Handle → Change) (o : Option Handle) → ((h : Handle) → IsTold (f h).what) → OnAsks (of_meant f o)
 meant_told f None each = tt
@@ -322,3 +330,4 @@ resolved_told limit w moment buffer (Changes c) is text = text
 resolved_told limit w moment buffer (Sets name value) is text = tt
 resolved_told limit w moment buffer (Unsets name) is text = tt
 resolved_told limit w moment buffer (Switches name) is text = switched_told (buffer_meant w.groups name)
+resolved_told limit w moment buffer Saves is text = tt

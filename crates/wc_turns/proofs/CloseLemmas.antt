@@ -1,5 +1,5 @@
 -- Bytes are sent, and links are closed.
-use Rattle.std.proofs.Common.{◌≡◌, ◌≢◌, ℕ, ◌<◌, ◌≤◌, nat_le, Bool, true, false, not, cond, eqb, ◌&&◌, ◌||◌, IsTrue, List, [], ◌∷◌, ◌++◌, map, length, take, drop, Option, Some, None, is_some, is_none, refl, sym, ap, ◌∙◌, subst, arith, append_assoc}
+use Rattle.std.proofs.Common.{◌≡◌, ◌≢◌, ℕ, ◌<◌, ◌≤◌, nat_le, Bool, true, false, not, cond, eqb, ◌&&◌, ◌||◌, IsTrue, List, [], ◌∷◌, ◌++◌, map, length, take, drop, Option, Some, None, is_some, is_none, inl, refl, sym, ap, ◌∙◌, subst, arith, append_assoc}
 use Rattle.std.proofs.lemmas.Bool.{false≢true}
 use Rattle.std.proofs.lemmas.Bool.Decides.{nat_tests}
 use Rattle.std.proofs.lemmas.List.{append-nil, take-append-drop, length-drop}
@@ -11,6 +11,7 @@ use Rattle.wc_core.specs.CoreView.{CoreView}
 use Rattle.wc_board.specs.Told.{Told}
 use Rattle.wc_board.specs.Connections.{connection_link, unsent_in, unsent_on, unsent_at, gone_at, departure_of}
 use Rattle.wc_core.specs.Served.{clients_of, state_of, WereTold, Means, Distinct}
+use Rattle.wc_core.proofs.DidLemmas.{saves-as}
 use Rattle.wc_turns.specs.declared.links.LinkState.{LinkState}
 use Rattle.wc_turns.specs.declared.links.Closed.{Closed}
 use Rattle.wc_turns.specs.declared.headless.Headless.{Headless}
@@ -35,7 +36,7 @@ clients-means old new told connections core same were =
 -- the sockets gave and sent nothing
 pub LoopStep-quiet : (x : Headless) (a b : Seen) → Call a b [] → (IsTrue b.tells → (k : ℕ) → b.sent k ≡ a.sent k) → (IsTrue b.tells → (k : ℕ) → b.choked k ≡ a.choked k) → SameSets a b → LoopStep true 0 0 x x a b
 LoopStep-quiet x a b call sent choked same =
-    LoopStep-still x x a b call refl refl refl refl (λ s. refl)
+    LoopStep-still x x a b call refl refl refl refl (inl (refl, refl)) (λ s. refl)
     (among-same x.links.opened.items x.core.connections x.used x.listening a b same)
     (λ t s. s)
     (λ t s rows were. MomentAdvances-same rows (moment x a) (moment x b) refl refl (sent t) (choked t) [] (call.taken t) [] refl were tt)
@@ -80,7 +81,7 @@ LoopStep-sent x a b link count (Some s) bytes found u call sent choked same =
     let links : map connection_link after ≡ map connection_link x.core.connections = links-gone link count x.core.connections (Some s) found in
     let kept : (k : ℕ) → is_some (at_key connection_link k after) ≡ is_some (at_key connection_link k x.core.connections) = λ k. same-keys connection_link k after x.core.connections links in
     let y : Headless = record x { core = record x.core { connections = after } } in
-    LoopStep-still x y a b call refl refl refl refl
+    LoopStep-still x y a b call refl refl refl refl (inl (refl, refl))
     (λ t. ap (λ cs. x.links.closed.items ++ cs) (leaving-gone link count x.core.connections (Some s) found))
     (λ t. record {
       counted = t.counted ∙ sym same.used;
@@ -208,7 +209,7 @@ LoopStep-close x y d a b leaving one call sent choked used there undrained liste
     let here = departed-there x.core.connections d leaving in
     let connections : y.core.connections ≡ without connection_link d.link.0 x.core.connections = ap (λ c. c.connections) one.core in
     let closes : Closed = record { link = d.link; cause = d.cause } in
-    LoopStep-still x y a b call one.turns (ap (λ c. c.starved) one.core) (ap (λ c. c.quits) one.core) one.ran
+    LoopStep-still x y a b call one.turns (ap (λ c. c.starved) one.core) (ap (λ c. c.quits) one.core) one.ran (saves-as x.core y.core (record x.core { connections = without connection_link d.link.0 x.core.connections }) one.core refl refl)
     (λ s. ap (λ cs. cs ++ leaving_closes y.core.connections) (one.closed ∙ listed-some _ x.links.closed.items closes (sym (s.among.clients d.link.0) ∙ here))
     ∙ ap (λ ss. (x.links.closed.items ++ closes ∷ []) ++ leaving_closes ss) connections ∙ append_assoc x.links.closed.items (closes ∷ []) _ ∙ ap (λ cs. x.links.closed.items ++ cs) (sym (departed-first x.core.connections d leaving s.among.once)))
     (λ s. rw (connections, one.used, one.listening, one.opened) (record {

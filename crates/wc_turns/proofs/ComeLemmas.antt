@@ -18,6 +18,7 @@ use Rattle.wc_core.specs.Step.{step, run}
 use Rattle.wc_board.specs.Told.{Told}
 use Rattle.wc_board.specs.Connections.{connection_link, unsent_in, unsent_on, new_connection}
 use Rattle.wc_core.specs.Served.{state_of, WereTold, Means, sent_to, refusal, Distinct}
+use Rattle.wc_core.proofs.DidLemmas.{saves-as}
 use Rattle.wc_core.proofs.ConnectionLemmas.{links-push}
 use Rattle.wc_turns.specs.declared.links.LinkState.{LinkState}
 use Rattle.wc_turns.specs.declared.headless.Headless.{Headless}
@@ -58,7 +59,7 @@ LoopStep-came x y a b link nonce comes admits going calm call next used sent cho
     let stays : y.core.starved ≡ x.core.starved = ap (λ c. c.starved) admits.core in
     LoopStep-step true 0 0 x y a b (Accepted link nonce ∷ []) [] call (λ below. (let e = comes.turns in omega arith)) refl refl
     (λ t s. ap (λ xs. xs ++ leaving_closes y.core.connections) admits.closed ∙ ap (λ cs. x.links.closed.items ++ cs) (comes.calm calm ∙ sym calm) ∙ sym (append-nil _))
-    (λ s. All-nil _) (λ over. comes.quits ∙ over)
+    (λ s. All-nil _) (λ over. comes.quits ∙ over) (λ t s. saves-as x.core y.core _ admits.core refl refl)
     (λ s.
     let above : x.used < link.0 = (let c = s.counted in omega arith) in
     let none = no-connection x.links.opened.items x.core.connections x.used x.listening a s link.0 above in
@@ -159,6 +160,10 @@ LoopStep-refused x y a b link nonce comes r going calm call next used sent choke
     let above : x.used < link.0 = (let c = s.among.counted in omega arith) in
     ap (λ cs. y.links.closed.items ++ cs) (comes.calm calm) ∙ append-nil _ ∙ r.closed (s.among.unknown link.0 above) ∙ ap (λ xs. xs ++ closed_by link r.cause) (sym (append-nil x.links.closed.items) ∙ ap (λ cs. x.links.closed.items ++ cs) (sym calm)))
     (λ s. refused-causes link nonce r.cause a b r.fits call.taken) (λ over. comes.quits ∙ over)
+    (λ t s.
+    let above : x.used < link.0 = (let c = s.among.counted in omega arith) in
+    let none = no-connection x.links.opened.items x.core.connections x.used x.listening a s.among link.0 above in
+    saves-as x.core y.core (record x.core { starved = y.core.starved }) (r.core (absent-missing link.0 x.core.connections none)) refl refl)
     (λ s.
     let above : x.used < link.0 = (let c = s.counted in omega arith) in
     let none = no-connection x.links.opened.items x.core.connections x.used x.listening a s link.0 above in
@@ -209,7 +214,7 @@ and-nothing false = refl
 pub LoopStep-idle : (x : Headless) (a b : Seen) → Call a b [] → (IsTrue b.tells → (k : ℕ) → b.sent k ≡ a.sent k) → (IsTrue b.tells → (k : ℕ) → b.choked k ≡ a.choked k)
     → b.used ≡ a.used → ((k : ℕ) → b.there k ≡ a.there k) → ((k : ℕ) → b.undrained k ≡ a.undrained k) → b.listening ≡ (a.listening && not true) → LoopStep true 0 0 x (record x { listening = false }) a b
 LoopStep-idle x a b call sent choked used there undrained listening =
-    LoopStep-still x (record x { listening = false }) a b call refl refl refl refl (λ s. refl)
+    LoopStep-still x (record x { listening = false }) a b call refl refl refl refl (inl (refl, refl)) (λ s. refl)
     (λ s. record { counted = s.counted ∙ sym used; there = λ k. there k ∙ s.there k; undrained = λ k. undrained k ∙ s.undrained k; listens = listening ∙ and-nothing _; clients = s.clients; once = s.once; unknown = s.unknown })
     (λ t s. s)
     (λ t s rows were. MomentAdvances-same rows (moment x a) (moment (record x { listening = false }) b) refl refl (sent t) (choked t) [] (call.taken t) [] refl were tt)

@@ -15,6 +15,7 @@ pub mod PartLemmas
 pub mod PointLemmas
 pub mod ReadLemmas
 pub mod RunLemmas
+pub mod SaveLemmas
 pub mod ConnectionLemmas
 pub mod ServeLemmas
 pub mod ServedLemmas

@@ -18,6 +18,7 @@ use Rattle.wc_turns.specs.declared.headless.Headless.{Headless}
 use Rattle.wc_turns.specs.Events.{tail_on, events_of}
 use Rattle.wc_turns.specs.Links.{is_undrained}
 use Rattle.wc_turns.specs.Parts.{SparesOthers, ClosesLeaving, ReadsOn}
+use Rattle.wc_core.proofs.DidLemmas.{saves-as}
 use Rattle.wc_turns.specs.Served.{leaving_closes, NobodyLeaving, closed_number, LeavesAtLine}
 use Rattle.wc_turns.specs.Sources.{NothingBecameReady, TakesNothing, bytes_taken, arrivals}
 use Rattle.wc_turns.specs.Turns.{AgreesWithSockets, CausedBy, LoopStep, TakesHappening, is_wake, is_listen_fault}
@@ -164,7 +165,7 @@ pub record Gave (a b : Seen) (h : Happening) : Type 0 where
 pub LoopStep-read : (x y : Headless) (link : LinkId) (bytes : List ℕ) (a b : Seen) → Gave a b (Read link bytes) → NobodyLeaving x.core.connections → x.core.quits ≡ false → TakesHappening x y (Read link bytes) → LeavesAtLine link.0 x.core y.core → LoopStep true 0 0 x y a b
 LoopStep-read x y link bytes a b gave calm going takes causes =
     LoopStep-takes x y link a b (Read link bytes) refl gave.call gave.sent gave.choked gave.same.used gave.same.there gave.same.undrained gave.same.listening calm going takes
-    (λ taken. read-of link.0 (tail_on link.0 taken) bytes) (causes-line link bytes x.core y.core a b calm causes gave.call.taken)
+    (λ taken. read-of link.0 (tail_on link.0 taken) bytes) (causes-line link bytes x.core y.core a b calm causes gave.call.taken) causes.saves
 
 pub ReadsOn-read : (x y : Headless) (link : LinkId) (bytes : List ℕ) (a b c : Seen) → Gave a b (Read link bytes) → (IsTrue c.tells → IsTrue b.tells) → ClosesLeaving x y b c → ReadsOn link.0 a c
 ReadsOn-read x y link bytes a b c gave told parts =
@@ -172,8 +173,9 @@ ReadsOn-read x y link bytes a b c gave told parts =
 
 -- a client was lost
 pub LoopStep-lost : (x y : Headless) (link : LinkId) (h : Happening) (why : Cause) (a b : Seen) → Gave a b h → is_wake h ≡ 0 → is_listen_fault h ≡ 0 → NobodyLeaving x.core.connections → x.core.quits ≡ false → TakesHappening x y h → ((taken : List Happening) → All (IsOf link.0) (events_of taken h))
-    → y.core.connections ≡ left_at link.0 why x.core.connections (at_key connection_link link.0 x.core.connections) → CausedBy why link.0 a b → LoopStep true 0 0 x y a b
-LoopStep-lost x y link h why a b gave wake listen calm going takes of connections cause =
+    → y.core ≡ record x.core { connections = left_at link.0 why x.core.connections (at_key connection_link link.0 x.core.connections) } → CausedBy why link.0 a b → LoopStep true 0 0 x y a b
+LoopStep-lost x y link h why a b gave wake listen calm going takes of core cause =
+    let connections = ap (λ (c : CoreView). c.connections) core in
     subst (λ n. LoopStep true 0 n x y a b) listen
     (LoopStep-takes x y link a b h wake gave.call gave.sent gave.choked gave.same.used gave.same.there gave.same.undrained gave.same.listening calm going takes of
-    (λ distinct. rw connections (causes-lost link why x.core.connections a b calm cause)))
+    (λ distinct. rw connections (causes-lost link why x.core.connections a b calm cause)) (saves-as x.core y.core _ core refl refl))

@@ -11,7 +11,7 @@ use Rattle.wc_core.specs.Step.{step, run}
 use Rattle.wc_core.specs.Served.{links_of, state_of, WereTold, Means, sent_to, close_of, or_else, Distinct, Follows, FollowsUnlessStarved, Does, LeavesBy}
 use Rattle.wc_board.specs.Connections.{leaving_in, leaving_on, unsent_on}
 use Rattle.wc_board.specs.Told.{Told}
-use Rattle.wc_core.proofs.DidLemmas.{Follows-stays, Follows-then, KeepsClients-refl, KeepsClients-trans}
+use Rattle.wc_core.proofs.DidLemmas.{Follows-stays, Follows-then, KeepsClients-refl, KeepsClients-trans, KeepsSaved-trans}
 use Rattle.wc_turns.specs.Served.{MayRun, LeavesFor, LeavesAtLine}
 use Rattle.wc_turns.specs.Run.{EndsAtQuit}
 use Rattle.wc_turns.proofs.RunLemmas.{run-append-state, run-append-acts, EndsAtQuit-one, EndsAtQuit-append}
@@ -86,7 +86,7 @@ for-same link other None = tt
 for-same link other (Some why) = refl
 
 pub LeavesAtLine-refl : (link : ℕ) (core : CoreView) → LeavesAtLine link core core
-LeavesAtLine-refl link core = record { rises = omega arith; links = refl; leaving = λ distinct other. for-same link other (leaving_on other core.connections) }
+LeavesAtLine-refl link core = record { saves = inl (refl, refl); rises = omega arith; links = refl; leaving = λ distinct other. for-same link other (leaving_on other core.connections) }
 
 for-then : (link other : ℕ) (a b c : Option Cause) → LeavesFor link other a b → LeavesFor link other b c → LeavesFor link other a c
 for-then link other (Some why) b c h g = subst (λ o. LeavesFor link other o c) h g
@@ -97,6 +97,7 @@ pub LeavesAtLine-trans : (link : ℕ) (a b c : CoreView) → LeavesAtLine link a
 LeavesAtLine-trans link a b c h g = record {
   rises = (let p = h.rises in let q = g.rises in omega arith);
   links = g.links ∙ h.links;
+  saves = KeepsSaved-trans a b c h.saves g.saves;
   leaving = λ distinct other. for-then link other (leaving_on other a.connections) (leaving_on other b.connections) (leaving_on other c.connections) (h.leaving distinct other) (g.leaving (subst Distinct (sym h.links) distinct) other);
 }
 
@@ -121,6 +122,7 @@ pub LeavesAtLine-one : (link : ℕ) (a b : CoreView) (line : List ℕ) → Does 
 LeavesAtLine-one link a b line done = record {
   rises = h.keeps.rises;
   links = h.keeps.links;
+  saves = h.keeps.saves;
   leaving = λ distinct other. for-step link other (leaving_on other a.connections) (close_of other (step state (Line link line)).acts) (leaving_on other b.connections) (λ s. ap leaving_in (h.keeps.kept other s)) (h.causes distinct other)
       (for-closed link other state line (eqb other link) refl);
 } where

@@ -1,5 +1,5 @@
 -- The steps of a loop.
-use Rattle.std.proofs.Common.{◌≡◌, ◌≢◌, ℕ, ◌+◌, ◌-◌, ◌^◌, min, Bool, true, false, not, eqb, ◌&&◌, IsTrue, List, [], ◌∷◌, ◌++◌, length, map, Option, Some, None, IsSome, is_some, is_none, refl, sym, ap, ◌∙◌, arith}
+use Rattle.std.proofs.Common.{◌≡◌, ◌≢◌, ℕ, ◌+◌, ◌-◌, ◌^◌, min, Bool, true, false, not, eqb, ◌&&◌, IsTrue, List, [], ◌∷◌, ◌++◌, length, map, Option, Some, None, IsSome, is_some, is_none, inl, refl, sym, ap, ◌∙◌, arith}
 use Rattle.std.proofs.lemmas.Bool.{false≢true}
 use Rattle.std.proofs.lemmas.Bool.Decides.{nat_tests}
 use Rattle.std.proofs.lemmas.List.{append-nil}
@@ -15,6 +15,7 @@ use Rattle.wc_core.specs.Step.{run, no_step, client_link}
 use Rattle.wc_board.specs.Told.{Told}
 use Rattle.wc_board.specs.Connections.{connection_link, leaving_in, leaving_on}
 use Rattle.wc_core.specs.Served.{state_of, clients_of, links_of, Distinct}
+use Rattle.wc_core.proofs.DidLemmas.{saves-as}
 use Rattle.wc_core.proofs.ConnectionLemmas.{client-leaving}
 use Rattle.wc_turns.specs.declared.links.LinkState.{LinkState}
 use Rattle.wc_turns.specs.declared.headless.Headless.{Headless}
@@ -78,7 +79,7 @@ pub LoopStep-missed : (x : Headless) (n : ℕ) (a b : Seen) (h : Happening) → 
     → LoopStep true 0 (is_listen_fault h) x (record x { ran = n }) a b
 LoopStep-missed x n a b h wake gives call sent choked same quiet timeless one count none =
     LoopStep-step true 0 (is_listen_fault h) x (record x { ran = n }) a b (h ∷ []) [] call (λ below. omega arith) (omega arith) (omega arith)
-    (λ t s. sym (append-nil _)) (λ s. All-nil _) (λ over. over)
+    (λ t s. sym (append-nil _)) (λ s. All-nil _) (λ over. over) (λ t s. inl (refl, refl))
     (among-same x.links.opened.items x.core.connections x.used x.listening a b same)
     (λ t s on. (let more : n ≡ min (x.ran + 1) (2 ^ 64 - 1) = rw on at count in let o = one a.taken in For-quiet x.clock x.links.opened.items x.used x.ran n a.taken h quiet timeless (omega arith) (s.told (call.told t) on)))
     (λ t s. missed-by x n a b h x.core.quits refl count (call.taken t) (sent t) (choked t) (one a.taken) gives (λ on. none s on a.taken))
@@ -111,7 +112,7 @@ pub LoopStep-flags : (x y : Headless) (a b : Seen) → OnlyLinks x y → Call a 
     → ((k : ℕ) → a.undrained k ≡ is_undrained (at_key link_number k x.links.opened.items) → b.undrained k ≡ is_undrained (at_key link_number k y.links.opened.items))
     → SameTails x.links.opened.items y.links.opened.items → LoopStep true 0 0 x y a b
 LoopStep-flags x y a b only call sent choked used there listening links flags tails =
-    LoopStep-still x y a b call only.turns (ap (λ c. c.starved) only.core) (ap (λ c. c.quits) only.core) only.ran
+    LoopStep-still x y a b call only.turns (ap (λ c. c.starved) only.core) (ap (λ c. c.quits) only.core) only.ran (saves-as x.core y.core x.core only.core refl refl)
     (λ s. ap (λ cs. cs ++ leaving_closes y.core.connections) only.closed ∙ ap (λ c. x.links.closed.items ++ leaving_closes c.connections) only.core)
     (λ s. rw (only.core, only.used, only.listening) (record {
       counted = s.counted ∙ sym used;

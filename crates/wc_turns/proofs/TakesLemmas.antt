@@ -17,7 +17,7 @@ use Rattle.wc_core.specs.CoreView.{CoreView}
 use Rattle.wc_core.specs.State.{State, Act, has_end}
 use Rattle.wc_core.specs.Step.{run, step}
 use Rattle.wc_board.specs.Connections.{connection_link, leaving_on, left_at}
-use Rattle.wc_core.specs.Served.{links_of, state_of, close_of, or_else, Distinct, Does}
+use Rattle.wc_core.specs.Served.{links_of, state_of, close_of, or_else, Distinct, Does, KeepsSaved}
 use Rattle.wc_turns.specs.declared.links.LinkState.{LinkState}
 use Rattle.wc_turns.specs.declared.headless.Headless.{Headless}
 use Rattle.wc_turns.specs.Lines.{rest}
@@ -120,12 +120,12 @@ end-by before after end going e over = sym (ap (λ b. b || end) going) ∙ sym e
 -- the sockets gave a happening of a link, and its client may begin to leave, and others for want of memory
 pub LoopStep-takes : (x y : Headless) (link : LinkId) (a b : Seen) (h : Happening) → is_wake h ≡ 0 → Call a b (h ∷ []) → (IsTrue b.tells → (k : ℕ) → b.sent k ≡ a.sent k) → (IsTrue b.tells → (k : ℕ) → b.choked k ≡ a.choked k)
     → b.used ≡ a.used → ((k : ℕ) → b.there k ≡ a.there k) → ((k : ℕ) → b.undrained k ≡ a.undrained k) → b.listening ≡ a.listening → NobodyLeaving x.core.connections → x.core.quits ≡ false → TakesHappening x y h
-    → ((taken : List Happening) → All (IsOf link.0) (events_of taken h)) → (Distinct (links_of x.core) → All (IsCaused a b) (leaving_closes y.core.connections))
+    → ((taken : List Happening) → All (IsOf link.0) (events_of taken h)) → (Distinct (links_of x.core) → All (IsCaused a b) (leaving_closes y.core.connections)) → KeepsSaved x.core y.core
     → LoopStep true 0 (is_listen_fault h) x y a b
-LoopStep-takes x y link a b h wake call sent choked used there undrained listening calm going takes of causes =
+LoopStep-takes x y link a b h wake call sent choked used there undrained listening calm going takes of causes saves =
     LoopStep-step true 0 (is_listen_fault h) x y a b (h ∷ []) (leaving_closes y.core.connections) call (λ below. (let e = takes.turns in omega arith)) (omega arith) (omega arith)
     (λ t s. ap (λ xs. xs ++ leaving_closes y.core.connections) (takes.closed ∙ sym (ap (λ cs. x.links.closed.items ++ cs) calm ∙ append-nil x.links.closed.items)))
-    (λ s. causes s.among.once) (λ over. absurd (false≢true (sym going ∙ over)))
+    (λ s. causes s.among.once) (λ over. absurd (false≢true (sym going ∙ over))) (λ t s. saves)
     (among-takes x.links.opened.items y.links.opened.items x.core.connections y.core.connections x.used y.used x.listening y.listening a b takes.links takes.undrained takes.clients takes.used takes.listening used there undrained listening)
     (λ t s on. takes.told a.taken s.among.unknown on (s.told (call.told t) going))
     (λ t s.

@@ -11,9 +11,9 @@ use Rattle.wc_outside.specs.declared.happening.Failed.{Failed as Fault}
 use Rattle.wc_core.specs.Events.{Event}
 use Rattle.wc_core.specs.State.{State, has_end}
 use Rattle.wc_core.specs.Step.{run}
-use Rattle.wc_core.specs.Served.{state_of, WereTold, Means, sent_to}
+use Rattle.wc_core.specs.Served.{state_of, WereTold, Means, sent_to, KeepsSaved}
 use Rattle.wc_board.specs.Told.{Told}
-use Rattle.wc_core.proofs.DidLemmas.{sent_to-append, has_end-append}
+use Rattle.wc_core.proofs.DidLemmas.{sent_to-append, has_end-append, KeepsSaved-trans}
 use Rattle.wc_turns.specs.declared.links.Closed.{Closed}
 use Rattle.wc_turns.specs.declared.headless.Headless.{Headless}
 use Rattle.wc_turns.specs.Events.{events_from}
@@ -137,12 +137,12 @@ pub record Call (before after : Seen) (given : List Happening) : Type 0 where
 -- a step of the loop: a call of the sockets, and what the loop does at it
 unfoldable pub LoopStep-step : (w : Bool) (n f : ℕ) (x y : Headless) (a b : Seen) (given : List Happening) (closed : List Closed)
     → Call a b given → (x.turns + n < 2 ^ 64 → y.turns ≡ x.turns + n) → wake_count given ≡ n → listen_faults given ≡ f
-    → (w ≡ true → AgreesWithSockets x a → closed_so_far y ≡ closed_so_far x ++ closed) → (AgreesWithSockets x a → All (IsCaused a b) closed) → (x.core.quits ≡ true → y.core.quits ≡ true)
+    → (w ≡ true → AgreesWithSockets x a → closed_so_far y ≡ closed_so_far x ++ closed) → (AgreesWithSockets x a → All (IsCaused a b) closed) → (x.core.quits ≡ true → y.core.quits ≡ true) → (w ≡ true → AgreesWithSockets x a → KeepsSaved x.core y.core)
     → (AgreesOnLinks x.links.opened.items x.core.connections x.used x.listening a → AgreesOnLinks y.links.opened.items y.core.connections y.used y.listening b)
     → (IsTrue b.tells → AgreesWithSockets x a → y.core.quits ≡ false → AgreesWithHappenings y.clock y.links.opened.items y.used y.ran (a.taken ++ given))
     → (IsTrue b.tells → AgreesWithSockets x a → CoreTakes (moment x a) (moment y b) x.ran y.ran closed given)
     → LoopStep w n f x y a b
-LoopStep-step w n f x y a b given closed call turns wake listen grows causes quits among told goes = record {
+LoopStep-step w n f x y a b given closed call turns wake listen grows causes quits saves among told goes = record {
   turns = turns;
   counts = call.counts;
   told = call.told;
@@ -155,6 +155,7 @@ LoopStep-step w n f x y a b given closed call turns wake listen grows causes qui
   grows = grows;
   causes = causes;
   quits = quits;
+  saves = saves;
   agrees = λ s. record { among = among s.among; told = λ t on. rw (call.taken t) (told t s on) };
   goes = goes;
 }
@@ -176,6 +177,7 @@ LoopStep-sum {w} {n} {m} {k} {f} {g} {e} nm fg x y z a b c h q = record {
   taken = λ t. q.taken t ∙ ap (λ xs. xs ++ q.gained) (h.taken (q.told t)) ∙ append_assoc a.taken h.gained q.gained;
   causes = λ s. All-append (IsCaused a c) h.closed q.closed (caused-later a b c h.closed q.gained q.told q.taken q.counts (h.causes s)) (caused-following a b c q.closed h.gained q.told h.taken h.counts (q.causes (h.agrees s)));
   quits = λ over. q.quits (h.quits over);
+  saves = λ t s. KeepsSaved-trans x.core y.core z.core (h.saves t s) (q.saves t (h.agrees s));
   agrees = λ s. q.agrees (h.agrees s);
   goes = λ t s. CoreTakes-trans (moment x a) (moment y b) (moment z c) x.ran y.ran z.ran h.closed q.closed h.gained q.gained (h.taken (q.told t)) h.quits q.quits (h.goes (q.told t) s) (q.goes t (h.agrees s));
 }
@@ -211,6 +213,7 @@ LoopStep-wider x y a b h = record {
   grows = λ t. absurd (false≢true t);
   causes = h.causes;
   quits = h.quits;
+  saves = λ t. absurd (false≢true t);
   agrees = h.agrees;
   goes = h.goes;
 }
@@ -221,15 +224,15 @@ unfolding LoopStep-sum LoopStep-wider
 LoopStep-joined x y z a b c h q = (LoopStep-sum (omega arith) (omega arith) x y z a b c h (LoopStep-wider y z b c q), refl)
 
 -- nothing is taken, and the loop changes nothing that its clients or the happenings see
-pub LoopStep-still : (x y : Headless) (a b : Seen) → Call a b [] → y.turns ≡ x.turns → y.core.starved ≡ x.core.starved → y.core.quits ≡ x.core.quits → y.ran ≡ x.ran
+pub LoopStep-still : (x y : Headless) (a b : Seen) → Call a b [] → y.turns ≡ x.turns → y.core.starved ≡ x.core.starved → y.core.quits ≡ x.core.quits → y.ran ≡ x.ran → KeepsSaved x.core y.core
     → (AgreesWithSockets x a → closed_so_far y ≡ closed_so_far x)
     → (AgreesOnLinks x.links.opened.items x.core.connections x.used x.listening a → AgreesOnLinks y.links.opened.items y.core.connections y.used y.listening b)
     → (IsTrue b.tells → AgreesWithHappenings x.clock x.links.opened.items x.used x.ran a.taken → AgreesWithHappenings y.clock y.links.opened.items y.used y.ran a.taken)
     → (IsTrue b.tells → AgreesWithSockets x a → (told : Told) → WereTold x.core told → MomentAdvances told (moment x a) (moment y b) [] [])
     → LoopStep true 0 0 x y a b
-LoopStep-still x y a b call turns starved quits ran closed among told advances =
+LoopStep-still x y a b call turns starved quits ran saves closed among told advances =
     LoopStep-step true 0 0 x y a b [] [] call (λ below. omega arith) refl refl
-    (λ t s. closed s ∙ sym (append-nil _)) (λ s. All-nil _) (λ over. quits ∙ over) among
+    (λ t s. closed s ∙ sym (append-nil _)) (λ s. All-nil _) (λ over. quits ∙ over) (λ t s. saves) among
     (λ t s on. rw (append-nil a.taken) (told t (s.told (call.told t) (sym quits ∙ on))))
     (λ t s. record { events = []; reaches = rw ran (ReachesEvents-none x.core.quits y.core.quits x.ran); rises = omega arith; advances = λ same below. advances t s; silent = λ over. refl; last = λ same below told were going over. absurd (false≢true (sym going ∙ sym quits ∙ over)) })
 

@@ -45,7 +45,7 @@ unfoldable pub LoopStep-unwoken : (x y : Headless) (a b : Seen) → y.core ≡ x
     → Call a b [] → (IsTrue b.tells → (k : ℕ) → b.sent k ≡ a.sent k) → (IsTrue b.tells → (k : ℕ) → b.choked k ≡ a.choked k) → SameSets a b → LoopStep false 0 0 x y a b
 LoopStep-unwoken x y a b core clock used listening turns ran opened call sent choked same =
     LoopStep-step false 0 0 x y a b [] [] call (λ below. omega arith) refl refl
-    (λ t s. absurd (false≢true t)) (λ s. All-nil _) (λ over. ap (λ c. c.quits) core ∙ over)
+    (λ t s. absurd (false≢true t)) (λ s. All-nil _) (λ over. ap (λ c. c.quits) core ∙ over) (λ t. absurd (false≢true t))
     (λ s. rw (opened, ap (λ c. c.connections) core, used, listening) (among-same x.links.opened.items x.core.connections x.used x.listening a b same s))
     (λ t s on. rw (append-nil a.taken, clock, opened, used, ran) (s.told (call.told t) (sym (ap (λ c. c.quits) core) ∙ on)))
     (λ t s. record {

@@ -22,9 +22,9 @@ use Rattle.wc_core.specs.State.{State, Act, Stepped}
 use Rattle.wc_core.specs.Step.{step, run, push_step, commands_step}
 use Rattle.wc_board.specs.Connections.{connection_link, leaving_on}
 use Rattle.wc_board.specs.Served.{StaysOrStarves}
-use Rattle.wc_core.specs.Served.{links_of, state_of, close_of, or_else, Distinct, Follows, LeavesBy, Does}
+use Rattle.wc_core.specs.Served.{links_of, state_of, close_of, or_else, Distinct, Follows, LeavesBy, Does, KeepsSaved}
 use Rattle.wc_core.proofs.CloseLemmas.{pushes-closes, commands-closes}
-use Rattle.wc_core.proofs.DidLemmas.{or_else-none}
+use Rattle.wc_core.proofs.DidLemmas.{or_else-none, saves-as, KeepsSaved-trans}
 use Rattle.wc_turns.specs.declared.links.Closed.{Closed}
 use Rattle.wc_turns.specs.Contained.{is_known, HasStarved, KeepsLinks}
 use Rattle.wc_turns.specs.Events.{is_tick, clock, clock_from, wake_events, events_of}
@@ -269,7 +269,7 @@ LoopStep-woke x y z a b m tokens call sent choked used there undrained listening
     LoopStep-step false 1 0 x z a b (Woke m ∷ []) (leaving_closes z.core.connections) call (λ below. (let t = begins.turns in let r = reports.turns in omega arith)) refl refl
     (λ t. absurd (false≢true t))
     (λ s. (let P : CoreView → Type 0 = λ c. (k : ℕ) → StaysOrStarves (leaving_on k x.core.connections) (leaving_on k c.connections) in wake-causes x.core z.core a b calm (subst Distinct (sym links) s.among.once) (subst P (sym reports.core) (begins.causes s.among.once))))
-    (λ over. absurd (false≢true (sym going ∙ over)))
+    (λ over. absurd (false≢true (sym going ∙ over))) (λ t. absurd (false≢true t))
     (λ s. record {
       counted = reports.used ∙ begins.used ∙ s.counted ∙ sym used;
       there = λ k. there k ∙ s.there k ∙ ap (λ o. is_some (at_key link_number k o)) (sym begins.opened) ∙ sym (reports.links k);
@@ -312,6 +312,11 @@ LoopStep-woke x y z a b m tokens call sent choked used there undrained listening
 pub woken-closed : (z w : Headless) (closed : List Closed) → z.links.closed.items ≡ [] → NobodyLeaving w.core.connections → closed_so_far w ≡ closed_so_far z ++ closed → w.links.closed.items ≡ leaving_closes z.core.connections ++ closed
 woken-closed z w closed empty calm grows =
     sym (ap (λ cs. w.links.closed.items ++ cs) calm ∙ append-nil _) ∙ grows ∙ ap (λ cs. (cs ++ leaving_closes z.core.connections) ++ closed) empty
+
+-- what was saved before is not lost
+pub woken-saves : (x y z w : Headless) (m : ℕ) (tokens : List Token) → BeginsTurn x y m → ReportsSources y z tokens → KeepsSaved z.core w.core → KeepsSaved x.core w.core
+woken-saves x y z w m tokens begins reports later =
+    KeepsSaved-trans x.core y.core w.core begins.takes.keeps.saves (KeepsSaved-trans y.core z.core w.core (saves-as y.core z.core y.core reports.core refl refl) later)
 
 -- no link is lost as a turn begins
 pub woken-loses : (x y z w : Headless) (m : ℕ) (tokens : List Token) → BeginsTurn x y m → ReportsSources y z tokens → KeepsLinks z w → LosesNone x w

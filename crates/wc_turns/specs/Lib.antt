@@ -5,6 +5,7 @@ pub mod Lines
 pub mod Links
 pub mod Parts
 pub mod Run
+pub mod Saves
 pub mod Served
 pub mod Sources
 pub mod Steps

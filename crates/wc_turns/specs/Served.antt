@@ -9,7 +9,7 @@ use Rattle.wc_board.specs.declared.connection.Connection.{Connection}
 use Rattle.wc_core.specs.Events.{Event}
 use Rattle.wc_core.specs.CoreView.{CoreView}
 use Rattle.wc_core.specs.Step.{run}
-use Rattle.wc_core.specs.Served.{links_of, state_of, WereTold, Distinct, KeepsClients}
+use Rattle.wc_core.specs.Served.{links_of, state_of, WereTold, Distinct, KeepsClients, KeepsSaved}
 use Rattle.wc_board.specs.Connections.{leaving_on}
 use Rattle.wc_core.specs.Served.{Follows}
 use Rattle.wc_board.specs.Told.{Told}
@@ -75,12 +75,14 @@ LeavesFor link other (Some before) now = now ≡ Some before
 LeavesFor link other None (Some cause) = IsOfLine link other cause
 LeavesFor link other None None = Unit {0}
 
--- the same links have clients, and those that began to leave could do so at a line of this link
+-- the same links have clients, those that began to leave could do so at a line of this link, and
+-- what was saved is not lost
 pub record LeavesAtLine (link : ℕ) (old new : CoreView) : Type 0 where
   pub rises : old.starved ≤ new.starved
   pub links : links_of new ≡ links_of old
   pub leaving : Distinct (links_of old) → (other : ℕ) →
       LeavesFor link other (leaving_on other old.connections) (leaving_on other new.connections)
+  pub saves : KeepsSaved old new
 
 -- a close goes by the number of its link
 abbrev pub closed_number : Closed → ℕ

@@ -20,7 +20,7 @@ use Rattle.wc_core.specs.CoreView.{CoreView}
 use Rattle.wc_core.specs.Step.{run}
 use Rattle.wc_board.specs.Connections.{connection_link, unsent_on}
 use Rattle.wc_core.specs.Served.{state_of, WereTold, Means, sent_to}
-use Rattle.wc_core.specs.Served.{Distinct}
+use Rattle.wc_core.specs.Served.{Distinct, KeepsSaved}
 use Rattle.wc_core.specs.State.{has_end}
 use Rattle.wc_board.specs.Told.{Told}
 use Rattle.wc_turns.specs.declared.links.LinkState.{LinkState}
@@ -28,6 +28,7 @@ use Rattle.wc_turns.specs.declared.links.Closed.{Closed}
 use Rattle.wc_turns.specs.declared.headless.Headless.{Headless}
 use Rattle.wc_turns.specs.declared.turn.TurnEnd.{TurnEnd}
 use Rattle.wc_turns.specs.declared.turn.TurnEnd.TheVariants.{GoOn, Quit, WaitFault, ListenFault}
+use Rattle.wc_turns.specs.declared.turn.TurnEnd.TheVariants.{KeeperFault}
 use Rattle.wc_outside.specs.Keyed.{at_key}
 use Rattle.wc_turns.specs.Events.{bytes_on, tail_on, clock, events_of, events_from, whole}
 use Rattle.wc_turns.specs.Hands.{Point, Delivers}
@@ -217,12 +218,14 @@ waits_then WaitFault = 0
 waits_then GoOn = 1
 waits_then Quit = 1
 waits_then ListenFault = 1
+waits_then KeeperFault = 1
 
 abbrev pub faults_then : TurnEnd → ℕ
 faults_then ListenFault = 1
 faults_then GoOn = 0
 faults_then Quit = 0
 faults_then WaitFault = 0
+faults_then KeeperFault = 0
 
 -- the links that were closed in a turn so far, and those whose clients are leaving
 abbrev pub closed_so_far : Headless → List Closed
@@ -246,9 +249,20 @@ pub record LoopStep (within : Bool) (waits faults : ℕ) (old new : Headless) (b
       ≡ closed_so_far old ++ closed
   pub causes : AgreesWithSockets old before → All (IsCaused before after) closed
   pub quits : old.core.quits ≡ true → new.core.quits ≡ true
+  pub saves : within ≡ true → AgreesWithSockets old before → KeepsSaved old.core new.core
   pub agrees : AgreesWithSockets old before → AgreesWithSockets new after
   pub goes : IsTrue after.tells → AgreesWithSockets old before →
       CoreTakes (moment old before) (moment new after) old.ran new.ran closed gained
+
+-- a turn that ended so; how often the listener failed in it is not told where the keeper failed
+abbrev pub FaultsIn : TurnEnd → ℕ → Type 0
+FaultsIn KeeperFault faults = Unit {0}
+FaultsIn end faults = faults ≡ faults_then end
+
+pub record TurnStep (end : TurnEnd) (old new : Headless) (before after : Seen) : Type 0 where
+  pub faults : ℕ
+  pub fits : FaultsIn end faults
+  pub step : LoopStep false (waits_then end) faults old new before after
 
 -- one happening is taken, before which `/quit` was not run; clients may be leaving after it
 pub record TakesHappening (old new : Headless) (happening : Happening) : Type 0 where

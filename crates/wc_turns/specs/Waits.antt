@@ -8,6 +8,7 @@ use Rattle.wc_turns.specs.declared.headless.Headless.{Headless}
 use Rattle.wc_turns.specs.declared.turn.TurnEnd.{TurnEnd}
 use Rattle.wc_turns.specs.declared.turn.TurnEnd.TheVariants.{GoOn, Quit, ListenFault}
 use Rattle.wc_outside.specs.Keyed.{at_key}
+use Rattle.wc_core.specs.Served.{KeepsSaved}
 use Rattle.wc_turns.specs.Contained.{is_known, HasStarved}
 use Rattle.wc_turns.specs.Links.{link_number}
 use Rattle.wc_turns.specs.Served.{NobodyLeaving}
@@ -45,3 +46,4 @@ pub record WakesCore (waits : ℕ) (old new : Headless) (before after : Seen) : 
   pub rises : old.core.starved ≤ new.core.starved
   pub loses : LosesNone old new
   pub nothing : TakesNothing before after
+  pub saves : KeepsSaved old.core new.core

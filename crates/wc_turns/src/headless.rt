@@ -63,6 +63,8 @@ impl Headless {
             × (headless.links.closed.items ≡ [])) }
         ensures rest { IfOk result (λ headless. (headless.clock ≡ None) × (headless.used ≡ 0)
             × (headless.listening ≡ false) × (headless.turns ≡ 0) × (headless.ran ≡ 0)) }
+        ensures written { IfOk result (λ headless. (headless.core.unwritten ≡ false)
+            × (headless.core.saved ≡ None)) }
     {
         let links = Links::new(alloc)?;
         let core = Core::new(alloc, options, commands)?;

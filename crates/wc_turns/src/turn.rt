@@ -19,6 +19,8 @@ pub enum TurnEnd {
     WaitFault,
     /// The listener failed.
     ListenFault,
+    /// What was saved could not be written.
+    KeeperFault,
 }
 
 /// Whether one of the links is not drained.
@@ -33,7 +35,9 @@ impl Headless {
     ghost use Rattle.wc_turns.specs.Served.{NobodyLeaving};
     ghost use Rattle.wc_turns.specs.Sources.{AllServed, AllSent, TakesWithin};
     ghost use Rattle.wc_turns.specs.Turns.{AgreesWithSockets, LoopStep, IsCaused, ClosesExactly};
-    ghost use Rattle.wc_turns.specs.Turns.{waits_then, faults_then};
+    ghost use Rattle.wc_turns.specs.Turns.{waits_then, faults_then, TurnStep};
+    ghost use Rattle.wc_turns.specs.Saves.{SavesTurn, WritesText, written_state};
+    ghost use Rattle.wc_core.specs.Served.{KeepsSaved, unwritten_of};
     ghost use Rattle.wc_turns.specs.Waits.{has_undrained, timeout_of, then_of, WakesCore};
     ghost use Rattle.wc_turns.specs.Waits.{LosesNone};
 
@@ -57,11 +61,74 @@ impl Headless {
     /// One turn: a wait, and what follows from it. Sources that are ready are read, each link up to
     /// 1,048,576 bytes, at most 1,024 arrivals are taken, and then unsent bytes are written. The
     /// wait does not block where a source was left undrained, and else for 100 ms at most. Where
-    /// `/quit` is run, nothing more is read, and what is unsent is written once.
+    /// `/quit` is run, nothing more is read, and what is unsent is written once. At its end the text
+    /// that `/save` saved last, if it was run, takes the place of what the keeper holds.
     ///
-    /// The sockets are those that this state was made with, and `/quit` was not run. The keeper is
-    /// not used yet.
+    /// The sockets are those that this state was made with, `/quit` was not run, and what was saved
+    /// before is written.
     pub fn turn<S: Sockets, K: Keeper>(&mut self, sockets: &mut S, keeper: &mut K) -> TurnEnd
+        requires agrees { AgreesWithSockets self.old (S.seen sockets.old) }
+        requires calm { NobodyLeaving self.old.core.connections }
+        requires going { self.old.core.quits ≡ false }
+        requires written { self.old.core.unwritten ≡ false }
+        ensures continues { TurnStep result self.old self.new (S.seen sockets.old)
+            (S.seen sockets.new) }
+        ensures agrees { AgreesWithSockets self.new (S.seen sockets.new) }
+        ensures calm { NobodyLeaving self.new.core.connections }
+        ensures causes { All (IsCaused (S.seen sockets.old) (S.seen sockets.new))
+            self.new.links.closed.items }
+        ensures served { result ≡ TurnEnd.GoOn → AllServed self.new.core.connections
+            (S.seen sockets.old) (S.seen sockets.new) }
+        ensures sent { result ≡ TurnEnd.Quit →
+            AllSent self.new.core.connections (S.seen sockets.old) (S.seen sockets.new) }
+        ensures within { TakesWithin (S.seen sockets.old) (S.seen sockets.new) }
+        ensures contained { LosesNone self.old self.new }
+        ensures closes { ClosesExactly self.old self.new (S.seen sockets.old) (S.seen sockets.new) }
+        ensures quit { result ≡ TurnEnd.Quit → self.new.core.quits ≡ true }
+        ensures goes_on { result ≡ TurnEnd.GoOn → self.new.core.quits ≡ false }
+        ensures wait_fault { result ≡ TurnEnd.WaitFault → Rose (S.seen sockets.old).faults.waits
+            (S.seen sockets.new).faults.waits }
+        ensures unwoken { result ≡ TurnEnd.WaitFault → self.new.core.quits ≡ false }
+        ensures unsaved { result ≡ TurnEnd.WaitFault → self.new.core ≡ self.old.core }
+        ensures listen_fault { result ≡ TurnEnd.ListenFault →
+            Rose (S.seen sockets.old).faults.listens (S.seen sockets.new).faults.listens }
+        ensures written { result ≢ TurnEnd.KeeperFault → self.new.core.unwritten ≡ false }
+        ensures saves { result ≢ TurnEnd.KeeperFault → SavesTurn self.old.core self.new.core
+            (K.contents keeper.old) (K.contents keeper.new) }
+        ensures keeper_fault { result ≡ TurnEnd.KeeperFault →
+            Rose (K.faults keeper.old) (K.faults keeper.new) }
+        ensures kept { result ≡ TurnEnd.KeeperFault → K.contents keeper.new
+            ≡ K.contents keeper.old }
+        ensures keeper_count { result ≢ TurnEnd.KeeperFault → K.faults keeper.new
+            ≡ K.faults keeper.old }
+    {
+        let end = self.serve_turn(sockets);
+        if self.save(keeper).is_err() {
+            return TurnEnd::KeeperFault;
+        }
+        end
+    }
+
+    /// Writes the text that was saved last, where it is not written yet.
+    fn save<K: Keeper>(&mut self, keeper: &mut K) -> Result<(), Failed>
+        ensures states { OnOk result (self.new ≡ written_state self.old) }
+        ensures kept { OnErr result (self.new ≡ self.old) }
+        ensures unwritten { OnErr result (self.old.core.unwritten ≡ true) }
+        ensures saves { OnOk result (WritesText (unwritten_of self.old.core)
+            (K.contents keeper.old) (K.contents keeper.new)) }
+        ensures contents { OnErr result (K.contents keeper.new ≡ K.contents keeper.old) }
+        ensures failed { OnErr result (Rose (K.faults keeper.old) (K.faults keeper.new)) }
+        ensures count { OnOk result (K.faults keeper.new ≡ K.faults keeper.old) }
+    {
+        if let Some(text) = self.core.unwritten() {
+            keeper.replace(text)?;
+        }
+        self.core.written();
+        Ok(())
+    }
+
+    /// Waits, and serves what is ready.
+    fn serve_turn<S: Sockets>(&mut self, sockets: &mut S) -> TurnEnd
         requires agrees { AgreesWithSockets self.old (S.seen sockets.old) }
         requires calm { NobodyLeaving self.old.core.connections }
         requires going { self.old.core.quits ≡ false }
@@ -85,7 +152,9 @@ impl Headless {
         ensures unwoken { result ≡ TurnEnd.WaitFault → self.new.core.quits ≡ false }
         ensures listen_fault { result ≡ TurnEnd.ListenFault →
             Rose (S.seen sockets.old).faults.listens (S.seen sockets.new).faults.listens }
-        ensures kept { keeper.new ≡ keeper.old }
+        ensures saves { KeepsSaved self.old.core self.new.core }
+        ensures unsaved { result ≡ TurnEnd.WaitFault → self.new.core ≡ self.old.core }
+        ensures keeper { result ≢ TurnEnd.KeeperFault }
     {
         let mut ready = Ready::new();
         if self.wake(sockets, &mut ready).is_err() {
@@ -108,6 +177,7 @@ impl Headless {
         ensures fault { OnErr result
             (Rose (S.seen sockets.old).faults.waits (S.seen sockets.new).faults.waits) }
         ensures going { OnErr result (self.new.core.quits ≡ false) }
+        ensures unsaved { OnErr result (self.new.core ≡ self.old.core) }
     {
         match sockets.wait(self.timeout(), ready) {
             Ok(moment) => {

@@ -2,9 +2,9 @@ use Rattle.std.proofs.Common.{◌≡◌, ◌++◌, [], ◌∷◌, ap, ◌∙◌,
 use Rattle.wc_outside.specs.declared.happening.Asked.TheVariants.{Listen}
 use Rattle.wc_turns.specs.Turns.{wake_count, listen_faults}
 use Rattle.wc_turns.proofs.CauseLemmas.{caused-following}
-use Rattle.wc_loop.proofs.EndingLemmas.{Runs-early, Runs-following, known-readable, known-port}
+use Rattle.wc_loop.proofs.EndingLemmas.{Runs-early, Runs-following, known-readable, known-port, kept-text, not-keeper}
 use Rattle.wc_loop.proofs.HeadlineLemmas.{Fresh-listening, HandsOut-run, Headline-known}
-use Rattle.wc_loop.proofs.ProgramLemmas.{Rose-before}
+use Rattle.wc_loop.proofs.ProgramLemmas.{Rose-before, faults-told}
 use Rattle.wc_turns.proofs.ServeLemmas.{AllServed-following, AllSent-following}
 use Rattle.wc_turns.proofs.SourceLemmas.{later-of}
 use Rattle.wc_loop.proofs.program.run.Goals as goal
@@ -22,8 +22,8 @@ returns-clause-runs g c =
     (record {
       above = c.requires.above;
       known = known-readable _ _ _ _ c.in-Ok.ensures.known;
-      woke = λ t. (let w = ran.continues.wakes t in let z : wake_count (seen c.listen.new.self).taken ≡ 0 = ap wake_count (fresh.taken (ran.continues.told t)) in omega arith);
-      listens = λ t. (let w = ran.continues.listens t in let z : listen_faults (seen c.listen.new.self).taken ≡ 0 = ap listen_faults (fresh.taken (ran.continues.told t)) in omega arith);
+      woke = λ t. (let w = ran.continues.step.wakes t in let z : wake_count (seen c.listen.new.self).taken ≡ 0 = ap wake_count (fresh.taken (ran.continues.step.told t)) in omega arith);
+      listens = λ t keeper. (let w = ran.continues.step.listens t in let f = faults-told c.take_turns-then.result ran.continues.faults ran.continues.fits keeper in let z : listen_faults (seen c.listen.new.self).taken ≡ 0 = ap listen_faults (fresh.taken (ran.continues.step.told t)) in omega arith);
       quit = ran.quit;
       going = ran.going;
       all = ran.all;
@@ -32,18 +32,19 @@ returns-clause-runs g c =
       most = ran.most;
       wait_fault = λ q. Rose-before _ _ _ listened.counts.waits (ran.wait_fault q);
       listen_fault = λ q. Rose-before _ _ _ listened.counts.listens (ran.listen_fault q);
+      keeper_fault = λ q. Rose-before _ _ _ c.configure.ensures.counts (ran.keeper_fault q);
       asked = λ t. record {
         port = c.in-Ok.made.port;
         set = known-port _ _ _ _ c.in-Ok.ensures.known;
-        is = ran.continues.asked t ∙ listened.asked (ran.continues.told t) ∙ ap (λ xs. xs ++ Listen c.in-Ok.made.port ∷ []) (new.asked (listened.told (ran.continues.told t)));
+        is = ran.continues.step.asked t ∙ listened.asked (ran.continues.step.told t) ∙ ap (λ xs. xs ++ Listen c.in-Ok.made.port ∷ []) (new.asked (listened.told (ran.continues.step.told t)));
       };
-      served = λ q. AllServed-following c.take_turns-then.new.headless.core.connections (seen c.args.sockets.now) (seen c.listen.new.self) (seen c.take_turns-then.new.sockets) (record { told = listened.told; more = []; taken = listened.taken }) (later-of _ _ ran.continues) (ran.served q c.requires.above);
-      sent = λ q. AllSent-following c.take_turns-then.new.headless.core.connections (seen c.args.sockets.now) (seen c.listen.new.self) (seen c.take_turns-then.new.sockets) (record { told = listened.told; more = []; taken = listened.taken }) (later-of _ _ ran.continues) listened.counts (ran.sent q);
+      served = λ q. AllServed-following c.take_turns-then.new.headless.core.connections (seen c.args.sockets.now) (seen c.listen.new.self) (seen c.take_turns-then.new.sockets) (record { told = listened.told; more = []; taken = listened.taken }) (later-of _ _ ran.continues.step) (ran.served q c.requires.above);
+      sent = λ q. AllSent-following c.take_turns-then.new.headless.core.connections (seen c.args.sockets.now) (seen c.listen.new.self) (seen c.take_turns-then.new.sockets) (record { told = listened.told; more = []; taken = listened.taken }) (later-of _ _ ran.continues.step) listened.counts (ran.sent q);
       left = λ above. record {
-        headline = Headline-known _ _ c.in-Ok.made.headless _ _ _ c.in-Ok.ensures.known (λ t fed rows were. HandsOut-run c.in-Ok.made.headless c.take_turns-then.new.headless (seen c.listen.new.self) (seen c.take_turns-then.new.sockets) ran.continues first fresh ran.calm t fed rows were);
+        headline = Headline-known _ _ c.in-Ok.made.headless _ _ _ c.in-Ok.ensures.known (λ t fed rows were. HandsOut-run c.in-Ok.made.headless c.take_turns-then.new.headless (seen c.listen.new.self) (seen c.take_turns-then.new.sockets) ran.continues.step first fresh ran.calm t fed rows were);
         agrees = ran.agrees;
         calm = ran.calm;
-        causes = caused-following (seen c.args.sockets.now) (seen c.listen.new.self) (seen c.take_turns-then.new.sockets) _ [] ran.continues.told listened.taken listened.counts ran.causes;
+        causes = caused-following (seen c.args.sockets.now) (seen c.listen.new.self) (seen c.take_turns-then.new.sockets) _ [] ran.continues.step.told listened.taken listened.counts ran.causes;
       };
     })
     c.ending_of.ensures)
@@ -56,3 +57,10 @@ returns-in-Err-clause-runs g c =
     (record { above = c.requires.above; woke = λ t. ap wake_count (new.taken t) })
     new.asked
     c.in-Err.ensures.early
+
+pub returns-clause-kept : goal.returns-clause-kept
+returns-clause-kept g c = λ three.
+    let contents = g.K.Keeper.contents in
+    let ran = c.take_turns-then.ensures in
+    rw c.last_state.ensures (kept-text c.in-Ok.made.headless c.take_turns-then.new.headless (contents c.args.keeper.now) (contents c.configure.new.keeper) (contents c.take_turns-then.new.keeper)
+    c.in-Ok.ensures.first.saved c.configure.ensures.kept (ran.saves (not-keeper c.take_turns-then.result c.ending_of.result c.ending_of.ensures three)) ran.unsaved)

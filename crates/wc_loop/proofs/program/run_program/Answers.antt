@@ -1,5 +1,5 @@
-use Rattle.std.proofs.Common.{sym, ◌∙◌, arith}
-use Rattle.wc_loop.specs.Endings.{number_of, status_of}
+use Rattle.std.proofs.Common.{is_some, sym, ◌∙◌, arith}
+use Rattle.wc_loop.specs.Endings.{number_of, status_of, is_unsaved}
 use Rattle.wc_loop.proofs.OutcomeLemmas.{IsNumber-runs, Common-runs, Waits-runs, IfSome-headline, IfSome-agrees, IfSome-calm, IfSome-causes, printed-by}
 use Rattle.wc_loop.proofs.MirrorLemmas.{ClientsHoldDumps-last}
 use Rattle.wc_loop.proofs.WordsLemmas.{commands_texts}
@@ -33,7 +33,7 @@ returns-clause-printed g c = λ seven.
     let runs = rw c.as_slice.ensures.value at c.run_words-outcome.ensures.runs in
     let common = Common-runs _ _ _ _ _ (seen c.args.sockets.now) (seen c.run_words-outcome.new.sockets) _ _ c.requires runs in
     let is = IsNumber-runs _ _ _ _ _ _ _ _ _ runs in
-    rw (c.end.ensures.status seven) (record { number = number_of c.run_words-outcome.result.ending; is = is; holds = printed-by _ _ (status_of c.run_words-outcome.result.ending) (number_of c.run_words-outcome.result.ending) (g.O.Sink.contents c.args.out.now) (g.O.Sink.contents c.end.new.out) common.version (c.end.ensures.printed seven) })
+    rw (c.end.ensures.status seven, c.end.ensures.last) (record { number = number_of c.run_words-outcome.result.ending; is = is; holds = printed-by _ _ (is_unsaved c.run_words-outcome.result.ending) (is_some c.run_words-outcome.result.last) (status_of c.run_words-outcome.result.ending) (number_of c.run_words-outcome.result.ending) (g.O.Sink.contents c.args.out.now) (g.O.Sink.contents c.end.new.out) common.shown common.saving (c.end.ensures.printed seven) })
 
 pub returns-clause-served : goal.returns-clause-served
 returns-clause-served g c = λ eight.
@@ -72,4 +72,8 @@ returns-clause-asked g c = λ seven.
     let seen = g.S.Sockets.seen in
     let runs = rw c.as_slice.ensures.value at c.run_words-outcome.ensures.runs in
     let common = Common-runs _ _ _ _ _ (seen c.args.sockets.now) (seen c.run_words-outcome.new.sockets) _ _ c.requires runs in
-    rw (c.end.ensures.status seven) common.asked
+    rw (c.end.ensures.status seven, c.end.ensures.last) common.asked
+
+pub returns-clause-kept : goal.returns-clause-kept
+returns-clause-kept g c = λ three seven.
+    rw c.end.ensures.last (c.run_words-outcome.ensures.kept (λ q. three (c.end.ensures.status seven ∙ q)))

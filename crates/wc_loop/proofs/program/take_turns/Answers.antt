@@ -5,7 +5,9 @@ use Rattle.wc_turns.specs.Turns.{LoopStep, waits_then}
 use Rattle.wc_turns.proofs.CauseLemmas.{caused-following}
 use Rattle.wc_turns.proofs.CloseLemmas.{LoopStep-refl}
 use Rattle.wc_turns.proofs.TurnLemmas.{LoopStep-wider}
-use Rattle.wc_loop.proofs.ProgramLemmas.{LoopStep-turn, Rose-before, waits-few, unwoken-by, woke-once}
+use Rattle.wc_core.specs.CoreView.{CoreView}
+use Rattle.wc_outside.specs.Faults.{Rose}
+use Rattle.wc_loop.proofs.ProgramLemmas.{LoopStep-turn, Rose-before, waits-few, unwoken-by, woke-once, unwaited}
 use Rattle.wc_turns.proofs.ServeLemmas.{AllServed-following, AllSent-following}
 use Rattle.wc_turns.proofs.SourceLemmas.{later-of}
 use Rattle.wc_loop.proofs.program.take_turns.Goals as goal
@@ -18,7 +20,10 @@ loop-init g c = record {
   going = c.requires.first.quits;
   causes = rw c.requires.first.closed (λ k d below. absurd (omega arith));
   served = λ one. absurd (omega arith);
-  kept = refl;
+  written = c.requires.first.unwritten;
+  saves = λ first had. had;
+  unsaved = λ none. c.requires.first.saved;
+  faults = refl;
   count = c.requires.first.turns;
 }
 
@@ -29,23 +34,28 @@ returns-in_default g c =
     let below = c.loop.auto.counter-end in
     let seen = g.S.Sockets.seen in
     let few = waits-few c.turn.result in
-    let turns : c.turn.new.self.turns ≡ c.loop.headless.turns + waits_then c.turn.result = (let n = i.count in e.continues.turns (omega arith)) in
+    let turns : c.turn.new.self.turns ≡ c.loop.headless.turns + waits_then c.turn.result = (let n = i.count in e.continues.step.turns (omega arith)) in
     record {
-      continues = LoopStep-turn c.turn.result c.loop.counter c.args.headless.now c.loop.headless c.turn.new.self (seen c.args.sockets.now) (seen c.loop.sockets) (seen c.turn.new.sockets) i.count (omega arith) i.continues e.continues;
+      continues = record { faults = e.continues.faults; fits = e.continues.fits; step = LoopStep-turn c.turn.result e.continues.faults c.loop.counter c.args.headless.now c.loop.headless c.turn.new.self (seen c.args.sockets.now) (seen c.loop.sockets) (seen c.turn.new.sockets) i.count (omega arith) i.continues e.continues.step };
       agrees = e.agrees;
       calm = e.calm;
-      causes = caused-following (seen c.args.sockets.now) (seen c.loop.sockets) (seen c.turn.new.sockets) _ i.continues.gained e.continues.told i.continues.taken i.continues.counts e.causes;
+      causes = caused-following (seen c.args.sockets.now) (seen c.loop.sockets) (seen c.turn.new.sockets) _ i.continues.gained e.continues.step.told i.continues.taken i.continues.counts e.causes;
       served = λ q. absurd (c.in_default.not-GoOn q);
-      sent = λ q. AllSent-following c.turn.new.self.core.connections (seen c.args.sockets.now) (seen c.loop.sockets) (seen c.turn.new.sockets) (later-of _ _ i.continues) (later-of _ _ e.continues) i.continues.counts (e.sent q);
+      sent = λ q. AllSent-following c.turn.new.self.core.connections (seen c.args.sockets.now) (seen c.loop.sockets) (seen c.turn.new.sockets) (later-of _ _ i.continues) (later-of _ _ e.continues.step) i.continues.counts (e.sent q);
       quit = e.quit;
-      going = λ quit listen. unwoken-by c.turn.result _ c.in_default.not-GoOn quit listen e.unwoken;
+      going = λ quit listen keeper. unwoken-by c.turn.result _ c.in_default.not-GoOn quit listen keeper e.unwoken;
       all = λ q. absurd (c.in_default.not-GoOn q);
       fewer = λ q full. (let w = ap waits_then q in let n = i.count in omega arith);
       some = λ q. (let w = woke-once c.turn.result q in let n = i.count in omega arith);
       most = (let n = i.count in omega arith);
       wait_fault = λ q. Rose-before _ _ _ i.continues.counts.waits (e.wait_fault q);
       listen_fault = λ q. Rose-before _ _ _ i.continues.counts.listens (e.listen_fault q);
-      kept = ap g.K.Keeper.contents e.kept ∙ i.kept;
+      saves = λ kept first had. e.saves kept first (i.saves first had);
+      unsaved = λ none.
+          let zero : c.loop.headless.turns ≡ 0 = omega arith in
+          let unwoken : waits_then c.turn.result ≡ 0 = omega arith in
+          ap (λ (core : CoreView). core.saved) (e.unsaved (unwaited c.turn.result unwoken)) ∙ i.unsaved zero;
+      keeper_fault = λ q. subst (λ n. Rose n (g.K.Keeper.faults c.turn.new.keeper)) i.faults (e.keeper_fault q);
     }
 
 pub loop-preserved : goal.loop-preserved
@@ -54,15 +64,18 @@ loop-preserved g c =
     let e = c.in-GoOn.ensures in
     let below = c.loop.auto.counter-end in
     let seen = g.S.Sockets.seen in
-    let count : c.turn.new.self.turns ≡ c.loop.counter + 1 = (let n = i.count in let t = e.continues.turns (omega arith) in omega arith) in
+    let count : c.turn.new.self.turns ≡ c.loop.counter + 1 = (let n = i.count in let t = e.continues.step.turns (omega arith) in omega arith) in
     record {
       continues = subst (λ n. LoopStep false n 0 c.args.headless.now c.turn.new.self (seen c.args.sockets.now) (seen c.turn.new.sockets)) count
-          (LoopStep-turn GoOn c.loop.counter c.args.headless.now c.loop.headless c.turn.new.self (seen c.args.sockets.now) (seen c.loop.sockets) (seen c.turn.new.sockets) i.count (omega arith) i.continues e.continues);
+          (LoopStep-turn GoOn 0 c.loop.counter c.args.headless.now c.loop.headless c.turn.new.self (seen c.args.sockets.now) (seen c.loop.sockets) (seen c.turn.new.sockets) i.count (omega arith) i.continues (subst (λ n. LoopStep false 1 n c.loop.headless c.turn.new.self (seen c.loop.sockets) (seen c.turn.new.sockets)) e.continues.fits e.continues.step));
       agrees = e.agrees;
       calm = e.calm;
       going = e.goes_on refl;
-      causes = caused-following (seen c.args.sockets.now) (seen c.loop.sockets) (seen c.turn.new.sockets) _ i.continues.gained e.continues.told i.continues.taken i.continues.counts e.causes;
-      served = λ one. AllServed-following c.turn.new.self.core.connections (seen c.args.sockets.now) (seen c.loop.sockets) (seen c.turn.new.sockets) (later-of _ _ i.continues) (later-of _ _ e.continues) (e.served refl);
-      kept = ap g.K.Keeper.contents e.kept ∙ i.kept;
+      causes = caused-following (seen c.args.sockets.now) (seen c.loop.sockets) (seen c.turn.new.sockets) _ i.continues.gained e.continues.step.told i.continues.taken i.continues.counts e.causes;
+      served = λ one. AllServed-following c.turn.new.self.core.connections (seen c.args.sockets.now) (seen c.loop.sockets) (seen c.turn.new.sockets) (later-of _ _ i.continues) (later-of _ _ e.continues.step) (e.served refl);
+      written = e.written (λ q. cc);
+      saves = λ first had. e.saves (λ q. cc) first (i.saves first had);
+      unsaved = λ none. absurd (omega arith);
+      faults = e.keeper_count (λ q. cc) ∙ i.faults;
       count = count;
     }

@@ -1,4 +1,5 @@
-use Rattle.std.proofs.Common.{◌≡◌, false, All, ◌≤◌}
+use Rattle.std.proofs.Common.{◌≡◌, false, None, All, ◌≤◌}
+use Rattle.wc_turns.specs.Saves.{SavesTurn}
 use Rattle.wc_turns.specs.Served.{NobodyLeaving}
 use Rattle.wc_turns.specs.Sources.{AllServed}
 use Rattle.wc_turns.specs.Turns.{LoopStep, AgreesWithSockets, IsCaused}
@@ -12,6 +13,9 @@ invariant-loop g l = record {
   going : l.headless.core.quits ≡ false;
   causes : All (IsCaused (g.S.Sockets.seen l.fn.sockets) (g.S.Sockets.seen l.sockets)) l.headless.links.closed.items;
   served : 1 ≤ l.counter → AllServed l.headless.core.connections (g.S.Sockets.seen l.fn.sockets) (g.S.Sockets.seen l.sockets);
-  kept : g.K.Keeper.contents l.keeper ≡ g.K.Keeper.contents l.fn.keeper;
+  written : l.headless.core.unwritten ≡ false;
+  saves : SavesTurn l.fn.headless.core l.headless.core (g.K.Keeper.contents l.fn.keeper) (g.K.Keeper.contents l.keeper);
+  unsaved : l.headless.turns ≡ 0 → l.headless.core.saved ≡ None;
+  faults : g.K.Keeper.faults l.keeper ≡ g.K.Keeper.faults l.fn.keeper;
   count : l.headless.turns ≡ l.counter;
 }

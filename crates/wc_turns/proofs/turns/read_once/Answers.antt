@@ -129,7 +129,7 @@ returns-in-Ok-End-clause-continues g c =
     let seen = g.S.Sockets.seen in
     LoopStep-trans c.args.headless.now c.link_gone.new.self _ (seen c.args.sockets.now) (seen c.read.new.self) _
     (LoopStep-lost c.args.headless.now c.link_gone.new.self c.args.link (Ended c.args.link) _ (seen c.args.sockets.now) (seen c.read.new.self)
-    (record { call = record { told = e.told; taken = e.taken; asked = e.asked; counts = e.counts }; sent = e.sent; choked = e.choked; same = record { used = e.used; there = e.there; undrained = λ k. e.undrained k ∙ and-not-none _ _; listening = e.listening } }) refl refl c.requires.calm c.requires.going (l.ended refl) (λ taken. ended-of c.args.link.0) (ap (λ s. s.connections) l.core) (λ t. record { front = []; rest = []; taken = e.taken t }))
+    (record { call = record { told = e.told; taken = e.taken; asked = e.asked; counts = e.counts }; sent = e.sent; choked = e.choked; same = record { used = e.used; there = e.there; undrained = λ k. e.undrained k ∙ and-not-none _ _; listening = e.listening } }) refl refl c.requires.calm c.requires.going (l.ended refl) (λ taken. ended-of c.args.link.0) l.core (λ t. record { front = []; rest = []; taken = e.taken t }))
     c.close_all_leaving-in-Ok-End.ensures.continues
 
 pub returns-in-Ok-End-clause-reads : goal.returns-in-Ok-End-clause-reads
@@ -148,7 +148,7 @@ returns-in-Ok-End-clause-drained g c = λ none s on.
     let seen = g.S.Sockets.seen in
     let p = c.close_all_leaving-in-Ok-End.ensures in
     let first = LoopStep-lost c.args.headless.now c.link_gone.new.self c.args.link (Ended c.args.link) _ (seen c.args.sockets.now) (seen c.read.new.self)
-    (record { call = record { told = e.told; taken = e.taken; asked = e.asked; counts = e.counts }; sent = e.sent; choked = e.choked; same = record { used = e.used; there = e.there; undrained = λ k. e.undrained k ∙ and-not-none _ _; listening = e.listening } }) refl refl c.requires.calm c.requires.going (l.ended refl) (λ taken. ended-of c.args.link.0) (ap (λ s. s.connections) l.core) (λ t. record { front = []; rest = []; taken = e.taken t }) in
+    (record { call = record { told = e.told; taken = e.taken; asked = e.asked; counts = e.counts }; sent = e.sent; choked = e.choked; same = record { used = e.used; there = e.there; undrained = λ k. e.undrained k ∙ and-not-none _ _; listening = e.listening } }) refl refl c.requires.calm c.requires.going (l.ended refl) (λ taken. ended-of c.args.link.0) l.core (λ t. record { front = []; rest = []; taken = e.taken t }) in
     closed-drained c.args.link.0 c.close_all_leaving-in-Ok-End.new.headless (seen c.close_all_leaving-in-Ok-End.new.sockets) (p.continues.agrees (first.agrees s)) p.calm
     (closed-gone c.args.link.0 c.link_gone.new.self c.close_all_leaving-in-Ok-End.new.headless (seen c.read.new.self) (seen c.close_all_leaving-in-Ok-End.new.sockets) p.parts p.calm l.gone)
 
@@ -168,7 +168,7 @@ returns-in-Err-clause-continues g c =
     let seen = g.S.Sockets.seen in
     LoopStep-trans c.args.headless.now c.link_gone-in-Err.new.self _ (seen c.args.sockets.now) (seen c.read.new.self) _
     (LoopStep-lost c.args.headless.now c.link_gone-in-Err.new.self c.args.link (Failed c.args.link) _ (seen c.args.sockets.now) (seen c.read.new.self)
-    (record { call = record { told = e.told; taken = e.taken; asked = e.asked; counts = e.counts }; sent = e.sent; choked = e.choked; same = record { used = e.used; there = e.there; undrained = λ k. e.undrained k ∙ and-not-none _ _; listening = e.listening } }) refl refl c.requires.calm c.requires.going (l.failed refl) (λ taken. failed-of c.args.link.0) (ap (λ s. s.connections) l.core) (e.failed, λ t. record { front = []; rest = []; taken = e.taken t }))
+    (record { call = record { told = e.told; taken = e.taken; asked = e.asked; counts = e.counts }; sent = e.sent; choked = e.choked; same = record { used = e.used; there = e.there; undrained = λ k. e.undrained k ∙ and-not-none _ _; listening = e.listening } }) refl refl c.requires.calm c.requires.going (l.failed refl) (λ taken. failed-of c.args.link.0) l.core (e.failed, λ t. record { front = []; rest = []; taken = e.taken t }))
     c.close_all_leaving-in-Err.ensures.continues
 
 pub returns-in-Err-clause-reads : goal.returns-in-Err-clause-reads
@@ -187,7 +187,7 @@ returns-in-Err-clause-drained g c = λ none s on.
     let seen = g.S.Sockets.seen in
     let p = c.close_all_leaving-in-Err.ensures in
     let first = LoopStep-lost c.args.headless.now c.link_gone-in-Err.new.self c.args.link (Failed c.args.link) _ (seen c.args.sockets.now) (seen c.read.new.self)
-    (record { call = record { told = e.told; taken = e.taken; asked = e.asked; counts = e.counts }; sent = e.sent; choked = e.choked; same = record { used = e.used; there = e.there; undrained = λ k. e.undrained k ∙ and-not-none _ _; listening = e.listening } }) refl refl c.requires.calm c.requires.going (l.failed refl) (λ taken. failed-of c.args.link.0) (ap (λ s. s.connections) l.core) (e.failed, λ t. record { front = []; rest = []; taken = e.taken t }) in
+    (record { call = record { told = e.told; taken = e.taken; asked = e.asked; counts = e.counts }; sent = e.sent; choked = e.choked; same = record { used = e.used; there = e.there; undrained = λ k. e.undrained k ∙ and-not-none _ _; listening = e.listening } }) refl refl c.requires.calm c.requires.going (l.failed refl) (λ taken. failed-of c.args.link.0) l.core (e.failed, λ t. record { front = []; rest = []; taken = e.taken t }) in
     closed-drained c.args.link.0 c.close_all_leaving-in-Err.new.headless (seen c.close_all_leaving-in-Err.new.sockets) (p.continues.agrees (first.agrees s)) p.calm
     (closed-gone c.args.link.0 c.link_gone-in-Err.new.self c.close_all_leaving-in-Err.new.headless (seen c.read.new.self) (seen c.close_all_leaving-in-Err.new.sockets) p.parts p.calm l.gone)
 

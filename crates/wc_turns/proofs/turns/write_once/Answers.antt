@@ -60,7 +60,7 @@ returns-in-Err-clause-continues g c =
     LoopStep-trans c.args.headless.now c.link_gone.new.self _ (seen c.args.sockets.now) (seen c.write.new.self) _
     (LoopStep-lost c.args.headless.now c.link_gone.new.self c.args.link (Failed c.args.link) _ (seen c.args.sockets.now) (seen c.write.new.self)
     (record { call = record { told = e.told; taken = e.taken; asked = e.asked; counts = e.counts }; sent = λ t k. e.sent t k ∙ nothing_sent _ _; choked = e.choked; same = record { used = e.used; there = e.there; undrained = e.undrained; listening = e.listening } })
-    refl refl c.requires.calm c.requires.going (l.failed refl) (λ taken. failed-of c.args.link.0) (ap (λ s. s.connections) l.core) (e.failed, λ t. record { front = []; rest = []; taken = e.taken t }))
+    refl refl c.requires.calm c.requires.going (l.failed refl) (λ taken. failed-of c.args.link.0) l.core (e.failed, λ t. record { front = []; rest = []; taken = e.taken t }))
     c.close_all_leaving.ensures.continues
 
 pub returns-in-Err-clause-done : goal.returns-in-Err-clause-done

@@ -1,11 +1,12 @@
 use Rattle.std.proofs.Common.{refl, ap, sym, ◌∙◌, true, false, subst}
 use Rattle.wc_buffers.specs.Kept.{AreBuffers}
 use Rattle.wc_model.specs.World.{World}
-use Rattle.wc_core.specs.Resolved.{Stays, Ends, Tells, Asks, SetsOption, UnsetsOption}
+use Rattle.wc_core.specs.Resolved.{Stays, Ends, Tells, Asks, SetsOption, UnsetsOption, SavesOptions, effect_of}
 use Rattle.wc_core.specs.Step.{is_quit}
+use Rattle.wc_core.specs.Typed.{typed_line}
 use Rattle.wc_core.specs.TypedSeen.{meaning}
 use Rattle.wc_core.proofs.ResolvedTexts.{line-utf8}
-use Rattle.wc_core.proofs.CoreLemmas.{quits-by}
+use Rattle.wc_core.proofs.CoreLemmas.{quits-by, does-resolved}
 use Rattle.wc_core.proofs.core_state.Core.do_line.Goals as goal
 
 pub tell_refusal-requires : goal.tell_refusal-requires
@@ -38,6 +39,10 @@ pub returns-in-Ok-SetsOption-clause-quits : goal.returns-in-Ok-SetsOption-clause
 returns-in-Ok-SetsOption-clause-quits c =
     quits-by c.world-2.result.now c.self.inside.moment c.args.buffer (meaning c.read_typed-asked.result) (SetsOption c.in-Ok-SetsOption.pair.name c.in-Ok-SetsOption.pair.value) false (rw c.in-Ok-SetsOption.field-0-is at c.in-Ok-SetsOption.ensures.resolved) refl ∙ ap is_quit c.read_typed-asked.ensures
 
+pub returns-in-Ok-SavesOptions-clause-quits : goal.returns-in-Ok-SavesOptions-clause-quits
+returns-in-Ok-SavesOptions-clause-quits c =
+    quits-by c.world-2.result.now c.self.inside.moment c.args.buffer (meaning c.read_typed-asked.result) SavesOptions false (rw c.in-Ok-SavesOptions.field-0-is at c.in-Ok-SavesOptions.ensures.resolved) refl ∙ ap is_quit c.read_typed-asked.ensures
+
 pub returns-in-Ok-UnsetsOption-clause-quits : goal.returns-in-Ok-UnsetsOption-clause-quits
 returns-in-Ok-UnsetsOption-clause-quits c =
     quits-by c.world-2.result.now c.self.inside.moment c.args.buffer (meaning c.read_typed-asked.result) (UnsetsOption c.in-Ok-UnsetsOption.name) false (rw c.in-Ok-UnsetsOption.field-0-is at c.in-Ok-UnsetsOption.ensures.resolved) refl ∙ ap is_quit c.read_typed-asked.ensures
@@ -56,3 +61,11 @@ pub unset_option-requires : goal.unset_option-requires
 unset_option-requires c =
     line-utf8 c.world-2.result.now c.self.inside.moment c.args.buffer (meaning c.read_typed-asked.result) c.args.line.now (UnsetsOption c.in-Ok-UnsetsOption.name)
     (subst AreBuffers (c.buffers.ensures ∙ ap (λ (w : World). w.groups) (c.world.ensures.world ∙ sym c.world-2.ensures.world)) c.groups-texts.ensures.held) c.requires c.read_typed-asked.ensures (rw c.in-Ok-UnsetsOption.field-0-is at c.in-Ok-UnsetsOption.ensures.resolved)
+
+pub returns-in-Ok-SavesOptions-clause-does : goal.returns-in-Ok-SavesOptions-clause-does
+returns-in-Ok-SavesOptions-clause-does c =
+    let typed = meaning c.read_typed-asked.result in
+    rw (← c.self.view_is) (does-resolved _ c.save.new.self c.args.buffer (typed_line c.args.line.now) SavesOptions
+    (rw c.in-Ok-SavesOptions.field-0-is at c.in-Ok-SavesOptions.ensures.resolved ∙ ap (λ (w : World). effect_of w c.self.inside.moment c.args.buffer typed) c.world-2.ensures.world
+    ∙ ap (effect_of c.self.inside.board.world c.self.inside.moment c.args.buffer) c.read_typed-asked.ensures)
+    (rw (← c.self.view_is) at c.save.ensures))

@@ -1,4 +1,4 @@
-use Rattle.std.proofs.Common.{false, ap, sym, subst, ◌∙◌}
+use Rattle.std.proofs.Common.{false, None, ap, sym, subst, ◌∙◌}
 use Rattle.std.specs.Prelude.{map, string_bytes}
 use Rattle.wc_board.specs.BoardView.{BoardView, first_board}
 use Rattle.wc_core.specs.Limits.{most_lines}
@@ -11,5 +11,5 @@ pub returns-clause-means : goal.returns-clause-means
 returns-clause-means c =
     let limit = most_lines c.args.options in
     let commands = map string_bytes c.args.commands.items in
-    let P : BoardView → Type 0 = λ board. Means (record { options = c.args.options; world = board.world; pending = board.pending; connections = board.connections; moment = 0; commands = commands; starved = 0; quits = false }) (first_state c.args.options limit commands) in
+    let P : BoardView → Type 0 = λ board. Means (record { options = c.args.options; world = board.world; pending = board.pending; connections = board.connections; moment = 0; commands = commands; saved = None; unwritten = false; starved = 0; quits = false }) (first_state c.args.options limit commands) in
     subst P (sym (c.in_ok-board.ensures ∙ ap first_board c.most_lines.ensures.number)) (first-means c.args.options limit commands 0 false)

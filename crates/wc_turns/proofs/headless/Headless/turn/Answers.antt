@@ -1,70 +1,124 @@
-use Rattle.std.proofs.Common.{sym, ◌∙◌}
-use Rattle.wc_turns.proofs.ContainedLemmas.{KeepsLinks-refl}
-use Rattle.wc_turns.proofs.TurnLemmas.{turn-continues, turn-causes, turn-closes-exactly}
-use Rattle.wc_turns.proofs.SourceLemmas.{later-of}
-use Rattle.wc_turns.proofs.ServeLemmas.{AllServed-following, AllSent-following, Nothing-within}
-use Rattle.wc_turns.proofs.WaitLemmas.{Within-none, closes-unwoken, OnOk-get, OnErr-get, LoopStep-then, goes-on, quits-by, loses-none}
+use Rattle.std.proofs.Common.{◌≡◌, ◌≢◌, true, false, refl, sym, ap, ◌∙◌, subst}
+use Rattle.std.proofs.lemmas.Bool.{false≢true}
+use Rattle.wc_core.specs.CoreView.{CoreView}
+use Rattle.wc_turns.specs.declared.turn.TurnEnd.TheVariants.{WaitFault}
+use Rattle.wc_turns.specs.Turns.{LoopStep, faults_then}
+use Rattle.wc_turns.proofs.SaveLemmas.{agrees-written, step-written, closes-written, loses-written, fits-then, woke-once, saves-turn}
+use Rattle.wc_turns.proofs.WaitLemmas.{OnOk-get, OnErr-get}
 use Rattle.wc_turns.proofs.headless.Headless.turn.Goals as goal
 
-pub returns-then-is_err-clause-within : goal.returns-then-is_err-clause-within
-returns-then-is_err-clause-within g c =
-    let woken = OnErr-get c.wake.result _ (sym c.is_err.ensures.value ∙ c.if-is_err.true) c.wake.ensures.failed in
-    Within-none _ _ woken.nothing
+-- ---- the keeper failed
+
+pub returns-then-is_err-clause-continues : goal.returns-then-is_err-clause-continues
+returns-then-is_err-clause-continues g c =
+    let bad = sym c.is_err.ensures.value ∙ c.if-is_err.true in
+    let seen = g.S.Sockets.seen in
+    let end = c.serve_turn-end in
+    let stays = OnErr-get c.save.result _ bad c.save.ensures.kept in
+    let unwritten = OnErr-get c.save.result _ bad c.save.ensures.unwritten in
+    let woken : end.result ≢ WaitFault = λ q. false≢true (sym (ap (λ (core : CoreView). core.unwritten) (end.ensures.unsaved q) ∙ c.requires.written) ∙ unwritten) in
+    rw stays (record { faults = faults_then end.result; fits = tt; step = subst (λ n. LoopStep false n (faults_then end.result) c.args.self.now end.new.self (seen c.args.sockets.now) (seen end.new.sockets)) (woke-once end.result woken) end.ensures.continues })
+
+pub returns-then-is_err-clause-agrees : goal.returns-then-is_err-clause-agrees
+returns-then-is_err-clause-agrees g c =
+    let stays = OnErr-get c.save.result _ (sym c.is_err.ensures.value ∙ c.if-is_err.true) c.save.ensures.kept in
+    rw stays c.serve_turn-end.ensures.agrees
+
+pub returns-then-is_err-clause-calm : goal.returns-then-is_err-clause-calm
+returns-then-is_err-clause-calm g c =
+    let stays = OnErr-get c.save.result _ (sym c.is_err.ensures.value ∙ c.if-is_err.true) c.save.ensures.kept in
+    rw stays c.serve_turn-end.ensures.calm
+
+pub returns-then-is_err-clause-causes : goal.returns-then-is_err-clause-causes
+returns-then-is_err-clause-causes g c =
+    let stays = OnErr-get c.save.result _ (sym c.is_err.ensures.value ∙ c.if-is_err.true) c.save.ensures.kept in
+    rw stays c.serve_turn-end.ensures.causes
 
 pub returns-then-is_err-clause-contained : goal.returns-then-is_err-clause-contained
 returns-then-is_err-clause-contained g c =
-    let woken = OnErr-get c.wake.result _ (sym c.is_err.ensures.value ∙ c.if-is_err.true) c.wake.ensures.failed in
-    loses-none _ _ _ woken.loses woken.rises (KeepsLinks-refl _)
+    let stays = OnErr-get c.save.result _ (sym c.is_err.ensures.value ∙ c.if-is_err.true) c.save.ensures.kept in
+    rw stays c.serve_turn-end.ensures.contained
 
 pub returns-then-is_err-clause-closes : goal.returns-then-is_err-clause-closes
 returns-then-is_err-clause-closes g c =
-    let woken = OnErr-get c.wake.result _ (sym c.is_err.ensures.value ∙ c.if-is_err.true) c.wake.ensures.failed in
-    closes-unwoken _ _ _ _ c.requires.agrees woken
+    let stays = OnErr-get c.save.result _ (sym c.is_err.ensures.value ∙ c.if-is_err.true) c.save.ensures.kept in
+    rw stays c.serve_turn-end.ensures.closes
+
+-- ---- it did not
 
 pub returns-clause-continues : goal.returns-clause-continues
 returns-clause-continues g c =
-    let woken = OnOk-get c.wake.result _ (sym c.is_err.ensures.value ∙ c.if-is_err.false) c.wake.ensures.woken in
+    let states = OnOk-get c.save.result _ (sym c.is_err.ensures.value ∙ c.if-is_err.false) c.save.ensures.states in
     let seen = g.S.Sockets.seen in
-    LoopStep-then c.serve_ready-listened.result _ c.turn_end.result c.args.self.now c.serve_ready-listened.new.headless (seen c.args.sockets.now) (seen c.serve_ready-listened.new.sockets) c.turn_end.ensures
-    (turn-continues c.args.self.now c.wake.new.self c.serve_ready-listened.new.headless (seen c.args.sockets.now) (seen c.wake.new.sockets) (seen c.serve_ready-listened.new.sockets) woken.continues c.serve_ready-listened.ensures.continues)
+    let end = c.serve_turn-end in
+    rw states (record { faults = faults_then end.result; fits = fits-then end.result; step = step-written c.args.self.now end.new.self (seen c.args.sockets.now) (seen end.new.sockets) end.ensures.continues })
+
+pub returns-clause-agrees : goal.returns-clause-agrees
+returns-clause-agrees g c =
+    let states = OnOk-get c.save.result _ (sym c.is_err.ensures.value ∙ c.if-is_err.false) c.save.ensures.states in
+    rw states (agrees-written c.serve_turn-end.new.self (g.S.Sockets.seen c.serve_turn-end.new.sockets) c.serve_turn-end.ensures.agrees)
+
+pub returns-clause-calm : goal.returns-clause-calm
+returns-clause-calm g c =
+    let states = OnOk-get c.save.result _ (sym c.is_err.ensures.value ∙ c.if-is_err.false) c.save.ensures.states in
+    rw states c.serve_turn-end.ensures.calm
 
 pub returns-clause-causes : goal.returns-clause-causes
 returns-clause-causes g c =
-    let woken = OnOk-get c.wake.result _ (sym c.is_err.ensures.value ∙ c.if-is_err.false) c.wake.ensures.woken in
-    let seen = g.S.Sockets.seen in
-    turn-causes c.args.self.now c.wake.new.self c.serve_ready-listened.new.headless (seen c.args.sockets.now) (seen c.wake.new.sockets) (seen c.serve_ready-listened.new.sockets) c.requires.agrees woken.calm c.serve_ready-listened.ensures.calm woken.continues woken.closed c.serve_ready-listened.ensures.continues
+    let states = OnOk-get c.save.result _ (sym c.is_err.ensures.value ∙ c.if-is_err.false) c.save.ensures.states in
+    rw states c.serve_turn-end.ensures.causes
 
 pub returns-clause-served : goal.returns-clause-served
-returns-clause-served g c = λ on.
-    let woken = OnOk-get c.wake.result _ (sym c.is_err.ensures.value ∙ c.if-is_err.false) c.wake.ensures.woken in
-    let e = c.serve_ready-listened.ensures in
-    let seen = g.S.Sockets.seen in
-    let goes = goes-on c.serve_ready-listened.result _ c.turn_end.result c.turn_end.ensures on in
-    AllServed-following c.serve_ready-listened.new.headless.core.connections (seen c.args.sockets.now) (seen c.wake.new.sockets) (seen c.serve_ready-listened.new.sockets) (later-of _ _ woken.continues) (later-of _ _ e.continues)
-    (OnOk-get c.serve_ready-listened.result _ goes.0 e.served (woken.continues.agrees c.requires.agrees) goes.1)
+returns-clause-served g c =
+    let states = OnOk-get c.save.result _ (sym c.is_err.ensures.value ∙ c.if-is_err.false) c.save.ensures.states in
+    rw states c.serve_turn-end.ensures.served
 
 pub returns-clause-sent : goal.returns-clause-sent
-returns-clause-sent g c = λ quit.
-    let woken = OnOk-get c.wake.result _ (sym c.is_err.ensures.value ∙ c.if-is_err.false) c.wake.ensures.woken in
-    let e = c.serve_ready-listened.ensures in
-    let seen = g.S.Sockets.seen in
-    AllSent-following c.serve_ready-listened.new.headless.core.connections (seen c.args.sockets.now) (seen c.wake.new.sockets) (seen c.serve_ready-listened.new.sockets) (later-of _ _ woken.continues) (later-of _ _ e.continues) woken.continues.counts
-    (e.sent (quits-by c.serve_ready-listened.result _ c.turn_end.result c.turn_end.ensures quit))
-
-pub returns-clause-within : goal.returns-clause-within
-returns-clause-within g c =
-    let woken = OnOk-get c.wake.result _ (sym c.is_err.ensures.value ∙ c.if-is_err.false) c.wake.ensures.woken in
-    let e = c.serve_ready-listened.ensures in
-    let seen = g.S.Sockets.seen in
-    Nothing-within (seen c.args.sockets.now) (seen c.wake.new.sockets) (seen c.serve_ready-listened.new.sockets) (later-of _ _ e.continues) woken.nothing e.within
+returns-clause-sent g c =
+    let states = OnOk-get c.save.result _ (sym c.is_err.ensures.value ∙ c.if-is_err.false) c.save.ensures.states in
+    rw states c.serve_turn-end.ensures.sent
 
 pub returns-clause-contained : goal.returns-clause-contained
 returns-clause-contained g c =
-    let woken = OnOk-get c.wake.result _ (sym c.is_err.ensures.value ∙ c.if-is_err.false) c.wake.ensures.woken in
-    loses-none _ _ _ woken.loses woken.rises (c.serve_ready-listened.ensures.contained (woken.continues.agrees c.requires.agrees))
+    let states = OnOk-get c.save.result _ (sym c.is_err.ensures.value ∙ c.if-is_err.false) c.save.ensures.states in
+    rw states (loses-written c.args.self.now c.serve_turn-end.new.self c.serve_turn-end.ensures.contained)
 
 pub returns-clause-closes : goal.returns-clause-closes
 returns-clause-closes g c =
-    let woken = OnOk-get c.wake.result _ (sym c.is_err.ensures.value ∙ c.if-is_err.false) c.wake.ensures.woken in
+    let states = OnOk-get c.save.result _ (sym c.is_err.ensures.value ∙ c.if-is_err.false) c.save.ensures.states in
     let seen = g.S.Sockets.seen in
-    turn-closes-exactly c.args.self.now c.wake.new.self c.serve_ready-listened.new.headless (seen c.args.sockets.now) (seen c.wake.new.sockets) (seen c.serve_ready-listened.new.sockets) c.requires.agrees woken.calm c.serve_ready-listened.ensures.calm woken.continues woken.closed c.serve_ready-listened.ensures.continues
+    rw states (closes-written c.args.self.now c.serve_turn-end.new.self (seen c.args.sockets.now) (seen c.serve_turn-end.new.sockets) c.serve_turn-end.ensures.closes)
+
+pub returns-clause-quit : goal.returns-clause-quit
+returns-clause-quit g c =
+    let states = OnOk-get c.save.result _ (sym c.is_err.ensures.value ∙ c.if-is_err.false) c.save.ensures.states in
+    rw states c.serve_turn-end.ensures.quit
+
+pub returns-clause-goes_on : goal.returns-clause-goes_on
+returns-clause-goes_on g c =
+    let states = OnOk-get c.save.result _ (sym c.is_err.ensures.value ∙ c.if-is_err.false) c.save.ensures.states in
+    rw states c.serve_turn-end.ensures.goes_on
+
+pub returns-clause-unwoken : goal.returns-clause-unwoken
+returns-clause-unwoken g c =
+    let states = OnOk-get c.save.result _ (sym c.is_err.ensures.value ∙ c.if-is_err.false) c.save.ensures.states in
+    rw states c.serve_turn-end.ensures.unwoken
+
+pub returns-clause-unsaved : goal.returns-clause-unsaved
+returns-clause-unsaved g c = λ waits.
+    let states = OnOk-get c.save.result _ (sym c.is_err.ensures.value ∙ c.if-is_err.false) c.save.ensures.states in
+    let same = c.serve_turn-end.ensures.unsaved waits in
+    rw states (ap (λ (core : CoreView). record core { unwritten = false }) same ∙ ap (λ unwritten. record c.args.self.now.core { unwritten = unwritten }) (sym c.requires.written))
+
+pub returns-clause-written : goal.returns-clause-written
+returns-clause-written g c = λ kept.
+    let states = OnOk-get c.save.result _ (sym c.is_err.ensures.value ∙ c.if-is_err.false) c.save.ensures.states in
+    rw states refl
+
+pub returns-clause-saves : goal.returns-clause-saves
+returns-clause-saves g c = λ kept.
+    let good = sym c.is_err.ensures.value ∙ c.if-is_err.false in
+    let states = OnOk-get c.save.result _ good c.save.ensures.states in
+    let writes = OnOk-get c.save.result _ good c.save.ensures.saves in
+    let contents = g.K.Keeper.contents in
+    rw states (saves-turn c.args.self.now.core c.serve_turn-end.new.self.core (contents c.args.keeper.now) (contents c.save.new.keeper) c.requires.written c.serve_turn-end.ensures.saves writes)

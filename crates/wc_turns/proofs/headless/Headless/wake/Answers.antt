@@ -1,10 +1,10 @@
-use Rattle.std.proofs.Common.{refl, sym, ap, ◌∙◌, take, is_some, arith}
+use Rattle.std.proofs.Common.{refl, inl, sym, ap, ◌∙◌, take, is_some, arith}
 use Rattle.wc_outside.specs.Keyed.{at_key}
 use Rattle.wc_turns.specs.Links.{link_number}
 use Rattle.wc_turns.proofs.SourceLemmas.{TakesNothing-trans}
 use Rattle.wc_turns.proofs.TurnLemmas.{LoopStep-step, LoopStep-joined}
 use Rattle.wc_turns.proofs.WaitLemmas.{Nothing-woke, Nothing-none, LoopStep-unwoken, unwoken-loses}
-use Rattle.wc_turns.proofs.WakeLemmas.{LoopStep-woke, woken-closed, woken-loses}
+use Rattle.wc_turns.proofs.WakeLemmas.{LoopStep-woke, woken-closed, woken-loses, woken-saves}
 use Rattle.wc_turns.proofs.headless.Headless.wake.Goals as goal
 
 pub returns-in-Ok-clause-woken : goal.returns-in-Ok-clause-woken
@@ -28,6 +28,7 @@ returns-in-Ok-clause-woken g c =
       calm = parts.calm;
       rises = (let p = parts.parts.contained.rises in let q = begins.takes.keeps.rises in let r = ap (λ s. s.starved) reports.core in omega arith);
       loses = woken-loses x y z w c.in-Ok.moment (take c.wait.new.ready.count c.wait.new.ready.tokens) begins reports parts.parts.contained;
+      saves = woken-saves x y z w c.in-Ok.moment (take c.wait.new.ready.count c.wait.new.ready.tokens) begins reports (parts.continues.saves refl (woke.agrees c.requires.agrees));
       nothing = TakesNothing-trans (seen c.args.sockets.now) (seen c.wait.new.self) (seen c.close_all_leaving.new.sockets) parts.continues.told (Nothing-woke (seen c.args.sockets.now) (seen c.wait.new.self) c.in-Ok.moment e.taken) parts.parts.nothing;
     }
 
@@ -43,5 +44,6 @@ returns-in-Err-clause-failed g c =
       calm = c.requires.calm;
       rises = omega arith;
       loses = unwoken-loses c.args.self.now (record c.args.self.now { links = c.begin_turn-in-Err.new.self }) refl (λ k. ap (λ v. is_some (at_key link_number k v.items)) c.begin_turn-in-Err.ensures.opened);
+      saves = inl (refl, refl);
       nothing = Nothing-none (seen c.args.sockets.now) (seen c.wait.new.self) e.taken;
     }

@@ -1,0 +1,5 @@
+use Rattle.wc_core.proofs.OptionLemmas.{save-done}
+use Rattle.wc_core.proofs.core_state.Core.save.Goals as goal
+
+pub returns-in-Ok : goal.returns-in-Ok
+returns-in-Ok c = rw (← c.self.view_is) (save-done _ c.in-Ok.text c.in-Ok.ensures.written)

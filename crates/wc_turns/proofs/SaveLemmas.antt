@@ -1,0 +1,86 @@
+-- What was saved is written at the end of a turn.
+use Rattle.std.proofs.Common.{◌≡◌, ◌≢◌, ℕ, inl, inr, true, false, cond, List, Option, Some, None, IsSome, refl, sym, ap, ◌∙◌, subst}
+use Rattle.std.proofs.lemmas.Bool.{false≢true}
+use Rattle.wc_outside.specs.Seen.{Seen}
+use Rattle.wc_outside.specs.declared.happening.Happening.{Happening}
+use Rattle.wc_core.specs.CoreView.{CoreView}
+use Rattle.wc_core.specs.Served.{KeepsSaved, unwritten_of}
+use Rattle.wc_turns.specs.declared.headless.Headless.{Headless}
+use Rattle.wc_turns.specs.declared.links.Closed.{Closed}
+use Rattle.wc_turns.specs.declared.turn.TurnEnd.{TurnEnd}
+use Rattle.wc_turns.specs.declared.turn.TurnEnd.TheVariants.{GoOn, Quit, WaitFault, ListenFault, KeeperFault}
+use Rattle.wc_turns.specs.Saves.{held_by, WritesText, SavesTurn, written_state}
+use Rattle.wc_turns.specs.Turns.{AgreesWithSockets, LoopStep, CoreTakes, ClosesExactly, TurnStep, FaultsIn, moment, waits_then, faults_then}
+use Rattle.wc_turns.specs.Waits.{LosesNone}
+
+-- ---- nothing else changes as it is written
+
+pub agrees-written : (h : Headless) (seen : Seen) → AgreesWithSockets h seen → AgreesWithSockets (written_state h) seen
+agrees-written h seen s = record { among = s.among; told = s.told }
+
+takes-written : (x h : Headless) (a b : Seen) (ran ran' : ℕ) (closed : List Closed) (more : List Happening) → CoreTakes (moment x a) (moment h b) ran ran' closed more → CoreTakes (moment x a) (moment (written_state h) b) ran ran' closed more
+takes-written x h a b ran ran' closed more c = record {
+  events = c.events;
+  reaches = c.reaches;
+  rises = c.rises;
+  advances = λ same below told were.
+      let m = c.advances same below told were in
+      record { means = record { same = m.means.same; told = m.means.told }; stops = m.stops; hands = m.hands; closes = m.closes; quits = m.quits };
+  silent = c.silent;
+  last = c.last;
+}
+
+pub step-written : {n f : ℕ} (x h : Headless) (a b : Seen) → LoopStep false n f x h a b → LoopStep false n f x (written_state h) a b
+step-written x h a b s = record {
+  turns = s.turns;
+  counts = s.counts;
+  told = s.told;
+  asked = s.asked;
+  wakes = s.wakes;
+  listens = s.listens;
+  gained = s.gained;
+  taken = s.taken;
+  closed = s.closed;
+  grows = λ t. absurd (false≢true t);
+  causes = s.causes;
+  quits = s.quits;
+  saves = λ t. absurd (false≢true t);
+  agrees = λ q. agrees-written h b (s.agrees q);
+  goes = λ t q. takes-written x h a b x.ran h.ran s.closed s.gained (s.goes t q);
+}
+
+pub closes-written : (x h : Headless) (a b : Seen) → ClosesExactly x h a b → ClosesExactly x (written_state h) a b
+closes-written x h a b c = record { gained = c.gained; taken = c.taken; events = c.events; reaches = c.reaches; closed = c.closed }
+
+pub loses-written : (x h : Headless) → LosesNone x h → LosesNone x (written_state h)
+loses-written x h l = record { opened = l.opened; came = l.came }
+
+-- ---- the turn
+
+pub fits-then : (end : TurnEnd) → FaultsIn end (faults_then end)
+fits-then GoOn = refl
+fits-then Quit = refl
+fits-then WaitFault = refl
+fits-then ListenFault = refl
+fits-then KeeperFault = tt
+
+-- a turn in which the keeper failed began
+pub woke-once : (end : TurnEnd) → end ≢ WaitFault → waits_then end ≡ 1
+woke-once GoOn woken = refl
+woke-once Quit woken = refl
+woke-once WaitFault woken = absurd (woken refl)
+woke-once ListenFault woken = refl
+woke-once KeeperFault woken = refl
+
+pub saves-turn : (old mid : CoreView) (before after : Option (List ℕ)) → old.unwritten ≡ false → KeepsSaved old mid → WritesText (unwritten_of mid) before after → SavesTurn old mid before after
+saves-turn old mid before after none (inl same) writes first had some =
+    let e : unwritten_of mid ≡ None = rw (same.0 ∙ none) refl in
+    let stays : after ≡ before = subst (λ o. WritesText o before after) e writes in
+    stays ∙ had (subst IsSome stays some) ∙ ap (λ o. held_by o first) (sym same.1)
+saves-turn old mid before after none (inr (on, text)) writes first had some = by mid.saved refl text where
+  whole : unwritten_of mid ≡ mid.saved
+  whole = rw on refl
+
+  by : (o : Option (List ℕ)) → mid.saved ≡ o → IsSome o → after ≡ held_by mid.saved first
+  by None e h = absurd (false≢true h)
+  by (Some t) e h = (subst (λ o. WritesText o before after) (whole ∙ e) writes) some ∙ ap (λ o. held_by o first) (sym e)
