@@ -1,7 +1,7 @@
 //! A chat core without a screen, read through relays.
 #![tactic(auto)]
 
-use std::alloc::Global;
+use std::alloc::{AllocError, Global};
 use std::process::ExitCode;
 use std::{env, io};
 use wc_edge::{FileKeeper, MioSockets, StdSink};
@@ -14,7 +14,8 @@ const STARVED: u8 = 5;
 
 /// Answers words that ask for a text alone, for which no sockets are made.
 fn show(rt: &HostRuntime, alloc: Global, words: &Vec<String>) -> io::Result<u8> {
-    let mut sockets = MemorySockets::new(alloc, Items::new(alloc), Items::new(alloc), 0)?;
+    let made = MemorySockets::new(alloc, Items::new(alloc), Items::new(alloc), 0);
+    let mut sockets = made.map_err(|_| AllocError)?;
     let mut keeper = FileKeeper::new(rt, alloc, ".")?;
     let ended = run_program(
         alloc,

@@ -1,5 +1,5 @@
 -- What the clients that settled hold at the end of a run.
-use Rattle.std.proofs.Common.{◌≡◌, ℕ, ◌-◌, ◌≤◌, Bool, true, false, cond, eqb, nat_le, List, [], ◌∷◌, ◌++◌, length, take, slice_index, Option, Some, None, IfSome, IfOk, Result, Ok, Err, refl, sym, ap, subst, arith}
+use Rattle.std.proofs.Common.{◌≡◌, ℕ, ◌-◌, ◌≤◌, Bool, true, false, cond, eqb, nat_le, List, [], ◌∷◌, ◌++◌, length, take, slice_index, Option, Some, None, IfSome, IfOk, Result, Ok, Err, refl, sym, subst, arith}
 use Rattle.std.specs.List.{AllByRecursion, flat_map}
 use Rattle.std.specs.Str.{IsUtf8}
 use Rattle.std.proofs.lemmas.Bool.{false≢true}
@@ -14,7 +14,7 @@ use Rattle.wc_core.specs.Events.{Event, Tick, Line}
 use Rattle.wc_core.specs.State.{State, first_state}
 use Rattle.wc_core.specs.Step.{client_link, run}
 use Rattle.wc_board.specs.Connections.{unsent_on}
-use Rattle.wc_core.specs.Served.{sent_to}
+use Rattle.wc_core.specs.Served.{state_of, sent_to}
 use Rattle.wc_mirror_laws.specs.Held.{HeldPart}
 use Rattle.wc_mirror_laws.specs.Bytes.{ShowsPart}
 use Rattle.wc_mirror_laws.specs.Mirrors.{IsShortLine}
@@ -84,20 +84,21 @@ open-client P None e f = absurd (false≢true e)
 open-client P (Some client) e f = f client refl
 
 shows-by : (commands : List (List ℕ)) (texts : AllByRecursion IsUtf8 commands) (options : OptionsValue) (limit : ℕ) (seen : Seen) (last : Headless) → limit ≤ 4096 → (handed : HandsOut (first_state options limit commands) seen last) (which : HeldPart) (link : ℕ) (id : List ℕ) → 1 ≤ link → SettledBy which link id (first_state options limit commands) handed.events
-    → ShowsPart which limit id (seen.sent link ++ unsent_on link last.core.connections) last.core.world
+    → ShowsPart which limit id (seen.sent link ++ unsent_on link last.core.connections) (state_of last.core (run (first_state options limit commands) handed.events).state.told)
 shows-by commands texts options limit seen last most handed which link id one settled =
     let first = first_state options limit commands in
+    let means : State = state_of last.core (run first handed.events).state.told in
     let short = short-front handed.events handed.reaches.rest (subst (AllByRecursion IsShortLine) handed.reaches.front (short-from [] seen.taken)) in
-    let shows : ShowsPart which limit id (sent_to link (run first handed.events).acts) (run first handed.events).state.world = part_shows which options limit commands handed.events link id most texts short settled in
+    let shows : ShowsPart which limit id (sent_to link (run first handed.events).acts) (run first handed.events).state = part_shows which options limit commands handed.events link id most texts short settled in
     let bytes = open-client _ (at_key client_link link (run first handed.events).state.clients) settled.still (λ client there. handed.opened link client one there) in
-    subst (λ sent. ShowsPart which limit id sent last.core.world) (sym bytes) (subst (λ world. ShowsPart which limit id (sent_to link (run first handed.events).acts) world) (ap (λ (s : State). s.world) handed.means.same) shows)
+    subst (λ sent. ShowsPart which limit id sent means) (sym bytes) (subst (λ state. ShowsPart which limit id (sent_to link (run first handed.events).acts) state) handed.means.same shows)
 
 pub ClientsHoldDumps-known : (commands : List (List ℕ)) → AllByRecursion IsUtf8 commands → (contents : Option (List ℕ)) (seen : Seen) (last : Headless) → ClientsHoldDumps commands contents seen last
 ClientsHoldDumps-known commands texts None seen last = tt
 ClientsHoldDumps-known commands texts (Some kept) seen last = go (config_of kept)
   where
     go : (r : Result OptionsValue ℕ) → IfOk r (λ options. (handed : HandsOut (first_state options (most_lines options) commands) seen last) (which : HeldPart) (link : ℕ) (id : List ℕ) → 1 ≤ link → SettledBy which link id (first_state options (most_lines options) commands) handed.events
-        → ShowsPart which (most_lines options) id (seen.sent link ++ unsent_on link last.core.connections) last.core.world)
+        → ShowsPart which (most_lines options) id (seen.sent link ++ unsent_on link last.core.connections) (state_of last.core (run (first_state options (most_lines options) commands) handed.events).state.told))
     go (Ok options) = λ handed which link id one settled. shows-by commands texts options (most_lines options) seen last (limit_most options) handed which link id one settled
     go (Err n) = tt
 

@@ -13,7 +13,7 @@ use Rattle.wc_turns.specs.Run.{up_to_quit}
 use Rattle.wc_core.specs.Events.{Event}
 use Rattle.wc_core.specs.State.{State, first_state, has_end}
 use Rattle.wc_core.specs.Step.{client_link, run}
-use Rattle.wc_core.specs.Served.{Means, sent_to}
+use Rattle.wc_core.specs.Served.{Means, state_of, sent_to}
 use Rattle.wc_board.specs.Connections.{unsent_on}
 use Rattle.wc_session.specs.declared.client.Client.{Client}
 use Rattle.wc_mirror_laws.specs.Held.{HeldPart}
@@ -53,8 +53,9 @@ Headline commands contents seen last =
     HandsOut (first_state options (most_lines options) commands) seen last))
 
 -- Where that is so, each client that settled by the dump of a part, the lines of all buffers, the
--- buffers in their groups or the nicklists, has exactly this part of the world, by the bytes that
--- were sent to it and those that are unsent.
+-- buffers in their groups or the nicklists, has exactly this part of what the core holds, by the
+-- bytes that were sent to it and those that are unsent. Of nicklists it has the rows that the run
+-- last told, which the core knows by what was touched since then.
 abbrev pub ClientsHoldDumps : List (List ℕ) → Option (List ℕ) → Seen → Headless → Type 0
 ClientsHoldDumps commands contents seen last =
     IfSome contents (λ configuration. IfOk (config_of configuration) (λ options.
@@ -62,7 +63,8 @@ ClientsHoldDumps commands contents seen last =
     (link : ℕ) (id : List ℕ) → 1 ≤ link →
     SettledBy which link id (first_state options (most_lines options) commands) handed.events
     → ShowsPart which (most_lines options) id (seen.sent link ++ unsent_on link last.core.connections)
-    last.core.world))
+    (state_of last.core
+    (run (first_state options (most_lines options) commands) handed.events).state.told)))
 
 -- a state and a port that a configuration sets
 pub record IsConfigured (commands : List (List ℕ)) (headless : Headless) (port : ℕ)

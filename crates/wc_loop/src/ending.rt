@@ -1,7 +1,5 @@
-ghost use Rattle.std.specs.Prelude.{◌≡◌, codes};
-ghost use Rattle.wc_loop.specs.Endings.{status_of, number_of, shown_at, is_unsaved, line_of};
-ghost use Rattle.wc_loop.specs.Endings.{status_text, ending_text};
-ghost use Rattle.wc_loop.specs.declared.words.Shows.TheVariants as shows;
+ghost use Rattle.std.specs.Prelude.{◌≡◌, ◌≢◌};
+ghost use Rattle.wc_loop.specs.Endings.{status_of, ending_text};
 
 use crate::print::{line, put_number};
 use arrayvec::ArrayVec;

@@ -6,7 +6,7 @@ ghost use Rattle.wc_outside.specs.Faults.{Rose};
 ghost use Rattle.wc_outside.specs.Seen.{IsNew};
 ghost use Rattle.wc_loop.specs.Endings.{LastOf, StatusOf, WaitsAtMost, Prints, IsEarly, HasCause};
 ghost use Rattle.wc_loop.specs.Endings.{Runs, RunsBy, asks_turns, IsAsked, EndsAt, kept_of};
-ghost use Rattle.wc_loop.specs.Endings.{number_of, status_of, ending_text, KeepsText};
+ghost use Rattle.wc_loop.specs.Endings.{status_of, ending_text, KeepsText};
 ghost use Rattle.wc_turns.specs.Saves.{SavesTurn};
 ghost use Rattle.wc_options.specs.Config.{config_of};
 ghost use Rattle.wc_core.specs.Limits.{most_lines, port_of};

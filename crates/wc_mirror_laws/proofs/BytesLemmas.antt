@@ -24,7 +24,7 @@ use Rattle.wc_session.specs.Sending.{spelling}
 use Rattle.wc_core.specs.Events.{Event, Start, Tick, Arrives, Line as LineCame, Ends, Fails, ListenFails}
 use Rattle.wc_core.specs.State.{State, Stepped, Closes, first_state}
 use Rattle.wc_core.specs.Limits.{client_limit}
-use Rattle.wc_core.specs.Step.{client_link, no_step, sends, outcome_step, request_step, line_step, loss_step, step, run}
+use Rattle.wc_core.specs.Step.{client_link, no_step, sends, outcome_step, reply_step, request_step, line_step, loss_step, step, run}
 use Rattle.wc_core.specs.Served.{OutcomeUtf8, messages_to}
 use Rattle.wc_core.specs.Typed.{lines_of_text}
 use Rattle.wc_core.proofs.MessageLemmas.{sent_to-messages}
@@ -32,8 +32,9 @@ use Rattle.wc_mirror_laws.specs.Held.{HeldPart, Lines, Buffers, Nicks}
 use Rattle.wc_mirror_laws.specs.Kept.{IsStateKept}
 use Rattle.wc_mirror_laws.specs.Bytes.{IsSpelt, SpellOnce, RunSpells, PartShows, BytesShow, BuffersShow, NicksShow}
 use Rattle.wc_mirror_laws.proofs.ChangeLemmas.{acts_spelt, sends_spelt, Tells-runs, Tells-start}
-use Rattle.wc_mirror_laws.proofs.StepLemmas.{reply_link, reply_text, kept-put, step_keeps}
-use Rattle.wc_mirror_laws.proofs.PushLemmas.{pushes_stay, asked_replies}
+use Rattle.wc_mirror_laws.proofs.StepLemmas.{reply_link, reply_text, kept-put, ticked, kept-ticked, step_keeps}
+use Rattle.wc_mirror_laws.proofs.AskedLemmas.{before_reply, asked_after, Tells-before}
+use Rattle.wc_mirror_laws.proofs.PushLemmas.{Tells-pushes}
 use Rattle.wc_mirror_laws.proofs.SpeltLemmas.{answer_spelt}
 use Rattle.wc_mirror_laws.proofs.TellingLemmas.{AllSpelt}
 use Rattle.wc_mirror_laws.proofs.TypedLemmas.{parted_text}
@@ -53,13 +54,17 @@ line_spelt limit link state k line kept = came (at_key client_link k state.clien
   served : (client : Client) (o : Option Request) → request_of client.escaped line ≡ o → AllSpelt (messages_to link (request_step state client o).acts)
   served client None e = tt
   served client (Some request) e =
-      let answer = reply_of state.world state.options client request in
-      let next : State = record state { clients = put_at client_link (client_link client) answer.client state.clients } in
+      let first = before_reply state client request in
+      let now = first.state in
+      let tells = Tells-before Lines limit link [] state client request tt kept in
+      let answer = reply_of now.world now.options client request in
+      let next : State = record now { clients = put_at client_link (client_link client) answer.client now.clients } in
       let utf8 = RequestIsUtf8-reads line client.escaped request (reads-request_of line client.escaped request e) in
-      subst (λ (s : Stepped). AllSpelt (messages_to link s.acts)) (sym (asked_replies state kept.told kept.world.empty client request))
+      subst (λ (s : Stepped). AllSpelt (messages_to link s.acts)) (sym (asked_after state client request))
+      (acts_spelt link first.acts (reply_step now client request).acts tells.spelt
       (acts_spelt link (sends (client_link client) answer.messages) (outcome_step next (client_link client) answer.outcome).acts
-      (sends_spelt link (client_link client) answer.messages (answer_spelt limit state.world state.options client request kept.world utf8))
-      (follows_spelt limit link next (client_link client) answer.outcome (reply_text state client line request e) (kept-put limit link state (client_link client) answer.client (reply_link state client line request e) kept)))
+      (sends_spelt link (client_link client) answer.messages (answer_spelt limit now.world now.options client request tells.kept.world utf8))
+      (follows_spelt limit link next (client_link client) answer.outcome (reply_text now client line request e) (kept-put limit link now (client_link client) answer.client (reply_link now client line request e) tells.kept))))
 
   came : (o : Option Client) → AllSpelt (messages_to link (line_step state line o).acts)
   came None = tt
@@ -71,8 +76,7 @@ lost_spelt link state k why (Some client) = tt
 
 step_spelt : (limit link : ℕ) (state : State) (event : Event) → IsStateKept limit link state → AllSpelt (messages_to link (step state event).acts)
 step_spelt limit link state (Start moment) kept = (Tells-start Lines limit link [] state moment tt kept).spelt
-step_spelt limit link state (Tick moment) kept =
-    subst (λ (s : Stepped). AllSpelt (messages_to link s.acts)) (sym (pushes_stay (record state { moment = moment }) kept.told kept.world.empty)) tt
+step_spelt limit link state (Tick moment) kept = (Tells-pushes Lines limit link [] (ticked state moment) tt (kept-ticked limit link state moment kept)).spelt
 step_spelt limit link state (Arrives k nonce) kept = by (nat_lt (length state.clients) (client_limit state.options)) where
   by : (b : Bool) → AllSpelt (messages_to link (cond b (no_step (record state { clients = state.clients ++ new_client state.options (record { 0 = k }) nonce ∷ [] })) (record { state = state; acts = Closes k cause.Surplus ∷ [] })).acts)
   by true = tt

@@ -27,18 +27,19 @@ use Rattle.wc_core.specs.Typed.{typed_line, lines_of_text}
 use Rattle.wc_core.specs.Served.{messages_to}
 use Rattle.wc_core.proofs.MessageLemmas.{messages_to-append}
 use Rattle.wc_view.specs.NickFold.{NickPart}
-use Rattle.wc_mirror_laws.specs.Held.{HeldPart, HeldOf, fold_one, Has}
+use Rattle.wc_mirror_laws.specs.Held.{HeldPart, Lines, HeldOf, fold_one, Has}
 use Rattle.wc_mirror_laws.specs.Settled.{client_on, is_following}
 use Rattle.wc_mirror_laws.specs.Kept.{IsStateKept}
-use Rattle.wc_mirror_laws.specs.Mirrors.{fold_all, mirror_after}
-use Rattle.wc_mirror_laws.proofs.ClientLemmas.{following-heard, first-heard, told-first, told_each, messages-sends}
+use Rattle.wc_mirror_laws.specs.Mirrors.{fold_all, mirror_after, ChangeKeeps, ChangeMirrors}
+use Rattle.wc_mirror_laws.proofs.ClientLemmas.{following-heard, first-heard, sends_each, told-first, told_nothing, told_each, messages-sends}
 use Rattle.wc_mirror_laws.proofs.IdLemmas.{id_free}
-use Rattle.wc_mirror_laws.proofs.HeldLemmas.{change_right, told_follows}
+use Rattle.wc_mirror_laws.proofs.HeldLemmas.{change_right}
 use Rattle.wc_mirror_laws.proofs.NoticeLemmas.{telling}
 use Rattle.wc_mirror_laws.proofs.PrintLemmas.{level_fits}
 use Rattle.wc_mirror_laws.proofs.TellingLemmas.{AllSpelt, event_spelt}
 use Rattle.wc_mirror_laws.proofs.TypedLemmas.{OnAsks, parted_text, typed_text, resolved_told}
-use Rattle.wc_mirror_laws.proofs.WorldLemmas.{IsTold, after_kept}
+use Rattle.wc_mirror_laws.specs.Changes.{IsTold}
+use Rattle.wc_mirror_laws.proofs.WorldLemmas.{after_kept, told_kept}
 
 pub fold_all-append : (which : HeldPart) (limit : ℕ) (id : List ℕ) (part : HeldOf which) (a b : List WireMessage) → fold_all which limit id part (a ++ b) ≡ fold_all which limit id (fold_all which limit id part a) b
 fold_all-append which limit id part [] b = refl
@@ -70,23 +71,22 @@ told_spelt world n client all = by (follows n.kind n.buffer.0 client) where
   by true = all
   by false = tt
 
-clients_spelt : (link : ℕ) (world : World) (n : Notice) (clients : List Client) → AllSpelt (event_messages world n) → AllSpelt (messages_to link (flat_map (told_to world n) clients))
-clients_spelt link world n [] all = tt
-clients_spelt link world n (client ∷ clients) all =
-    acts_spelt link (told_to world n client) (flat_map (told_to world n) clients)
-    (sends_spelt link (client_link client) (notice_told world n client) (told_spelt world n client all)) (clients_spelt link world n clients all)
+pub clients_spelt : (link : ℕ) (told : Client → List WireMessage) (clients : List Client) → ((client : Client) → AllSpelt (told client)) → AllSpelt (messages_to link (sends_each told clients))
+clients_spelt link told [] all = tt
+clients_spelt link told (client ∷ clients) all =
+    acts_spelt link (sends (client_link client) (told client)) (sends_each told clients) (sends_spelt link (client_link client) (told client) (all client)) (clients_spelt link told clients all)
 
 -- ---- what is done
 
--- What is done to the world: what always holds does so still, each message keeps the rules, and a client that follows has
--- the lines after it.
+-- What is done to the state: what always holds does so still, each message keeps the rules, and a client that follows has
+-- its part after it.
 pub record Tells (which : HeldPart) (limit link : ℕ) (id : List ℕ) (state : State) (stepped : Stepped) : Type 0 where
   pub following : is_following (client_on link stepped.state) ≡ is_following (client_on link state)
   pub kept : IsStateKept limit link stepped.state
   pub spelt : AllSpelt (messages_to link stepped.acts)
-  pub right : is_following (client_on link state) ≡ true → (part : HeldOf which) → Has which part state.world → Has which (mirror_after which limit link id part stepped.acts) stepped.state.world
+  pub right : is_following (client_on link state) ≡ true → (part : HeldOf which) → Has which part state → Has which (mirror_after which limit link id part stepped.acts) stepped.state
 
-Tells-stays : (which : HeldPart) (limit link : ℕ) (id : List ℕ) (state : State) → IsStateKept limit link state → Tells which limit link id state (no_step state)
+pub Tells-stays : (which : HeldPart) (limit link : ℕ) (id : List ℕ) (state : State) → IsStateKept limit link state → Tells which limit link id state (no_step state)
 Tells-stays which limit link id state kept = record { following = refl; kept = kept; spelt = tt; right = λ follows part had. had }
 
 Tells-then : (which : HeldPart) (limit link : ℕ) (id : List ℕ) (state : State) (first : Stepped) (others : State → Stepped) → Tells which limit link id state first → Tells which limit link id first.state (others first.state)
@@ -96,7 +96,7 @@ Tells-then which limit link id state first others a b = record {
   kept = b.kept;
   spelt = acts_spelt link first.acts (others first.state).acts a.spelt b.spelt;
   right = λ follows part had.
-      let last = (others first.state).state.world in
+      let last = (others first.state).state in
       subst (λ part. Has which part last) (sym (mirror-append which limit link id part first.acts (others first.state).acts))
       (b.right (a.following ∙ follows) (mirror_after which limit link id part first.acts) (a.right follows part had));
 }
@@ -109,7 +109,7 @@ told_event : (limit link : ℕ) (state : State) (told : NickPart) (world : World
 told_event limit link state told world n kept follows = by (client_on link state) refl follows where
   by : (o : Option Client) → client_on link state ≡ o → is_following o ≡ true → messages_to link (flat_map (told_to world n) state.clients) ≡ event_messages world n
   by None at e = absurd (false≢true e)
-  by (Some client) at e = told-first link world n state.clients client kept.first at ∙ told_each link world n client e
+  by (Some client) at e = told-first link (notice_told world n) (told_nothing world n) state.clients client kept.first at ∙ told_each world n client e
 
 Tells-changes : (which : HeldPart) (limit link : ℕ) (id : List ℕ) (state : State) (change : Change) → BeginsWithout 95 id → IsStateKept limit link state → IsTold change.what
     → refusal state.world change ≡ None → Tells which limit link id state (change_step state change)
@@ -121,12 +121,19 @@ Tells-changes which limit link id state change free kept told good =
     let refusal_step = telling limit w change.buffer change.what kept.world told good in
     record {
       following = following-heard n.kind n.buffer.0 link state.clients;
-      kept = record { most = kept.most; texts = kept.texts; world = is; told = ap (told_after w change.buffer change.what) kept.told ∙ told_follows w change.buffer change.what told; first = first-heard n.kind n.buffer.0 link state.clients kept.first };
-      spelt = clients_spelt link v n state.clients (event_spelt limit v n is refusal_step);
+      kept = record { most = kept.most; texts = kept.texts; world = is; told = told_kept limit w change.buffer change.what state.told kept.world told good kept.told; first = first-heard n.kind n.buffer.0 link state.clients kept.first };
+      spelt = clients_spelt link (notice_told v n) state.clients (λ client. told_spelt v n client (event_spelt limit v n is refusal_step));
       right = λ follows part had.
-          subst (λ part. Has which part v) (sym (ap (fold_all which limit id part) (told_event limit link state (told_after w change.buffer change.what state.told) v n kept follows)))
-          (change_right which limit id part w change kept.world told (id_free id free) good had);
+          let new = (change_step state change).state in
+          subst (λ part. Has which part new) (sym (ap (fold_all which limit id part) (told_event limit link state (told_after w change.buffer change.what state.told) v n kept follows)))
+          (change_right which limit id part state change kept.world kept.told told (id_free id free) good had);
     }
+
+pub change_keeps : ChangeKeeps
+change_keeps limit link state change kept told good = (Tells-changes Lines limit link [] state change tt kept told good).kept
+
+pub change_mirrors : (which : HeldPart) → ChangeMirrors which
+change_mirrors which limit link id state change part kept free told good follows had = (Tells-changes which limit link id state change free kept told good).right follows part had
 
 -- a refusal that is told
 Tells-tells : (which : HeldPart) (limit link : ℕ) (id : List ℕ) (state : State) (text : List ℕ) → BeginsWithout 95 id → IsStateKept limit link state → Tells which limit link id state (refusal_step state text)

@@ -3,19 +3,24 @@ use Rattle.std.proofs.Common.{◌≡◌, ℕ, Bool, true, false, cond, ◌&&◌,
 use Rattle.std.specs.List.{flat_map}
 use Rattle.std.proofs.lemmas.Bool.{false≢true}
 use Rattle.std.proofs.lemmas.Bool.Decides.{nat_tests}
+use Rattle.wc_text.specs.declared.names.Handle.{Handle}
 use Rattle.wc_outside.specs.Keyed.{at_key, put_at, without}
 use Rattle.wc_model.specs.declared.notice.EventKind.{EventKind}
 use Rattle.wc_model.specs.declared.notice.EventKind.TheVariants as kind
 use Rattle.wc_model.specs.declared.notice.Notice.{Notice}
 use Rattle.wc_model.specs.World.{World}
+use Rattle.wc_nickdiff.specs.declared.diff_item.Push.{Push}
+use Rattle.wc_nickdiff.specs.declared.diff_item.Push.TheVariants.{Nothing, Diff, Full}
 use Rattle.wc_objects.specs.declared.object.WireMessage.{WireMessage}
 use Rattle.wc_events.specs.BufferObjects.{id_of, objects_of}
+use Rattle.wc_events.specs.NickObjects.{push_kind}
 use Rattle.wc_session.specs.declared.client.Client.{Client}
 use Rattle.wc_session.specs.declared.sync_set.BufferSet.{BufferSet}
 use Rattle.wc_session.specs.declared.sync_set.SyncSet.{SyncSet}
-use Rattle.wc_session.specs.Event.{notice_told, event_messages, if_fits}
+use Rattle.wc_session.specs.Event.{notice_told, event_messages, if_fits, push_told, push_messages}
 use Rattle.wc_session.specs.Sync.{no_options, union, set_at, wants, follows, sets_after, after_event}
-use Rattle.wc_core.specs.Step.{client_link, sends, told_to}
+use Rattle.wc_core.specs.State.{Act}
+use Rattle.wc_core.specs.Step.{client_link, sends}
 use Rattle.wc_core.specs.Served.{messages_to}
 use Rattle.wc_core.proofs.MessageLemmas.{messages_to-append}
 use Rattle.wc_mirror_laws.specs.Settled.{follows_all, is_following}
@@ -247,15 +252,43 @@ first-heard k buffer link (client ∷ clients) e = by (eqb (client_link client) 
 
 -- ---- what clients are told
 
-module _ (link : ℕ) (world : World) (notice : Notice) where
-  messages-told : (client : Client) (clients : List Client)
-      → messages_to link (flat_map (told_to world notice) (client ∷ clients))
-      ≡ cond (eqb (client_link client) link) (notice_told world notice client) no_messages ++ messages_to link (flat_map (told_to world notice) clients)
-  messages-told client clients =
-      messages_to-append link (told_to world notice client) (flat_map (told_to world notice) clients)
-      ∙ ap (λ t. t ++ messages_to link (flat_map (told_to world notice) clients)) (messages-sends link (client_link client) (notice_told world notice client))
+-- each client is sent what it is told
+abbrev pub sends_each : (Client → List WireMessage) → List Client → List Act
+sends_each told clients = flat_map (λ client. sends (client_link client) (told client)) clients
 
-  told_nothing : (client : Client) → asks_events client ≡ false → notice_told world notice client ≡ []
+module _ (link : ℕ) (told : Client → List WireMessage) (nothing : (client : Client) → asks_events client ≡ false → told client ≡ []) where
+  messages-told : (client : Client) (clients : List Client)
+      → messages_to link (sends_each told (client ∷ clients)) ≡ cond (eqb (client_link client) link) (told client) no_messages ++ messages_to link (sends_each told clients)
+  messages-told client clients =
+      messages_to-append link (sends (client_link client) (told client)) (sends_each told clients)
+      ∙ ap (λ t. t ++ messages_to link (sends_each told clients)) (messages-sends link (client_link client) (told client))
+
+  -- the clients of a link that asked for nothing are told nothing
+  told-quiet : (clients : List Client) → is_quiet link clients ≡ true → messages_to link (sends_each told clients) ≡ []
+  told-quiet [] e = refl
+  told-quiet (client ∷ clients) e = messages-told client clients ∙ by (eqb (client_link client) link) (asks_events client) refl (told-quiet clients) e where
+    by : (b f : Bool) → asks_events client ≡ f → (is_quiet link clients ≡ true → messages_to link (sends_each told clients) ≡ []) → not (b && f) && is_quiet link clients ≡ true
+        → cond b (told client) no_messages ++ messages_to link (sends_each told clients) ≡ []
+    by true true asked more e = absurd (false≢true e)
+    by true false asked more e = ap (λ t. t ++ messages_to link (sends_each told clients)) (nothing client asked) ∙ more e
+    by false f asked more e = more e
+
+  -- the first client of a link is told alone
+  pub told-first : (clients : List Client) (client : Client) → is_first_alone link clients ≡ true → at_key client_link link clients ≡ Some client → messages_to link (sends_each told clients) ≡ told client
+  told-first [] client e at = absurd (let h = at in cc)
+  told-first (first ∷ clients) client e at = messages-told first clients ∙ by (eqb (client_link first) link) (told-first clients client) e at where
+    by : (b : Bool) → (is_first_alone link clients ≡ true → at_key client_link link clients ≡ Some client → messages_to link (sends_each told clients) ≡ told client)
+        → cond b (is_quiet link clients) (is_first_alone link clients) ≡ true → cond b (Some first) (at_key client_link link clients) ≡ Some client
+        → cond b (told first) no_messages ++ messages_to link (sends_each told clients) ≡ told client
+    by true more e at =
+        let same : first ≡ client = cc in
+        ap (λ t. told first ++ t) (told-quiet clients e) ∙ append-nil (told first) ∙ ap (λ c. told c) same
+    by false more e at = more e at
+
+-- ---- events
+
+module _ (world : World) (notice : Notice) where
+  pub told_nothing : (client : Client) → asks_events client ≡ false → notice_told world notice client ≡ []
   unfolding notice_told
   told_nothing client e = rw (follows_none notice.kind notice.buffer.0 client e) refl
 
@@ -274,25 +307,16 @@ module _ (link : ℕ) (world : World) (notice : Notice) where
   unfolding notice_told
   told_each client e = told_as notice.kind client e
 
-  -- the clients of a link that asked for nothing are told nothing
-  told-quiet : (clients : List Client) → is_quiet link clients ≡ true → messages_to link (flat_map (told_to world notice) clients) ≡ []
-  told-quiet [] e = refl
-  told-quiet (client ∷ clients) e = messages-told client clients ∙ by (eqb (client_link client) link) (asks_events client) refl (told-quiet clients) e where
-    by : (b f : Bool) → asks_events client ≡ f → (is_quiet link clients ≡ true → messages_to link (flat_map (told_to world notice) clients) ≡ []) → not (b && f) && is_quiet link clients ≡ true
-        → cond b (notice_told world notice client) no_messages ++ messages_to link (flat_map (told_to world notice) clients) ≡ []
-    by true true asked more e = absurd (false≢true e)
-    by true false asked more e = ap (λ t. t ++ messages_to link (flat_map (told_to world notice) clients)) (told_nothing client asked) ∙ more e
-    by false f asked more e = more e
+-- ---- pushes
 
-  -- an event is told once to the client of a link
-  pub told-first : (clients : List Client) (client : Client) → is_first_alone link clients ≡ true → at_key client_link link clients ≡ Some client
-      → messages_to link (flat_map (told_to world notice) clients) ≡ notice_told world notice client
-  told-first [] client e at = absurd (let h = at in cc)
-  told-first (first ∷ clients) client e at = messages-told first clients ∙ by (eqb (client_link first) link) (told-first clients client) e at where
-    by : (b : Bool) → (is_first_alone link clients ≡ true → at_key client_link link clients ≡ Some client → messages_to link (flat_map (told_to world notice) clients) ≡ notice_told world notice client)
-        → cond b (is_quiet link clients) (is_first_alone link clients) ≡ true → cond b (Some first) (at_key client_link link clients) ≡ Some client
-        → cond b (notice_told world notice first) no_messages ++ messages_to link (flat_map (told_to world notice) clients) ≡ notice_told world notice client
-    by true more e at =
-        let same : first ≡ client = cc in
-        ap (λ t. notice_told world notice first ++ t) (told-quiet clients e) ∙ append-nil (notice_told world notice first) ∙ ap (λ c. notice_told world notice c) same
-    by false more e at = more e at
+module _ (buffer : Handle) where
+  pub pushed_nothing : (push : Push) (client : Client) → asks_events client ≡ false → push_told buffer push client ≡ []
+  unfolding push_told
+  pushed_nothing push client e = rw (follows_none (push_kind push) buffer.0 client e) refl
+
+  -- a client that follows all events is told each
+  pub pushed_each : (push : Push) (client : Client) → follows_all client ≡ true → push_told buffer push client ≡ push_messages buffer push
+  unfolding push_told
+  pushed_each Nothing client e = refl
+  pushed_each (Diff items) client e = ap (λ b. cond b (push_messages buffer (Diff items)) no_messages) (follows_each kind.NicklistDiff buffer.0 client tt e)
+  pushed_each (Full items) client e = ap (λ b. cond b (push_messages buffer (Full items)) no_messages) (follows_each kind.Nicklist buffer.0 client tt e)

@@ -14,16 +14,17 @@ use Rattle.wc_session.specs.Reply.{reply_of}
 use Rattle.wc_core.specs.Events.{Event, Start, Tick, Arrives, Line as LineCame, Ends, Fails, ListenFails}
 use Rattle.wc_core.specs.State.{State, Stepped, Closes}
 use Rattle.wc_core.specs.Limits.{client_limit}
-use Rattle.wc_core.specs.Step.{client_link, no_step, request_step, line_step, loss_step, step}
+use Rattle.wc_core.specs.Step.{client_link, no_step, then_does, sends, reply_step, request_step, line_step, loss_step, step}
 use Rattle.wc_mirror_laws.specs.Held.{HeldPart, HeldOf, Has}
-use Rattle.wc_mirror_laws.specs.Settled.{AskedFor, asked_by, asked_with, asked_in, client_on, is_following, TakesDump}
+use Rattle.wc_mirror_laws.specs.Settled.{AskedFor, asked_by, asked_with, asked_in, client_on, is_following, TakesDump, IsFair}
 use Rattle.wc_mirror_laws.specs.Kept.{IsStateKept}
-use Rattle.wc_mirror_laws.specs.Mirrors.{mirror_after, IsFair, StepMirrors, DumpMirrors}
+use Rattle.wc_mirror_laws.specs.Mirrors.{mirror_after, StepMirrors, DumpMirrors}
 use Rattle.wc_mirror_laws.proofs.IdLemmas.{request_free}
-use Rattle.wc_mirror_laws.proofs.PushLemmas.{pushes_stay, asked_replies}
+use Rattle.wc_mirror_laws.proofs.AskedLemmas.{before_reply, asked_after, Tells-before, all_told, before_right}
+use Rattle.wc_mirror_laws.proofs.PushLemmas.{Tells-pushes}
 use Rattle.wc_mirror_laws.proofs.ReplyLemmas.{dump_right, reply_right, sends_right}
-use Rattle.wc_mirror_laws.proofs.ChangeLemmas.{Tells-start}
-use Rattle.wc_mirror_laws.proofs.StepLemmas.{asked_here, reply_link, reply_text, right-answers}
+use Rattle.wc_mirror_laws.proofs.ChangeLemmas.{mirror-append, Tells-start}
+use Rattle.wc_mirror_laws.proofs.StepLemmas.{asked_here, ticked, kept-ticked, reply_link, reply_text, right-answers}
 
 -- ---- what the client of a link asks at an event
 
@@ -70,34 +71,56 @@ asked_now link state k line client request at read here =
 
 -- what a client has after what was done
 abbrev HasAfter : (which : HeldPart) → ℕ → ℕ → List ℕ → HeldOf which → Stepped → Type 0
-HasAfter which limit link id part stepped = Has which (mirror_after which limit link id part stepped.acts) stepped.state.world
+HasAfter which limit link id part stepped = Has which (mirror_after which limit link id part stepped.acts) stepped.state
+
+-- the client of a line, by its own link
+found : (k : ℕ) (state : State) (client : Client) → at_key client_link k state.clients ≡ Some client → at_key client_link (client_link client) state.clients ≡ Some client
+found k state client at = ap (λ n. at_key client_link n state.clients) (at_key-key client_link k state.clients client at) ∙ at
+
+-- where what comes before a reply and the reply leave a part right, so does what follows
+replied : (which : HeldPart) (limit link : ℕ) (id : List ℕ) (state : State) (k : ℕ) (line : List ℕ) (client : Client) (request : Request) (part : HeldOf which) → IsStateKept limit link state → BeginsWithout 95 id → request_of client.escaped line ≡ Some request
+    → is_following (client_on link (reply_step (before_reply state client request).state client request).state) ≡ true
+    → Has which (mirror_after which limit link id (mirror_after which limit link id part (before_reply state client request).acts) (sends (client_link client) (reply_of (before_reply state client request).state.world (before_reply state client request).state.options client request).messages)) (before_reply state client request).state
+    → HasAfter which limit link id part (then_does (before_reply state client request) (λ next. reply_step next client request))
+replied which limit link id state k line client request part kept free read following had =
+    let first = before_reply state client request in
+    let next = first.state in
+    let then = mirror_after which limit link id part first.acts in
+    let answer = reply_of next.world next.options client request in
+    let last = (reply_step next client request).state in
+    subst (λ part. Has which part last) (sym (mirror-append which limit link id part first.acts (reply_step next client request).acts))
+    (right-answers which limit link id next (client_link client) answer then (reply_link next client line request read) (reply_text next client line request read)
+    (Tells-before which limit link id state client request free kept).kept free following had)
 
 line_right : (which : HeldPart) (limit link : ℕ) (id : List ℕ) (state : State) (k : ℕ) (line : List ℕ) (part : HeldOf which) → IsStateKept limit link state → BeginsWithout 95 id → length line ≤ 65536
-    → AllByRecursion (IsFair which id) (asked_in link state (LineCame k line)) → is_following (client_on link (step state (LineCame k line)).state) ≡ true → Has which part state.world
-    → Has which (mirror_after which limit link id part (step state (LineCame k line)).acts) (step state (LineCame k line)).state.world
+    → AllByRecursion (IsFair which id) (asked_in link state (LineCame k line)) → is_following (client_on link (step state (LineCame k line)).state) ≡ true → Has which part state
+    → Has which (mirror_after which limit link id part (step state (LineCame k line)).acts) (step state (LineCame k line)).state
 line_right which limit link id state k line part kept free within fair after had = came (at_key client_link k state.clients) refl after where
   served : (client : Client) (o : Option Request) → at_key client_link k state.clients ≡ Some client → request_of client.escaped line ≡ o
-      → is_following (client_on link (request_step state client o).state) ≡ true → Has which (mirror_after which limit link id part (request_step state client o).acts) (request_step state client o).state.world
+      → is_following (client_on link (request_step state client o).state) ≡ true → Has which (mirror_after which limit link id part (request_step state client o).acts) (request_step state client o).state
   served client None at read after = had
   served client (Some request) at read after =
-      let answer = reply_of state.world state.options client request in
       let own = λ (here : eqb (client_link client) link ≡ true). (subst (AllByRecursion (IsFair which id)) (asked_now link state k line client request at read here) fair).0 in
-      let alone = asked_replies state kept.told kept.world.empty client request in
-      let following = subst (λ (s : Stepped). is_following (client_on link s.state) ≡ true) alone after in
-      subst (HasAfter which limit link id part) (sym alone)
-      (right-answers which limit link id state (client_link client) answer part (reply_link state client line request read) (reply_text state client line request read) kept free following
-      (sends_right which limit link id state (client_link client) answer.messages part
-      (λ here. reply_right which limit link id state client line request part kept free within read (own here) had) (λ else. had)))
+      let first = before_reply state client request in
+      let next = first.state in
+      let steps = asked_after state client request in
+      let following = subst (λ (s : Stepped). is_following (client_on link s.state) ≡ true) steps after in
+      let then = mirror_after which limit link id part first.acts in
+      let had' : Has which then next = before_right which limit link id state client request part kept free (found k state client at) following had in
+      subst (HasAfter which limit link id part) (sym steps)
+      (replied which limit link id state k line client request part kept free read following
+      (sends_right which limit link id next (client_link client) (reply_of next.world next.options client request).messages then
+      (λ here. reply_right which limit link id next client line request then (Tells-before which limit link id state client request free kept).kept free within read (own here) (all_told which state client request) had') (λ else. had')))
 
   came : (o : Option Client) → at_key client_link k state.clients ≡ o → is_following (client_on link (line_step state line o).state) ≡ true
-      → Has which (mirror_after which limit link id part (line_step state line o).acts) (line_step state line o).state.world
+      → Has which (mirror_after which limit link id part (line_step state line o).acts) (line_step state line o).state
   came None at after = had
   came (Some client) at after = served client (request_of client.escaped line) at refl after
 
 -- ---- one event
 
-lost_right : (which : HeldPart) (limit link : ℕ) (id : List ℕ) (state : State) (k : ℕ) (why : Cause) (o : Option Client) (part : HeldOf which) → Has which part state.world
-    → Has which (mirror_after which limit link id part (loss_step state k why o).acts) (loss_step state k why o).state.world
+lost_right : (which : HeldPart) (limit link : ℕ) (id : List ℕ) (state : State) (k : ℕ) (why : Cause) (o : Option Client) (part : HeldOf which) → Has which part state
+    → Has which (mirror_after which limit link id part (loss_step state k why o).acts) (loss_step state k why o).state
 lost_right which limit link id state k why None part had = had
 lost_right which limit link id state k why (Some client) part had = had
 
@@ -106,12 +129,12 @@ step_mirrors which limit link id state (Start moment) part kept free within fair
     let tells = Tells-start which limit link id state moment free kept in
     tells.right (sym tells.following ∙ after) part had
 step_mirrors which limit link id state (Tick moment) part kept free within fair after had =
-    subst (HasAfter which limit link id part) (sym (pushes_stay (record state { moment = moment }) kept.told kept.world.empty)) had
+    (Tells-pushes which limit link id (ticked state moment) free (kept-ticked limit link state moment kept)).right after part had
 step_mirrors which limit link id state (Arrives k nonce) part kept free within fair after had = by (nat_lt (length state.clients) (client_limit state.options)) where
   arrived : Bool → Stepped
   arrived b = cond b (no_step (record state { clients = state.clients ++ new_client state.options (record { 0 = k }) nonce ∷ [] })) (record { state = state; acts = Closes k cause.Surplus ∷ [] })
 
-  by : (b : Bool) → Has which (mirror_after which limit link id part (arrived b).acts) (arrived b).state.world
+  by : (b : Bool) → Has which (mirror_after which limit link id part (arrived b).acts) (arrived b).state
   by true = had
   by false = had
 step_mirrors which limit link id state (LineCame k line) part kept free within fair after had = line_right which limit link id state k line part kept free within fair after had
@@ -123,7 +146,7 @@ step_mirrors which limit link id state ListenFails part kept free within fair af
 
 line_dumps : (which : HeldPart) (limit link : ℕ) (id : List ℕ) (state : State) (k : ℕ) (line : List ℕ) (part : HeldOf which) (dump : AskedFor) → IsStateKept limit link state → length line ≤ 65536
     → asked_in link state (LineCame k line) ≡ dump ∷ [] → TakesDump which id dump → is_following (client_on link (step state (LineCame k line)).state) ≡ true
-    → Has which (mirror_after which limit link id part (step state (LineCame k line)).acts) (step state (LineCame k line)).state.world
+    → Has which (mirror_after which limit link id part (step state (LineCame k line)).acts) (step state (LineCame k line)).state
 line_dumps which limit link id state k line part dump kept within e takes after = by (eqb k link) refl where
   none : List AskedFor
   none = []
@@ -132,26 +155,29 @@ line_dumps which limit link id state k line part dump kept within e takes after 
   free = subst (BeginsWithout 95) takes.under (asked_one link state (LineCame k line) dump none e).free
 
   served : (client : Client) (o : Option Request) → at_key client_link k state.clients ≡ Some client → request_of client.escaped line ≡ o → eqb k link ≡ true → asked_with client o ≡ dump ∷ []
-      → is_following (client_on link (request_step state client o).state) ≡ true → Has which (mirror_after which limit link id part (request_step state client o).acts) (request_step state client o).state.world
+      → is_following (client_on link (request_step state client o).state) ≡ true → Has which (mirror_after which limit link id part (request_step state client o).acts) (request_step state client o).state
   served client None at read here is after = absurd (let h = is in cc)
   served client (Some request) at read here is after =
-      let answer = reply_of state.world state.options client request in
       let whole : record { client = client; request = request } ≡ dump = cc in
+      let taken = subst (TakesDump which id) (sym whole) takes in
       let key : eqb (client_link client) link ≡ true = ap (λ n. eqb n link) (at_key-key client_link k state.clients client at) ∙ here in
-      let alone = asked_replies state kept.told kept.world.empty client request in
-      let following = subst (λ (s : Stepped). is_following (client_on link s.state) ≡ true) alone after in
-      subst (HasAfter which limit link id part) (sym alone)
-      (right-answers which limit link id state (client_link client) answer part (reply_link state client line request read) (reply_text state client line request read) kept free following
-      (sends_right which limit link id state (client_link client) answer.messages part
-      (λ here. dump_right which limit link id state client line request part kept within read (subst (TakesDump which id) (sym whole) takes))
+      let first = before_reply state client request in
+      let next = first.state in
+      let steps = asked_after state client request in
+      let following = subst (λ (s : Stepped). is_following (client_on link s.state) ≡ true) steps after in
+      let then = mirror_after which limit link id part first.acts in
+      subst (HasAfter which limit link id part) (sym steps)
+      (replied which limit link id state k line client request part kept free read following
+      (sends_right which limit link id next (client_link client) (reply_of next.world next.options client request).messages then
+      (λ here. dump_right which limit link id next client line request then (Tells-before which limit link id state client request free kept).kept within read taken (all_told which state client request taken.logged_in taken.dump))
       (λ else. absurd (let h : false ≡ true = sym else ∙ key in cc))))
 
   came : (o : Option Client) → at_key client_link k state.clients ≡ o → eqb k link ≡ true → asked_by line o ≡ dump ∷ [] → is_following (client_on link (line_step state line o).state) ≡ true
-      → Has which (mirror_after which limit link id part (line_step state line o).acts) (line_step state line o).state.world
+      → Has which (mirror_after which limit link id part (line_step state line o).acts) (line_step state line o).state
   came None at here is after = absurd (let h = is in cc)
   came (Some client) at here is after = served client (request_of client.escaped line) at refl here is after
 
-  by : (b : Bool) → eqb k link ≡ b → Has which (mirror_after which limit link id part (step state (LineCame k line)).acts) (step state (LineCame k line)).state.world
+  by : (b : Bool) → eqb k link ≡ b → Has which (mirror_after which limit link id part (step state (LineCame k line)).acts) (step state (LineCame k line)).state
   by true here = let o = at_key client_link k state.clients in came o refl here (sym (asked_here link k state line o here refl) ∙ e) after
   by false here = absurd (let h : none ≡ dump ∷ [] = sym (ap (λ b. cond b (asked_by line (client_on link state)) none) here) ∙ e in cc)
 

@@ -28,13 +28,12 @@ use Rattle.wc_options.specs.Number.{number_in}
 use Rattle.wc_core.specs.Events.{Event, Arrives, Line}
 use Rattle.wc_core.specs.Limits.{client_limit}
 use Rattle.wc_core.specs.State.{State, Stepped, Closes, first_state}
-use Rattle.wc_core.specs.Step.{client_link, no_step, line_step, request_step, answer_step, step, run}
+use Rattle.wc_core.specs.Step.{client_link, no_step, line_step, reply_step, request_step, answer_step, step, run}
 use Rattle.wc_outside.specs.Keyed.{at_key}
 use Rattle.wc_mirror_laws.specs.Held.{HeldPart, Lines, Buffers, Nicks}
-use Rattle.wc_mirror_laws.specs.Settled.{AskedFor, asked_by, asked_with, asked_in, asked_on, client_on, follows_all, is_following, has_id, TakesDump, SettledBy}
+use Rattle.wc_mirror_laws.specs.Settled.{AskedFor, asked_by, asked_with, asked_in, asked_on, client_on, follows_all, is_following, TakesDump, SettledBy}
 use Rattle.wc_mirror_laws.specs.Example.{only_password, init_line, sync_line, dump_line, buffers_line, nicks_line, three_lines, ThreeLinesSettle, ThreeLinesSettleBuffers, ThreeLinesSettleNicks}
-use Rattle.wc_mirror_laws.proofs.PushLemmas.{asked_replies}
-use Rattle.wc_mirror_laws.proofs.WorldLemmas.{first_kept}
+use Rattle.wc_mirror_laws.proofs.AskedLemmas.{lists_nicks, asked_after, told_already}
 
 -- ---- the requests
 
@@ -168,7 +167,7 @@ line_state : (limit : ℕ) (client : Client) (line : List ℕ) (request : Reques
 line_state limit client line request answer key reads answered =
     let state = with_client limit client in
     ap (λ o. (line_step state line o).state) (found client key) ∙ ap (λ o. (request_step state client o).state) reads
-    ∙ ap (λ (s : Stepped). s.state) (asked_replies state refl (first_kept limit).empty client request) ∙ ap (λ a. (answer_step state (client_link client) a).state) answered ∙ ap (λ n. (answer_step state n answer).state) key
+    ∙ ap (λ (s : Stepped). s.state) (asked_after state client request) ∙ ap (λ s. (reply_step s client request).state) (told_already state (lists_nicks client request) refl) ∙ ap (λ a. (answer_step state (client_link client) a).state) answered ∙ ap (λ n. (answer_step state n answer).state) key
 
 silent_step : (limit : ℕ) (before after : Client) (line : List ℕ) (request : Request) → client_link before ≡ 1 → request_of before.escaped line ≡ Some request
     → reply_of (first_world limit) only_password before request ≡ silent after → (step (with_client limit before) (Line 1 line)).state ≡ with_client limit after
@@ -231,15 +230,14 @@ module _ (line : List ℕ) (request : Request) (told : ℕ → List WireMessage)
       ∙ ap (λ s. is_following (client_on 1 s)) (line_state limit synced line request (replies synced (told limit)) synced_link line_reads (answered limit))
       ∙ replied_follows limit (told limit)
 
-  settles_by : (which : HeldPart) (id : List ℕ) (limit : ℕ) → TakesDump which id (request_by synced request) → has_id id (request_by came init_request) ≡ false
-      → has_id id (request_by known sync_request) ≡ false → SettledBy which 1 id (first_state only_password limit []) (three_lines line)
-  settles_by which id limit takes first second = record {
+  settles_by : (which : HeldPart) (id : List ℕ) (limit : ℕ) → TakesDump which id (request_by synced request) → SettledBy which 1 id (first_state only_password limit []) (three_lines line)
+  settles_by which id limit takes = record {
     before = request_by came init_request ∷ request_by known sync_request ∷ [];
     dump = request_by synced request;
     following = [];
     asked = all_asked limit;
     takes = takes;
-    alone = (first, (second, tt));
+    fair = tt;
     follows = (synced_follows, tt);
     still = still limit;
   }
@@ -256,19 +254,11 @@ nicks_asked : TakesDump Nicks (codes "n") (request_by synced nicks_request)
 unfolding nicks_request
 nicks_asked = record { logged_in = synced_known; dump = refl; under = refl }
 
-init_apart : (b : ℕ) → has_id (b ∷ []) (request_by came init_request) ≡ false
-unfolding init_request
-init_apart b = refl
-
-sync_apart : (b : ℕ) → has_id (b ∷ []) (request_by known sync_request) ≡ false
-unfolding sync_request
-sync_apart b = refl
-
 pub three_lines_settle : ThreeLinesSettle
-three_lines_settle limit = settles_by dump_line dump_request told dump_reads dump_answered Lines (codes "l") limit dump_asked (init_apart 108) (sync_apart 108)
+three_lines_settle limit = settles_by dump_line dump_request told dump_reads dump_answered Lines (codes "l") limit dump_asked
 
 pub three_lines_settle_buffers : ThreeLinesSettleBuffers
-three_lines_settle_buffers limit = settles_by buffers_line buffers_request told_buffers buffers_read buffers_answered Buffers (codes "b") limit buffers_asked (init_apart 98) (sync_apart 98)
+three_lines_settle_buffers limit = settles_by buffers_line buffers_request told_buffers buffers_read buffers_answered Buffers (codes "b") limit buffers_asked
 
 pub three_lines_settle_nicks : ThreeLinesSettleNicks
-three_lines_settle_nicks limit = settles_by nicks_line nicks_request told_nicks nicks_read nicks_answered Nicks (codes "n") limit nicks_asked (init_apart 110) (sync_apart 110)
+three_lines_settle_nicks limit = settles_by nicks_line nicks_request told_nicks nicks_read nicks_answered Nicks (codes "n") limit nicks_asked

@@ -1,7 +1,9 @@
+mod AskedLemmas
 mod BufferSizes
 pub mod BytesLemmas
 mod ChangeLemmas
 mod ClientLemmas
+mod DiffItems
 mod DumpLemmas
 mod EventLemmas
 mod ExampleLemmas
@@ -9,12 +11,17 @@ mod HandleLemmas
 mod HeldLemmas
 mod IdLemmas
 mod ListLemmas
+mod MapLemmas
 mod NickDumps
+mod NickRows
 mod NickWorlds
 mod NoticeLemmas
+mod OneReplyLemmas
 mod PrintLemmas
 mod PushLemmas
 mod ReplyLemmas
+mod RootEvents
+mod RootLemmas
 mod RowLemmas
 mod RunLemmas
 mod SizeLemmas

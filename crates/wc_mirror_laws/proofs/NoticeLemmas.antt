@@ -7,12 +7,14 @@ use Rattle.wc_buffers.specs.declared.row.BufferEntry.{BufferEntry}
 use Rattle.wc_buffers.specs.Calls.{handle_of, is_there, entry_of}
 use Rattle.wc_buffers.specs.Groups.{rows, has}
 use Rattle.wc_buffers.proofs.RefusalLemmas.{there_good, close_good, move_good, merge_good, unmerge_good, rename_good, short_name_good, set_var_good, remove_var_good}
+use Rattle.wc_nicklist.specs.Calls.{remove_refusal, change_refusal}
 use Rattle.wc_world.proofs.GroupRows.{some_row}
+use Rattle.wc_world.proofs.NicksDone.{may_add, may_edit}
 use Rattle.wc_model.specs.declared.change.What.{What}
 use Rattle.wc_model.specs.declared.change.What.TheVariants.{Add, Close, MoveTo, MergeInto, Unmerge, Hide, Unhide, Rename, ShortName, Title, SetVar, RemoveVar, Print, Clear, Flips, AddGroup, AddNick, RemoveGroup, RemoveNick, ChangeGroup, ChangeNick}
 use Rattle.wc_model.specs.declared.notice.EventKind.{EventKind}
 use Rattle.wc_model.specs.declared.notice.Notice.{Notice}
-use Rattle.wc_model.specs.World.{World, lines_at}
+use Rattle.wc_model.specs.World.{World, lines_at, rows_at}
 use Rattle.wc_model.specs.Order.{before_in, first_of, after_in, order}
 use Rattle.wc_model.specs.Apply.{refusal_of, after_of}
 use Rattle.wc_model.specs.Notices.{notice_at, notice_of, name_in}
@@ -20,7 +22,8 @@ use Rattle.wc_view.specs.Views.{IsMirrorable}
 use Rattle.wc_mirror_laws.specs.Worlds.{IsBufferKept, IsWorldKept}
 use Rattle.wc_mirror_laws.proofs.ListLemmas.{all_map}
 use Rattle.wc_mirror_laws.proofs.RowLemmas.{row_has}
-use Rattle.wc_mirror_laws.proofs.WorldLemmas.{IsTold, once, accepted, both_accepted, after_kept}
+use Rattle.wc_mirror_laws.specs.Changes.{IsTold}
+use Rattle.wc_mirror_laws.proofs.WorldLemmas.{once, accepted, both_accepted, after_kept}
 
 -- handles of 64 bits, and a full name
 pub record IsTelling (n : Notice) : Type 0 where
@@ -75,7 +78,7 @@ telling_at limit v kind h lines flips is small =
       next = after_small h.0 (order v.groups) all;
     }
 
-found_key : (h : ℕ) (xs : List BufferEntry) (e : BufferEntry) → find (λ x. eqb (handle_of x) h) xs ≡ Some e → handle_of e ≡ h
+pub found_key : (h : ℕ) (xs : List BufferEntry) (e : BufferEntry) → find (λ x. eqb (handle_of x) h) xs ≡ Some e → handle_of e ≡ h
 found_key h [] e at = absurd (let f = at in cc)
 found_key h (x ∷ xs) e at = by (eqb (handle_of x) h) refl at (found_key h xs e) where
   by : (b : Bool) → eqb (handle_of x) h ≡ b → cond b (Some x) (find (λ x. eqb (handle_of x) h) xs) ≡ Some e → (find (λ x. eqb (handle_of x) h) xs ≡ Some e → handle_of e ≡ h) → handle_of e ≡ h
@@ -112,12 +115,12 @@ target_there w h (RemoveVar name) told good old = (remove_var_good h name w.grou
 target_there w h (Print line) told good old = there_good h w.groups (accepted _ (both_accepted _ _ good).0)
 target_there w h Clear told good old = there_good h w.groups (accepted _ good)
 target_there w h (Flips flips) told good old = absurd told
-target_there w h (AddGroup parent item) told good old = absurd told
-target_there w h (AddNick group item) told good old = absurd told
-target_there w h (RemoveGroup name) told good old = absurd told
-target_there w h (RemoveNick name) told good old = absurd told
-target_there w h (ChangeGroup item) told good old = absurd told
-target_there w h (ChangeNick item) told good old = absurd told
+target_there w h (AddGroup parent item) told good old = there_good h w.groups (may_add w h true parent item good).there
+target_there w h (AddNick group item) told good old = there_good h w.groups (may_add w h false group item good).there
+target_there w h (RemoveGroup name) told good old = there_good h w.groups (may_edit w h (remove_refusal true name (rows_at w h.0)) good).there
+target_there w h (RemoveNick name) told good old = there_good h w.groups (may_edit w h (remove_refusal false name (rows_at w h.0)) good).there
+target_there w h (ChangeGroup item) told good old = there_good h w.groups (may_edit w h (change_refusal true item.name (rows_at w h.0)) good).there
+target_there w h (ChangeNick item) told good old = there_good h w.groups (may_edit w h (change_refusal false item.name (rows_at w h.0)) good).there
 
 -- what is noticed of an accepted change
 pub telling : (limit : ℕ) (w : World) (h : Handle) (a : What) → IsWorldKept limit w → IsTold a → refusal_of w h a ≡ None → IsTelling (notice_of w (after_of w h a) h a)
@@ -137,12 +140,12 @@ telling limit w h (RemoveVar name) is told good = telling_at limit (after_of w h
 telling limit w h (Print line) is told good = telling_at limit (after_of w h (Print line)) _ h _ _ (after_kept limit w h (Print line) is told good) (there_small limit w h is (target_there w h (Print line) told good tt))
 telling limit w h Clear is told good = telling_at limit (after_of w h Clear) _ h _ _ (after_kept limit w h Clear is told good) (there_small limit w h is (target_there w h Clear told good tt))
 telling limit w h (Flips flips) is told good = absurd told
-telling limit w h (AddGroup parent item) is told good = absurd told
-telling limit w h (AddNick group item) is told good = absurd told
-telling limit w h (RemoveGroup name) is told good = absurd told
-telling limit w h (RemoveNick name) is told good = absurd told
-telling limit w h (ChangeGroup item) is told good = absurd told
-telling limit w h (ChangeNick item) is told good = absurd told
+telling limit w h (AddGroup parent item) is told good = telling_at limit (after_of w h (AddGroup parent item)) _ h _ _ (after_kept limit w h (AddGroup parent item) is told good) (there_small limit w h is (target_there w h (AddGroup parent item) told good tt))
+telling limit w h (AddNick group item) is told good = telling_at limit (after_of w h (AddNick group item)) _ h _ _ (after_kept limit w h (AddNick group item) is told good) (there_small limit w h is (target_there w h (AddNick group item) told good tt))
+telling limit w h (RemoveGroup name) is told good = telling_at limit (after_of w h (RemoveGroup name)) _ h _ _ (after_kept limit w h (RemoveGroup name) is told good) (there_small limit w h is (target_there w h (RemoveGroup name) told good tt))
+telling limit w h (RemoveNick name) is told good = telling_at limit (after_of w h (RemoveNick name)) _ h _ _ (after_kept limit w h (RemoveNick name) is told good) (there_small limit w h is (target_there w h (RemoveNick name) told good tt))
+telling limit w h (ChangeGroup item) is told good = telling_at limit (after_of w h (ChangeGroup item)) _ h _ _ (after_kept limit w h (ChangeGroup item) is told good) (there_small limit w h is (target_there w h (ChangeGroup item) told good tt))
+telling limit w h (ChangeNick item) is told good = telling_at limit (after_of w h (ChangeNick item)) _ h _ _ (after_kept limit w h (ChangeNick item) is told good) (there_small limit w h is (target_there w h (ChangeNick item) told good tt))
 
 -- ---- in the words of the mirror
 

@@ -1,6 +1,6 @@
 -- What a reply leaves of what a client has.
 use Rattle.std.proofs.Common.{◌≡◌, ℕ, ◌≤◌, Bool, true, false, cond, ◌||◌, List, [], ◌∷◌, length, codes, Some, None, refl, sym, ap, subst, ◌∙◌, arith, eqb, bytes_eq}
-use Rattle.std.specs.Prelude.{Ok, Err}
+use Rattle.std.specs.Prelude.{Option, Result, Ok, Err}
 use Rattle.std.proofs.lemmas.Bool.{false≢true, and_parts}
 use Rattle.std.proofs.lemmas.Slice.Eq.{bytes_eq-Decides}
 use Rattle.wc_text.specs.declared.names.Cause.TheVariants as cause
@@ -22,16 +22,18 @@ use Rattle.wc_session.proofs.SendingLemmas.{fits_within}
 use Rattle.wc_options.specs.Options.{OptionsValue}
 use Rattle.wc_session.proofs.DumpReplies.{IsWalkable, dump_told}
 use Rattle.wc_view.specs.BufferFold.{kind_named}
+use Rattle.wc_view.specs.NickFold.{NickPart}
 use Rattle.wc_core.specs.State.{State}
 use Rattle.wc_core.specs.Step.{sends}
-use Rattle.wc_mirror_laws.specs.Held.{HeldPart, Lines, Buffers, Nicks, HeldOf, asks_dump, fold_one, Has}
-use Rattle.wc_mirror_laws.specs.Settled.{TakesDump}
+use Rattle.wc_mirror_laws.specs.Held.{HeldPart, Lines, Buffers, Nicks, HeldOf, asks_dump, fold_unrefused, fold_one, Has}
+use Rattle.wc_mirror_laws.specs.Roots.{RootPart, fold_roots}
+use Rattle.wc_mirror_laws.specs.Settled.{TakesDump, IsFair}
 use Rattle.wc_mirror_laws.specs.Kept.{IsStateKept}
-use Rattle.wc_mirror_laws.specs.Mirrors.{fold_all, mirror_after, IsFair}
+use Rattle.wc_mirror_laws.specs.Mirrors.{fold_all, mirror_after}
 use Rattle.wc_mirror_laws.specs.Worlds.{IsWorldKept}
 use Rattle.wc_mirror_laws.proofs.DumpLemmas.{few_groups}
 use Rattle.wc_mirror_laws.proofs.HandleLemmas.{rows_handles}
-use Rattle.wc_mirror_laws.proofs.HeldLemmas.{dump_of, dump_short, dump_shown}
+use Rattle.wc_mirror_laws.proofs.HeldLemmas.{dump_of, dump_short, IsAllTold, dump_shown}
 use Rattle.wc_mirror_laws.proofs.IdLemmas.{request_free, request_size, event_apart, apart_event}
 use Rattle.wc_mirror_laws.proofs.ClientLemmas.{messages-sends}
 use Rattle.wc_mirror_laws.proofs.WorldLemmas.{once}
@@ -50,12 +52,18 @@ pub record IsOther (id other : List ℕ) : Type 0 where
   pub diff : bytes_eq other (codes "_nicklist_diff") ≡ false
   pub buffers : kind_named other ≡ None
 
+unread : (id : List ℕ) (rows : Result (Option NickPart) ℕ) (m : WireMessage) → IsOther id m.id → fold_unrefused id rows m ≡ rows
+unread id (Ok part) m is = rw (is.dump, is.diff, is.nicklist, is.opened, is.closing) refl
+unread id (Err place) m is = rw is.dump refl
+
+unrooted : (id : List ℕ) (roots : RootPart) (m : WireMessage) → IsOther id m.id → fold_roots id roots m ≡ roots
+unrooted id roots m is = rw (is.dump, is.diff, is.nicklist, is.closing) refl
+
 -- a message under such an id changes nothing
 passed : (which : HeldPart) (limit : ℕ) (id : List ℕ) (part : HeldOf which) (m : WireMessage) → IsOther id m.id → fold_one which limit id part m ≡ part
 passed Lines limit id part m is = rw (is.dump, is.added, is.closing, is.cleared, is.flags) refl
 passed Buffers limit id part m is = rw (is.dump, is.buffers) refl
-passed Nicks limit id (Ok part) m is = rw (is.dump, is.diff, is.nicklist, is.opened, is.closing) refl
-passed Nicks limit id (Err place) m is = rw is.dump refl
+passed Nicks limit id held m is = λ i. record { rows = unread id held.rows m is i; roots = unrooted id held.roots m is i }
 
 unmoved : (which : HeldPart) (limit : ℕ) (id other : List ℕ) (part : HeldOf which) (messages : List WireMessage) → AtMostOne other messages → IsOther id other → fold_all which limit id part messages ≡ part
 unmoved which limit id other part [] one is = refl
@@ -153,41 +161,41 @@ early_dump which world options client request early e =
 
 -- the dump shows its part, whatever the client had
 pub dump_right : (which : HeldPart) (limit link : ℕ) (id : List ℕ) (state : State) (client : Client) (line : List ℕ) (request : Request) (part : HeldOf which) → IsStateKept limit link state → length line ≤ 65536
-    → request_of client.escaped line ≡ Some request → TakesDump which id (record { client = client; request = request })
-    → Has which (fold_all which limit id part (reply_of state.world state.options client request).messages) state.world
-dump_right which limit link id state client line request part kept within read takes =
+    → request_of client.escaped line ≡ Some request → TakesDump which id (record { client = client; request = request }) → IsAllTold which state
+    → Has which (fold_all which limit id part (reply_of state.world state.options client request).messages) state
+dump_right which limit link id state client line request part kept within read takes all =
     let size = request_size line client.escaped request read in
     let fit = fits_within (message request.id (dump_of which state.world)) (dump_short which limit request.id state.world (omega arith) kept.most kept.world) in
     let told = reply_dump which state.world state.options client request (walkable limit state.world kept.most kept.world) takes.logged_in takes.dump fit ∙ ap (λ id. message id (dump_of which state.world) ∷ []) takes.under in
-    subst (λ part. Has which part state.world) (sym (ap (fold_all which limit id part) told)) (dump_shown which limit id part state.world kept.world)
+    subst (λ part. Has which part state) (sym (ap (fold_all which limit id part) told)) (dump_shown which limit id part state kept.world all)
 
 -- ---- any reply
 
 -- a reply leaves a client that has a part with it
 pub reply_right : (which : HeldPart) (limit link : ℕ) (id : List ℕ) (state : State) (client : Client) (line : List ℕ) (request : Request) (part : HeldOf which) → IsStateKept limit link state → BeginsWithout 95 id → length line ≤ 65536
-    → request_of client.escaped line ≡ Some request → IsFair which id (record { client = client; request = request }) → Has which part state.world
-    → Has which (fold_all which limit id part (reply_of state.world state.options client request).messages) state.world
-reply_right which limit link id state client line request part kept free within read fair had = by (bytes_eq request.id id) client.logged_in refl refl where
+    → request_of client.escaped line ≡ Some request → IsFair which id (record { client = client; request = request }) → (client.logged_in ≡ true → asks_dump which request.command ≡ true → IsAllTold which state) → Has which part state
+    → Has which (fold_all which limit id part (reply_of state.world state.options client request).messages) state
+reply_right which limit link id state client line request part kept free within read fair all had = by (bytes_eq request.id id) client.logged_in refl refl where
   messages : List WireMessage
   messages = (reply_of state.world state.options client request).messages
 
-  by : (same logged : Bool) → bytes_eq request.id id ≡ same → client.logged_in ≡ logged → Has which (fold_all which limit id part messages) state.world
+  by : (same logged : Bool) → bytes_eq request.id id ≡ same → client.logged_in ≡ logged → Has which (fold_all which limit id part messages) state
   by true true e logged =
-      dump_right which limit link id state client line request part kept within read (record { logged_in = logged; dump = fair e; under = (bytes_eq-Decides request.id id).0 e })
+      dump_right which limit link id state client line request part kept within read (record { logged_in = logged; dump = fair e; under = (bytes_eq-Decides request.id id).0 e }) (all logged (fair e))
   by true false e early =
-      subst (λ part. Has which part state.world) (sym (ap (fold_all which limit id part) (early_dump which state.world state.options client request early (fair e)))) had
-  by false logged e was = subst (λ part. Has which part state.world) (sym (other_reply which limit id state client line request part free read e)) had
+      subst (λ part. Has which part state) (sym (ap (fold_all which limit id part) (early_dump which state.world state.options client request early (fair e)))) had
+  by false logged e was = subst (λ part. Has which part state) (sym (other_reply which limit id state client line request part free read e)) had
 
 -- what is sent to the client of one link
 pub sends_right : (which : HeldPart) (limit link : ℕ) (id : List ℕ) (state : State) (k : ℕ) (messages : List WireMessage) (part : HeldOf which)
-    → (eqb k link ≡ true → Has which (fold_all which limit id part messages) state.world) → (eqb k link ≡ false → Has which part state.world)
-    → Has which (mirror_after which limit link id part (sends k messages)) state.world
+    → (eqb k link ≡ true → Has which (fold_all which limit id part messages) state) → (eqb k link ≡ false → Has which part state)
+    → Has which (mirror_after which limit link id part (sends k messages)) state
 sends_right which limit link id state k messages part here else =
-    subst (λ messages. Has which (fold_all which limit id part messages) state.world) (sym (messages-sends link k messages)) (by (eqb k link) refl)
+    subst (λ messages. Has which (fold_all which limit id part messages) state) (sym (messages-sends link k messages)) (by (eqb k link) refl)
   where
     none : List WireMessage
     none = []
 
-    by : (b : Bool) → eqb k link ≡ b → Has which (fold_all which limit id part (cond b messages none)) state.world
+    by : (b : Bool) → eqb k link ≡ b → Has which (fold_all which limit id part (cond b messages none)) state
     by true e = here e
     by false e = else e

@@ -1,37 +1,28 @@
 -- A client that settled by the dump of a part has it after all events.
-use Rattle.std.proofs.Common.{◌≡◌, ℕ, ◌≤◌, true, false, List, [], ◌∷◌, ◌++◌, refl, sym, ap, subst, ◌∙◌}
+use Rattle.std.proofs.Common.{◌≡◌, ℕ, ◌≤◌, true, List, [], ◌∷◌, ◌++◌, refl, sym, ap, subst, ◌∙◌}
 use Rattle.std.specs.List.{AllByRecursion}
 use Rattle.std.specs.Str.{IsUtf8}
-use Rattle.std.proofs.lemmas.Bool.{false≢true}
 use Rattle.wc_text.specs.Splits.{BeginsWithout}
 use Rattle.wc_options.specs.Options.{OptionsValue}
 use Rattle.wc_core.specs.Events.{Event}
 use Rattle.wc_core.specs.State.{State, first_state}
 use Rattle.wc_core.specs.Step.{step, run}
 use Rattle.wc_mirror_laws.specs.Held.{HeldPart, HeldOf, nothing, Has}
-use Rattle.wc_mirror_laws.specs.Settled.{AskedFor, asked_in, asked_on, client_on, follows_all, is_following, has_id, TakesDump}
+use Rattle.wc_mirror_laws.specs.Settled.{AskedFor, asked_in, asked_on, client_on, follows_all, is_following, TakesDump, IsFair}
 use Rattle.wc_mirror_laws.specs.Kept.{IsStateKept}
-use Rattle.wc_mirror_laws.specs.Mirrors.{mirror_after, IsShortLine, IsFair, Mirrors, RunKeeps}
+use Rattle.wc_mirror_laws.specs.Mirrors.{mirror_after, IsShortLine, Mirrors, RunKeeps}
 use Rattle.wc_mirror_laws.proofs.ChangeLemmas.{mirror-append}
 use Rattle.wc_mirror_laws.proofs.ListLemmas.{all_front, all_back}
-use Rattle.wc_mirror_laws.proofs.WorldLemmas.{first_kept}
+use Rattle.wc_mirror_laws.proofs.WorldLemmas.{first_lists, first_kept}
 use Rattle.wc_mirror_laws.proofs.StepLemmas.{step_keeps, followed}
 use Rattle.wc_mirror_laws.proofs.EventLemmas.{asked_one, step_mirrors, dump_mirrors}
-
--- a request with another id
-abbrev HasOther : List ℕ → AskedFor → Type 0
-HasOther id asked = has_id id asked ≡ false
 
 abbrev Follows : AskedFor → Type 0
 Follows asked = follows_all asked.client ≡ true
 
-others_fair : (which : HeldPart) (id : List ℕ) (asked : List AskedFor) → AllByRecursion (HasOther id) asked → AllByRecursion (IsFair which id) asked
-others_fair which id [] all = tt
-others_fair which id (first ∷ asked) all = (λ same. absurd (false≢true (sym all.0 ∙ same)), others_fair which id asked all.1)
-
 -- a client has a part after events, which had this before
 abbrev HasAfter : (which : HeldPart) → ℕ → ℕ → List ℕ → HeldOf which → State → List Event → Type 0
-HasAfter which limit link id part state events = Has which (mirror_after which limit link id part (run state events).acts) (run state events).state.world
+HasAfter which limit link id part state events = Has which (mirror_after which limit link id part (run state events).acts) (run state events).state
 
 -- by those after the first
 has-then : (which : HeldPart) (limit link : ℕ) (id : List ℕ) (part : HeldOf which) (state : State) (event : Event) (events : List Event)
@@ -39,7 +30,7 @@ has-then : (which : HeldPart) (limit link : ℕ) (id : List ℕ) (part : HeldOf 
 has-then which limit link id part state event events has =
     let next = (step state event).state in
     let last = (run next events).state in
-    subst (λ part. Has which part last.world) (sym (mirror-append which limit link id part (step state event).acts (run next events).acts)) has
+    subst (λ part. Has which part last) (sym (mirror-append which limit link id part (step state event).acts (run next events).acts)) has
 
 -- ---- after the dump
 
@@ -58,27 +49,27 @@ stood limit link state (event ∷ events) kept all after =
     by (first ∷ others) e all then = ap is_following (asked_one link state event first others e).client ∙ all.0
 
 mirrored : (which : HeldPart) (limit link : ℕ) (id : List ℕ) (state : State) (events : List Event) (part : HeldOf which) → IsStateKept limit link state → BeginsWithout 95 id → AllByRecursion IsShortLine events
-    → AllByRecursion (HasOther id) (asked_on link state events) → AllByRecursion Follows (asked_on link state events) → is_following (client_on link (run state events).state) ≡ true
-    → Has which part state.world → HasAfter which limit link id part state events
-mirrored which limit link id state [] part kept free within other follows still had = had
-mirrored which limit link id state (event ∷ events) part kept free within other follows still had =
+    → AllByRecursion (IsFair which id) (asked_on link state events) → AllByRecursion Follows (asked_on link state events) → is_following (client_on link (run state events).state) ≡ true
+    → Has which part state → HasAfter which limit link id part state events
+mirrored which limit link id state [] part kept free within fair follows still had = had
+mirrored which limit link id state (event ∷ events) part kept free within fair follows still had =
     let next = (step state event).state in
     let here = asked_in link state event in
     let rest = asked_on link next events in
     let then = step_keeps limit link state event kept in
     let after = stood limit link next events then (all_back Follows here rest follows) still in
-    let fair = others_fair which id here (all_front (HasOther id) here rest other) in
+    let now = all_front (IsFair which id) here rest fair in
     let part' = mirror_after which limit link id part (step state event).acts in
-    let has : Has which part' next.world = step_mirrors which limit link id state event part kept free within.0 fair after had in
+    let has : Has which part' next = step_mirrors which limit link id state event part kept free within.0 now after had in
     has-then which limit link id part state event events
-    (mirrored which limit link id next events part' then free within.1 (all_back (HasOther id) here rest other) (all_back Follows here rest follows) still has)
+    (mirrored which limit link id next events part' then free within.1 (all_back (IsFair which id) here rest fair) (all_back Follows here rest follows) still has)
 
 -- ---- up to the dump
 
 -- the dump, and what was asked after it
 record IsTaken (which : HeldPart) (id : List ℕ) (dump : AskedFor) (following : List AskedFor) : Type 0 where
   takes : TakesDump which id dump
-  alone : AllByRecursion (HasOther id) following
+  fair : AllByRecursion (IsFair which id) following
   follows : AllByRecursion Follows following
 
 never : (before following : List AskedFor) (dump : AskedFor) → [] ≡ before ++ dump ∷ following → ⊥
@@ -93,11 +84,11 @@ has-dump which limit link id part state event events dump following kept within 
     let none : List AskedFor = [] in
     let then = step_keeps limit link state event kept in
     let follows = subst (AllByRecursion Follows) (sym is) taken.follows in
-    let other = subst (AllByRecursion (HasOther id)) (sym is) taken.alone in
+    let fair = subst (AllByRecursion (IsFair which id)) (sym is) taken.fair in
     let free = subst (BeginsWithout 95) taken.takes.under (asked_one link state event dump none here).free in
     let part' = mirror_after which limit link id part (step state event).acts in
-    let shown : Has which part' next.world = dump_mirrors which limit link id state event part dump kept within.0 here taken.takes (stood limit link next events then follows still) in
-    has-then which limit link id part state event events (mirrored which limit link id next events part' then free within.1 other follows still shown)
+    let shown : Has which part' next = dump_mirrors which limit link id state event part dump kept within.0 here taken.takes (stood limit link next events then follows still) in
+    has-then which limit link id part state event events (mirrored which limit link id next events part' then free within.1 fair follows still shown)
 
 settles : (which : HeldPart) (limit link : ℕ) (id : List ℕ) (state : State) (events : List Event) (part : HeldOf which) (before following : List AskedFor) (dump : AskedFor) → IsStateKept limit link state
     → AllByRecursion IsShortLine events → IsTaken which id dump following → asked_on link state events ≡ before ++ dump ∷ following → is_following (client_on link (run state events).state) ≡ true
@@ -129,7 +120,7 @@ settles which limit link id state (event ∷ events) part before following dump 
 -- ---- from the start
 
 pub start_kept : (limit link : ℕ) (options : OptionsValue) (commands : List (List ℕ)) → limit ≤ 4096 → AllByRecursion IsUtf8 commands → IsStateKept limit link (first_state options limit commands)
-start_kept limit link options commands most texts = record { most = most; world = first_kept limit; told = refl; texts = texts; first = refl }
+start_kept limit link options commands most texts = record { most = most; world = first_kept limit; told = first_lists; texts = texts; first = refl }
 
 kept_on : (limit link : ℕ) (state : State) (events : List Event) → IsStateKept limit link state → IsStateKept limit link (run state events).state
 kept_on limit link state [] kept = kept
@@ -143,6 +134,6 @@ mirrors which options limit commands events link id most texts within settled =
     settles which limit link id (first_state options limit commands) events (nothing which) settled.before settled.following settled.dump (start_kept limit link options commands most texts) within
     (record {
       takes = settled.takes;
-      alone = all_back (HasOther id) settled.before settled.following settled.alone;
+      fair = settled.fair;
       follows = settled.follows.1;
     }) settled.asked settled.still

@@ -208,7 +208,7 @@ object_spelt : (path keys : List ℕ) (items : List HdaItem) → object_bytes (o
 unfolding object_bytes
 object_spelt path keys items = rw (← o.rolls-Hda (hda_of path keys items), out-roll-Object) (ap (λ t. codes "hda" ++ t) (hda_spelt path keys items))
 
-pub spelt_size : (path keys : List ℕ) (items : List HdaItem) → length path ≤ 100 → length keys ≤ 200 → length items ≤ 1048576 → AllByRecursion IsSmall items → length (spelt path keys items) ≤ 1800000000
+pub spelt_size : (path keys : List ℕ) (items : List HdaItem) → length path ≤ 100 → length keys ≤ 200 → length items ≤ 1048832 → AllByRecursion IsSmall items → length (spelt path keys items) ≤ 1800000000
 spelt_size path keys items short named few all =
     let size = items_size items all in
     let count = length-be32 (length items) in

@@ -30,7 +30,8 @@ use Rattle.wc_mirror_laws.specs.Kept.{is_first_alone, IsStateKept}
 use Rattle.wc_mirror_laws.specs.Mirrors.{mirror_after, StepKeeps}
 use Rattle.wc_mirror_laws.proofs.ClientLemmas.{following-push, first-push, first-put, first-without}
 use Rattle.wc_mirror_laws.proofs.ChangeLemmas.{mirror-append, Tells-runs, Tells-start}
-use Rattle.wc_mirror_laws.proofs.PushLemmas.{asked_replies}
+use Rattle.wc_mirror_laws.proofs.AskedLemmas.{before_reply, asked_after, Tells-before}
+use Rattle.wc_mirror_laws.proofs.PushLemmas.{Tells-pushes}
 use Rattle.wc_mirror_laws.proofs.TypedLemmas.{parted_text}
 
 kept-clients : (limit link : ℕ) (state : State) (clients : List Client) → IsStateKept limit link state → is_first_alone link clients ≡ true → IsStateKept limit link (record state { clients = clients })
@@ -49,7 +50,7 @@ kept-follows limit link state k (outcome.Leave why) utf8 kept = kept-leaves limi
 kept-follows limit link state k outcome.NoMemory utf8 kept = kept
 
 right-follows : (which : HeldPart) (limit link : ℕ) (id : List ℕ) (state : State) (k : ℕ) (o : Outcome) (part : HeldOf which) → OutcomeUtf8 o → IsStateKept limit link state → BeginsWithout 95 id
-    → is_following (client_on link (outcome_step state k o).state) ≡ true → Has which part state.world → Has which (mirror_after which limit link id part (outcome_step state k o).acts) (outcome_step state k o).state.world
+    → is_following (client_on link (outcome_step state k o).state) ≡ true → Has which part state → Has which (mirror_after which limit link id part (outcome_step state k o).acts) (outcome_step state k o).state
 right-follows which limit link id state k outcome.Replied part utf8 kept free after had = had
 right-follows which limit link id state k outcome.Silent part utf8 kept free after had = had
 right-follows which limit link id state k (outcome.Input buffer text) part utf8 kept free after had =
@@ -70,12 +71,12 @@ kept-answers limit link state k answer here utf8 kept = kept-follows limit link 
 
 -- where the messages of an answer leave a part right, so does what follows them
 pub right-answers : (which : HeldPart) (limit link : ℕ) (id : List ℕ) (state : State) (k : ℕ) (answer : Answer) (part : HeldOf which) → client_link answer.client ≡ k → OutcomeUtf8 answer.outcome → IsStateKept limit link state → BeginsWithout 95 id
-    → is_following (client_on link (answer_step state k answer).state) ≡ true → Has which (mirror_after which limit link id part (sends k answer.messages)) state.world
-    → Has which (mirror_after which limit link id part (answer_step state k answer).acts) (answer_step state k answer).state.world
+    → is_following (client_on link (answer_step state k answer).state) ≡ true → Has which (mirror_after which limit link id part (sends k answer.messages)) state
+    → Has which (mirror_after which limit link id part (answer_step state k answer).acts) (answer_step state k answer).state
 right-answers which limit link id state k answer part here utf8 kept free after had =
     let next = put state k answer.client in
     let last = (outcome_step next k answer.outcome).state in
-    subst (λ part. Has which part last.world) (sym (mirror-append which limit link id part (sends k answer.messages) (outcome_step next k answer.outcome).acts))
+    subst (λ part. Has which part last) (sym (mirror-append which limit link id part (sends k answer.messages) (outcome_step next k answer.outcome).acts))
     (right-follows which limit link id next k answer.outcome (mirror_after which limit link id part (sends k answer.messages)) utf8 (kept-put limit link state k answer.client here kept) free after had)
 
 -- ---- what is answered to a request
@@ -104,8 +105,10 @@ kept-line limit link state k line kept = came (at_key client_link k state.client
   served : (client : Client) (o : Option Request) → request_of client.escaped line ≡ o → IsStateKept limit link (request_step state client o).state
   served client None e = kept
   served client (Some request) e =
-      subst (λ (s : Stepped). IsStateKept limit link s.state) (sym (asked_replies state kept.told kept.world.empty client request))
-      (kept-answers limit link state (client_link client) (reply_of state.world state.options client request) (reply_link state client line request e) (reply_text state client line request e) kept)
+      let next = (before_reply state client request).state in
+      subst (λ (s : Stepped). IsStateKept limit link s.state) (sym (asked_after state client request))
+      (kept-answers limit link next (client_link client) (reply_of next.world next.options client request) (reply_link next client line request e) (reply_text next client line request e)
+      (Tells-before Lines limit link [] state client request tt kept).kept)
 
   came : (o : Option Client) → IsStateKept limit link (line_step state line o).state
   came None = kept
@@ -117,9 +120,16 @@ kept-lost : (limit link : ℕ) (state : State) (k : ℕ) (why : Cause) (o : Opti
 kept-lost limit link state k why None kept = kept
 kept-lost limit link state k why (Some client) kept = kept-leaves limit link state k why kept
 
+-- the state of which what is to be pushed is at a tick
+abbrev pub ticked : State → ℕ → State
+ticked state moment = record state { moment = moment }
+
+pub kept-ticked : (limit link : ℕ) (state : State) (moment : ℕ) → IsStateKept limit link state → IsStateKept limit link (ticked state moment)
+kept-ticked limit link state moment kept = record { most = kept.most; world = kept.world; told = kept.told; texts = kept.texts; first = kept.first }
+
 pub step_keeps : StepKeeps
 step_keeps limit link state (Start moment) kept = (Tells-start Lines limit link [] state moment tt kept).kept
-step_keeps limit link state (Tick moment) kept = record { most = kept.most; world = kept.world; told = refl; texts = kept.texts; first = kept.first }
+step_keeps limit link state (Tick moment) kept = (Tells-pushes Lines limit link [] (ticked state moment) tt (kept-ticked limit link state moment kept)).kept
 step_keeps limit link state (Arrives k nonce) kept = by (nat_lt (length state.clients) (client_limit state.options)) where
   came : Client
   came = new_client state.options (record { 0 = k }) nonce
@@ -176,8 +186,11 @@ following-line limit link state k line kept none after = came (at_key client_lin
       → is_following (client_on link (request_step state client o).state) ≡ true → is_following (client_on link state) ≡ true
   served client None at e after = after
   served client (Some request) at e after =
-      following-answers limit link state (client_link client) (reply_of state.world state.options client request) (reply_link state client line request e) (other client request at e) (reply_text state client line request e) kept
-      (subst (λ (s : Stepped). is_following (client_on link s.state) ≡ true) (asked_replies state kept.told kept.world.empty client request) after)
+      let next = (before_reply state client request).state in
+      let tells = Tells-before Lines limit link [] state client request tt kept in
+      sym tells.following
+      ∙ following-answers limit link next (client_link client) (reply_of next.world next.options client request) (reply_link next client line request e) (other client request at e) (reply_text next client line request e) tells.kept
+      (subst (λ (s : Stepped). is_following (client_on link s.state) ≡ true) (asked_after state client request) after)
 
   came : (o : Option Client) → at_key client_link k state.clients ≡ o → is_following (client_on link (line_step state line o).state) ≡ true → is_following (client_on link state) ≡ true
   came None at after = after

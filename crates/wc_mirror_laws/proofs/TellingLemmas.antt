@@ -1,5 +1,5 @@
 -- The event of each change that commands ask for: it keeps the rules of messages, and it is told.
-use Rattle.std.proofs.Common.{◌≡◌, ℕ, ◌-◌, ◌^◌, ◌≤◌, Bool, true, false, cond, List, [], ◌∷◌, length, Option, Some, None, option_map, refl, ap, ◌∙◌, arith}
+use Rattle.std.proofs.Common.{◌≡◌, ℕ, ◌-◌, ◌^◌, ◌≤◌, Bool, true, false, cond, List, [], ◌∷◌, length, Option, Some, None, option_map, refl, ap, arith}
 use Rattle.std.specs.List.{AllByRecursion}
 use Rattle.std.specs.Str.{IsUtf8}
 use Rattle.std.proofs.lemmas.Bool.Decides.{nat_tests}
@@ -142,9 +142,10 @@ objects_short limit v kind.Nicklist n is tells = tt
 objects_short limit v kind.NicklistDiff n is tells = tt
 objects_short limit v kind.NickTouched n is tells = tt
 
-fitted : (m : WireMessage) → fitting m ≡ cond (fits m) (m ∷ []) []
+-- a message that is short enough is sent
+pub whole_message : (m : WireMessage) → length (message_bytes m.id m.objects) ≤ 2 ^ 31 - 1 → fitting m ≡ m ∷ []
 unfolding fitting
-fitted m = refl
+whole_message m short = ap (λ b. cond b (m ∷ []) []) (fits_within m short)
 
 -- the one message of a notice, where there is one
 abbrev pub messages_of : Option WireMessage → List WireMessage
@@ -159,4 +160,4 @@ event_whole limit v n is tells = by (event_objects v n) (objects_short limit v n
 
   by : (o : Option (List Object)) → OnObjects (IsShort n.kind) o → if_fits (option_map message_of o) ≡ messages_of (option_map message_of o)
   by None short = refl
-  by (Some objects) short = fitted (message_of objects) ∙ ap (λ b. cond b (message_of objects ∷ []) []) (fits_within (message_of objects) short)
+  by (Some objects) short = whole_message (message_of objects) short

@@ -26,7 +26,7 @@ use Rattle.wc_mirror_laws.specs.Worlds.{IsBufferKept, IsWorldKept}
 use Rattle.wc_mirror_laws.proofs.ListLemmas.{all_filter}
 use Rattle.wc_mirror_laws.proofs.RowLemmas.{row_has}
 use Rattle.wc_mirror_laws.proofs.PrintLemmas.{level_fits}
-use Rattle.wc_mirror_laws.proofs.WorldLemmas.{IsTold}
+use Rattle.wc_mirror_laws.specs.Changes.{IsTold}
 
 -- ---- parts of a text
 

@@ -1,10 +1,15 @@
 -- The numbers of objects lie within their types.
-use Rattle.std.proofs.Common.{ℕ, ◌^◌, ◌<◌, List, [], ◌∷◌, Some}
+use Rattle.std.proofs.Common.{ℕ, ◌^◌, ◌<◌, List, [], ◌∷◌, Some, arith}
 use Rattle.std.specs.Prelude.{codes}
+use Rattle.std.specs.Int.{w8}
+use Rattle.std.specs.Int.RustNames.{FitsSigned}
 use Rattle.std.specs.List.{AllByRecursion}
 use Rattle.wc_text.specs.declared.names.Handle.{Handle}
 use Rattle.wc_lines.specs.declared.line.Line.{Line}
 use Rattle.wc_nicklist.specs.declared.item.Item.{Item}
+use Rattle.wc_nickdiff.specs.declared.diff_item.DiffItem.{DiffItem}
+use Rattle.wc_nickdiff.specs.declared.diff_item.Mark.{Mark}
+use Rattle.wc_nickdiff.specs.declared.diff_item.Mark.TheVariants as mark
 use Rattle.wc_buffers.specs.declared.row.BufferEntry.{BufferEntry}
 use Rattle.wc_model.specs.declared.notice.Notice.{Notice}
 use Rattle.wc_objects.specs.declared.object.Object.{Object}
@@ -15,7 +20,7 @@ use Rattle.wc_objects.specs.declared.object.HdaItem.{HdaItem, roll-HdaItem}
 use Rattle.wc_objects.specs.Within.{ValueWithin, ItemWithin, HdaWithin, ObjectWithin}
 use Rattle.wc_events.specs.LineObjects.{truth, moment, line_keys, line_values, added_item, added_objects}
 use Rattle.wc_events.specs.BufferObjects.{about, opened_keys, opened_values, opened_objects, placed_keys, placed_values, placed_objects, renamed_keys, renamed_values, renamed_objects, title_keys, title_values, title_objects, vars_keys, vars_values, vars_objects, named_keys, named_values, named_objects}
-use Rattle.wc_events.specs.NickObjects.{nick_path, nick_keys, nick_values, nick_item, nick_objects}
+use Rattle.wc_events.specs.NickObjects.{nick_path, nick_keys, nick_values, nick_item, mark_code, diff_item, nick_objects}
 use Rattle.wc_hdata.proofs.ValuesWithin.{moment_within, count_within, truth_within, flag_within, value_tim, value_chr, value_int, value_ptr, value_str, value_texts, value_table}
 use Rattle.wc_mirror_laws.specs.Printed.{IsPrinted}
 use Rattle.wc_mirror_laws.proofs.NoticeLemmas.{IsTelling}
@@ -131,6 +136,16 @@ nick_all i = (
 pub nick_within : (buffer : Handle) (i : Item) → buffer.0 < 2 ^ 64 → i.handle.0 < 2 ^ 64 → ItemWithin (nick_item buffer i)
 unfolding ItemWithin
 nick_within buffer i small own = ((small, (own, tt)), nick_all i)
+
+mark_within : (m : Mark) → FitsSigned w8 (mark_code m)
+mark_within mark.Parent = record { sfits = omega arith }
+mark_within mark.Added = record { sfits = omega arith }
+mark_within mark.Removed = record { sfits = omega arith }
+mark_within mark.Changed = record { sfits = omega arith }
+
+pub diff_within : (buffer : Handle) (d : DiffItem) → buffer.0 < 2 ^ 64 → d.item.handle.0 < 2 ^ 64 → ItemWithin (diff_item buffer d)
+unfolding ItemWithin
+diff_within buffer d small own = ((small, (own, tt)), (value_chr _ (mark_within d.mark), nick_all d.item))
 
 pub nicks_within : (items : List HdaItem) → AllByRecursion ItemWithin items → AllByRecursion ObjectWithin (nick_objects items)
 nicks_within items all = items_within nick_path nick_keys items all

@@ -1,5 +1,5 @@
 -- What always holds of the world holds still after a change.
-use Rattle.std.proofs.Common.{◌≡◌, ℕ, ◌+◌, ◌-◌, ◌<◌, ◌≤◌, ◌^◌, Bool, true, false, cond, ◌&&◌, eqb, ltb, List, [], ◌∷◌, ◌++◌, length, map, All, Option, Some, None, unwrap_or, is_some, refl, sym, ap, subst, ◌∙◌, arith, eq-eqb, eqb-true, IsUtf8, map-id}
+use Rattle.std.proofs.Common.{◌≡◌, ℕ, ◌+◌, ◌-◌, ◌<◌, ◌≤◌, ◌^◌, Bool, true, false, cond, ◌&&◌, eqb, ltb, List, [], ◌∷◌, ◌++◌, length, map, All, Option, Some, None, unwrap_or, refl, sym, ap, subst, ◌∙◌, arith, eq-eqb, eqb-true, IsUtf8, map-id}
 use Rattle.std.specs.Int.{w8}
 use Rattle.std.specs.Int.RustNames.{FitsSigned}
 use Rattle.std.specs.List.{AllByRecursion}
@@ -17,7 +17,13 @@ use Rattle.wc_lines.specs.Ring.{last_of}
 use Rattle.wc_buffers.specs.declared.row.BufferEntry.{BufferEntry}
 use Rattle.wc_buffers.specs.declared.refused.BufferRefused.{BufferRefused}
 use Rattle.wc_buffers.specs.declared.row.BufferSpec.{BufferSpec}
-use Rattle.wc_buffers.specs.Calls.{EntryGroups, bad_names, handle_of, is_there, entry_of, with_buffer, new_entry, without_buffer, move_group_to, merge_groups, unmerge_group, with_entry, with_hidden, with_full_name, with_short_name, with_title, with_var, without_var, add_refusal, add_refusal_so_far, too_many_vars, lacks_var, is_full}
+use Rattle.wc_nicklist.specs.declared.item.Item.{Item}
+use Rattle.wc_nicklist.specs.declared.item.Row.{Row}
+use Rattle.wc_nicklist.specs.Calls.{remove_refusal, change_refusal, add_row}
+use Rattle.wc_nicklist.specs.Order.{key_at}
+use Rattle.wc_nicklist.specs.Rows.{find_row, remove_row, change_row}
+use Rattle.wc_nicklist.proofs.Lengths.{length-change_row}
+use Rattle.wc_buffers.specs.Calls.{EntryGroups, no_buffer, bad_names, handle_of, is_there, entry_of, with_buffer, new_entry, without_buffer, move_group_to, merge_groups, unmerge_group, with_entry, with_hidden, with_full_name, with_short_name, with_title, with_var, without_var, add_refusal, add_refusal_so_far, too_many_vars, lacks_var, is_full}
 use Rattle.wc_buffers.specs.Entries.{IsText}
 use Rattle.wc_buffers.specs.Groups.{rows, has, in_group, times}
 use Rattle.wc_buffers.specs.Kept.{IsBuffer, handles}
@@ -30,49 +36,28 @@ use Rattle.wc_buffers.proofs.Fits.{or_none, opened_fits, hidden_fits, short_name
 use Rattle.wc_world.proofs.GroupRows.{some_row, in_rows, has-move, has-merge, has-unmerge, has-update, has-take_out, merged_apart}
 use Rattle.wc_world.proofs.First.{core_text}
 use Rattle.wc_world.proofs.HeldLemmas.{tied}
+use Rattle.wc_world.proofs.NicksDone.{may_add, may_edit}
 use Rattle.wc_model.specs.declared.change.LineSpec.{LineSpec}
 use Rattle.wc_model.specs.declared.change.What.{What}
 use Rattle.wc_model.specs.declared.change.What.TheVariants.{Add, Close, MoveTo, MergeInto, Unmerge, Hide, Unhide, Rename, ShortName, Title, SetVar, RemoveVar, Print, Clear, Flips, AddGroup, AddNick, RemoveGroup, RemoveNick, ChangeGroup, ChangeNick}
 use Rattle.wc_model.specs.declared.refused.ChangeRefused.{ChangeRefused}
 use Rattle.wc_model.specs.declared.refused.ChangeRefused.TheVariants as refused
-use Rattle.wc_model.specs.World.{World, core_row, first_world, lines_at, last_handle}
+use Rattle.wc_model.specs.World.{World, core_row, first_world, lines_at, rows_at, row_count, row_limit, last_handle}
 use Rattle.wc_model.specs.LineCuts.{line_of}
-use Rattle.wc_model.specs.Apply.{refusal_of, after_of, of_buffers, or_else as or_refused, refusal_of_handles, with_groups, with_lines, flip_all, with_flips, row_of as new_row}
-use Rattle.wc_mirror_laws.specs.Worlds.{NoRows}
+use Rattle.wc_model.specs.Apply.{refusal_of, after_of, of_buffers, or_else as or_refused, refusal_of_handles, with_groups, with_lines, flip_all, with_flips, row_of as new_row, adds_row, removes_row, changes_row, with_rows, item_with, with_row, without_row, handle_in, with_changed_row}
+use Rattle.wc_model.specs.Touches.{told_after}
+use Rattle.wc_board.specs.Told.{Told}
+use Rattle.wc_mirror_laws.specs.Changes.{IsTold}
+use Rattle.wc_mirror_laws.specs.Nicks.{AreRowsKept, AreListsKept}
 use Rattle.wc_mirror_laws.specs.Printed.{IsPrinted}
 use Rattle.wc_mirror_laws.specs.Worlds.{IsBufferKept, IsWorldKept}
 use Rattle.wc_mirror_laws.proofs.ListLemmas.{all_more}
 use Rattle.wc_mirror_laws.proofs.HandleLemmas.{has_handles, times_handles, rows_handles, groups_taken, groups_moved, groups_merged, groups_unmerged, handles_updated}
-use Rattle.wc_mirror_laws.proofs.NickWorlds.{AreListed, listed_added, listed_closed, rows_inserted, rows_removed}
+use Rattle.wc_mirror_laws.proofs.NickRows.{length-added, length-removed, rows_added, rows_removed, rows_changed}
+use Rattle.wc_mirror_laws.proofs.NickWorlds.{rows_few, lists_kept, lists_added, lists_closed, lists_put, count_added, count_closed, count_put, no_lists, none_counted}
 use Rattle.wc_mirror_laws.proofs.PrintLemmas.{line_printed}
 use Rattle.wc_mirror_laws.proofs.RowLemmas.{added_rows, taken_rows, moved_rows, merged_rows, unmerged_rows, updated_rows, row_has}
 use Rattle.wc_mirror_laws.proofs.VarLemmas.{AreShort, short_set, short_removed, short_fixed, opened_short, set_name_short}
-
--- ---- the changes that commands ask for
-
--- texts that are kept whole are text, a line has no level, and no flag of a line is set and no row touched
-abbrev pub IsTold : What → Type 0
-IsTold (Add spec) = IsUtf8 spec.full_name × IsUtf8 spec.short_name × IsUtf8 spec.title × All IsText spec.vars
-IsTold Close = Unit {0}
-IsTold (MoveTo number) = Unit {0}
-IsTold (MergeInto into) = Unit {0}
-IsTold Unmerge = Unit {0}
-IsTold Hide = Unit {0}
-IsTold Unhide = Unit {0}
-IsTold (Rename name flips) = IsUtf8 name × (flips ≡ [])
-IsTold (ShortName name) = IsUtf8 name
-IsTold (Title title) = Unit {0}
-IsTold (SetVar var) = IsUtf8 var.name
-IsTold (RemoveVar name) = Unit {0}
-IsTold (Print line) = All IsUtf8 line.tags × FitsSigned w8 line.notify
-IsTold Clear = Unit {0}
-IsTold (Flips flips) = ⊥
-IsTold (AddGroup parent item) = ⊥
-IsTold (AddNick group item) = ⊥
-IsTold (RemoveGroup name) = ⊥
-IsTold (RemoveNick name) = ⊥
-IsTold (ChangeGroup item) = ⊥
-IsTold (ChangeNick item) = ⊥
 
 -- ---- refusals that do not hold
 
@@ -106,8 +91,8 @@ regrouped limit w gs is groups each same = record {
   within = is.within;
   printed = is.printed;
   none = λ h lacks. is.none h (sym (same h) ∙ lacks);
-  lists = λ h. is.lists h ∙ sym (same h);
-  empty = is.empty;
+  nicks = lists_kept w.next w.next w.groups gs w.nicks (omega arith) same is.nicks;
+  counted = is.counted;
 }
 
 -- a buffer that is changed by F
@@ -166,15 +151,15 @@ unflipped limit w is = record {
   within = λ q. subst (λ ls. length ls ≤ limit) (sym (unflipped_at w q)) (is.within q);
   printed = λ q. subst (All IsPrinted) (sym (unflipped_at w q)) (is.printed q);
   none = λ q lacks. unflipped_at w q ∙ is.none q lacks;
-  lists = is.lists;
-  empty = is.empty;
+  nicks = is.nicks;
+  counted = is.counted;
 }
 
 -- a world in which the lines of one buffer were changed
 relined : (limit : ℕ) (w v : World) (k : ℕ) (ms : List Line) → IsWorldKept limit w → v.limit ≡ w.limit → 0 < v.next → v.next ≤ 2 ^ 62 + 1
     → AreGroups (handles v.groups) → AllByRecursion (IsBufferKept v.next) (rows v.groups) → ((q : ℕ) → lines_at v q ≡ cond (eqb q k) ms (lines_at w q))
-    → length ms ≤ limit → All IsPrinted ms → ((q : ℕ) → has handle_of q v.groups ≡ false → cond (eqb q k) ms (lines_at w q) ≡ []) → AreListed v → NoRows v → IsWorldKept limit v
-relined limit w v k ms is same started ended groups each lines few printed none lists empty = record {
+    → length ms ≤ limit → All IsPrinted ms → ((q : ℕ) → has handle_of q v.groups ≡ false → cond (eqb q k) ms (lines_at w q) ≡ []) → AreListsKept v.next v.groups v.nicks → row_count v ≤ row_limit → IsWorldKept limit v
+relined limit w v k ms is same started ended groups each lines few printed none nicks counted = record {
   same = same ∙ is.same;
   started = started;
   ended = ended;
@@ -183,8 +168,8 @@ relined limit w v k ms is same started ended groups each lines few printed none 
   within = λ q. subst (λ ls. length ls ≤ limit) (sym (lines q)) (short q (eqb q k));
   printed = λ q. subst (All IsPrinted) (sym (lines q)) (all q (eqb q k));
   none = λ q lacks. lines q ∙ none q lacks;
-  lists = lists;
-  empty = empty;
+  nicks = nicks;
+  counted = counted;
 }
   where
     short : (q : ℕ) (b : Bool) → length (cond b ms (lines_at w q)) ≤ limit
@@ -223,7 +208,7 @@ print_kept limit w h spec is there room tags level =
     (put_at w h.0 ms)
     (subst (λ n. length ms ≤ n) is.same (last_within w.limit all))
     (All-drop IsPrinted (length all - w.limit) all (All-push IsPrinted (lines_at w h.0) (line_of w.next spec) (is.printed h.0) (line_printed w.next spec (omega arith) tags level)))
-    (there_or_none w limit h.0 ms is there) is.lists is.empty
+    (there_or_none w limit h.0 ms is there) (lists_kept w.next (w.next + 2) w.groups w.groups w.nicks (omega arith) (λ q. refl) is.nicks) is.counted
 
 -- ---- a new buffer
 
@@ -250,7 +235,7 @@ add_kept limit w spec is good room told =
     (added_rows (IsBufferKept (w.next + 4)) handle_of e w.groups new (all_grown w.next (w.next + 4) (omega arith) w.groups is.each))
     (put_at w w.next []) (omega arith) (All-nil IsPrinted)
     (λ q lacks. by q (eqb q w.next) (or_parts (has handle_of q w.groups) (has handle_of q ((e ∷ []) ∷ [])) (sym (list_any-append (in_group handle_of q) w.groups ((e ∷ []) ∷ [])) ∙ lacks)).0)
-    (λ q. listed_added w.nicks w.next q w.groups e refl (is.lists q)) (λ q. rows_inserted w.nicks w.next q (is.empty q))
+    (lists_added w.next w.next w.groups e w.nicks refl is.nicks) (count_added w.nicks w.next row_limit is.counted)
   where
     by : (q : ℕ) (b : Bool) → has handle_of q w.groups ≡ false → cond b [] (lines_at w q) ≡ []
     by q true lacks = refl
@@ -261,7 +246,7 @@ close_kept limit w h is =
     relined limit w (record w { groups = without_buffer h w.groups; lines = remove w.lines h.0; nicks = remove w.nicks h.0 }) h.0 [] is refl is.started is.ended
     (groups_taken h.0 w.groups is.groups) (taken_rows (IsBufferKept w.next) handle_of h.0 w.groups is.each)
     (removed_at w h.0) (omega arith) (All-nil IsPrinted) gone
-    (λ q. listed_closed w.nicks h q w.groups (is.lists q)) (λ q. rows_removed w.nicks h.0 q (is.empty q))
+    (lists_closed w.next h w.groups w.nicks is.nicks) (count_closed w.nicks h.0 row_limit is.counted)
   where
     by : (q : ℕ) (b : Bool) → eqb h.0 q ≡ b → has handle_of q (without_buffer h w.groups) ≡ false → cond b [] (lines_at w q) ≡ []
     by q true t lacks = refl
@@ -269,6 +254,51 @@ close_kept limit w h is =
 
     gone : (q : ℕ) → has handle_of q (without_buffer h w.groups) ≡ false → cond (eqb q h.0) [] (lines_at w q) ≡ []
     gone q lacks = let turned : eqb q h.0 ≡ eqb h.0 q = turn q h.0 in rw turned (by q (eqb h.0 q) refl lacks)
+
+-- ---- a nicklist
+
+-- other rows of a buffer that is there
+nicked : (limit : ℕ) (w : World) (h : Handle) (rows : List Row) (next : ℕ) → IsWorldKept limit w → no_buffer h w.groups ≡ None → w.next ≤ next → next ≤ 2 ^ 62 + 1 → AreRowsKept next rows
+    → row_count w + length rows ≤ row_limit + length (rows_at w h.0) → IsWorldKept limit (record (with_rows w h rows) { next = next })
+nicked limit w h rows next is there le ended new few = record {
+  same = is.same;
+  started = (let started = is.started in omega arith);
+  ended = ended;
+  groups = is.groups;
+  each = all_grown w.next next le w.groups is.each;
+  within = is.within;
+  printed = is.printed;
+  none = is.none;
+  nicks = lists_put w.next next h.0 w.groups rows w.nicks le (there_good h w.groups there) new is.nicks;
+  counted = count_put w.nicks h.0 row_limit rows few;
+}
+
+row_added : (limit : ℕ) (w : World) (h : Handle) (g : Bool) (parent : List ℕ) (item : Item) → IsWorldKept limit w → IsUtf8 item.name → adds_row w h g parent item ≡ None → IsWorldKept limit (with_row w h g parent item)
+row_added limit w h g parent item is utf8 good =
+    let may = may_add w h g parent item good in
+    let old = rows_at w h.0 in
+    let new = add_row g parent (item_with (record { 0 = w.next }) item) old in
+    let room = may.room in
+    let few : length old ≤ row_count w = rows_few w.nicks h.0 in
+    let size : length new ≡ length old + 1 = length-added g parent (item_with (record { 0 = w.next }) item) old may.free in
+    nicked limit w h new (w.next + 1) is may.there (omega arith) may.left (rows_added w.next g parent item old may.free utf8 (omega (arith, room, few)) (is.nicks.rows h.0)) (omega (arith, room, size))
+
+row_removed : (limit : ℕ) (w : World) (h : Handle) (g : Bool) (name : List ℕ) → IsWorldKept limit w → removes_row w h g name ≡ None → IsWorldKept limit (without_row w h g name)
+row_removed limit w h g name is good =
+    let may = may_edit w h (remove_refusal g name (rows_at w h.0)) good in
+    let old = rows_at w h.0 in
+    let kept = is.nicks.rows h.0 in
+    let counted = is.counted in
+    nicked limit w h (remove_row (key_at g name) old) w.next is may.there (omega arith) is.ended (rows_removed w.next g name old may.free kept) (omega (arith, counted, length-removed g name old may.free kept.held))
+
+row_changed : (limit : ℕ) (w : World) (h : Handle) (g : Bool) (item : Item) → IsWorldKept limit w → IsUtf8 item.name → changes_row w h g item ≡ None → IsWorldKept limit (with_changed_row w h (key_at g item.name) item)
+row_changed limit w h g item is utf8 good =
+    let may = may_edit w h (change_refusal g item.name (rows_at w h.0)) good in
+    let old = rows_at w h.0 in
+    let k = key_at g item.name in
+    let new = item_with (handle_in (find_row k old)) item in
+    let counted = is.counted in
+    nicked limit w h (change_row k new old) w.next is may.there (omega arith) is.ended (rows_changed w.next k item old utf8 (is.nicks.rows h.0)) (omega (arith, counted, length-change_row k new old))
 
 -- ---- any change
 
@@ -312,14 +342,49 @@ after_kept limit w h (Print line) is told good =
     print_kept limit w h line is (there_good h w.groups (accepted _ both.0)) (unspent 2 w both.1) told.0 told.1
 after_kept limit w h Clear is told good =
     relined limit w (with_lines w h []) h.0 [] is refl is.started is.ended is.groups is.each (put_at w h.0 []) (omega arith) (All-nil IsPrinted)
-    (there_or_none w limit h.0 [] is (there_good h w.groups (accepted _ good))) is.lists is.empty
+    (there_or_none w limit h.0 [] is (there_good h w.groups (accepted _ good))) is.nicks is.counted
 after_kept limit w h (Flips flips) is told good = absurd told
-after_kept limit w h (AddGroup parent item) is told good = absurd told
-after_kept limit w h (AddNick group item) is told good = absurd told
-after_kept limit w h (RemoveGroup name) is told good = absurd told
-after_kept limit w h (RemoveNick name) is told good = absurd told
-after_kept limit w h (ChangeGroup item) is told good = absurd told
-after_kept limit w h (ChangeNick item) is told good = absurd told
+after_kept limit w h (AddGroup parent item) is told good = row_added limit w h true parent item is told good
+after_kept limit w h (AddNick group item) is told good = row_added limit w h false group item is told good
+after_kept limit w h (RemoveGroup name) is told good = row_removed limit w h true name is good
+after_kept limit w h (RemoveNick name) is told good = row_removed limit w h false name is good
+after_kept limit w h (ChangeGroup item) is told good = row_changed limit w h true item is told good
+after_kept limit w h (ChangeNick item) is told good = row_changed limit w h false item is told good
+
+same_kept : (w : World) (gs : EntryGroups) (lists : Told) → ((q : ℕ) → has handle_of q gs ≡ has handle_of q w.groups) → AreListsKept w.next w.groups lists → AreListsKept w.next gs lists
+same_kept w gs lists same kept = lists_kept w.next w.next w.groups gs lists (omega arith) same kept
+
+entry_kept : (w : World) (h : Handle) (F : BufferEntry → BufferEntry) (lists : Told) → ((x : BufferEntry) → handle_of (F x) ≡ handle_of x) → AreListsKept w.next w.groups lists → AreListsKept w.next (with_entry h F w.groups) lists
+entry_kept w h F lists same kept = same_kept w (with_entry h F w.groups) lists (λ q. has-update handle_of h.0 F same q w.groups) kept
+
+-- the rows that were told keep their limits too
+pub told_kept : (limit : ℕ) (w : World) (h : Handle) (a : What) (told : Told) → IsWorldKept limit w → IsTold a → refusal_of w h a ≡ None → AreListsKept w.next w.groups told
+    → AreListsKept (after_of w h a).next (after_of w h a).groups (told_after w h a told)
+unfolding refusal_of after_of
+told_kept limit w h (Add spec) lists is told good kept = lists_added w.next w.next w.groups (new_entry (new_row w.next spec) spec.vars) lists refl kept
+told_kept limit w h Close lists is told good kept = lists_closed w.next h w.groups lists kept
+told_kept limit w h (MoveTo n) lists is told good kept = same_kept w (move_group_to h n w.groups) lists (λ q. has-move handle_of h.0 (n - 1) q w.groups) kept
+told_kept limit w h (MergeInto into) lists is told good kept =
+    let g = merge_good h into w.groups (accepted _ good) in
+    let apart = merged_apart handle_of h.0 into.0 w.groups g.0 g.2 in
+    same_kept w (merge_groups h into w.groups) lists (λ q. has-merge handle_of h.0 into.0 q w.groups g.1 apart) kept
+told_kept limit w h Unmerge lists is told good kept = same_kept w (unmerge_group h w.groups) lists (λ q. has-unmerge handle_of h.0 q w.groups) kept
+told_kept limit w h Hide lists is told good kept = entry_kept w h (with_hidden true) lists (λ x. refl) kept
+told_kept limit w h Unhide lists is told good kept = entry_kept w h (with_hidden false) lists (λ x. refl) kept
+told_kept limit w h (Rename name flips) lists is told good kept = entry_kept w h (with_full_name name) lists (λ x. refl) kept
+told_kept limit w h (ShortName name) lists is told good kept = entry_kept w h (with_short_name name) lists (λ x. refl) kept
+told_kept limit w h (Title title) lists is told good kept = entry_kept w h (with_title (cut_to 1024 title)) lists (λ x. refl) kept
+told_kept limit w h (SetVar var) lists is told good kept = entry_kept w h (with_var var.name var.value) lists (λ x. refl) kept
+told_kept limit w h (RemoveVar name) lists is told good kept = entry_kept w h (without_var name) lists (λ x. refl) kept
+told_kept limit w h (Print line) lists is told good kept = lists_kept w.next (w.next + 2) w.groups w.groups lists (omega arith) (λ q. refl) kept
+told_kept limit w h Clear lists is told good kept = kept
+told_kept limit w h (Flips flips) lists is told good kept = absurd told
+told_kept limit w h (AddGroup parent item) lists is told good kept = lists_kept w.next (w.next + 1) w.groups w.groups lists (omega arith) (λ q. refl) kept
+told_kept limit w h (AddNick group item) lists is told good kept = lists_kept w.next (w.next + 1) w.groups w.groups lists (omega arith) (λ q. refl) kept
+told_kept limit w h (RemoveGroup name) lists is told good kept = kept
+told_kept limit w h (RemoveNick name) lists is told good kept = kept
+told_kept limit w h (ChangeGroup item) lists is told good kept = kept
+told_kept limit w h (ChangeNick item) lists is told good kept = kept
 
 -- ---- the start
 
@@ -340,6 +405,10 @@ core_vars : too_many_vars core_row.full_name [] ≡ None
 unfolding too_many_vars vars_of
 core_vars = refl
 
+-- the core buffer has a nicklist without rows
+pub first_lists : AreListsKept 5 (with_buffer core_row [] []) (insert empty 1 [])
+first_lists = lists_added 1 1 [] (new_entry core_row []) empty refl (no_lists 1)
+
 pub first_kept : (limit : ℕ) → IsWorldKept limit (first_world limit)
 first_kept limit =
     let nobody : AreGroups [] = record { once = λ h. omega arith; filled = tt; few = omega arith } in
@@ -353,6 +422,6 @@ first_kept limit =
       within = λ q. subst (λ ls. length ls ≤ limit) (sym (no_lines limit q)) (omega arith);
       printed = λ q. subst (All IsPrinted) (sym (no_lines limit q)) (All-nil IsPrinted);
       none = λ q lacks. no_lines limit q;
-      lists = λ q. listed_added empty 1 q [] (new_entry core_row []) refl (ap is_some (get-empty nat_cmp q));
-      empty = λ q. rows_inserted empty 1 q (ap (λ o. unwrap_or o []) (get-empty nat_cmp q));
+      nicks = first_lists;
+      counted = count_added empty 1 row_limit (let none = none_counted in omega arith);
     }

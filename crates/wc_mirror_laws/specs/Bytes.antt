@@ -2,14 +2,13 @@
 use Rattle.std.specs.Prelude.{◌≡◌, ℕ, ◌≤◌, List}
 use Rattle.std.specs.List.{AllByRecursion, flat_map}
 use Rattle.std.specs.Str.{IsUtf8}
-use Rattle.wc_model.specs.World.{World}
 use Rattle.wc_objects.specs.declared.object.WireMessage.{WireMessage}
 use Rattle.wc_objects.specs.Spells.{Spells}
 use Rattle.wc_objects.specs.Within.{IsWithin}
 use Rattle.wc_session.specs.Sending.{spelling}
 use Rattle.wc_options.specs.Options.{OptionsValue}
 use Rattle.wc_core.specs.Events.{Event}
-use Rattle.wc_core.specs.State.{first_state}
+use Rattle.wc_core.specs.State.{State, first_state}
 use Rattle.wc_core.specs.Step.{run}
 use Rattle.wc_core.specs.Served.{messages_to, sent_to}
 use Rattle.wc_mirror_laws.specs.Held.{HeldPart, Lines, Buffers, Nicks, nothing, Has}
@@ -26,24 +25,24 @@ pub record Spell (bytes : List ℕ) (messages : List WireMessage) : Type 0 where
   pub each : AllByRecursion IsSpelt messages
   pub whole : bytes ≡ flat_map (λ m. spelling m) messages
 
--- The bytes spell messages, and a client that takes them has this part of this world.
-pub record ShowsPart (which : HeldPart) (limit : ℕ) (id bytes : List ℕ) (world : World) :
+-- The bytes spell messages, and a client that takes them has this part of this state.
+pub record ShowsPart (which : HeldPart) (limit : ℕ) (id bytes : List ℕ) (state : State) :
     Type 0 where
   pub messages : List WireMessage
   pub spell : Spell bytes messages
-  pub has : Has which (fold_all which limit id (nothing which) messages) world
+  pub has : Has which (fold_all which limit id (nothing which) messages) state
 
 -- it has the lines of each buffer
-abbrev pub Shows : ℕ → List ℕ → List ℕ → World → Type 0
-Shows limit id bytes world = ShowsPart Lines limit id bytes world
+abbrev pub Shows : ℕ → List ℕ → List ℕ → State → Type 0
+Shows limit id bytes state = ShowsPart Lines limit id bytes state
 
 -- it has the buffers in their groups
-abbrev pub ShowsBuffers : ℕ → List ℕ → List ℕ → World → Type 0
-ShowsBuffers limit id bytes world = ShowsPart Buffers limit id bytes world
+abbrev pub ShowsBuffers : ℕ → List ℕ → List ℕ → State → Type 0
+ShowsBuffers limit id bytes state = ShowsPart Buffers limit id bytes state
 
--- it has the nicklists of all buffers
-abbrev pub ShowsNicks : ℕ → List ℕ → List ℕ → World → Type 0
-ShowsNicks limit id bytes world = ShowsPart Nicks limit id bytes world
+-- it has the nicklists of all buffers, as they were told
+abbrev pub ShowsNicks : ℕ → List ℕ → List ℕ → State → Type 0
+ShowsNicks limit id bytes state = ShowsPart Nicks limit id bytes state
 
 -- Bytes spell messages in one way at most.
 abbrev pub SpellOnce : Type 0
@@ -56,7 +55,7 @@ RunSpells = (options : OptionsValue) (limit : ℕ) (commands : List (List ℕ)) 
     → Spell (sent_to link (run (first_state options limit commands) events).acts)
     (messages_to link (run (first_state options limit commands) events).acts)
 
--- Whoever settled by the dump of a part has exactly this part of the world, by all bytes that it
+-- Whoever settled by the dump of a part has exactly this part of the state, by all bytes that it
 -- was sent.
 abbrev pub PartShows : HeldPart → Type 0
 PartShows which = (options : OptionsValue) (limit : ℕ) (commands : List (List ℕ))
@@ -64,7 +63,7 @@ PartShows which = (options : OptionsValue) (limit : ℕ) (commands : List (List 
     → limit ≤ 4096 → AllByRecursion IsUtf8 commands → AllByRecursion IsShortLine events →
     SettledBy which link id (first_state options limit commands) events
     → ShowsPart which limit id (sent_to link (run (first_state options limit commands) events).acts)
-    (run (first_state options limit commands) events).state.world
+    (run (first_state options limit commands) events).state
 
 -- the lines that each buffer holds
 abbrev pub BytesShow : Type 0

@@ -2,6 +2,7 @@
 -- their groups, and the nicklists of all buffers.
 use Rattle.std.specs.Prelude.{ℕ, Bool, false, List, Option, None, Result, Ok, Err, is_none}
 use Rattle.std.specs.Prelude.{if◌then◌else◌, bytes_eq}
+use Rattle.std.specs.FinMap.{empty}
 use Rattle.wc_model.specs.World.{World}
 use Rattle.wc_objects.specs.declared.object.WireMessage.{WireMessage}
 use Rattle.wc_relaycmd.specs.declared.request.Command.{Command}
@@ -15,6 +16,9 @@ use Rattle.wc_view.specs.BufferFold.{fold_buffers}
 use Rattle.wc_view.specs.BufferViews.{HasBuffers}
 use Rattle.wc_view.specs.NickFold.{NickPart, fold_nicks}
 use Rattle.wc_view.specs.NickViews.{HasNicks}
+use Rattle.wc_board.specs.Told.{Told}
+use Rattle.wc_core.specs.State.{State}
+use Rattle.wc_mirror_laws.specs.Roots.{RootPart, fold_roots, HasRoots}
 
 pub data HeldPart : Type 0 where
   Lines : HeldPart
@@ -30,17 +34,22 @@ asks_dump Buffers _ = false
 asks_dump Nicks (ask.Nicklist buffer) = is_none buffer
 asks_dump Nicks _ = false
 
--- what a client has of a part; of nicklists also the place where a diff was refused
+-- the rows of each nicklist, or the place where a diff was refused, and the roots
+pub record NicksHeld : Type 0 where
+  pub rows : Result (Option NickPart) ℕ
+  pub roots : RootPart
+
+-- what a client has of a part
 abbrev pub HeldOf : HeldPart → Type 0
 HeldOf Lines = Option Part
 HeldOf Buffers = Option MirrorGroups
-HeldOf Nicks = Result (Option NickPart) ℕ
+HeldOf Nicks = NicksHeld
 
 -- what it has before it takes the dump
 abbrev pub nothing : (which : HeldPart) → HeldOf which
 nothing Lines = None
 nothing Buffers = None
-nothing Nicks = Ok None
+nothing Nicks = record { rows = Ok None; roots = empty }
 
 -- after a diff that was refused nothing but the dump is taken
 abbrev pub fold_unrefused : List ℕ → Result (Option NickPart) ℕ → WireMessage →
@@ -53,10 +62,23 @@ fold_unrefused id (Err place) message = if bytes_eq message.id id then fold_nick
 abbrev pub fold_one : (which : HeldPart) → ℕ → List ℕ → HeldOf which → WireMessage → HeldOf which
 fold_one Lines limit id held message = fold_lines limit id held message
 fold_one Buffers limit id held message = fold_buffers id held message
-fold_one Nicks limit id held message = fold_unrefused id held message
+fold_one Nicks limit id held message = record {
+  rows = fold_unrefused id held.rows message;
+  roots = fold_roots id held.roots message;
+}
 
--- what it has is what the world holds
-abbrev pub Has : (which : HeldPart) → HeldOf which → World → Type 0
-Has Lines held world = HasAll held world
-Has Buffers held world = HasBuffers held world
-Has Nicks held world = HasNicks held world.nicks
+-- the rows of each nicklist that were told, under the roots of their buffers; no diff was refused
+pub record HasToldNicks (held : NicksHeld) (told : Told) : Type 0 where
+  pub rows : HasNicks held.rows told
+  pub roots : HasRoots held.roots told
+
+-- What it has is what is held: the lines and the buffers of a world, and of nicklists the rows that
+-- were told.
+abbrev pub HasOf : (which : HeldPart) → HeldOf which → World → Told → Type 0
+HasOf Lines held world told = HasAll held world
+HasOf Buffers held world told = HasBuffers held world
+HasOf Nicks held world told = HasToldNicks held told
+
+-- It is what the state holds. After a tick the rows that were told are those of the world.
+abbrev pub Has : (which : HeldPart) → HeldOf which → State → Type 0
+Has which held state = HasOf which held state.world state.told

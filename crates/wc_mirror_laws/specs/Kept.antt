@@ -8,6 +8,7 @@ use Rattle.wc_session.specs.declared.sync_set.BufferSet.{BufferSet}
 use Rattle.wc_session.specs.declared.sync_set.SyncSet.{SyncSet}
 use Rattle.wc_core.specs.State.{State}
 use Rattle.wc_core.specs.Step.{client_link}
+use Rattle.wc_mirror_laws.specs.Nicks.{AreListsKept}
 use Rattle.wc_mirror_laws.specs.Worlds.{IsWorldKept}
 
 abbrev pub asks_some : SyncSet → Bool
@@ -36,8 +37,8 @@ is_first_alone link (client ∷ clients) = if client_link client == link then is
 pub record IsStateKept (limit link : ℕ) (state : State) : Type 0 where
   pub most : limit ≤ 4096
   pub world : IsWorldKept limit state.world
-  -- nothing is ever left to be pushed
-  pub told : state.told ≡ state.world.nicks
+  -- rows were told of each buffer that is there, and of no other
+  pub told : AreListsKept state.world.next state.world.groups state.told
   -- the commands of the start are text
   pub texts : AllByRecursion IsUtf8 state.commands
   pub first : is_first_alone link state.clients ≡ true

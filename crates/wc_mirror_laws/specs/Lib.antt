@@ -1,8 +1,12 @@
 pub mod Printed
+pub mod Nicks
+pub mod Roots
 pub mod Held
 pub mod Settled
 pub mod Worlds
+pub mod Changes
 pub mod Kept
 pub mod Mirrors
 pub mod Bytes
 pub mod Example
+pub mod Replies

@@ -1,17 +1,24 @@
 -- A client that settled by the dump of a part has this part of the world.
-use Rattle.std.specs.Prelude.{◌≡◌, ℕ, ◌≤◌, true, List, [], ◌∷◌, length}
+use Rattle.std.specs.Prelude.{◌≡◌, ℕ, ◌≤◌, true, List, [], ◌∷◌, length, None, IfSome}
 use Rattle.std.specs.List.{AllByRecursion}
 use Rattle.std.specs.Str.{IsUtf8}
+use Rattle.wc_text.specs.declared.names.Handle.{Handle}
+use Rattle.wc_buffers.specs.Calls.{is_there}
+use Rattle.wc_model.specs.declared.change.Change.{Change}
+use Rattle.wc_model.specs.Apply.{refusal}
 use Rattle.wc_objects.specs.declared.object.WireMessage.{WireMessage}
+use Rattle.wc_events.specs.NickObjects.{push_message, nick_dump}
+use Rattle.wc_session.specs.Sending.{fits}
 use Rattle.wc_text.specs.Splits.{BeginsWithout}
 use Rattle.wc_options.specs.Options.{OptionsValue}
-use Rattle.wc_core.specs.Events.{Event, Line}
+use Rattle.wc_core.specs.Events.{Event, Line, Tick}
 use Rattle.wc_core.specs.State.{State, Act, first_state}
-use Rattle.wc_core.specs.Step.{step, run}
+use Rattle.wc_core.specs.Step.{change_step, push_at, push_step, step, run}
 use Rattle.wc_core.specs.Served.{messages_to}
-use Rattle.wc_mirror_laws.specs.Held.{HeldPart, HeldOf, nothing, fold_one, Has, asks_dump}
-use Rattle.wc_mirror_laws.specs.Settled.{AskedFor, asked_in, client_on, is_following, has_id}
+use Rattle.wc_mirror_laws.specs.Held.{HeldPart, HeldOf, nothing, fold_one, Has}
+use Rattle.wc_mirror_laws.specs.Settled.{AskedFor, asked_in, client_on, is_following, IsFair}
 use Rattle.wc_mirror_laws.specs.Settled.{TakesDump, SettledBy}
+use Rattle.wc_mirror_laws.specs.Changes.{IsTold}
 use Rattle.wc_mirror_laws.specs.Kept.{IsStateKept}
 
 -- what a client has of a part after one message and another
@@ -40,11 +47,7 @@ Mirrors which = (options : OptionsValue) (limit : ℕ) (commands : List (List �
     SettledBy which link id (first_state options limit commands) events
     → Has which (mirror_after which limit link id (nothing which)
     (run (first_state options limit commands) events).acts)
-    (run (first_state options limit commands) events).state.world
-
--- a request has the id of the dump only where it is the dump
-abbrev pub IsFair : HeldPart → List ℕ → AskedFor → Type 0
-IsFair which id asked = has_id id asked ≡ true → asks_dump which asked.request.command ≡ true
+    (run (first_state options limit commands) events).state
 
 -- One event: a client that had the part, and that is open and follows all events afterwards, has it
 -- still.
@@ -53,9 +56,9 @@ StepMirrors which = (limit link : ℕ) (id : List ℕ) (state : State) (event : 
     (part : HeldOf which)
     → IsStateKept limit link state → BeginsWithout 95 id → IsShortLine event →
     AllByRecursion (IsFair which id) (asked_in link state event)
-    → is_following (client_on link (step state event).state) ≡ true → Has which part state.world
+    → is_following (client_on link (step state event).state) ≡ true → Has which part state
     → Has which (mirror_after which limit link id part (step state event).acts)
-    (step state event).state.world
+    (step state event).state
 
 -- The dump: a client has the part after it, whatever it had.
 abbrev pub DumpMirrors : HeldPart → Type 0
@@ -65,7 +68,7 @@ DumpMirrors which = (limit link : ℕ) (id : List ℕ) (state : State) (event : 
     TakesDump which id dump
     → is_following (client_on link (step state event).state) ≡ true
     → Has which (mirror_after which limit link id part (step state event).acts)
-    (step state event).state.world
+    (step state event).state
 
 -- What always holds of the core does so after each event, and it holds after all events from the
 -- start.
@@ -77,3 +80,46 @@ abbrev pub RunKeeps : Type 0
 RunKeeps = (options : OptionsValue) (limit : ℕ) (commands : List (List ℕ)) (events : List Event)
     (link : ℕ) → limit ≤ 4096 → AllByRecursion IsUtf8 commands →
     IsStateKept limit link (run (first_state options limit commands) events).state
+
+-- The same of an accepted change of any kind, be it of a nicklist, and whoever asked for it.
+abbrev pub ChangeKeeps : Type 0
+ChangeKeeps = (limit link : ℕ) (state : State) (change : Change) → IsStateKept limit link state →
+    IsTold change.what → refusal state.world change ≡ None →
+    IsStateKept limit link (change_step state change).state
+
+-- A client that follows all events and had the part has it after the change: of a nicklist it keeps
+-- the rows that were told.
+abbrev pub ChangeMirrors : HeldPart → Type 0
+ChangeMirrors which = (limit link : ℕ) (id : List ℕ) (state : State) (change : Change)
+    (part : HeldOf which)
+    → IsStateKept limit link state → BeginsWithout 95 id → IsTold change.what →
+    refusal state.world change ≡ None → is_following (client_on link state) ≡ true →
+    Has which part state
+    → Has which (mirror_after which limit link id part (change_step state change).acts)
+    (change_step state change).state
+
+-- The same of pushes: of each nicklist it then has the rows of now.
+abbrev pub PushKeeps : Type 0
+PushKeeps = (limit link : ℕ) (state : State) → IsStateKept limit link state →
+    IsStateKept limit link (push_step state).state
+
+abbrev pub PushMirrors : HeldPart → Type 0
+PushMirrors which = (limit link : ℕ) (id : List ℕ) (state : State) (part : HeldOf which)
+    → IsStateKept limit link state → BeginsWithout 95 id →
+    is_following (client_on link state) ≡ true → Has which part state
+    → Has which (mirror_after which limit link id part (push_step state).acts)
+    (push_step state).state
+
+-- At a tick all rows are told.
+abbrev pub TickTells : Type 0
+TickTells = (state : State) (moment : ℕ) →
+    (step state (Tick moment)).state.told ≡ (step state (Tick moment)).state.world.nicks
+
+-- No push of a buffer that is there is too long for a message, and no list of all nicklists under an
+-- id that a line can hold.
+abbrev pub ListsFit : Type 0
+ListsFit = (limit link : ℕ) (state : State) → IsStateKept limit link state
+    → ((buffer : Handle) → is_there buffer state.world.groups ≡ true →
+    IfSome (push_message buffer (push_at state buffer.0)) (λ m. fits m ≡ true))
+    × ((id : List ℕ) → length id ≤ 65536 →
+    fits (record { id = id; objects = nick_dump state.world }) ≡ true)

@@ -60,9 +60,13 @@ pub record TakesDump (which : HeldPart) (id : List ℕ) (asked : AskedFor) : Typ
   pub dump : asks_dump which asked.request.command ≡ true
   pub under : asked.request.id ≡ id
 
--- A client that follows all events took the dump of a part under an id that no other of its
--- requests has. It followed them at each request from then on, and it follows them still and is
--- open at the end.
+-- a request has the id of the dump only where it is the dump
+abbrev pub IsFair : HeldPart → List ℕ → AskedFor → Type 0
+IsFair which id asked = has_id id asked ≡ true → asks_dump which asked.request.command ≡ true
+
+-- A client that follows all events took the dump of a part. From then on it used the id of the dump
+-- for nothing else, but it may have taken the dump again. It followed all events at each request
+-- from the dump on, and it follows them still and is open at the end.
 pub record SettledBy (which : HeldPart) (link : ℕ) (id : List ℕ) (state : State)
     (events : List Event) : Type 0 where
   pub before : List AskedFor
@@ -70,7 +74,7 @@ pub record SettledBy (which : HeldPart) (link : ℕ) (id : List ℕ) (state : St
   pub following : List AskedFor
   pub asked : asked_on link state events ≡ before ++ dump ∷ following
   pub takes : TakesDump which id dump
-  pub alone : AllByRecursion (λ other. has_id id other ≡ false) (before ++ following)
+  pub fair : AllByRecursion (IsFair which id) following
   pub follows : AllByRecursion (λ asked. follows_all asked.client ≡ true) (dump ∷ following)
   pub still : is_following (client_on link (run state events).state) ≡ true
 

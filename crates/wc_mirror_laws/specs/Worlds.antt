@@ -1,6 +1,5 @@
 -- What always holds of the world of the core.
-use Rattle.std.specs.Prelude.{◌≡◌, ℕ, ◌+◌, ◌<◌, ◌≤◌, ◌^◌, false, [], length, All, is_some}
-use Rattle.std.specs.FinMap.{get}
+use Rattle.std.specs.Prelude.{◌≡◌, ℕ, ◌+◌, ◌<◌, ◌≤◌, ◌^◌, false, [], length, All}
 use Rattle.std.specs.List.{AllByRecursion}
 use Rattle.wc_text.specs.declared.names.Pair.{Pair}
 use Rattle.wc_buffers.specs.declared.row.BufferEntry.{BufferEntry}
@@ -8,7 +7,8 @@ use Rattle.wc_buffers.specs.Calls.{handle_of}
 use Rattle.wc_buffers.specs.Groups.{rows, has}
 use Rattle.wc_buffers.specs.Kept.{IsBuffer, handles}
 use Rattle.wc_buffers.specs.Table.{AreGroups}
-use Rattle.wc_model.specs.World.{World, lines_at, rows_at}
+use Rattle.wc_model.specs.World.{World, lines_at, row_count, row_limit}
+use Rattle.wc_mirror_laws.specs.Nicks.{AreListsKept}
 use Rattle.wc_mirror_laws.specs.Printed.{IsPrinted}
 
 -- a variable with a short name
@@ -24,10 +24,6 @@ pub record IsBufferKept (next : ℕ) (e : BufferEntry) : Type 0 where
   pub own : e.row.own_lines.0 < next
   pub mixed : e.row.mixed_lines.0 < next
 
--- no buffer has rows in its nicklist
-abbrev pub NoRows : World → Type 0
-NoRows world = (buffer : ℕ) → rows_at world buffer ≡ []
-
 pub record IsWorldKept (limit : ℕ) (world : World) : Type 0 where
   pub same : world.limit ≡ limit
   pub started : 0 < world.next
@@ -39,6 +35,6 @@ pub record IsWorldKept (limit : ℕ) (world : World) : Type 0 where
   pub printed : (h : ℕ) → All IsPrinted (lines_at world h)
   -- a buffer that is not there has no lines
   pub none : (h : ℕ) → has handle_of h world.groups ≡ false → lines_at world h ≡ []
-  -- each buffer that is there has a nicklist, nothing else has, and no command puts a row in
-  pub lists : (h : ℕ) → is_some (get world.nicks h) ≡ has handle_of h world.groups
-  pub empty : NoRows world
+  -- so have the nicklists of all buffers together
+  pub nicks : AreListsKept world.next world.groups world.nicks
+  pub counted : row_count world ≤ row_limit

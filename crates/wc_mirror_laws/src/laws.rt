@@ -6,7 +6,9 @@ ghost use Rattle.wc_mirror_laws.specs.Example.{ThreeLinesSettle, ThreeLinesSettl
 ghost use Rattle.wc_mirror_laws.specs.Example.{ThreeLinesSettleNicks};
 ghost use Rattle.wc_mirror_laws.specs.Held.{Lines, Buffers, Nicks};
 ghost use Rattle.wc_mirror_laws.specs.Mirrors.{Mirrors, StepMirrors, DumpMirrors, StepKeeps};
-ghost use Rattle.wc_mirror_laws.specs.Mirrors.{RunKeeps};
+ghost use Rattle.wc_mirror_laws.specs.Mirrors.{RunKeeps, ChangeKeeps, ChangeMirrors, PushKeeps};
+ghost use Rattle.wc_mirror_laws.specs.Mirrors.{PushMirrors, TickTells, ListsFit};
+ghost use Rattle.wc_mirror_laws.specs.Replies.{GetsOneReply};
 
 /// A client that settled has exactly the lines of each buffer after any events, and none of a
 /// buffer that is not there, by the messages that it was sent.
@@ -21,7 +23,8 @@ pub fn settled_client_has_buffers()
 {}
 
 /// A client that settled by the nicklists has exactly the nicklist of each buffer after any events,
-/// by the messages that it was sent, and no diff that it was sent is refused.
+/// as it was last told, under the root of the buffer, by the messages that it was sent, and no diff
+/// that it was sent is refused.
 pub fn settled_client_has_nicks()
     ensures { Mirrors Nicks }
 {}
@@ -69,6 +72,25 @@ pub fn event_keeps_nicks()
 pub fn core_keeps()
     ensures event { StepKeeps }
     ensures run { RunKeeps }
+    ensures change { ChangeKeeps }
+    ensures push { PushKeeps }
+{}
+
+/// A client that has a part has it still after any change that is told, of a nicklist too.
+pub fn change_keeps_parts()
+    ensures lines { ChangeMirrors Lines }
+    ensures buffers { ChangeMirrors Buffers }
+    ensures nicks { ChangeMirrors Nicks }
+{}
+
+/// A client that has a part has it still after pushes, and of nicklists the rows of now, as at each
+/// tick. No push is too long to be sent, nor is the list of all nicklists.
+pub fn push_keeps_parts()
+    ensures lines { PushMirrors Lines }
+    ensures buffers { PushMirrors Buffers }
+    ensures nicks { PushMirrors Nicks }
+    ensures tick { TickTells }
+    ensures fits { ListsFit }
 {}
 
 /// A client that logs in, asks for all events and takes the dump of a part has settled by it.
@@ -76,4 +98,9 @@ pub fn three_lines_settle()
     ensures lines { ThreeLinesSettle }
     ensures buffers { ThreeLinesSettleBuffers }
     ensures nicks { ThreeLinesSettleNicks }
+{}
+
+/// Each request that is served and has a reply gets exactly one, and no other gets any.
+pub fn each_request_gets_one_reply()
+    ensures { GetsOneReply }
 {}

@@ -1,6 +1,6 @@
 use Rattle.std.proofs.Common.{is_some, sym, ◌∙◌, arith}
 use Rattle.wc_loop.specs.Endings.{number_of, status_of, is_unsaved}
-use Rattle.wc_loop.proofs.OutcomeLemmas.{IsNumber-runs, Common-runs, Waits-runs, IfSome-headline, IfSome-agrees, IfSome-calm, IfSome-causes, printed-by}
+use Rattle.wc_loop.proofs.OutcomeLemmas.{IsNumber-runs, StatusOf-runs, Common-runs, Waits-runs, IfSome-headline, IfSome-agrees, IfSome-calm, IfSome-causes, printed-by}
 use Rattle.wc_loop.proofs.MirrorLemmas.{ClientsHoldDumps-last}
 use Rattle.wc_loop.proofs.WordsLemmas.{commands_texts}
 use Rattle.wc_loop.proofs.program.run_program.Goals as goal
@@ -77,3 +77,9 @@ returns-clause-asked g c = λ seven.
 pub returns-clause-kept : goal.returns-clause-kept
 returns-clause-kept g c = λ three seven.
     rw c.end.ensures.last (c.run_words-outcome.ensures.kept (λ q. three (c.end.ensures.status seven ∙ q)))
+
+pub returns-clause-status : goal.returns-clause-status
+returns-clause-status g c = λ seven.
+    let seen = g.S.Sockets.seen in
+    let runs = rw c.as_slice.ensures.value at c.run_words-outcome.ensures.runs in
+    rw (c.end.ensures.status seven, c.end.ensures.last) (StatusOf-runs _ _ _ _ _ (seen c.args.sockets.now) (seen c.run_words-outcome.new.sockets) _ _ runs)

@@ -1,3 +1,5 @@
+use Rattle.wc_mirror_laws.proofs.ChangeLemmas.{change_keeps}
+use Rattle.wc_mirror_laws.proofs.PushLemmas.{push_keeps}
 use Rattle.wc_mirror_laws.proofs.StepLemmas.{step_keeps}
 use Rattle.wc_mirror_laws.proofs.RunLemmas.{run_keeps}
 use Rattle.wc_mirror_laws.proofs.laws.core_keeps.Goals as goal
@@ -7,3 +9,9 @@ returns-clause-event c = λ limit link state event kept. step_keeps limit link s
 
 pub returns-clause-run : goal.returns-clause-run
 returns-clause-run c = λ options limit commands events link most texts. run_keeps options limit commands events link most texts
+
+pub returns-clause-change : goal.returns-clause-change
+returns-clause-change c = λ limit link state change kept told good. change_keeps limit link state change kept told good
+
+pub returns-clause-push : goal.returns-clause-push
+returns-clause-push c = λ limit link state kept. push_keeps limit link state kept
