@@ -10,9 +10,14 @@ pub mod MergedLemmas
 pub mod TargetLemmas
 pub mod ActLemmas
 pub mod StartLemmas
-pub mod ServerActLemmas
+pub mod TalkLemmas
+pub mod ReadyLemmas
 pub mod StateLemmas
 pub mod TriedLemmas
 pub mod OneChannelLemmas
+pub mod ChannelLawLemmas
 pub mod JoinLemmas
 pub mod MessageTextLemmas
+pub mod ModeLemmas
+pub mod ComerLemmas
+pub mod UserLemmas

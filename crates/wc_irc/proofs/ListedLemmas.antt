@@ -1,10 +1,9 @@
 -- How names are cut into signs and a nick.
 use Rattle.std.proofs.Common.{◌≡◌, ℕ, suc, ◌+◌, ◌-◌, ◌<◌, Bool, true, false, cond, List, [], ◌∷◌, length, Option, Some, None, option_map, refl, ap, sym, ◌∙◌, arith}
-use Rattle.std.specs.Prelude.{◌||◌, ◌==◌, bytes_eq, slice_index_or}
-use Rattle.std.specs.Int.{bit_at}
+use Rattle.std.specs.Prelude.{bytes_eq, slice_index_or}
 use Rattle.std.specs.List.{concat, onto_first}
-use Rattle.std.proofs.lemmas.Nat.Bits.{bit_at-zero}
-use Rattle.wc_irc.specs.Listed.{place_among, one_more, past_sign, front_signs, after_signs, has_place}
+use Rattle.wc_irc.specs.Listed.{place_among, one_more, past_sign, front_signs, after_signs, bits_of}
+use Rattle.wc_irc.specs.ModeBits.{bits_changed}
 use Rattle.wc_irc.specs.ListedSeen.{HasNoSign, HasSign}
 use Rattle.wc_irc.specs.Texts.{char_texts, begins_inside}
 use Rattle.wc_irc.specs.TextsSeen.{first_char, after_char}
@@ -71,32 +70,14 @@ one_sign signs name character others place some first rest found =
       shorter = omega (arith, ap (λ (l : List ℕ). length l) rest, after_char-shorter name some);
     }
 
--- ---- the bits of the places
+-- ---- the modes of the places
 
-pub no_bits : (places : List ℕ) (place : ℕ) → ((bit_at 0 place == 1) || has_place place places) ≡ has_place place places
-no_bits places place = ap (λ n. (n == 1) || has_place place places) (bit_at-zero place)
+-- one more place, and then none
+pub bits_step : (bits : ℕ) (places others : List ℕ) (place all : ℕ) → places ≡ place ∷ others → bits_of bits places ≡ all → bits_of (bits_changed true place bits) others ≡ all
+bits_step bits places others place all first before = sym (ap (bits_of bits) first) ∙ before
 
-swap : (a b c : Bool) → ((a || b) || c) ≡ (b || (a || c))
-swap true true c = refl
-swap true false c = refl
-swap false true c = refl
-swap false false c = refl
-
--- one more place
-pub bits_step : (old new : ℕ) (places others all : List ℕ) (place other : ℕ) → (bit_at new other == 1) ≡ ((place == other) || (bit_at old other == 1)) → places ≡ place ∷ others
-    → ((bit_at old other == 1) || has_place other places) ≡ has_place other all → ((bit_at new other == 1) || has_place other others) ≡ has_place other all
-bits_step old new places others all place other more first before =
-    ap (λ t. t || has_place other others) more ∙ swap (place == other) (bit_at old other == 1) (has_place other others)
-    ∙ sym (ap (λ (l : List ℕ). (bit_at old other == 1) || has_place other l) first) ∙ before
-
-or_none : (t : Bool) → (t || false) ≡ t
-or_none true = refl
-or_none false = refl
-
--- no more place
-pub bits_end : (bits : ℕ) (places all : List ℕ) (other : ℕ) → places ≡ [] → ((bit_at bits other == 1) || has_place other places) ≡ has_place other all → (bit_at bits other == 1) ≡ has_place other all
-bits_end bits places all other none before =
-    sym (or_none (bit_at bits other == 1)) ∙ sym (ap (λ (l : List ℕ). (bit_at bits other == 1) || has_place other l) none) ∙ before
+pub bits_end : (bits : ℕ) (places : List ℕ) (all : ℕ) → places ≡ [] → bits_of bits places ≡ all → bits ≡ all
+bits_end bits places all none before = sym (ap (bits_of bits) none) ∙ before
 
 -- ---- a character among signs, one sign on
 

@@ -1,8 +1,9 @@
 -- What the calls of a list make of it.
 use Rattle.std.proofs.Common.{◌≡◌, ◌≢◌, ℕ, zero, suc, ◌+◌, ◌/◌, ◌≤◌, ◌<◌, Bool, true, false, cond, List, [], ◌∷◌, ◌++◌, length, get_or, set, map, Option, Some, None, option_map, refl, ap, sym, ◌∙◌, subst, arith, inl, inr, ◌⊎◌, length-append}
-use Rattle.std.specs.Prelude.{not, ◌||◌, find, bytes_eq, is_some, slice_set}
+use Rattle.std.specs.Prelude.{not, ◌||◌, find, bytes_eq, is_some, nat_le, slice_set}
 use Rattle.std.specs.Cmp.Lexicographic.{bytes_decides}
 use Rattle.std.proofs.lemmas.Bool.{cases_lt, false≢true}
+use Rattle.std.proofs.lemmas.Bool.Decides.{nat_tests}
 use Rattle.std.proofs.lemmas.List.{get_or_past, get_or_append_left, get_or_push, get_or_default, length-map, length-set}
 use Rattle.std.proofs.lemmas.Option.{same_Some, none-some}
 use Rattle.wc_ircmsg.specs.declared.case_map.CaseMap.{CaseMap}
@@ -172,6 +173,13 @@ pub kept_apart : (case_map : CaseMap) (ps : List (Option Seat)) (f : List ℕ �
 kept_apart case_map ps f kept = apart_by case_map ps (λ n m s t at there same.
     let keys = (bytes_decides (folded_name case_map s.nick) (folded_name case_map t.nick)).0 same in
     same_Some n m (sym (kept.complete n s at) ∙ ap f keys ∙ kept.complete m t there))
+
+-- a nick that has a place is no longer than a key may be
+pub short_placed : (case_map : CaseMap) (f : List ℕ → Option ℕ) (nick : List ℕ) (n : ℕ) → place_in case_map f nick ≡ Some n → length nick ≤ 64
+short_placed case_map f nick n found = by (nat_le (length nick) 64) refl found where
+  by : (t : Bool) → nat_le (length nick) 64 ≡ t → cond t (f (folded_name case_map nick)) None ≡ Some n → length nick ≤ 64
+  by true e found = grind (arith, nat_tests)
+  by false e found = absurd (none-some n found)
 
 -- ---- which names may be given
 

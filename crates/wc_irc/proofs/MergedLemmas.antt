@@ -5,10 +5,14 @@ use Rattle.std.specs.Cmp.Lexicographic.{bytes_decides}
 use Rattle.std.proofs.lemmas.Bool.{false≢true}
 use Rattle.wc_ircmsg.specs.declared.case_map.CaseMap.{CaseMap}
 use Rattle.wc_ircmsg.specs.CaseMaps.{folded_name}
+use Rattle.std.specs.Borrow.{Bor}
+use Rattle.std.specs.Option.{option_copied}
+use Rattle.wc_irc.specs.declared.overlay.FoundNick.{FoundNick}
 use Rattle.wc_irc.specs.declared.seat.ModeSet.{ModeSet}
 use Rattle.wc_irc.specs.declared.seat.Seat.{Seat}
 use Rattle.wc_irc.specs.Kept.{under_modes}
 use Rattle.wc_irc.specs.Merged.{over, put_seat, merged}
+use Rattle.wc_irc.specs.MergedSeen.{seat_in}
 use Rattle.wc_irc.specs.Seats.{is_named, seat_of, has_seat, with_modes, AreApart}
 use Rattle.wc_irc.proofs.KeptLemmas.{same_bytes}
 
@@ -264,3 +268,13 @@ merged_put case_map nick modes changed seats apart = by (has_seat case_map nick 
       merged_modes case_map nick modes changed seats apart e
       ∙ sym (ap (λ t. cond t (with_modes case_map nick modes (merged case_map changed seats)) (merged case_map changed seats ++ record { nick = nick; modes = modes } ∷ [])) there)
   by false e = merged_append case_map (record { nick = nick; modes = modes }) changed seats
+
+-- a nick that is lent is there
+pub lent_there : (o : Option Seat) (r : Option FoundNick) → option_map seat_in r ≡ o → is_some r ≡ true → is_some o ≡ true
+lent_there None None e some = some
+lent_there None (Some r) e some = absurd (cc)
+lent_there (Some s) r e some = refl
+
+pub copied_there : (r : Option (Bor Seat)) → is_some (option_copied r) ≡ true → is_some r ≡ true
+copied_there None some = some
+copied_there (Some s) some = refl

@@ -23,7 +23,7 @@ shown_channel case_map name (c ∷ channels) = by (is_same case_map name c.name)
 
 -- ---- what comes onto a list
 
-short_nick : (prefixes : Prefixes) (nick : List ℕ) → is_nick prefixes nick ≡ true → length nick ≤ 64
+pub short_nick : (prefixes : Prefixes) (nick : List ℕ) → is_nick prefixes nick ≡ true → length nick ≤ 64
 unfolding is_nick
 short_nick prefixes nick is = grind (arith, nat_tests)
 

@@ -106,7 +106,7 @@ one_line_made (b ∷ text) = by (not (ends_lines b)) refl (one_line_made text) w
 
 -- ---- what a JOIN may have
 
-bare_line : (text : List ℕ) → is_bare text ≡ true → is_one_line text ≡ true
+pub bare_line : (text : List ℕ) → is_bare text ≡ true → is_one_line text ≡ true
 bare_line [] bare = refl
 bare_line (b ∷ text) bare = let both = and_parts (bare_byte b) (is_bare text) bare in and_from (not (ends_lines b)) (is_one_line text) (plain (b == 32) (ends_lines b) both.0) (bare_line text both.1) where
   plain : (t u : Bool) → not (t || u) ≡ true → not u ≡ true
@@ -121,7 +121,7 @@ bare_blanks (b ∷ text) bare = let both = and_parts (bare_byte b) (is_bare text
       first true u bare = absurd (cc)
       first false u bare = refl
 
-no_colon : (b : ℕ) (channel : List ℕ) → (b == 58) ≡ false → is_bare (b ∷ channel) ≡ true → not (needs_colon (b ∷ channel)) ≡ true
+pub no_colon : (b : ℕ) (channel : List ℕ) → (b == 58) ≡ false → is_bare (b ∷ channel) ≡ true → not (needs_colon (b ∷ channel)) ≡ true
 no_colon b channel other bare = ap (λ t. not (t || list_any (λ c. c == 32) (b ∷ channel))) other ∙ ap not (bare_blanks (b ∷ channel) bare)
 
 writable : (b : ℕ) (channel key : List ℕ) → (b == 58) ≡ false → is_bare (b ∷ channel) ≡ true → is_bare key ≡ true → IsWritable (message (codes "JOIN") (join_params (b ∷ channel) key))

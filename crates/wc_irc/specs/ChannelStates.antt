@@ -6,8 +6,8 @@ use Rattle.wc_ircmsg.specs.declared.prefixes.Prefixes.{Prefixes}
 use Rattle.wc_irc.specs.declared.seat.ModeSet.{ModeSet}
 use Rattle.wc_irc.specs.Channels.{Joined, without_nick}
 use Rattle.wc_irc.specs.Names.{is_nick, is_same}
-use Rattle.wc_irc.specs.Seats.{has_seat}
-use Rattle.wc_irc.specs.Servers.{ServerState, is_own}
+use Rattle.wc_irc.specs.Seats.{has_seat, without_seat, with_name}
+use Rattle.wc_irc.specs.Servers.{ServerState, is_own, own_nick_from}
 
 -- ---- one of the channels, by its name
 
@@ -73,3 +73,23 @@ after_leave s nick name = if is_own s nick then leave_one s name
 
 abbrev pub quit_by : ServerState → List ℕ → ServerState
 quit_by s nick = record s { channels = map (without_nick nick) s.channels }
+
+-- ---- NICK: a nick keeps its place under its other name, or goes where it may not have that
+
+abbrev pub may_have : Prefixes → List ℕ → List ℕ → Joined → Bool
+may_have prefixes old new channel = is_nick prefixes new
+    && not (has_seat channel.case_map new (without_seat channel.case_map old channel.seats))
+
+abbrev pub renamed : Prefixes → List ℕ → List ℕ → Joined → Joined
+renamed prefixes old new channel = if may_have prefixes old new channel
+    then record channel { seats = with_name channel.case_map old new channel.seats }
+    else without_nick old channel
+
+abbrev pub own_after : ServerState → List ℕ → List ℕ → List ℕ
+own_after s old new = if is_own s old then own_nick_from s new else s.nick
+
+abbrev pub after_nick : ServerState → List ℕ → List ℕ → ServerState
+after_nick s old new = record s {
+  nick = own_after s old new;
+  channels = map (renamed s.features.prefixes old new) s.channels;
+}

@@ -1,9 +1,9 @@
 -- Names as 353 lists them: signs, of which none need be, and after them a nick.
-use Rattle.std.specs.Prelude.{◌≡◌, ℕ, suc, ◌<◌, Bool, ◌==◌, List, [], ◌∷◌}
+use Rattle.std.specs.Prelude.{ℕ, suc, true, List, [], ◌∷◌}
 use Rattle.std.specs.Prelude.{Option, Some, None, option_map, bytes_eq, if◌then◌else◌}
-use Rattle.std.specs.List.{concat, list_any}
-use Rattle.std.specs.Int.{bit_at}
+use Rattle.std.specs.List.{concat}
 use Rattle.wc_ircmsg.specs.declared.prefixes.Prefixes.{Prefixes}
+use Rattle.wc_irc.specs.ModeBits.{bits_changed}
 use Rattle.wc_irc.specs.Texts.{char_texts}
 
 abbrev pub signs_of : Prefixes → List (List ℕ)
@@ -41,9 +41,10 @@ listed_nick prefixes name = concat (after_signs (signs_of prefixes) (char_texts 
 abbrev pub listed_places : Prefixes → List ℕ → List ℕ
 listed_places prefixes name = front_signs (signs_of prefixes) (char_texts name)
 
-abbrev pub has_place : ℕ → List ℕ → Bool
-has_place place places = list_any (λ other. other == place) places
+-- the modes of those places, one after another
+abbrev pub bits_of : ℕ → List ℕ → ℕ
+bits_of bits [] = bits
+bits_of bits (place ∷ places) = bits_of (bits_changed true place bits) places
 
--- the bits that are set are those of the places
-abbrev pub AreBitsOf : ℕ → List ℕ → Type 0
-AreBitsOf bits places = (place : ℕ) → place < 64 → (bit_at bits place == 1) ≡ has_place place places
+abbrev pub listed_bits : Prefixes → List ℕ → ℕ
+listed_bits prefixes name = bits_of 0 (listed_places prefixes name)

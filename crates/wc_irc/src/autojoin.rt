@@ -104,7 +104,7 @@ fn put_joins(
 }
 
 /// The first two words of a text.
-fn first_words(text: &[u8]) -> (&[u8], &[u8])
+pub(crate) fn first_words(text: &[u8]) -> (&[u8], &[u8])
     requires { is_one_line text.now ≡ true }
     ensures first { result.0.now ≡ first_word text.now }
     ensures second { result.1.now ≡ second_word text.now }

@@ -2,7 +2,7 @@ ghost use Rattle.std.specs.Prelude.{◌≡◌, map, position, OnOk, OnErr};
 ghost use Rattle.std.specs.Option.{option_copied};
 ghost use Rattle.wc_irc.specs.Channels.{joined, channel_of, after_quit, LeavesOthers};
 ghost use Rattle.wc_irc.specs.Channels.{is_channel_named, Joined};
-ghost use Rattle.wc_irc.specs.ChannelStates.{comes_in, with_nick};
+ghost use Rattle.wc_irc.specs.ChannelStates.{comes_in, with_nick, may_have};
 
 use crate::members::{Members, NewNick};
 use crate::names::{is_nick, is_same};
@@ -52,6 +52,13 @@ impl Channel {
         self.nicks.reserve(1)?;
         self.nicks.push(new, ModeSet::NONE);
         Ok(())
+    }
+
+    /// Whether a nick may get another name: that is a nick, and no other one of the list has it.
+    pub(crate) fn may_have(&self, prefixes: &Prefixes, old: &[u8], new: &[u8]) -> bool
+        ensures { result ≡ may_have prefixes.now old.now new.now (joined self.now) }
+    {
+        is_nick(prefixes, new) && self.nicks.may_rename(old, new)
     }
 }
 

@@ -12,7 +12,7 @@ use wc_text::{NoMemory, Text};
 
 impl State {
     /// The place of the joined channel of a name.
-    fn place_of(&self, name: &[u8]) -> Option<usize>
+    pub(crate) fn place_of(&self, name: &[u8]) -> Option<usize>
         ensures { result ≡ position (is_channel_named self.now.features.case_map name.now)
             self.now.channels.items }
     {

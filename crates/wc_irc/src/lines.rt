@@ -67,7 +67,7 @@ pub(crate) fn printed(
     said(alloc, buffer, tags, prefix, text, false)
 }
 
-fn put_tag(tags: &mut Items<Text>, alloc: Global, tag: &[u8]) -> Result<(), NoMemory>
+pub(crate) fn put_tag(tags: &mut Items<Text>, alloc: Global, tag: &[u8]) -> Result<(), NoMemory>
     ensures { OnOk result (tags.new ≡ tags.old ++ tag.now ∷ []) }
 {
     tags.push(Text::from_slice(alloc, tag)?)
@@ -82,13 +82,21 @@ pub(crate) fn one_tag(alloc: Global, tag: &[u8]) -> Result<Items<Text>, NoMemory
     Ok(tags)
 }
 
-fn put_nick_tag(tags: &mut Items<Text>, alloc: Global, nick: &[u8]) -> Result<(), NoMemory>
+pub(crate) fn put_nick_tag(
+    tags: &mut Items<Text>,
+    alloc: Global,
+    nick: &[u8],
+) -> Result<(), NoMemory>
     ensures { OnOk result (tags.new ≡ tags.old ++ nick_tag nick.now ∷ []) }
 {
     tags.push(joined(alloc, &[b"nick_", nick])?)
 }
 
-fn put_host_tag(tags: &mut Items<Text>, alloc: Global, m: &Message) -> Result<(), NoMemory>
+pub(crate) fn put_host_tag(
+    tags: &mut Items<Text>,
+    alloc: Global,
+    m: &Message,
+) -> Result<(), NoMemory>
     ensures { OnOk result (tags.new ≡ tags.old ++ host_tag m.now ∷ []) }
 {
     let user = m.user.as_slice();

@@ -1,15 +1,11 @@
-ghost use Rattle.std.specs.Int.{bit_at};
-ghost use Rattle.std.specs.Prelude.{◌≡◌, ◌<◌, ◌==◌, ◌||◌, ℕ};
-ghost use Rattle.wc_irc.specs.Listed.{place_among, listed_nick, listed_places, AreBitsOf};
+ghost use Rattle.std.specs.Prelude.{◌≡◌};
+ghost use Rattle.wc_irc.specs.Listed.{place_among, listed_nick, listed_bits};
 ghost use Rattle.wc_irc.specs.ListedSeen.{IsCut};
 ghost use Rattle.wc_irc.specs.Texts.{char_texts};
 
 use crate::names::cut_char;
 use crate::seat::ModeSet;
 use wc_ircmsg::Prefixes;
-
-/// The most modes that PREFIX has.
-const MOST_MODES: usize = 64;
 
 /// A name as a list of names has it, with the modes that its signs are.
 #[derive(Clone, Copy)]
@@ -49,28 +45,16 @@ fn cut_sign<'a>(signs: &[u8], name: &'a [u8]) -> Option<(usize, &'a [u8])>
     }
 }
 
-/// The mode of a place with others, where there is room for it.
-fn with_place(modes: ModeSet, place: usize) -> ModeSet
-    ensures { (other : ℕ) → other < 64 → (bit_at result.0 other == 1)
-        ≡ ((place == other) || (bit_at modes.0 other == 1)) }
-{
-    if place < MOST_MODES {
-        modes.with(place)
-    } else {
-        modes
-    }
-}
-
 /// The nick of a name and the modes that its signs are. The signs are the characters of PREFIX that
 /// are at the front of the name.
 pub fn listed_name<'a>(prefixes: &Prefixes, name: &'a [u8]) -> ListedName<'a>
     ensures nick { result.nick.now ≡ listed_nick prefixes.now name.now }
-    ensures modes { AreBitsOf result.modes.0 (listed_places prefixes.now name.now) }
+    ensures modes { result.modes.0 ≡ listed_bits prefixes.now name.now }
 {
     let mut nick = name;
     let mut modes = ModeSet::NONE;
     while let Some((place, others)) = cut_sign(prefixes.chars.as_slice(), nick) {
-        modes = with_place(modes, place);
+        modes = modes.changed(true, place);
         nick = others;
     }
     ListedName { nick, modes }

@@ -1,4 +1,5 @@
-ghost use Rattle.std.specs.Prelude.{◌≡◌, ◌≤◌, ◌+◌, ◌++◌, ◌∷◌, [], true, false, not, length, IfOk, OnOk};
+ghost use Rattle.std.specs.Prelude.{◌≡◌, ◌≤◌, ◌+◌, ◌++◌, ◌∷◌, [], true, false, not, length, IsTrue, is_some};
+ghost use Rattle.std.specs.Prelude.{IfOk, OnOk};
 ghost use Rattle.std.specs.Option.{option_copied};
 ghost use Rattle.wc_ircmsg.specs.CaseMaps.{folded_name};
 ghost use Rattle.wc_irc.specs.Kept.{with_seats};
@@ -37,6 +38,12 @@ impl Model for NewNick {
 }
 
 impl NewNick {
+    pub(crate) fn nick(&self) -> &[u8]
+        ensures { result.now ≡ self.now.nick }
+    {
+        self.nick.as_slice()
+    }
+
     /// A nick for a list that goes by this case map.
     pub fn new(alloc: Global, case_map: CaseMap, nick: &[u8]) -> Result<NewNick, NoMemory>
         ensures { IfOk result (λ new. new ≡ record { case_map = case_map; nick = nick.now }) }
@@ -115,6 +122,7 @@ impl Members {
         ensures found { option_copied result
             ≡ seat_of self.now.case_map nick.now self.now.seats }
         ensures apart { AreApart self.now.case_map self.now.seats }
+        ensures short { IsTrue (is_some result) → length nick.now ≤ 64 }
     {
         match find(&self.index, self.case_map, nick) {
             Some(place) => self.places[place].as_ref(),

@@ -1,4 +1,4 @@
-ghost use Rattle.std.specs.Prelude.{◌≡◌, ◌≤◌, [], length, option_map, IfOk, OnOk, OnErr};
+ghost use Rattle.std.specs.Prelude.{◌≡◌, ◌≤◌, [], length, IsTrue, is_some, option_map, IfOk, OnOk, OnErr};
 ghost use Rattle.std.specs.Option.{option_copied};
 ghost use Rattle.wc_irc.specs.Merged.{over, put_seat, merged};
 ghost use Rattle.wc_irc.specs.MergedSeen.{seat_in};
@@ -62,8 +62,9 @@ impl<'a> Overlay<'a> {
 
     /// A nick as the changes leave it.
     pub fn find(&self, nick: &[u8]) -> Option<FoundNick<'_>>
-        ensures { option_map seat_in result ≡ seat_of self.now.list.now.case_map nick.now
+        ensures found { option_map seat_in result ≡ seat_of self.now.list.now.case_map nick.now
             (merged self.now.list.now.case_map self.now.changed.seats self.now.list.now.seats) }
+        ensures short { IsTrue (is_some result) → length nick.now ≤ 64 }
     {
         let changed = self.changed.find(nick);
         match self.list.find(nick) {

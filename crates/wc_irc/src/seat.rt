@@ -1,8 +1,12 @@
 ghost use Rattle.std.specs.Prelude.{◌≡◌, ◌<◌, ◌==◌, ◌≢◌, ℕ, MatchOption};
 ghost use Rattle.std.specs.Int.{bit_at};
-ghost use Rattle.wc_irc.specs.ModeBits.{IsHighest};
+ghost use Rattle.wc_irc.specs.ModeBits.{IsHighest, highest, bits_with, bits_without};
+ghost use Rattle.wc_irc.specs.ModeBits.{bits_changed};
 
 use wc_text::Text;
+
+/// The most modes that PREFIX has.
+const MOST_MODES: usize = 64;
 
 /// The modes of a nick as bits, the first of them for the first letter of PREFIX, which is the
 /// highest mode. PREFIX has letters of ASCII alone, each once, so that there are bits enough.
@@ -23,6 +27,7 @@ impl ModeSet {
     /// These with the mode at this place of PREFIX. The others stay.
     pub fn with(self, place: usize) -> ModeSet
         requires { place < 64 }
+        ensures bits { result.0 ≡ bits_with place self.0 }
         ensures here { bit_at result.0 place ≡ 1 }
         ensures others { (other : ℕ) → other ≢ place → bit_at result.0 other ≡ bit_at self.0 other }
     {
@@ -32,6 +37,7 @@ impl ModeSet {
     /// These without the mode at this place of PREFIX. The others stay.
     pub fn without(self, place: usize) -> ModeSet
         requires { place < 64 }
+        ensures bits { result.0 ≡ bits_without place self.0 }
         ensures here { bit_at result.0 place ≡ 0 }
         ensures others { (other : ℕ) → other < 64 → other ≢ place →
             bit_at result.0 other ≡ bit_at self.0 other }
@@ -39,9 +45,26 @@ impl ModeSet {
         ModeSet(self.0 & !(1 << place))
     }
 
+    /// These with the mode at this place of PREFIX, or without it. A place without a bit has none.
+    #[tactic(auto, unfolding(crate::specs::ModeBits::bits_changed))]
+    pub fn changed(self, adds: bool, place: usize) -> ModeSet
+        ensures { result.0 ≡ bits_changed adds place self.0 }
+    {
+        if place >= MOST_MODES {
+            return self;
+        }
+        if adds {
+            self.with(place)
+        } else {
+            self.without(place)
+        }
+    }
+
     /// The place of the highest of them.
+    #[tactic(auto, unfolding(crate::specs::ModeBits::highest))]
     pub fn highest(self) -> Option<usize>
-        ensures { MatchOption result (self.0 ≡ 0) (IsHighest self.0) }
+        ensures first { MatchOption result (self.0 ≡ 0) (IsHighest self.0) }
+        ensures place { result ≡ highest self.0 }
     {
         if self.0 == 0 {
             return None;

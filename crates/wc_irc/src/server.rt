@@ -1,5 +1,7 @@
 ghost use Rattle.std.specs.Prelude.{◌≡◌, ◌≢◌, Ok, Err, map, IfOk, IfErr, OnOk, OnErr};
+ghost use Rattle.wc_irc.specs.ChannelLaws.{HasChannelNames};
 ghost use Rattle.wc_irc.specs.Channels.{joined};
+ghost use Rattle.wc_irc.specs.LinkActs.{first_acts, after_connect, loss_acts, after_loss};
 ghost use Rattle.wc_irc.specs.ServerActs.{acts_of_server, after_server};
 ghost use Rattle.wc_irc.specs.Start.{start_of};
 ghost use Rattle.wc_irc.specs.declared.refused.ServerRefused.TheVariants as Refused;
@@ -8,6 +10,7 @@ ghost use Rattle.wc_ircmsg.specs.Utf8.{MessageIsUtf8};
 use crate::act::Act;
 use crate::channel::Channel;
 use crate::features::Features;
+use crate::link_acts::{on_connect, on_lost};
 use crate::refused::ServerRefused;
 use crate::server_acts::on_message;
 use crate::start::started;
@@ -27,12 +30,15 @@ pub struct Server {
 }
 
 impl Model for Server {
+    ghost use Rattle.wc_irc.specs.ChannelLaws.{HasChannelNames};
     ghost use Rattle.wc_irc.specs.Servers.{ServerState};
     ghost use Rattle.wc_irc.specs.ServersSeen.{seen};
 
     ghost Value = { ServerState };
 
     ghost view = { λ a. seen a.state };
+
+    ghost invariant = { λ a. HasChannelNames (seen a.state) };
 }
 
 impl Server {
@@ -86,16 +92,38 @@ impl Server {
         &self.state.features
     }
 
-    /// The joined channels in the order of joining, each with its nicks.
+    /// The joined channels in the order of joining, each with its nicks. Each has the name of a
+    /// channel where CHANTYPES is what the server told.
     pub fn channels(&self) -> &[Channel]
-        ensures { map joined result.now ≡ self.now.channels }
+        ensures channels { map joined result.now ≡ self.now.channels }
+        ensures names { HasChannelNames self.now }
     {
         self.state.channels.as_slice()
     }
 
-    /// What follows of a message where these buffers are there, and the server takes it in. None
-    /// where it is a NICK, MODE, 353 or PRIVMSG. Where memory is refused the server stays as it
-    /// was.
+    /// What is said as the link begins: PASS where the server has a password, NICK and USER
+    /// (RFC 2812). Where memory is refused the server stays as it was.
+    pub fn registered_lines(&mut self, alloc: Global) -> Result<Items<Act>, NoMemory>
+        ensures acts { IfOk result (λ acts. acts ≡ first_acts self.old) }
+        ensures after { OnOk result (self.new ≡ after_connect self.old) }
+        ensures unchanged { OnErr result (self.new ≡ self.old) }
+    {
+        on_connect(&mut self.state, alloc)
+    }
+
+    /// What follows of the link's loss, where these buffers are there: the nicks of each channel go,
+    /// a line of the server's own buffer and the signal `irc_server_disconnected`. No channel is
+    /// joined then. Where memory is refused the server stays as it was.
+    pub fn on_lost(&mut self, alloc: Global, buffers: &Buffers) -> Result<Items<Act>, NoMemory>
+        ensures acts { IfOk result (λ acts. acts ≡ loss_acts buffers.now self.old) }
+        ensures after { OnOk result (self.new ≡ after_loss self.old) }
+        ensures unchanged { OnErr result (self.new ≡ self.old) }
+    {
+        on_lost(&mut self.state, alloc, buffers)
+    }
+
+    /// What follows of a message where these buffers are there, and the server takes it in. Where
+    /// memory is refused the server stays as it was.
     ///
     /// The first 001 gives the own nick, tells it to each buffer of the server that has another
     /// one, and joins the channels of `autojoin`. A PING is answered by a PONG with the same last
@@ -105,13 +133,15 @@ impl Server {
     ///
     /// The own JOIN opens the channel's buffer where it is not there, with the groups of its nicks.
     /// A nick comes onto the list of a joined channel at a JOIN, and leaves it at a PART, KICK or
-    /// QUIT; where it is the own one, a PART or KICK takes all of them out.
+    /// QUIT; where it is the own one, a PART or KICK takes all of them out. A NICK keeps its place,
+    /// and takes it out where the name is no nick or another one's. A MODE and a list of names (353)
+    /// move nicks between the groups of PREFIX. What is said privately opens the buffer of its nick.
     pub fn on_message(
         &mut self,
         alloc: Global,
         buffers: &Buffers,
         m: &Message,
-    ) -> Result<Option<Items<Act>>, NoMemory>
+    ) -> Result<Items<Act>, NoMemory>
         requires { MessageIsUtf8 m.now }
         ensures acts { IfOk result (λ acts. acts
             ≡ acts_of_server buffers.now self.old m.now) }

@@ -1,13 +1,17 @@
 ghost use Rattle.std.specs.Prelude.{◌≡◌, ◌++◌, IfOk, OnOk, OnErr};
 ghost use Rattle.wc_irc.specs.ServerActs.{acts_of_kind, after_kind, kind_to};
-ghost use Rattle.wc_irc.specs.ServerActs.{has_row, some_acts, acts_of_server, after_server};
+ghost use Rattle.wc_irc.specs.ServerActs.{acts_of_server, after_server};
 ghost use Rattle.wc_irc.specs.ServersSeen.{seen};
 ghost use Rattle.wc_ircmsg.specs.Utf8.{MessageIsUtf8};
 
 use crate::act::Act;
 use crate::channel_acts::{put_join, put_kick, put_part, put_quit};
 use crate::kind::{MessageKind, kind_of};
+use crate::mode_acts::put_mode;
+use crate::name_acts::put_names;
 use crate::params::param;
+use crate::rename_acts::put_nick;
+use crate::speech_acts::put_privmsg;
 use crate::state::State;
 use crate::talk_acts::{put_error, put_notice, put_other, put_ping, put_taken, put_welcome};
 use crate::title_acts::{put_mode_reply, put_names_end, put_topic, put_topic_reply};
@@ -24,7 +28,7 @@ impl State {
         kind_of(self.features.chan_types.as_slice(), self.is_registered, m)
     }
 
-    /// Takes in a message. One of a kind without a row changes nothing.
+    /// Takes in a message.
     #[tactic(auto, unfolding(crate::specs::ServerActs::after_kind))]
     pub(crate) fn take_in(
         &mut self,
@@ -48,6 +52,9 @@ impl State {
                 self.leave(param(m, 1), param(m, 0));
                 Ok(())
             }
+            MessageKind::Mode => self.take_modes(alloc, m),
+            MessageKind::Names => self.take_names(alloc, m),
+            MessageKind::Nick => self.rename(alloc, m.nick.as_slice(), param(m, 0)),
             MessageKind::Quit => {
                 self.quit(m.nick.as_slice());
                 Ok(())
@@ -57,31 +64,7 @@ impl State {
     }
 }
 
-/// Whether a kind of messages has a row here.
-pub(crate) fn has_row(kind: MessageKind) -> bool
-    ensures { result ≡ has_row kind }
-{
-    matches!(
-        kind,
-        MessageKind::Welcome
-            | MessageKind::Tokens
-            | MessageKind::NickInUse
-            | MessageKind::Join
-            | MessageKind::Part
-            | MessageKind::Quit
-            | MessageKind::Kick
-            | MessageKind::Topic
-            | MessageKind::TopicReply
-            | MessageKind::NamesEnd
-            | MessageKind::ModeReply
-            | MessageKind::Notice
-            | MessageKind::Ping
-            | MessageKind::Error
-            | MessageKind::Other
-    )
-}
-
-/// Puts what follows of a message after the acts, and nothing where its kind has no row.
+/// Puts what follows of a message after the acts.
 #[tactic(auto, unfolding(crate::specs::ServerActs::acts_of_kind))]
 fn put_acts(
     acts: &mut Items<Act>,
@@ -93,7 +76,7 @@ fn put_acts(
 ) -> Result<(), NoMemory>
     requires { MessageIsUtf8 m.now }
     ensures { OnOk result (acts.new
-        ≡ acts.old ++ some_acts (acts_of_kind buffers.now (seen state.now) m.now kind)) }
+        ≡ acts.old ++ acts_of_kind buffers.now (seen state.now) m.now kind) }
 {
     match kind {
         MessageKind::Welcome => put_welcome(acts, alloc, buffers, state, m),
@@ -106,33 +89,32 @@ fn put_acts(
         MessageKind::TopicReply => put_topic_reply(acts, alloc, buffers, state, m),
         MessageKind::NamesEnd => put_names_end(acts, alloc, buffers, state, m),
         MessageKind::ModeReply => put_mode_reply(acts, alloc, buffers, state, m),
+        MessageKind::Privmsg => put_privmsg(acts, alloc, buffers, state, m),
+        MessageKind::Nick => put_nick(acts, alloc, buffers, state, m),
+        MessageKind::Mode => put_mode(acts, alloc, buffers, state, m),
+        MessageKind::Names => put_names(acts, alloc, buffers, state, m),
         MessageKind::Notice => put_notice(acts, alloc, buffers, state, m),
         MessageKind::Ping => put_ping(acts, alloc, m),
         MessageKind::Error => put_error(acts, alloc, state, m),
         MessageKind::Tokens | MessageKind::Other => put_other(acts, alloc, state, m),
-        _ => Ok(()),
     }
 }
 
-/// What follows of a message. None where its kind has no row.
-#[tactic(auto, using(crate::proofs::ServerActLemmas::of_row))]
+/// What follows of a message.
 pub(crate) fn acts_of(
     alloc: Global,
     buffers: &Buffers,
     state: &State,
     m: &Message,
     kind: MessageKind,
-) -> Result<Option<Items<Act>>, NoMemory>
+) -> Result<Items<Act>, NoMemory>
     requires { MessageIsUtf8 m.now }
     ensures { IfOk result (λ acts. acts
         ≡ acts_of_kind buffers.now (seen state.now) m.now kind) }
 {
-    if !has_row(kind) {
-        return Ok(None);
-    }
     let mut acts = Items::new(alloc);
     put_acts(&mut acts, alloc, buffers, state, m, kind)?;
-    Ok(Some(acts))
+    Ok(acts)
 }
 
 /// The same, and takes the message in. Where memory is refused the server stays as it was.
@@ -141,7 +123,7 @@ pub(crate) fn on_message(
     alloc: Global,
     buffers: &Buffers,
     m: &Message,
-) -> Result<Option<Items<Act>>, NoMemory>
+) -> Result<Items<Act>, NoMemory>
     requires { MessageIsUtf8 m.now }
     ensures acts { IfOk result (λ acts. acts
         ≡ acts_of_server buffers.now (seen state.old) m.now) }

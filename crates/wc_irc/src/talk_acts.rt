@@ -57,7 +57,7 @@ fn one_param(alloc: Global, text: &[u8]) -> Result<Items<Text>, NoMemory>
 }
 
 /// A line to the server: a command and one text, without what would end the line.
-fn sent(alloc: Global, command: &[u8], text: &[u8]) -> Result<Act, NoMemory>
+pub(crate) fn sent(alloc: Global, command: &[u8], text: &[u8]) -> Result<Act, NoMemory>
     requires { IsTrue (is_command command.now) }
     ensures { IfOk result (λ line. line ≡ sent command.now text.now) }
 {
@@ -122,7 +122,7 @@ pub(crate) fn put_taken(acts: &mut Items<Act>, alloc: Global, state: &State) -> 
 
 // ---- 001
 
-fn has_value(vars: &Vars, name: &[u8], value: &[u8]) -> bool
+pub(crate) fn has_value(vars: &Vars, name: &[u8], value: &[u8]) -> bool
     ensures { result ≡ has_value value.now (value_of name.now vars.now) }
 {
     match vars.get(name) {
@@ -252,7 +252,7 @@ fn put_joins(acts: &mut Items<Act>, alloc: Global, state: &State) -> Result<(), 
 }
 
 /// Puts a signal with the server's name after the acts.
-fn put_raised(
+pub(crate) fn put_raised(
     acts: &mut Items<Act>,
     alloc: Global,
     state: &State,

@@ -133,7 +133,7 @@ fn copied_alike(
     copied(alloc, first_alike(buffers, wanted))
 }
 
-fn has_name(buffers: &Buffers, name: &[u8]) -> bool
+pub(crate) fn has_name(buffers: &Buffers, name: &[u8]) -> bool
     ensures { result ≡ has_name name.now buffers.now }
 {
     buffers.find(name).is_some()

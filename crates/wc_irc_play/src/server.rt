@@ -65,10 +65,8 @@ fn heard(
 ) -> Result<(), Wrong>
     requires { MessageIsUtf8 message.now }
 {
-    match server.on_message(alloc, buffers, message)? {
-        Some(acts) => put_acts(out, acts.as_slice())?,
-        None => out.push_str("of another kind\n")?,
-    }
+    let acts = server.on_message(alloc, buffers, message)?;
+    put_acts(out, acts.as_slice())?;
     Ok(put_server(out, server)?)
 }
 

@@ -2,7 +2,7 @@ use Rattle.std.proofs.Common.{◌∙◌, ap, sym, subst, arith}
 use Rattle.wc_nicklist.specs.Index.{at_long}
 use Rattle.wc_irc.specs.Kept.{MembersValue}
 use Rattle.wc_irc.specs.Seats.{seat_of, AreApart}
-use Rattle.wc_irc.proofs.MemberLemmas.{seat_found, seat_missed, place_inside, kept_apart}
+use Rattle.wc_irc.proofs.MemberLemmas.{seat_found, seat_missed, place_inside, kept_apart, short_placed}
 use Rattle.wc_irc.proofs.members.Members.find.Goals as goal
 
 pub index-requires : goal.index-requires
@@ -32,3 +32,6 @@ pub returns-in-None-clause-apart : goal.returns-in-None-clause-apart
 returns-in-None-clause-apart c =
     let inside = c.self.inside in
     subst (λ (v : MembersValue). AreApart v.case_map v.seats) c.self.view_is (kept_apart inside.case_map inside.places.items (at_long inside.index) c.self.invariant.0)
+
+pub returns-in-Some-clause-short : goal.returns-in-Some-clause-short
+returns-in-Some-clause-short c = λ _. short_placed c.self.inside.case_map (at_long c.self.inside.index) c.args.nick.now c.in-Some.place (sym c.find.ensures ∙ c.in-Some.is)
