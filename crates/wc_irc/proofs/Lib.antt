@@ -21,3 +21,8 @@ pub mod MessageTextLemmas
 pub mod ModeLemmas
 pub mod ComerLemmas
 pub mod UserLemmas
+pub mod LineTextLemmas
+pub mod AskedLemmas
+pub mod ErrandLemmas
+pub mod ServerNameLemmas
+pub mod CommandLawLemmas

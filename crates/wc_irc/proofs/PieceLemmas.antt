@@ -57,14 +57,14 @@ all_after p c (b ∷ text) all = let both = and_parts (p b) (list_all p text) al
   by true others after = others
   by false others after = after
 
-all_onward : (p : ℕ → Bool) (c : ℕ) (text : List ℕ) → list_all p text ≡ true → list_all p (onward c text) ≡ true
+pub all_onward : (p : ℕ → Bool) (c : ℕ) (text : List ℕ) → list_all p text ≡ true → list_all p (onward c text) ≡ true
 all_onward p c [] all = refl
 all_onward p c (b ∷ text) all = let both = and_parts (p b) (list_all p text) all in by (b == c) all (all_onward p c text both.1) where
   by : (t : Bool) → list_all p (b ∷ text) ≡ true → list_all p (onward c text) ≡ true → list_all p (cond t (b ∷ text) (onward c text)) ≡ true
   by true whole others = whole
   by false whole others = others
 
-all_past : (p : ℕ → Bool) (c : ℕ) (text : List ℕ) → list_all p text ≡ true → list_all p (past c text) ≡ true
+pub all_past : (p : ℕ → Bool) (c : ℕ) (text : List ℕ) → list_all p text ≡ true → list_all p (past c text) ≡ true
 all_past p c [] all = refl
 all_past p c (b ∷ text) all = let both = and_parts (p b) (list_all p text) all in by (b == c) all (all_past p c text both.1) where
   by : (t : Bool) → list_all p (b ∷ text) ≡ true → list_all p (past c text) ≡ true → list_all p (cond t (past c text) (b ∷ text)) ≡ true
@@ -82,7 +82,7 @@ pub bare_others : (text : List ℕ) (o : Option (Bor (List ℕ))) → option_cop
 bare_others text o there bare = bare_copied o ∙ ap (all_in bare_byte) there ∙ all_after bare_byte 44 text bare
 
 -- a word of one line has no blanks
-bare_word : (text : List ℕ) → is_one_line text ≡ true → is_bare (word_of text) ≡ true
+pub bare_word : (text : List ℕ) → is_one_line text ≡ true → is_bare (word_of text) ≡ true
 bare_word [] line = refl
 bare_word (b ∷ text) line = let both = and_parts (not (ends_lines b)) (is_one_line text) line in by (b == 32) refl both.0 (bare_word text both.1) where
   by : (t : Bool) → (b == 32) ≡ t → not (ends_lines b) ≡ true → is_bare (word_of text) ≡ true → is_bare (cond t [] (b ∷ word_of text)) ≡ true

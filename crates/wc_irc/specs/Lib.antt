@@ -3,6 +3,10 @@ pub mod ChannelActs
 pub mod ChannelLaws
 pub mod ChannelStates
 pub mod Channels
+pub mod CloseActs
+pub mod CommandActs
+pub mod CommandLaws
+pub mod CommandSeen
 pub mod Features
 pub mod Groups
 pub mod Kept
@@ -23,12 +27,14 @@ pub mod NamesSeen
 pub mod NewBuffers
 pub mod NickActs
 pub mod OverlaySeen
+pub mod OwnSpeech
 pub mod Pieces
 pub mod ReadySeen
 pub mod RenameActs
 pub mod Rows
 pub mod Seats
 pub mod ServerActs
+pub mod ServerOptions
 pub mod Servers
 pub mod ServersSeen
 pub mod Speech

@@ -39,7 +39,7 @@ pub fn spaced(alloc: Global, texts: &[Text]) -> Result<Text, NoMemory>
     Ok(text)
 }
 
-fn ends_line(byte: u8) -> bool
+pub(crate) fn ends_line(byte: u8) -> bool
     ensures { result ≡ ends_lines byte }
 {
     byte == b'\r' || byte == b'\n' || byte == b'\0'

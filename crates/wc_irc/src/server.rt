@@ -26,7 +26,7 @@ use wc_text::{Address, Items, NoMemory, Text};
 /// had then.
 #[derive(Drop)]
 pub struct Server {
-    state: State,
+    pub(crate) state: State,
 }
 
 impl Model for Server {

@@ -203,7 +203,11 @@ fn first_at(
 /// Where a server is to be connected to. Refused where it is to use TLS, and else where it has no
 /// address.
 #[tactic(auto, unfolding(crate::specs::Start::start_of))]
-fn reached_at(alloc: Global, options: &Options, server: &[u8]) -> Result<Address, ServerRefused>
+pub(crate) fn reached_at(
+    alloc: Global,
+    options: &Options,
+    server: &[u8],
+) -> Result<Address, ServerRefused>
     ensures made { IfOk result (λ address. start_of options.now server.now
         ≡ Ok (first_state options.now server.now address)) }
     ensures refused { IfErr result (λ refused. refused ≢ Refused.NoMemory →

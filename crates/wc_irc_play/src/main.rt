@@ -7,7 +7,9 @@
 #![tactic(auto)]
 
 mod acts;
+mod commands;
 mod nicks;
+mod options;
 mod player;
 mod rows;
 mod server;

@@ -44,6 +44,17 @@ impl Player {
             "set" | "buffer" | "var" | "begin" | "hear" | "told" | "lists" => {
                 self.scene.answer(alloc, call, rest, out)
             }
+            "link"
+            | "lose"
+            | "type"
+            | "everywhere"
+            | "unlinked"
+            | "close"
+            | "quit"
+            | "disconnect" => self.scene.command(alloc, call, rest, out),
+            "settings" | "delete" | "delete-linked" | "connect" | "connect-linked" => {
+                self.scene.options(alloc, call, rest, out)
+            }
             _ => texts_answer(alloc, call, rest, out),
         }
     }

@@ -4,7 +4,9 @@ ghost use Rattle.std.specs.Prelude.{IfOk};
 ghost use Rattle.wc_ircmsg.specs.Utf8.{MessageIsUtf8};
 
 use crate::acts::put_acts;
+use crate::commands::commands_answer;
 use crate::nicks::put_all;
+use crate::options::options_answer;
 use crate::rows::put_features;
 use crate::stage::Stage;
 use std::alloc::{AllocError, Global};
@@ -122,6 +124,31 @@ impl Scene {
     fn lists(&self, out: &mut String) -> Result<(), Wrong> {
         match &self.server {
             Some(server) => Ok(put_channels(out, server.channels())?),
+            None => Err(Wrong::Missing),
+        }
+    }
+
+    /// Writes the answer of what commands ask of options.
+    pub fn options(
+        &self,
+        alloc: Global,
+        call: &str,
+        rest: &str,
+        out: &mut String,
+    ) -> Result<(), Wrong> {
+        options_answer(alloc, &self.stage, call, rest, out)
+    }
+
+    /// Writes the answer of what is typed for the server.
+    pub fn command(
+        &mut self,
+        alloc: Global,
+        call: &str,
+        rest: &str,
+        out: &mut String,
+    ) -> Result<(), Wrong> {
+        match &mut self.server {
+            Some(server) => commands_answer(alloc, server, &self.stage, call, rest, out),
             None => Err(Wrong::Missing),
         }
     }

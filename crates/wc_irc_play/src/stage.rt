@@ -18,7 +18,7 @@ pub struct Stage {
 }
 
 /// The text that a word writes, which has to be UTF-8.
-fn utf8(alloc: Global, word: &str) -> Result<Text, Wrong>
+pub fn utf8(alloc: Global, word: &str) -> Result<Text, Wrong>
     ensures { IfOk result IsUtf8 }
 {
     let text = unescape(alloc, word)?;
@@ -75,7 +75,7 @@ fn add(alloc: Global, buffers: &mut Buffers, handle: Handle, name: &str) -> Resu
 }
 
 /// The buffer of the name that a word writes.
-fn named(alloc: Global, buffers: &Buffers, word: &str) -> Result<Handle, Wrong> {
+pub fn named(alloc: Global, buffers: &Buffers, word: &str) -> Result<Handle, Wrong> {
     let name = unescape(alloc, word)?;
     match buffers.find(name.as_slice()) {
         Some(handle) => Ok(handle),
