@@ -13,8 +13,6 @@ mod slot;
 mod slots;
 mod steps;
 mod table;
-#[cfg(test)]
-mod tests;
 
 pub use entry::{Entry, HookId, HookRefused, Owner};
 pub use kind::HookKind;

@@ -314,15 +314,6 @@ impl HookTable {
     {
         is_open(&self.cursors, RELAY_PLACE)
     }
-
-    /// How many entries the pass looked at.
-    #[cfg(test)]
-    pub(crate) fn looked(&self, pass: &Pass) -> usize {
-        match self.cursors.as_slice().get(pass.place) {
-            Some(Some(cursor)) => cursor.looked,
-            _ => usize::MAX,
-        }
-    }
 }
 
 fn one_more(count: usize, is_one: bool) -> usize

@@ -1,4 +1,4 @@
-use Rattle.wc_hooks.proofs.tests.+nested.Given as goal
+use Rattle.wc_hooks_play.proofs.passes.+nested.Given as goal
 
 abbrev pub decreases-nested : goal.decreases-nested
 decreases-nested l = l.most
