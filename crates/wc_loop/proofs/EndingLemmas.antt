@@ -17,9 +17,9 @@ use Rattle.wc_core.specs.Limits.{port_of}
 use Rattle.wc_loop.proofs.OptionsLemmas.{some_port}
 use Rattle.wc_turns.specs.Sources.{AllServed, AllSent}
 use Rattle.wc_turns.specs.Turns.{wake_count, listen_faults, faults_then}
-use Rattle.wc_loop.specs.Headline.{IsConfigured}
+use Rattle.wc_loop.specs.Headline.{Headline, IsConfigured}
 use Rattle.wc_turns.specs.Saves.{held_by, SavesTurn}
-use Rattle.wc_loop.specs.Endings.{KeepsText, saved_in, status_of, asked_in, IsPort, kept_of, LastOf, WaitsAtMost, HasQuit, EndsAt, IsEarly, IsLastState, Runs}
+use Rattle.wc_loop.specs.Endings.{KeepsText, HoldsEarlier, HoldsSaved, FailsToSave, saved_in, status_of, asked_in, IsPort, kept_of, LastOf, WaitsAtMost, HasQuit, EndsAt, IsEarly, IsLastState, Runs}
 use Rattle.wc_loop.proofs.HeadlineLemmas.{IfSome-last}
 
 kept_of-some : (h : Headless) → 1 ≤ h.turns → kept_of h ≡ Some h
@@ -69,6 +69,41 @@ kept-text x h before mid after none same saves unsaved some =
 
 pub not-keeper : (then : TurnEnd) (ending : Ending) → EndsAt then ending → status_of ending ≢ 3 → then ≢ KeeperFault
 not-keeper then ending at three q = three (ap status_of (subst (λ end. EndsAt end ending) q at))
+
+pub keeper-of : (then : TurnEnd) (ending : Ending) → EndsAt then ending → status_of ending ≡ 3 → then ≡ KeeperFault
+keeper-of GoOn ending at three = absurd (let e : 3 ≡ 8 = sym three ∙ ap status_of at in cc)
+keeper-of Quit ending at three = absurd (let e : 3 ≡ 0 = sym three ∙ ap status_of at in cc)
+keeper-of WaitFault ending at three = absurd (let e : 3 ≡ 2 = sym three ∙ ap status_of at in cc)
+keeper-of ListenFault ending at three = absurd (let e : 3 ≡ 6 = sym three ∙ ap status_of at in cc)
+keeper-of KeeperFault ending at three = refl
+
+-- no state is there where no wait returned
+pub kept_of-none : (h : Headless) → kept_of h ≡ None → h.turns ≡ 0
+kept_of-none h = go (eqb h.turns 0) refl
+  where
+    go : (b : Bool) → eqb h.turns 0 ≡ b → cond b None (Some h) ≡ None → h.turns ≡ 0
+    go true e none = grind (arith, nat_tests)
+    go false e none = cc
+
+-- what the keeper holds where the last turn failed to save
+pub held-earlier : (commands : List (List ℕ)) (contents mid kept : Option (List ℕ)) (x h : Headless) (before after : Seen) → x.core.saved ≡ None → mid ≡ contents → (f : FailsToSave x h before after mid kept) → Headline commands contents f.seen f.earlier → HoldsEarlier commands contents kept after h
+held-earlier commands contents mid kept x h before after none same f headline = record {
+  earlier = f.earlier;
+  seen = f.seen;
+  headline = headline;
+  agrees = f.agrees;
+  turn = f.turn;
+  holds = f.saves contents (λ here. same ∙ ap (λ o. held_by o contents) (sym none));
+}
+
+-- however the run ended
+pub held-saved : (commands : List (List ℕ)) (contents kept : Option (List ℕ)) (after : Seen) (status : ℕ) (last : Option Headless) → (status ≢ 3 → KeepsText contents kept last) → (status ≡ 3 → IfSome last (HoldsEarlier commands contents kept after)) → (last ≡ None → kept ≡ contents) → HoldsSaved commands contents kept after last
+held-saved commands contents kept after status None text earlier same = same refl
+held-saved commands contents kept after status (Some last) text earlier same = go (eqb status 3) refl
+  where
+    go : (b : Bool) → eqb status 3 ≡ b → HoldsSaved commands contents kept after (Some last)
+    go true e = inr (earlier (grind (arith, nat_tests)))
+    go false e = inl (text (λ three. (let t = ap (λ n. eqb n 3) three in false≢true (sym e ∙ t))))
 
 -- over the commands of the start
 module _ (commands : List (List ℕ)) where

@@ -16,7 +16,7 @@ use Rattle.wc_turns.specs.declared.headless.Headless.{Headless}
 use Rattle.wc_turns.specs.declared.turn.TurnEnd.{TurnEnd}
 use Rattle.wc_turns.specs.declared.turn.TurnEnd.TheVariants.{GoOn, Quit as ThenQuit, WaitFault}
 use Rattle.wc_turns.specs.declared.turn.TurnEnd.TheVariants.{ListenFault, KeeperFault}
-use Rattle.wc_turns.specs.Saves.{held_by}
+use Rattle.wc_turns.specs.Saves.{held_by, SavesTurn}
 use Rattle.wc_loop.specs.declared.words.Shows.{Shows}
 use Rattle.wc_loop.specs.declared.words.Shows.TheVariants as shows
 use Rattle.wc_loop.specs.declared.words.Wish.{Wish}
@@ -27,7 +27,7 @@ use Rattle.wc_loop.specs.Headline.{Headline}
 use Rattle.wc_turns.specs.Served.{NobodyLeaving}
 use Rattle.wc_turns.specs.Sources.{AllServed, AllSent}
 use Rattle.wc_turns.specs.Turns.{AgreesWithSockets, IsCaused, wake_count, listen_faults}
-use Rattle.wc_turns.specs.Turns.{FaultsIn, LoopStep}
+use Rattle.wc_turns.specs.Turns.{FaultsIn, LoopStep, TurnStep}
 
 -- the state at the end is there where a wait returned
 abbrev pub kept_of : Headless → Option Headless
@@ -281,6 +281,38 @@ pub record IsLastState (commands : List (List ℕ)) (contents : Option (List ℕ
   pub agrees : AgreesWithSockets last after
   pub calm : NobodyLeaving last.core.connections
   pub causes : All (IsCaused before after) last.links.closed.items
+
+-- What was saved in the last turn could not be written. So a keeper that tells what it holds has what
+-- it had before that turn: the text that was saved last by then, or what it held at first.
+pub record HoldsEarlier (commands : List (List ℕ)) (contents kept : Option (List ℕ)) (after : Seen)
+    (last : Headless) : Type 0 where
+  -- the state before the last turn, and what was seen then
+  pub earlier : Headless
+  pub seen : Seen
+  pub headline : Headline commands contents seen earlier
+  pub agrees : AgreesWithSockets earlier seen
+  pub turn : TurnStep KeeperFault earlier last seen after
+  pub holds : IsSome kept → kept ≡ held_by earlier.core.saved contents
+
+-- What a keeper has at the end: what it held at first where no wait returned, and else the text that
+-- was saved last, or what it had before the last turn.
+abbrev pub HoldsSaved : List (List ℕ) → Option (List ℕ) → Option (List ℕ) → Seen → Option Headless →
+    Type 0
+HoldsSaved commands contents kept after None = kept ≡ contents
+HoldsSaved commands contents kept after (Some last) = KeepsText contents kept (Some last)
+    ⊎ HoldsEarlier commands contents kept after last
+
+-- a keeper failed at the end of the last of some turns, the first of which began so
+pub record FailsToSave (first last : Headless) (before after : Seen)
+    (contents kept : Option (List ℕ)) : Type 0 where
+  pub earlier : Headless
+  pub seen : Seen
+  pub waits : ℕ
+  pub until : LoopStep false waits 0 first earlier before seen
+  pub agrees : AgreesWithSockets earlier seen
+  pub calm : NobodyLeaving earlier.core.connections
+  pub turn : TurnStep KeeperFault earlier last seen after
+  pub saves : SavesTurn first.core earlier.core contents kept
 
 -- a run that was asked for this number of waits ends
 pub record Runs (commands : List (List ℕ)) (turns : ℕ) (contents : Option (List ℕ)) (kept kept' : ℕ) (before after : Seen)

@@ -6,7 +6,8 @@ ghost use Rattle.wc_outside.specs.Faults.{Rose};
 ghost use Rattle.wc_outside.specs.Seen.{IsNew};
 ghost use Rattle.wc_loop.specs.Endings.{LastOf, StatusOf, WaitsAtMost, Prints, IsEarly, HasCause};
 ghost use Rattle.wc_loop.specs.Endings.{Runs, RunsBy, asks_turns, IsAsked, EndsAt, kept_of};
-ghost use Rattle.wc_loop.specs.Endings.{status_of, ending_text, KeepsText};
+ghost use Rattle.wc_loop.specs.Endings.{status_of, ending_text, KeepsText, HoldsEarlier};
+ghost use Rattle.wc_loop.specs.Endings.{HoldsSaved, FailsToSave};
 ghost use Rattle.wc_turns.specs.Saves.{SavesTurn};
 ghost use Rattle.wc_options.specs.Config.{config_of};
 ghost use Rattle.wc_core.specs.Limits.{most_lines, port_of};
@@ -146,6 +147,9 @@ fn take_turns<S: Sockets, K: Keeper>(
     ensures saves { result ≢ TurnEnd.KeeperFault → SavesTurn headless.old.core headless.new.core
         (K.contents keeper.old) (K.contents keeper.new) }
     ensures unsaved { headless.new.turns ≡ 0 → headless.new.core.saved ≡ None }
+    ensures unwoken { headless.new.turns ≡ 0 → K.contents keeper.new ≡ K.contents keeper.old }
+    ensures unwritten { result ≡ TurnEnd.KeeperFault → FailsToSave headless.old headless.new
+        (S.seen sockets.old) (S.seen sockets.new) (K.contents keeper.old) (K.contents keeper.new) }
     ensures keeper_fault { result ≡ TurnEnd.KeeperFault →
         Rose (K.faults keeper.old) (K.faults keeper.new) }
 {
@@ -202,6 +206,10 @@ fn run<S: Sockets, K: Keeper>(
         (S.seen sockets.old) (S.seen sockets.new) result.ending result.last }
     ensures kept { status_of result.ending ≢ 3 → KeepsText (K.contents keeper.old)
         (K.contents keeper.new) result.last }
+    ensures unsaved { status_of result.ending ≡ 3 → IfSome result.last (HoldsEarlier
+        (commands_of (map string_bytes words.now)) (K.contents keeper.old)
+        (K.contents keeper.new) (S.seen sockets.new)) }
+    ensures unwoken { result.last ≡ None → K.contents keeper.new ≡ K.contents keeper.old }
 {
     let Configured { mut headless, port } = match configure(alloc, words, keeper) {
         Ok(made) => made,
@@ -234,6 +242,10 @@ fn run_words<S: Sockets, K: Keeper>(
         result.ending result.last }
     ensures kept { status_of result.ending ≢ 3 → KeepsText (K.contents keeper.old)
         (K.contents keeper.new) result.last }
+    ensures unsaved { status_of result.ending ≡ 3 → IfSome result.last (HoldsEarlier
+        (commands_of (map string_bytes words.now)) (K.contents keeper.old)
+        (K.contents keeper.new) (S.seen sockets.new)) }
+    ensures unwoken { result.last ≡ None → K.contents keeper.new ≡ K.contents keeper.old }
 {
     let wish = match read_words(words) {
         Ok(wish) => wish,
@@ -350,6 +362,11 @@ pub fn run_program<S: Sockets, K: Keeper, O: Sink>(
         S.seen sockets.new ≡ S.seen sockets.old }
     ensures kept { result.status ≢ 3 → result.status ≢ 7 → KeepsText (K.contents keeper.old)
         (K.contents keeper.new) result.last }
+    ensures unsaved { result.status ≡ 3 → IfSome result.last (HoldsEarlier
+        (commands_of (map string_bytes words.now.items)) (K.contents keeper.old)
+        (K.contents keeper.new) (S.seen sockets.new)) }
+    ensures held { HoldsSaved (commands_of (map string_bytes words.now.items))
+        (K.contents keeper.old) (K.contents keeper.new) (S.seen sockets.new) result.last }
 {
     let outcome = run_words(alloc, words.as_slice(), sockets, keeper);
     end(out, outcome)

@@ -99,6 +99,8 @@ impl Headless {
             Rose (K.faults keeper.old) (K.faults keeper.new) }
         ensures kept { result ≡ TurnEnd.KeeperFault → K.contents keeper.new
             ≡ K.contents keeper.old }
+        ensures unwritten { result ≡ TurnEnd.WaitFault → K.contents keeper.new
+            ≡ K.contents keeper.old }
         ensures keeper_count { result ≢ TurnEnd.KeeperFault → K.faults keeper.new
             ≡ K.faults keeper.old }
     {

@@ -1,9 +1,10 @@
-use Rattle.std.proofs.Common.{◌≡◌, ◌++◌, [], ◌∷◌, ap, ◌∙◌, arith}
+use Rattle.std.proofs.Common.{◌≡◌, ◌++◌, [], ◌∷◌, refl, sym, ap, ◌∙◌, arith}
 use Rattle.wc_outside.specs.declared.happening.Asked.TheVariants.{Listen}
+use Rattle.wc_loop.specs.Endings.{kept_of}
 use Rattle.wc_turns.specs.Turns.{wake_count, listen_faults}
 use Rattle.wc_turns.proofs.CauseLemmas.{caused-following}
-use Rattle.wc_loop.proofs.EndingLemmas.{Runs-early, Runs-following, known-readable, known-port, kept-text, not-keeper}
-use Rattle.wc_loop.proofs.HeadlineLemmas.{Fresh-listening, HandsOut-run, Headline-known}
+use Rattle.wc_loop.proofs.EndingLemmas.{Runs-early, Runs-following, known-readable, known-port, kept-text, not-keeper, keeper-of, kept_of-none, held-earlier}
+use Rattle.wc_loop.proofs.HeadlineLemmas.{Fresh-listening, HandsOut-run, Headline-known, IfSome-last}
 use Rattle.wc_loop.proofs.ProgramLemmas.{Rose-before, faults-told}
 use Rattle.wc_turns.proofs.ServeLemmas.{AllServed-following, AllSent-following}
 use Rattle.wc_turns.proofs.SourceLemmas.{later-of}
@@ -64,3 +65,20 @@ returns-clause-kept g c = λ three.
     let ran = c.take_turns-then.ensures in
     rw c.last_state.ensures (kept-text c.in-Ok.made.headless c.take_turns-then.new.headless (contents c.args.keeper.now) (contents c.configure.new.keeper) (contents c.take_turns-then.new.keeper)
     c.in-Ok.ensures.first.saved c.configure.ensures.kept (ran.saves (not-keeper c.take_turns-then.result c.ending_of.result c.ending_of.ensures three)) ran.unsaved)
+
+pub returns-clause-unsaved : goal.returns-clause-unsaved
+returns-clause-unsaved g c = λ three.
+    let seen = g.S.Sockets.seen in
+    let contents = g.K.Keeper.contents in
+    let new = c.requires.new in
+    let listened = c.in-Ok-listen.ensures in
+    let ran = c.take_turns-then.ensures in
+    let first = c.in-Ok.ensures.first in
+    let fresh = Fresh-listening (seen c.args.sockets.now) (seen c.listen.new.self) new listened.told listened.taken listened.sent listened.used listened.there listened.undrained listened.listening in
+    let fails = ran.unwritten (keeper-of c.take_turns-then.result c.ending_of.result c.ending_of.ensures three) in
+    let known = Headline-known _ _ c.in-Ok.made.headless _ fails.seen fails.earlier c.in-Ok.ensures.known (λ t fed rows were. HandsOut-run c.in-Ok.made.headless fails.earlier (seen c.listen.new.self) fails.seen fails.until first fresh fails.calm t fed rows were) in
+    rw c.last_state.ensures (IfSome-last (kept_of c.take_turns-then.new.headless) c.take_turns-then.new.headless _ refl (λ above. held-earlier _ (contents c.args.keeper.now) (contents c.configure.new.keeper) (contents c.take_turns-then.new.keeper) c.in-Ok.made.headless c.take_turns-then.new.headless (seen c.listen.new.self) (seen c.take_turns-then.new.sockets) first.saved c.configure.ensures.kept fails known))
+
+pub returns-clause-unwoken : goal.returns-clause-unwoken
+returns-clause-unwoken g c = λ none.
+    c.take_turns-then.ensures.unwoken (kept_of-none c.take_turns-then.new.headless (sym c.last_state.ensures ∙ none)) ∙ c.configure.ensures.kept

@@ -1,6 +1,7 @@
 use Rattle.std.proofs.Common.{is_some, sym, ◌∙◌, arith}
 use Rattle.wc_loop.specs.Endings.{number_of, status_of, is_unsaved}
 use Rattle.wc_loop.proofs.OutcomeLemmas.{IsNumber-runs, StatusOf-runs, Common-runs, Waits-runs, IfSome-headline, IfSome-agrees, IfSome-calm, IfSome-causes, printed-by}
+use Rattle.wc_loop.proofs.EndingLemmas.{held-saved}
 use Rattle.wc_loop.proofs.MirrorLemmas.{ClientsHoldDumps-last}
 use Rattle.wc_loop.proofs.WordsLemmas.{commands_texts}
 use Rattle.wc_loop.proofs.program.run_program.Goals as goal
@@ -83,3 +84,15 @@ returns-clause-status g c = λ seven.
     let seen = g.S.Sockets.seen in
     let runs = rw c.as_slice.ensures.value at c.run_words-outcome.ensures.runs in
     rw (c.end.ensures.status seven, c.end.ensures.last) (StatusOf-runs _ _ _ _ _ (seen c.args.sockets.now) (seen c.run_words-outcome.new.sockets) _ _ runs)
+
+pub returns-clause-unsaved : goal.returns-clause-unsaved
+returns-clause-unsaved g c = λ three.
+    let unsaved = rw c.as_slice.ensures.value at c.run_words-outcome.ensures.unsaved in
+    rw c.end.ensures.last (unsaved (sym (c.end.ensures.status (λ seven. omega arith)) ∙ three))
+
+pub returns-clause-held : goal.returns-clause-held
+returns-clause-held g c =
+    let seen = g.S.Sockets.seen in
+    let contents = g.K.Keeper.contents in
+    let unsaved = rw c.as_slice.ensures.value at c.run_words-outcome.ensures.unsaved in
+    rw c.end.ensures.last (held-saved _ (contents c.args.keeper.now) (contents c.run_words-outcome.new.keeper) (seen c.run_words-outcome.new.sockets) (status_of c.run_words-outcome.result.ending) c.run_words-outcome.result.last c.run_words-outcome.ensures.kept unsaved c.run_words-outcome.ensures.unwoken)

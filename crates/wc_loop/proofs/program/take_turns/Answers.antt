@@ -1,7 +1,8 @@
-use Rattle.std.proofs.Common.{◌≡◌, ◌+◌, ap, refl, ◌∙◌, subst, false, arith}
+use Rattle.std.proofs.Common.{◌≡◌, ◌+◌, ap, refl, sym, ◌∙◌, subst, false, arith}
 use Rattle.wc_turns.specs.declared.turn.TurnEnd.TheVariants.{GoOn}
 use Rattle.wc_turns.specs.Served.{leaving_closes}
-use Rattle.wc_turns.specs.Turns.{LoopStep, waits_then}
+use Rattle.wc_turns.specs.Saves.{SavesTurn}
+use Rattle.wc_turns.specs.Turns.{LoopStep, TurnStep, waits_then}
 use Rattle.wc_turns.proofs.CauseLemmas.{caused-following}
 use Rattle.wc_turns.proofs.CloseLemmas.{LoopStep-refl}
 use Rattle.wc_turns.proofs.TurnLemmas.{LoopStep-wider}
@@ -23,6 +24,7 @@ loop-init g c = record {
   written = c.requires.first.unwritten;
   saves = λ first had. had;
   unsaved = λ none. c.requires.first.saved;
+  unwoken = λ none. refl;
   faults = refl;
   count = c.requires.first.turns;
 }
@@ -55,6 +57,20 @@ returns-in_default g c =
           let zero : c.loop.headless.turns ≡ 0 = omega arith in
           let unwoken : waits_then c.turn.result ≡ 0 = omega arith in
           ap (λ (core : CoreView). core.saved) (e.unsaved (unwaited c.turn.result unwoken)) ∙ i.unsaved zero;
+      unwoken = λ none.
+          let zero : c.loop.headless.turns ≡ 0 = omega arith in
+          let unwoken : waits_then c.turn.result ≡ 0 = omega arith in
+          e.unwritten (unwaited c.turn.result unwoken) ∙ i.unwoken zero;
+      unwritten = λ q. record {
+        earlier = c.loop.headless;
+        seen = seen c.loop.sockets;
+        waits = c.loop.counter;
+        until = i.continues;
+        agrees = i.agrees;
+        calm = i.calm;
+        turn = subst (λ end. TurnStep end c.loop.headless c.turn.new.self (seen c.loop.sockets) (seen c.turn.new.sockets)) q e.continues;
+        saves = subst (λ kept. SavesTurn c.args.headless.now.core c.loop.headless.core (g.K.Keeper.contents c.args.keeper.now) kept) (sym (e.kept q)) i.saves;
+      };
       keeper_fault = λ q. subst (λ n. Rose n (g.K.Keeper.faults c.turn.new.keeper)) i.faults (e.keeper_fault q);
     }
 
@@ -76,6 +92,7 @@ loop-preserved g c =
       written = e.written (λ q. cc);
       saves = λ first had. e.saves (λ q. cc) first (i.saves first had);
       unsaved = λ none. absurd (omega arith);
+      unwoken = λ none. absurd (omega arith);
       faults = e.keeper_count (λ q. cc) ∙ i.faults;
       count = count;
     }

@@ -16,6 +16,7 @@ invariant-loop g l = record {
   written : l.headless.core.unwritten ≡ false;
   saves : SavesTurn l.fn.headless.core l.headless.core (g.K.Keeper.contents l.fn.keeper) (g.K.Keeper.contents l.keeper);
   unsaved : l.headless.turns ≡ 0 → l.headless.core.saved ≡ None;
+  unwoken : l.headless.turns ≡ 0 → g.K.Keeper.contents l.keeper ≡ g.K.Keeper.contents l.fn.keeper;
   faults : g.K.Keeper.faults l.keeper ≡ g.K.Keeper.faults l.fn.keeper;
   count : l.headless.turns ≡ l.counter;
 }

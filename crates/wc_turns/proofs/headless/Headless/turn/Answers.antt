@@ -1,7 +1,9 @@
-use Rattle.std.proofs.Common.{◌≡◌, ◌≢◌, true, false, refl, sym, ap, ◌∙◌, subst}
+use Rattle.std.proofs.Common.{◌≡◌, ◌≢◌, true, false, None, refl, sym, ap, ◌∙◌, subst}
 use Rattle.std.proofs.lemmas.Bool.{false≢true}
 use Rattle.wc_core.specs.CoreView.{CoreView}
 use Rattle.wc_turns.specs.declared.turn.TurnEnd.TheVariants.{WaitFault}
+use Rattle.wc_core.specs.Served.{unwritten_of}
+use Rattle.wc_turns.specs.Saves.{WritesText}
 use Rattle.wc_turns.specs.Turns.{LoopStep, faults_then}
 use Rattle.wc_turns.proofs.SaveLemmas.{agrees-written, step-written, closes-written, loses-written, fits-then, woke-once, saves-turn}
 use Rattle.wc_turns.proofs.WaitLemmas.{OnOk-get, OnErr-get}
@@ -122,3 +124,11 @@ returns-clause-saves g c = λ kept.
     let writes = OnOk-get c.save.result _ good c.save.ensures.saves in
     let contents = g.K.Keeper.contents in
     rw states (saves-turn c.args.self.now.core c.serve_turn-end.new.self.core (contents c.args.keeper.now) (contents c.save.new.keeper) c.requires.written c.serve_turn-end.ensures.saves writes)
+
+pub returns-clause-unwritten : goal.returns-clause-unwritten
+returns-clause-unwritten g c = λ waits.
+    let good = sym c.is_err.ensures.value ∙ c.if-is_err.false in
+    let writes = OnOk-get c.save.result _ good c.save.ensures.saves in
+    let contents = g.K.Keeper.contents in
+    let none : unwritten_of c.serve_turn-end.new.self.core ≡ None = rw (c.serve_turn-end.ensures.unsaved waits, c.requires.written) refl in
+    subst (λ o. WritesText o (contents c.args.keeper.now) (contents c.save.new.keeper)) none writes
