@@ -1,2 +1,1 @@
-pub mod ReportLemmas
 pub mod RowLemmas

@@ -4,13 +4,12 @@ use Rattle.std.proofs.lemmas.Grind.{common_steps}
 use Rattle.std.proofs.lemmas.Bool.{cases_lt}
 use Rattle.std.proofs.lemmas.Bool.Decides.{nat_tests}
 use Rattle.std.specs.List.{remove}
-use Rattle.std.specs.Option.{option_map}
 use Rattle.std.proofs.lemmas.List.Edits.{get_or-remove_below, get_or-remove_above, length-remove}
 use Rattle.std.proofs.lemmas.List.{get_or-map, get_or_default}
 use Rattle.wc_outside.specs.Keyed.{at_key, put_at, IsKeyPlace, PlaceOf}
 use Rattle.wc_outside.proofs.KeyedLemmas.{here, following, at_key-key, at_key-put_same, at_key-put_other}
 use Rattle.wc_edge.specs.declared.rows.Row.{Row}
-use Rattle.wc_edge.specs.Rows.{number_of, no_row, freed_link_row, has, undrained_in, blocked_in, is_there, is_undrained, is_blocked, IsAscending}
+use Rattle.wc_edge.specs.Rows.{number_of, no_row, has, is_there, IsAscending}
 
 ascending_after : (n : ℕ) (ns : List ℕ) → IsAscending (n ∷ ns) → IsAscending ns
 ascending_after n ns h = λ i j l m. h (suc i) (suc j) (omega arith) (omega arith)
@@ -172,55 +171,6 @@ pub removed_part : (p : Option Row → Bool) → p None ≡ false → (rows : Li
 removed_part p e rows i k a place j =
     let key : number_of (get_or rows i no_row) ≡ k = at_key-key number_of k rows (get_or rows i no_row) (place.found no_row) in
     ap p (removed rows i k j no_row a place.inside key) ∙ gone p e (eqb j k) (p (at_key number_of j rows)) (at_key number_of j rows) refl
-
-there_more : (b : Bool) (x : Row) (o : Option Row) → has o ≡ true → has (cond b (Some x) o) ≡ true
-there_more true x o e = refl
-there_more false x o e = e
-
--- the link of a row is there
-pub member_there : (rows : List Row) (i : ℕ) (d : Row) → i < length rows → has (at_key number_of (number_of (get_or rows i d)) rows) ≡ true
-member_there [] i d l = absurd (omega arith)
-member_there (r ∷ rs) zero d l = grind (arith, nat_tests)
-member_there (r ∷ rs) (suc i) d l = there_more (eqb (number_of r) (number_of (get_or rs i d))) r (at_key number_of (number_of (get_or rs i d)) rs) (member_there rs i d (omega arith))
-
-pub numbers_freed : (rows : List Row) → map number_of (map freed_link_row rows) ≡ map number_of rows
-numbers_freed [] = refl
-numbers_freed (r ∷ rs) = ap (λ ns. number_of r ∷ ns) (numbers_freed rs)
-
-pub ascending_freed : (rows : List Row) → IsAscending (map number_of rows) → IsAscending (map number_of (map freed_link_row rows))
-ascending_freed rows h = rw (numbers_freed rows) h
-
-freed_step : (b : Bool) (r : Row) (o : Option Row) (q : Option Row) → q ≡ option_map freed_link_row o → cond b (Some (freed_link_row r)) q ≡ option_map freed_link_row (cond b (Some r) o)
-freed_step true r o q e = refl
-freed_step false r o q e = e
-
-at_key_freed : (rows : List Row) (link : ℕ) → at_key number_of link (map freed_link_row rows) ≡ option_map freed_link_row (at_key number_of link rows)
-at_key_freed [] link = refl
-at_key_freed (r ∷ rs) link = freed_step (eqb (number_of r) link) r (at_key number_of link rs) (at_key number_of link (map freed_link_row rs)) (at_key_freed rs link)
-
-there_option : (o : Option Row) → has (option_map freed_link_row o) ≡ has o
-there_option None = refl
-there_option (Some r) = refl
-
-undrained_option : (o : Option Row) → undrained_in (option_map freed_link_row o) ≡ undrained_in o
-undrained_option None = refl
-undrained_option (Some r) = refl
-
-blocked_option : (o : Option Row) → blocked_in (option_map freed_link_row o) ≡ false
-blocked_option None = refl
-blocked_option (Some r) = refl
-
--- once a wait returned
-pub there_freed : (rows : List Row) (link : ℕ) → is_there (map freed_link_row rows) link ≡ is_there rows link
-there_freed rows link = ap has (at_key_freed rows link) ∙ there_option (at_key number_of link rows)
-
-pub undrained_freed : (rows : List Row) (link : ℕ) → is_undrained (map freed_link_row rows) link ≡ is_undrained rows link
-undrained_freed rows link = ap undrained_in (at_key_freed rows link) ∙ undrained_option (at_key number_of link rows)
-
-pub blocked_freed : (rows : List Row) (link : ℕ) → is_blocked (map freed_link_row rows) link ≡ false
-blocked_freed rows link = ap blocked_in (at_key_freed rows link) ∙ blocked_option (at_key number_of link rows)
-
-pub ruleset freed_rows = (there_freed, undrained_freed, blocked_freed)
 
 -- a link that has a place is there
 pub placed_there : (rows : List Row) (k : ℕ) (r : Option ℕ) → PlaceOf number_of k rows r → IfSome r (λ place. IsTrue (is_there rows k))

@@ -1,5 +1,5 @@
 -- The rows of the links that are there, which ascend by number.
-use Rattle.std.specs.Prelude.{ℕ, ◌≡◌, ◌<◌, ◌||◌, Bool, true, false, List, length, map, All, Option}
+use Rattle.std.specs.Prelude.{ℕ, ◌≡◌, ◌<◌, ◌||◌, ◌&&◌, not, Bool, true, false, List, length, map, All, Option}
 use Rattle.std.specs.Prelude.{Some, None, slice_index}
 use Rattle.std.specs.List.{list_any}
 use Rattle.wc_outside.specs.declared.sockets.Token.{Token}
@@ -41,10 +41,6 @@ is_blocked rows link = blocked_in (at_key number_of link rows)
 abbrev pub IsAscending : List ℕ → Type 0
 IsAscending ns = (i j : ℕ) → i < j → j < length ns → slice_index ns i < slice_index ns j
 
--- what each row is once a wait returned
-abbrev pub freed_link_row : Row → Row
-freed_link_row row = record row { blocked = false }
-
 -- a wait has reported these sources so far, and nothing else changed
 pub record SourcesReported (old new : List Row) (listening_old listening_new : Bool)
     (tokens : List Token) : Type 0 where
@@ -54,4 +50,5 @@ pub record SourcesReported (old new : List Row) (listening_old listening_new : B
   pub listening : listening_new ≡ listening_old || list_any is_listener tokens
   pub there : (link : ℕ) → is_there new link ≡ is_there old link
   pub blocked : (link : ℕ) → is_blocked new link ≡ is_blocked old link
+      && not (list_any (is_link link) tokens)
   pub numbers : map number_of new ≡ map number_of old

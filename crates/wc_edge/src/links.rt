@@ -3,9 +3,8 @@ ghost use Rattle.std.specs.Prelude.{◌==◌, not, map, length, ℕ, All, vec_le
 ghost use Rattle.std.specs.Prelude.{IfSome, IsTrue, take, if◌then◌else◌};
 ghost use Rattle.wc_outside.specs.Keyed.{IsKeyPlace, PlaceOf};
 ghost use Rattle.wc_edge.specs.Rows.{number_of, is_there, is_undrained, is_blocked};
-ghost use Rattle.wc_edge.specs.Rows.{freed_link_row, IsAscending, SourcesReported};
+ghost use Rattle.wc_edge.specs.Rows.{IsAscending, SourcesReported};
 
-use crate::report::report;
 use crate::rows::{Row, place_of, set_blocked, set_undrained};
 use crate::streams::Streams;
 use std::alloc::{AllocError, Global};
@@ -120,7 +119,7 @@ impl Links {
         set_blocked(&mut self.rows, place, link, blocked);
     }
 
-    /// Notes that a wait returned, and reports the sources that are pending or not drained.
+    /// Reports the sources that the last wait fetched.
     pub(crate) fn report<R: Net + Clock + RandomSource>(
         &mut self,
         streams: &mut Streams<'_, R>,
@@ -128,10 +127,9 @@ impl Links {
         ready: &mut Ready,
     )
         ensures used { self.new.used ≡ self.old.used }
-        ensures reported { SourcesReported (map freed_link_row self.old.rows.items)
-            self.new.rows.items listening.old listening.new
-            (take ready.new.count ready.new.tokens) }
+        ensures reported { SourcesReported self.old.rows.items self.new.rows.items listening.old
+            listening.new (take ready.new.count ready.new.tokens) }
     {
-        report(streams, &mut self.rows, listening, ready);
+        streams.report(&mut self.rows, listening, ready);
     }
 }

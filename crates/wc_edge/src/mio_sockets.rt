@@ -17,8 +17,9 @@ const LINK_LIMIT: u64 = 1 << 62;
 
 /// Non-blocking TCP sockets of the system, over epoll, which tell nothing of what they gave.
 ///
-/// At most 512 links are there at a time; a connection beyond them is closed as soon as it is
-/// accepted. Each failure raises a count of faults.
+/// The system remembers what is ready, and tells it once. At most 512 links are there at a time; a
+/// connection beyond them is closed as soon as it is accepted. Each failure raises a count of
+/// faults.
 #[derive(Drop)]
 pub struct MioSockets<'a, R: Net + Clock + RandomSource> {
     streams: Streams<'a, R>,
@@ -79,9 +80,8 @@ impl<'a, R: Net + Clock + RandomSource> Sockets for MioSockets<'a, R> {
         Ok(())
     }
 
-    #[tactic(auto, using(crate::proofs::RowLemmas::freed_rows))]
     fn wait(&mut self, timeout_ms: u64, ready: &mut Ready) -> Result<u64, Failed> {
-        let Ok(moment) = self.streams.wait(&self.links.rows, timeout_ms) else {
+        let Ok(moment) = self.streams.wait(timeout_ms) else {
             return Err(fail(&mut self.wait_faults));
         };
         self.links

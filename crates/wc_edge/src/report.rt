@@ -1,14 +1,14 @@
-ghost use Rattle.std.specs.Prelude.{◌≡◌, ◌+◌, ◌<◌, ◌++◌, ◌∷◌, [], map, take};
+ghost use Rattle.std.specs.Prelude.{◌≡◌, ◌+◌, ◌<◌, ◌≤◌, ◌++◌, ◌∷◌, [], map, take, length, IfSome};
+ghost use Rattle.mio.specs.Events.{items};
 ghost use Rattle.wc_outside.specs.Happenings.{IsThere};
-ghost use Rattle.wc_edge.specs.Rows.{number_of, is_there, freed_link_row, IsAscending};
-ghost use Rattle.wc_edge.specs.Rows.{SourcesReported};
+ghost use Rattle.wc_edge.specs.Rows.{number_of, is_there, IsAscending, SourcesReported};
 
-use crate::rows::{Row, free_all, place_of, set_undrained};
-use crate::streams::Streams;
-use std::net::Net;
-use std::random::RandomSource;
-use std::rt::Clock;
-use wc_outside::{READY_LIMIT, Ready, Token};
+use crate::rows::{Row, place_of, set_row};
+use crate::streams::{LISTENER, Peer};
+use mio::Events;
+use mio::event::Event;
+use wc_outside::{Ready, Token};
+use wc_text::LinkId;
 
 /// Puts a source after those that are reported.
 fn add(ready: &mut Ready, source: Token)
@@ -21,64 +21,57 @@ fn add(ready: &mut Ready, source: Token)
     ready.count += 1;
 }
 
-/// Notes that a source was reported and is not drained.
-fn mark<R: Net + Clock + RandomSource>(
-    streams: &mut Streams<'_, R>,
-    rows: &mut [Row],
-    listening: &mut bool,
-    source: Token,
-)
+/// Notes that a source is reported: it is not drained, and not blocked.
+fn mark(rows: &mut [Row], listening: &mut bool, source: Token)
     requires ascending { IsAscending (map number_of rows.old) }
     requires there { IsThere (is_there rows.old) source }
     ensures { SourcesReported rows.old rows.new listening.old listening.new (source ∷ []) }
 {
     match source {
-        Token::Listener => {
-            streams.report_listener();
-            *listening = true;
-        }
+        Token::Listener => *listening = true,
         Token::Link(link) => {
             if let Some(place) = place_of(rows, link) {
-                streams.report_link(place);
-                set_undrained(rows, place, link, true);
+                set_row(rows, place, link, true, false);
             }
         }
     }
 }
 
-/// Reports the sources that are pending or not drained, as many as fit.
-fn report_pending<R: Net + Clock + RandomSource>(
-    streams: &mut Streams<'_, R>,
+/// The source of an event, where it is still there. Notes what the event says of reading a link.
+#[tactic(auto, using(crate::proofs::RowLemmas::placed_there))]
+fn source_of(rows: &[Row], peers: &mut [Peer], event: &Event) -> Option<Token>
+    requires { IsAscending (map number_of rows.now) }
+    ensures { IfSome result (IsThere (is_there rows.now)) }
+{
+    if event.token().0 == LISTENER {
+        return Some(Token::Listener);
+    }
+    let link = LinkId(event.token().0 as u64);
+    let place = place_of(rows, link)?;
+    if let Some(peer) = peers.get_mut(place) {
+        peer.note(event);
+    }
+    Some(Token::Link(link))
+}
+
+/// Reports the sources of events that were fetched. Those of closed links are passed over.
+pub(crate) fn report(
+    events: &Events,
     rows: &mut [Row],
+    peers: &mut [Peer],
     listening: &mut bool,
     ready: &mut Ready,
 )
-    requires { IsAscending (map number_of rows.old) }
+    requires few { length (items events.now) ≤ 64 }
+    requires ascending { IsAscending (map number_of rows.old) }
     ensures { SourcesReported rows.old rows.new listening.old listening.new
         (take ready.new.count ready.new.tokens) }
 {
     ready.count = 0;
-    while ready.count < READY_LIMIT {
-        let Some(source) = streams.oldest(rows, *listening) else {
-            return;
-        };
-        mark(streams, rows, listening, source);
-        add(ready, source);
+    for event in events.iter() {
+        if let Some(source) = source_of(rows, peers, event) {
+            mark(rows, listening, source);
+            add(ready, source);
+        }
     }
-}
-
-/// Notes that a wait returned, and reports the sources that are pending or not drained.
-pub(crate) fn report<R: Net + Clock + RandomSource>(
-    streams: &mut Streams<'_, R>,
-    rows: &mut [Row],
-    listening: &mut bool,
-    ready: &mut Ready,
-)
-    requires { IsAscending (map number_of rows.old) }
-    ensures numbers { map number_of rows.new ≡ map number_of rows.old }
-    ensures reported { SourcesReported (map freed_link_row rows.old) rows.new listening.old
-        listening.new (take ready.new.count ready.new.tokens) }
-{
-    free_all(rows);
-    report_pending(streams, rows, listening, ready);
 }

@@ -1,7 +1,5 @@
-ghost use Rattle.std.specs.Prelude.{◌≡◌, ◌+◌, ◌<◌, ◌≤◌, ◌&&◌, ◌||◌, ◌==◌, not, map};
-ghost use Rattle.std.specs.Prelude.{length, ℕ, if◌then◌else◌};
-ghost use Rattle.wc_edge.specs.Rows.{number_of, is_there, is_undrained, is_blocked};
-ghost use Rattle.wc_edge.specs.Rows.{IsAscending, freed_link_row};
+ghost use Rattle.std.specs.Prelude.{◌≡◌, ◌==◌, map, ℕ, if◌then◌else◌};
+ghost use Rattle.wc_edge.specs.Rows.{number_of, is_there, is_undrained, is_blocked, IsAscending};
 ghost use Rattle.wc_outside.specs.Keyed.{IsKeyPlace, PlaceOf};
 
 use wc_text::LinkId;
@@ -12,7 +10,7 @@ pub(crate) struct Row {
     pub(crate) link: LinkId,
     /// Whether it was reported and is not drained.
     pub(crate) undrained: bool,
-    /// Whether its last write found no room.
+    /// Whether its last write found no room, and no later wait reported it.
     pub(crate) blocked: bool,
 }
 
@@ -38,6 +36,22 @@ pub(crate) fn place_of(rows: &[Row], link: LinkId) -> Option<usize>
     None
 }
 
+/// Notes of a link, which is at this place, whether it is reported and not drained, and whether it
+/// is blocked.
+pub(crate) fn set_row(rows: &mut [Row], place: usize, link: LinkId, undrained: bool, blocked: bool)
+    requires { IsKeyPlace number_of link.0 rows.old place }
+    ensures undrained { (other : ℕ) → is_undrained rows.new other
+        ≡ (if other == link.0 then undrained else is_undrained rows.old other) }
+    ensures blocked { (other : ℕ) → is_blocked rows.new other ≡ (if other == link.0 then blocked
+        else is_blocked rows.old other) }
+    ensures there { (other : ℕ) → is_there rows.new other ≡ is_there rows.old other }
+    ensures numbers { map number_of rows.new ≡ map number_of rows.old }
+{
+    let row = &mut rows[place];
+    row.undrained = undrained;
+    row.blocked = blocked;
+}
+
 /// Notes whether a link, which is at this place, is reported and not drained.
 pub(crate) fn set_undrained(rows: &mut [Row], place: usize, link: LinkId, undrained: bool)
     requires { IsKeyPlace number_of link.0 rows.old place }
@@ -60,13 +74,4 @@ pub(crate) fn set_blocked(rows: &mut [Row], place: usize, link: LinkId, blocked:
     ensures numbers { map number_of rows.new ≡ map number_of rows.old }
 {
     rows[place].blocked = blocked;
-}
-
-/// Notes that no link is blocked any more.
-pub(crate) fn free_all(rows: &mut [Row])
-    ensures { rows.new ≡ map freed_link_row rows.old }
-{
-    for row in rows.iter_mut() {
-        row.blocked = false;
-    }
 }

@@ -1,9 +1,11 @@
-ghost use Rattle.std.specs.Prelude.{◌<◌, length, map, IfOk, IfSome};
-ghost use Rattle.wc_outside.specs.Happenings.{IsReadWithin, IsPutWithin, IsThere};
-ghost use Rattle.wc_edge.specs.Rows.{number_of, is_there, IsAscending};
+ghost use Rattle.std.specs.Prelude.{◌≡◌, ◌<◌, ◌≤◌, length, map, take, IfOk};
+ghost use Rattle.mio.specs.Events.{items, capacity as events_capacity};
+ghost use Rattle.wc_outside.specs.Happenings.{IsReadWithin, IsPutWithin};
+ghost use Rattle.wc_edge.specs.Rows.{number_of, IsAscending, SourcesReported};
 
 use crate::links::SLOTS;
-use crate::rows::{Row, place_of};
+use crate::report::report;
+use crate::rows::Row;
 use mio::event::Event;
 use mio::net::{TcpListener, TcpStream};
 use mio::{Events, Interest, Poll};
@@ -13,60 +15,49 @@ use std::net::{Ipv4Addr, Net, SocketAddr};
 use std::random::RandomSource;
 use std::rt::Clock;
 use std::time::{Duration, SystemTime, UNIX_EPOCH};
-use wc_outside::{Got, Put, Token};
+use wc_outside::{Got, Put, READY_LIMIT, Ready};
 use wc_text::LinkId;
 
 /// The number under which the listener is registered; no link has it.
-const LISTENER: usize = 0;
+pub(crate) const LISTENER: usize = 0;
 
 /// The stream of a link.
+///
+/// A read that takes less than it may has taken all, and what comes later is an event. So the
+/// system need not be asked once more for each request, nor for a link that is reported for writing
+/// alone.
 #[derive(Drop)]
-struct Peer {
+pub(crate) struct Peer {
     stream: TcpStream,
-    /// Whether there may be something to read.
-    pending: bool,
-    /// Whether the last read took all that had come by then.
-    emptied: bool,
-    /// Whether the peer will send no more, or the stream has failed.
-    ended: bool,
-    /// The last wait that reported the link, or 0.
-    reported: u64,
+    /// Whether an event told of something to read, and no read found the end of it.
+    readable: bool,
+    /// Whether a read may take less while there is more: the peer will send no more, the stream has
+    /// failed, or bytes are marked as urgent, before which a read stops.
+    uneven: bool,
+}
+
+impl Peer {
+    /// Notes what an event says of reading.
+    pub(crate) fn note(&mut self, event: &Event) {
+        let uneven = event.is_read_closed() || event.is_error() || event.is_priority();
+        self.uneven = self.uneven || uneven;
+        self.readable = self.readable || uneven || event.is_readable();
+    }
 }
 
 /// The listener and the streams, which are at the places of their rows.
 ///
-/// Readiness is edge-triggered: the system reports a stream once, and it is pending from then on
-/// until a read finds nothing more.
+/// Readiness is edge-triggered: the system reports a source once where something becomes ready, and
+/// keeps what was not fetched.
 #[derive(Drop)]
 pub(crate) struct Streams<'a, R: Net + Clock + RandomSource> {
     rt: &'a R,
     poll: Poll,
     events: Events,
     listener: Option<TcpListener>,
-    /// Whether there may be a connection to accept.
-    arriving: bool,
-    /// The last wait that reported the listener, or 0.
-    reported: u64,
     peers: Vec<Peer>,
-    waits: u64,
-}
-
-/// Notes what an event says of a link.
-fn note(peers: &mut [Peer], rows: &[Row], event: &Event)
-    requires { IsAscending (map number_of rows.now) }
-{
-    let Some(place) = place_of(rows, LinkId(event.token().0 as u64)) else {
-        return;
-    };
-    let Some(peer) = peers.get_mut(place) else {
-        return;
-    };
-    let ended = event.is_read_closed() || event.is_error();
-    if ended || event.is_readable() {
-        peer.pending = true;
-        peer.emptied = false;
-        peer.ended = peer.ended || ended;
-    }
+    ghost room: { events_capacity events ≡ 64 },
+    ghost fetched: { length (items events) ≤ 64 },
 }
 
 fn moment<R: Clock>(rt: &R) -> io::Result<u64> {
@@ -82,12 +73,9 @@ impl<'a, R: Net + Clock + RandomSource> Streams<'a, R> {
         Ok(Streams {
             rt,
             poll: Poll::new(rt)?,
-            events: Events::with_capacity(alloc, SLOTS)?,
+            events: Events::with_capacity(alloc, READY_LIMIT)?,
             listener: None,
-            arriving: false,
-            reported: 0,
             peers: Vec::with_capacity(alloc, SLOTS)?,
-            waits: 0,
         })
     }
 
@@ -102,58 +90,21 @@ impl<'a, R: Net + Clock + RandomSource> Streams<'a, R> {
         Ok(())
     }
 
-    /// Waits until a source is pending or the time is over, and gives the moment.
-    pub(crate) fn wait(&mut self, rows: &[Row], timeout_ms: u64) -> io::Result<u64>
-        requires { IsAscending (map number_of rows.now) }
-    {
-        let is_pending = self.arriving || self.peers.iter().any(|peer| peer.pending);
-        let timeout = Duration::from_millis(if is_pending { 0 } else { timeout_ms });
+    /// Waits until a source becomes ready or the time is over, and gives the moment. A signal ends
+    /// it early, with no source. Where the clock fails, what was fetched is lost.
+    pub(crate) fn wait(&mut self, timeout_ms: u64) -> io::Result<u64> {
+        let timeout = Duration::from_millis(timeout_ms);
         self.poll.poll(&mut self.events, Some(timeout))?;
-        for event in self.events.iter() {
-            if event.token().0 == LISTENER {
-                self.arriving = true;
-            } else {
-                note(&mut self.peers, rows, event);
-            }
-        }
-        self.waits = self.waits.saturating_add(1);
         moment(self.rt)
     }
 
-    /// The source that this wait reports next: of those that are pending or not drained and that
-    /// it did not report yet, the one that was not reported for longest.
-    #[tactic(auto, using(crate::proofs::RowLemmas::member_there))]
-    pub(crate) fn oldest(&self, rows: &[Row], listening: bool) -> Option<Token>
-        ensures { IfSome result (IsThere (is_there rows.now)) }
+    /// Reports the sources that the last wait fetched. Those of closed links are passed over.
+    pub(crate) fn report(&mut self, rows: &mut [Row], listening: &mut bool, ready: &mut Ready)
+        requires { IsAscending (map number_of rows.old) }
+        ensures { SourcesReported rows.old rows.new listening.old listening.new
+            (take ready.new.count ready.new.tokens) }
     {
-        let mut oldest = None;
-        let mut since = self.waits;
-        if self.reported < since && (listening || self.arriving) {
-            oldest = Some(Token::Listener);
-            since = self.reported;
-        }
-        for (place, row) in rows.iter().enumerate() {
-            let Some(peer) = self.peers.get(place) else {
-                return oldest;
-            };
-            if peer.reported < since && (row.undrained || peer.pending) {
-                oldest = Some(Token::Link(row.link));
-                since = peer.reported;
-            }
-        }
-        oldest
-    }
-
-    /// Notes that this wait reports the listener.
-    pub(crate) fn report_listener(&mut self) {
-        self.reported = self.waits;
-    }
-
-    /// Notes that this wait reports the link at this place.
-    pub(crate) fn report_link(&mut self, place: usize) {
-        if let Some(peer) = self.peers.get_mut(place) {
-            peer.reported = self.waits;
-        }
+        report(&self.events, rows, &mut self.peers, listening, ready);
     }
 
     /// The next connection, where one waits. One that was given up meanwhile is passed over.
@@ -161,13 +112,10 @@ impl<'a, R: Net + Clock + RandomSource> Streams<'a, R> {
         let Some(listener) = &self.listener else {
             return Ok(None);
         };
-        for _ in 0..SLOTS {
+        for _ in 0..u64::MAX {
             match listener.accept() {
                 Ok((stream, _)) => return Ok(Some(stream)),
-                Err(error) if error.kind() == ErrorKind::WouldBlock => {
-                    self.arriving = false;
-                    return Ok(None);
-                }
+                Err(error) if error.kind() == ErrorKind::WouldBlock => return Ok(None),
                 Err(error) if error.kind() == ErrorKind::ConnectionAborted => {}
                 Err(error) => return Err(error),
             }
@@ -175,14 +123,21 @@ impl<'a, R: Net + Clock + RandomSource> Streams<'a, R> {
         Ok(None)
     }
 
-    /// Closes the connections that wait.
+    /// Closes the connections that wait, up to 512. Where more may wait the listener is registered
+    /// anew, so that the system tells of it once more.
     pub(crate) fn refuse(&mut self) -> io::Result<()> {
         for _ in 0..SLOTS {
             if self.next_stream()?.is_none() {
-                break;
+                return Ok(());
             }
         }
-        Ok(())
+        let Some(listener) = &mut self.listener else {
+            return Ok(());
+        };
+        let token = mio::Token(LISTENER);
+        self.poll
+            .registry()
+            .reregister(listener, token, Interest::READABLE)
     }
 
     /// Keeps the next connection under this link, and gives its nonce.
@@ -196,20 +151,17 @@ impl<'a, R: Net + Clock + RandomSource> Streams<'a, R> {
         self.poll.registry().register(
             &mut stream,
             mio::Token(link.0 as usize),
-            Interest::READABLE | Interest::WRITABLE,
+            Interest::READABLE | Interest::WRITABLE | Interest::PRIORITY,
         )?;
         self.peers.push(Peer {
             stream,
-            pending: false,
-            emptied: false,
-            ended: false,
-            reported: 0,
+            readable: false,
+            uneven: false,
         })?;
         Ok(Some(nonce))
     }
 
-    /// Reads from the stream at this place. Where the last read took all that had come, and no
-    /// event came since, it asks the system for nothing.
+    /// Reads from the stream at this place, where an event told of something to read.
     pub(crate) fn read(&mut self, place: usize, into: &mut [u8]) -> io::Result<Got>
         requires { 0 < length into.old }
         ensures { IfOk result (IsReadWithin (length into.old)) }
@@ -218,18 +170,17 @@ impl<'a, R: Net + Clock + RandomSource> Streams<'a, R> {
         let Some(peer) = self.peers.get_mut(place) else {
             return Err(io::Error::from(ErrorKind::NotFound));
         };
-        if peer.emptied && !peer.ended {
-            peer.pending = false;
+        if !peer.readable {
             return Ok(Got::NotYet);
         }
         match peer.stream.read(into) {
             Ok(0) => Ok(Got::End),
             Ok(count) => {
-                peer.emptied = count < room;
+                peer.readable = count == room || peer.uneven;
                 Ok(Got::Bytes(count))
             }
             Err(error) if error.kind() == ErrorKind::WouldBlock => {
-                peer.pending = false;
+                peer.readable = false;
                 Ok(Got::NotYet)
             }
             Err(error) => Err(error),

@@ -1,10 +1,13 @@
-//! Plays one client over real sockets, and a file that is kept, and prints what comes back.
+//! Plays clients over real sockets, and a file that is kept, and prints what comes back.
 //!
 //! Nothing is claimed here: what is printed is compared.
 #![tactic(auto)]
 
-mod client_story;
+mod crowd_story;
+mod edge_story;
 mod keeper_story;
+mod ping_story;
+mod stage;
 
 use std::io;
 use wc_edge::StdSink;
@@ -20,7 +23,9 @@ fn print_to_the_sink(rt: &HostRuntime) -> io::Result<()> {
 }
 
 fn main(rt: HostRuntime) -> io::Result<()> {
-    client_story::play(&rt)?;
+    ping_story::play(&rt)?;
+    edge_story::play(&rt)?;
+    crowd_story::play(&rt)?;
     keeper_story::play(&rt)?;
     print_to_the_sink(&rt)
 }

@@ -6,7 +6,7 @@ use std::process::ExitCode;
 use std::{env, io};
 use wc_edge::{FileKeeper, MioSockets, StdSink};
 use wc_loop::{config_dir, needs_sockets, run_program};
-use wc_outside::MemorySockets;
+use wc_scripted::MemorySockets;
 use wc_text::Items;
 
 /// The exit status for want of memory before the first wait.

@@ -31,12 +31,14 @@ AgreesWithSockets-first first seen f new = record {
     counted = sym new.used;
     there = new.there;
     undrained = new.undrained;
+    blocked = new.blocked;
     listens = new.listening;
     clients = λ k. refl;
     once = tt;
+    apart = tt;
     unknown = λ k below. refl;
   });
-  told = λ t on. rw (f.clock, f.links, f.used, f.ran, new.taken t) (record { clock = refl; tails = λ k. tt; fresh = λ k below. refl; events = refl });
+  told = λ t on. rw (f.clock, f.links, f.used, f.ran, new.taken t) (record { clock = refl; tails = λ k. tt; fresh = λ k below. refl; events = refl; silent = λ none. refl; empty = λ none k. refl });
 }
 
 -- ---- the clients of connections of which none is leaving
@@ -117,12 +119,13 @@ HandsOut-run first last a b h f new calm t fed rows were =
 
 -- the listener was opened at new sockets
 pub Fresh-listening : (a b : Seen) → IsNew a → (IsTrue b.tells → IsTrue a.tells) → (IsTrue b.tells → b.taken ≡ a.taken ++ []) → (IsTrue b.tells → (k : ℕ) → b.sent k ≡ a.sent k)
-    → b.used ≡ a.used → ((k : ℕ) → b.there k ≡ a.there k) → ((k : ℕ) → b.undrained k ≡ a.undrained k) → b.listening ≡ a.listening → NothingTaken b
-Fresh-listening a b new told taken sent used there undrained listening = record {
+    → b.used ≡ a.used → ((k : ℕ) → b.there k ≡ a.there k) → ((k : ℕ) → b.undrained k ≡ a.undrained k) → b.listening ≡ a.listening → ((k : ℕ) → b.blocked k ≡ a.blocked k) → NothingTaken b
+Fresh-listening a b new told taken sent used there undrained listening blocked = record {
   used = used ∙ new.used;
   there = λ k. there k ∙ new.there k;
   undrained = λ k. undrained k ∙ new.undrained k;
   listening = listening ∙ new.listening;
+  blocked = λ k. blocked k ∙ new.blocked k;
   taken = λ t. taken t ∙ append-nil a.taken ∙ new.taken (told t);
   sent = λ t k. sent t k ∙ new.sent (told t) k;
 }

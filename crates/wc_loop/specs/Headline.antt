@@ -95,5 +95,6 @@ pub record NothingTaken (seen : Seen) : Type 0 where
   pub there : (link : ℕ) → seen.there link ≡ false
   pub undrained : (link : ℕ) → seen.undrained link ≡ false
   pub listening : seen.listening ≡ false
+  pub blocked : (link : ℕ) → seen.blocked link ≡ false
   pub taken : IsTrue seen.tells → seen.taken ≡ []
   pub sent : IsTrue seen.tells → (link : ℕ) → seen.sent link ≡ []

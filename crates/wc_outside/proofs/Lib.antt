@@ -1,2 +1,1 @@
 pub mod KeyedLemmas
-pub mod RowLemmas

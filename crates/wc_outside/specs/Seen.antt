@@ -1,5 +1,5 @@
 -- What is seen of sockets.
-use Rattle.std.specs.Prelude.{ℕ, ◌≡◌, Bool, false, List, [], IsTrue}
+use Rattle.std.specs.Prelude.{ℕ, ◌≡◌, ◌<◌, ◌⊎◌, Bool, true, false, List, [], IsTrue}
 use Rattle.wc_outside.specs.declared.happening.Asked.{Asked}
 use Rattle.wc_outside.specs.declared.happening.Happening.{Happening}
 use Rattle.wc_outside.specs.Faults.{Faults}
@@ -22,7 +22,7 @@ pub record Seen : Type 0 where
   -- whether a link was reported ready and is not drained, and whether the listener was
   pub undrained : ℕ → Bool
   pub listening : Bool
-  -- whether the last write to a link that is there found no room, and no later wait returned
+  -- whether the last write to a link that is there found no room, and no later wait reported it
   pub blocked : ℕ → Bool
   -- how often they failed
   pub faults : Faults
@@ -38,3 +38,18 @@ pub record IsNew (seen : Seen) : Type 0 where
   pub sent : IsTrue seen.tells → (link : ℕ) → seen.sent link ≡ []
   pub asked : IsTrue seen.tells → seen.asked ≡ []
   pub choked : IsTrue seen.tells → (link : ℕ) → seen.choked link ≡ false
+
+-- every source is drained
+pub record IsDrained (seen : Seen) : Type 0 where
+  pub links : (link : ℕ) → seen.undrained link ≡ false
+  pub listener : seen.listening ≡ false
+
+-- a source was reported ready and is not drained
+abbrev pub HasUndrained : Seen → Type 0
+HasUndrained seen = ((link : ℕ) × (seen.undrained link ≡ true)) ⊎ (seen.listening ≡ true)
+
+-- how long a wait may take, in milliseconds: 100 where every source is drained, and else, or before
+-- anything was given, no time
+pub record MayWait (time : ℕ) (seen : Seen) : Type 0 where
+  pub long : 0 < time → (time ≡ 100) × IsDrained seen
+  pub short : time ≡ 0 → IsTrue seen.tells → HasUndrained seen ⊎ (seen.taken ≡ [])

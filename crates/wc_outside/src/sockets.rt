@@ -4,7 +4,7 @@ ghost use Rattle.std.specs.Prelude.{Bool, [], IsTrue, IfOk, IfSome, IsSome, IsEr
 ghost use Rattle.std.specs.Prelude.{length, if◌then◌else◌, All};
 ghost use Rattle.std.specs.List.{list_any};
 ghost use Rattle.wc_outside.specs.Faults.{NeverFall, Rose};
-ghost use Rattle.wc_outside.specs.Seen.{Seen};
+ghost use Rattle.wc_outside.specs.Seen.{Seen, MayWait};
 ghost use Rattle.wc_outside.specs.Happenings.{wait_gives, listen_gives, accept_gives, read_gives};
 ghost use Rattle.wc_outside.specs.Happenings.{write_gives, sent_of, found_no_room, found_nothing};
 ghost use Rattle.wc_outside.specs.Happenings.{found_no_arrival, used_after, is_arrival};
@@ -97,7 +97,14 @@ pub trait Sockets {
     /// Waits until a source is ready or the time is over, and gives the moment, in milliseconds
     /// since 1970. `ready` then has sources that are ready: the listener, or links that are there.
     /// It fails only where the count of failed waits rose.
+    ///
+    /// Readiness is reported once: a source is reported where something became ready since it was
+    /// last drained, and a link whose write found no room once it has room again. So who is told of
+    /// a source goes on with it until it is drained, and does not wait for longer than no time while
+    /// one is not. An implementation over a system that reports levels has to leave out what it
+    /// reported before; one over a system that reports edges owes nothing but the numbers of links.
     fn wait(&mut self, timeout_ms: u64, ready: &mut Ready) -> Result<u64, Failed>
+        requires { MayWait timeout_ms (seen self.old) }
         ensures told { IsTrue (seen self.new).tells → IsTrue (seen self.old).tells }
         ensures taken { IsTrue (seen self.new).tells → (seen self.new).taken ≡ (seen self.old).taken
             ++ wait_gives result }
@@ -120,7 +127,9 @@ pub trait Sockets {
             ≡ (seen self.old).listening) }
         ensures undrained_as_before { OnErr result ((link : ℕ) → (seen self.new).undrained link
             ≡ (seen self.old).undrained link) }
-        ensures freed { OnOk result ((link : ℕ) → (seen self.new).blocked link ≡ false) }
+        ensures freed { OnOk result ((link : ℕ) → (seen self.new).blocked link
+            ≡ (seen self.old).blocked link && not (list_any (is_link link)
+            (take ready.new.count ready.new.tokens))) }
         ensures blocked_as_before { OnErr result ((link : ℕ) → (seen self.new).blocked link
             ≡ (seen self.old).blocked link) }
         ensures counts { NeverFall (seen self.old).faults (seen self.new).faults }

@@ -1,9 +1,9 @@
 use crate::escapes::escape;
 use crate::forms::{Forms, add_str};
-use crate::stage::{LINKS, link};
+use crate::stage::{NAMED, link};
 use crate::wrong::Wrong;
 use std::alloc::{AllocError, Global};
-use wc_outside::MemorySockets;
+use wc_scripted::MemorySockets;
 use wc_text::{LinkId, Text};
 
 /// What was sent on each link, and how much of it the script has named.
@@ -12,7 +12,7 @@ pub struct Answers<'a> {
     alloc: Global,
     sockets: &'a MemorySockets,
     /// How many bytes of a link were named, by its number.
-    named: [usize; LINKS as usize],
+    named: [usize; NAMED as usize],
 }
 
 /// The first message of these bytes, or all that there is of it.
@@ -68,7 +68,7 @@ impl<'a> Answers<'a> {
         Answers {
             alloc,
             sockets,
-            named: [0; LINKS as usize],
+            named: [0; NAMED as usize],
         }
     }
 

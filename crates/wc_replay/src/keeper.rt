@@ -1,5 +1,6 @@
 use std::alloc::Global;
-use wc_outside::{Failed, KeepFault, Keeper, MemoryKeeper};
+use wc_outside::{Failed, KeepFault, Keeper};
+use wc_scripted::MemoryKeeper;
 use wc_text::Text;
 
 /// A keeper in memory, whose reads may find no memory for what they read.

@@ -4,10 +4,11 @@ use crate::answers::Answers;
 use crate::escapes::escape;
 use crate::forms::Forms;
 use crate::keeper::ReplayKeeper;
-use crate::stage::{Kept, LINKS, Stage};
+use crate::stage::{Kept, SHOWN, Stage};
 use std::alloc::{AllocError, Global};
 use wc_loop::{Ended, run_program};
-use wc_outside::{MemorySink, MemorySockets, Sockets};
+use wc_outside::Sockets;
+use wc_scripted::{MemorySink, MemorySockets};
 use wc_text::{Items, LinkId, NoMemory};
 use wc_turns::{Closed, Headless};
 
@@ -18,10 +19,10 @@ struct Wanted<'a> {
     links: u64,
 }
 
-/// Writes why a link was closed in the last turn, where scripts may name it.
+/// Writes why a link was closed in the last turn, where it is written of its link.
 fn show_closed(out: &mut String, closed: &Closed) -> Result<(), AllocError> {
     let (number, cause) = (closed.link.0, closed.cause);
-    if number >= LINKS {
+    if number >= SHOWN {
         return Ok(());
     }
     write!(out, "  link {number} closed in the last turn: {cause:?}\n")
@@ -114,7 +115,7 @@ fn show_links(
 ) -> Result<(), AllocError> {
     let mut answers = Answers::new(alloc, sockets);
     compare_all(out, &mut answers, forms, wanted.lines)?;
-    for number in 1..LINKS.min(wanted.links.saturating_add(1)) {
+    for number in 1..SHOWN.min(wanted.links.saturating_add(1)) {
         show_link(out, sockets, &answers, LinkId(number))?;
     }
     Ok(())

@@ -5,14 +5,18 @@ use crate::forms::{Forms, number};
 use crate::keeper::ReplayKeeper;
 use crate::wrong::Wrong;
 use std::alloc::Global;
-use wc_outside::{MemoryKeeper, MemorySockets, Scripted, Sockets};
+use wc_outside::Sockets;
+use wc_scripted::{MemoryKeeper, MemorySockets, Scripted};
 use wc_text::{Items, LinkId, NoMemory, Text};
 
 /// What each client is to salt its password with.
 const NONCE: [u8; 16] = *b"abcdbcdecdefdefg";
 
-/// The links of a script have numbers below this one.
-pub const LINKS: u64 = 12;
+/// The links that a script names have numbers below this one.
+pub const NAMED: u64 = 80;
+
+/// What became of the links with numbers below this one is written.
+pub const SHOWN: u64 = 12;
 
 /// What comes on the sockets of a run, and which of their calls fail.
 #[derive(Drop)]
@@ -50,7 +54,7 @@ pub struct Stage {
 /// The link that a word names.
 pub fn link(word: &str) -> Result<LinkId, Wrong> {
     let number = number(word)?;
-    if number < 1 || number >= LINKS {
+    if number < 1 || number >= NAMED {
         return Err(Wrong::Link);
     }
     Ok(LinkId(number))

@@ -1,5 +1,5 @@
 -- What the loop keeps is what the happenings make of it.
-use Rattle.std.proofs.Common.{◌≡◌, ◌≢◌, ℕ, ◌+◌, ◌-◌, ◌^◌, ◌<◌, Bool, true, false, cond, eqb, min, List, [], ◌∷◌, ◌++◌, length, Option, Some, None, IfSome, refl, sym, ap, ◌∙◌, subst, arith, get_or, set}
+use Rattle.std.proofs.Common.{◌≡◌, ◌≢◌, ℕ, ◌+◌, ◌-◌, ◌^◌, ◌<◌, ◌≤◌, Bool, true, false, cond, eqb, min, List, [], ◌∷◌, ◌++◌, length, map, Option, Some, None, IfSome, is_some, refl, sym, ap, ◌∙◌, subst, arith, get_or, set}
 use Rattle.std.specs.List.{flat_map}
 use Rattle.std.proofs.lemmas.List.{append-nil, length-append}
 use Rattle.std.proofs.lemmas.Grind.{flat_map-append}
@@ -11,12 +11,12 @@ use Rattle.wc_outside.specs.declared.happening.Happening.TheVariants.{Woke, Acce
 use Rattle.wc_turns.specs.declared.links.LinkState.{LinkState}
 use Rattle.wc_outside.specs.Keyed.{at_key, put_at, without, IsKeyPlace}
 use Rattle.wc_turns.specs.Lines.{rest}
-use Rattle.wc_turns.specs.Links.{link_number, marked_at}
+use Rattle.wc_turns.specs.Links.{link_number}
 use Rattle.wc_turns.specs.Events.{bytes_on, tail_on, clock, clock_from, is_tick, events_of, whole, read_events}
 use Rattle.wc_turns.specs.Tails.{IsTail}
 use Rattle.wc_turns.specs.Steps.{SameTails}
 use Rattle.wc_turns.specs.Turns.{AgreesWithHappenings}
-use Rattle.wc_turns.proofs.KeyedLemmas.{at_key-key, at_key-put_other, at_key-put_same, at_key-filter_other, at_key-filter_same}
+use Rattle.wc_turns.proofs.KeyedLemmas.{at_key-key, at_key-put_other, at_key-put_same, at_key-filter_other, at_key-filter_same, none_of, same-keys}
 use Rattle.wc_turns.proofs.LineLemmas.{rest-append}
 use Rattle.wc_turns.proofs.RunLemmas.{events_from-push}
 
@@ -83,14 +83,20 @@ timeless-listen (Some m) = refl
 events-more : (ran ran' : ℕ) (taken : List Happening) (h : Happening) → ran ≡ min (length (whole taken)) (2 ^ 64 - 1) → ran' ≡ min (ran + length (events_of taken h)) (2 ^ 64 - 1) → ran' ≡ min (length (whole (taken ++ h ∷ []))) (2 ^ 64 - 1)
 events-more ran ran' taken h e f = let l = ap length (events_from-push [] taken h) in let m = length-append (whole taken) (events_of taken h) in omega arith
 
+-- where no event is reached after one more happening, none was before, and it has none
+none-before : (ran ran' n : ℕ) → ran' ≡ min (ran + n) (2 ^ 64 - 1) → ran' ≡ 0 → (ran ≡ 0) × (n ≡ 0)
+none-before ran ran' n e z = (omega arith, omega arith)
+
 -- a happening without bytes, at which the clock stays
-pub For-quiet : (clocked : Option ℕ) (states : List LinkState) (used ran ran' : ℕ) (taken : List Happening) (h : Happening) → ((k : ℕ) → bytes_on k h ≡ []) → IsTimeless h → ran' ≡ min (ran + length (events_of taken h)) (2 ^ 64 - 1)
+pub For-quiet : (clocked : Option ℕ) (states : List LinkState) (used ran ran' : ℕ) (taken : List Happening) (h : Happening) → ((k : ℕ) → bytes_on k h ≡ []) → IsTimeless h → 1 ≤ length (events_of taken h) → ran' ≡ min (ran + length (events_of taken h)) (2 ^ 64 - 1)
     → AgreesWithHappenings clocked states used ran taken → AgreesWithHappenings clocked states used ran' (taken ++ h ∷ [])
-For-quiet clocked states used ran ran' taken h q timeless count s = record {
+For-quiet clocked states used ran ran' taken h q timeless some count s = record {
   clock = s.clock ∙ sym (clock-push None taken h ∙ timeless (clock taken));
   tails = λ k. rw (tail_on-quiet k taken h (q k)) (s.tails k);
   fresh = λ k l. text-quiet k taken h (q k) ∙ s.fresh k l;
   events = events-more ran ran' taken h s.events count;
+  silent = λ z. absurd (let p = none-before ran ran' (length (events_of taken h)) count z in let n = p.1 in omega arith);
+  empty = λ z. absurd (let p = none-before ran ran' (length (events_of taken h)) count z in let n = p.1 in omega arith);
 }
 
 -- a wait returned
@@ -101,28 +107,23 @@ For-woke clocked states used ran ran' moment taken count s = record {
   tails = λ k. rw (tail_on-quiet k taken (Woke moment) refl) (s.tails k);
   fresh = λ k l. text-quiet k taken (Woke moment) refl ∙ s.fresh k l;
   events = events-more ran ran' taken (Woke moment) s.events count;
-}
+  silent = λ z. absurd (begun z);
+  empty = λ z. absurd (begun z);
+} where
+  -- the first wait that returns is the start, and later ones come after it
+  begun : ran' ≡ 0 → ⊥
+  begun z =
+      let p = none-before ran ran' (length (events_of taken (Woke moment))) count z in
+      let none = p.1 in
+      let start : length (events_of taken (Woke moment)) ≡ 1 = ap (λ ts. length (events_of ts (Woke moment))) (s.silent p.0) in
+      omega arith
 
-pub For-states : (clocked : Option ℕ) (states states' : List LinkState) (used ran : ℕ) (taken : List Happening) → SameTails states states' → AgreesWithHappenings clocked states used ran taken → AgreesWithHappenings clocked states' used ran taken
-For-states clocked states states' used ran taken same s = record { clock = s.clock; tails = λ k. same k (tail_on k taken) (s.tails k); fresh = s.fresh; events = s.events }
+pub For-states : (clocked : Option ℕ) (states states' : List LinkState) (used ran : ℕ) (taken : List Happening) → SameTails states states' → ((k : ℕ) → at_key link_number k states ≡ None → at_key link_number k states' ≡ None) → AgreesWithHappenings clocked states used ran taken → AgreesWithHappenings clocked states' used ran taken
+For-states clocked states states' used ran taken same missing s = record { clock = s.clock; tails = λ k. same k (tail_on k taken) (s.tails k); fresh = s.fresh; events = s.events; silent = s.silent; empty = λ z k. missing k (s.empty z k) }
 
-SameTails-put : (j k : ℕ) (b : Bool) → eqb k j ≡ b → (old new : LinkState) (states : List LinkState) (line : List ℕ) → at_key link_number j states ≡ Some old → link_number new ≡ j → new.tail ≡ old.tail
-    → IfSome (at_key link_number k states) (λ state. IsTail line state.tail) → IfSome (at_key link_number k (put_at link_number j new states)) (λ state. IsTail line state.tail)
-SameTails-put j k true e old new states line found key tail h =
-    let same : k ≡ j = grind (arith, nat_tests) in
-    let here : at_key link_number k states ≡ Some old = ap (λ i. at_key link_number i states) same ∙ found in
-    let there : at_key link_number k (put_at link_number j new states) ≡ Some new = ap (λ i. at_key link_number i (put_at link_number j new states)) same ∙ at_key-put_same link_number j old new states key found in
-    rw (there, tail) (rw here at h)
-SameTails-put j k false e old new states line found key tail h =
-    let other : k ≢ j = λ q. grind (arith, nat_tests) in
-    rw (at_key-put_other link_number j k new states key other) h
-
-marked-by : (j : ℕ) (u : Bool) (states : List LinkState) (o : Option LinkState) → at_key link_number j states ≡ o → SameTails states (marked_at j u states o)
-marked-by j u states None e = λ k line h. h
-marked-by j u states (Some state) e = λ k line h. SameTails-put j k (eqb k j) refl state (record state { undrained = u }) states line e (at_key-key link_number j states state e) refl h
-
-pub SameTails-marked : (j : ℕ) (u : Bool) (states : List LinkState) → SameTails states (marked_at j u states (at_key link_number j states))
-SameTails-marked j u states = marked-by j u states (at_key link_number j states) refl
+-- the same links are there
+pub missing-as : (states states' : List LinkState) → map link_number states' ≡ map link_number states → (k : ℕ) → at_key link_number k states ≡ None → at_key link_number k states' ≡ None
+missing-as states states' numbers k none = none_of _ (same-keys link_number k states' states numbers ∙ ap is_some none)
 
 pub IfSome-None : {X : Type 0} (o : Option X) (P : X → Type 0) → o ≡ None → IfSome o P
 IfSome-None None P e = tt
@@ -159,7 +160,16 @@ For-read clocked states used ran ran' taken link place old new bytes p at same u
       tails = λ k. read-tails link k (eqb k link.0) refl taken states old new bytes found key t (s.tails k);
       fresh = λ k l. text-quiet k taken (Read link bytes) (bytes_on-other link k bytes (below k l)) ∙ s.fresh k l;
       events = events-more ran ran' taken (Read link bytes) s.events count;
+      silent = λ z. absurd (begun found z);
+      empty = λ z. absurd (begun found z);
     })
+  where
+    -- a link came before it is read
+    begun : at_key link_number link.0 states ≡ Some old → ran' ≡ 0 → ⊥
+    begun found z =
+        let p = none-before ran ran' (length (read_events link.0 (tail_on link.0 taken) bytes)) count z in
+        let q : None ≡ Some old = sym (s.empty p.0 link.0) ∙ found in
+        cc
 
 -- what is on the link of a place
 pub IsTail-at : (clocked : Option ℕ) (states : List LinkState) (used ran : ℕ) (taken : List Happening) (link place : ℕ) (old : LinkState) → IsKeyPlace link_number link states place → old ≡ get_or states place old → AgreesWithHappenings clocked states used ran taken → IsTail (tail_on link taken) old.tail
@@ -191,6 +201,8 @@ For-came clocked states used used' ran ran' taken link nonce state next next' ke
       tails = λ k. rw (tail_on-quiet k taken (Accepted link nonce) refl) (came-tails taken states state k t (s.tails k));
       fresh = λ k l. text-quiet k taken (Accepted link nonce) refl ∙ s.fresh k (omega arith);
       events = events-more ran ran' taken (Accepted link nonce) s.events count;
+      silent = λ z. absurd (let p = none-before ran ran' 1 count z in let n = p.1 in omega arith);
+      empty = λ z. absurd (let p = none-before ran ran' 1 count z in let n = p.1 in omega arith);
     }
 
 pub For-refused : (clocked : Option ℕ) (states : List LinkState) (used used' ran ran' : ℕ) (taken : List Happening) (link : LinkId) (nonce : List ℕ) → used' ≡ used + 1 → ran' ≡ min (ran + 1) (2 ^ 64 - 1)
@@ -200,4 +212,6 @@ For-refused clocked states used used' ran ran' taken link nonce next count s = r
   tails = λ k. rw (tail_on-quiet k taken (Accepted link nonce) refl) (s.tails k);
   fresh = λ k l. text-quiet k taken (Accepted link nonce) refl ∙ s.fresh k (omega arith);
   events = events-more ran ran' taken (Accepted link nonce) s.events count;
+  silent = λ z. absurd (let p = none-before ran ran' 1 count z in let n = p.1 in omega arith);
+  empty = λ z. absurd (let p = none-before ran ran' 1 count z in let n = p.1 in omega arith);
 }

@@ -14,17 +14,19 @@ use Rattle.wc_core.specs.Served.{clients_of, state_of, WereTold, Means, Distinct
 use Rattle.wc_core.proofs.DidLemmas.{saves-as}
 use Rattle.wc_turns.specs.declared.links.LinkState.{LinkState}
 use Rattle.wc_turns.specs.declared.links.Closed.{Closed}
+use Rattle.wc_turns.specs.declared.links.Links.{Links}
 use Rattle.wc_turns.specs.declared.headless.Headless.{Headless}
 use Rattle.wc_turns.specs.Hands.{Delivers}
-use Rattle.wc_turns.specs.Links.{link_number, is_undrained, with_closed, marked_at}
+use Rattle.wc_turns.specs.Links.{link_number, is_undrained, is_blocked, with_closed, changed_at, drained_state, written_link}
 use Rattle.wc_turns.specs.Served.{leaving_closes}
-use Rattle.wc_turns.specs.Turns.{Moment, moment, point, LoopStep, IsSettled, has_failed}
+use Rattle.wc_turns.specs.Turns.{AgreesWithSockets, Moment, moment, point, LoopStep, IsSettled, has_failed}
 use Rattle.wc_turns.proofs.HandsLemmas.{Delivers-stays, Delivers-close}
-use Rattle.wc_turns.proofs.KeyedLemmas.{at_key-key, at_key-put_same, at_key-put_other, at_key-filter_same, at_key-filter_other, none_of, or-false, same-keys}
+use Rattle.wc_turns.proofs.KeyedLemmas.{at_key-key, at_key-put_same, at_key-put_other, at_key-filter_same, at_key-filter_other, at_key-without_none, none_of, or-false, same-keys, distinct-without}
+use Rattle.wc_turns.proofs.ChangedLemmas.{keeps-drained, keeps-written, numbers-changed, SameTails-changed, undrained-drained, blocked-drained, undrained-written, blocked-written}
 use Rattle.wc_turns.proofs.PointLemmas.{MomentAdvances-none, MomentAdvances-same, spoils-more, gone-none, none-same, or_left, or_right}
-use Rattle.wc_turns.proofs.ConnectionLemmas.{leaving-gone, clients-gone, links-gone, departed-there, departed-first, departed-leaving, clients-forget, distinct-without}
-use Rattle.wc_turns.proofs.AgreesLemmas.{For-states, SameTails-marked, SameTails-without}
-use Rattle.wc_turns.proofs.StepLemmas.{SameSets, among-same, OnlyLinks, LoopStep-flags, links-marked, undrained-marked}
+use Rattle.wc_turns.proofs.ConnectionLemmas.{leaving-gone, clients-gone, links-gone, departed-there, departed-first, departed-leaving, clients-forget}
+use Rattle.wc_turns.proofs.AgreesLemmas.{For-states, SameTails-without}
+use Rattle.wc_turns.proofs.StepLemmas.{SameSets, among-same, OnlyLinks, LoopStep-flags}
 use Rattle.wc_turns.proofs.TurnLemmas.{Call, LoopStep-still, NeverFall-refl}
 
 -- what the core means stays where its clients do
@@ -42,7 +44,7 @@ LoopStep-quiet x a b call sent choked same =
     (λ t s rows were. MomentAdvances-same rows (moment x a) (moment x b) refl refl (sent t) (choked t) [] (call.taken t) [] refl were tt)
 
 SameSets-refl : (a : Seen) → SameSets a a
-SameSets-refl a = record { used = refl; there = λ k. refl; undrained = λ k. refl; listening = refl }
+SameSets-refl a = record { used = refl; there = λ k. refl; undrained = λ k. refl; blocked = λ k. refl; listening = refl }
 
 pub Call-refl : (a : Seen) → Call a a []
 Call-refl a = record { told = λ t. t; taken = λ t. sym (append-nil a.taken); asked = λ t. refl; counts = NeverFall-refl a.faults }
@@ -87,9 +89,11 @@ LoopStep-sent x a b link count (Some s) bytes found u call sent choked same =
       counted = t.counted ∙ sym same.used;
       there = λ k. same.there k ∙ t.there k;
       undrained = λ k. same.undrained k ∙ t.undrained k;
+      blocked = λ k. same.blocked k ∙ t.blocked k;
       listens = same.listening ∙ t.listens;
       clients = λ k. kept k ∙ t.clients k;
       once = subst Distinct (sym links) t.once;
+      apart = t.apart;
       unknown = t.unknown;
     })
     (λ t st. st)
@@ -118,13 +122,39 @@ nothing_sent sent false = append-nil sent
 
 -- a link is drained
 pub LoopStep-drained : (x y : Headless) (a b : Seen) (link : ℕ) → OnlyLinks x y → Call a b [] → (IsTrue b.tells → (k : ℕ) → b.sent k ≡ a.sent k) → (IsTrue b.tells → (k : ℕ) → b.choked k ≡ a.choked k)
-    → b.used ≡ a.used → ((k : ℕ) → b.there k ≡ a.there k) → b.listening ≡ a.listening → ((k : ℕ) → b.undrained k ≡ (a.undrained k && not (eqb k link && true)))
-    → y.links.opened.items ≡ marked_at link false x.links.opened.items (at_key link_number link x.links.opened.items) → LoopStep true 0 0 x y a b
-LoopStep-drained x y a b link only call sent choked used there listening undrained opened =
+    → b.used ≡ a.used → ((k : ℕ) → b.there k ≡ a.there k) → b.listening ≡ a.listening → ((k : ℕ) → b.undrained k ≡ (a.undrained k && not (eqb k link && true))) → ((k : ℕ) → b.blocked k ≡ a.blocked k)
+    → y.links.opened.items ≡ changed_at link drained_state x.links.opened.items (at_key link_number link x.links.opened.items) → LoopStep true 0 0 x y a b
+LoopStep-drained x y a b link only call sent choked used there listening undrained blocked opened =
+    let states = x.links.opened.items in
     LoopStep-flags x y a b only call sent choked used there listening
-    (λ k. ap (λ ss. is_some (at_key link_number k ss)) opened ∙ links-marked link k false x.links.opened.items)
-    (λ k h. undrained-marked link k x.links.opened.items (a.undrained k) (b.undrained k) (undrained k) h ∙ sym (ap (λ ss. is_undrained (at_key link_number k ss)) opened))
-    (rw opened (SameTails-marked link false x.links.opened.items))
+    (ap (λ ss. map link_number ss) opened ∙ numbers-changed link drained_state keeps-drained states)
+    (λ k h. undrained k ∙ ap (λ u. u && not (eqb k link && true)) h ∙ sym (undrained-drained link k states) ∙ sym (ap (λ ss. is_undrained (at_key link_number k ss)) opened))
+    (λ k s. blocked k ∙ s.blocked k ∙ sym (blocked-drained link k states) ∙ sym (ap (λ ss. is_blocked (at_key link_number k ss)) opened))
+    (rw opened (SameTails-changed link drained_state keeps-drained states))
+
+-- only the links are others
+pub OnlyLinks-with : (x : Headless) (links : Links) → links.closed ≡ x.links.closed → OnlyLinks x (record x { links = links })
+OnlyLinks-with x links closed = record { core = refl; clock = refl; used = refl; listening = refl; turns = refl; ran = refl; closed = ap (λ v. v.items) closed }
+
+-- what is seen where the last write to a link found no room, or some
+abbrev pub seen_written : ℕ → Bool → Seen → Seen
+seen_written link found a = record a { blocked = λ k. cond (eqb k link) found (a.blocked k) }
+
+pub there-unless : (b : Bool) → (b ≡ false → ⊥) → b ≡ true
+there-unless true h = refl
+there-unless false h = absurd (h refl)
+
+-- it is kept whether a write to a link found no room; the rest of the write comes after that
+pub LoopStep-written : (x y : Headless) (a : Seen) (link : ℕ) (found : Bool) → OnlyLinks x y → (found ≡ true → a.there link ≡ true)
+    → y.links.opened.items ≡ changed_at link (written_link found) x.links.opened.items (at_key link_number link x.links.opened.items) → LoopStep true 0 0 x y a (seen_written link found a)
+LoopStep-written x y a link found only there opened =
+    let states = x.links.opened.items in
+    let c = Call-refl a in
+    LoopStep-flags x y a (seen_written link found a) only (record { told = c.told; taken = c.taken; asked = c.asked; counts = c.counts }) (λ t k. refl) (λ t k. refl) refl (λ k. refl) refl
+    (ap (λ ss. map link_number ss) opened ∙ numbers-changed link (written_link found) (keeps-written found) states)
+    (λ k h. h ∙ sym (undrained-written link k found states) ∙ sym (ap (λ ss. is_undrained (at_key link_number k ss)) opened))
+    (λ k s. ap (λ b. cond (eqb k link) found b) (s.blocked k) ∙ sym (blocked-written link k found states (λ f. sym (s.there link) ∙ there f)) ∙ sym (ap (λ ss. is_blocked (at_key link_number k ss)) opened))
+    (rw opened (SameTails-changed link (written_link found) (keeps-written found) states))
 
 -- ---- a link is closed
 
@@ -203,9 +233,9 @@ close-hands k d a b blocked false e ss us tk sent choked there used settled =
 
 -- the link of a client that is leaving is closed
 pub LoopStep-close : (x y : Headless) (d : Departure) (a b : Seen) → departure_of x.core.connections ≡ Some d → ClosesOne x y d → Call a b [] → (IsTrue b.tells → (k : ℕ) → b.sent k ≡ a.sent k) → (IsTrue b.tells → (k : ℕ) → b.choked k ≡ (a.choked k || (eqb k d.link.0 && a.blocked k)))
-    → b.used ≡ a.used → ((k : ℕ) → b.there k ≡ (a.there k && not (eqb k d.link.0))) → ((k : ℕ) → b.undrained k ≡ (a.undrained k && not (eqb k d.link.0))) → b.listening ≡ a.listening → IsSettled d.link.0 x.core.connections a
-    → LoopStep true 0 0 x y a b
-LoopStep-close x y d a b leaving one call sent choked used there undrained listening settled =
+    → b.used ≡ a.used → ((k : ℕ) → b.there k ≡ (a.there k && not (eqb k d.link.0))) → ((k : ℕ) → b.undrained k ≡ (a.undrained k && not (eqb k d.link.0))) → b.listening ≡ a.listening → ((k : ℕ) → b.blocked k ≡ (a.blocked k && not (eqb k d.link.0)))
+    → (AgreesWithSockets x a → IsSettled d.link.0 x.core.connections a) → LoopStep true 0 0 x y a b
+LoopStep-close x y d a b leaving one call sent choked used there undrained listening blocked settled =
     let here = departed-there x.core.connections d leaving in
     let connections : y.core.connections ≡ without connection_link d.link.0 x.core.connections = ap (λ c. c.connections) one.core in
     let closes : Closed = record { link = d.link; cause = d.cause } in
@@ -216,18 +246,20 @@ LoopStep-close x y d a b leaving one call sent choked used there undrained liste
       counted = s.counted ∙ sym used;
       there = λ k. there k ∙ ap (λ q. q && not (eqb k d.link.0)) (s.there k) ∙ closed-seen is_some refl link_number k d.link.0 (eqb k d.link.0) refl x.links.opened.items;
       undrained = λ k. undrained k ∙ ap (λ q. q && not (eqb k d.link.0)) (s.undrained k) ∙ closed-seen is_undrained refl link_number k d.link.0 (eqb k d.link.0) refl x.links.opened.items;
+      blocked = λ k. blocked k ∙ ap (λ q. q && not (eqb k d.link.0)) (s.blocked k) ∙ closed-seen is_blocked refl link_number k d.link.0 (eqb k d.link.0) refl x.links.opened.items;
       listens = listening ∙ s.listens;
       clients = λ k. sym (closed-seen is_some refl connection_link k d.link.0 (eqb k d.link.0) refl x.core.connections) ∙ ap (λ q. q && not (eqb k d.link.0)) (s.clients k) ∙ closed-seen is_some refl link_number k d.link.0 (eqb k d.link.0) refl x.links.opened.items;
-      once = distinct-without d.link.0 x.core.connections s.once;
+      once = distinct-without connection_link d.link.0 x.core.connections s.once;
+      apart = distinct-without link_number d.link.0 x.links.opened.items s.apart;
       unknown = λ k below. none_of _ (sym (closed-seen is_some refl link_number k d.link.0 (eqb k d.link.0) refl x.links.opened.items) ∙ ap (λ o. is_some o && not (eqb k d.link.0)) (s.unknown k below));
     }))
-    (λ t s. rw (one.clock, one.used, one.ran, one.opened) (For-states x.clock x.links.opened.items (without link_number d.link.0 x.links.opened.items) x.used x.ran a.taken (SameTails-without d.link.0 x.links.opened.items) s))
+    (λ t s. rw (one.clock, one.used, one.ran, one.opened) (For-states x.clock x.links.opened.items (without link_number d.link.0 x.links.opened.items) x.used x.ran a.taken (SameTails-without d.link.0 x.links.opened.items) (λ k none. at_key-without_none link_number d.link.0 k x.links.opened.items none) s))
     (λ t s rows were. record {
       means = clients-means x.core y.core rows (without connection_link d.link.0 x.core.connections) one.core (clients-forget d.link.0 d.cause x.core.connections s.among.once (departed-leaving x.core.connections d leaving s.among.once)) were;
       stops = tt;
       hands = λ k. close-hands k d (moment x a) (moment y b) a.blocked (eqb k d.link.0) refl connections one.used (call.taken t ∙ append-nil a.taken) (sent t k) (choked t k) here
           (used-known d.link.0 x.used (at_key link_number d.link.0 x.links.opened.items) (s.among.unknown d.link.0) (sym (s.among.clients d.link.0) ∙ here) (nat_le d.link.0 x.used) refl)
-          (settled (call.told t));
+          (settled s (call.told t));
       closes = refl;
       quits = ap (λ c. c.quits) one.core ∙ sym (or-false x.core.quits);
     })

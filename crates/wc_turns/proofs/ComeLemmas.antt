@@ -23,38 +23,37 @@ use Rattle.wc_core.proofs.ConnectionLemmas.{links-push}
 use Rattle.wc_turns.specs.declared.links.LinkState.{LinkState}
 use Rattle.wc_turns.specs.declared.headless.Headless.{Headless}
 use Rattle.wc_turns.specs.Hands.{Delivers}
-use Rattle.wc_turns.specs.Links.{link_number, is_undrained, new_state}
+use Rattle.wc_turns.specs.Links.{link_number, is_undrained, is_blocked, new_state}
 use Rattle.wc_turns.specs.Run.{closings}
 use Rattle.wc_turns.specs.Served.{closed_by, leaving_closes, NobodyLeaving}
 use Rattle.wc_turns.specs.Steps.{LinkComes, TakesArrival, RefusesArrival, IsRefusal}
 use Rattle.wc_turns.specs.Turns.{AgreesOnLinks, Moment, moment, point, CausedBy, IsCaused, LoopStep}
-use Rattle.wc_turns.proofs.KeyedLemmas.{or-false, none_of, is_some-push, at_key-push_same, at_key-push_other}
+use Rattle.wc_turns.proofs.KeyedLemmas.{or-false, none_of, is_some-push, at_key-push_same, at_key-push_other, absent-missing, distinct-push, map-push}
 use Rattle.wc_turns.proofs.HandsLemmas.{Delivers-stays, Delivers-close}
 use Rattle.wc_turns.proofs.RunLemmas.{ReachesEvents-all}
 use Rattle.wc_turns.proofs.PointLemmas.{MomentAdvances-comes, MomentAdvances-same, fresh_by, spoils-more}
-use Rattle.wc_turns.proofs.ConnectionLemmas.{absent-missing, distinct-push}
 use Rattle.wc_turns.proofs.AgreesLemmas.{For-came, For-refused}
 use Rattle.wc_turns.proofs.CloseLemmas.{and-not-true, and-not-false}
 use Rattle.wc_turns.proofs.TurnLemmas.{Call, LoopStep-step, LoopStep-still}
 
-came-flag : (k : ℕ) (states : List LinkState) (state : LinkState) (t : Bool) → eqb (link_number state) k ≡ t → state.undrained ≡ false → at_key link_number (link_number state) states ≡ None → is_undrained (at_key link_number k states) ≡ is_undrained (at_key link_number k (states ++ state ∷ []))
-came-flag k states state true e off none =
+came-flag : (f : Option LinkState → Bool) → f None ≡ false → (k : ℕ) (states : List LinkState) (state : LinkState) (t : Bool) → eqb (link_number state) k ≡ t → f (Some state) ≡ false → at_key link_number (link_number state) states ≡ None → f (at_key link_number k states) ≡ f (at_key link_number k (states ++ state ∷ []))
+came-flag f off-none k states state true e off none =
     let same : link_number state ≡ k = grind (arith, nat_tests) in
     let before : at_key link_number k states ≡ None = ap (λ i. at_key link_number i states) (sym same) ∙ none in
     let after : at_key link_number k (states ++ state ∷ []) ≡ Some state = ap (λ i. at_key link_number i (states ++ state ∷ [])) (sym same) ∙ at_key-push_same link_number state states none in
-    rw (before, after, off) refl
-came-flag k states state false e off none =
+    ap f before ∙ off-none ∙ sym off ∙ sym (ap f after)
+came-flag f off-none k states state false e off none =
     let other : link_number state ≢ k = λ q. grind (arith, nat_tests) in
-    ap is_undrained (sym (at_key-push_other link_number k state states other))
+    ap f (sym (at_key-push_other link_number k state states other))
 
 no-connection : (states : List LinkState) (connections : List Connection) (used : ℕ) (listening : Bool) (seen : Seen) → AgreesOnLinks states connections used listening seen → (k : ℕ) → used < k → at_key connection_link k connections ≡ None
 no-connection states connections used listening seen s k below = none_of _ (s.clients k ∙ ap is_some (s.unknown k below))
 
 -- an arrival has a client
 pub LoopStep-came : (x y : Headless) (a b : Seen) (link : LinkId) (nonce : List ℕ) → LinkComes x y link → TakesArrival x y link nonce → x.core.quits ≡ false → NobodyLeaving x.core.connections → Call a b (Accepted link nonce ∷ []) → link.0 ≡ a.used + 1 → b.used ≡ a.used + 1
-    → (IsTrue b.tells → (k : ℕ) → b.sent k ≡ a.sent k) → (IsTrue b.tells → (k : ℕ) → b.choked k ≡ a.choked k) → ((k : ℕ) → b.there k ≡ (a.there k || eqb link.0 k)) → ((k : ℕ) → b.undrained k ≡ a.undrained k) → b.listening ≡ a.listening
+    → (IsTrue b.tells → (k : ℕ) → b.sent k ≡ a.sent k) → (IsTrue b.tells → (k : ℕ) → b.choked k ≡ a.choked k) → ((k : ℕ) → b.there k ≡ (a.there k || eqb link.0 k)) → ((k : ℕ) → b.undrained k ≡ a.undrained k) → ((k : ℕ) → b.blocked k ≡ a.blocked k) → b.listening ≡ a.listening
     → LoopStep true 0 0 x y a b
-LoopStep-came x y a b link nonce comes admits going calm call next used sent choked there undrained listening =
+LoopStep-came x y a b link nonce comes admits going calm call next used sent choked there undrained blocked listening =
     let connections : y.core.connections ≡ x.core.connections ++ new_connection x.core.options link nonce ∷ [] = ap (λ c. c.connections) admits.core in
     let stays : y.core.starved ≡ x.core.starved = ap (λ c. c.starved) admits.core in
     LoopStep-step true 0 0 x y a b (Accepted link nonce ∷ []) [] call (λ below. (let e = comes.turns in omega arith)) refl refl
@@ -67,10 +66,12 @@ LoopStep-came x y a b link nonce comes admits going calm call next used sent cho
     rw (admits.opened, comes.listening, connections) (record {
       counted = comes.used ∙ next ∙ sym used;
       there = λ k. there k ∙ ap (λ q. q || eqb link.0 k) (s.there k) ∙ sym (some k);
-      undrained = λ k. undrained k ∙ s.undrained k ∙ came-flag k x.links.opened.items (new_state link) (eqb link.0 k) refl refl (s.unknown link.0 above);
+      undrained = λ k. undrained k ∙ s.undrained k ∙ came-flag is_undrained refl k x.links.opened.items (new_state link) (eqb link.0 k) refl refl (s.unknown link.0 above);
+      blocked = λ k. blocked k ∙ s.blocked k ∙ came-flag is_blocked refl k x.links.opened.items (new_state link) (eqb link.0 k) refl refl (s.unknown link.0 above);
       listens = listening ∙ s.listens;
       clients = λ k. is_some-push connection_link k (new_connection x.core.options link nonce) x.core.connections ∙ ap (λ q. q || eqb link.0 k) (s.clients k) ∙ sym (some k);
-      once = subst Distinct (sym (links-push x.core.connections (new_connection x.core.options link nonce))) (distinct-push link.0 (map connection_link x.core.connections) s.once (absent-missing link.0 x.core.connections none));
+      once = subst Distinct (sym (links-push x.core.connections (new_connection x.core.options link nonce))) (distinct-push link.0 (map connection_link x.core.connections) s.once (absent-missing connection_link link.0 x.core.connections none));
+      apart = subst Distinct (sym (map-push link_number x.links.opened.items (new_state link))) (distinct-push link.0 (map link_number x.links.opened.items) s.apart (absent-missing link_number link.0 x.links.opened.items (s.unknown link.0 above)));
       unknown = λ k below.
           let number' = comes.used in
           let higher : x.used < k = omega arith in
@@ -87,7 +88,7 @@ LoopStep-came x y a b link nonce comes admits going calm call next used sent cho
       reaches = ReachesEvents-all x.core.quits y.core.quits x.ran y.ran (Arrives link.0 nonce ∷ []) going (λ fits. comes.ran);
       rises = omega arith;
       advances = λ same below rows were.
-          let came = (admits.step (absent-missing link.0 x.core.connections none) rows).comes same below were in
+          let came = (admits.step (absent-missing connection_link link.0 x.core.connections none) rows).comes same below were in
           let acts : (run (state_of x.core rows) (Arrives link.0 nonce ∷ [])).acts ≡ [] = ap (λ xs. xs ++ []) came.acts in
           MomentAdvances-comes rows (moment x a) (moment y b) [] (Arrives link.0 nonce ∷ []) (comes.used ∙ next') came.means (λ k. ap (sent_to k) acts) came.bytes
           (λ k. ap (λ ss. nat_le k (x.used + 1) && is_none (at_key connection_link k ss)) connections ∙ fresh_by k link.0 x.used (eqb link.0 k) refl next' (at_key connection_link k x.core.connections) (at_key connection_link k (x.core.connections ++ new_connection x.core.options link nonce ∷ [])) (is_some-push connection_link k (new_connection x.core.options link nonce) x.core.connections))
@@ -139,9 +140,9 @@ gone-link k link true u e f states none = let same : k ≡ link = grind (arith, 
 gone-link k link false false e f states none = and-not-false _ ∙ or-false _
 gone-link k link false true e f states none = absurd (let same : link ≡ k = grind (arith, nat_tests) in let other : k ≢ link = λ q. grind (arith, nat_tests) in other (sym same))
 
-gone-flag : (k link : ℕ) (t : Bool) → eqb k link ≡ t → (states : List LinkState) → at_key link_number link states ≡ None → (is_undrained (at_key link_number k states) && not t) ≡ is_undrained (at_key link_number k states)
-gone-flag k link true e states none = let same : k ≡ link = grind (arith, nat_tests) in let here : at_key link_number k states ≡ None = ap (λ i. at_key link_number i states) same ∙ none in rw here refl
-gone-flag k link false e states none = and-not-false _
+gone-flag : (f : Option LinkState → Bool) → f None ≡ false → (k link : ℕ) (t : Bool) → eqb k link ≡ t → (states : List LinkState) → at_key link_number link states ≡ None → (f (at_key link_number k states) && not t) ≡ f (at_key link_number k states)
+gone-flag f off-none k link true e states none = let same : k ≡ link = grind (arith, nat_tests) in let here : at_key link_number k states ≡ None = ap (λ i. at_key link_number i states) same ∙ none in and-not-true _ ∙ sym (ap f here ∙ off-none)
+gone-flag f off-none k link false e states none = and-not-false _
 
 -- what the core means stays where only its count of want changes
 refused-means : (old new : CoreView) (told : Told) (state : State) → new ≡ record old { starved = new.starved } → state ≡ state_of old told → WereTold old told → Means new state
@@ -152,9 +153,9 @@ refused-means old new told state core same were =
 
 -- an arrival has no client, and its link is closed at once
 pub LoopStep-refused : (x y : Headless) (a b : Seen) (link : LinkId) (nonce : List ℕ) → LinkComes x y link → RefusesArrival x y link nonce → x.core.quits ≡ false → NobodyLeaving x.core.connections → Call a b (Accepted link nonce ∷ []) → link.0 ≡ a.used + 1 → b.used ≡ a.used + 1
-    → (IsTrue b.tells → (k : ℕ) → b.sent k ≡ a.sent k) → (IsTrue b.tells → (k : ℕ) → b.choked k ≡ false → a.choked k ≡ false) → ((k : ℕ) → b.there k ≡ ((a.there k || eqb link.0 k) && not (eqb k link.0))) → ((k : ℕ) → b.undrained k ≡ (a.undrained k && not (eqb k link.0))) → b.listening ≡ a.listening
+    → (IsTrue b.tells → (k : ℕ) → b.sent k ≡ a.sent k) → (IsTrue b.tells → (k : ℕ) → b.choked k ≡ false → a.choked k ≡ false) → ((k : ℕ) → b.there k ≡ ((a.there k || eqb link.0 k) && not (eqb k link.0))) → ((k : ℕ) → b.undrained k ≡ (a.undrained k && not (eqb k link.0))) → ((k : ℕ) → b.blocked k ≡ (a.blocked k && not (eqb k link.0))) → b.listening ≡ a.listening
     → LoopStep true 0 0 x y a b
-LoopStep-refused x y a b link nonce comes r going calm call next used sent choked there undrained listening =
+LoopStep-refused x y a b link nonce comes r going calm call next used sent choked there undrained blocked listening =
     LoopStep-step true 0 0 x y a b (Accepted link nonce ∷ []) (closed_by link r.cause) call (λ below. (let e = comes.turns in omega arith)) refl refl
     (λ t s.
     let above : x.used < link.0 = (let c = s.among.counted in omega arith) in
@@ -163,19 +164,21 @@ LoopStep-refused x y a b link nonce comes r going calm call next used sent choke
     (λ t s.
     let above : x.used < link.0 = (let c = s.among.counted in omega arith) in
     let none = no-connection x.links.opened.items x.core.connections x.used x.listening a s.among link.0 above in
-    saves-as x.core y.core (record x.core { starved = y.core.starved }) (r.core (absent-missing link.0 x.core.connections none)) refl refl)
+    saves-as x.core y.core (record x.core { starved = y.core.starved }) (r.core (absent-missing connection_link link.0 x.core.connections none)) refl refl)
     (λ s.
     let above : x.used < link.0 = (let c = s.counted in omega arith) in
     let none = no-connection x.links.opened.items x.core.connections x.used x.listening a s link.0 above in
     let absent = s.unknown link.0 above in
-    let connections : y.core.connections ≡ x.core.connections = ap (λ c. c.connections) (r.core (absent-missing link.0 x.core.connections none)) in
+    let connections : y.core.connections ≡ x.core.connections = ap (λ c. c.connections) (r.core (absent-missing connection_link link.0 x.core.connections none)) in
     rw (r.opened absent, comes.listening, connections) (record {
       counted = comes.used ∙ next ∙ sym used;
       there = λ k. there k ∙ ap (λ q. (q || eqb link.0 k) && not (eqb k link.0)) (s.there k) ∙ gone-link k link.0 (eqb k link.0) (eqb link.0 k) refl refl x.links.opened.items absent;
-      undrained = λ k. undrained k ∙ ap (λ q. q && not (eqb k link.0)) (s.undrained k) ∙ gone-flag k link.0 (eqb k link.0) refl x.links.opened.items absent;
+      undrained = λ k. undrained k ∙ ap (λ q. q && not (eqb k link.0)) (s.undrained k) ∙ gone-flag is_undrained refl k link.0 (eqb k link.0) refl x.links.opened.items absent;
+      blocked = λ k. blocked k ∙ ap (λ q. q && not (eqb k link.0)) (s.blocked k) ∙ gone-flag is_blocked refl k link.0 (eqb k link.0) refl x.links.opened.items absent;
       listens = listening ∙ s.listens;
       clients = s.clients;
       once = s.once;
+      apart = s.apart;
       unknown = λ k below. (let number' = comes.used in let higher : x.used < k = omega arith in s.unknown k higher);
     }))
     (λ t s on.
@@ -184,7 +187,7 @@ LoopStep-refused x y a b link nonce comes r going calm call next used sent choke
     (λ t s.
     let above : x.used < link.0 = (let c = s.among.counted in omega arith) in
     let none = no-connection x.links.opened.items x.core.connections x.used x.listening a s.among link.0 above in
-    let absent = absent-missing link.0 x.core.connections none in
+    let absent = absent-missing connection_link link.0 x.core.connections none in
     let next' : link.0 ≡ x.used + 1 = next ∙ ap (λ n. n + 1) (sym s.among.counted) in
     let core = r.core absent in
     record {
@@ -212,9 +215,9 @@ and-nothing false = refl
 
 -- no arrival is ready
 pub LoopStep-idle : (x : Headless) (a b : Seen) → Call a b [] → (IsTrue b.tells → (k : ℕ) → b.sent k ≡ a.sent k) → (IsTrue b.tells → (k : ℕ) → b.choked k ≡ a.choked k)
-    → b.used ≡ a.used → ((k : ℕ) → b.there k ≡ a.there k) → ((k : ℕ) → b.undrained k ≡ a.undrained k) → b.listening ≡ (a.listening && not true) → LoopStep true 0 0 x (record x { listening = false }) a b
-LoopStep-idle x a b call sent choked used there undrained listening =
+    → b.used ≡ a.used → ((k : ℕ) → b.there k ≡ a.there k) → ((k : ℕ) → b.undrained k ≡ a.undrained k) → ((k : ℕ) → b.blocked k ≡ a.blocked k) → b.listening ≡ (a.listening && not true) → LoopStep true 0 0 x (record x { listening = false }) a b
+LoopStep-idle x a b call sent choked used there undrained blocked listening =
     LoopStep-still x (record x { listening = false }) a b call refl refl refl refl (inl (refl, refl)) (λ s. refl)
-    (λ s. record { counted = s.counted ∙ sym used; there = λ k. there k ∙ s.there k; undrained = λ k. undrained k ∙ s.undrained k; listens = listening ∙ and-nothing _; clients = s.clients; once = s.once; unknown = s.unknown })
+    (λ s. record { counted = s.counted ∙ sym used; there = λ k. there k ∙ s.there k; undrained = λ k. undrained k ∙ s.undrained k; blocked = λ k. blocked k ∙ s.blocked k; listens = listening ∙ and-nothing _; clients = s.clients; once = s.once; apart = s.apart; unknown = s.unknown })
     (λ t s. s)
     (λ t s rows were. MomentAdvances-same rows (moment x a) (moment (record x { listening = false }) b) refl refl (sent t) (choked t) [] (call.taken t) [] refl were tt)

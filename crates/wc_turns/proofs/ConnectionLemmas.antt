@@ -204,40 +204,6 @@ clients-forget k cause (connection ∷ connections) d h = forget-by (eqb (connec
         let rest : leaving_on k connections ≡ Some cause = rw e at h in
         rw e (ap (λ cs. cond (is_open connection) (connection.session.client ∷ cs) cs) (ih rest))
 
--- links stay distinct
-absent-without : (n k : ℕ) (connections : List Connection) → Absent n (map connection_link connections) → Absent n (map connection_link (without connection_link k connections))
-absent-without n k [] h = tt
-absent-without n k (connection ∷ connections) h = absent-by (eqb (connection_link connection) k) refl (absent-without n k connections h.1)
-  where
-    absent-by : (t : Bool) → eqb (connection_link connection) k ≡ t → Absent n (map connection_link (without connection_link k connections)) → Absent n (map connection_link (without connection_link k (connection ∷ connections)))
-    absent-by true e ih = rw e ih
-    absent-by false e ih = rw e (h.0, ih)
-
-pub distinct-without : (k : ℕ) (connections : List Connection) → Distinct (map connection_link connections) → Distinct (map connection_link (without connection_link k connections))
-distinct-without k [] h = tt
-distinct-without k (connection ∷ connections) h = distinct-by (eqb (connection_link connection) k) refl (distinct-without k connections h.1)
-  where
-    distinct-by : (t : Bool) → eqb (connection_link connection) k ≡ t → Distinct (map connection_link (without connection_link k connections)) → Distinct (map connection_link (without connection_link k (connection ∷ connections)))
-    distinct-by true e ih = rw e ih
-    distinct-by false e ih = rw e (absent-without (connection_link connection) k connections h.0, ih)
-
--- a new link is none of those that are there
-pub absent-missing : (n : ℕ) (connections : List Connection) → at_key connection_link n connections ≡ None → Absent n (map connection_link connections)
-absent-missing n [] h = tt
-absent-missing n (connection ∷ connections) h = missing-by (eqb (connection_link connection) n) refl (absent-missing n connections)
-  where
-    missing-by : (t : Bool) → eqb (connection_link connection) n ≡ t → (at_key connection_link n connections ≡ None → Absent n (map connection_link connections)) → Absent n (map connection_link (connection ∷ connections))
-    missing-by true e ih = absurd (let q : Some connection ≡ None = rw e at h in cc)
-    missing-by false e ih = ((λ q. grind (arith, nat_tests)), ih (rw e at h))
-
-absent-push : (n m : ℕ) (ns : List ℕ) → Absent n ns → (m ≡ n → ⊥) → Absent n (ns ++ m ∷ [])
-absent-push n m [] h other = (other, tt)
-absent-push n m (x ∷ ns) h other = (h.0, absent-push n m ns h.1 other)
-
-pub distinct-push : (m : ℕ) (ns : List ℕ) → Distinct ns → Absent m ns → Distinct (ns ++ m ∷ [])
-distinct-push m [] d h = (tt, tt)
-distinct-push m (n ∷ ns) d h = (absent-push n m ns d.0 (λ q. h.0 (sym q)), distinct-push m ns d.1 h.1)
-
 -- ---- a connection is changed in its place
 
 put-seen : {A : Type 0} (f : List Connection → A) (g : Connection → A → A) → ((connection : Connection) (connections : List Connection) → f (connection ∷ connections) ≡ g connection (f connections)) → (k : ℕ) (s y : Connection) (connections : List Connection) → at_key connection_link k connections ≡ Some s → ((a : A) → g y a ≡ g s a) → f (put_at connection_link k y connections) ≡ f connections

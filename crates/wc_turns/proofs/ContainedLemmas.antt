@@ -15,7 +15,7 @@ use Rattle.wc_turns.specs.Links.{link_number, new_state, with_closed}
 use Rattle.wc_turns.specs.Served.{closed_by, closed_number}
 use Rattle.wc_turns.specs.Steps.{LinkComes, TakesArrival, RefusesArrival}
 use Rattle.wc_turns.specs.Turns.{TakesHappening}
-use Rattle.wc_turns.proofs.KeyedLemmas.{or-true, is_some-push, at_key-filter_other}
+use Rattle.wc_turns.proofs.KeyedLemmas.{or-true, is_some-push, at_key-filter_other, same-keys}
 
 pub KeepsLinks-refl : (x : Headless) → KeepsLinks x x
 KeepsLinks-refl x = record { used = omega arith; rises = omega arith; known = λ k h. h; came = λ k above below. absurd (omega arith) }
@@ -140,4 +140,4 @@ KeepsLinks-refused x y link nonce comes r next none =
         inl (or-here _ _ (ap (λ cs. is_some (at_key closed_number k cs)) (r.closed none ∙ ap (λ o. x.links.closed.items ++ closed_by link o) e) ∙ is_some-push closed_number k (record { link = link; cause = why }) x.links.closed.items ∙ or-here (eqb link.0 k) (is_some (at_key closed_number k x.links.closed.items)) here))
 
 pub KeepsLinks-takes : (x y : Headless) (h : Happening) → TakesHappening x y h → x.core.starved ≤ y.core.starved → KeepsLinks x y
-KeepsLinks-takes x y h takes rises = KeepsLinks-same x y takes.used rises takes.links takes.closed
+KeepsLinks-takes x y h takes rises = KeepsLinks-same x y takes.used rises (λ k. same-keys link_number k y.links.opened.items x.links.opened.items takes.numbers) takes.closed

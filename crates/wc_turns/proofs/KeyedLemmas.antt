@@ -1,8 +1,9 @@
 -- Further laws of lists whose elements go by a key.
-use Rattle.std.proofs.Common.{◌≡◌, ℕ, ◌+◌, ◌≤◌, Bool, true, false, cond, eqb, List, [], ◌∷◌, ◌++◌, length, map, Option, Some, None, IsSome, is_some, ◌||◌, refl, sym, arith}
+use Rattle.std.proofs.Common.{◌≡◌, ◌≢◌, ℕ, ◌+◌, ◌≤◌, Bool, true, false, cond, eqb, List, [], ◌∷◌, ◌++◌, length, map, Option, Some, None, IsSome, is_some, ◌||◌, refl, sym, ap, ◌∙◌, arith}
 use Rattle.std.proofs.lemmas.Bool.{false≢true}
 use Rattle.std.proofs.lemmas.Bool.Decides.{nat_tests}
 use Rattle.wc_outside.specs.Keyed.{at_key, put_at, without}
+use Rattle.wc_core.specs.Served.{Absent, Distinct}
 pub use Rattle.wc_outside.proofs.KeyedLemmas.{PlaceOf-position, at_key-key, put_at-same, at_key-put_other, at_key-put_same, at_key-push_other, at_key-filter_other, at_key-filter_same}
 
 -- what is missing stays missing
@@ -95,3 +96,51 @@ same-keys key k (x ∷ xs) (y ∷ ys) e =
     let head : key x ≡ key y = cc in
     let tail : map key xs ≡ map key ys = cc in
     grind (arith, nat_tests, same-keys key k xs ys tail)
+
+-- ---- no key is that of two elements
+
+absent-without : {X : Type 0} (key : X → ℕ) (n k : ℕ) (xs : List X) → Absent n (map key xs) → Absent n (map key (without key k xs))
+absent-without key n k [] h = tt
+absent-without key n k (x ∷ xs) h = absent-by (eqb (key x) k) refl (absent-without key n k xs h.1)
+  where
+    absent-by : (t : Bool) → eqb (key x) k ≡ t → Absent n (map key (without key k xs)) → Absent n (map key (without key k (x ∷ xs)))
+    absent-by true e ih = rw e ih
+    absent-by false e ih = rw e (h.0, ih)
+
+pub distinct-without : {X : Type 0} (key : X → ℕ) (k : ℕ) (xs : List X) → Distinct (map key xs) → Distinct (map key (without key k xs))
+distinct-without key k [] h = tt
+distinct-without key k (x ∷ xs) h = distinct-by (eqb (key x) k) refl (distinct-without key k xs h.1)
+  where
+    distinct-by : (t : Bool) → eqb (key x) k ≡ t → Distinct (map key (without key k xs)) → Distinct (map key (without key k (x ∷ xs)))
+    distinct-by true e ih = rw e ih
+    distinct-by false e ih = rw e (absent-without key (key x) k xs h.0, ih)
+
+-- a new key is none of those that are there
+pub absent-missing : {X : Type 0} (key : X → ℕ) (n : ℕ) (xs : List X) → at_key key n xs ≡ None → Absent n (map key xs)
+absent-missing key n [] h = tt
+absent-missing key n (x ∷ xs) h = missing-by (eqb (key x) n) refl (absent-missing key n xs)
+  where
+    missing-by : (t : Bool) → eqb (key x) n ≡ t → (at_key key n xs ≡ None → Absent n (map key xs)) → Absent n (map key (x ∷ xs))
+    missing-by true e ih = absurd (let q : Some x ≡ None = rw e at h in cc)
+    missing-by false e ih = ((λ q. grind (arith, nat_tests)), ih (rw e at h))
+
+absent-push : (n m : ℕ) (ns : List ℕ) → Absent n ns → (m ≡ n → ⊥) → Absent n (ns ++ m ∷ [])
+absent-push n m [] h other = (other, tt)
+absent-push n m (x ∷ ns) h other = (h.0, absent-push n m ns h.1 other)
+
+pub distinct-push : (m : ℕ) (ns : List ℕ) → Distinct ns → Absent m ns → Distinct (ns ++ m ∷ [])
+distinct-push m [] d h = (tt, tt)
+distinct-push m (n ∷ ns) d h = (absent-push n m ns d.0 (λ q. h.0 (sym q)), distinct-push m ns d.1 h.1)
+
+pub map-push : {X : Type 0} (key : X → ℕ) (xs : List X) (y : X) → map key (xs ++ y ∷ []) ≡ map key xs ++ key y ∷ []
+map-push key [] y = refl
+map-push key (x ∷ xs) y = ap (λ ns. key x ∷ ns) (map-push key xs y)
+
+-- what is at a key is no other element's
+pub absent-there : {X : Type 0} (key : X → ℕ) (n k : ℕ) (xs : List X) → Absent n (map key xs) → is_some (at_key key k xs) ≡ true → n ≢ k
+absent-there key n k [] absent there = λ q. false≢true there
+absent-there key n k (x ∷ xs) absent there = there-by (eqb (key x) k) refl (absent-there key n k xs absent.1)
+  where
+    there-by : (t : Bool) → eqb (key x) k ≡ t → (is_some (at_key key k xs) ≡ true → n ≢ k) → n ≢ k
+    there-by true e ih = λ q. absent.0 (let here : key x ≡ k = grind (arith, nat_tests) in here ∙ sym q)
+    there-by false e ih = ih (rw e at there)

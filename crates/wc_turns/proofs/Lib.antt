@@ -1,5 +1,6 @@
 pub mod ArriveLemmas
 pub mod CauseLemmas
+pub mod ChangedLemmas
 pub mod CloseLemmas
 pub mod ClosingLemmas
 pub mod ComeLemmas

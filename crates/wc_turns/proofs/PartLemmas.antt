@@ -18,13 +18,15 @@ use Rattle.wc_core.specs.Served.{links_of, Distinct}
 use Rattle.wc_turns.specs.declared.links.Closed.{Closed}
 use Rattle.wc_turns.specs.declared.headless.Headless.{Headless}
 use Rattle.wc_turns.specs.Contained.{KeepsLinks}
-use Rattle.wc_turns.specs.Links.{link_number}
+use Rattle.wc_turns.specs.Links.{link_number, is_blocked, changed_at, written_link}
 use Rattle.wc_turns.specs.Parts.{FailureIgnored, SendsOn, ClosesLeaving, SparesOthers, HasFailed}
 use Rattle.wc_turns.specs.Served.{closed_by, leaving_closes, closed_number}
 use Rattle.wc_turns.specs.Sources.{NothingBecameReady, IsSent, TakesNothing}
-use Rattle.wc_turns.specs.Turns.{HasGained, IsSettled, is_failure, has_failed}
-use Rattle.wc_turns.proofs.KeyedLemmas.{at_key-key, at_key-put_other, at_key-put_same, at_key-filter_other, at_key-filter_same, length-without, some_of, none_of}
+use Rattle.wc_turns.specs.Turns.{AgreesWithSockets, HasGained, IsSettled, is_failure, has_failed}
+use Rattle.wc_turns.proofs.KeyedLemmas.{at_key-key, at_key-put_other, at_key-put_same, at_key-filter_other, at_key-filter_same, length-without, some_of, none_of, same-keys}
 use Rattle.wc_turns.proofs.CauseLemmas.{gained-following}
+use Rattle.wc_turns.proofs.ChangedLemmas.{keeps-written, numbers-changed}
+use Rattle.wc_turns.proofs.StepLemmas.{OnlyLinks}
 use Rattle.wc_turns.proofs.ContainedLemmas.{KeepsLinks-refl, KeepsLinks-trans, KeepsLinks-same}
 use Rattle.wc_turns.proofs.ConnectionLemmas.{departed-there, departed-all, departed-leaving, leaving-without, all-without, leaving-gone, links-gone}
 use Rattle.wc_turns.proofs.SourceLemmas.{Later, NothingBecameReady-refl, NothingBecameReady-trans, TakesNothing-refl, TakesNothing-trans}
@@ -32,7 +34,7 @@ use Rattle.wc_turns.proofs.SourceLemmas.{Later, NothingBecameReady-refl, Nothing
 -- ---- bytes are sent
 
 pub SendsOn-refl : (link : ℕ) (x : Headless) (a : Seen) → SendsOn link x x a a
-SendsOn-refl link x a = record { falls = NothingBecameReady-refl a; nothing = TakesNothing-refl a; quits = refl; starved = refl; used = refl; states = refl; links = refl; leaving = refl; why = refl; connections = λ k n. refl; blocked = λ k n. refl }
+SendsOn-refl link x a = record { falls = NothingBecameReady-refl a; nothing = TakesNothing-refl a; quits = refl; starved = refl; used = refl; numbers = refl; closed = refl; links = refl; leaving = refl; why = refl; connections = λ k n. refl; blocked = λ k n. refl }
 
 pub SendsOn-trans : (link : ℕ) (x y z : Headless) (a b c : Seen) → (IsTrue c.tells → IsTrue b.tells) → SendsOn link x y a b → SendsOn link y z b c → SendsOn link x z a c
 SendsOn-trans link x y z a b c told h g = record {
@@ -41,7 +43,8 @@ SendsOn-trans link x y z a b c told h g = record {
   quits = g.quits ∙ h.quits;
   starved = g.starved ∙ h.starved;
   used = g.used ∙ h.used;
-  states = g.states ∙ h.states;
+  numbers = g.numbers ∙ h.numbers;
+  closed = g.closed ∙ h.closed;
   links = g.links ∙ h.links;
   leaving = g.leaving ∙ h.leaving;
   why = g.why ∙ h.why;
@@ -50,14 +53,15 @@ SendsOn-trans link x y z a b c told h g = record {
 }
 
 -- a call that leaves the clients as they are
-pub SendsOn-call : (link : ℕ) (x y : Headless) (a b : Seen) → y.core ≡ x.core → y.used ≡ x.used → y.links ≡ x.links → NothingBecameReady a b → TakesNothing a b → ((k : ℕ) → k ≢ link → b.blocked k ≡ a.blocked k) → SendsOn link x y a b
-SendsOn-call link x y a b core used states falls nothing blocked = record {
+pub SendsOn-call : (link : ℕ) (x y : Headless) (a b : Seen) → y.core ≡ x.core → y.used ≡ x.used → map link_number y.links.opened.items ≡ map link_number x.links.opened.items → y.links.closed.items ≡ x.links.closed.items → NothingBecameReady a b → TakesNothing a b → ((k : ℕ) → k ≢ link → b.blocked k ≡ a.blocked k) → SendsOn link x y a b
+SendsOn-call link x y a b core used numbers closed falls nothing blocked = record {
   falls = falls;
   nothing = nothing;
   quits = ap (λ c. c.quits) core;
   starved = ap (λ c. c.starved) core;
   used = used;
-  states = states;
+  numbers = numbers;
+  closed = closed;
   links = ap (λ c. map connection_link c.connections) core;
   leaving = ap (λ c. leaving_closes c.connections) core;
   why = ap (λ c. leaving_on link c.connections) core;
@@ -83,7 +87,8 @@ SendsOn-took link count x a b o found falls nothing blocked = record {
   quits = refl;
   starved = refl;
   used = refl;
-  states = refl;
+  numbers = refl;
+  closed = refl;
   links = links-gone link count x.core.connections o found;
   leaving = leaving-gone link count x.core.connections o found;
   why = why-gone link count x.core.connections o found;
@@ -91,8 +96,13 @@ SendsOn-took link count x a b o found falls nothing blocked = record {
   blocked = blocked;
 }
 
+-- it is kept whether a write to the link found no room
+pub SendsOn-written : (link : ℕ) (found : Bool) (x y : Headless) (a : Seen) → OnlyLinks x y → y.links.opened.items ≡ changed_at link (written_link found) x.links.opened.items (at_key link_number link x.links.opened.items) → SendsOn link x y a a
+SendsOn-written link found x y a only opened =
+    SendsOn-call link x y a a only.core only.used (ap (λ ss. map link_number ss) opened ∙ numbers-changed link (written_link found) (keeps-written found) x.links.opened.items) only.closed (NothingBecameReady-refl a) (TakesNothing-refl a) (λ k n. refl)
+
 pub KeepsLinks-sends : (link : ℕ) (x y : Headless) (a b : Seen) → SendsOn link x y a b → KeepsLinks x y
-KeepsLinks-sends link x y a b h = KeepsLinks-same x y h.used (let e = h.starved in omega arith) (λ k. ap (λ l. is_some (at_key link_number k l.opened.items)) h.states) (ap (λ l. l.closed.items) h.states)
+KeepsLinks-sends link x y a b h = KeepsLinks-same x y h.used (let e = h.starved in omega arith) (λ k. same-keys link_number k y.links.opened.items x.links.opened.items h.numbers) h.closed
 
 pub FailureIgnored-later : (link : ℕ) (x y : Headless) (a b : Seen) → SendsOn link x y a b → FailureIgnored link x.core → FailureIgnored link y.core
 FailureIgnored-later link x y a b h (inl over) = inl (h.quits ∙ over)
@@ -122,6 +132,10 @@ pub IsSettled-sent : (link : ℕ) (connections : List Connection) (a b : Seen) �
 IsSettled-sent link connections a b (inl e) = λ t free fit. e
 IsSettled-sent link connections a b (inr (inl e)) = λ t free fit. absurd (false≢true (sym free ∙ e))
 IsSettled-sent link connections a b (inr (inr h)) = λ t free fit. absurd (false≢true (sym fit ∙ has-gained link a b (h.1 t)))
+
+-- nothing is sent on a link that is kept as one without room
+pub IsSettled-blocked : (link : ℕ) (h : Headless) (a : Seen) → is_blocked (at_key link_number link h.links.opened.items) ≡ true → AgreesWithSockets h a → IsSettled link h.core.connections a
+IsSettled-blocked link h a blocked s = λ t free fit. absurd (false≢true (sym free ∙ s.among.blocked link ∙ blocked))
 
 -- nothing is to be sent on a link that failed
 pub IsSettled-failed : (link : LinkId) (lost : Option LinkId) (connections : List Connection) (a : Seen) → lost ≡ Some link → HasFailed lost a → IsSettled link.0 connections a

@@ -164,7 +164,7 @@ pub record Gave (a b : Seen) (h : Happening) : Type 0 where
 -- bytes were read and served
 pub LoopStep-read : (x y : Headless) (link : LinkId) (bytes : List ℕ) (a b : Seen) → Gave a b (Read link bytes) → NobodyLeaving x.core.connections → x.core.quits ≡ false → TakesHappening x y (Read link bytes) → LeavesAtLine link.0 x.core y.core → LoopStep true 0 0 x y a b
 LoopStep-read x y link bytes a b gave calm going takes causes =
-    LoopStep-takes x y link a b (Read link bytes) refl gave.call gave.sent gave.choked gave.same.used gave.same.there gave.same.undrained gave.same.listening calm going takes
+    LoopStep-takes x y link a b (Read link bytes) refl gave.call gave.sent gave.choked gave.same calm going takes
     (λ taken. read-of link.0 (tail_on link.0 taken) bytes) (causes-line link bytes x.core y.core a b calm causes gave.call.taken) causes.saves
 
 pub ReadsOn-read : (x y : Headless) (link : LinkId) (bytes : List ℕ) (a b c : Seen) → Gave a b (Read link bytes) → (IsTrue c.tells → IsTrue b.tells) → ClosesLeaving x y b c → ReadsOn link.0 a c
@@ -177,5 +177,5 @@ pub LoopStep-lost : (x y : Headless) (link : LinkId) (h : Happening) (why : Caus
 LoopStep-lost x y link h why a b gave wake listen calm going takes of core cause =
     let connections = ap (λ (c : CoreView). c.connections) core in
     subst (λ n. LoopStep true 0 n x y a b) listen
-    (LoopStep-takes x y link a b h wake gave.call gave.sent gave.choked gave.same.used gave.same.there gave.same.undrained gave.same.listening calm going takes of
+    (LoopStep-takes x y link a b h wake gave.call gave.sent gave.choked gave.same calm going takes of
     (λ distinct. rw connections (causes-lost link why x.core.connections a b calm cause)) (saves-as x.core y.core _ core refl refl))

@@ -1,5 +1,5 @@
 -- What was saved is written at the end of a turn.
-use Rattle.std.proofs.Common.{◌≡◌, ◌≢◌, ℕ, inl, inr, true, false, cond, List, Option, Some, None, IsSome, refl, sym, ap, ◌∙◌, subst}
+use Rattle.std.proofs.Common.{◌≡◌, ◌≢◌, ◌≤◌, ℕ, inl, inr, false, List, Option, Some, None, IsSome, refl, sym, ap, ◌∙◌, subst, arith}
 use Rattle.std.proofs.lemmas.Bool.{false≢true}
 use Rattle.wc_outside.specs.Seen.{Seen}
 use Rattle.wc_outside.specs.declared.happening.Happening.{Happening}
@@ -10,8 +10,9 @@ use Rattle.wc_turns.specs.declared.links.Closed.{Closed}
 use Rattle.wc_turns.specs.declared.turn.TurnEnd.{TurnEnd}
 use Rattle.wc_turns.specs.declared.turn.TurnEnd.TheVariants.{GoOn, Quit, WaitFault, ListenFault, KeeperFault}
 use Rattle.wc_turns.specs.Saves.{held_by, WritesText, SavesTurn, written_state}
-use Rattle.wc_turns.specs.Turns.{AgreesWithSockets, LoopStep, CoreTakes, ClosesExactly, TurnStep, FaultsIn, moment, waits_then, faults_then}
+use Rattle.wc_turns.specs.Turns.{AgreesWithSockets, LoopStep, CoreTakes, ClosesExactly, FaultsIn, moment, waits_then, faults_then}
 use Rattle.wc_turns.specs.Waits.{LosesNone}
+use Rattle.wc_turns.proofs.TurnLemmas.{LoopStep-as}
 
 -- ---- nothing else changes as it is written
 
@@ -31,23 +32,7 @@ takes-written x h a b ran ran' closed more c = record {
 }
 
 pub step-written : {n f : ℕ} (x h : Headless) (a b : Seen) → LoopStep false n f x h a b → LoopStep false n f x (written_state h) a b
-step-written x h a b s = record {
-  turns = s.turns;
-  counts = s.counts;
-  told = s.told;
-  asked = s.asked;
-  wakes = s.wakes;
-  listens = s.listens;
-  gained = s.gained;
-  taken = s.taken;
-  closed = s.closed;
-  grows = λ t. absurd (false≢true t);
-  causes = s.causes;
-  quits = s.quits;
-  saves = λ t. absurd (false≢true t);
-  agrees = λ q. agrees-written h b (s.agrees q);
-  goes = λ t q. takes-written x h a b x.ran h.ran s.closed s.gained (s.goes t q);
-}
+step-written x h a b s = LoopStep-as x h (written_state h) a b refl (λ over. over) (agrees-written h b) (λ closed more. takes-written x h a b x.ran h.ran closed more) s
 
 pub closes-written : (x h : Headless) (a b : Seen) → ClosesExactly x h a b → ClosesExactly x (written_state h) a b
 closes-written x h a b c = record { gained = c.gained; taken = c.taken; events = c.events; reaches = c.reaches; closed = c.closed }
@@ -62,7 +47,15 @@ fits-then GoOn = refl
 fits-then Quit = refl
 fits-then WaitFault = refl
 fits-then ListenFault = refl
-fits-then KeeperFault = tt
+fits-then KeeperFault = omega arith
+
+-- the listener fails once at most
+pub faults-most : (end : TurnEnd) → faults_then end ≤ 1
+faults-most GoOn = omega arith
+faults-most Quit = omega arith
+faults-most WaitFault = omega arith
+faults-most ListenFault = omega arith
+faults-most KeeperFault = omega arith
 
 -- a turn in which the keeper failed began
 pub woke-once : (end : TurnEnd) → end ≢ WaitFault → waits_then end ≡ 1

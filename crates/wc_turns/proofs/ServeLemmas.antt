@@ -17,9 +17,9 @@ use Rattle.wc_board.specs.Connections.{connection_link, unsent_in, unsent_on}
 use Rattle.wc_turns.specs.declared.headless.Headless.{Headless}
 use Rattle.wc_turns.specs.declared.links.LinkState.{LinkState}
 use Rattle.wc_turns.specs.Contained.{KeepsLinks}
-use Rattle.wc_turns.specs.Links.{link_number, is_undrained}
+use Rattle.wc_turns.specs.Links.{link_number, is_undrained, is_blocked}
 use Rattle.wc_turns.specs.Served.{NobodyLeaving}
-use Rattle.wc_turns.specs.Sources.{bytes_taken, arrivals, NothingBecameReady, IsServed, IsHeard, IsWritten, IsSent, AllServed, AllSent, ServesNamed, TakesWithin, TakesNothing, has_flag, has_unsent, is_left_over}
+use Rattle.wc_turns.specs.Sources.{bytes_taken, arrivals, NothingBecameReady, IsServed, IsHeard, IsWritten, IsSent, AllServed, AllSent, ServesNamed, TakesWithin, TakesNothing, has_flag, may_write, is_left_over}
 use Rattle.wc_turns.specs.Turns.{AgreesWithSockets, LoopStep, faults_of}
 use Rattle.wc_turns.proofs.KeyedLemmas.{at_key-key}
 use Rattle.wc_turns.proofs.CauseLemmas.{gained-later, gained-following}
@@ -54,6 +54,10 @@ is_ok-of (Err f) e = absurd (false≢true (sym e))
 pub ok-faults : {A : Type 0} (r : Result A Fault) → is_err r ≡ false → faults_of r ≡ 0
 ok-faults (Ok v) e = refl
 ok-faults (Err f) e = absurd (false≢true (sym e))
+
+pub none-failed : {A : Type 0} (r : Result A Fault) → is_err r ≡ true → faults_of r ≡ 0 → ⊥
+none-failed (Ok v) e f = false≢true e
+none-failed (Err fault) e f = absurd (omega (arith, f))
 
 pub OnOk-by : {A : Type 0} (r : Result A Fault) (P : Type 0) → (faults_of r ≡ 0 → P) → OnOk r P
 OnOk-by (Ok v) P f = f refl
@@ -90,40 +94,72 @@ Nothing-within a b c later h g = record {
 not-zero : (n : ℕ) → not (eqb n 0) ≡ false → n ≡ 0
 not-zero n e = grind (arith, nat_tests)
 
-none-unsent : (o : Option Connection) → has_flag has_unsent o ≡ false → unsent_in o ≡ []
-none-unsent None e = refl
-none-unsent (Some s) e = no-bytes s.session.unsent (not-zero (length s.session.unsent) e)
-  where
-    no-bytes : (bytes : List ℕ) → length bytes ≡ 0 → bytes ≡ []
-    no-bytes [] q = refl
-    no-bytes (b ∷ bytes) q = absurd (omega arith)
+no-bytes : (bytes : List ℕ) → length bytes ≡ 0 → bytes ≡ []
+no-bytes [] q = refl
+no-bytes (b ∷ bytes) q = absurd (omega arith)
 
--- one more link was gone through: what holds of links without unsent bytes, and of those gone through, holds of this one
-pub passed-next : (k last link : ℕ) (connections : List Connection) (P Q : Type 0) → (k ≤ last → P) → (unsent_on k connections ≡ [] → P) → (last < k → k < link → has_flag has_unsent (at_key connection_link k connections) ≡ false) → (k ≢ link → P → Q) → (k ≡ link → Q) → k ≤ link → Q
-passed-next k last link connections P Q low empty between others done most = go (eqb k link) refl
+-- a client that is passed over has no unsent bytes, or its link is kept as one without room
+passed-by : (unsent blocked : Bool) → (unsent && not blocked) ≡ false → (unsent ≡ false) ⊎ (blocked ≡ true)
+passed-by true true e = inr refl
+passed-by true false e = absurd (false≢true (sym e))
+passed-by false blocked e = inl refl
+
+passed-over : (states : List LinkState) (k : ℕ) (o : Option Connection) → IfSome o (λ s. connection_link s ≡ k) → has_flag (may_write states) o ≡ false → (unsent_in o ≡ []) ⊎ (is_blocked (at_key link_number k states) ≡ true)
+passed-over states k None key e = inl refl
+passed-over states k (Some s) key e = by (passed-by (not (eqb (length s.session.unsent) 0)) (is_blocked (at_key link_number (connection_link s) states)) e)
+  where
+    by : (not (eqb (length s.session.unsent) 0) ≡ false) ⊎ (is_blocked (at_key link_number (connection_link s) states) ≡ true) → (s.session.unsent ≡ []) ⊎ (is_blocked (at_key link_number k states) ≡ true)
+    by (inl q) = inl (no-bytes s.session.unsent (not-zero (length s.session.unsent) q))
+    by (inr q) = inr (subst (λ i. is_blocked (at_key link_number i states) ≡ true) key q)
+
+connection-key : (k : ℕ) (connections : List Connection) (o : Option Connection) → at_key connection_link k connections ≡ o → IfSome o (λ s. connection_link s ≡ k)
+connection-key k connections None e = tt
+connection-key k connections (Some s) e = at_key-key connection_link k connections s e
+
+-- what holds of a link without unsent bytes, and of one without room for them, holds of one that is passed over
+passed : (states : List LinkState) (k : ℕ) (connections : List Connection) (P : Type 0) → (unsent_on k connections ≡ [] → P) → (is_blocked (at_key link_number k states) ≡ true → P) → has_flag (may_write states) (at_key connection_link k connections) ≡ false → P
+passed states k connections P empty blocked e = by (passed-over states k (at_key connection_link k connections) (connection-key k connections _ refl) e)
+  where
+    by : (unsent_on k connections ≡ []) ⊎ (is_blocked (at_key link_number k states) ≡ true) → P
+    by (inl q) = empty q
+    by (inr q) = blocked q
+
+-- one more link was gone through: what holds of links that are passed over, and of those gone through, holds of this one
+pub passed-next : (states : List LinkState) (k last link : ℕ) (connections : List Connection) (P Q : Type 0) → (k ≤ last → P) → (unsent_on k connections ≡ [] → P) → (is_blocked (at_key link_number k states) ≡ true → P)
+    → (last < k → k < link → has_flag (may_write states) (at_key connection_link k connections) ≡ false) → (k ≢ link → P → Q) → (k ≡ link → Q) → k ≤ link → Q
+passed-next states k last link connections P Q low empty blocked between others done most = go (eqb k link) refl
   where
     before : k ≢ link → (t : Bool) → nat_lt last k ≡ t → P
-    before n true e = empty (none-unsent (at_key connection_link k connections) (between (grind (arith, nat_tests)) (grind (arith, nat_tests))))
+    before n true e = passed states k connections P empty blocked (between (grind (arith, nat_tests)) (grind (arith, nat_tests)))
     before n false e = low (grind (arith, nat_tests))
 
     go : (t : Bool) → eqb k link ≡ t → Q
     go true e = done (grind (arith, nat_tests))
     go false e = let n : k ≢ link = λ q. grind (arith, nat_tests) in others n (before n (nat_lt last k) refl)
 
--- no other link has unsent bytes
-pub passed-rest : (k last : ℕ) (connections : List Connection) (P : Type 0) → (k ≤ last → P) → (unsent_on k connections ≡ [] → P) → (last < k → has_flag has_unsent (at_key connection_link k connections) ≡ false) → P
-passed-rest k last connections P low empty above = go (nat_lt last k) refl
+-- every other link is passed over
+pub passed-rest : (states : List LinkState) (k last : ℕ) (connections : List Connection) (P : Type 0) → (k ≤ last → P) → (unsent_on k connections ≡ [] → P) → (is_blocked (at_key link_number k states) ≡ true → P)
+    → (last < k → has_flag (may_write states) (at_key connection_link k connections) ≡ false) → P
+passed-rest states k last connections P low empty blocked above = go (nat_lt last k) refl
   where
     go : (t : Bool) → nat_lt last k ≡ t → P
-    go true e = empty (none-unsent (at_key connection_link k connections) (above (grind (arith, nat_tests))))
+    go true e = passed states k connections P empty blocked (above (grind (arith, nat_tests)))
     go false e = low (grind (arith, nat_tests))
 
-pub written-next : (k last link : ℕ) (connections after : List Connection) (a b : Seen) → (k ≤ last → IsWritten k connections a) → (last < k → k < link → has_flag has_unsent (at_key connection_link k connections) ≡ false) → (k ≢ link → IsWritten k connections a → IsWritten k after b) → IsWritten link after b → k ≤ link → IsWritten k after b
-written-next k last link connections after a b low between others done most =
-    passed-next k last link connections (IsWritten k connections a) (IsWritten k after b) low (λ e. inl e) between others (λ same. subst (λ j. IsWritten j after b) (sym same) done) most
+-- what the loop keeps of a link without room is that of the sockets
+pub record KnowsBlocked (states : List LinkState) (k : ℕ) (seen : Seen) : Type 0 where
+  pub is : is_blocked (at_key link_number k states) ≡ true → seen.blocked k ≡ true
 
-pub written-rest : (k last : ℕ) (connections : List Connection) (a : Seen) → (k ≤ last → IsWritten k connections a) → (last < k → has_flag has_unsent (at_key connection_link k connections) ≡ false) → IsWritten k connections a
-written-rest k last connections a low above = passed-rest k last connections (IsWritten k connections a) low (λ e. inl e) above
+pub blocked-kept : (h : Headless) (k : ℕ) (seen : Seen) → AgreesWithSockets h seen → KnowsBlocked h.links.opened.items k seen
+blocked-kept h k seen s = record { is = λ b. s.among.blocked k ∙ b }
+
+pub written-next : (states : List LinkState) (k last link : ℕ) (connections after : List Connection) (a b : Seen) → KnowsBlocked states k a → (k ≤ last → IsWritten k connections a) → (last < k → k < link → has_flag (may_write states) (at_key connection_link k connections) ≡ false)
+    → (k ≢ link → IsWritten k connections a → IsWritten k after b) → IsWritten link after b → k ≤ link → IsWritten k after b
+written-next states k last link connections after a b known low between others done most =
+    passed-next states k last link connections (IsWritten k connections a) (IsWritten k after b) low (λ e. inl e) (λ e. inr (known.is e)) between others (λ same. subst (λ j. IsWritten j after b) (sym same) done) most
+
+pub written-rest : (states : List LinkState) (k last : ℕ) (connections : List Connection) (a : Seen) → KnowsBlocked states k a → (k ≤ last → IsWritten k connections a) → (last < k → has_flag (may_write states) (at_key connection_link k connections) ≡ false) → IsWritten k connections a
+written-rest states k last connections a known low above = passed-rest states k last connections (IsWritten k connections a) low (λ e. inl e) (λ e. inr (known.is e)) above
 
 -- ---- links are written after the end
 
@@ -143,15 +179,15 @@ IsSent-following k connections a b c first later counts (inr (inr h)) =
 pub AllSent-following : (connections : List Connection) (a b c : Seen) → Later a b → Later b c → NeverFall a.faults b.faults → AllSent connections b c → AllSent connections a c
 AllSent-following connections a b c first later counts h = λ k one. IsSent-following k connections a b c first later counts (h k one)
 
-pub sent-next : (k last link : ℕ) (connections after : List Connection) (a b c : Seen) → Later a b → Later b c → NeverFall a.faults b.faults → NeverFall b.faults c.faults → (k ≤ last → IsSent k connections a b) → (last < k → k < link → has_flag has_unsent (at_key connection_link k connections) ≡ false)
+pub sent-next : (states : List LinkState) (k last link : ℕ) (connections after : List Connection) (a b c : Seen) → KnowsBlocked states k b → Later a b → Later b c → NeverFall a.faults b.faults → NeverFall b.faults c.faults → (k ≤ last → IsSent k connections a b) → (last < k → k < link → has_flag (may_write states) (at_key connection_link k connections) ≡ false)
     → (k ≢ link → (unsent_on k after ≡ unsent_on k connections) × (c.blocked k ≡ b.blocked k)) → IsSent link after b c → k ≤ link → IsSent k after a c
-sent-next k last link connections after a b c first later fell counts low between others done most =
-    passed-next k last link connections (IsSent k connections a b) (IsSent k after a c) low (λ e. inl e) between
+sent-next states k last link connections after a b c known first later fell counts low between others done most =
+    passed-next states k last link connections (IsSent k connections a b) (IsSent k after a c) low (λ e. inl e) (λ e. inr (inl (known.is e))) between
     (λ n h. IsSent-later k connections after a b c later counts (others n).0 (others n).1 h)
     (λ same. IsSent-following k after a b c first later fell (subst (λ j. IsSent j after b c) (sym same) done)) most
 
-pub sent-rest : (k last : ℕ) (connections : List Connection) (a b : Seen) → (k ≤ last → IsSent k connections a b) → (last < k → has_flag has_unsent (at_key connection_link k connections) ≡ false) → IsSent k connections a b
-sent-rest k last connections a b low above = passed-rest k last connections (IsSent k connections a b) low (λ e. inl e) above
+pub sent-rest : (states : List LinkState) (k last : ℕ) (connections : List Connection) (a b : Seen) → KnowsBlocked states k b → (k ≤ last → IsSent k connections a b) → (last < k → has_flag (may_write states) (at_key connection_link k connections) ≡ false) → IsSent k connections a b
+sent-rest states k last connections a b known low above = passed-rest states k last connections (IsSent k connections a b) low (λ e. inl e) (λ e. inr (inl (known.is e))) above
 
 -- ---- links that an earlier turn left
 

@@ -1,7 +1,6 @@
 -- The steps of a loop.
-use Rattle.std.proofs.Common.{◌≡◌, ◌≢◌, ℕ, ◌+◌, ◌-◌, ◌^◌, min, Bool, true, false, not, eqb, ◌&&◌, IsTrue, List, [], ◌∷◌, ◌++◌, length, map, Option, Some, None, IsSome, is_some, is_none, inl, refl, sym, ap, ◌∙◌, arith}
+use Rattle.std.proofs.Common.{◌≡◌, ℕ, ◌+◌, ◌-◌, ◌^◌, min, Bool, true, false, IsTrue, List, [], ◌∷◌, ◌++◌, length, map, Option, Some, None, IsSome, is_some, is_none, inl, refl, sym, ap, ◌∙◌, subst, arith}
 use Rattle.std.proofs.lemmas.Bool.{false≢true}
-use Rattle.std.proofs.lemmas.Bool.Decides.{nat_tests}
 use Rattle.std.proofs.lemmas.List.{append-nil}
 use Rattle.std.proofs.lemmas.List.Elements.{All-nil}
 use Rattle.wc_text.specs.declared.names.LinkId.{LinkId}
@@ -19,16 +18,16 @@ use Rattle.wc_core.proofs.DidLemmas.{saves-as}
 use Rattle.wc_core.proofs.ConnectionLemmas.{client-leaving}
 use Rattle.wc_turns.specs.declared.links.LinkState.{LinkState}
 use Rattle.wc_turns.specs.declared.headless.Headless.{Headless}
-use Rattle.wc_outside.specs.Keyed.{at_key, put_at}
+use Rattle.wc_outside.specs.Keyed.{at_key}
 use Rattle.wc_turns.specs.Events.{bytes_on, events_of, events_from}
-use Rattle.wc_turns.specs.Links.{link_number, is_undrained, marked_at}
+use Rattle.wc_turns.specs.Links.{link_number, is_undrained, is_blocked}
 use Rattle.wc_turns.specs.Served.{leaving_closes}
 use Rattle.wc_turns.specs.Steps.{SameTails, reached_after_miss}
 use Rattle.wc_turns.specs.Turns.{AgreesOnLinks, AgreesWithSockets, moment, GivesNothing, CoreTakes, is_wake, is_listen_fault, LoopStep}
-use Rattle.wc_turns.proofs.KeyedLemmas.{at_key-key, at_key-put_same, at_key-put_other, is_some-put_at, none_of}
+use Rattle.wc_turns.proofs.KeyedLemmas.{none_of, same-keys}
 use Rattle.wc_turns.proofs.RunLemmas.{ReachesEvents-all, ReachesEvents-over, EndsAtQuit-one}
 use Rattle.wc_turns.proofs.PointLemmas.{MomentAdvances-same}
-use Rattle.wc_turns.proofs.AgreesLemmas.{IsTimeless, For-quiet, For-states}
+use Rattle.wc_turns.proofs.AgreesLemmas.{IsTimeless, For-quiet, For-states, missing-as}
 use Rattle.wc_turns.proofs.TurnLemmas.{Call, LoopStep-step, LoopStep-still}
 
 -- the sockets stay as they were but for what they gave and sent
@@ -36,6 +35,7 @@ pub record SameSets (a b : Seen) : Type 0 where
   pub used : b.used ≡ a.used
   pub there : (k : ℕ) → b.there k ≡ a.there k
   pub undrained : (k : ℕ) → b.undrained k ≡ a.undrained k
+  pub blocked : (k : ℕ) → b.blocked k ≡ a.blocked k
   pub listening : b.listening ≡ a.listening
 
 pub among-same : (states : List LinkState) (connections : List Connection) (used : ℕ) (listening : Bool) (a b : Seen) → SameSets a b → AgreesOnLinks states connections used listening a → AgreesOnLinks states connections used listening b
@@ -43,9 +43,11 @@ among-same states connections used listening a b same s = record {
   counted = s.counted ∙ sym same.used;
   there = λ k. same.there k ∙ s.there k;
   undrained = λ k. same.undrained k ∙ s.undrained k;
+  blocked = λ k. same.blocked k ∙ s.blocked k;
   listens = same.listening ∙ s.listens;
   clients = s.clients;
   once = s.once;
+  apart = s.apart;
   unknown = s.unknown;
 }
 
@@ -81,7 +83,7 @@ LoopStep-missed x n a b h wake gives call sent choked same quiet timeless one co
     LoopStep-step true 0 (is_listen_fault h) x (record x { ran = n }) a b (h ∷ []) [] call (λ below. omega arith) (omega arith) (omega arith)
     (λ t s. sym (append-nil _)) (λ s. All-nil _) (λ over. over) (λ t s. inl (refl, refl))
     (among-same x.links.opened.items x.core.connections x.used x.listening a b same)
-    (λ t s on. (let more : n ≡ min (x.ran + 1) (2 ^ 64 - 1) = rw on at count in let o = one a.taken in For-quiet x.clock x.links.opened.items x.used x.ran n a.taken h quiet timeless (omega arith) (s.told (call.told t) on)))
+    (λ t s on. (let more : n ≡ min (x.ran + 1) (2 ^ 64 - 1) = rw on at count in let o = one a.taken in For-quiet x.clock x.links.opened.items x.used x.ran n a.taken h quiet timeless (omega arith) (omega arith) (s.told (call.told t) on)))
     (λ t s. missed-by x n a b h x.core.quits refl count (call.taken t) (sent t) (choked t) (one a.taken) gives (λ on. none s on a.taken))
 
 left-client : (k : ℕ) (connections : List Connection) (o : Option Connection) → at_key connection_link k connections ≡ o → Distinct (map connection_link connections) → IsSome (leaving_in o) → at_key client_link k (clients_of connections) ≡ None
@@ -108,57 +110,24 @@ pub record OnlyLinks (x y : Headless) : Type 0 where
 
 -- the links are flagged anew
 pub LoopStep-flags : (x y : Headless) (a b : Seen) → OnlyLinks x y → Call a b [] → (IsTrue b.tells → (k : ℕ) → b.sent k ≡ a.sent k) → (IsTrue b.tells → (k : ℕ) → b.choked k ≡ a.choked k)
-    → b.used ≡ a.used → ((k : ℕ) → b.there k ≡ a.there k) → b.listening ≡ a.listening → ((k : ℕ) → is_some (at_key link_number k y.links.opened.items) ≡ is_some (at_key link_number k x.links.opened.items))
+    → b.used ≡ a.used → ((k : ℕ) → b.there k ≡ a.there k) → b.listening ≡ a.listening → map link_number y.links.opened.items ≡ map link_number x.links.opened.items
     → ((k : ℕ) → a.undrained k ≡ is_undrained (at_key link_number k x.links.opened.items) → b.undrained k ≡ is_undrained (at_key link_number k y.links.opened.items))
+    → ((k : ℕ) → AgreesOnLinks x.links.opened.items x.core.connections x.used x.listening a → b.blocked k ≡ is_blocked (at_key link_number k y.links.opened.items))
     → SameTails x.links.opened.items y.links.opened.items → LoopStep true 0 0 x y a b
-LoopStep-flags x y a b only call sent choked used there listening links flags tails =
+LoopStep-flags x y a b only call sent choked used there listening numbers flags blocked tails =
+    let links : (k : ℕ) → is_some (at_key link_number k y.links.opened.items) ≡ is_some (at_key link_number k x.links.opened.items) = λ k. same-keys link_number k y.links.opened.items x.links.opened.items numbers in
     LoopStep-still x y a b call only.turns (ap (λ c. c.starved) only.core) (ap (λ c. c.quits) only.core) only.ran (saves-as x.core y.core x.core only.core refl refl)
     (λ s. ap (λ cs. cs ++ leaving_closes y.core.connections) only.closed ∙ ap (λ c. x.links.closed.items ++ leaving_closes c.connections) only.core)
     (λ s. rw (only.core, only.used, only.listening) (record {
       counted = s.counted ∙ sym used;
       there = λ k. there k ∙ s.there k ∙ sym (links k);
       undrained = λ k. flags k (s.undrained k);
+      blocked = λ k. blocked k s;
       listens = listening ∙ s.listens;
       clients = λ k. s.clients k ∙ sym (links k);
       once = s.once;
+      apart = subst Distinct (sym numbers) s.apart;
       unknown = λ k below. none_of _ (links k ∙ ap is_some (s.unknown k below));
     }))
-    (λ t s. rw (only.clock, only.used, only.ran) (For-states x.clock x.links.opened.items y.links.opened.items x.used x.ran a.taken tails s))
+    (λ t s. rw (only.clock, only.used, only.ran) (For-states x.clock x.links.opened.items y.links.opened.items x.used x.ran a.taken tails (missing-as x.links.opened.items y.links.opened.items numbers) s))
     (λ t s told were. MomentAdvances-same told (moment x a) (moment y b) only.core only.used (sent t) (choked t) [] (call.taken t) [] refl were tt)
-
-marked_some : (j k : ℕ) (u : Bool) (states : List LinkState) (o : Option LinkState) → at_key link_number j states ≡ o → is_some (at_key link_number k (marked_at j u states o)) ≡ is_some (at_key link_number k states)
-marked_some j k u states None e = refl
-marked_some j k u states (Some state) e = is_some-put_at link_number j k (record state { undrained = u }) states (at_key-key link_number j states state e)
-
-pub links-marked : (j k : ℕ) (u : Bool) (states : List LinkState) → is_some (at_key link_number k (marked_at j u states (at_key link_number j states))) ≡ is_some (at_key link_number k states)
-links-marked j k u states = marked_some j k u states (at_key link_number j states) refl
-
-drained-by : (j k : ℕ) (t : Bool) → eqb k j ≡ t → (states : List LinkState) (o : Option LinkState) → at_key link_number j states ≡ o → (is_undrained (at_key link_number k states) && not (t && true)) ≡ is_undrained (at_key link_number k (marked_at j false states o))
-drained-by j k true e states None h =
-    let same : k ≡ j = grind (arith, nat_tests) in
-    let none : at_key link_number k states ≡ None = ap (λ i. at_key link_number i states) same ∙ h in
-    rw none refl
-drained-by j k true e states (Some state) h =
-    let same : k ≡ j = grind (arith, nat_tests) in
-    let put : at_key link_number k (put_at link_number j (record state { undrained = false }) states) ≡ Some (record state { undrained = false }) = ap (λ i. at_key link_number i (put_at link_number j (record state { undrained = false }) states)) same ∙ at_key-put_same link_number j state (record state { undrained = false }) states (at_key-key link_number j states state h) h in
-    rw put (and-nothing _)
-  where
-    and-nothing : (b : Bool) → (b && false) ≡ false
-    and-nothing true = refl
-    and-nothing false = refl
-drained-by j k false e states None h = and-true _
-  where
-    and-true : (b : Bool) → (b && true) ≡ b
-    and-true true = refl
-    and-true false = refl
-drained-by j k false e states (Some state) h =
-    let other : k ≢ j = λ q. grind (arith, nat_tests) in
-    and-true _ ∙ ap is_undrained (sym (at_key-put_other link_number j k (record state { undrained = false }) states (at_key-key link_number j states state h) other))
-  where
-    and-true : (b : Bool) → (b && true) ≡ b
-    and-true true = refl
-    and-true false = refl
-
--- a link that is drained
-pub undrained-marked : (j k : ℕ) (states : List LinkState) (u u' : Bool) → u' ≡ (u && not (eqb k j && true)) → u ≡ is_undrained (at_key link_number k states) → u' ≡ is_undrained (at_key link_number k (marked_at j false states (at_key link_number j states)))
-undrained-marked j k states u u' e h = e ∙ ap (λ x. x && not (eqb k j && true)) h ∙ drained-by j k (eqb k j) refl states (at_key link_number j states) refl

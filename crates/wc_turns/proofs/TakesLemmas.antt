@@ -21,40 +21,41 @@ use Rattle.wc_core.specs.Served.{links_of, state_of, close_of, or_else, Distinct
 use Rattle.wc_turns.specs.declared.links.LinkState.{LinkState}
 use Rattle.wc_turns.specs.declared.headless.Headless.{Headless}
 use Rattle.wc_turns.specs.Lines.{rest}
-use Rattle.wc_turns.specs.Links.{link_number, is_undrained}
+use Rattle.wc_turns.specs.Links.{link_number, is_undrained, is_blocked}
 use Rattle.wc_turns.specs.Events.{bytes_on, tail_on, events_of, read_events}
 use Rattle.wc_turns.specs.Run.{closings}
 use Rattle.wc_turns.specs.Served.{closed_by, leaving_closes, NobodyLeaving, MayTake, IsOfLine, LeavesFor, LeavesAtLine}
 use Rattle.wc_turns.specs.Tails.{IsTail}
 use Rattle.wc_turns.specs.Turns.{AgreesOnLinks, moment, CausedBy, IsCaused, is_wake, is_listen_fault, LoopStep, TakesHappening}
-use Rattle.wc_turns.proofs.KeyedLemmas.{at_key-key, at_key-put_same, at_key-put_other, is_some-put_at, none_of, same-keys}
+use Rattle.wc_turns.proofs.KeyedLemmas.{at_key-key, at_key-put_same, at_key-put_other, map-put_at, none_of, same-keys}
 use Rattle.wc_turns.proofs.RunLemmas.{ReachesEvents-all}
 use Rattle.wc_turns.proofs.PointLemmas.{MomentAdvances-takes}
 use Rattle.wc_turns.proofs.ConnectionLemmas.{calm-leaving, one-closes, calm-left, closes-all}
 use Rattle.wc_turns.proofs.ClosingLemmas.{IsOf, OneLink, run-one, all-front}
 use Rattle.wc_turns.proofs.ServedLemmas.{MayRun-one}
 use Rattle.wc_turns.proofs.AgreesLemmas.{For-read, For-quiet, IsTail-at, IsTimeless}
+use Rattle.wc_turns.proofs.StepLemmas.{SameSets}
 use Rattle.wc_turns.proofs.TurnLemmas.{Call, LoopStep-step}
 
-flag-put : (j k : ℕ) (t : Bool) → eqb k j ≡ t → (old new : LinkState) (states : List LinkState) → at_key link_number j states ≡ Some old → link_number new ≡ j → new.undrained ≡ old.undrained → is_undrained (at_key link_number k (put_at link_number j new states)) ≡ is_undrained (at_key link_number k states)
-flag-put j k true e old new states found key flag =
+flag-put : (f : Option LinkState → Bool) (j k : ℕ) (t : Bool) → eqb k j ≡ t → (old new : LinkState) (states : List LinkState) → at_key link_number j states ≡ Some old → link_number new ≡ j → f (Some new) ≡ f (Some old) → f (at_key link_number k (put_at link_number j new states)) ≡ f (at_key link_number k states)
+flag-put f j k true e old new states found key flag =
     let same : j ≡ k = grind (arith, nat_tests) in
     let before : at_key link_number k states ≡ Some old = subst (λ i. at_key link_number i states ≡ Some old) same found in
     let after : at_key link_number k (put_at link_number j new states) ≡ Some new = subst (λ i. at_key link_number i (put_at link_number j new states) ≡ Some new) same (at_key-put_same link_number j old new states key found) in
     rw (after, before) flag
-flag-put j k false e old new states found key flag = let other : k ≢ j = λ q. grind (arith, nat_tests) in ap is_undrained (at_key-put_other link_number j k new states key other)
+flag-put f j k false e old new states found key flag = let other : k ≢ j = λ q. grind (arith, nat_tests) in ap f (at_key-put_other link_number j k new states key other)
 
 -- how many events are reached
 reached : (n m : ℕ) (all es others : List Event) → others ≡ [] → all ≡ es ++ others → m ≡ min (n + length es) (2 ^ 64 - 1) → m ≡ min (n + length all) (2 ^ 64 - 1)
 reached n m all es others none front count = let e = ap length (front ∙ ap (λ xs. es ++ xs) none ∙ append-nil es) in omega arith
 
-pub TakesHappening-read : (x y : Headless) (link : LinkId) (place : ℕ) (old new : LinkState) (bytes : List ℕ) → IsKeyPlace link_number link.0 x.links.opened.items place → old ≡ get_or x.links.opened.items place old → new.link ≡ old.link → new.undrained ≡ old.undrained
+pub TakesHappening-read : (x y : Headless) (link : LinkId) (place : ℕ) (old new : LinkState) (bytes : List ℕ) → IsKeyPlace link_number link.0 x.links.opened.items place → old ≡ get_or x.links.opened.items place old → new.link ≡ old.link → new.undrained ≡ old.undrained → new.blocked ≡ old.blocked
     → y.turns ≡ x.turns → y.used ≡ x.used → y.listening ≡ x.listening → y.clock ≡ x.clock → y.links.closed.items ≡ x.links.closed.items → y.links.opened.items ≡ set x.links.opened.items place new
     → map connection_link y.core.connections ≡ map connection_link x.core.connections
     → (y.core.quits ≡ false → (line : List ℕ) → IsTail line old.tail → IsTail (rest line bytes) new.tail)
     → ((line : List ℕ) → IsTail line old.tail → MayTake x.core y.core x.ran y.ran (read_events link.0 line bytes))
     → TakesHappening x y (Read link bytes)
-TakesHappening-read x y link place old new bytes p at key flag turns used listening clock closed opened clients tail takes =
+TakesHappening-read x y link place old new bytes p at key flag block turns used listening clock closed opened clients tail takes =
     let found : at_key link_number link.0 x.links.opened.items ≡ Some old = p.found old ∙ ap Some (sym at) in
     let number : link_number new ≡ link.0 = ap (λ (l : LinkId). l.0) key ∙ at_key-key link_number link.0 x.links.opened.items old found in
     record {
@@ -62,8 +63,9 @@ TakesHappening-read x y link place old new bytes p at key flag turns used listen
       closed = closed;
       used = used;
       listening = listening;
-      links = λ k. rw (opened, p.put new) (is_some-put_at link_number link.0 k new x.links.opened.items number);
-      undrained = λ k. rw (opened, p.put new) (flag-put link.0 k (eqb k link.0) refl old new x.links.opened.items found number flag);
+      numbers = rw (opened, p.put new) (map-put_at link_number link.0 new x.links.opened.items number);
+      undrained = λ k. rw (opened, p.put new) (flag-put is_undrained link.0 k (eqb k link.0) refl old new x.links.opened.items found number flag);
+      blocked = λ k. rw (opened, p.put new) (flag-put is_blocked link.0 k (eqb k link.0) refl old new x.links.opened.items found number block);
       clients = clients;
       told = λ taken unknown going s.
           let t = IsTail-at x.clock x.links.opened.items x.used x.ran taken link.0 place old p at s in
@@ -82,10 +84,11 @@ TakesHappening-lost x y h event going quiet timeless events turns used listening
   closed = ap (λ l. l.closed.items) links;
   used = used;
   listening = listening;
-  links = λ k. rw links refl;
+  numbers = rw links refl;
   undrained = λ k. rw links refl;
+  blocked = λ k. rw links refl;
   clients = (does x.core.world.nicks).keeps.links;
-  told = λ taken unknown on s. rw (links, clock, used) (For-quiet x.clock x.links.opened.items x.used x.ran y.ran taken h quiet timeless (let e = ap length (events taken) in omega arith) s);
+  told = λ taken unknown on s. rw (links, clock, used) (For-quiet x.clock x.links.opened.items x.used x.ran y.ran taken h quiet timeless (let e = ap length (events taken) in omega arith) (let e = ap length (events taken) in omega arith) s);
   takes = λ taken s. rw (events taken) (record { events = event ∷ []; reaches = ReachesEvents-all x.core.quits y.core.quits x.ran y.ran (event ∷ []) going (λ fits. omega arith); takes = MayRun-one x.core y.core event does });
 }
 
@@ -97,18 +100,22 @@ closes-left link a b acts one calm distinct leaving =
 
 -- the links are flagged as they were
 among-takes : (states states' : List LinkState) (connections connections' : List Connection) (used used' : ℕ) (listening listening' : Bool) (a b : Seen)
-    → ((k : ℕ) → is_some (at_key link_number k states') ≡ is_some (at_key link_number k states)) → ((k : ℕ) → is_undrained (at_key link_number k states') ≡ is_undrained (at_key link_number k states)) → map connection_link connections' ≡ map connection_link connections
-    → used' ≡ used → listening' ≡ listening → b.used ≡ a.used → ((k : ℕ) → b.there k ≡ a.there k) → ((k : ℕ) → b.undrained k ≡ a.undrained k) → b.listening ≡ a.listening
+    → map link_number states' ≡ map link_number states → ((k : ℕ) → is_undrained (at_key link_number k states') ≡ is_undrained (at_key link_number k states)) → ((k : ℕ) → is_blocked (at_key link_number k states') ≡ is_blocked (at_key link_number k states)) → map connection_link connections' ≡ map connection_link connections
+    → used' ≡ used → listening' ≡ listening → SameSets a b
     → AgreesOnLinks states connections used listening a → AgreesOnLinks states' connections' used' listening' b
-among-takes states states' connections connections' used used' listening listening' a b links flags keeps u l bu there undrained bl s = record {
-  counted = u ∙ s.counted ∙ sym bu;
-  there = λ k. there k ∙ s.there k ∙ sym (links k);
-  undrained = λ k. undrained k ∙ s.undrained k ∙ sym (flags k);
-  listens = bl ∙ s.listens ∙ sym l;
+among-takes states states' connections connections' used used' listening listening' a b numbers flags blocks keeps u l same s = record {
+  counted = u ∙ s.counted ∙ sym same.used;
+  there = λ k. same.there k ∙ s.there k ∙ sym (links k);
+  undrained = λ k. same.undrained k ∙ s.undrained k ∙ sym (flags k);
+  blocked = λ k. same.blocked k ∙ s.blocked k ∙ sym (blocks k);
+  listens = same.listening ∙ s.listens ∙ sym l;
   clients = λ k. same-keys connection_link k connections' connections keeps ∙ s.clients k ∙ sym (links k);
   once = subst Distinct (sym keeps) s.once;
+  apart = subst Distinct (sym numbers) s.apart;
   unknown = λ k below. none_of _ (links k ∙ ap is_some (s.unknown k (rw u at below)));
-}
+} where
+  links : (k : ℕ) → is_some (at_key link_number k states') ≡ is_some (at_key link_number k states)
+  links k = same-keys link_number k states' states numbers
 
 pub some-events : (state : State) (events : List Event) → has_end (run state events).acts ≡ true → 0 < length events
 some-events state [] e = absurd (false≢true e)
@@ -119,14 +126,14 @@ end-by before after end going e over = sym (ap (λ b. b || end) going) ∙ sym e
 
 -- the sockets gave a happening of a link, and its client may begin to leave, and others for want of memory
 pub LoopStep-takes : (x y : Headless) (link : LinkId) (a b : Seen) (h : Happening) → is_wake h ≡ 0 → Call a b (h ∷ []) → (IsTrue b.tells → (k : ℕ) → b.sent k ≡ a.sent k) → (IsTrue b.tells → (k : ℕ) → b.choked k ≡ a.choked k)
-    → b.used ≡ a.used → ((k : ℕ) → b.there k ≡ a.there k) → ((k : ℕ) → b.undrained k ≡ a.undrained k) → b.listening ≡ a.listening → NobodyLeaving x.core.connections → x.core.quits ≡ false → TakesHappening x y h
+    → SameSets a b → NobodyLeaving x.core.connections → x.core.quits ≡ false → TakesHappening x y h
     → ((taken : List Happening) → All (IsOf link.0) (events_of taken h)) → (Distinct (links_of x.core) → All (IsCaused a b) (leaving_closes y.core.connections)) → KeepsSaved x.core y.core
     → LoopStep true 0 (is_listen_fault h) x y a b
-LoopStep-takes x y link a b h wake call sent choked used there undrained listening calm going takes of causes saves =
+LoopStep-takes x y link a b h wake call sent choked same calm going takes of causes saves =
     LoopStep-step true 0 (is_listen_fault h) x y a b (h ∷ []) (leaving_closes y.core.connections) call (λ below. (let e = takes.turns in omega arith)) (omega arith) (omega arith)
     (λ t s. ap (λ xs. xs ++ leaving_closes y.core.connections) (takes.closed ∙ sym (ap (λ cs. x.links.closed.items ++ cs) calm ∙ append-nil x.links.closed.items)))
     (λ s. causes s.among.once) (λ over. absurd (false≢true (sym going ∙ over))) (λ t s. saves)
-    (among-takes x.links.opened.items y.links.opened.items x.core.connections y.core.connections x.used y.used x.listening y.listening a b takes.links takes.undrained takes.clients takes.used takes.listening used there undrained listening)
+    (among-takes x.links.opened.items y.links.opened.items x.core.connections y.core.connections x.used y.used x.listening y.listening a b takes.numbers takes.undrained takes.blocked takes.clients takes.used takes.listening same)
     (λ t s on. takes.told a.taken s.among.unknown on (s.told (call.told t) going))
     (λ t s.
     let m = takes.takes a.taken (s.told (call.told t) going) in
@@ -135,13 +142,13 @@ LoopStep-takes x y link a b h wake call sent choked used there undrained listeni
       events = m.events;
       reaches = rw (append-nil (events_of a.taken h)) m.reaches;
       rises = m.takes.keeps.rises;
-      advances = λ same below rows were.
-          let did = m.takes.does same below s.among.once rows were in
+      advances = λ fed below rows were.
+          let did = m.takes.does fed below s.among.once rows were in
           MomentAdvances-takes rows (moment x a) (moment y b) (leaving_closes y.core.connections) m.events did takes.clients takes.used (sent t) (choked t) (h ∷ []) (call.taken t)
-          (closes-left link x.core y.core (run (state_of x.core rows) m.events).acts (run-one link.0 (state_of x.core rows) m.events one) calm (subst Distinct (sym takes.clients) s.among.once) did.leaving) (m.takes.stops same below s.among.once rows were);
+          (closes-left link x.core y.core (run (state_of x.core rows) m.events).acts (run-one link.0 (state_of x.core rows) m.events one) calm (subst Distinct (sym takes.clients) s.among.once) did.leaving) (m.takes.stops fed below s.among.once rows were);
       silent = λ over. absurd (false≢true (sym going ∙ over));
-      last = λ same below rows were on over.
-          let did = m.takes.does same below s.among.once rows were in
+      last = λ fed below rows were on over.
+          let did = m.takes.does fed below s.among.once rows were in
           record { front = []; happening = h; back = []; same = refl; within = some-events (state_of x.core rows) m.events (end-by x.core.quits y.core.quits _ going did.quits over); silent = refl };
     })
 

@@ -198,10 +198,11 @@ pub LoopStep-good : {A : Type 0} {w : Bool} {n : ℕ} (r : Result A Fault) (x y 
 LoopStep-good (Ok v) x y a b e h = h
 LoopStep-good (Err f) x y a b e h = absurd (false≢true e)
 
--- what is seen of more than one turn
-pub LoopStep-wider : {n f : ℕ} (x y : Headless) (a b : Seen) → LoopStep true n f x y a b → LoopStep false n f x y a b
-LoopStep-wider x y a b h = record {
-  turns = h.turns;
+-- what is seen of more than one turn, of a state that stands for the same
+pub LoopStep-as : {w : Bool} {n f : ℕ} (x y z : Headless) (a b : Seen) → z.turns ≡ y.turns → (y.core.quits ≡ true → z.core.quits ≡ true) → (AgreesWithSockets y b → AgreesWithSockets z b)
+    → ((closed : List Closed) (more : List Happening) → CoreTakes (moment x a) (moment y b) x.ran y.ran closed more → CoreTakes (moment x a) (moment z b) x.ran z.ran closed more) → LoopStep w n f x y a b → LoopStep false n f x z a b
+LoopStep-as x y z a b turns quits agrees takes h = record {
+  turns = λ below. turns ∙ h.turns below;
   counts = h.counts;
   told = h.told;
   asked = h.asked;
@@ -212,15 +213,18 @@ LoopStep-wider x y a b h = record {
   closed = h.closed;
   grows = λ t. absurd (false≢true t);
   causes = h.causes;
-  quits = h.quits;
+  quits = λ over. quits (h.quits over);
   saves = λ t. absurd (false≢true t);
-  agrees = h.agrees;
-  goes = h.goes;
+  agrees = λ s. agrees (h.agrees s);
+  goes = λ t s. takes h.closed h.gained (h.goes t s);
 }
+
+pub LoopStep-wider : {n f : ℕ} (x y : Headless) (a b : Seen) → LoopStep true n f x y a b → LoopStep false n f x y a b
+LoopStep-wider x y a b h = LoopStep-as x y y a b refl (λ over. over) (λ s. s) (λ closed more takes. takes) h
 
 -- a turn begins, and what it closes then goes on
 pub LoopStep-joined : (x y z : Headless) (a b c : Seen) (h : LoopStep false 1 0 x y a b) (q : LoopStep true 0 0 y z b c) → (j : LoopStep false 1 0 x z a c) × (j.closed ≡ h.closed ++ q.closed)
-unfolding LoopStep-sum LoopStep-wider
+unfolding LoopStep-sum LoopStep-wider LoopStep-as
 LoopStep-joined x y z a b c h q = (LoopStep-sum (omega arith) (omega arith) x y z a b c h (LoopStep-wider y z b c q), refl)
 
 -- nothing is taken, and the loop changes nothing that its clients or the happenings see

@@ -1,10 +1,11 @@
 -- How a turn waits, and how it ends.
-use Rattle.std.proofs.Common.{◌≡◌, ◌⊎◌, inl, inr, ℕ, ◌<◌, ◌≤◌, nat_le, Bool, true, false, ◌||◌, IsTrue, [], ◌∷◌, ◌++◌, is_some, Result, Ok, Err, OnOk, OnErr, is_err, refl, sym, ap, ◌∙◌, arith}
+use Rattle.std.proofs.Common.{◌≡◌, ◌⊎◌, inl, inr, ℕ, ◌<◌, ◌≤◌, nat_le, Bool, true, false, cond, eqb, ◌||◌, IsTrue, List, [], ◌∷◌, ◌++◌, map, Option, Some, None, is_some, Result, Ok, Err, OnOk, OnErr, is_err, refl, sym, ap, ◌∙◌, arith}
 use Rattle.std.proofs.lemmas.Bool.{false≢true}
 use Rattle.std.proofs.lemmas.Bool.Decides.{nat_tests}
 use Rattle.std.proofs.lemmas.List.{append-nil}
 use Rattle.std.proofs.lemmas.List.Elements.{All-nil}
-use Rattle.wc_outside.specs.Seen.{Seen}
+use Rattle.std.specs.List.{list_any}
+use Rattle.wc_outside.specs.Seen.{Seen, IsDrained, HasUndrained, MayWait}
 use Rattle.wc_outside.specs.declared.happening.Failed.{Failed as Fault}
 use Rattle.wc_outside.specs.declared.happening.Happening.TheVariants.{Woke}
 use Rattle.wc_turns.specs.declared.headless.Headless.{Headless}
@@ -12,11 +13,14 @@ use Rattle.wc_turns.specs.declared.turn.TurnEnd.{TurnEnd}
 use Rattle.wc_turns.specs.declared.turn.TurnEnd.TheVariants.{GoOn, Quit}
 use Rattle.wc_outside.specs.Keyed.{at_key}
 use Rattle.wc_turns.specs.Contained.{is_known, HasStarved, KeepsLinks}
-use Rattle.wc_turns.specs.Links.{link_number}
+use Rattle.wc_core.specs.Served.{Distinct}
+use Rattle.wc_turns.specs.declared.links.LinkState.{LinkState}
+use Rattle.wc_turns.specs.Links.{link_number, is_undrained}
 use Rattle.wc_turns.specs.Served.{closed_number}
-use Rattle.wc_turns.specs.Sources.{TakesNothing, TakesWithin}
+use Rattle.wc_turns.specs.Sources.{TakesNothing, TakesWithin, has_flag}
 use Rattle.wc_turns.specs.Turns.{AgreesWithSockets, LoopStep, ClosesExactly, moment, waits_then, faults_then, faults_of}
-use Rattle.wc_turns.specs.Waits.{then_of, WakesCore, LosesNone}
+use Rattle.wc_turns.specs.Waits.{has_undrained, timeout_of, then_of, WakesCore, LosesNone}
+use Rattle.wc_turns.proofs.KeyedLemmas.{absent-there}
 use Rattle.wc_turns.proofs.ContainedLemmas.{starved-following, starved-later}
 use Rattle.wc_turns.proofs.PointLemmas.{MomentAdvances-same}
 use Rattle.wc_turns.proofs.RunLemmas.{ReachesEvents-none}
@@ -130,3 +134,68 @@ unwoken-loses x y used links = record {
   opened = λ k there. ap (λ b. b || is_some (at_key closed_number k y.links.closed.items)) (links k ∙ there);
   came = λ k above below. absurd (omega arith);
 }
+
+-- ---- how long a wait may take
+
+-- where no link is flagged, none is that is looked up
+none-flagged : (flag : LinkState → Bool) (k : ℕ) (states : List LinkState) → list_any flag states ≡ false → has_flag flag (at_key link_number k states) ≡ false
+none-flagged flag k [] e = refl
+none-flagged flag k (state ∷ states) e = by (flag state) (eqb (link_number state) k) refl e (none-flagged flag k states)
+  where
+    by : (f t : Bool) → flag state ≡ f → (f || list_any flag states) ≡ false → (list_any flag states ≡ false → has_flag flag (at_key link_number k states) ≡ false) → has_flag flag (cond t (Some state) (at_key link_number k states)) ≡ false
+    by true t g q ih = absurd (false≢true (sym q))
+    by false true g q ih = g
+    by false false g q ih = ih q
+
+-- where one is flagged, one is that is looked up
+some-flagged : (flag : LinkState → Bool) (states : List LinkState) → Distinct (map link_number states) → list_any flag states ≡ true → (k : ℕ) × (has_flag flag (at_key link_number k states) ≡ true)
+some-flagged flag [] apart e = absurd (false≢true e)
+some-flagged flag (state ∷ states) apart e = by (flag state) refl e (some-flagged flag states apart.1)
+  where
+    same : (n : ℕ) → eqb n n ≡ true
+    same n = grind (arith, nat_tests)
+
+    some-of : (o : Option LinkState) → has_flag flag o ≡ true → is_some o ≡ true
+    some-of (Some s) h = refl
+    some-of None h = absurd (false≢true h)
+
+    later : (found : (k : ℕ) × (has_flag flag (at_key link_number k states) ≡ true)) → (k : ℕ) × (has_flag flag (at_key link_number k (state ∷ states)) ≡ true)
+    later found =
+        let n = absent-there link_number (link_number state) found.0 states apart.0 (some-of _ found.1) in
+        let test : eqb (link_number state) found.0 ≡ false = grind (arith, nat_tests) in
+        (found.0, rw test found.1)
+
+    by : (f : Bool) → flag state ≡ f → (f || list_any flag states) ≡ true → (list_any flag states ≡ true → (k : ℕ) × (has_flag flag (at_key link_number k states) ≡ true)) → (k : ℕ) × (has_flag flag (at_key link_number k (state ∷ states)) ≡ true)
+    by true g q ih = (link_number state, rw (same (link_number state)) g)
+    by false g q ih = later (ih q)
+
+flag-undrained : (o : Option LinkState) → has_flag (λ state. state.undrained) o ≡ is_undrained o
+flag-undrained (Some state) = refl
+flag-undrained None = refl
+
+undrained-seen : (h : Headless) (seen : Seen) → AgreesWithSockets h seen → has_undrained h ≡ true → HasUndrained seen
+undrained-seen h seen s e = by h.listening refl e
+  where
+    by : (b : Bool) → h.listening ≡ b → (b || list_any (λ state. state.undrained) h.links.opened.items) ≡ true → HasUndrained seen
+    by true l q = inr (s.among.listens ∙ l)
+    by false l q =
+        let found = some-flagged (λ state. state.undrained) h.links.opened.items s.among.apart q in
+        inl (found.0, s.among.undrained found.0 ∙ sym (flag-undrained (at_key link_number found.0 h.links.opened.items)) ∙ found.1)
+
+drained-seen : (h : Headless) (seen : Seen) → AgreesWithSockets h seen → has_undrained h ≡ false → IsDrained seen
+drained-seen h seen s e =
+    let parts = both h.listening (list_any (λ state. state.undrained) h.links.opened.items) e in
+    record { links = λ k. s.among.undrained k ∙ sym (flag-undrained (at_key link_number k h.links.opened.items)) ∙ none-flagged (λ state. state.undrained) k h.links.opened.items parts.1; listener = s.among.listens ∙ parts.0 }
+  where
+    both : (a b : Bool) → (a || b) ≡ false → (a ≡ false) × (b ≡ false)
+    both true b q = absurd (false≢true (sym q))
+    both false b q = (refl, q)
+
+-- a wait takes as long as it may
+pub MayWait-timeout : (h : Headless) (seen : Seen) → AgreesWithSockets h seen → h.core.quits ≡ false → MayWait (timeout_of h) seen
+MayWait-timeout h seen s going = by (eqb h.ran 0) (has_undrained h) refl refl
+  where
+    by : (first undrained : Bool) → eqb h.ran 0 ≡ first → has_undrained h ≡ undrained → MayWait (cond (first || undrained) 0 100) seen
+    by true u e f = record { long = λ above. absurd (omega arith); short = λ q t. inr ((s.told t going).silent (grind (arith, nat_tests))) }
+    by false true e f = record { long = λ above. absurd (omega arith); short = λ q t. inl (undrained-seen h seen s f) }
+    by false false e f = record { long = λ above. (refl, drained-seen h seen s f); short = λ q t. absurd (omega arith) }

@@ -1,5 +1,5 @@
 -- Waits return.
-use Rattle.std.proofs.Common.{◌≡◌, ◌≢◌, ◌⊎◌, inl, inr, ℕ, ◌+◌, ◌-◌, ◌^◌, ◌<◌, ◌≤◌, min, Bool, true, false, cond, eqb, ◌&&◌, ◌||◌, IsTrue, List, [], ◌∷◌, ◌++◌, map, take, length, slice_index_or, Option, Some, None, is_some, All, refl, sym, ap, ◌∙◌, subst, arith}
+use Rattle.std.proofs.Common.{◌≡◌, ◌⊎◌, inl, inr, ℕ, ◌+◌, ◌-◌, ◌^◌, ◌<◌, ◌≤◌, min, Bool, true, false, not, cond, eqb, ◌&&◌, ◌||◌, IsTrue, List, [], ◌∷◌, ◌++◌, map, take, length, slice_index_or, Option, Some, None, is_some, All, refl, sym, ap, ◌∙◌, subst, arith}
 use Rattle.std.specs.List.{list_any}
 use Rattle.std.proofs.lemmas.Bool.{false≢true}
 use Rattle.std.proofs.lemmas.Bool.Decides.{nat_tests}
@@ -13,9 +13,8 @@ use Rattle.wc_outside.specs.Happenings.{is_link, is_listener, IsThere}
 use Rattle.wc_outside.specs.declared.sockets.Token.{Token}
 use Rattle.wc_outside.specs.declared.sockets.Token.TheVariants.{Listener, Link}
 use Rattle.wc_outside.specs.declared.happening.Happening.TheVariants.{Woke}
-use Rattle.wc_turns.specs.declared.links.LinkState.{LinkState}
 use Rattle.wc_turns.specs.declared.headless.Headless.{Headless}
-use Rattle.wc_outside.specs.Keyed.{at_key, put_at}
+use Rattle.wc_outside.specs.Keyed.{at_key}
 use Rattle.wc_core.specs.Events.{Start, Tick}
 use Rattle.wc_core.specs.CoreView.{CoreView}
 use Rattle.wc_core.specs.State.{State, Act, Stepped}
@@ -28,22 +27,23 @@ use Rattle.wc_core.proofs.DidLemmas.{or_else-none, saves-as, KeepsSaved-trans}
 use Rattle.wc_turns.specs.declared.links.Closed.{Closed}
 use Rattle.wc_turns.specs.Contained.{is_known, HasStarved, KeepsLinks}
 use Rattle.wc_turns.specs.Events.{is_tick, clock, clock_from, wake_events, events_of}
-use Rattle.wc_turns.specs.Links.{link_number, is_undrained, marked_at}
+use Rattle.wc_turns.specs.Links.{link_number, is_undrained, is_blocked, changed_at, reported_state}
 use Rattle.wc_turns.specs.Served.{leaving_closes, closed_number, NobodyLeaving, MayRun}
 use Rattle.wc_turns.specs.Steps.{MarksLink, ReportsSources, BeginsTurn}
 use Rattle.wc_turns.specs.Turns.{LoopStep, CausedBy, IsCaused, moment, closed_so_far}
 use Rattle.wc_turns.specs.Waits.{LosesNone}
 use Rattle.wc_turns.proofs.ConnectionLemmas.{calm-leaving, all-calm, closes-all}
 use Rattle.wc_turns.proofs.ContainedLemmas.{starved-following}
-use Rattle.wc_turns.proofs.KeyedLemmas.{or-false, none_of, same-keys, at_key-key, at_key-put_same, at_key-put_other}
+use Rattle.wc_turns.proofs.KeyedLemmas.{or-false, none_of, same-keys}
 use Rattle.wc_turns.proofs.RunLemmas.{ReachesEvents-all}
 use Rattle.wc_turns.proofs.PointLemmas.{MomentAdvances-takes}
 use Rattle.wc_turns.proofs.ServedLemmas.{MayRun-none, MayRun-one}
 use Rattle.wc_turns.proofs.TakesLemmas.{some-events, end-by}
 use Rattle.wc_turns.proofs.ClosingLemmas.{no-closes}
 use Rattle.wc_turns.specs.Run.{closings, EndsAtQuit}
-use Rattle.wc_turns.proofs.AgreesLemmas.{For-states, For-woke, SameTails-marked}
-use Rattle.wc_turns.proofs.StepLemmas.{links-marked}
+use Rattle.wc_turns.proofs.AgreesLemmas.{For-states, For-woke, missing-as}
+use Rattle.wc_turns.proofs.ChangedLemmas.{keeps-reported, numbers-changed, SameTails-changed, undrained-reported, blocked-reported}
+use Rattle.wc_turns.proofs.CloseLemmas.{and-not-false}
 use Rattle.wc_turns.proofs.TurnLemmas.{Call, LoopStep-step}
 
 pub ReportsSources-none : (x : Headless) → ReportsSources x x []
@@ -55,8 +55,9 @@ ReportsSources-none x = record {
   ran = refl;
   closed = refl;
   listening = sym (or-false x.listening);
-  links = λ k. refl;
+  numbers = refl;
   undrained = λ k. sym (or-false _);
+  blocked = λ k. sym (and-not-false _);
   tails = λ k line h. h;
 }
 
@@ -72,24 +73,10 @@ or-both false true false true = refl
 or-both false true false false = refl
 or-both false false c d = refl
 
-marked-on : (j k : ℕ) (t : Bool) → eqb j k ≡ t → (states : List LinkState) (o : Option LinkState) → at_key link_number j states ≡ o → is_undrained (at_key link_number k (marked_at j true states o)) ≡ (is_undrained (at_key link_number k states) || (t && is_some (at_key link_number k states)))
-marked-on j k true e states None h =
-    let same : j ≡ k = grind (arith, nat_tests) in
-    let none : at_key link_number k states ≡ None = ap (λ i. at_key link_number i states) (sym same) ∙ h in
-    rw none refl
-marked-on j k true e states (Some state) h =
-    let same : j ≡ k = grind (arith, nat_tests) in
-    let before : at_key link_number k states ≡ Some state = ap (λ i. at_key link_number i states) (sym same) ∙ h in
-    let after : at_key link_number k (put_at link_number j (record state { undrained = true }) states) ≡ Some (record state { undrained = true }) = ap (λ i. at_key link_number i (put_at link_number j (record state { undrained = true }) states)) (sym same) ∙ at_key-put_same link_number j state (record state { undrained = true }) states (at_key-key link_number j states state h) h in
-    rw (after, before) (or-one state.undrained)
-  where
-    or-one : (b : Bool) → true ≡ (b || true)
-    or-one true = refl
-    or-one false = refl
-marked-on j k false e states None h = sym (or-false _)
-marked-on j k false e states (Some state) h =
-    let other : k ≢ j = λ q. grind (arith, nat_tests) in
-    ap is_undrained (at_key-put_other link_number j k (record state { undrained = true }) states (at_key-key link_number j states state h) other) ∙ sym (or-false _)
+and-nor : (a b c : Bool) → ((a && not b) && not c) ≡ (a && not (b || c))
+and-nor false b c = refl
+and-nor true true c = refl
+and-nor true false c = refl
 
 or-true-right : (b : Bool) → true ≡ (b || true)
 or-true-right true = refl
@@ -104,13 +91,14 @@ MarksLink-listener x y token e f = rw (e, f) (record {
   ran = refl;
   closed = refl;
   listening = or-true-right x.listening;
-  links = λ k. refl;
+  numbers = refl;
   undrained = λ k. sym (or-false _);
+  blocked = λ k. sym (and-not-false _);
   tails = λ k line h. h;
 })
 
 pub MarksLink-link : (x y : Headless) (token : Token) (j : ℕ) → ((k : ℕ) → is_link k token ≡ eqb j k) → is_listener token ≡ false → y.core ≡ x.core → y.clock ≡ x.clock → y.used ≡ x.used → y.turns ≡ x.turns → y.ran ≡ x.ran → y.listening ≡ x.listening
-    → y.links.closed.items ≡ x.links.closed.items → y.links.opened.items ≡ marked_at j true x.links.opened.items (at_key link_number j x.links.opened.items) → MarksLink x y token
+    → y.links.closed.items ≡ x.links.closed.items → y.links.opened.items ≡ changed_at j reported_state x.links.opened.items (at_key link_number j x.links.opened.items) → MarksLink x y token
 MarksLink-link x y token j link none core clock used turns ran listening closed opened = record {
   core = core;
   clock = clock;
@@ -119,9 +107,10 @@ MarksLink-link x y token j link none core clock used turns ran listening closed 
   ran = ran;
   closed = closed;
   listening = listening ∙ sym (or-false x.listening) ∙ ap (λ b. x.listening || b) (sym none);
-  links = λ k. rw opened (links-marked j k true x.links.opened.items);
-  undrained = λ k. rw (opened, link k) (marked-on j k (eqb j k) refl x.links.opened.items (at_key link_number j x.links.opened.items) refl);
-  tails = rw opened (SameTails-marked j true x.links.opened.items);
+  numbers = rw opened (numbers-changed j reported_state keeps-reported x.links.opened.items);
+  undrained = λ k. rw (opened, link k) (undrained-reported j k x.links.opened.items);
+  blocked = λ k. rw (opened, link k) (blocked-reported j k x.links.opened.items);
+  tails = rw opened (SameTails-changed j reported_state keeps-reported x.links.opened.items);
 }
 
 pub ReportsSources-more : (x y z : Headless) (tokens : List Token) (i : ℕ) (d : Token) → i < length tokens → ReportsSources x y (take i tokens) → MarksLink y z (slice_index_or tokens i d) → ReportsSources x z (take (i + 1) tokens)
@@ -133,11 +122,14 @@ ReportsSources-more x y z tokens i d below r m = record {
   ran = m.ran ∙ r.ran;
   closed = m.closed ∙ r.closed;
   listening = m.listening ∙ ap (λ b. b || is_listener (slice_index_or tokens i d)) r.listening ∙ or-assoc x.listening _ _ ∙ ap (λ b. x.listening || b) (sym (list_any_more is_listener tokens i d below));
-  links = λ k. m.links k ∙ r.links k;
+  numbers = m.numbers ∙ r.numbers;
   undrained = λ k. m.undrained k ∙ ap (λ b. b || (is_link k (slice_index_or tokens i d) && is_some (at_key link_number k y.links.opened.items))) (r.undrained k)
-      ∙ ap (λ q. (is_undrained (at_key link_number k x.links.opened.items) || (list_any (is_link k) (take i tokens) && is_some (at_key link_number k x.links.opened.items))) || (is_link k (slice_index_or tokens i d) && q)) (r.links k)
+      ∙ ap (λ q. (is_undrained (at_key link_number k x.links.opened.items) || (list_any (is_link k) (take i tokens) && is_some (at_key link_number k x.links.opened.items))) || (is_link k (slice_index_or tokens i d) && q)) (same-keys link_number k y.links.opened.items x.links.opened.items r.numbers)
       ∙ or-both (is_undrained (at_key link_number k x.links.opened.items)) (list_any (is_link k) (take i tokens)) (is_link k (slice_index_or tokens i d)) (is_some (at_key link_number k x.links.opened.items))
       ∙ ap (λ b. is_undrained (at_key link_number k x.links.opened.items) || (b && is_some (at_key link_number k x.links.opened.items))) (sym (list_any_more (is_link k) tokens i d below));
+  blocked = λ k. m.blocked k ∙ ap (λ b. b && not (is_link k (slice_index_or tokens i d))) (r.blocked k)
+      ∙ and-nor (is_blocked (at_key link_number k x.links.opened.items)) (list_any (is_link k) (take i tokens)) (is_link k (slice_index_or tokens i d))
+      ∙ ap (λ b. is_blocked (at_key link_number k x.links.opened.items) && not b) (sym (list_any_more (is_link k) tokens i d below));
   tails = λ k line h. m.tails k line (r.tails k line h);
 }
 
@@ -261,9 +253,11 @@ wake-calm x z acts calm distinct leaves none =
 
 -- a wait returned
 unfoldable pub LoopStep-woke : (x y z : Headless) (a b : Seen) (moment' : ℕ) (tokens : List Token) → Call a b (Woke moment' ∷ []) → (IsTrue b.tells → (k : ℕ) → b.sent k ≡ a.sent k) → (IsTrue b.tells → (k : ℕ) → b.choked k ≡ a.choked k)
-    → b.used ≡ a.used → ((k : ℕ) → b.there k ≡ a.there k) → ((k : ℕ) → b.undrained k ≡ (a.undrained k || list_any (is_link k) tokens)) → b.listening ≡ (a.listening || list_any is_listener tokens) → All (IsThere a.there) tokens
+    → b.used ≡ a.used → ((k : ℕ) → b.there k ≡ a.there k) → ((k : ℕ) → b.undrained k ≡ (a.undrained k || list_any (is_link k) tokens)) → b.listening ≡ (a.listening || list_any is_listener tokens) → ((k : ℕ) → b.blocked k ≡ (a.blocked k && not (list_any (is_link k) tokens))) → All (IsThere a.there) tokens
     → x.core.quits ≡ false → NobodyLeaving x.core.connections → BeginsTurn x y moment' → ReportsSources y z tokens → LoopStep false 1 0 x z a b
-LoopStep-woke x y z a b m tokens call sent choked used there undrained listening tokens_there going calm begins reports =
+LoopStep-woke x y z a b m tokens call sent choked used there undrained listening blocked tokens_there going calm begins reports =
+    let numbers : map link_number z.links.opened.items ≡ map link_number x.links.opened.items = reports.numbers ∙ ap (λ o. map link_number o) begins.opened in
+    let known : (k : ℕ) → is_some (at_key link_number k z.links.opened.items) ≡ is_some (at_key link_number k x.links.opened.items) = λ k. same-keys link_number k z.links.opened.items x.links.opened.items numbers in
     let links : map connection_link z.core.connections ≡ map connection_link x.core.connections = ap (λ (c : CoreView). map connection_link c.connections) reports.core ∙ begins.takes.keeps.links in
     let runs : MayRun x.core z.core (wake_events x.clock m) = (let P : CoreView → Type 0 = λ c. MayRun x.core c (wake_events x.clock m) in subst P (sym reports.core) begins.takes) in
     LoopStep-step false 1 0 x z a b (Woke m ∷ []) (leaving_closes z.core.connections) call (λ below. (let t = begins.turns in let r = reports.turns in omega arith)) refl refl
@@ -272,20 +266,22 @@ LoopStep-woke x y z a b m tokens call sent choked used there undrained listening
     (λ over. absurd (false≢true (sym going ∙ over))) (λ t. absurd (false≢true t))
     (λ s. record {
       counted = reports.used ∙ begins.used ∙ s.counted ∙ sym used;
-      there = λ k. there k ∙ s.there k ∙ ap (λ o. is_some (at_key link_number k o)) (sym begins.opened) ∙ sym (reports.links k);
+      there = λ k. there k ∙ s.there k ∙ sym (known k);
       undrained = λ k.
           let some : a.there k ≡ is_some (at_key link_number k y.links.opened.items) = s.there k ∙ ap (λ o. is_some (at_key link_number k o)) (sym begins.opened) in
           undrained k ∙ ap (λ q. q || list_any (is_link k) tokens) (s.undrained k ∙ ap (λ o. is_undrained (at_key link_number k o)) (sym begins.opened))
           ∙ ap (λ q. is_undrained (at_key link_number k y.links.opened.items) || q) (and-if _ _ (λ e. sym some ∙ there_any a.there k tokens tokens_there e)) ∙ sym (reports.undrained k);
+      blocked = λ k. blocked k ∙ ap (λ q. q && not (list_any (is_link k) tokens)) (s.blocked k ∙ ap (λ o. is_blocked (at_key link_number k o)) (sym begins.opened)) ∙ sym (reports.blocked k);
       listens = listening ∙ ap (λ q. q || list_any is_listener tokens) (s.listens ∙ sym begins.listening) ∙ sym reports.listening;
-      clients = λ k. same-keys connection_link k z.core.connections x.core.connections links ∙ s.clients k ∙ ap (λ o. is_some (at_key link_number k o)) (sym begins.opened) ∙ sym (reports.links k);
+      clients = λ k. same-keys connection_link k z.core.connections x.core.connections links ∙ s.clients k ∙ sym (known k);
       once = subst Distinct (sym links) s.once;
-      unknown = λ k below. none_of _ (reports.links k ∙ ap (λ o. is_some (at_key link_number k o)) begins.opened ∙ ap is_some (s.unknown k (rw (reports.used, begins.used) at below)));
+      apart = subst Distinct (sym numbers) s.apart;
+      unknown = λ k below. none_of _ (known k ∙ ap is_some (s.unknown k (rw (reports.used, begins.used) at below)));
     })
     (λ t s on.
     let told = s.told (call.told t) going in
     let count : z.ran ≡ min (x.ran + length (events_of a.taken (Woke m))) (2 ^ 64 - 1) = reports.ran ∙ begins.ran ∙ ap (λ c. min (x.ran + length (wake_events c m)) (2 ^ 64 - 1)) told.clock in
-    rw (reports.clock, begins.clock, reports.used, begins.used) (For-states _ x.links.opened.items z.links.opened.items x.used z.ran (a.taken ++ Woke m ∷ []) (rw begins.opened at reports.tails) (For-woke x.clock x.links.opened.items x.used x.ran z.ran m a.taken count told)))
+    rw (reports.clock, begins.clock, reports.used, begins.used) (For-states _ x.links.opened.items z.links.opened.items x.used z.ran (a.taken ++ Woke m ∷ []) (rw begins.opened at reports.tails) (missing-as x.links.opened.items z.links.opened.items numbers) (For-woke x.clock x.links.opened.items x.used x.ran z.ran m a.taken count told)))
     (λ t s.
     let told = s.told (call.told t) going in
     let count : z.ran ≡ min (x.ran + length (events_of a.taken (Woke m))) (2 ^ 64 - 1) = reports.ran ∙ begins.ran ∙ ap (λ c. min (x.ran + length (wake_events c m)) (2 ^ 64 - 1)) told.clock in
@@ -322,7 +318,7 @@ woken-saves x y z w m tokens begins reports later =
 pub woken-loses : (x y z w : Headless) (m : ℕ) (tokens : List Token) → BeginsTurn x y m → ReportsSources y z tokens → KeepsLinks z w → LosesNone x w
 woken-loses x y z w m tokens begins reports keeps = record {
   opened = λ k there.
-      let here : is_some (at_key link_number k z.links.opened.items) ≡ true = reports.links k ∙ ap (λ states. is_some (at_key link_number k states)) begins.opened ∙ there in
+      let here : is_some (at_key link_number k z.links.opened.items) ≡ true = same-keys link_number k z.links.opened.items y.links.opened.items reports.numbers ∙ ap (λ states. is_some (at_key link_number k states)) begins.opened ∙ there in
       keeps.known k (ap (λ b. b || is_some (at_key closed_number k z.links.closed.items)) here);
   came = λ k above below. by k (keeps.came k (let u = reports.used in let v = begins.used in omega arith) below);
 } where

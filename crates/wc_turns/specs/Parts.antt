@@ -12,6 +12,7 @@ use Rattle.wc_core.specs.Served.{links_of, Distinct}
 use Rattle.wc_turns.specs.declared.links.Closed.{Closed}
 use Rattle.wc_turns.specs.declared.headless.Headless.{Headless}
 use Rattle.wc_turns.specs.Contained.{KeepsLinks}
+use Rattle.wc_turns.specs.Links.{link_number}
 use Rattle.wc_turns.specs.Served.{leaving_closes, closed_number}
 use Rattle.wc_turns.specs.Sources.{NothingBecameReady, TakesNothing, bytes_taken, arrivals}
 use Rattle.wc_turns.specs.Turns.{has_failed}
@@ -28,7 +29,9 @@ pub record SendsOn (link : ℕ) (x y : Headless) (before after : Seen) : Type 0 
   pub quits : y.core.quits ≡ x.core.quits
   pub starved : y.core.starved ≡ x.core.starved
   pub used : y.used ≡ x.used
-  pub states : y.links ≡ x.links
+  -- the same links are there
+  pub numbers : map link_number y.links.opened.items ≡ map link_number x.links.opened.items
+  pub closed : y.links.closed.items ≡ x.links.closed.items
   pub links : map connection_link y.core.connections ≡ map connection_link x.core.connections
   pub leaving : leaving_closes y.core.connections ≡ leaving_closes x.core.connections
   pub why : leaving_on link y.core.connections ≡ leaving_on link x.core.connections

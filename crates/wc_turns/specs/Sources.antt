@@ -16,7 +16,9 @@ use Rattle.wc_outside.specs.declared.sockets.Token.{Token}
 use Rattle.wc_turns.specs.declared.links.LinkState.{LinkState}
 use Rattle.wc_board.specs.declared.connection.Connection.{Connection}
 use Rattle.wc_turns.specs.Events.{bytes_on}
-use Rattle.wc_board.specs.Connections.{unsent_on}
+use Rattle.wc_board.specs.Connections.{connection_link, unsent_on}
+use Rattle.wc_turns.specs.Links.{link_number, is_blocked}
+use Rattle.wc_outside.specs.Keyed.{at_key}
 
 -- how many bytes were taken of a link
 abbrev pub bytes_taken : ℕ → List Happening → ℕ
@@ -97,9 +99,10 @@ abbrev pub has_flag : {X : Type 0} → (X → Bool) → Option X → Bool
 has_flag flag (Some x) = flag x
 has_flag flag None = false
 
--- whether a client has unsent bytes
-abbrev pub has_unsent : Connection → Bool
-has_unsent connection = not (length connection.session.unsent == 0)
+-- whether a client has unsent bytes, and its link is not kept as one without room for them
+abbrev pub may_write : List LinkState → Connection → Bool
+may_write states connection = not (length connection.session.unsent == 0)
+    && not (is_blocked (at_key link_number (connection_link connection) states))
 
 -- whether a link is not drained, and these tokens do not name it
 abbrev pub is_left_over : List Token → LinkState → Bool
@@ -110,6 +113,18 @@ pub record TakesWithin (before after : Seen) : Type 0 where
   pub bytes : IsTrue after.tells → (link : ℕ) → 1 ≤ link → bytes_taken link after.taken
       ≤ bytes_taken link before.taken + 1048576
   pub clients : IsTrue after.tells → arrivals after.taken ≤ arrivals before.taken + 1024
+
+-- each source is served between two moments, unless `/quit` was run; the listener failed so often
+pub record ServesSources (faults : ℕ) (old new : Headless) (before after : Seen) : Type 0 where
+  pub continues : LoopStep true 0 faults old new before after
+  pub calm : NobodyLeaving new.core.connections
+  pub contained : AgreesWithSockets old before → KeepsLinks old new
+  pub served : AgreesWithSockets old before → new.core.quits ≡ false → (link : ℕ) → 1 ≤ link →
+      IsServed link before after
+  pub heard : faults ≡ 0 → AgreesWithSockets old before → new.core.quits ≡ false →
+      IsHeard before after
+  pub failed : 1 ≤ faults → Rose before.faults.listens after.faults.listens
+  pub within : TakesWithin before after
 
 -- nothing is read, and no client comes
 pub record TakesNothing (before after : Seen) : Type 0 where

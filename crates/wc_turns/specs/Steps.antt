@@ -1,7 +1,7 @@
 -- What the loop keeps of arrivals and of the sources that are ready.
 use Rattle.std.specs.Prelude.{ℕ, ◌+◌, ◌-◌, ◌^◌, ◌≡◌, ◌&&◌, ◌||◌, ◌⊎◌, ◌<◌}
 use Rattle.std.specs.Prelude.{◌≤◌, ◌++◌, Bool, true, false, if◌then◌else◌, Option, None, min}
-use Rattle.std.specs.Prelude.{length, List, [], ◌∷◌, is_some, IfSome}
+use Rattle.std.specs.Prelude.{length, List, [], ◌∷◌, map, not, is_some, IfSome}
 use Rattle.std.specs.List.{list_any}
 use Rattle.wc_text.specs.declared.names.LinkId.{LinkId}
 use Rattle.wc_text.specs.declared.names.Cause.{Cause}
@@ -22,7 +22,7 @@ use Rattle.wc_turns.specs.declared.links.LinkState.{LinkState}
 use Rattle.wc_turns.specs.declared.headless.Headless.{Headless}
 use Rattle.wc_outside.specs.Keyed.{at_key}
 use Rattle.wc_turns.specs.Events.{clock_from, wake_events}
-use Rattle.wc_turns.specs.Links.{link_number, is_undrained, new_state}
+use Rattle.wc_turns.specs.Links.{link_number, is_undrained, is_blocked, new_state}
 use Rattle.wc_turns.specs.Tails.{IsTail}
 
 -- what comes after the last LF of each link is as before
@@ -84,7 +84,7 @@ ServesArrival false x y link nonce = TakesArrival x y link nonce
 abbrev pub reached_after_miss : Bool → ℕ → ℕ
 reached_after_miss quits ran = if quits then ran else min (ran + 1) (2 ^ 64 - 1)
 
--- one more source is kept
+-- one more source is kept as one that is not drained, and a link as one that is not blocked
 pub record MarksLink (x y : Headless) (token : Token) : Type 0 where
   pub core : y.core ≡ x.core
   pub clock : y.clock ≡ x.clock
@@ -93,14 +93,16 @@ pub record MarksLink (x y : Headless) (token : Token) : Type 0 where
   pub ran : y.ran ≡ x.ran
   pub closed : y.links.closed.items ≡ x.links.closed.items
   pub listening : y.listening ≡ (x.listening || is_listener token)
-  pub links : (k : ℕ) → is_some (at_key link_number k y.links.opened.items)
-      ≡ is_some (at_key link_number k x.links.opened.items)
+  pub numbers : map link_number y.links.opened.items ≡ map link_number x.links.opened.items
   pub undrained : (k : ℕ) → is_undrained (at_key link_number k y.links.opened.items)
       ≡ (is_undrained (at_key link_number k x.links.opened.items)
       || (is_link k token && is_some (at_key link_number k x.links.opened.items)))
+  pub blocked : (k : ℕ) → is_blocked (at_key link_number k y.links.opened.items)
+      ≡ (is_blocked (at_key link_number k x.links.opened.items) && not (is_link k token))
   pub tails : SameTails x.links.opened.items y.links.opened.items
 
--- the sources that were reported are kept as ones that are not drained
+-- the sources that were reported are kept as ones that are not drained, and the links as ones that
+-- are not blocked
 pub record ReportsSources (x y : Headless) (tokens : List Token) : Type 0 where
   pub core : y.core ≡ x.core
   pub clock : y.clock ≡ x.clock
@@ -109,11 +111,13 @@ pub record ReportsSources (x y : Headless) (tokens : List Token) : Type 0 where
   pub ran : y.ran ≡ x.ran
   pub closed : y.links.closed.items ≡ x.links.closed.items
   pub listening : y.listening ≡ (x.listening || list_any is_listener tokens)
-  pub links : (k : ℕ) → is_some (at_key link_number k y.links.opened.items)
-      ≡ is_some (at_key link_number k x.links.opened.items)
+  pub numbers : map link_number y.links.opened.items ≡ map link_number x.links.opened.items
   pub undrained : (k : ℕ) → is_undrained (at_key link_number k y.links.opened.items)
       ≡ (is_undrained (at_key link_number k x.links.opened.items)
       || (list_any (is_link k) tokens && is_some (at_key link_number k x.links.opened.items)))
+  pub blocked : (k : ℕ) → is_blocked (at_key link_number k y.links.opened.items)
+      ≡ (is_blocked (at_key link_number k x.links.opened.items)
+      && not (list_any (is_link k) tokens))
   pub tails : SameTails x.links.opened.items y.links.opened.items
 
 -- A turn begins: no link is closed in it yet, the core takes the event of the wait, and the clock

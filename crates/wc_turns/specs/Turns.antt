@@ -32,7 +32,7 @@ use Rattle.wc_turns.specs.declared.turn.TurnEnd.TheVariants.{KeeperFault}
 use Rattle.wc_outside.specs.Keyed.{at_key}
 use Rattle.wc_turns.specs.Events.{bytes_on, tail_on, clock, events_of, events_from, whole}
 use Rattle.wc_turns.specs.Hands.{Point, Delivers}
-use Rattle.wc_turns.specs.Links.{link_number, is_undrained}
+use Rattle.wc_turns.specs.Links.{link_number, is_undrained, is_blocked}
 use Rattle.wc_turns.specs.Run.{closings, EndsAtQuit}
 use Rattle.wc_turns.specs.Served.{leaving_closes, ReachesEvents, MayTake}
 use Rattle.wc_turns.specs.Tails.{IsTail}
@@ -47,6 +47,9 @@ pub record AgreesWithHappenings (clocked : Option ℕ) (states : List LinkState)
   -- no byte came on a link that is not used yet
   pub fresh : (link : ℕ) → used < link → flat_map (bytes_on link) taken ≡ []
   pub events : ran ≡ min (length (whole taken)) (2 ^ 64 - 1)
+  -- before the start, which is the first event, nothing happened, and no link is there
+  pub silent : ran ≡ 0 → taken ≡ []
+  pub empty : ran ≡ 0 → (link : ℕ) → at_key link_number link states ≡ None
 
 -- the links that the loop keeps are those of these sockets, and those of the clients, also of those
 -- that are leaving
@@ -55,10 +58,12 @@ pub record AgreesOnLinks (states : List LinkState) (connections : List Connectio
   pub counted : used ≡ seen.used
   pub there : (link : ℕ) → seen.there link ≡ is_some (at_key link_number link states)
   pub undrained : (link : ℕ) → seen.undrained link ≡ is_undrained (at_key link_number link states)
+  pub blocked : (link : ℕ) → seen.blocked link ≡ is_blocked (at_key link_number link states)
   pub listens : seen.listening ≡ listening
   pub clients : (link : ℕ) → is_some (at_key connection_link link connections)
       ≡ is_some (at_key link_number link states)
   pub once : Distinct (map connection_link connections)
+  pub apart : Distinct (map link_number states)
   -- no link above those that are used is known
   pub unknown : (link : ℕ) → used < link → at_key link_number link states ≡ None
 
@@ -254,11 +259,13 @@ pub record LoopStep (within : Bool) (waits faults : ℕ) (old new : Headless) (b
   pub goes : IsTrue after.tells → AgreesWithSockets old before →
       CoreTakes (moment old before) (moment new after) old.ran new.ran closed gained
 
--- a turn that ended so; how often the listener failed in it is not told where the keeper failed
+-- how often the listener failed in a turn that ended so; where the keeper failed, it may have failed
+-- before
 abbrev pub FaultsIn : TurnEnd → ℕ → Type 0
-FaultsIn KeeperFault faults = Unit {0}
+FaultsIn KeeperFault faults = faults ≤ 1
 FaultsIn end faults = faults ≡ faults_then end
 
+-- a turn that ended so
 pub record TurnStep (end : TurnEnd) (old new : Headless) (before after : Seen) : Type 0 where
   pub faults : ℕ
   pub fits : FaultsIn end faults
@@ -270,10 +277,11 @@ pub record TakesHappening (old new : Headless) (happening : Happening) : Type 0 
   pub closed : new.links.closed.items ≡ old.links.closed.items
   pub used : new.used ≡ old.used
   pub listening : new.listening ≡ old.listening
-  pub links : (link : ℕ) → is_some (at_key link_number link new.links.opened.items)
-      ≡ is_some (at_key link_number link old.links.opened.items)
+  pub numbers : map link_number new.links.opened.items ≡ map link_number old.links.opened.items
   pub undrained : (link : ℕ) → is_undrained (at_key link_number link new.links.opened.items)
       ≡ is_undrained (at_key link_number link old.links.opened.items)
+  pub blocked : (link : ℕ) → is_blocked (at_key link_number link new.links.opened.items)
+      ≡ is_blocked (at_key link_number link old.links.opened.items)
   pub clients : map connection_link new.core.connections ≡ map connection_link old.core.connections
   pub told : (taken : List Happening) →
       ((link : ℕ) → old.used < link → at_key link_number link old.links.opened.items ≡ None) →

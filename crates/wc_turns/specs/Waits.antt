@@ -20,9 +20,9 @@ abbrev pub has_undrained : Headless → Bool
 has_undrained headless = headless.listening || list_any (λ state. state.undrained)
     headless.links.opened.items
 
--- how long a wait may take, in milliseconds
+-- how long a wait may take, in milliseconds: no time at the start, before which no event was reached
 abbrev pub timeout_of : Headless → ℕ
-timeout_of headless = if headless.turns == 0 || has_undrained headless then 0 else 100
+timeout_of headless = if headless.ran == 0 || has_undrained headless then 0 else 100
 
 -- how a turn ends whose wait returned
 abbrev pub then_of : {A : Type 0} → Result A Fault → Bool → TurnEnd

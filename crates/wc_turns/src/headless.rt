@@ -171,13 +171,13 @@ impl Headless {
         self.core.forget(arrival.link);
     }
 
-    /// Keeps a source as one that was reported and is not drained.
+    /// Keeps a source as one that was reported: it is not drained, and a link is no longer blocked.
     fn mark(&mut self, token: Token)
         ensures { MarksLink self.old self.new token }
     {
         match token {
             Token::Listener => self.listening = true,
-            Token::Link(link) => self.links.mark(link, true),
+            Token::Link(link) => self.links.mark_reported(link),
         }
     }
 

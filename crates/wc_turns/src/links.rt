@@ -13,6 +13,8 @@ pub struct LinkState {
     pub(crate) tail: Tail,
     /// Whether it was reported ready and is not drained.
     pub(crate) undrained: bool,
+    /// Whether its last write found no room and no wait reported it since.
+    pub(crate) blocked: bool,
 }
 
 /// A link that was closed.
@@ -41,7 +43,9 @@ fn position_of(opened: &[LinkState], link: LinkId) -> Option<usize>
 }
 
 impl Links {
-    ghost use Rattle.wc_turns.specs.Links.{link_number, new_state, with_closed, marked_at};
+    ghost use Rattle.wc_turns.specs.Links.{link_number, is_blocked, new_state, with_closed};
+    ghost use Rattle.wc_turns.specs.Links.{changed_at, reported_state, drained_state};
+    ghost use Rattle.wc_turns.specs.Links.{written_link};
 
     /// No link, with room for the first ones.
     pub fn new(alloc: Global) -> Result<Links, NoMemory>
@@ -74,6 +78,7 @@ impl Links {
             link,
             tail,
             undrained: false,
+            blocked: false,
         });
         Ok(())
     }
@@ -92,14 +97,48 @@ impl Links {
         self.closed.push_reserved(Closed { link, cause });
     }
 
-    /// Marks a link as one that was reported ready, or as one that is drained.
-    pub fn mark(&mut self, link: LinkId, undrained: bool)
-        ensures opened { self.new.opened.items ≡ marked_at link.0 undrained self.old.opened.items
-            (at_key link_number link.0 self.old.opened.items) }
+    /// Whether a link is kept as one whose last write found no room.
+    pub fn is_blocked(&self, link: LinkId) -> bool
+        ensures { result ≡ is_blocked (at_key link_number link.0 self.now.opened.items) }
+    {
+        match self.place(link) {
+            Some(place) => self.opened[place].blocked,
+            None => false,
+        }
+    }
+
+    /// Marks a link as one that a wait reported: it is not drained, and no longer blocked.
+    pub fn mark_reported(&mut self, link: LinkId)
+        ensures opened { self.new.opened.items ≡ changed_at link.0 reported_state
+            self.old.opened.items (at_key link_number link.0 self.old.opened.items) }
         ensures closed { self.new.closed ≡ self.old.closed }
     {
         if let Some(place) = self.place(link) {
-            self.opened[place].undrained = undrained;
+            let state = &mut self.opened[place];
+            state.undrained = true;
+            state.blocked = false;
+        }
+    }
+
+    /// Marks a link as one that is drained.
+    pub fn mark_drained(&mut self, link: LinkId)
+        ensures opened { self.new.opened.items ≡ changed_at link.0 drained_state
+            self.old.opened.items (at_key link_number link.0 self.old.opened.items) }
+        ensures closed { self.new.closed ≡ self.old.closed }
+    {
+        if let Some(place) = self.place(link) {
+            self.opened[place].undrained = false;
+        }
+    }
+
+    /// Keeps whether a write to a link found no room.
+    pub fn mark_written(&mut self, link: LinkId, blocked: bool)
+        ensures opened { self.new.opened.items ≡ changed_at link.0 (written_link blocked)
+            self.old.opened.items (at_key link_number link.0 self.old.opened.items) }
+        ensures closed { self.new.closed ≡ self.old.closed }
+    {
+        if let Some(place) = self.place(link) {
+            self.opened[place].blocked = blocked;
         }
     }
 

@@ -9,13 +9,13 @@ ghost use Rattle.wc_turns.specs.Contained.{KeepsLinks};
 ghost use Rattle.wc_turns.specs.Links.{link_number};
 ghost use Rattle.wc_turns.specs.Served.{NobodyLeaving};
 ghost use Rattle.wc_turns.specs.Sources.{NothingBecameReady, IsServed, IsHeard, IsWritten};
-ghost use Rattle.wc_turns.specs.Sources.{AllServed, AllSent, ServesNamed, TakesWithin};
-ghost use Rattle.wc_turns.specs.Sources.{TakesNothing, bytes_taken, arrivals, has_flag, has_unsent};
+ghost use Rattle.wc_turns.specs.Sources.{AllServed, AllSent, ServesNamed, ServesSources, TakesWithin};
+ghost use Rattle.wc_turns.specs.Sources.{TakesNothing, bytes_taken, arrivals, has_flag, may_write};
 ghost use Rattle.wc_turns.specs.Sources.{is_left_over};
 ghost use Rattle.wc_turns.specs.Turns.{LoopStep, AgreesWithSockets, faults_of};
 
 use crate::headless::Headless;
-use crate::links::LinkState;
+use crate::links::{LinkState, Links};
 use crate::turns::{accept_all, read_link, send_link, write_link};
 use wc_core::Connection;
 use wc_outside::{Failed, Ready, Sockets, Token};
@@ -40,24 +40,30 @@ fn lesser(next: Option<LinkId>, link: LinkId, last: u64) -> Option<LinkId>
     }
 }
 
-/// Whether a client has unsent bytes.
-fn has_unsent(connection: &Connection) -> bool
-    ensures { result ≡ has_unsent connection.now }
+/// Whether a client has unsent bytes, and its link is not known to have no room for them. The link
+/// is looked up only where there are such bytes.
+fn may_write(links: &Links, connection: &Connection) -> bool
+    ensures { result ≡ may_write links.now.opened.items connection.now }
 {
-    !connection.session.unsent().is_empty()
+    if connection.session.unsent().is_empty() {
+        return false;
+    }
+    !links.is_blocked(connection.session.link())
 }
 
-/// The client with the least number above the last one that has unsent bytes.
-fn next_unsent(connections: &[Connection], last: u64) -> Option<LinkId>
+/// The client with the least number above the last one that has unsent bytes and is not blocked.
+fn next_unsent(connections: &[Connection], links: &Links, last: u64) -> Option<LinkId>
     ensures above { IfSome result (λ link. last < link.0) }
     ensures between { IfSome result (λ link. (other : ℕ) → last < other → other < link.0 →
-        has_flag has_unsent (at_key connection_link other connections.now) ≡ false) }
+        has_flag (may_write links.now.opened.items)
+        (at_key connection_link other connections.now) ≡ false) }
     ensures none { result ≡ None → (other : ℕ) → last < other →
-        has_flag has_unsent (at_key connection_link other connections.now) ≡ false }
+        has_flag (may_write links.now.opened.items)
+        (at_key connection_link other connections.now) ≡ false }
 {
     let mut next = None;
     for connection in connections {
-        if has_unsent(connection) {
+        if may_write(links, connection) {
             next = lesser(next, connection.session.link(), last);
         }
     }
@@ -104,7 +110,7 @@ fn next_undrained(states: &[LinkState], tokens: &[Token], last: u64) -> Option<L
     next
 }
 
-/// Writes the unsent bytes of each client, in the order of their numbers.
+/// Writes the unsent bytes of each client that is not blocked, in the order of their numbers.
 fn write_all<S: Sockets>(headless: &mut Headless, sockets: &mut S)
     requires calm { NobodyLeaving headless.old.core.connections }
     requires going { headless.old.core.quits ≡ false }
@@ -114,18 +120,19 @@ fn write_all<S: Sockets>(headless: &mut Headless, sockets: &mut S)
     ensures contained { KeepsLinks headless.old headless.new }
     ensures going { headless.new.core.quits ≡ false }
     ensures falls { NothingBecameReady (S.seen sockets.old) (S.seen sockets.new) }
-    ensures written { (link : ℕ) → 1 ≤ link → IsWritten link headless.new.core.connections
-        (S.seen sockets.new) }
+    ensures written { AgreesWithSockets headless.old (S.seen sockets.old) → (link : ℕ) → 1 ≤ link →
+        IsWritten link headless.new.core.connections (S.seen sockets.new) }
     ensures nothing { TakesNothing (S.seen sockets.old) (S.seen sockets.new) }
 {
     let mut last = 0;
-    while let Some(link) = next_unsent(headless.core.connections(), last) {
+    while let Some(link) = next_unsent(headless.core.connections(), &headless.links, last) {
         write_link(headless, sockets, link);
         last = link.0;
     }
 }
 
-/// Sends the unsent bytes of each client after `/quit`, in the order of their numbers.
+/// Sends the unsent bytes of each client that is not blocked after `/quit`, in the order of their
+/// numbers.
 fn send_all<S: Sockets>(headless: &mut Headless, sockets: &mut S)
     requires calm { NobodyLeaving headless.old.core.connections }
     requires quit { headless.old.core.quits ≡ true }
@@ -134,11 +141,12 @@ fn send_all<S: Sockets>(headless: &mut Headless, sockets: &mut S)
     ensures calm { NobodyLeaving headless.new.core.connections }
     ensures contained { KeepsLinks headless.old headless.new }
     ensures quits { headless.new.core.quits ≡ headless.old.core.quits }
-    ensures sent { AllSent headless.new.core.connections (S.seen sockets.old) (S.seen sockets.new) }
+    ensures sent { AgreesWithSockets headless.old (S.seen sockets.old) →
+        AllSent headless.new.core.connections (S.seen sockets.old) (S.seen sockets.new) }
     ensures nothing { TakesNothing (S.seen sockets.old) (S.seen sockets.new) }
 {
     let mut last = 0;
-    while let Some(link) = next_unsent(headless.core.connections(), last) {
+    while let Some(link) = next_unsent(headless.core.connections(), &headless.links, last) {
         send_link(headless, sockets, link);
         last = link.0;
     }
@@ -252,25 +260,18 @@ fn serve_sources<S: Sockets>(
 ) -> Result<(), Failed>
     requires calm { NobodyLeaving headless.old.core.connections }
     requires going { headless.old.core.quits ≡ false }
-    ensures continues { LoopStep true 0 (faults_of result) headless.old headless.new
-        (S.seen sockets.old) (S.seen sockets.new) }
-    ensures calm { NobodyLeaving headless.new.core.connections }
-    ensures contained { AgreesWithSockets headless.old (S.seen sockets.old) →
-        KeepsLinks headless.old headless.new }
-    ensures served { AgreesWithSockets headless.old (S.seen sockets.old) → headless.new.core.quits
-        ≡ false → (link : ℕ) → 1 ≤ link → IsServed link (S.seen sockets.old) (S.seen sockets.new) }
-    ensures heard { OnOk result (AgreesWithSockets headless.old (S.seen sockets.old) →
-        headless.new.core.quits ≡ false → IsHeard (S.seen sockets.old) (S.seen sockets.new)) }
-    ensures failed { OnErr result (Rose (S.seen sockets.old).faults.listens
-        (S.seen sockets.new).faults.listens) }
-    ensures within { TakesWithin (S.seen sockets.old) (S.seen sockets.new) }
+    ensures { ServesSources (faults_of result) headless.old headless.new (S.seen sockets.old)
+        (S.seen sockets.new) }
 {
     let listened = serve_tokens(headless, sockets, tokens);
     if headless.core.quits() {
         return listened;
     }
     read_rest(headless, sockets, tokens);
-    if listened.is_err() || headless.core.quits() {
+    if listened.is_err() {
+        return listened;
+    }
+    if headless.core.quits() {
         return listened;
     }
     accept_rest(headless, sockets, tokens)
@@ -283,18 +284,8 @@ fn serve_unless_quit<S: Sockets>(
     tokens: &[Token],
 ) -> Result<(), Failed>
     requires calm { NobodyLeaving headless.old.core.connections }
-    ensures continues { LoopStep true 0 (faults_of result) headless.old headless.new
-        (S.seen sockets.old) (S.seen sockets.new) }
-    ensures calm { NobodyLeaving headless.new.core.connections }
-    ensures contained { AgreesWithSockets headless.old (S.seen sockets.old) →
-        KeepsLinks headless.old headless.new }
-    ensures served { AgreesWithSockets headless.old (S.seen sockets.old) → headless.new.core.quits
-        ≡ false → (link : ℕ) → 1 ≤ link → IsServed link (S.seen sockets.old) (S.seen sockets.new) }
-    ensures heard { OnOk result (AgreesWithSockets headless.old (S.seen sockets.old) →
-        headless.new.core.quits ≡ false → IsHeard (S.seen sockets.old) (S.seen sockets.new)) }
-    ensures failed { OnErr result (Rose (S.seen sockets.old).faults.listens
-        (S.seen sockets.new).faults.listens) }
-    ensures within { TakesWithin (S.seen sockets.old) (S.seen sockets.new) }
+    ensures { ServesSources (faults_of result) headless.old headless.new (S.seen sockets.old)
+        (S.seen sockets.new) }
 {
     if headless.core.quits() {
         return Ok(());
@@ -312,10 +303,11 @@ fn write_unsent<S: Sockets>(headless: &mut Headless, sockets: &mut S)
     ensures quits { headless.new.core.quits ≡ headless.old.core.quits }
     ensures falls { headless.new.core.quits ≡ false → NothingBecameReady (S.seen sockets.old)
         (S.seen sockets.new) }
-    ensures written { headless.new.core.quits ≡ false → (link : ℕ) → 1 ≤ link →
+    ensures written { AgreesWithSockets headless.old (S.seen sockets.old) →
+        headless.new.core.quits ≡ false → (link : ℕ) → 1 ≤ link →
         IsWritten link headless.new.core.connections (S.seen sockets.new) }
-    ensures sent { headless.new.core.quits ≡ true → AllSent headless.new.core.connections
-        (S.seen sockets.old) (S.seen sockets.new) }
+    ensures sent { AgreesWithSockets headless.old (S.seen sockets.old) → headless.new.core.quits
+        ≡ true → AllSent headless.new.core.connections (S.seen sockets.old) (S.seen sockets.new) }
     ensures nothing { TakesNothing (S.seen sockets.old) (S.seen sockets.new) }
 {
     if headless.core.quits() {
@@ -340,8 +332,8 @@ pub fn serve_ready<S: Sockets>(
     ensures served { OnOk result (AgreesWithSockets headless.old (S.seen sockets.old) →
         headless.new.core.quits ≡ false → AllServed headless.new.core.connections
         (S.seen sockets.old) (S.seen sockets.new)) }
-    ensures sent { headless.new.core.quits ≡ true → AllSent headless.new.core.connections
-        (S.seen sockets.old) (S.seen sockets.new) }
+    ensures sent { AgreesWithSockets headless.old (S.seen sockets.old) → headless.new.core.quits
+        ≡ true → AllSent headless.new.core.connections (S.seen sockets.old) (S.seen sockets.new) }
     ensures failed { OnErr result (Rose (S.seen sockets.old).faults.listens
         (S.seen sockets.new).faults.listens) }
     ensures within { TakesWithin (S.seen sockets.old) (S.seen sockets.new) }

@@ -48,11 +48,12 @@ impl Headless {
         self.listening || any_undrained(self.links())
     }
 
-    /// How long the next wait may take, in milliseconds.
+    /// How long the next wait may take, in milliseconds. It takes no time where a source is not
+    /// drained, nor at the start, which is the first event.
     fn timeout(&self) -> u64
         ensures { result ≡ timeout_of self.now }
     {
-        if self.turns == 0 || self.has_undrained() {
+        if self.ran == 0 || self.has_undrained() {
             return 0;
         }
         100

@@ -45,11 +45,16 @@ fn send_once<S: Sockets>(headless: &mut Headless, sockets: &mut S, link: LinkId)
     }
     match sockets.write(link, unsent) {
         Ok(Put::Took(count)) => {
+            headless.links.mark_written(link, false);
             headless.core.gone(link, count);
             true
         }
-        Ok(Put::NotYet) => false,
+        Ok(Put::NotYet) => {
+            headless.links.mark_written(link, true);
+            false
+        }
         Err(Failed) => {
+            headless.links.mark_written(link, false);
             headless.link_missed();
             false
         }
@@ -67,7 +72,8 @@ fn is_lost(lost: Option<LinkId>, link: LinkId) -> bool
 }
 
 /// Sends what a client that is leaving is owed, until it is gone, there is no room, or its link
-/// failed. Nothing is sent on the link that was lost, if one was.
+/// failed. Nothing is sent on the link that was lost, if one was, nor on one that is known to have
+/// no room.
 fn flush_leaving<S: Sockets>(
     headless: &mut Headless,
     sockets: &mut S,
@@ -80,9 +86,13 @@ fn flush_leaving<S: Sockets>(
         (S.seen sockets.new) }
     ensures sends { SendsOn departure.link.0 headless.old headless.new (S.seen sockets.old)
         (S.seen sockets.new) }
-    ensures done { IsSettled departure.link.0 headless.new.core.connections (S.seen sockets.new) }
+    ensures done { AgreesWithSockets headless.new (S.seen sockets.new) →
+        IsSettled departure.link.0 headless.new.core.connections (S.seen sockets.new) }
 {
     if is_lost(lost, departure.link) {
+        return;
+    }
+    if headless.links.is_blocked(departure.link) {
         return;
     }
     send_link(headless, sockets, departure.link);
@@ -154,7 +164,7 @@ fn read_once<S: Sockets>(
     };
     match sockets.read(link, buffer) {
         Ok(Got::NotYet) => {
-            headless.links.mark(link, false);
+            headless.links.mark_drained(link);
             None
         }
         Ok(Got::Bytes(count)) => {
@@ -304,11 +314,16 @@ fn write_once<S: Sockets>(headless: &mut Headless, sockets: &mut S, link: LinkId
     }
     match sockets.write(link, unsent) {
         Ok(Put::Took(count)) => {
+            headless.links.mark_written(link, false);
             headless.core.gone(link, count);
             true
         }
-        Ok(Put::NotYet) => false,
+        Ok(Put::NotYet) => {
+            headless.links.mark_written(link, true);
+            false
+        }
         Err(Failed) => {
+            headless.links.mark_written(link, false);
             headless.link_gone(link, Cause::Failed);
             close_all_leaving(headless, sockets, Some(link));
             false

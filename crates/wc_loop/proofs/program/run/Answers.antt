@@ -17,7 +17,7 @@ returns-clause-runs g c =
     let listened = c.in-Ok-listen.ensures in
     let ran = c.take_turns-then.ensures in
     let first = c.in-Ok.ensures.first in
-    let fresh = Fresh-listening (seen c.args.sockets.now) (seen c.listen.new.self) new listened.told listened.taken listened.sent listened.used listened.there listened.undrained listened.listening in
+    let fresh = Fresh-listening (seen c.args.sockets.now) (seen c.listen.new.self) new listened.told listened.taken listened.sent listened.used listened.there listened.undrained listened.listening listened.blocked in
     rw c.last_state.ensures (Runs-following _ c.args.turns (g.K.Keeper.contents c.args.keeper.now) (g.K.Keeper.faults c.args.keeper.now) (g.K.Keeper.faults c.take_turns-then.new.keeper)
     (seen c.args.sockets.now) (seen c.take_turns-then.new.sockets) c.take_turns-then.result c.ending_of.result c.take_turns-then.new.headless
     (record {
@@ -74,7 +74,7 @@ returns-clause-unsaved g c = λ three.
     let listened = c.in-Ok-listen.ensures in
     let ran = c.take_turns-then.ensures in
     let first = c.in-Ok.ensures.first in
-    let fresh = Fresh-listening (seen c.args.sockets.now) (seen c.listen.new.self) new listened.told listened.taken listened.sent listened.used listened.there listened.undrained listened.listening in
+    let fresh = Fresh-listening (seen c.args.sockets.now) (seen c.listen.new.self) new listened.told listened.taken listened.sent listened.used listened.there listened.undrained listened.listening listened.blocked in
     let fails = ran.unwritten (keeper-of c.take_turns-then.result c.ending_of.result c.ending_of.ensures three) in
     let known = Headline-known _ _ c.in-Ok.made.headless _ fails.seen fails.earlier c.in-Ok.ensures.known (λ t fed rows were. HandsOut-run c.in-Ok.made.headless fails.earlier (seen c.listen.new.self) fails.seen fails.until first fresh fails.calm t fed rows were) in
     rw c.last_state.ensures (IfSome-last (kept_of c.take_turns-then.new.headless) c.take_turns-then.new.headless _ refl (λ above. held-earlier _ (contents c.args.keeper.now) (contents c.configure.new.keeper) (contents c.take_turns-then.new.keeper) c.in-Ok.made.headless c.take_turns-then.new.headless (seen c.listen.new.self) (seen c.take_turns-then.new.sockets) first.saved c.configure.ensures.kept fails known))

@@ -2,7 +2,7 @@ use Rattle.std.proofs.Common.{◌≡◌, ◌≤◌, ◌-◌, ◌^◌, ℕ, true}
 use Rattle.wc_turns.specs.Contained.{KeepsLinks}
 use Rattle.wc_turns.specs.Served.{NobodyLeaving}
 use Rattle.wc_turns.specs.Sources.{IsSent, TakesNothing}
-use Rattle.wc_turns.specs.Turns.{LoopStep}
+use Rattle.wc_turns.specs.Turns.{LoopStep, AgreesWithSockets}
 use Rattle.wc_turns.proofs.serve.send_all.Given as goal
 
 abbrev pub invariant-loop-link : goal.invariant-loop-link
@@ -11,7 +11,7 @@ invariant-loop-link g l = record {
   calm : NobodyLeaving l.headless.core.connections;
   contained : KeepsLinks l.fn.headless l.headless;
   quits : l.headless.core.quits ≡ true;
-  sent : (link : ℕ) → 1 ≤ link → link ≤ l.last → IsSent link l.headless.core.connections (g.S.Sockets.seen l.fn.sockets) (g.S.Sockets.seen l.sockets);
+  sent : AgreesWithSockets l.fn.headless (g.S.Sockets.seen l.fn.sockets) → (link : ℕ) → 1 ≤ link → link ≤ l.last → IsSent link l.headless.core.connections (g.S.Sockets.seen l.fn.sockets) (g.S.Sockets.seen l.sockets);
   nothing : TakesNothing (g.S.Sockets.seen l.fn.sockets) (g.S.Sockets.seen l.sockets);
 }
 

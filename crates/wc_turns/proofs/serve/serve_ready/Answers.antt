@@ -1,8 +1,8 @@
-use Rattle.std.proofs.Common.{◌∙◌, sym}
+use Rattle.std.proofs.Common.{◌∙◌, sym, arith}
 use Rattle.wc_turns.proofs.ContainedLemmas.{KeepsLinks-trans}
 use Rattle.wc_turns.proofs.TurnLemmas.{LoopStep-trans}
 use Rattle.wc_turns.proofs.SourceLemmas.{IsServed-later, IsHeard-later, later-of}
-use Rattle.wc_turns.proofs.ServeLemmas.{OnOk-map, AllSent-following, Within-nothing}
+use Rattle.wc_turns.proofs.ServeLemmas.{OnOk-by, OnErr-by, AllSent-following, Within-nothing}
 use Rattle.wc_turns.proofs.serve.serve_ready.Goals as goal
 
 pub returns-clause-continues : goal.returns-clause-continues
@@ -17,16 +17,16 @@ returns-clause-served g c =
     let before = g.S.Sockets.seen c.args.sockets.now in
     let between = g.S.Sockets.seen c.serve_unless_quit-listened.new.sockets in
     let after = g.S.Sockets.seen c.write_unsent.new.sockets in
-    OnOk-map c.serve_unless_quit-listened.result _ _ s.heard (λ heard agrees on. record {
+    OnOk-by c.serve_unless_quit-listened.result _ (λ good agrees on. record {
       links = λ k one. IsServed-later k before between after (s.served agrees (sym e.quits ∙ on) k one) (e.falls on) (later-of _ _ e.continues);
-      listener = IsHeard-later before between after (heard agrees (sym e.quits ∙ on)) (e.falls on) (later-of _ _ e.continues);
-      written = e.written on;
+      listener = IsHeard-later before between after (s.heard good agrees (sym e.quits ∙ on)) (e.falls on) (later-of _ _ e.continues);
+      written = e.written (s.continues.agrees agrees) on;
     })
 
 pub returns-clause-sent : goal.returns-clause-sent
-returns-clause-sent g c = λ over.
+returns-clause-sent g c = λ agrees over.
     let seen = g.S.Sockets.seen in
-    AllSent-following c.write_unsent.new.headless.core.connections (seen c.args.sockets.now) (seen c.serve_unless_quit-listened.new.sockets) (seen c.write_unsent.new.sockets) (later-of _ _ c.serve_unless_quit-listened.ensures.continues) (later-of _ _ c.write_unsent.ensures.continues) c.serve_unless_quit-listened.ensures.continues.counts (c.write_unsent.ensures.sent over)
+    AllSent-following c.write_unsent.new.headless.core.connections (seen c.args.sockets.now) (seen c.serve_unless_quit-listened.new.sockets) (seen c.write_unsent.new.sockets) (later-of _ _ c.serve_unless_quit-listened.ensures.continues) (later-of _ _ c.write_unsent.ensures.continues) c.serve_unless_quit-listened.ensures.continues.counts (c.write_unsent.ensures.sent (c.serve_unless_quit-listened.ensures.continues.agrees agrees) over)
 
 pub returns-clause-contained : goal.returns-clause-contained
 returns-clause-contained g c = λ agrees. KeepsLinks-trans c.args.headless.now c.serve_unless_quit-listened.new.headless c.write_unsent.new.headless (c.serve_unless_quit-listened.ensures.contained agrees) c.write_unsent.ensures.contained
@@ -35,3 +35,9 @@ pub returns-clause-within : goal.returns-clause-within
 returns-clause-within g c =
     let seen = g.S.Sockets.seen in
     Within-nothing (seen c.args.sockets.now) (seen c.serve_unless_quit-listened.new.sockets) (seen c.write_unsent.new.sockets) (later-of _ _ c.write_unsent.ensures.continues) c.serve_unless_quit-listened.ensures.within c.write_unsent.ensures.nothing
+
+pub returns-clause-failed : goal.returns-clause-failed
+returns-clause-failed g c =
+    let s = c.serve_unless_quit-listened.ensures in
+    let e = c.write_unsent.ensures in
+    OnErr-by c.serve_unless_quit-listened.result _ (λ bad. (let p = s.failed bad in let q = e.continues.counts.listens in omega arith))

@@ -3,11 +3,11 @@ use Rattle.wc_turns.proofs.TurnLemmas.{LoopStep-trans}
 use Rattle.wc_turns.proofs.ContainedLemmas.{KeepsLinks-refl, KeepsLinks-trans}
 use Rattle.wc_turns.proofs.CloseLemmas.{LoopStep-refl}
 use Rattle.wc_turns.proofs.SourceLemmas.{NothingBecameReady-refl, NothingBecameReady-trans, TakesNothing-refl, TakesNothing-trans}
-use Rattle.wc_turns.proofs.ServeLemmas.{written-next, written-rest}
+use Rattle.wc_turns.proofs.ServeLemmas.{blocked-kept, written-next, written-rest}
 use Rattle.wc_turns.proofs.serve.write_all.Goals as goal
 
 pub loop-link-init : goal.loop-link-init
-loop-link-init g c = record { continues = LoopStep-refl _ _; calm = c.requires.calm; contained = KeepsLinks-refl _; going = c.requires.going; falls = NothingBecameReady-refl _; written = λ k one low. absurd (omega arith); nothing = TakesNothing-refl _ }
+loop-link-init g c = record { continues = LoopStep-refl _ _; calm = c.requires.calm; contained = KeepsLinks-refl _; going = c.requires.going; falls = NothingBecameReady-refl _; written = λ s k one low. absurd (omega arith); nothing = TakesNothing-refl _ }
 
 pub loop-link-preserved : goal.loop-link-preserved
 loop-link-preserved g c =
@@ -20,11 +20,11 @@ loop-link-preserved g c =
       contained = KeepsLinks-trans c.args.headless.now c.loop-link.headless c.write_link.new.headless i.contained e.contained;
       going = e.going;
       falls = NothingBecameReady-trans _ (seen c.loop-link.sockets) _ i.falls e.falls;
-      written = λ k one most. written-next k c.loop-link.last c.in-Some.link.0 c.loop-link.headless.core.connections c.write_link.new.headless.core.connections (seen c.loop-link.sockets) (seen c.write_link.new.sockets) (i.written k one) (λ p q. rw c.connections.ensures at (c.in-Some.ensures.between k p q)) (λ n. e.others k n) e.done most;
+      written = λ s k one most. written-next c.loop-link.headless.links.opened.items k c.loop-link.last c.in-Some.link.0 c.loop-link.headless.core.connections c.write_link.new.headless.core.connections (seen c.loop-link.sockets) (seen c.write_link.new.sockets) (blocked-kept c.loop-link.headless k (seen c.loop-link.sockets) (i.continues.agrees s)) (i.written s k one) (λ p q. rw c.connections.ensures at (c.in-Some.ensures.between k p q)) (λ n. e.others k n) e.done most;
       nothing = TakesNothing-trans _ (seen c.loop-link.sockets) _ e.continues.told i.nothing e.nothing;
     }
 
 pub returns-clause-written : goal.returns-clause-written
-returns-clause-written g c = λ k one.
+returns-clause-written g c = λ s k one.
     let i = c.loop-link.invariant in
-    written-rest k c.loop-link.last c.loop-link.headless.core.connections (g.S.Sockets.seen c.loop-link.sockets) (i.written k one) (λ above. rw c.connections.ensures at (c.next_unsent.ensures.none c.in_default.is k above))
+    written-rest c.loop-link.headless.links.opened.items k c.loop-link.last c.loop-link.headless.core.connections (g.S.Sockets.seen c.loop-link.sockets) (blocked-kept c.loop-link.headless k (g.S.Sockets.seen c.loop-link.sockets) (i.continues.agrees s)) (i.written s k one) (λ above. rw c.connections.ensures at (c.next_unsent.ensures.none c.in_default.is k above))

@@ -2,7 +2,7 @@ use Rattle.std.proofs.Common.{◌≡◌, ◌≤◌, ◌-◌, ◌^◌, ℕ, true,
 use Rattle.wc_turns.specs.Contained.{KeepsLinks}
 use Rattle.wc_turns.specs.Served.{NobodyLeaving}
 use Rattle.wc_turns.specs.Sources.{NothingBecameReady, IsWritten, TakesNothing}
-use Rattle.wc_turns.specs.Turns.{LoopStep}
+use Rattle.wc_turns.specs.Turns.{LoopStep, AgreesWithSockets}
 use Rattle.wc_turns.proofs.serve.write_all.Given as goal
 
 abbrev pub invariant-loop-link : goal.invariant-loop-link
@@ -12,7 +12,7 @@ invariant-loop-link g l = record {
   contained : KeepsLinks l.fn.headless l.headless;
   going : l.headless.core.quits ≡ false;
   falls : NothingBecameReady (g.S.Sockets.seen l.fn.sockets) (g.S.Sockets.seen l.sockets);
-  written : (link : ℕ) → 1 ≤ link → link ≤ l.last → IsWritten link l.headless.core.connections (g.S.Sockets.seen l.sockets);
+  written : AgreesWithSockets l.fn.headless (g.S.Sockets.seen l.fn.sockets) → (link : ℕ) → 1 ≤ link → link ≤ l.last → IsWritten link l.headless.core.connections (g.S.Sockets.seen l.sockets);
   nothing : TakesNothing (g.S.Sockets.seen l.fn.sockets) (g.S.Sockets.seen l.sockets);
 }
 

@@ -22,7 +22,7 @@ returns g c =
     (LoopStep-close y _ d b last first
     (record { core = c.forget.ensures; clock = refl; used = refl; listening = refl; turns = refl; ran = refl; opened = c.close-2.ensures.opened; closed = c.close-2.ensures.closed })
     (record { told = e.told; taken = λ t. e.taken t ∙ sym (append-nil _); asked = e.asked; counts = e.counts })
-    e.sent e.choked e.used e.there e.undrained e.listening s.done) in
+    e.sent e.choked e.used e.there e.undrained e.listening e.blocked s.done) in
     record {
       continues = whole;
       parts = ClosesLeaving-first x y _ a b last d c.requires.first e.told s.sends c.forget.ensures (KeepsLinks-close y _ d.link d.cause refl (ap (λ o. o.starved) c.forget.ensures) c.close-2.ensures.opened c.close-2.ensures.closed)

@@ -7,10 +7,10 @@ use Rattle.wc_turns.proofs.ClosingLemmas.{ended-of, failed-of}
 use Rattle.wc_turns.proofs.SourceLemmas.{NothingBecameReady-same}
 use Rattle.wc_turns.proofs.PartLemmas.{HasFailed-now}
 use Rattle.wc_turns.proofs.ReadLemmas.{LoopStep-read, LoopStep-lost, ReadsOn-read, ReadsOn-call, ReadsOn-parts, bytes-read, closed-drained, closed-gone, and-not-none, bytes-kept}
-use Rattle.std.proofs.Common.{false, is_some}
-use Rattle.wc_outside.specs.Keyed.{at_key}
-use Rattle.wc_turns.specs.Links.{link_number}
-use Rattle.wc_turns.proofs.StepLemmas.{links-marked}
+use Rattle.std.proofs.Common.{map}
+use Rattle.wc_turns.specs.Links.{link_number, drained_state}
+use Rattle.wc_turns.proofs.ChangedLemmas.{keeps-drained, numbers-changed}
+use Rattle.wc_turns.proofs.KeyedLemmas.{same-keys}
 use Rattle.wc_turns.proofs.ContainedLemmas.{KeepsLinks-refl, KeepsLinks-same, KeepsLinks-trans, KeepsLinks-takes}
 use Rattle.wc_turns.proofs.turns.read_once.Goals as goal
 
@@ -21,8 +21,8 @@ pub returns-in-Ok-NotYet-clause-continues : goal.returns-in-Ok-NotYet-clause-con
 returns-in-Ok-NotYet-clause-continues g c =
     let e = rw c.in-Ok-NotYet.field-0-is at c.in-Ok-NotYet.ensures in
     LoopStep-drained c.args.headless.now _ (g.S.Sockets.seen c.args.sockets.now) (g.S.Sockets.seen c.read.new.self) c.args.link.0
-    (record { core = refl; clock = refl; used = refl; listening = refl; turns = refl; ran = refl; closed = ap (λ v. v.items) c.mark.ensures.closed })
-    (record { told = e.told; taken = e.taken; asked = e.asked; counts = e.counts }) e.sent e.choked e.used e.there e.listening e.undrained c.mark.ensures.opened
+    (record { core = refl; clock = refl; used = refl; listening = refl; turns = refl; ran = refl; closed = ap (λ v. v.items) c.mark_drained.ensures.closed })
+    (record { told = e.told; taken = e.taken; asked = e.asked; counts = e.counts }) e.sent e.choked e.used e.there e.listening e.undrained e.blocked c.mark_drained.ensures.opened
 
 pub returns-then-quits-clause-continues : goal.returns-then-quits-clause-continues
 returns-then-quits-clause-continues g c =
@@ -30,7 +30,7 @@ returns-then-quits-clause-continues g c =
     let seen = g.S.Sockets.seen in
     LoopStep-trans c.args.headless.now c.bytes_came.new.self _ (seen c.args.sockets.now) (seen c.read.new.self) _
     (LoopStep-read c.args.headless.now c.bytes_came.new.self c.args.link _ (seen c.args.sockets.now) (seen c.read.new.self)
-    (record { call = record { told = e.told; taken = e.taken; asked = e.asked; counts = e.counts }; sent = e.sent; choked = e.choked; same = record { used = e.used; there = e.there; undrained = λ k. e.undrained k ∙ and-not-none _ _; listening = e.listening } }) c.requires.calm c.requires.going c.bytes_came.ensures.takes c.bytes_came.ensures.causes)
+    (record { call = record { told = e.told; taken = e.taken; asked = e.asked; counts = e.counts }; sent = e.sent; choked = e.choked; same = record { used = e.used; there = e.there; undrained = λ k. e.undrained k ∙ and-not-none _ _; blocked = e.blocked; listening = e.listening } }) c.requires.calm c.requires.going c.bytes_came.ensures.takes c.bytes_came.ensures.causes)
     c.close_all_leaving.ensures.continues
 
 pub returns-then-quits-clause-reads : goal.returns-then-quits-clause-reads
@@ -38,7 +38,7 @@ returns-then-quits-clause-reads g c =
     let e = rw c.in-Ok-Bytes.field-0-is at c.in-Ok-Bytes.ensures in
     let p = c.close_all_leaving.ensures in
     ReadsOn-read c.bytes_came.new.self c.close_all_leaving.new.headless c.args.link _ (g.S.Sockets.seen c.args.sockets.now) (g.S.Sockets.seen c.read.new.self) _
-    (record { call = record { told = e.told; taken = e.taken; asked = e.asked; counts = e.counts }; sent = e.sent; choked = e.choked; same = record { used = e.used; there = e.there; undrained = λ k. e.undrained k ∙ and-not-none _ _; listening = e.listening } }) p.continues.told p.parts
+    (record { call = record { told = e.told; taken = e.taken; asked = e.asked; counts = e.counts }; sent = e.sent; choked = e.choked; same = record { used = e.used; there = e.there; undrained = λ k. e.undrained k ∙ and-not-none _ _; blocked = e.blocked; listening = e.listening } }) p.continues.told p.parts
 
 pub returns-then-quits-clause-drained : goal.returns-then-quits-clause-drained
 returns-then-quits-clause-drained g c = λ none s on. absurd (false≢true (sym on ∙ sym c.quits.ensures ∙ c.if-quits.true))
@@ -59,7 +59,7 @@ returns-then-not-is_open-clause-continues g c =
     let seen = g.S.Sockets.seen in
     LoopStep-trans c.args.headless.now c.bytes_came.new.self _ (seen c.args.sockets.now) (seen c.read.new.self) _
     (LoopStep-read c.args.headless.now c.bytes_came.new.self c.args.link _ (seen c.args.sockets.now) (seen c.read.new.self)
-    (record { call = record { told = e.told; taken = e.taken; asked = e.asked; counts = e.counts }; sent = e.sent; choked = e.choked; same = record { used = e.used; there = e.there; undrained = λ k. e.undrained k ∙ and-not-none _ _; listening = e.listening } }) c.requires.calm c.requires.going c.bytes_came.ensures.takes c.bytes_came.ensures.causes)
+    (record { call = record { told = e.told; taken = e.taken; asked = e.asked; counts = e.counts }; sent = e.sent; choked = e.choked; same = record { used = e.used; there = e.there; undrained = λ k. e.undrained k ∙ and-not-none _ _; blocked = e.blocked; listening = e.listening } }) c.requires.calm c.requires.going c.bytes_came.ensures.takes c.bytes_came.ensures.causes)
     c.close_all_leaving.ensures.continues
 
 pub returns-then-not-is_open-clause-reads : goal.returns-then-not-is_open-clause-reads
@@ -67,14 +67,14 @@ returns-then-not-is_open-clause-reads g c =
     let e = rw c.in-Ok-Bytes.field-0-is at c.in-Ok-Bytes.ensures in
     let p = c.close_all_leaving.ensures in
     ReadsOn-read c.bytes_came.new.self c.close_all_leaving.new.headless c.args.link _ (g.S.Sockets.seen c.args.sockets.now) (g.S.Sockets.seen c.read.new.self) _
-    (record { call = record { told = e.told; taken = e.taken; asked = e.asked; counts = e.counts }; sent = e.sent; choked = e.choked; same = record { used = e.used; there = e.there; undrained = λ k. e.undrained k ∙ and-not-none _ _; listening = e.listening } }) p.continues.told p.parts
+    (record { call = record { told = e.told; taken = e.taken; asked = e.asked; counts = e.counts }; sent = e.sent; choked = e.choked; same = record { used = e.used; there = e.there; undrained = λ k. e.undrained k ∙ and-not-none _ _; blocked = e.blocked; listening = e.listening } }) p.continues.told p.parts
 
 pub returns-then-not-is_open-clause-drained : goal.returns-then-not-is_open-clause-drained
 returns-then-not-is_open-clause-drained g c = λ none s on.
     let e = rw c.in-Ok-Bytes.field-0-is at c.in-Ok-Bytes.ensures in
     let seen = g.S.Sockets.seen in
     let first = LoopStep-read c.args.headless.now c.bytes_came.new.self c.args.link _ (seen c.args.sockets.now) (seen c.read.new.self)
-    (record { call = record { told = e.told; taken = e.taken; asked = e.asked; counts = e.counts }; sent = e.sent; choked = e.choked; same = record { used = e.used; there = e.there; undrained = λ k. e.undrained k ∙ and-not-none _ _; listening = e.listening } }) c.requires.calm c.requires.going c.bytes_came.ensures.takes c.bytes_came.ensures.causes in
+    (record { call = record { told = e.told; taken = e.taken; asked = e.asked; counts = e.counts }; sent = e.sent; choked = e.choked; same = record { used = e.used; there = e.there; undrained = λ k. e.undrained k ∙ and-not-none _ _; blocked = e.blocked; listening = e.listening } }) c.requires.calm c.requires.going c.bytes_came.ensures.takes c.bytes_came.ensures.causes in
     closed-drained c.args.link.0 c.close_all_leaving.new.headless (seen c.close_all_leaving.new.sockets) (c.close_all_leaving.ensures.continues.agrees (first.agrees s)) c.close_all_leaving.ensures.calm (sym c.if-not-is_open.ensures)
 
 pub returns-then-not-is_open-clause-within : goal.returns-then-not-is_open-clause-within
@@ -93,7 +93,7 @@ returns-else-not-is_open-clause-continues g c =
     let seen = g.S.Sockets.seen in
     LoopStep-trans c.args.headless.now c.bytes_came.new.self _ (seen c.args.sockets.now) (seen c.read.new.self) _
     (LoopStep-read c.args.headless.now c.bytes_came.new.self c.args.link _ (seen c.args.sockets.now) (seen c.read.new.self)
-    (record { call = record { told = e.told; taken = e.taken; asked = e.asked; counts = e.counts }; sent = e.sent; choked = e.choked; same = record { used = e.used; there = e.there; undrained = λ k. e.undrained k ∙ and-not-none _ _; listening = e.listening } }) c.requires.calm c.requires.going c.bytes_came.ensures.takes c.bytes_came.ensures.causes)
+    (record { call = record { told = e.told; taken = e.taken; asked = e.asked; counts = e.counts }; sent = e.sent; choked = e.choked; same = record { used = e.used; there = e.there; undrained = λ k. e.undrained k ∙ and-not-none _ _; blocked = e.blocked; listening = e.listening } }) c.requires.calm c.requires.going c.bytes_came.ensures.takes c.bytes_came.ensures.causes)
     c.close_all_leaving.ensures.continues
 
 pub returns-else-not-is_open-clause-reads : goal.returns-else-not-is_open-clause-reads
@@ -101,7 +101,7 @@ returns-else-not-is_open-clause-reads g c =
     let e = rw c.in-Ok-Bytes.field-0-is at c.in-Ok-Bytes.ensures in
     let p = c.close_all_leaving.ensures in
     ReadsOn-read c.bytes_came.new.self c.close_all_leaving.new.headless c.args.link _ (g.S.Sockets.seen c.args.sockets.now) (g.S.Sockets.seen c.read.new.self) _
-    (record { call = record { told = e.told; taken = e.taken; asked = e.asked; counts = e.counts }; sent = e.sent; choked = e.choked; same = record { used = e.used; there = e.there; undrained = λ k. e.undrained k ∙ and-not-none _ _; listening = e.listening } }) p.continues.told p.parts
+    (record { call = record { told = e.told; taken = e.taken; asked = e.asked; counts = e.counts }; sent = e.sent; choked = e.choked; same = record { used = e.used; there = e.there; undrained = λ k. e.undrained k ∙ and-not-none _ _; blocked = e.blocked; listening = e.listening } }) p.continues.told p.parts
 
 pub returns-else-not-is_open-clause-within : goal.returns-else-not-is_open-clause-within
 returns-else-not-is_open-clause-within g c = λ t.
@@ -129,7 +129,7 @@ returns-in-Ok-End-clause-continues g c =
     let seen = g.S.Sockets.seen in
     LoopStep-trans c.args.headless.now c.link_gone.new.self _ (seen c.args.sockets.now) (seen c.read.new.self) _
     (LoopStep-lost c.args.headless.now c.link_gone.new.self c.args.link (Ended c.args.link) _ (seen c.args.sockets.now) (seen c.read.new.self)
-    (record { call = record { told = e.told; taken = e.taken; asked = e.asked; counts = e.counts }; sent = e.sent; choked = e.choked; same = record { used = e.used; there = e.there; undrained = λ k. e.undrained k ∙ and-not-none _ _; listening = e.listening } }) refl refl c.requires.calm c.requires.going (l.ended refl) (λ taken. ended-of c.args.link.0) l.core (λ t. record { front = []; rest = []; taken = e.taken t }))
+    (record { call = record { told = e.told; taken = e.taken; asked = e.asked; counts = e.counts }; sent = e.sent; choked = e.choked; same = record { used = e.used; there = e.there; undrained = λ k. e.undrained k ∙ and-not-none _ _; blocked = e.blocked; listening = e.listening } }) refl refl c.requires.calm c.requires.going (l.ended refl) (λ taken. ended-of c.args.link.0) l.core (λ t. record { front = []; rest = []; taken = e.taken t }))
     c.close_all_leaving-in-Ok-End.ensures.continues
 
 pub returns-in-Ok-End-clause-reads : goal.returns-in-Ok-End-clause-reads
@@ -148,7 +148,7 @@ returns-in-Ok-End-clause-drained g c = λ none s on.
     let seen = g.S.Sockets.seen in
     let p = c.close_all_leaving-in-Ok-End.ensures in
     let first = LoopStep-lost c.args.headless.now c.link_gone.new.self c.args.link (Ended c.args.link) _ (seen c.args.sockets.now) (seen c.read.new.self)
-    (record { call = record { told = e.told; taken = e.taken; asked = e.asked; counts = e.counts }; sent = e.sent; choked = e.choked; same = record { used = e.used; there = e.there; undrained = λ k. e.undrained k ∙ and-not-none _ _; listening = e.listening } }) refl refl c.requires.calm c.requires.going (l.ended refl) (λ taken. ended-of c.args.link.0) l.core (λ t. record { front = []; rest = []; taken = e.taken t }) in
+    (record { call = record { told = e.told; taken = e.taken; asked = e.asked; counts = e.counts }; sent = e.sent; choked = e.choked; same = record { used = e.used; there = e.there; undrained = λ k. e.undrained k ∙ and-not-none _ _; blocked = e.blocked; listening = e.listening } }) refl refl c.requires.calm c.requires.going (l.ended refl) (λ taken. ended-of c.args.link.0) l.core (λ t. record { front = []; rest = []; taken = e.taken t }) in
     closed-drained c.args.link.0 c.close_all_leaving-in-Ok-End.new.headless (seen c.close_all_leaving-in-Ok-End.new.sockets) (p.continues.agrees (first.agrees s)) p.calm
     (closed-gone c.args.link.0 c.link_gone.new.self c.close_all_leaving-in-Ok-End.new.headless (seen c.read.new.self) (seen c.close_all_leaving-in-Ok-End.new.sockets) p.parts p.calm l.gone)
 
@@ -168,7 +168,7 @@ returns-in-Err-clause-continues g c =
     let seen = g.S.Sockets.seen in
     LoopStep-trans c.args.headless.now c.link_gone-in-Err.new.self _ (seen c.args.sockets.now) (seen c.read.new.self) _
     (LoopStep-lost c.args.headless.now c.link_gone-in-Err.new.self c.args.link (Failed c.args.link) _ (seen c.args.sockets.now) (seen c.read.new.self)
-    (record { call = record { told = e.told; taken = e.taken; asked = e.asked; counts = e.counts }; sent = e.sent; choked = e.choked; same = record { used = e.used; there = e.there; undrained = λ k. e.undrained k ∙ and-not-none _ _; listening = e.listening } }) refl refl c.requires.calm c.requires.going (l.failed refl) (λ taken. failed-of c.args.link.0) l.core (e.failed, λ t. record { front = []; rest = []; taken = e.taken t }))
+    (record { call = record { told = e.told; taken = e.taken; asked = e.asked; counts = e.counts }; sent = e.sent; choked = e.choked; same = record { used = e.used; there = e.there; undrained = λ k. e.undrained k ∙ and-not-none _ _; blocked = e.blocked; listening = e.listening } }) refl refl c.requires.calm c.requires.going (l.failed refl) (λ taken. failed-of c.args.link.0) l.core (e.failed, λ t. record { front = []; rest = []; taken = e.taken t }))
     c.close_all_leaving-in-Err.ensures.continues
 
 pub returns-in-Err-clause-reads : goal.returns-in-Err-clause-reads
@@ -187,7 +187,7 @@ returns-in-Err-clause-drained g c = λ none s on.
     let seen = g.S.Sockets.seen in
     let p = c.close_all_leaving-in-Err.ensures in
     let first = LoopStep-lost c.args.headless.now c.link_gone-in-Err.new.self c.args.link (Failed c.args.link) _ (seen c.args.sockets.now) (seen c.read.new.self)
-    (record { call = record { told = e.told; taken = e.taken; asked = e.asked; counts = e.counts }; sent = e.sent; choked = e.choked; same = record { used = e.used; there = e.there; undrained = λ k. e.undrained k ∙ and-not-none _ _; listening = e.listening } }) refl refl c.requires.calm c.requires.going (l.failed refl) (λ taken. failed-of c.args.link.0) l.core (e.failed, λ t. record { front = []; rest = []; taken = e.taken t }) in
+    (record { call = record { told = e.told; taken = e.taken; asked = e.asked; counts = e.counts }; sent = e.sent; choked = e.choked; same = record { used = e.used; there = e.there; undrained = λ k. e.undrained k ∙ and-not-none _ _; blocked = e.blocked; listening = e.listening } }) refl refl c.requires.calm c.requires.going (l.failed refl) (λ taken. failed-of c.args.link.0) l.core (e.failed, λ t. record { front = []; rest = []; taken = e.taken t }) in
     closed-drained c.args.link.0 c.close_all_leaving-in-Err.new.headless (seen c.close_all_leaving-in-Err.new.sockets) (p.continues.agrees (first.agrees s)) p.calm
     (closed-gone c.args.link.0 c.link_gone-in-Err.new.self c.close_all_leaving-in-Err.new.headless (seen c.read.new.self) (seen c.close_all_leaving-in-Err.new.sockets) p.parts p.calm l.gone)
 
@@ -203,7 +203,7 @@ returns-in_default-clause-contained g c = KeepsLinks-refl _
 pub returns-in-Ok-NotYet-clause-contained : goal.returns-in-Ok-NotYet-clause-contained
 returns-in-Ok-NotYet-clause-contained g c =
     let states = c.args.headless.now.links.opened.items in
-    KeepsLinks-same c.args.headless.now _ refl (omega arith) (λ k. ap (λ ss. is_some (at_key link_number k ss)) c.mark.ensures.opened ∙ links-marked c.args.link.0 k false states) (ap (λ v. v.items) c.mark.ensures.closed)
+    KeepsLinks-same c.args.headless.now _ refl (omega arith) (λ k. same-keys link_number k _ states (ap (λ ss. map link_number ss) c.mark_drained.ensures.opened ∙ numbers-changed c.args.link.0 drained_state keeps-drained states)) (ap (λ v. v.items) c.mark_drained.ensures.closed)
 
 pub returns-then-quits-clause-contained : goal.returns-then-quits-clause-contained
 returns-then-quits-clause-contained g c =

@@ -1,12 +1,14 @@
-use Rattle.std.proofs.Common.{◌≤◌, refl, ◌∙◌, inr, [], ◌∷◌, length, rules}
+use Rattle.std.proofs.Common.{◌≤◌, true, false, refl, ◌∙◌, inr, [], ◌∷◌, length, rules}
 use Rattle.wc_outside.specs.declared.happening.Happening.TheVariants.{Failed}
 use Rattle.wc_outside.specs.Keyed.{at_key}
 use Rattle.wc_board.specs.Connections.{connection_link}
 use Rattle.wc_turns.proofs.AgreesLemmas.{timeless-failed}
 use Rattle.wc_turns.proofs.StepLemmas.{LoopStep-missed, failed-left}
-use Rattle.wc_turns.proofs.CloseLemmas.{LoopStep-refl, LoopStep-quiet, LoopStep-sent, fewer-sent, nothing_sent}
+use Rattle.std.proofs.lemmas.Bool.{false≢true}
+use Rattle.wc_turns.proofs.TurnLemmas.{LoopStep-trans}
+use Rattle.wc_turns.proofs.CloseLemmas.{LoopStep-refl, LoopStep-quiet, LoopStep-sent, LoopStep-written, OnlyLinks-with, seen_written, there-unless, fewer-sent, nothing_sent}
 use Rattle.wc_turns.proofs.SourceLemmas.{NothingBecameReady-same, TakesNothing-call, blocked-other}
-use Rattle.wc_turns.proofs.PartLemmas.{SendsOn-call, SendsOn-took, misses-going}
+use Rattle.wc_turns.proofs.PartLemmas.{SendsOn-call, SendsOn-took, SendsOn-trans, SendsOn-written, misses-going}
 use Rattle.wc_turns.proofs.turns.send_once.Goals as goal
 
 pub returns-in_default-clause-continues : goal.returns-in_default-clause-continues
@@ -18,16 +20,27 @@ returns-then-is_empty-clause-continues g c = LoopStep-refl _ _
 pub returns-in-Ok-Took-clause-continues : goal.returns-in-Ok-Took-clause-continues
 returns-in-Ok-Took-clause-continues g c =
     let e = rw c.in-Ok-Took.field-0-is at c.in-Ok-Took.ensures in
-    rw c.gone.ensures (LoopStep-sent c.args.headless.now (g.S.Sockets.seen c.args.sockets.now) (g.S.Sockets.seen c.write.new.self) c.args.link.0 c.in-Ok-Took.count (at_key connection_link c.args.link.0 c.args.headless.now.core.connections) c.in-Some.unsent.now refl c.in-Some.ensures
-    (record { told = e.told; taken = e.taken; asked = e.asked; counts = e.counts }) e.sent e.choked (record { used = e.used; there = e.there; undrained = e.undrained; listening = e.listening }))
+    let x = c.args.headless.now in
+    let m = c.mark_written in
+    let y = record x { links = m.new.self } in
+    let a = g.S.Sockets.seen c.args.sockets.now in
+    let b = g.S.Sockets.seen c.write.new.self in
+    rw c.gone.ensures (LoopStep-trans x y _ a (seen_written c.args.link.0 false a) b
+    (LoopStep-written x y a c.args.link.0 false (OnlyLinks-with x m.new.self m.ensures.closed) (λ q. absurd (false≢true q)) m.ensures.opened)
+    (LoopStep-sent y (seen_written c.args.link.0 false a) b c.args.link.0 c.in-Ok-Took.count (at_key connection_link c.args.link.0 x.core.connections) c.in-Some.unsent.now refl c.in-Some.ensures
+    (record { told = e.told; taken = e.taken; asked = e.asked; counts = e.counts }) e.sent e.choked (record { used = e.used; there = e.there; undrained = e.undrained; blocked = e.blocked; listening = e.listening })))
 
 pub returns-in-Ok-Took-clause-sends : goal.returns-in-Ok-Took-clause-sends
 returns-in-Ok-Took-clause-sends g c =
     let e = rw c.in-Ok-Took.field-0-is at c.in-Ok-Took.ensures in
     let before = g.S.Sockets.seen c.args.sockets.now in
     let after = g.S.Sockets.seen c.write.new.self in
-    rw c.gone.ensures (SendsOn-took c.args.link.0 c.in-Ok-Took.count c.args.headless.now before after (at_key connection_link c.args.link.0 c.args.headless.now.core.connections) refl
-    (NothingBecameReady-same before after e.undrained e.listening) (TakesNothing-call before after [] e.taken (λ k. refl) refl) (λ k n. e.blocked k ∙ blocked-other k c.args.link.0 _ _ n))
+    let x = c.args.headless.now in
+    let m = c.mark_written in
+    let y = record x { links = m.new.self } in
+    rw c.gone.ensures (SendsOn-trans c.args.link.0 x y _ before before after e.told (SendsOn-written c.args.link.0 false x y before (OnlyLinks-with x m.new.self m.ensures.closed) m.ensures.opened)
+    (SendsOn-took c.args.link.0 c.in-Ok-Took.count y before after (at_key connection_link c.args.link.0 x.core.connections) refl
+    (NothingBecameReady-same before after e.undrained e.listening) (TakesNothing-call before after [] e.taken (λ k. refl) refl) (λ k n. e.blocked k ∙ blocked-other k c.args.link.0 _ _ n)))
 
 pub returns-in-Ok-Took-clause-less : goal.returns-in-Ok-Took-clause-less
 returns-in-Ok-Took-clause-less g c = λ q.
@@ -38,25 +51,56 @@ returns-in-Ok-Took-clause-less g c = λ q.
 pub returns-in-Ok-NotYet-clause-continues : goal.returns-in-Ok-NotYet-clause-continues
 returns-in-Ok-NotYet-clause-continues g c =
     let e = rw c.in-Ok-NotYet.field-0-is at c.in-Ok-NotYet.ensures in
-    LoopStep-quiet _ _ _ (record { told = e.told; taken = e.taken; asked = e.asked; counts = e.counts })
-    (λ t k. e.sent t k ∙ nothing_sent _ _) e.choked (record { used = e.used; there = e.there; undrained = e.undrained; listening = e.listening })
+    let x = c.args.headless.now in
+    let m = c.mark_written-in-Ok-NotYet in
+    let y = record x { links = m.new.self } in
+    let a = g.S.Sockets.seen c.args.sockets.now in
+    let b = g.S.Sockets.seen c.write.new.self in
+    LoopStep-trans x y y a (seen_written c.args.link.0 true a) b
+    (LoopStep-written x y a c.args.link.0 true (OnlyLinks-with x m.new.self m.ensures.closed) (λ q. there-unless _ (λ n. false≢true (e.known n))) m.ensures.opened)
+    (LoopStep-quiet y (seen_written c.args.link.0 true a) b (record { told = e.told; taken = e.taken; asked = e.asked; counts = e.counts })
+    (λ t k. e.sent t k ∙ nothing_sent _ _) e.choked (record { used = e.used; there = e.there; undrained = e.undrained; blocked = e.blocked; listening = e.listening }))
+
+pub returns-in-Ok-NotYet-clause-sends : goal.returns-in-Ok-NotYet-clause-sends
+returns-in-Ok-NotYet-clause-sends g c =
+    let e = rw c.in-Ok-NotYet.field-0-is at c.in-Ok-NotYet.ensures in
+    let before = g.S.Sockets.seen c.args.sockets.now in
+    let after = g.S.Sockets.seen c.write.new.self in
+    let x = c.args.headless.now in
+    let m = c.mark_written-in-Ok-NotYet in
+    let y = record x { links = m.new.self } in
+    SendsOn-trans c.args.link.0 x y y before before after e.told (SendsOn-written c.args.link.0 true x y before (OnlyLinks-with x m.new.self m.ensures.closed) m.ensures.opened)
+    (SendsOn-call c.args.link.0 y y before after refl refl refl refl
+    (NothingBecameReady-same before after e.undrained e.listening) (TakesNothing-call before after [] e.taken (λ k. refl) refl) (λ k n. e.blocked k ∙ blocked-other k c.args.link.0 _ _ n))
 
 pub returns-in-Err-clause-continues : goal.returns-in-Err-clause-continues
 returns-in-Err-clause-continues g c =
     let e = c.in-Err.ensures in
-    let core = c.args.headless.now.core in
-    rw c.link_missed.ensures (LoopStep-missed c.args.headless.now _ (g.S.Sockets.seen c.args.sockets.now) (g.S.Sockets.seen c.write.new.self) (Failed c.args.link) refl refl (record { told = e.told; taken = e.taken; asked = e.asked; counts = e.counts })
-    (λ t k. e.sent t k ∙ nothing_sent _ _) e.choked (record { used = e.used; there = e.there; undrained = e.undrained; listening = e.listening })
+    let x = c.args.headless.now in
+    let core = x.core in
+    let m = c.mark_written-in-Err in
+    let y = record x { links = m.new.self } in
+    let a = g.S.Sockets.seen c.args.sockets.now in
+    let b = g.S.Sockets.seen c.write.new.self in
+    let mid = seen_written c.args.link.0 false a in
+    rw c.link_missed.ensures (LoopStep-trans x y _ a mid b
+    (LoopStep-written x y a c.args.link.0 false (OnlyLinks-with x m.new.self m.ensures.closed) (λ q. absurd (false≢true q)) m.ensures.opened)
+    (LoopStep-missed y _ mid b (Failed c.args.link) refl refl (record { told = e.told; taken = e.taken; asked = e.asked; counts = e.counts })
+    (λ t k. e.sent t k ∙ nothing_sent _ _) e.choked (record { used = e.used; there = e.there; undrained = e.undrained; blocked = e.blocked; listening = e.listening })
     (λ k. refl) (timeless-failed c.args.link) (λ taken. refl) refl
-    (λ s on taken. failed-left core c.args.link taken s.among.once (misses-going c.args.link.0 core c.requires.missed on s.among.once)))
+    (λ s on taken. failed-left core c.args.link taken s.among.once (misses-going c.args.link.0 core c.requires.missed on s.among.once))))
 
 pub returns-in-Err-clause-sends : goal.returns-in-Err-clause-sends
 returns-in-Err-clause-sends g c =
     let e = c.in-Err.ensures in
     let before = g.S.Sockets.seen c.args.sockets.now in
     let after = g.S.Sockets.seen c.write.new.self in
-    SendsOn-call c.args.link.0 c.args.headless.now c.link_missed.new.self before after (rw c.link_missed.ensures refl) (rw c.link_missed.ensures refl) (rw c.link_missed.ensures refl)
-    (NothingBecameReady-same before after e.undrained e.listening) (TakesNothing-call before after (Failed c.args.link ∷ []) e.taken (λ k. refl) refl) (λ k n. e.blocked k ∙ blocked-other k c.args.link.0 _ _ n)
+    let x = c.args.headless.now in
+    let m = c.mark_written-in-Err in
+    let y = record x { links = m.new.self } in
+    SendsOn-trans c.args.link.0 x y _ before before after e.told (SendsOn-written c.args.link.0 false x y before (OnlyLinks-with x m.new.self m.ensures.closed) m.ensures.opened)
+    (SendsOn-call c.args.link.0 y c.link_missed.new.self before after (rw c.link_missed.ensures refl) (rw c.link_missed.ensures refl) (rw c.link_missed.ensures refl) (rw c.link_missed.ensures refl)
+    (NothingBecameReady-same before after e.undrained e.listening) (TakesNothing-call before after (Failed c.args.link ∷ []) e.taken (λ k. refl) refl) (λ k n. e.blocked k ∙ blocked-other k c.args.link.0 _ _ n))
 
 pub returns-in-Err-clause-done : goal.returns-in-Err-clause-done
 returns-in-Err-clause-done g c = λ q. (let e = c.in-Err.ensures in inr (inr (e.failed, λ t. record { front = []; rest = []; taken = e.taken t })))

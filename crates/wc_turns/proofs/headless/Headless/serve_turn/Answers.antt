@@ -50,7 +50,7 @@ returns-clause-sent g c = λ quit.
     let e = c.serve_ready-listened.ensures in
     let seen = g.S.Sockets.seen in
     AllSent-following c.serve_ready-listened.new.headless.core.connections (seen c.args.sockets.now) (seen c.wake.new.sockets) (seen c.serve_ready-listened.new.sockets) (later-of _ _ woken.continues) (later-of _ _ e.continues) woken.continues.counts
-    (e.sent (quits-by c.serve_ready-listened.result _ c.turn_end.result c.turn_end.ensures quit))
+    (e.sent (woken.continues.agrees c.requires.agrees) (quits-by c.serve_ready-listened.result _ c.turn_end.result c.turn_end.ensures quit))
 
 pub returns-clause-within : goal.returns-clause-within
 returns-clause-within g c =

@@ -1,11 +1,11 @@
-use Rattle.std.proofs.Common.{◌≡◌, ◌≢◌, true, false, None, refl, sym, ap, ◌∙◌, subst}
+use Rattle.std.proofs.Common.{◌≡◌, ◌≢◌, false, None, refl, sym, ap, ◌∙◌, subst}
 use Rattle.std.proofs.lemmas.Bool.{false≢true}
 use Rattle.wc_core.specs.CoreView.{CoreView}
 use Rattle.wc_turns.specs.declared.turn.TurnEnd.TheVariants.{WaitFault}
 use Rattle.wc_core.specs.Served.{unwritten_of}
 use Rattle.wc_turns.specs.Saves.{WritesText}
 use Rattle.wc_turns.specs.Turns.{LoopStep, faults_then}
-use Rattle.wc_turns.proofs.SaveLemmas.{agrees-written, step-written, closes-written, loses-written, fits-then, woke-once, saves-turn}
+use Rattle.wc_turns.proofs.SaveLemmas.{agrees-written, step-written, closes-written, loses-written, fits-then, faults-most, woke-once, saves-turn}
 use Rattle.wc_turns.proofs.WaitLemmas.{OnOk-get, OnErr-get}
 use Rattle.wc_turns.proofs.headless.Headless.turn.Goals as goal
 
@@ -19,7 +19,7 @@ returns-then-is_err-clause-continues g c =
     let stays = OnErr-get c.save.result _ bad c.save.ensures.kept in
     let unwritten = OnErr-get c.save.result _ bad c.save.ensures.unwritten in
     let woken : end.result ≢ WaitFault = λ q. false≢true (sym (ap (λ (core : CoreView). core.unwritten) (end.ensures.unsaved q) ∙ c.requires.written) ∙ unwritten) in
-    rw stays (record { faults = faults_then end.result; fits = tt; step = subst (λ n. LoopStep false n (faults_then end.result) c.args.self.now end.new.self (seen c.args.sockets.now) (seen end.new.sockets)) (woke-once end.result woken) end.ensures.continues })
+    rw stays (record { faults = faults_then end.result; fits = faults-most end.result; step = subst (λ n. LoopStep false n (faults_then end.result) c.args.self.now end.new.self (seen c.args.sockets.now) (seen end.new.sockets)) (woke-once end.result woken) end.ensures.continues })
 
 pub returns-then-is_err-clause-agrees : goal.returns-then-is_err-clause-agrees
 returns-then-is_err-clause-agrees g c =

@@ -3,7 +3,7 @@ use Rattle.wc_outside.specs.Keyed.{at_key}
 use Rattle.wc_turns.specs.Links.{link_number}
 use Rattle.wc_turns.proofs.SourceLemmas.{TakesNothing-trans}
 use Rattle.wc_turns.proofs.TurnLemmas.{LoopStep-step, LoopStep-joined}
-use Rattle.wc_turns.proofs.WaitLemmas.{Nothing-woke, Nothing-none, LoopStep-unwoken, unwoken-loses}
+use Rattle.wc_turns.proofs.WaitLemmas.{Nothing-woke, Nothing-none, LoopStep-unwoken, unwoken-loses, MayWait-timeout}
 use Rattle.wc_turns.proofs.WakeLemmas.{LoopStep-woke, woken-closed, woken-loses, woken-saves}
 use Rattle.wc_turns.proofs.headless.Headless.wake.Goals as goal
 
@@ -20,7 +20,7 @@ returns-in-Ok-clause-woken g c =
     let z = c.report.new.self in
     let w = c.close_all_leaving.new.headless in
     let woke = LoopStep-woke x y z (seen c.args.sockets.now) (seen c.wait.new.self) c.in-Ok.moment (take c.wait.new.ready.count c.wait.new.ready.tokens)
-    (record { told = e.told; taken = e.taken; asked = e.asked; counts = e.counts }) e.sent e.choked e.used e.there e.undrained e.listening e.tokens c.requires.going c.requires.calm begins reports in
+    (record { told = e.told; taken = e.taken; asked = e.asked; counts = e.counts }) e.sent e.choked e.used e.there e.undrained e.listening e.freed e.tokens c.requires.going c.requires.calm begins reports in
     let joined = LoopStep-joined x z w (seen c.args.sockets.now) (seen c.wait.new.self) (seen c.close_all_leaving.new.sockets) woke parts.continues in
     record {
       continues = joined.0;
@@ -39,7 +39,7 @@ returns-in-Err-clause-failed g c =
     let seen = g.S.Sockets.seen in
     record {
       continues = LoopStep-unwoken c.args.self.now (record c.args.self.now { links = c.begin_turn-in-Err.new.self }) (seen c.args.sockets.now) (seen c.wait.new.self) refl refl refl refl refl refl (ap (λ v. v.items) c.begin_turn-in-Err.ensures.opened)
-          (record { told = e.told; taken = e.taken; asked = e.asked; counts = e.counts }) e.sent e.choked (record { used = e.used; there = e.there; undrained = e.undrained_as_before; listening = e.listening_as_before });
+          (record { told = e.told; taken = e.taken; asked = e.asked; counts = e.counts }) e.sent e.choked (record { used = e.used; there = e.there; undrained = e.undrained_as_before; blocked = e.blocked_as_before; listening = e.listening_as_before });
       closed = c.begin_turn-in-Err.ensures.closed;
       calm = c.requires.calm;
       rises = omega arith;
@@ -47,3 +47,6 @@ returns-in-Err-clause-failed g c =
       saves = inl (refl, refl);
       nothing = Nothing-none (seen c.args.sockets.now) (seen c.wait.new.self) e.taken;
     }
+
+pub wait-requires : goal.wait-requires
+wait-requires g c = rw c.timeout.ensures (MayWait-timeout c.args.self.now _ c.requires.agrees c.requires.going)

@@ -1,0 +1,10 @@
+use Rattle.std.proofs.Common.{◌+◌, ◌≤◌, length, take}
+use Rattle.std.specs.Slice.Iter.{iter_rest}
+use Rattle.wc_edge.specs.Rows.{SourcesReported}
+use Rattle.wc_edge.proofs.report.report.Given as goal
+
+abbrev pub invariant-loop-event : goal.invariant-loop-event
+invariant-loop-event l = record {
+  reported : SourcesReported l.fn.rows l.rows l.fn.listening l.listening (take l.ready.count l.ready.tokens);
+  room : l.ready.count + length (iter_rest l.event-iterator) ≤ 64;
+}

@@ -1,0 +1,4 @@
+pub mod CursorLemmas
+pub mod FaultLemmas
+pub mod PlayLemmas
+pub mod RowLemmas
