@@ -15,8 +15,8 @@ use Rattle.wc_ircmsg.specs.Written.{IsWritable, is_one_line}
 use Rattle.wc_irc.specs.declared.act.Act.{Act}
 use Rattle.wc_irc.specs.Autojoin.{message}
 use Rattle.wc_irc.specs.TargetsSeen.{acts_in, acts_at, all_acts_at}
-use Rattle.wc_irc.specs.Texts.{in_one_line}
-use Rattle.wc_irc.proofs.PieceLemmas.{one_line_made}
+use Rattle.wc_irc_texts.specs.Texts.{in_one_line}
+use Rattle.wc_irc_texts.proofs.PieceLemmas.{one_line_made}
 use Rattle.wc_irc.proofs.TargetLemmas.{rows_once, all_parts}
 
 -- ---- a buffer, by what is lent of it

@@ -12,15 +12,15 @@ use Rattle.wc_ircmsg.specs.Utf8.{AreUtf8Texts}
 use Rattle.wc_ircmsg.specs.Written.{ends_lines, is_one_line, are_words, needs_colon}
 use Rattle.wc_irc.specs.CommandActs.{reason_params}
 use Rattle.wc_irc.specs.CommandSeen.{IsLine, IsLead, IsReady, IsReadyIn}
-use Rattle.wc_irc.specs.Pieces.{is_bare}
-use Rattle.wc_irc.specs.declared.command_word.CommandWord.{CommandWord}
-use Rattle.wc_irc.specs.declared.command_word.CommandWord.TheVariants as words
-use Rattle.wc_irc.specs.TypedSeen.{asked_with, word_named}
-use Rattle.wc_irc.specs.Typed.{ServerCommand, DeletesServer, Connects, Disconnects, Joins, Says, Notices, Queries, Does, Renames, SetsTopic, Kicks, SetsModes, AsksNames, Quotes, Talks, Wrong}
-use Rattle.wc_irc.specs.Typed.{without_words, one_word, some_text, is_target, one_target, target_and_text, kick_command, are_mode_words, ends_at_colon, mode_command, tls_words, adds_with, server_add, server_command, disconnect_command, command_of, slash_command, asked_of}
+use Rattle.wc_irc_texts.specs.Pieces.{is_bare}
+use Rattle.wc_irc_words.specs.declared.command_word.CommandWord.{CommandWord}
+use Rattle.wc_irc_words.specs.declared.command_word.CommandWord.TheVariants as words
+use Rattle.wc_irc_words.specs.TypedSeen.{asked_with, word_named}
+use Rattle.wc_irc_words.specs.Typed.{ServerCommand, DeletesServer, Connects, Disconnects, Joins, Says, Notices, Queries, Does, Renames, SetsTopic, Kicks, SetsModes, AsksNames, Quotes, Talks, Wrong}
+use Rattle.wc_irc_words.specs.Typed.{without_words, one_word, some_text, is_target, one_target, target_and_text, kick_command, are_mode_words, ends_at_colon, mode_command, tls_words, adds_with, server_add, server_command, disconnect_command, command_of, slash_command, asked_of}
 use Rattle.wc_irc.proofs.LineTextLemmas.{line_word, line_rest, line_tail}
-use Rattle.wc_irc.proofs.PieceLemmas.{bare_word, bare_line, no_colon}
-use Rattle.wc_irc.proofs.TypedLemmas.{asked_by, command_named}
+use Rattle.wc_irc_texts.proofs.PieceLemmas.{bare_word, bare_line, no_colon}
+use Rattle.wc_irc_words.proofs.TypedLemmas.{asked_by, command_named}
 
 -- ---- words
 

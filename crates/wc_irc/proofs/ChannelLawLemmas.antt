@@ -6,18 +6,18 @@ use Rattle.wc_options.specs.Options.{OptionsValue}
 use Rattle.wc_ircmsg.specs.declared.case_map.CaseMap.{CaseMap}
 use Rattle.wc_ircmsg.specs.declared.message.Message.{Message}
 use Rattle.wc_ircmsg.specs.declared.prefixes.Prefixes.{Prefixes}
-use Rattle.wc_irc.specs.declared.kind.MessageKind.{MessageKind}
-use Rattle.wc_irc.specs.declared.kind.MessageKind.TheVariants.{Welcome, Tokens, NickInUse, Join, Part, Quit, Kick, Nick, Mode, Topic, TopicReply, Names, NamesEnd, ModeReply, Privmsg, Notice, Ping, Error, Other}
+use Rattle.wc_irc_texts.specs.declared.kind.MessageKind.{MessageKind}
+use Rattle.wc_irc_texts.specs.declared.kind.MessageKind.TheVariants.{Welcome, Tokens, NickInUse, Join, Part, Quit, Kick, Nick, Mode, Topic, TopicReply, Names, NamesEnd, ModeReply, Privmsg, Notice, Ping, Error, Other}
 use Rattle.wc_irc.specs.declared.refused.ServerRefused.TheVariants.{TlsOn}
 use Rattle.wc_irc.specs.ChannelLaws.{AreNamed, HasChannelNames}
 use Rattle.wc_irc.specs.Channels.{Joined, without_nick}
 use Rattle.wc_irc.specs.ChannelStates.{channel_at, change_first, without_first, change_one, leave_one, comes_in, with_nick, new_channel, entered, after_join, after_leave, may_have, renamed}
-use Rattle.wc_irc.specs.Features.{after_tokens}
+use Rattle.wc_irc_texts.specs.Features.{after_tokens}
 use Rattle.wc_irc.specs.ModeActs.{with_modes_of}
 use Rattle.wc_irc.specs.NameActs.{with_names, seats_in}
-use Rattle.wc_irc.specs.Names.{is_channel, is_same}
-use Rattle.wc_irc.specs.Rows.{param, has_params, kind_named, is_complete, kind_of}
-use Rattle.wc_irc.specs.Seats.{with_name}
+use Rattle.wc_irc_texts.specs.Names.{is_channel, is_same}
+use Rattle.wc_irc_texts.specs.Rows.{param, has_params, kind_named, is_complete, kind_of}
+use Rattle.wc_irc_nicks.specs.Seats.{with_name}
 use Rattle.wc_irc.specs.ServerActs.{after_kind, kind_to, after_server}
 use Rattle.wc_irc.specs.Servers.{ServerState, is_own, may_try, after_welcome, after_taken, told_if_alone, own_nick_from, next_nick}
 use Rattle.wc_irc.specs.Start.{is_tls, address_in, first_state, start_at, start_of}

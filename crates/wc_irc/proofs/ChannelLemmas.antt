@@ -3,10 +3,10 @@ use Rattle.std.proofs.Common.{◌≡◌, ℕ, zero, suc, ◌+◌, ◌≤◌, ◌
 use Rattle.std.specs.Prelude.{not, is_some}
 use Rattle.std.proofs.lemmas.List.{take_all, drop_all, length-map}
 use Rattle.wc_irc.specs.declared.channel.Channel.{Channel}
-use Rattle.wc_irc.specs.declared.seat.Seat.{Seat}
+use Rattle.wc_irc_texts.specs.declared.seat.Seat.{Seat}
 use Rattle.wc_ircmsg.specs.declared.case_map.CaseMap.{CaseMap}
 use Rattle.wc_irc.specs.Channels.{Joined, joined, without_nick, after_quit, LeavesOthers}
-use Rattle.wc_irc.specs.Seats.{is_named, seat_of, has_seat, without_seat}
+use Rattle.wc_irc_nicks.specs.Seats.{is_named, seat_of, has_seat, without_seat}
 
 -- a list that is changed up to a place
 abbrev pub so_far : {A : Type 0} → (A → A) → ℕ → List A → List A

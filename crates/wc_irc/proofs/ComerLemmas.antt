@@ -3,12 +3,12 @@ use Rattle.std.proofs.Common.{◌≡◌, ℕ, true, false, List, [], ◌∷◌, 
 use Rattle.wc_ircmsg.specs.declared.case_map.CaseMap.{CaseMap}
 use Rattle.wc_ircmsg.specs.declared.prefixes.Prefixes.{Prefixes}
 use Rattle.wc_irc.specs.declared.names_state.Comer.{Comer}
-use Rattle.wc_irc.specs.declared.seat.ModeSet.{ModeSet}
-use Rattle.wc_irc.specs.declared.seat.Seat.{Seat}
-use Rattle.wc_irc.specs.Listed.{listed_nick, listed_bits}
-use Rattle.wc_irc.specs.Merged.{merged, put_seat}
+use Rattle.wc_irc_texts.specs.declared.seat.ModeSet.{ModeSet}
+use Rattle.wc_irc_texts.specs.declared.seat.Seat.{Seat}
+use Rattle.wc_irc_texts.specs.Listed.{listed_nick, listed_bits}
+use Rattle.wc_irc_nicks.specs.Merged.{merged, put_seat}
 use Rattle.wc_irc.specs.NameActs.{listed_seat}
-use Rattle.wc_irc.specs.Names.{is_nick}
+use Rattle.wc_irc_texts.specs.Names.{is_nick}
 use Rattle.wc_irc.specs.NamesSeen.{seat_of_comer, seats_of_comers, MayCome, AllMayCome}
 use Rattle.wc_irc.proofs.ModeLemmas.{name_none, name_some}
 

@@ -13,15 +13,15 @@ use Rattle.wc_irc.specs.declared.act.Act.TheVariants as act
 use Rattle.wc_irc.specs.CommandActs.{Errand, Refuses, Sends, Speaks, SendsLine, Opens, Place, told_in, if_linked, sent_message, speech, acts_of_errand, errand_of, place_in, linked_in, acts_of_typed}
 use Rattle.wc_irc.specs.CommandLaws.{IsInLine, AreInLine, IsSpelled, IsSpelledIn, errand_typed}
 use Rattle.wc_irc.specs.CommandSeen.{IsFit, IsFitIn, IsReadyIn, IsPlaceUtf8}
-use Rattle.wc_irc.specs.Names.{is_channel}
+use Rattle.wc_irc_texts.specs.Names.{is_channel}
 use Rattle.wc_irc.specs.NewBuffers.{opened}
 use Rattle.wc_irc.specs.OwnSpeech.{own_line, own_talk, acts_of_own, own_speech}
 use Rattle.wc_irc.specs.Servers.{ServerState}
 use Rattle.wc_irc.specs.SpeechActs.{Talk, Says, Does, Requests, talk_of, on_private}
 use Rattle.wc_irc.specs.TalkActs.{on_found}
 use Rattle.wc_irc.specs.Targets.{found, full_name}
-use Rattle.wc_irc.specs.Texts.{in_one_line}
-use Rattle.wc_irc.specs.Typed.{ServerCommand, asked_of}
+use Rattle.wc_irc_texts.specs.Texts.{in_one_line}
+use Rattle.wc_irc_words.specs.Typed.{ServerCommand, asked_of}
 use Rattle.wc_irc.proofs.AskedLemmas.{asked_ready}
 use Rattle.wc_irc.proofs.ErrandLemmas.{errand_fit, place_utf8}
 use Rattle.wc_irc.proofs.LineTextLemmas.{line_made}

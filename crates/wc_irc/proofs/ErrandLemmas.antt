@@ -20,7 +20,7 @@ use Rattle.wc_buffers.specs.Vars.{value_of}
 use Rattle.wc_irc.specs.Autojoin.{message}
 use Rattle.wc_irc.specs.CommandActs.{Place, OnChannel, OnPrivate, Elsewhere, is_kind, place_of, place_in, channel_in, target_in, takes_text, Errand, Refuses, Sends, Speaks, may_lead, on_channel, to_target, action, talk_at, reason_params, errand_of}
 use Rattle.wc_irc.specs.CommandSeen.{IsLine, IsLead, IsFit, IsFitIn, IsReady, IsReadyIn, IsUtf8In, IsPlaceUtf8}
-use Rattle.wc_irc.specs.Typed.{ServerCommand, AddsServer, DeletesServer, Connects, Disconnects, Joins, Parts, Says, Notices, Queries, Does, Renames, SetsTopic, Kicks, SetsModes, AsksNames, Quotes, Talks, Wrong}
+use Rattle.wc_irc_words.specs.Typed.{ServerCommand, AddsServer, DeletesServer, Connects, Disconnects, Joins, Parts, Says, Notices, Queries, Does, Renames, SetsTopic, Kicks, SetsModes, AsksNames, Quotes, Talks, Wrong}
 
 -- ---- messages
 

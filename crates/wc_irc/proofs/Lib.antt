@@ -1,13 +1,6 @@
-pub mod TypedLemmas
-pub mod TextLemmas
-pub mod FeatureLemmas
-pub mod PieceLemmas
-pub mod KeptLemmas
-pub mod MemberLemmas
-pub mod ListedLemmas
 pub mod ChannelLemmas
-pub mod MergedLemmas
 pub mod TargetLemmas
+pub mod AutojoinLemmas
 pub mod ActLemmas
 pub mod StartLemmas
 pub mod TalkLemmas

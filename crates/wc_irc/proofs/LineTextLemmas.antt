@@ -9,8 +9,8 @@ use Rattle.wc_text.proofs.Utf8Lemmas.{utf8_parts, utf8_cons}
 use Rattle.wc_text.specs.Splits.{before, onward, past, word_of, rest_of}
 use Rattle.wc_ircmsg.specs.Written.{ends_lines, is_one_line}
 use Rattle.wc_irc.specs.CommandSeen.{IsLine}
-use Rattle.wc_irc.specs.Texts.{in_one_line}
-use Rattle.wc_irc.proofs.PieceLemmas.{bare_word, bare_line, all_onward, all_past, one_line_made}
+use Rattle.wc_irc_texts.specs.Texts.{in_one_line}
+use Rattle.wc_irc_texts.proofs.PieceLemmas.{bare_word, bare_line, all_onward, all_past, one_line_made}
 
 -- ---- UTF-8
 

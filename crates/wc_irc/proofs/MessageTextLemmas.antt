@@ -5,7 +5,7 @@ use Rattle.std.specs.Prelude.{slice_index_or}
 use Rattle.std.specs.Str.{IsUtf8}
 use Rattle.wc_ircmsg.specs.declared.message.Message.{Message}
 use Rattle.wc_ircmsg.specs.Utf8.{AreUtf8Texts, MessageIsUtf8}
-use Rattle.wc_irc.specs.Rows.{param}
+use Rattle.wc_irc_texts.specs.Rows.{param}
 
 text_at : (n : ℕ) (texts : List (List ℕ)) → AreUtf8Texts texts → IsUtf8 (slice_index_or texts n [])
 text_at n [] are = IsUtf8-nil

@@ -4,18 +4,18 @@ use Rattle.std.specs.Prelude.{is_some}
 use Rattle.wc_ircmsg.specs.declared.case_map.CaseMap.{CaseMap}
 use Rattle.wc_ircmsg.specs.declared.prefixes.Prefixes.{Prefixes}
 use Rattle.wc_irc.specs.declared.act.Act.{Act}
-use Rattle.wc_irc.specs.declared.overlay.Overlay.{Overlay}
-use Rattle.wc_irc.specs.declared.seat.ModeSet.{ModeSet}
-use Rattle.wc_irc.specs.declared.seat.Seat.{Seat}
-use Rattle.wc_irc.specs.Listed.{listed_nick, listed_bits}
-use Rattle.wc_irc.specs.Merged.{merged, put_seat}
+use Rattle.wc_irc_nicks.specs.declared.overlay.Overlay.{Overlay}
+use Rattle.wc_irc_texts.specs.declared.seat.ModeSet.{ModeSet}
+use Rattle.wc_irc_texts.specs.declared.seat.Seat.{Seat}
+use Rattle.wc_irc_texts.specs.Listed.{listed_nick, listed_bits}
+use Rattle.wc_irc_nicks.specs.Merged.{merged, put_seat}
 use Rattle.wc_irc.specs.ModeActs.{modes_after, change_seat, change_acts, changes_acts, with_change, moved}
-use Rattle.wc_irc.specs.ModeBits.{highest}
-use Rattle.wc_irc.specs.Modes.{ModeChange}
+use Rattle.wc_irc_texts.specs.ModeBits.{highest}
+use Rattle.wc_irc_texts.specs.Modes.{ModeChange}
 use Rattle.wc_irc.specs.NameActs.{listed_seat, placed, placed_all}
-use Rattle.wc_irc.specs.Names.{is_nick}
-use Rattle.wc_irc.specs.OverlaySeen.{seats_over}
-use Rattle.wc_irc.specs.Seats.{seat_of, with_modes}
+use Rattle.wc_irc_texts.specs.Names.{is_nick}
+use Rattle.wc_irc_nicks.specs.OverlaySeen.{seats_over}
+use Rattle.wc_irc_nicks.specs.Seats.{seat_of, with_modes}
 
 -- a nick that is there keeps its place
 pub put_there : (case_map : CaseMap) (nick : List ℕ) (modes : ModeSet) (seats : List Seat) (seat : Seat) → Some seat ≡ seat_of case_map nick seats → put_seat case_map nick modes seats ≡ with_modes case_map nick modes seats

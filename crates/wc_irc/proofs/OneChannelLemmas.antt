@@ -9,8 +9,8 @@ use Rattle.wc_ircmsg.specs.declared.prefixes.Prefixes.{Prefixes}
 use Rattle.wc_irc.specs.declared.channel.Channel.{Channel}
 use Rattle.wc_irc.specs.Channels.{Joined, joined, is_channel_named, channel_of}
 use Rattle.wc_irc.specs.ChannelStates.{joined_of, change_first, without_first, comes_in}
-use Rattle.wc_irc.specs.Names.{is_nick, is_same}
-use Rattle.wc_irc.specs.Seats.{has_seat}
+use Rattle.wc_irc_texts.specs.Names.{is_nick, is_same}
+use Rattle.wc_irc_nicks.specs.Seats.{has_seat}
 
 -- the channel of a name, as contracts see it
 pub shown_channel : (case_map : CaseMap) (name : List ℕ) (channels : List Channel) → option_map joined (channel_of case_map name channels) ≡ joined_of case_map name (map joined channels)

@@ -5,13 +5,13 @@ use Rattle.std.proofs.lemmas.List.{take_all}
 use Rattle.wc_ircmsg.specs.declared.case_map.CaseMap.{CaseMap}
 use Rattle.wc_ircmsg.specs.declared.prefixes.Prefixes.{Prefixes}
 use Rattle.wc_irc.specs.declared.channel.Channel.{Channel}
-use Rattle.wc_irc.specs.declared.seat.Seat.{Seat}
+use Rattle.wc_irc_texts.specs.declared.seat.Seat.{Seat}
 use Rattle.wc_irc.specs.Channels.{Joined, joined, without_nick}
 use Rattle.wc_irc.specs.ChannelStates.{may_have, renamed}
-use Rattle.wc_irc.specs.Kept.{NewNickValue}
+use Rattle.wc_irc_nicks.specs.Kept.{NewNickValue}
 use Rattle.wc_irc.specs.ReadySeen.{given, give_each, CanGive, AllCanGive, IsReady, AreReady}
-use Rattle.wc_irc.specs.Names.{is_nick}
-use Rattle.wc_irc.specs.Seats.{is_named, seat_of, has_seat, without_seat, with_name}
+use Rattle.wc_irc_texts.specs.Names.{is_nick}
+use Rattle.wc_irc_nicks.specs.Seats.{is_named, seat_of, has_seat, without_seat, with_name}
 use Rattle.wc_irc.proofs.ChannelLemmas.{leaves_others}
 use Rattle.wc_irc.proofs.OneChannelLemmas.{short_nick}
 

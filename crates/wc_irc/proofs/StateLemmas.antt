@@ -9,7 +9,3 @@ pub none_less : (n : ℕ) (nicks : List (List ℕ)) → length nicks ≤ n → d
 none_less n nicks past = drop_all n nicks past ∙ ap (drop 1) (sym (drop_all n nicks past))
 
 pub ruleset tried_facts = (one_less, none_less)
-
--- nothing comes after the last text
-pub past_all : (n : ℕ) (texts : List (List ℕ)) → length texts ≤ n → drop n texts ≡ []
-past_all n texts past = drop_all n texts past

@@ -5,9 +5,10 @@ use Rattle.std.proofs.lemmas.Bool.{and_from}
 use Rattle.wc_ircmsg.specs.Written.{is_one_line, IsWritable, needs_colon}
 use Rattle.wc_irc.specs.Autojoin.{message, first_word}
 use Rattle.wc_irc.specs.LinkActs.{word_or_own, user_word, user_params}
-use Rattle.wc_irc.specs.Pieces.{is_bare}
-use Rattle.wc_irc.specs.Texts.{in_one_line}
-use Rattle.wc_irc.proofs.PieceLemmas.{no_colon, bare_line, bare_first, one_line_made}
+use Rattle.wc_irc_texts.specs.Pieces.{is_bare}
+use Rattle.wc_irc_texts.specs.Texts.{in_one_line}
+use Rattle.wc_irc_texts.proofs.PieceLemmas.{no_colon, bare_line, one_line_made}
+use Rattle.wc_irc.proofs.AutojoinLemmas.{bare_first}
 
 -- a word that needs no colon
 abbrev IsSendable : List ℕ → Type 0

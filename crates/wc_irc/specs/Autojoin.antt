@@ -4,9 +4,9 @@ use Rattle.std.specs.Prelude.{if◌then◌else◌}
 use Rattle.wc_text.specs.Splits.{past, word_of, rest_of}
 use Rattle.wc_ircmsg.specs.declared.message.Message.{Message}
 use Rattle.wc_ircmsg.specs.Written.{line_of}
-use Rattle.wc_irc.specs.Pieces.{pieces}
-use Rattle.wc_irc.specs.Texts.{in_one_line}
-use Rattle.wc_irc.specs.Typed.{is_target}
+use Rattle.wc_irc_texts.specs.Pieces.{pieces}
+use Rattle.wc_irc_texts.specs.Texts.{in_one_line}
+use Rattle.wc_irc_words.specs.Typed.{is_target}
 
 -- a message without a prefix
 abbrev pub message : List ℕ → List (List ℕ) → Message

@@ -5,19 +5,19 @@ use Rattle.std.specs.Prelude.{Option, Some, None, if◌then◌else◌}
 use Rattle.wc_buffers.specs.Calls.{EntryGroups}
 use Rattle.wc_ircmsg.specs.declared.message.Message.{Message}
 use Rattle.wc_irc.specs.declared.act.Act.{Act}
-use Rattle.wc_irc.specs.declared.seat.Seat.{Seat}
+use Rattle.wc_irc_texts.specs.declared.seat.Seat.{Seat}
 use Rattle.wc_irc.specs.Channels.{Joined}
 use Rattle.wc_irc.specs.ChannelStates.{channel_at, comes_in}
 use Rattle.wc_irc.specs.Lines.{printed, full_tags, nick_tags}
-use Rattle.wc_irc.specs.Names.{is_nick}
+use Rattle.wc_irc_texts.specs.Names.{is_nick}
 use Rattle.wc_irc.specs.NewBuffers.{opened, name_or}
 use Rattle.wc_irc.specs.NickActs.{add_groups, add_nick, remove_nick, emptied}
-use Rattle.wc_irc.specs.Rows.{param}
-use Rattle.wc_irc.specs.Seats.{seat_of}
+use Rattle.wc_irc_texts.specs.Rows.{param}
+use Rattle.wc_irc_nicks.specs.Seats.{seat_of}
 use Rattle.wc_irc.specs.Servers.{ServerState, is_own}
 use Rattle.wc_irc.specs.TalkActs.{on_found}
 use Rattle.wc_irc.specs.Targets.{found, full_name}
-use Rattle.wc_irc.specs.Texts.{reason_text, source_text}
+use Rattle.wc_irc_texts.specs.Texts.{reason_text, source_text}
 
 -- ---- JOIN: the own one opens the buffer and adds the groups; the nick; the line
 

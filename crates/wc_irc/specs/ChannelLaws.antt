@@ -1,7 +1,7 @@
 -- What holds of the joined channels after any messages.
 use Rattle.std.specs.Prelude.{◌≡◌, ℕ, true, List, [], ◌∷◌}
 use Rattle.wc_irc.specs.Channels.{Joined}
-use Rattle.wc_irc.specs.Names.{is_channel}
+use Rattle.wc_irc_texts.specs.Names.{is_channel}
 use Rattle.wc_irc.specs.Servers.{ServerState}
 
 -- each of them has the name of a channel, where CHANTYPES is this

@@ -3,10 +3,10 @@ use Rattle.std.specs.Prelude.{ℕ, Bool, not, ◌&&◌, List, [], ◌∷◌, ◌
 use Rattle.std.specs.Prelude.{Option, if◌then◌else◌}
 use Rattle.wc_ircmsg.specs.declared.case_map.CaseMap.{CaseMap}
 use Rattle.wc_ircmsg.specs.declared.prefixes.Prefixes.{Prefixes}
-use Rattle.wc_irc.specs.declared.seat.ModeSet.{ModeSet}
+use Rattle.wc_irc_texts.specs.declared.seat.ModeSet.{ModeSet}
 use Rattle.wc_irc.specs.Channels.{Joined, without_nick}
-use Rattle.wc_irc.specs.Names.{is_nick, is_same}
-use Rattle.wc_irc.specs.Seats.{has_seat, without_seat, with_name}
+use Rattle.wc_irc_texts.specs.Names.{is_nick, is_same}
+use Rattle.wc_irc_nicks.specs.Seats.{has_seat, without_seat, with_name}
 use Rattle.wc_irc.specs.Servers.{ServerState, is_own, own_nick_from}
 
 -- ---- one of the channels, by its name

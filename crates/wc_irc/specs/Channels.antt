@@ -2,9 +2,9 @@
 use Rattle.std.specs.Prelude.{◌≡◌, ℕ, Bool, false, List, map, find, Option}
 use Rattle.wc_ircmsg.specs.declared.case_map.CaseMap.{CaseMap}
 use Rattle.wc_irc.specs.declared.channel.Channel.{Channel}
-use Rattle.wc_irc.specs.declared.seat.Seat.{Seat}
-use Rattle.wc_irc.specs.Names.{is_same}
-use Rattle.wc_irc.specs.Seats.{has_seat, without_seat}
+use Rattle.wc_irc_texts.specs.declared.seat.Seat.{Seat}
+use Rattle.wc_irc_texts.specs.Names.{is_same}
+use Rattle.wc_irc_nicks.specs.Seats.{has_seat, without_seat}
 
 -- a channel with its nicks in the order of their coming, and the case map that tells them apart
 pub record Joined : Type 0 where

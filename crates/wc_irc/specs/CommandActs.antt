@@ -17,10 +17,10 @@ use Rattle.wc_irc.specs.OwnSpeech.{own_speech}
 use Rattle.wc_irc.specs.Servers.{ServerState}
 use Rattle.wc_irc.specs.TalkActs.{has_value}
 use Rattle.wc_irc.specs.Targets.{found}
-use Rattle.wc_irc.specs.Texts.{in_one_line}
-use Rattle.wc_irc.specs.Typed.{ServerCommand, AddsServer, DeletesServer, Connects, Disconnects}
-use Rattle.wc_irc.specs.Typed.{Joins, Parts, Says, Notices, Queries, Does, Renames, SetsTopic}
-use Rattle.wc_irc.specs.Typed.{Kicks, SetsModes, AsksNames, Quotes, Talks, Wrong, asked_of}
+use Rattle.wc_irc_texts.specs.Texts.{in_one_line}
+use Rattle.wc_irc_words.specs.Typed.{ServerCommand, AddsServer, DeletesServer, Connects, Disconnects}
+use Rattle.wc_irc_words.specs.Typed.{Joins, Parts, Says, Notices, Queries, Does, Renames, SetsTopic}
+use Rattle.wc_irc_words.specs.Typed.{Kicks, SetsModes, AsksNames, Quotes, Talks, Wrong, asked_of}
 
 -- ---- where a command is typed: the buffer of a channel or of a nick, which its variable
 -- `channel` names, or another one

@@ -10,8 +10,8 @@ use Rattle.wc_irc.specs.declared.act.Act.{Act}
 use Rattle.wc_irc.specs.declared.act.Act.TheVariants as act
 use Rattle.wc_irc.specs.CommandActs.{Errand, Refuses, Sends, Speaks, SendsLine, Opens, speech}
 use Rattle.wc_irc.specs.CommandActs.{place_in, errand_of}
-use Rattle.wc_irc.specs.Texts.{in_one_line}
-use Rattle.wc_irc.specs.Typed.{asked_of}
+use Rattle.wc_irc_texts.specs.Texts.{in_one_line}
+use Rattle.wc_irc_words.specs.Typed.{asked_of}
 
 -- a line that is sent has no CR, LF and NUL
 abbrev pub IsInLine : Act → Type 0

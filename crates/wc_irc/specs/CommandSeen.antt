@@ -17,9 +17,9 @@ use Rattle.wc_irc.specs.CommandActs.{Place, OnChannel, OnPrivate, Elsewhere, Err
 use Rattle.wc_irc.specs.CommandActs.{Sends, Speaks, SendsLine, Opens, speech, reason_params}
 use Rattle.wc_irc.specs.Servers.{ServerState}
 use Rattle.wc_irc.specs.ServersSeen.{seen}
-use Rattle.wc_irc.specs.Typed.{ServerCommand, AddsServer, DeletesServer, Connects, Disconnects}
-use Rattle.wc_irc.specs.Typed.{Joins, Parts, Says, Notices, Queries, Does, Renames, SetsTopic}
-use Rattle.wc_irc.specs.Typed.{Kicks, SetsModes, AsksNames, Quotes, Talks, Wrong}
+use Rattle.wc_irc_words.specs.Typed.{ServerCommand, AddsServer, DeletesServer, Connects, Disconnects}
+use Rattle.wc_irc_words.specs.Typed.{Joins, Parts, Says, Notices, Queries, Does, Renames, SetsTopic}
+use Rattle.wc_irc_words.specs.Typed.{Kicks, SetsModes, AsksNames, Quotes, Talks, Wrong}
 
 abbrev pub place_seen : LentPlace → Place
 place_seen (places.Channel channel) = OnChannel (option_copied channel)

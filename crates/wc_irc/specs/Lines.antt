@@ -6,7 +6,7 @@ use Rattle.wc_model.specs.declared.change.What.TheVariants as what
 use Rattle.wc_model.specs.Levels.{highlight_of, notify_of}
 use Rattle.wc_irc.specs.declared.act.Act.{Act}
 use Rattle.wc_irc.specs.declared.act.Act.TheVariants as act
-use Rattle.wc_irc.specs.Texts.{plain}
+use Rattle.wc_irc_texts.specs.Texts.{plain}
 
 -- a line with its levels, where it is known whether it calls the user; it has no dates yet
 unfoldable pub line : List (List ℕ) → List ℕ → List ℕ → Bool → LineSpec

@@ -11,8 +11,8 @@ use Rattle.wc_irc.specs.NickActs.{emptied}
 use Rattle.wc_irc.specs.Servers.{ServerState}
 use Rattle.wc_irc.specs.TalkActs.{on_found, raised, sent}
 use Rattle.wc_irc.specs.Targets.{found, server_buffer}
-use Rattle.wc_irc.specs.Texts.{in_one_line}
-use Rattle.wc_irc.specs.Typed.{is_target}
+use Rattle.wc_irc_texts.specs.Texts.{in_one_line}
+use Rattle.wc_irc_words.specs.Typed.{is_target}
 
 -- ---- the first lines: the password, where there is one, the nick and the user
 

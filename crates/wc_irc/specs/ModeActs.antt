@@ -7,20 +7,20 @@ use Rattle.wc_ircmsg.specs.declared.case_map.CaseMap.{CaseMap}
 use Rattle.wc_ircmsg.specs.declared.message.Message.{Message}
 use Rattle.wc_ircmsg.specs.declared.prefixes.Prefixes.{Prefixes}
 use Rattle.wc_irc.specs.declared.act.Act.{Act}
-use Rattle.wc_irc.specs.declared.seat.ModeSet.{ModeSet}
-use Rattle.wc_irc.specs.declared.seat.Seat.{Seat}
+use Rattle.wc_irc_texts.specs.declared.seat.ModeSet.{ModeSet}
+use Rattle.wc_irc_texts.specs.declared.seat.Seat.{Seat}
 use Rattle.wc_irc.specs.Channels.{Joined}
 use Rattle.wc_irc.specs.ChannelStates.{channel_at, change_one}
 use Rattle.wc_irc.specs.Lines.{printed, nick_tags}
-use Rattle.wc_irc.specs.ModeBits.{highest, bits_changed}
-use Rattle.wc_irc.specs.Modes.{ModeChange, mode_changes}
+use Rattle.wc_irc_texts.specs.ModeBits.{highest, bits_changed}
+use Rattle.wc_irc_texts.specs.Modes.{ModeChange, mode_changes}
 use Rattle.wc_irc.specs.NickActs.{add_nick, remove_nick}
-use Rattle.wc_irc.specs.Rows.{param, params_from}
-use Rattle.wc_irc.specs.Seats.{seat_of, with_modes}
+use Rattle.wc_irc_texts.specs.Rows.{param, params_from}
+use Rattle.wc_irc_nicks.specs.Seats.{seat_of, with_modes}
 use Rattle.wc_irc.specs.Servers.{ServerState}
 use Rattle.wc_irc.specs.TalkActs.{on_found}
 use Rattle.wc_irc.specs.Targets.{found}
-use Rattle.wc_irc.specs.Texts.{spaced}
+use Rattle.wc_irc_texts.specs.Texts.{spaced}
 
 -- ---- one change of a mode, by the place of its letter in PREFIX
 

@@ -8,17 +8,17 @@ use Rattle.wc_ircmsg.specs.declared.case_map.CaseMap.{CaseMap}
 use Rattle.wc_ircmsg.specs.declared.message.Message.{Message}
 use Rattle.wc_ircmsg.specs.declared.prefixes.Prefixes.{Prefixes}
 use Rattle.wc_irc.specs.declared.act.Act.{Act}
-use Rattle.wc_irc.specs.declared.seat.Seat.{Seat}
+use Rattle.wc_irc_texts.specs.declared.seat.Seat.{Seat}
 use Rattle.wc_irc.specs.Channels.{Joined}
 use Rattle.wc_irc.specs.ChannelStates.{channel_at, change_one}
-use Rattle.wc_irc.specs.Listed.{listed_nick, listed_bits}
-use Rattle.wc_irc.specs.Merged.{put_seat, merged}
+use Rattle.wc_irc_texts.specs.Listed.{listed_nick, listed_bits}
+use Rattle.wc_irc_nicks.specs.Merged.{put_seat, merged}
 use Rattle.wc_irc.specs.ModeActs.{moved}
-use Rattle.wc_irc.specs.ModeBits.{highest}
-use Rattle.wc_irc.specs.Names.{is_nick}
+use Rattle.wc_irc_texts.specs.ModeBits.{highest}
+use Rattle.wc_irc_texts.specs.Names.{is_nick}
 use Rattle.wc_irc.specs.NickActs.{add_nick}
-use Rattle.wc_irc.specs.Rows.{param}
-use Rattle.wc_irc.specs.Seats.{seat_of}
+use Rattle.wc_irc_texts.specs.Rows.{param}
+use Rattle.wc_irc_nicks.specs.Seats.{seat_of}
 use Rattle.wc_irc.specs.Servers.{ServerState}
 use Rattle.wc_irc.specs.TalkActs.{on_found}
 use Rattle.wc_irc.specs.Targets.{found}

@@ -2,7 +2,7 @@
 use Rattle.std.specs.Prelude.{◌≡◌, ◌≤◌, List, [], ◌∷◌, length, map}
 use Rattle.wc_ircmsg.specs.declared.case_map.CaseMap.{CaseMap}
 use Rattle.wc_irc.specs.declared.names_state.Comer.{Comer}
-use Rattle.wc_irc.specs.declared.seat.Seat.{Seat}
+use Rattle.wc_irc_texts.specs.declared.seat.Seat.{Seat}
 
 abbrev pub seat_of_comer : Comer → Seat
 seat_of_comer comer = record { nick = comer.new.nick; modes = comer.modes }

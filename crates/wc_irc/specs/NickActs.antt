@@ -5,8 +5,8 @@ use Rattle.wc_ircmsg.specs.declared.prefixes.Prefixes.{Prefixes}
 use Rattle.wc_model.specs.declared.change.What.TheVariants as what
 use Rattle.wc_irc.specs.declared.act.Act.{Act}
 use Rattle.wc_irc.specs.declared.act.Act.TheVariants as act
-use Rattle.wc_irc.specs.declared.seat.Seat.{Seat}
-use Rattle.wc_irc.specs.Groups.{group_names, group_at, sign_at}
+use Rattle.wc_irc_texts.specs.declared.seat.Seat.{Seat}
+use Rattle.wc_irc_texts.specs.Groups.{group_names, group_at, sign_at}
 
 -- a group or a nick before its handle is drawn
 abbrev pub item : Bool → ℕ → List ℕ → List ℕ → Item

@@ -5,8 +5,8 @@ use Rattle.wc_ircmsg.specs.declared.prefixes.Prefixes.{Prefixes}
 use Rattle.wc_irc.specs.declared.channel.Channel.{Channel}
 use Rattle.wc_irc.specs.Channels.{Joined, joined, without_nick}
 use Rattle.wc_irc.specs.ChannelStates.{renamed}
-use Rattle.wc_irc.specs.Kept.{NewNickValue}
-use Rattle.wc_irc.specs.Seats.{has_seat, without_seat, with_name}
+use Rattle.wc_irc_nicks.specs.Kept.{NewNickValue}
+use Rattle.wc_irc_nicks.specs.Seats.{has_seat, without_seat, with_name}
 
 -- a nick gets the name that is ready, or goes
 abbrev pub given : List ℕ → Option NewNickValue → Joined → Joined

@@ -12,15 +12,15 @@ use Rattle.wc_ircmsg.specs.declared.message.Message.{Message}
 use Rattle.wc_model.specs.declared.change.What.TheVariants as what
 use Rattle.wc_irc.specs.declared.act.Act.{Act}
 use Rattle.wc_irc.specs.declared.act.Act.TheVariants as act
-use Rattle.wc_irc.specs.declared.seat.Seat.{Seat}
+use Rattle.wc_irc_texts.specs.declared.seat.Seat.{Seat}
 use Rattle.wc_irc.specs.Channels.{Joined}
 use Rattle.wc_irc.specs.ChannelStates.{may_have}
 use Rattle.wc_irc.specs.Lines.{printed, nick_tags}
-use Rattle.wc_irc.specs.ModeBits.{highest}
-use Rattle.wc_irc.specs.Names.{is_nick}
+use Rattle.wc_irc_texts.specs.ModeBits.{highest}
+use Rattle.wc_irc_texts.specs.Names.{is_nick}
 use Rattle.wc_irc.specs.NickActs.{add_nick, remove_nick}
-use Rattle.wc_irc.specs.Rows.{param}
-use Rattle.wc_irc.specs.Seats.{seat_of}
+use Rattle.wc_irc_texts.specs.Rows.{param}
+use Rattle.wc_irc_nicks.specs.Seats.{seat_of}
 use Rattle.wc_irc.specs.Servers.{ServerState, is_own}
 use Rattle.wc_irc.specs.TalkActs.{on_found, has_value, has_var}
 use Rattle.wc_irc.specs.Targets.{found, full_name, has_name}

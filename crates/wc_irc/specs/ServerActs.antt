@@ -3,15 +3,15 @@ use Rattle.std.specs.Prelude.{List}
 use Rattle.wc_buffers.specs.Calls.{EntryGroups}
 use Rattle.wc_ircmsg.specs.declared.message.Message.{Message}
 use Rattle.wc_irc.specs.declared.act.Act.{Act}
-use Rattle.wc_irc.specs.declared.kind.MessageKind.{MessageKind}
-use Rattle.wc_irc.specs.declared.kind.MessageKind.TheVariants.{Welcome, Tokens, NickInUse, Join}
-use Rattle.wc_irc.specs.declared.kind.MessageKind.TheVariants.{Part, Quit, Kick, Nick, Mode, Topic}
-use Rattle.wc_irc.specs.declared.kind.MessageKind.TheVariants.{TopicReply, Names, NamesEnd}
-use Rattle.wc_irc.specs.declared.kind.MessageKind.TheVariants.{ModeReply, Privmsg, Notice, Ping}
-use Rattle.wc_irc.specs.declared.kind.MessageKind.TheVariants.{Error, Other}
+use Rattle.wc_irc_texts.specs.declared.kind.MessageKind.{MessageKind}
+use Rattle.wc_irc_texts.specs.declared.kind.MessageKind.TheVariants.{Welcome, Tokens, NickInUse, Join}
+use Rattle.wc_irc_texts.specs.declared.kind.MessageKind.TheVariants.{Part, Quit, Kick, Nick, Mode, Topic}
+use Rattle.wc_irc_texts.specs.declared.kind.MessageKind.TheVariants.{TopicReply, Names, NamesEnd}
+use Rattle.wc_irc_texts.specs.declared.kind.MessageKind.TheVariants.{ModeReply, Privmsg, Notice, Ping}
+use Rattle.wc_irc_texts.specs.declared.kind.MessageKind.TheVariants.{Error, Other}
 use Rattle.wc_irc.specs.ChannelActs.{join_acts, part_acts, kick_acts, quit_acts}
 use Rattle.wc_irc.specs.ChannelStates.{after_join, after_leave, quit_by, after_nick}
-use Rattle.wc_irc.specs.Rows.{param, kind_of}
+use Rattle.wc_irc_texts.specs.Rows.{param, kind_of}
 use Rattle.wc_irc.specs.Servers.{ServerState, after_welcome, after_taken, after_features}
 use Rattle.wc_irc.specs.TitleActs.{topic_acts, topic_reply_acts, names_end_acts, mode_reply_acts}
 use Rattle.wc_irc.specs.SpeechActs.{privmsg_acts}

@@ -2,10 +2,10 @@
 use Rattle.std.specs.Prelude.{ℕ, ◌+◌, Bool, true, nat_lt, List, [], ◌∷◌, ◌++◌, codes, drop}
 use Rattle.std.specs.Prelude.{if◌then◌else◌}
 use Rattle.wc_text.specs.declared.names.Address.{Address}
-use Rattle.wc_irc.specs.declared.features.Features.{Features}
+use Rattle.wc_irc_texts.specs.declared.features.Features.{Features}
 use Rattle.wc_irc.specs.Channels.{Joined}
-use Rattle.wc_irc.specs.Features.{after_tokens}
-use Rattle.wc_irc.specs.Names.{is_nick, is_same}
+use Rattle.wc_irc_texts.specs.Features.{after_tokens}
+use Rattle.wc_irc_texts.specs.Names.{is_nick, is_same}
 
 -- A server over one link. What its options give is what they had when its connection was begun.
 pub record ServerState : Type 0 where

@@ -8,21 +8,21 @@ use Rattle.wc_ircmsg.specs.declared.prefixes.Prefixes.{Prefixes}
 use Rattle.wc_ircmsg.specs.Sources.{or_empty}
 use Rattle.wc_buffers.specs.Calls.{EntryGroups}
 use Rattle.wc_irc.specs.declared.act.Act.{Act}
-use Rattle.wc_irc.specs.declared.seat.Seat.{Seat}
+use Rattle.wc_irc_texts.specs.declared.seat.Seat.{Seat}
 use Rattle.wc_irc.specs.Channels.{Joined}
 use Rattle.wc_irc.specs.ChannelStates.{channel_at}
-use Rattle.wc_irc.specs.Groups.{sign_at}
+use Rattle.wc_irc_texts.specs.Groups.{sign_at}
 use Rattle.wc_irc.specs.Lines.{said, nick_tag, host_tag}
-use Rattle.wc_irc.specs.ModeBits.{highest}
-use Rattle.wc_irc.specs.Names.{is_channel}
+use Rattle.wc_irc_texts.specs.ModeBits.{highest}
+use Rattle.wc_irc_texts.specs.Names.{is_channel}
 use Rattle.wc_irc.specs.NewBuffers.{opened, name_or}
-use Rattle.wc_irc.specs.Rows.{param}
-use Rattle.wc_irc.specs.Seats.{seat_of}
+use Rattle.wc_irc_texts.specs.Rows.{param}
+use Rattle.wc_irc_nicks.specs.Seats.{seat_of}
 use Rattle.wc_irc.specs.Servers.{ServerState}
-use Rattle.wc_irc.specs.Speech.{calls_nick}
+use Rattle.wc_irc_texts.specs.Speech.{calls_nick}
 use Rattle.wc_irc.specs.TalkActs.{on_server, on_found}
 use Rattle.wc_irc.specs.Targets.{found, full_name}
-use Rattle.wc_irc.specs.Texts.{plain}
+use Rattle.wc_irc_texts.specs.Texts.{plain}
 
 -- ---- requests, computed: what is between a first and a last byte 01, as a word and what comes
 -- after one blank

@@ -7,9 +7,9 @@ use Rattle.wc_options.specs.Address.{address_of}
 use Rattle.wc_options.specs.Options.{OptionsValue, value_of}
 use Rattle.wc_irc.specs.declared.refused.ServerRefused.{ServerRefused}
 use Rattle.wc_irc.specs.declared.refused.ServerRefused.TheVariants.{TlsOn, BadAddress}
-use Rattle.wc_irc.specs.Features.{default_features}
-use Rattle.wc_irc.specs.Names.{is_nick}
-use Rattle.wc_irc.specs.Pieces.{pieces}
+use Rattle.wc_irc_texts.specs.Features.{default_features}
+use Rattle.wc_irc_texts.specs.Names.{is_nick}
+use Rattle.wc_irc_texts.specs.Pieces.{pieces}
 use Rattle.wc_irc.specs.Servers.{ServerState, first_of}
 
 -- ---- options

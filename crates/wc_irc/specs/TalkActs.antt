@@ -14,11 +14,11 @@ use Rattle.wc_irc.specs.declared.act.Act.{Act}
 use Rattle.wc_irc.specs.declared.act.Act.TheVariants as act
 use Rattle.wc_irc.specs.Autojoin.{message, autojoin_lines}
 use Rattle.wc_irc.specs.Lines.{printed, nick_tags}
-use Rattle.wc_irc.specs.Names.{is_channel}
-use Rattle.wc_irc.specs.Rows.{param, last_param, params_from}
+use Rattle.wc_irc_texts.specs.Names.{is_channel}
+use Rattle.wc_irc_texts.specs.Rows.{param, last_param, params_from}
 use Rattle.wc_irc.specs.Servers.{ServerState, own_nick_from, next_nick, may_try}
 use Rattle.wc_irc.specs.Targets.{server_buffer, found}
-use Rattle.wc_irc.specs.Texts.{spaced, in_one_line}
+use Rattle.wc_irc_texts.specs.Texts.{spaced, in_one_line}
 
 -- a line of the server's own buffer
 abbrev pub on_server : ServerState → List ℕ → List ℕ → List ℕ → Act

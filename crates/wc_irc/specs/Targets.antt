@@ -5,7 +5,7 @@ use Rattle.wc_ircmsg.specs.declared.case_map.CaseMap.{CaseMap}
 use Rattle.wc_buffers.specs.declared.row.BufferEntry.{BufferEntry}
 use Rattle.wc_buffers.specs.Calls.{EntryGroups, handle_of_name}
 use Rattle.wc_buffers.specs.Groups.{rows}
-use Rattle.wc_irc.specs.Names.{is_same, begins_with_text}
+use Rattle.wc_irc_texts.specs.Names.{is_same, begins_with_text}
 use Rattle.wc_irc.specs.Servers.{ServerState}
 
 abbrev pub server_buffer : List ℕ → List ℕ

@@ -8,11 +8,11 @@ use Rattle.wc_irc.specs.declared.act.Act.TheVariants as act
 use Rattle.wc_irc.specs.Channels.{Joined}
 use Rattle.wc_irc.specs.ChannelStates.{channel_at}
 use Rattle.wc_irc.specs.Lines.{printed, nick_tags}
-use Rattle.wc_irc.specs.Rows.{param, params_from}
+use Rattle.wc_irc_texts.specs.Rows.{param, params_from}
 use Rattle.wc_irc.specs.Servers.{ServerState}
 use Rattle.wc_irc.specs.TalkActs.{on_found}
 use Rattle.wc_irc.specs.Targets.{found}
-use Rattle.wc_irc.specs.Texts.{plain, spaced}
+use Rattle.wc_irc_texts.specs.Texts.{plain, spaced}
 
 -- ---- TOPIC and 332: the title, without formatting bytes; the line
 

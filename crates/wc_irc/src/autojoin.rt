@@ -2,11 +2,11 @@ ghost use Rattle.std.specs.Prelude.{◌≡◌, ◌≤◌, ◌-◌, ◌++◌, [],
 ghost use Rattle.wc_ircmsg.specs.Written.{IsWritable, is_one_line, line_of};
 ghost use Rattle.wc_irc.specs.Autojoin.{message, join_params, join_line, join, joins_from};
 ghost use Rattle.wc_irc.specs.Autojoin.{first_word, second_word, autojoin_lines};
-ghost use Rattle.wc_irc.specs.Pieces.{pieces, pieces_left, is_bare, is_bare_left, length_left};
+ghost use Rattle.wc_irc_texts.specs.Pieces.{pieces, pieces_left, is_bare, is_bare_left, length_left};
 
-use crate::line_text::in_one_line;
-use crate::typed_words::is_target;
 use std::alloc::Global;
+use wc_irc_texts::in_one_line;
+use wc_irc_words::is_target;
 use wc_ircmsg::{Message, write_line};
 use wc_text::{Items, NoMemory, Text, cut_word, past_blanks, split_once};
 

@@ -4,10 +4,9 @@ ghost use Rattle.wc_irc.specs.Channels.{joined, channel_of, after_quit, LeavesOt
 ghost use Rattle.wc_irc.specs.Channels.{is_channel_named, Joined};
 ghost use Rattle.wc_irc.specs.ChannelStates.{comes_in, with_nick, may_have};
 
-use crate::members::{Members, NewNick};
-use crate::names::{is_nick, is_same};
-use crate::seat::ModeSet;
 use std::alloc::Global;
+use wc_irc_nicks::{Members, NewNick};
+use wc_irc_texts::{ModeSet, is_nick, is_same};
 use wc_ircmsg::{CaseMap, Prefixes};
 use wc_text::{NoMemory, Text};
 

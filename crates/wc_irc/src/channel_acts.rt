@@ -2,30 +2,27 @@ ghost use Rattle.std.specs.Option.{option_copied};
 ghost use Rattle.std.specs.Prelude.{◌≡◌, ◌++◌, codes, IfOk, OnOk, option_map};
 ghost use Rattle.wc_irc.specs.Channels.{joined};
 ghost use Rattle.wc_irc.specs.ChannelActs.{comes, come, join_line, join_on, join_in, own_join};
-ghost use Rattle.wc_irc.specs.ChannelActs.{join_acts, gone, leave_as, part_line, part_on, part_acts};
-ghost use Rattle.wc_irc.specs.ChannelActs.{kick_line, kick_on, kick_acts, quit_line, quit_on};
+ghost use Rattle.wc_irc.specs.ChannelActs.{join_acts, gone, leave_as, part_line, part_on, kick_line};
+ghost use Rattle.wc_irc.specs.ChannelActs.{kick_on, quit_line, quit_on};
 ghost use Rattle.wc_irc.specs.ChannelActs.{quit_of, quit_acts};
 ghost use Rattle.wc_irc.specs.ChannelStates.{channel_at, comes_in};
-ghost use Rattle.wc_irc.specs.Rows.{param};
+ghost use Rattle.wc_irc_texts.specs.Rows.{param};
 ghost use Rattle.wc_irc.specs.ServersSeen.{seen};
 ghost use Rattle.wc_irc.specs.TalkActs.{on_found};
 ghost use Rattle.wc_irc.specs.Targets.{found};
-ghost use Rattle.wc_irc.specs.Texts.{reason_text, source_text};
+ghost use Rattle.wc_irc_texts.specs.Texts.{reason_text, source_text};
 ghost use Rattle.wc_ircmsg.specs.Utf8.{MessageIsUtf8};
 
 use crate::act::Act;
 use crate::channel::{Channel, channel_of};
-use crate::line_text::{joined, reason_text, source_text};
 use crate::lines::{full_tags, nick_tags, printed};
-use crate::names::is_nick;
 use crate::new_buffers::put_opened;
 use crate::nick_acts::{add_nick, put_add_groups, put_emptied, remove_nick};
-use crate::params::param;
-use crate::seat::Seat;
 use crate::state::State;
 use crate::targets::found;
 use std::alloc::Global;
 use wc_buffers::Buffers;
+use wc_irc_texts::{Seat, is_nick, joined, param, reason_text, source_text};
 use wc_ircmsg::Message;
 use wc_text::{Items, NoMemory, Text};
 
@@ -214,7 +211,8 @@ fn part_line(alloc: Global, m: &Message, buffer: &[u8]) -> Result<Act, NoMemory>
     printed(alloc, buffer, tags, b"<--", text.as_slice())
 }
 
-fn put_part_on(
+/// A nick leaves a channel.
+pub(crate) fn put_part_on(
     acts: &mut Items<Act>,
     alloc: Global,
     state: &State,
@@ -225,22 +223,6 @@ fn put_part_on(
 {
     put_leave(acts, alloc, state, m.nick.as_slice(), buffer, param(m, 0))?;
     acts.push(part_line(alloc, m, buffer)?)
-}
-
-/// A nick leaves a channel.
-pub(crate) fn put_part(
-    acts: &mut Items<Act>,
-    alloc: Global,
-    buffers: &Buffers,
-    state: &State,
-    m: &Message,
-) -> Result<(), NoMemory>
-    ensures { OnOk result (acts.new ≡ acts.old ++ part_acts buffers.now (seen state.now) m.now) }
-{
-    match found(alloc, buffers, state, param(m, 0))? {
-        Some(buffer) => put_part_on(acts, alloc, state, m, buffer.as_slice()),
-        None => Ok(()),
-    }
 }
 
 fn kick_text(alloc: Global, m: &Message) -> Result<Text, NoMemory>
@@ -260,7 +242,8 @@ fn kick_line(alloc: Global, m: &Message, buffer: &[u8]) -> Result<Act, NoMemory>
     printed(alloc, buffer, tags, b"<--", text.as_slice())
 }
 
-fn put_kick_on(
+/// A nick is kicked from a channel.
+pub(crate) fn put_kick_on(
     acts: &mut Items<Act>,
     alloc: Global,
     state: &State,
@@ -271,22 +254,6 @@ fn put_kick_on(
 {
     put_leave(acts, alloc, state, param(m, 1), buffer, param(m, 0))?;
     acts.push(kick_line(alloc, m, buffer)?)
-}
-
-/// A nick is kicked from a channel.
-pub(crate) fn put_kick(
-    acts: &mut Items<Act>,
-    alloc: Global,
-    buffers: &Buffers,
-    state: &State,
-    m: &Message,
-) -> Result<(), NoMemory>
-    ensures { OnOk result (acts.new ≡ acts.old ++ kick_acts buffers.now (seen state.now) m.now) }
-{
-    match found(alloc, buffers, state, param(m, 0))? {
-        Some(buffer) => put_kick_on(acts, alloc, state, m, buffer.as_slice()),
-        None => Ok(()),
-    }
 }
 
 // ---- QUIT

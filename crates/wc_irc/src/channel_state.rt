@@ -5,9 +5,9 @@ ghost use Rattle.wc_irc.specs.ChannelStates.{after_leave, quit_by};
 ghost use Rattle.wc_irc.specs.ServersSeen.{seen};
 
 use crate::channel::{Channel, channel_place, quit};
-use crate::members::Members;
 use crate::state::State;
 use std::alloc::Global;
+use wc_irc_nicks::Members;
 use wc_text::{NoMemory, Text};
 
 impl State {

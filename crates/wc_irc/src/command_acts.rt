@@ -11,13 +11,13 @@ ghost use Rattle.wc_irc.specs.ServersSeen.{seen};
 use crate::act::Act;
 use crate::errand::errand_of;
 use crate::errand_acts::put_errand;
-use crate::line_text::in_one_line;
 use crate::place::{Place, place_at};
 use crate::state::State;
 use crate::talk_acts::has_value;
-use crate::typed::read_server_command;
 use std::alloc::Global;
 use wc_buffers::{Buffers, Vars};
+use wc_irc_texts::in_one_line;
+use wc_irc_words::read_server_command;
 use wc_text::{Handle, Items, NoMemory};
 
 /// What a line that is typed at a place comes to, where this link stands.

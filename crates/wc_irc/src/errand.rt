@@ -1,19 +1,18 @@
 ghost use Rattle.std.specs.Option.{option_copied};
 ghost use Rattle.std.specs.Prelude.{◌≡◌, ◌++◌, ◌∷◌, [], codes, map, option_map, IfOk, OnOk};
-ghost use Rattle.wc_ircmsg.specs.Written.{is_one_line};
 ghost use Rattle.wc_irc.specs.Autojoin.{message};
 ghost use Rattle.wc_irc.specs.CommandActs.{Sends, Refuses, Speaks, wrong_arguments, no_channel, may_lead};
 ghost use Rattle.wc_irc.specs.CommandActs.{on_channel, to_target, action, target_in, talk_at};
 ghost use Rattle.wc_irc.specs.CommandActs.{reason_params, channel_in, errand_of};
 ghost use Rattle.wc_irc.specs.CommandSeen.{place_seen, errand_seen};
-ghost use Rattle.wc_irc.specs.TypedSeen.{meaning};
+ghost use Rattle.wc_irc_words.specs.TypedSeen.{meaning};
 ghost use Rattle.wc_text.specs.Words.{words_of};
 
-use crate::line_text::{ends_line, joined};
 use crate::place::Place;
-use crate::typed::ServerCommand;
-use crate::typed_words::is_target;
 use std::alloc::Global;
+use wc_irc_texts::joined;
+use wc_irc_words::{ServerCommand, is_target};
+use wc_ircmsg::is_one_line;
 use wc_text::{Items, NoMemory, Text, words};
 
 /// What a command is for, on the buffer where it is typed.
@@ -98,13 +97,6 @@ fn mode<'a>(alloc: Global, text: &[u8]) -> Result<Errand<'a>, NoMemory>
 }
 
 // ---- the channel or the nick of a buffer
-
-/// Whether a text has no CR, LF and NUL.
-fn is_one_line(text: &[u8]) -> bool
-    ensures { result ≡ is_one_line text.now }
-{
-    text.iter().all(|byte| !ends_line(*byte))
-}
 
 /// Whether a channel or a nick can be sent before these parameters: where there are any, it is not
 /// empty, has no blank and does not begin with `:`.

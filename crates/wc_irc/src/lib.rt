@@ -1,49 +1,33 @@
-//! What one IRC server is told and tells: what a user types for it, what it is known to be, and what
-//! follows of its messages.
+//! What one IRC server is told and tells: what it is known to be, what follows of its messages, and
+//! what a user's commands come to.
 #![tactic(auto)]
 
 mod act;
 mod autojoin;
 mod channel;
 mod channel_acts;
+mod channel_row;
 mod channel_state;
 mod close_acts;
 mod command_acts;
-mod command_word;
 mod errand;
 mod errand_acts;
-mod features;
-mod folded;
-mod formatting;
-mod groups;
-mod kind;
-mod line_text;
 mod lines;
 mod link_acts;
-mod listed;
-mod members;
 mod mode_acts;
-mod modes;
 mod name_acts;
-mod names;
 mod names_state;
 mod new_buffers;
 mod nick_acts;
-mod nick_index;
-mod overlay;
 mod own_speech;
-mod params;
 mod place;
-mod places;
 mod refused;
 mod rename_acts;
 mod rename_state;
-mod seat;
 mod server;
 mod server_acts;
 mod server_commands;
 mod server_options;
-mod speech;
 mod speech_acts;
 mod start;
 mod state;
@@ -51,27 +35,11 @@ mod talk;
 mod talk_acts;
 mod targets;
 mod title_acts;
-mod typed;
-mod typed_server;
-mod typed_words;
 
 pub use act::Act;
 pub use autojoin::autojoin_lines;
 pub use channel::{Channel, channel_of, quit};
 pub use command_acts::on_command_unlinked;
-pub use features::Features;
-pub use formatting::plain;
-pub use groups::{group_at, group_names, sign_at};
-pub use kind::{MessageKind, kind_of};
-pub use line_text::{in_one_line, reason_text, source_text, spaced};
-pub use listed::{ListedName, listed_name};
-pub use members::{Members, NewNick, SeatIter};
-pub use modes::{ModeChange, mode_changes};
-pub use names::{is_channel, is_nick};
-pub use overlay::{FoundNick, Overlay};
 pub use refused::ServerRefused;
-pub use seat::{ModeSet, Seat};
 pub use server::Server;
 pub use server_options::{connect_refusal, delete_refusal, server_settings};
-pub use speech::calls_nick;
-pub use typed::{ServerCommand, read_server_command};

@@ -2,9 +2,8 @@ ghost use Rattle.std.specs.Prelude.{◌≡◌, ◌++◌, ◌∷◌, [], false, I
 ghost use Rattle.wc_irc.specs.Lines.{line, said, printed, nick_tag, host_tag, nick_tags, full_tags};
 
 use crate::act::Act;
-use crate::formatting::plain;
-use crate::line_text::joined;
 use std::alloc::Global;
+use wc_irc_texts::{joined, plain};
 use wc_ircmsg::Message;
 use wc_model::{LineSpec, What, levels_of};
 use wc_text::{Items, NoMemory, Text};

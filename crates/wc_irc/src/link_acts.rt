@@ -6,21 +6,21 @@ ghost use Rattle.wc_irc.specs.LinkActs.{first_acts, after_connect, lost_of, lost
 ghost use Rattle.wc_irc.specs.LinkActs.{after_loss};
 ghost use Rattle.wc_irc.specs.ServersSeen.{seen};
 ghost use Rattle.wc_irc.specs.TalkActs.{sent};
-ghost use Rattle.wc_irc.specs.Texts.{in_one_line};
+ghost use Rattle.wc_irc_texts.specs.Texts.{in_one_line};
 ghost use Rattle.wc_ircmsg.specs.Written.{IsWritable, is_one_line};
 
 use crate::act::Act;
 use crate::autojoin::{first_words, line_of};
 use crate::channel::Channel;
-use crate::line_text::in_one_line;
 use crate::lines::printed;
 use crate::nick_acts::put_emptied;
 use crate::state::State;
 use crate::talk_acts::{put_raised, sent};
 use crate::targets::{found, server_buffer};
-use crate::typed_words::is_target;
 use std::alloc::Global;
 use wc_buffers::Buffers;
+use wc_irc_texts::in_one_line;
+use wc_irc_words::is_target;
 use wc_text::{Items, NoMemory, Text};
 
 /// The user name of a server whose option has none that can be sent.

@@ -1,32 +1,25 @@
 ghost use Rattle.std.specs.Prelude.{◌≡◌, ◌++◌, ◌∷◌, [], List, codes, IfOk, OnOk};
 ghost use Rattle.wc_irc.specs.ChannelStates.{channel_at};
-ghost use Rattle.wc_irc.specs.MergedSeen.{seat_in};
+ghost use Rattle.wc_irc_nicks.specs.MergedSeen.{seat_in};
 ghost use Rattle.wc_irc.specs.ModeActs.{place_of, modes_after, same_place, moved};
 ghost use Rattle.wc_irc.specs.ModeActs.{changes_acts, mode_moves, mode_line, mode_on};
-ghost use Rattle.wc_irc.specs.ModeActs.{mode_acts};
-ghost use Rattle.wc_irc.specs.ModeBits.{highest};
-ghost use Rattle.wc_irc.specs.Modes.{ModeChange as Change};
-ghost use Rattle.wc_irc.specs.ModesSeen.{change_in, changes_in};
+ghost use Rattle.wc_irc_texts.specs.ModeBits.{highest};
+ghost use Rattle.wc_irc_texts.specs.Modes.{ModeChange as Change};
+ghost use Rattle.wc_irc_texts.specs.ModesSeen.{change_in, changes_in};
 ghost use Rattle.wc_irc.specs.NickActs.{add_nick, remove_nick};
-ghost use Rattle.wc_irc.specs.OverlaySeen.{seats_over};
-ghost use Rattle.wc_irc.specs.Rows.{param, params_from};
+ghost use Rattle.wc_irc_nicks.specs.OverlaySeen.{seats_over};
+ghost use Rattle.wc_irc_texts.specs.Rows.{param, params_from};
 ghost use Rattle.wc_irc.specs.ServersSeen.{seen};
-ghost use Rattle.wc_irc.specs.Texts.{spaced};
+ghost use Rattle.wc_irc_texts.specs.Texts.{spaced};
 
 use crate::act::Act;
 use crate::channel_acts::channel_at;
-use crate::line_text::{joined, spaced};
 use crate::lines::{nick_tags, printed};
-use crate::members::Members;
-use crate::modes::{ModeChange, mode_changes};
 use crate::nick_acts::{add_nick, remove_nick};
-use crate::overlay::{FoundNick, Overlay};
-use crate::params::{param, params_from};
-use crate::seat::ModeSet;
 use crate::state::State;
-use crate::targets::found;
 use std::alloc::Global;
-use wc_buffers::Buffers;
+use wc_irc_nicks::{FoundNick, Members, Overlay};
+use wc_irc_texts::{ModeChange, ModeSet, joined, mode_changes, param, params_from, spaced};
 use wc_ircmsg::{Message, Prefixes};
 use wc_text::{Items, NoMemory, Text};
 
@@ -190,7 +183,8 @@ fn mode_line(alloc: Global, m: &Message, buffer: &[u8]) -> Result<Act, NoMemory>
     printed(alloc, buffer, tags, b"--", text.as_slice())
 }
 
-fn put_mode_on(
+/// Modes of a channel are set: nicks that get or lose one move to the groups of their highest.
+pub(crate) fn put_mode_on(
     acts: &mut Items<Act>,
     alloc: Global,
     state: &State,
@@ -201,20 +195,4 @@ fn put_mode_on(
 {
     put_mode_moves(acts, alloc, state, m, buffer)?;
     acts.push(mode_line(alloc, m, buffer)?)
-}
-
-/// Modes of a channel are set: nicks that get or lose one move to the groups of their highest.
-pub(crate) fn put_mode(
-    acts: &mut Items<Act>,
-    alloc: Global,
-    buffers: &Buffers,
-    state: &State,
-    m: &Message,
-) -> Result<(), NoMemory>
-    ensures { OnOk result (acts.new ≡ acts.old ++ mode_acts buffers.now (seen state.now) m.now) }
-{
-    match found(alloc, buffers, state, param(m, 0))? {
-        Some(buffer) => put_mode_on(acts, alloc, state, m, buffer.as_slice()),
-        None => Ok(()),
-    }
 }

@@ -1,26 +1,21 @@
 ghost use Rattle.std.specs.Prelude.{◌≡◌, ◌++◌, List, OnOk};
-ghost use Rattle.wc_irc.specs.declared.seat.Seat.{Seat};
+ghost use Rattle.wc_irc_texts.specs.declared.seat.Seat.{Seat};
 ghost use Rattle.wc_irc.specs.NameActs.{listed_seat, listed_seats, placed, placed_all};
-ghost use Rattle.wc_irc.specs.NameActs.{names_on, names_acts};
-ghost use Rattle.wc_irc.specs.OverlaySeen.{seats_over};
-ghost use Rattle.wc_irc.specs.Rows.{param};
-ghost use Rattle.wc_irc.specs.Seats.{seat_of};
+ghost use Rattle.wc_irc.specs.NameActs.{names_on};
+ghost use Rattle.wc_irc_nicks.specs.OverlaySeen.{seats_over};
+ghost use Rattle.wc_irc_texts.specs.Rows.{param};
+ghost use Rattle.wc_irc_nicks.specs.Seats.{seat_of};
 ghost use Rattle.wc_irc.specs.ServersSeen.{seen};
 ghost use Rattle.wc_text.specs.Words.{words_of};
 
 use crate::act::Act;
 use crate::channel_acts::channel_at;
-use crate::listed::{ListedName, listed_name};
-use crate::members::Members;
 use crate::mode_acts::{Groups, put_moved};
-use crate::names::is_nick;
 use crate::nick_acts::add_nick;
-use crate::overlay::Overlay;
-use crate::params::param;
 use crate::state::State;
-use crate::targets::found;
 use std::alloc::Global;
-use wc_buffers::Buffers;
+use wc_irc_nicks::{Members, Overlay};
+use wc_irc_texts::{ListedName, is_nick, listed_name, param};
 use wc_ircmsg::Message;
 use wc_text::{Items, NoMemory, words};
 
@@ -92,7 +87,8 @@ fn put_names_of(
     Ok(())
 }
 
-fn put_names_on(
+/// The names of a channel are told.
+pub(crate) fn put_names_on(
     acts: &mut Items<Act>,
     alloc: Global,
     state: &State,
@@ -109,20 +105,4 @@ fn put_names_on(
         buffer,
     };
     put_names_of(acts, alloc, groups, &channel.nicks, param(m, 3))
-}
-
-/// The names of a channel are told.
-pub(crate) fn put_names(
-    acts: &mut Items<Act>,
-    alloc: Global,
-    buffers: &Buffers,
-    state: &State,
-    m: &Message,
-) -> Result<(), NoMemory>
-    ensures { OnOk result (acts.new ≡ acts.old ++ names_acts buffers.now (seen state.now) m.now) }
-{
-    match found(alloc, buffers, state, param(m, 2))? {
-        Some(buffer) => put_names_on(acts, alloc, state, m, buffer.as_slice()),
-        None => Ok(()),
-    }
 }

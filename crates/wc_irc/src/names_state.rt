@@ -1,21 +1,17 @@
 ghost use Rattle.std.specs.Prelude.{◌≡◌, ◌≤◌, ◌+◌, ◌++◌, length, IfOk, OnOk, OnErr};
-ghost use Rattle.wc_irc.specs.Merged.{put_seat, merged};
+ghost use Rattle.wc_irc_nicks.specs.Merged.{put_seat, merged};
 ghost use Rattle.wc_irc.specs.NameActs.{listed_seat, listed_seats, after_names};
 ghost use Rattle.wc_irc.specs.NamesSeen.{seats_of_comers, MayCome, AllMayCome};
 ghost use Rattle.wc_irc.specs.ModeActs.{after_mode, with_change, with_changes};
-ghost use Rattle.wc_irc.specs.ModesSeen.{change_in, changes_in};
+ghost use Rattle.wc_irc_texts.specs.ModesSeen.{change_in, changes_in};
 ghost use Rattle.wc_irc.specs.ServersSeen.{seen};
 ghost use Rattle.wc_text.specs.Words.{words_of};
 
-use crate::listed::listed_name;
-use crate::members::{Members, NewNick};
 use crate::mode_acts::modes_after;
-use crate::modes::{ModeChange, mode_changes};
-use crate::names::is_nick;
-use crate::params::{param, params_from};
-use crate::seat::ModeSet;
 use crate::state::State;
 use std::alloc::Global;
+use wc_irc_nicks::{Members, NewNick};
+use wc_irc_texts::{ModeChange, ModeSet, is_nick, listed_name, mode_changes, param, params_from};
 use wc_ircmsg::{CaseMap, Message, Prefixes};
 use wc_text::{NoMemory, words};
 

@@ -3,9 +3,9 @@ ghost use Rattle.wc_irc.specs.NickActs.{item, add_group, add_groups, add_nick, r
 ghost use Rattle.wc_irc.specs.NickActs.{emptied};
 
 use crate::act::Act;
-use crate::groups::{group_at, group_names, sign_at};
-use crate::members::Members;
 use std::alloc::Global;
+use wc_irc_nicks::Members;
+use wc_irc_texts::{group_at, group_names, sign_at};
 use wc_ircmsg::Prefixes;
 use wc_model::What;
 use wc_nicklist::Item;

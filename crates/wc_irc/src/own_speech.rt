@@ -9,7 +9,6 @@ ghost use Rattle.wc_irc.specs.Targets.{found};
 
 use crate::act::Act;
 use crate::lines::{one_tag, put_nick_tag, put_tag};
-use crate::names::is_channel;
 use crate::new_buffers::put_opened;
 use crate::speech_acts::{Voice, talk_line};
 use crate::state::State;
@@ -17,6 +16,7 @@ use crate::talk::{Talk, talk_of};
 use crate::targets::found;
 use std::alloc::Global;
 use wc_buffers::Buffers;
+use wc_irc_texts::is_channel;
 use wc_text::{Items, NoMemory, Text};
 
 /// The tags of an own line, which tells of nothing new and calls nobody.

@@ -9,7 +9,7 @@ ghost use Rattle.wc_irc.specs.RenameActs.{come_again, nick_line, rename_on, rena
 ghost use Rattle.wc_irc.specs.RenameActs.{is_private_at, is_private, is_taken, if_free};
 ghost use Rattle.wc_irc.specs.RenameActs.{renamed_buffer, rename_private, name_after, own_var};
 ghost use Rattle.wc_irc.specs.RenameActs.{own_vars, nick_acts};
-ghost use Rattle.wc_irc.specs.Rows.{param};
+ghost use Rattle.wc_irc_texts.specs.Rows.{param};
 ghost use Rattle.wc_irc.specs.ServersSeen.{seen};
 ghost use Rattle.wc_irc.specs.TalkActs.{on_found};
 ghost use Rattle.wc_irc.specs.Targets.{full_name};
@@ -20,18 +20,15 @@ ghost use Rattle.wc_model.specs.declared.change.What.TheVariants as what;
 
 use crate::act::Act;
 use crate::channel::Channel;
-use crate::line_text::joined;
 use crate::lines::{nick_tags, printed};
-use crate::names::is_nick;
 use crate::new_buffers::{pair, short_name};
 use crate::nick_acts::{add_nick, remove_nick};
-use crate::params::param;
-use crate::seat::Seat;
 use crate::state::State;
 use crate::talk_acts::has_value;
 use crate::targets::{found, full_name, has_name};
 use std::alloc::Global;
 use wc_buffers::{BufferRow, Buffers, Vars};
+use wc_irc_texts::{Seat, is_nick, joined, param};
 use wc_ircmsg::Message;
 use wc_model::What;
 use wc_text::{Handle, Items, NoMemory, Text};

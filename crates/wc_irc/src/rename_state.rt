@@ -2,13 +2,13 @@ ghost use Rattle.std.specs.Prelude.{◌≡◌, ◌&&◌, ◌++◌, ◌∷◌, []
 ghost use Rattle.wc_irc.specs.Channels.{joined};
 ghost use Rattle.wc_irc.specs.ChannelStates.{may_have, renamed, own_after, after_nick};
 ghost use Rattle.wc_irc.specs.ReadySeen.{given, give_each, CanGive, AllCanGive, IsReady, AreReady};
-ghost use Rattle.wc_irc.specs.Seats.{has_seat};
+ghost use Rattle.wc_irc_nicks.specs.Seats.{has_seat};
 ghost use Rattle.wc_irc.specs.ServersSeen.{seen};
 
 use crate::channel::Channel;
-use crate::members::NewNick;
 use crate::state::State;
 use std::alloc::Global;
+use wc_irc_nicks::NewNick;
 use wc_ircmsg::Prefixes;
 use wc_text::{NoMemory, Text};
 

@@ -9,7 +9,6 @@ ghost use Rattle.wc_ircmsg.specs.Utf8.{MessageIsUtf8};
 
 use crate::act::Act;
 use crate::channel::Channel;
-use crate::features::Features;
 use crate::link_acts::{on_connect, on_lost};
 use crate::refused::ServerRefused;
 use crate::server_acts::on_message;
@@ -18,6 +17,7 @@ use crate::state::State;
 use std::alloc::Global;
 use std::marker::Model;
 use wc_buffers::Buffers;
+use wc_irc_texts::Features;
 use wc_ircmsg::Message;
 use wc_options::Options;
 use wc_text::{Address, Items, NoMemory, Text};

@@ -5,18 +5,15 @@ ghost use Rattle.wc_irc.specs.ServersSeen.{seen};
 ghost use Rattle.wc_ircmsg.specs.Utf8.{MessageIsUtf8};
 
 use crate::act::Act;
-use crate::channel_acts::{put_join, put_kick, put_part, put_quit};
-use crate::kind::{MessageKind, kind_of};
-use crate::mode_acts::put_mode;
-use crate::name_acts::put_names;
-use crate::params::param;
+use crate::channel_acts::{put_join, put_quit};
+use crate::channel_row::{ChannelRow, put_row};
 use crate::rename_acts::put_nick;
 use crate::speech_acts::put_privmsg;
 use crate::state::State;
 use crate::talk_acts::{put_error, put_notice, put_other, put_ping, put_taken, put_welcome};
-use crate::title_acts::{put_mode_reply, put_names_end, put_topic, put_topic_reply};
 use std::alloc::Global;
 use wc_buffers::Buffers;
+use wc_irc_texts::{MessageKind, kind_of, param};
 use wc_ircmsg::Message;
 use wc_text::{Items, NoMemory};
 
@@ -82,17 +79,17 @@ fn put_acts(
         MessageKind::Welcome => put_welcome(acts, alloc, buffers, state, m),
         MessageKind::NickInUse => put_taken(acts, alloc, state),
         MessageKind::Join => put_join(acts, alloc, buffers, state, m),
-        MessageKind::Part => put_part(acts, alloc, buffers, state, m),
-        MessageKind::Kick => put_kick(acts, alloc, buffers, state, m),
+        MessageKind::Part => put_row(acts, alloc, buffers, state, m, ChannelRow::Part),
+        MessageKind::Kick => put_row(acts, alloc, buffers, state, m, ChannelRow::Kick),
         MessageKind::Quit => put_quit(acts, alloc, buffers, state, m),
-        MessageKind::Topic => put_topic(acts, alloc, buffers, state, m),
-        MessageKind::TopicReply => put_topic_reply(acts, alloc, buffers, state, m),
-        MessageKind::NamesEnd => put_names_end(acts, alloc, buffers, state, m),
-        MessageKind::ModeReply => put_mode_reply(acts, alloc, buffers, state, m),
+        MessageKind::Topic => put_row(acts, alloc, buffers, state, m, ChannelRow::Topic),
+        MessageKind::TopicReply => put_row(acts, alloc, buffers, state, m, ChannelRow::TopicReply),
+        MessageKind::NamesEnd => put_row(acts, alloc, buffers, state, m, ChannelRow::NamesEnd),
+        MessageKind::ModeReply => put_row(acts, alloc, buffers, state, m, ChannelRow::ModeReply),
         MessageKind::Privmsg => put_privmsg(acts, alloc, buffers, state, m),
         MessageKind::Nick => put_nick(acts, alloc, buffers, state, m),
-        MessageKind::Mode => put_mode(acts, alloc, buffers, state, m),
-        MessageKind::Names => put_names(acts, alloc, buffers, state, m),
+        MessageKind::Mode => put_row(acts, alloc, buffers, state, m, ChannelRow::Mode),
+        MessageKind::Names => put_row(acts, alloc, buffers, state, m, ChannelRow::Names),
         MessageKind::Notice => put_notice(acts, alloc, buffers, state, m),
         MessageKind::Ping => put_ping(acts, alloc, m),
         MessageKind::Error => put_error(acts, alloc, state, m),

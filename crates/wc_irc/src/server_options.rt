@@ -6,10 +6,10 @@ ghost use Rattle.wc_irc.specs.ServerOptions.{if_connected, delete_refusal, start
 ghost use Rattle.wc_irc.specs.ServerOptions.{connect_refusal};
 ghost use Rattle.wc_irc.specs.Start.{option_name, start_of};
 
-use crate::line_text::joined;
 use crate::refused::ServerRefused;
 use crate::start::reached_at;
 use std::alloc::Global;
+use wc_irc_texts::joined;
 use wc_options::Options;
 use wc_text::{Items, NoMemory, Pair, Text};
 

@@ -1,18 +1,16 @@
 ghost use Rattle.std.specs.Prelude.{◌≡◌, ◌≢◌, ◌++◌, ◌∷◌, [], Ok, Err, codes, filter, drop, false};
 ghost use Rattle.std.specs.Prelude.{IfOk, IfErr, OnOk};
-ghost use Rattle.wc_irc.specs.Features.{default_features};
+ghost use Rattle.wc_irc_texts.specs.Features.{default_features};
 ghost use Rattle.wc_irc.specs.Servers.{first_of};
 ghost use Rattle.wc_irc.specs.ServersSeen.{seen};
 ghost use Rattle.wc_irc.specs.Start.{option_of, address_in, is_tls, may_be_tried, nicks_of};
 ghost use Rattle.wc_irc.specs.Start.{server_nicks, first_state, start_of};
 ghost use Rattle.wc_irc.specs.declared.refused.ServerRefused.TheVariants as Refused;
 
-use crate::features::Features;
-use crate::line_text::joined;
-use crate::names::is_nick;
 use crate::refused::ServerRefused;
 use crate::state::{Login, State};
 use std::alloc::Global;
+use wc_irc_texts::{Features, is_nick, joined};
 use wc_options::{Options, read_address};
 use wc_text::{Address, Items, NoMemory, Text, split_once};
 

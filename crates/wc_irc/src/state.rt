@@ -4,9 +4,8 @@ ghost use Rattle.wc_irc.specs.Servers.{after_taken, after_features};
 ghost use Rattle.wc_irc.specs.ServersSeen.{seen};
 
 use crate::channel::Channel;
-use crate::features::Features;
-use crate::names::{is_nick, is_same};
 use std::alloc::Global;
+use wc_irc_texts::{Features, is_nick, is_same};
 use wc_text::{Address, Items, NoMemory, Text};
 
 /// So many nicks that are in use are answered by another one.

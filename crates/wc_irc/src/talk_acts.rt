@@ -3,7 +3,7 @@ ghost use Rattle.std.specs.Prelude.{◌≡◌, ◌++◌, ◌∷◌, ◌&&◌, []
 ghost use Rattle.wc_buffers.specs.Calls.{entry_of};
 ghost use Rattle.wc_buffers.specs.Vars.{pair, value_of};
 ghost use Rattle.wc_irc.specs.Autojoin.{autojoin_lines};
-ghost use Rattle.wc_irc.specs.Rows.{param};
+ghost use Rattle.wc_irc_texts.specs.Rows.{param};
 ghost use Rattle.wc_irc.specs.ServersSeen.{seen};
 ghost use Rattle.wc_irc.specs.TalkActs.{on_server, sent, ping_acts, error_acts, other_acts};
 ghost use Rattle.wc_irc.specs.TalkActs.{taken_acts, has_value, told_nick, tell_nick, raised};
@@ -11,21 +11,19 @@ ghost use Rattle.wc_irc.specs.TalkActs.{welcome_line, welcome_acts, notice_line,
 ghost use Rattle.wc_irc.specs.TalkActs.{on_found};
 ghost use Rattle.wc_irc.specs.Targets.{server_buffer, found};
 ghost use Rattle.wc_irc.specs.TargetsSeen.{acts_in, acts_at};
-ghost use Rattle.wc_irc.specs.Texts.{in_one_line};
+ghost use Rattle.wc_irc_texts.specs.Texts.{in_one_line};
 ghost use Rattle.wc_irc.specs.declared.act.Act.TheVariants as act;
 ghost use Rattle.wc_ircmsg.specs.Commands.{is_command};
 ghost use Rattle.wc_model.specs.declared.change.What.TheVariants as what;
 
 use crate::act::Act;
 use crate::autojoin::{autojoin_lines, line_of};
-use crate::line_text::{in_one_line, joined, spaced};
 use crate::lines::{nick_tags, one_tag, printed};
-use crate::names::is_channel;
-use crate::params::{last_param, param, params_from};
 use crate::state::State;
 use crate::targets::{found, server_buffer};
 use std::alloc::Global;
 use wc_buffers::{BufferRow, Buffers, Vars};
+use wc_irc_texts::{in_one_line, is_channel, joined, last_param, param, params_from, spaced};
 use wc_ircmsg::Message;
 use wc_model::What;
 use wc_text::{Cause, Handle, Items, NoMemory, Pair, Text};

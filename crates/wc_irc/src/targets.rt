@@ -6,11 +6,10 @@ ghost use Rattle.wc_irc.specs.Targets.{server_buffer, front_of, full_name, is_al
 ghost use Rattle.wc_irc.specs.Targets.{has_name};
 ghost use Rattle.wc_irc.specs.TargetsSeen.{name_in, names_at};
 
-use crate::line_text::joined;
-use crate::names::is_same;
 use crate::state::State;
 use std::alloc::Global;
 use wc_buffers::Buffers;
+use wc_irc_texts::{is_same, joined};
 use wc_ircmsg::CaseMap;
 use wc_text::{Handle, NoMemory, Text};
 

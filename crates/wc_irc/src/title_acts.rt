@@ -1,22 +1,18 @@
 ghost use Rattle.std.specs.Prelude.{◌≡◌, ◌++◌, codes, decimal, IfOk, OnOk};
 ghost use Rattle.wc_irc.specs.ChannelStates.{channel_at};
-ghost use Rattle.wc_irc.specs.Rows.{param};
+ghost use Rattle.wc_irc_texts.specs.Rows.{param};
 ghost use Rattle.wc_irc.specs.ServersSeen.{seen};
-ghost use Rattle.wc_irc.specs.TitleActs.{titled, topic_line, topic_on, topic_acts};
-ghost use Rattle.wc_irc.specs.TitleActs.{topic_reply_line, topic_reply_on, topic_reply_acts};
-ghost use Rattle.wc_irc.specs.TitleActs.{count_of, names_end_line, names_end_acts};
-ghost use Rattle.wc_irc.specs.TitleActs.{mode_reply_line, mode_reply_acts};
+ghost use Rattle.wc_irc.specs.TitleActs.{titled, topic_line, topic_on};
+ghost use Rattle.wc_irc.specs.TitleActs.{topic_reply_line, topic_reply_on};
+ghost use Rattle.wc_irc.specs.TitleActs.{count_of, names_end_line, names_end_on};
+ghost use Rattle.wc_irc.specs.TitleActs.{mode_reply_line, mode_reply_on};
 
 use crate::act::Act;
 use crate::channel_acts::channel_at;
-use crate::formatting::plain;
-use crate::line_text::{joined, spaced};
 use crate::lines::{nick_tags, one_tag, printed};
-use crate::params::{param, params_from};
 use crate::state::State;
-use crate::targets::found;
 use std::alloc::Global;
-use wc_buffers::Buffers;
+use wc_irc_texts::{joined, param, params_from, plain, spaced};
 use wc_ircmsg::Message;
 use wc_model::What;
 use wc_text::{Items, NoMemory, Text};
@@ -62,7 +58,8 @@ fn topic_line(alloc: Global, m: &Message, buffer: &[u8]) -> Result<Act, NoMemory
     printed(alloc, buffer, tags, b"--", text.as_slice())
 }
 
-fn put_topic_on(
+/// A channel gets another title.
+pub(crate) fn put_topic_on(
     acts: &mut Items<Act>,
     alloc: Global,
     m: &Message,
@@ -72,22 +69,6 @@ fn put_topic_on(
 {
     acts.push(titled(alloc, param(m, 1), buffer)?)?;
     acts.push(topic_line(alloc, m, buffer)?)
-}
-
-/// A channel gets another title.
-pub(crate) fn put_topic(
-    acts: &mut Items<Act>,
-    alloc: Global,
-    buffers: &Buffers,
-    state: &State,
-    m: &Message,
-) -> Result<(), NoMemory>
-    ensures { OnOk result (acts.new ≡ acts.old ++ topic_acts buffers.now (seen state.now) m.now) }
-{
-    match found(alloc, buffers, state, param(m, 0))? {
-        Some(buffer) => put_topic_on(acts, alloc, m, buffer.as_slice()),
-        None => Ok(()),
-    }
 }
 
 fn topic_reply_text(alloc: Global, m: &Message) -> Result<Text, NoMemory>
@@ -106,7 +87,8 @@ fn topic_reply_line(alloc: Global, m: &Message, buffer: &[u8]) -> Result<Act, No
     printed(alloc, buffer, tags, b"--", text.as_slice())
 }
 
-fn put_topic_reply_on(
+/// A server tells the title of a channel.
+pub(crate) fn put_topic_reply_on(
     acts: &mut Items<Act>,
     alloc: Global,
     m: &Message,
@@ -116,23 +98,6 @@ fn put_topic_reply_on(
 {
     acts.push(titled(alloc, param(m, 2), buffer)?)?;
     acts.push(topic_reply_line(alloc, m, buffer)?)
-}
-
-/// A server tells the title of a channel.
-pub(crate) fn put_topic_reply(
-    acts: &mut Items<Act>,
-    alloc: Global,
-    buffers: &Buffers,
-    state: &State,
-    m: &Message,
-) -> Result<(), NoMemory>
-    ensures { OnOk result (acts.new
-        ≡ acts.old ++ topic_reply_acts buffers.now (seen state.now) m.now) }
-{
-    match found(alloc, buffers, state, param(m, 1))? {
-        Some(buffer) => put_topic_reply_on(acts, alloc, m, buffer.as_slice()),
-        None => Ok(()),
-    }
 }
 
 // ---- 366
@@ -165,21 +130,17 @@ fn names_end_line(alloc: Global, state: &State, m: &Message, buffer: &[u8]) -> R
     printed(alloc, buffer, tags, b"--", text.as_slice())
 }
 
-/// The names of a channel were told: how many nicks it has.
-pub(crate) fn put_names_end(
+/// A list of names is at its end.
+pub(crate) fn put_names_end_on(
     acts: &mut Items<Act>,
     alloc: Global,
-    buffers: &Buffers,
     state: &State,
     m: &Message,
+    buffer: &[u8],
 ) -> Result<(), NoMemory>
-    ensures { OnOk result (acts.new
-        ≡ acts.old ++ names_end_acts buffers.now (seen state.now) m.now) }
+    ensures { OnOk result (acts.new ≡ acts.old ++ names_end_on (seen state.now) m.now buffer.now) }
 {
-    match found(alloc, buffers, state, param(m, 1))? {
-        Some(buffer) => acts.push(names_end_line(alloc, state, m, buffer.as_slice())?),
-        None => Ok(()),
-    }
+    acts.push(names_end_line(alloc, state, m, buffer)?)
 }
 
 // ---- 324
@@ -197,18 +158,13 @@ fn mode_reply_line(alloc: Global, m: &Message, buffer: &[u8]) -> Result<Act, NoM
 }
 
 /// A server tells the modes of a channel.
-pub(crate) fn put_mode_reply(
+pub(crate) fn put_mode_reply_on(
     acts: &mut Items<Act>,
     alloc: Global,
-    buffers: &Buffers,
-    state: &State,
     m: &Message,
+    buffer: &[u8],
 ) -> Result<(), NoMemory>
-    ensures { OnOk result (acts.new
-        ≡ acts.old ++ mode_reply_acts buffers.now (seen state.now) m.now) }
+    ensures { OnOk result (acts.new ≡ acts.old ++ mode_reply_on m.now buffer.now) }
 {
-    match found(alloc, buffers, state, param(m, 1))? {
-        Some(buffer) => acts.push(mode_reply_line(alloc, m, buffer.as_slice())?),
-        None => Ok(()),
-    }
+    acts.push(mode_reply_line(alloc, m, buffer)?)
 }

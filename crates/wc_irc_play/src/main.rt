@@ -8,6 +8,7 @@
 
 mod acts;
 mod commands;
+mod marks;
 mod nicks;
 mod options;
 mod player;

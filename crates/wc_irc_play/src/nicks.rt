@@ -1,7 +1,8 @@
 //! The nicks of a channel.
 
 use std::alloc::{AllocError, Global};
-use wc_irc::{Members, ModeSet, NewNick, Seat};
+use wc_irc_nicks::{Members, NewNick};
+use wc_irc_texts::{ModeSet, Seat};
 use wc_notation::{Wrong, put_quoted, two_texts, unescape};
 use wc_text::Text;
 

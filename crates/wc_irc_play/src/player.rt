@@ -1,10 +1,11 @@
+use crate::marks::{lengthened, put_mark};
 use crate::nicks::nicks_answer;
 use crate::rows::rows_answer;
 use crate::server::Scene;
 use crate::texts::texts_answer;
 use crate::typed::typed;
 use std::alloc::{AllocError, Global};
-use wc_irc::Members;
+use wc_irc_nicks::Members;
 use wc_ircmsg::CaseMap;
 use wc_notation::{Wrong, cut_word, end_answer, is_passed_over};
 use wc_text::NoMemory;
@@ -41,9 +42,16 @@ impl Player {
             "come" | "go" | "name" | "give" | "find" | "nicks" => {
                 nicks_answer(alloc, &mut self.members, call, rest, out)
             }
-            "set" | "buffer" | "var" | "begin" | "hear" | "told" | "lists" => {
-                self.scene.answer(alloc, call, rest, out)
-            }
+            "set"
+            | "buffer"
+            | "var"
+            | "rename"
+            | "gone"
+            | "begin"
+            | "hear"
+            | "mark"
+            | "told"
+            | "lists" => self.scene.answer(alloc, call, rest, out),
             "link"
             | "lose"
             | "type"
@@ -59,6 +67,29 @@ impl Player {
         }
     }
 
+    /// Writes the mark of a call's answer, whose text goes on with so many letters.
+    fn long(&mut self, alloc: Global, words: &str, out: &mut String) -> Result<(), Wrong> {
+        let (count, rest) = cut_word(words);
+        let (call, rest) = cut_word(rest);
+        let text = lengthened(alloc, rest, count)?;
+        let mut whole = String::new(alloc);
+        self.answer(alloc, call, text.as_str(), &mut whole)?;
+        put_mark(out, whole.as_str())
+    }
+
+    fn answer_or_mark(
+        &mut self,
+        alloc: Global,
+        call: &str,
+        rest: &str,
+        out: &mut String,
+    ) -> Result<(), Wrong> {
+        if call == "long" {
+            return self.long(alloc, rest, out);
+        }
+        self.answer(alloc, call, rest, out)
+    }
+
     /// Writes a line and its answer.
     fn turn(&mut self, alloc: Global, line: &str, out: &mut String) -> Result<(), AllocError> {
         if is_passed_over(line) {
@@ -66,7 +97,7 @@ impl Player {
         }
         write!(out, "> {line}\n")?;
         let (call, rest) = cut_word(line);
-        let answered = self.answer(alloc, call, rest, out);
+        let answered = self.answer_or_mark(alloc, call, rest, out);
         end_answer(out, answered)
     }
 

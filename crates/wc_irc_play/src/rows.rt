@@ -2,7 +2,7 @@
 
 use crate::texts::{own_words, put_texts};
 use std::alloc::{AllocError, Global};
-use wc_irc::{
+use wc_irc_texts::{
     Features, ModeChange, group_at, group_names, kind_of, listed_name, mode_changes, sign_at,
     source_text,
 };

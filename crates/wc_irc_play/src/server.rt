@@ -5,6 +5,7 @@ ghost use Rattle.wc_ircmsg.specs.Utf8.{MessageIsUtf8};
 
 use crate::acts::put_acts;
 use crate::commands::commands_answer;
+use crate::marks::put_mark;
 use crate::nicks::put_all;
 use crate::options::options_answer;
 use crate::rows::put_features;
@@ -114,6 +115,16 @@ impl Scene {
         }
     }
 
+    /// Takes in a message, and writes the mark of what follows and of the lists after it.
+    fn mark(&mut self, alloc: Global, rest: &str, out: &mut String) -> Result<(), Wrong> {
+        let mut whole = String::new(alloc);
+        self.hear(alloc, rest, &mut whole)?;
+        whole.push('\n')?;
+        self.lists(&mut whole)?;
+        whole.push('\n')?;
+        put_mark(out, whole.as_str())
+    }
+
     fn told(&self, out: &mut String) -> Result<(), Wrong> {
         match &self.server {
             Some(server) => Ok(put_told(out, server)?),
@@ -164,6 +175,7 @@ impl Scene {
         match call {
             "begin" => self.begin(alloc, rest, out),
             "hear" => self.hear(alloc, rest, out),
+            "mark" => self.mark(alloc, rest, out),
             "told" => self.told(out),
             "lists" => self.lists(out),
             _ => self.stage.change(alloc, call, rest),

@@ -111,6 +111,23 @@ fn set(alloc: Global, options: &mut Options, words: &str) -> Result<(), Wrong> {
     }
 }
 
+/// Gives a buffer another full name.
+fn rename(alloc: Global, buffers: &mut Buffers, words: &str) -> Result<(), Wrong> {
+    let (buffer, name) = cut_word(words);
+    let buffer = named(alloc, buffers, buffer)?;
+    let name = utf8(alloc, name)?;
+    buffers.rename(alloc, buffer, &name).map_err(not_added)
+}
+
+/// Takes a buffer out.
+fn close(alloc: Global, buffers: &mut Buffers, name: &str) -> Result<(), Wrong> {
+    let buffer = named(alloc, buffers, name)?;
+    match buffers.close(buffer) {
+        Ok(_) => Ok(()),
+        Err(refused) => Err(not_added(refused)),
+    }
+}
+
 impl Stage {
     /// Options at their defaults, and no buffers.
     pub fn new(alloc: Global) -> Result<Stage, NoMemory> {
@@ -138,6 +155,8 @@ impl Stage {
             "set" => set(alloc, &mut self.options, rest),
             "buffer" => self.add(alloc, rest),
             "var" => set_var(alloc, &mut self.buffers, rest),
+            "rename" => rename(alloc, &mut self.buffers, rest),
+            "gone" => close(alloc, &mut self.buffers, rest),
             _ => Err(Wrong::Word),
         }
     }

@@ -1,9 +1,8 @@
 //! Texts, names, and the channels that are joined by themselves.
 
 use std::alloc::{AllocError, Global};
-use wc_irc::{
-    Features, autojoin_lines, in_one_line, is_channel, is_nick, plain, reason_text, spaced,
-};
+use wc_irc::autojoin_lines;
+use wc_irc_texts::{Features, in_one_line, is_channel, is_nick, plain, reason_text, spaced};
 use wc_notation::{Wrong, put_either, put_quoted, unescape};
 use wc_text::{Items, Text, words};
 

@@ -2,7 +2,7 @@
 
 use crate::acts::put_two;
 use std::alloc::{AllocError, Global};
-use wc_irc::{ServerCommand, read_server_command};
+use wc_irc_words::{ServerCommand, read_server_command};
 use wc_notation::{Wrong, put_named, unescape};
 
 fn put_tls(out: &mut String, tls: Option<bool>) -> Result<(), AllocError> {

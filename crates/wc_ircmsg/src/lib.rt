@@ -17,4 +17,4 @@ pub use ctcp::read_ctcp;
 pub use message::{LineRefused, Message};
 pub use prefixes::{Prefixes, read_prefix_token};
 pub use read::{one_message, read_line};
-pub use write::{is_writable, write_line};
+pub use write::{is_one_line, is_writable, write_line};

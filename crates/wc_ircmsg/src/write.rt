@@ -36,7 +36,7 @@ fn are_words(params: &[Text]) -> bool
 }
 
 /// Whether a text has no CR, LF and NUL.
-fn is_one_line(text: &[u8]) -> bool
+pub fn is_one_line(text: &[u8]) -> bool
     ensures { result ≡ is_one_line text.now }
 {
     text.iter()

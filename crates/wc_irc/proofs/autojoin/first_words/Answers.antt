@@ -1,4 +1,4 @@
-use Rattle.wc_irc.proofs.PieceLemmas.{first_bare, second_bare}
+use Rattle.wc_irc.proofs.AutojoinLemmas.{first_bare, second_bare}
 use Rattle.wc_irc.proofs.autojoin.first_words.Goals as goal
 
 pub returns-clause-first_bare : goal.returns-clause-first_bare

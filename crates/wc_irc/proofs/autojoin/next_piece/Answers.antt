@@ -1,6 +1,6 @@
 use Rattle.std.proofs.Common.{ap, sym, ◌∙◌, arith, drop, slice_index_or, List, ℕ, []}
-use Rattle.wc_irc.specs.Pieces.{pieces_left, is_bare_left, length_left}
-use Rattle.wc_irc.proofs.PieceLemmas.{pieces_split, bare_front, bare_others, left_shorter}
+use Rattle.wc_irc_texts.specs.Pieces.{pieces_left, is_bare_left, length_left}
+use Rattle.wc_irc_texts.proofs.PieceLemmas.{pieces_split, bare_front, bare_others, left_shorter}
 use Rattle.wc_irc.proofs.autojoin.next_piece.Goals as goal
 
 pub returns-in-Some-clause-piece : goal.returns-in-Some-clause-piece

@@ -1,6 +1,6 @@
 use Rattle.std.proofs.Common.{◌≡◌, true, rules}
-use Rattle.wc_irc.specs.Typed.{is_target}
-use Rattle.wc_irc.proofs.PieceLemmas.{join_writable}
+use Rattle.wc_irc_words.specs.Typed.{is_target}
+use Rattle.wc_irc.proofs.AutojoinLemmas.{join_writable}
 use Rattle.wc_irc.proofs.autojoin.put_join.Goals as goal
 
 pub join_line-requires : goal.join_line-requires

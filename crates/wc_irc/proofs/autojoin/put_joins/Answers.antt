@@ -1,5 +1,5 @@
 use Rattle.std.proofs.Common.{arith, sym, ◌∙◌}
-use Rattle.wc_irc.proofs.PieceLemmas.{some_left}
+use Rattle.wc_irc_texts.proofs.PieceLemmas.{some_left}
 use Rattle.wc_irc.proofs.autojoin.put_joins.Goals as goal
 
 pub loop-left-smaller : goal.loop-left-smaller

@@ -1,6 +1,6 @@
 use Rattle.std.proofs.Common.{◌≡◌, ◌++◌, true}
 use Rattle.wc_irc.specs.Autojoin.{joins_from}
-use Rattle.wc_irc.specs.Pieces.{pieces, pieces_left, length_left, is_bare_left}
+use Rattle.wc_irc_texts.specs.Pieces.{pieces, pieces_left, length_left, is_bare_left}
 use Rattle.wc_irc.proofs.autojoin.put_joins.Given as goal
 
 abbrev pub invariant-loop-left : goal.invariant-loop-left

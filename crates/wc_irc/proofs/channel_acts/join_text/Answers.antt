@@ -1,7 +1,7 @@
 use Rattle.std.proofs.Common.{◌≡◌, ◌++◌, ◌∙◌, sym, codes, List, ℕ, append-nil, append_assoc}
 use Rattle.std.proofs.lemmas.Result.{IfOk-weaker}
-use Rattle.wc_irc.specs.Rows.{param}
-use Rattle.wc_irc.specs.Texts.{source_text}
+use Rattle.wc_irc_texts.specs.Rows.{param}
+use Rattle.wc_irc_texts.specs.Texts.{source_text}
 use Rattle.wc_irc.proofs.channel_acts.join_text.Goals as goal
 
 pub returns : goal.returns

@@ -1,7 +1,7 @@
 use Rattle.std.proofs.Common.{◌≡◌, ◌++◌, ◌∙◌, ap, sym, codes, List, ℕ, append-nil}
 use Rattle.std.proofs.lemmas.Result.{IfOk-weaker}
-use Rattle.wc_irc.specs.Rows.{param}
-use Rattle.wc_irc.specs.Texts.{reason_text}
+use Rattle.wc_irc_texts.specs.Rows.{param}
+use Rattle.wc_irc_texts.specs.Texts.{reason_text}
 use Rattle.wc_irc.proofs.MessageTextLemmas.{parts_4}
 use Rattle.wc_irc.proofs.channel_acts.kick_text.Goals as goal
 

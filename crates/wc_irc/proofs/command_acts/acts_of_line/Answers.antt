@@ -1,7 +1,7 @@
 use Rattle.std.proofs.Common.{ap, sym, ◌∙◌, option_map}
 use Rattle.wc_irc.specs.CommandSeen.{place_seen, errand_seen}
-use Rattle.wc_irc.specs.Typed.{asked_of}
-use Rattle.wc_irc.specs.TypedSeen.{meaning}
+use Rattle.wc_irc_words.specs.Typed.{asked_of}
+use Rattle.wc_irc_words.specs.TypedSeen.{meaning}
 use Rattle.wc_irc.proofs.AskedLemmas.{asked_ready}
 use Rattle.wc_irc.proofs.ErrandLemmas.{read_fit}
 use Rattle.wc_irc.proofs.command_acts.acts_of_line.Goals as goal

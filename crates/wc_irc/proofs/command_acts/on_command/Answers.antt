@@ -1,6 +1,6 @@
 use Rattle.std.proofs.Common.{IsUtf8, sym, subst, ◌∙◌}
 use Rattle.wc_irc.proofs.LineTextLemmas.{line_made}
-use Rattle.wc_irc.proofs.PieceLemmas.{made_in_line}
+use Rattle.wc_irc_texts.proofs.PieceLemmas.{made_in_line}
 use Rattle.wc_irc.proofs.command_acts.on_command.Goals as goal
 
 pub acts_of_line-requires-clause-one_line : goal.acts_of_line-requires-clause-one_line

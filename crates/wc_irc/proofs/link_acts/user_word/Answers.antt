@@ -1,4 +1,4 @@
-use Rattle.wc_irc.proofs.PieceLemmas.{made_in_line}
+use Rattle.wc_irc_texts.proofs.PieceLemmas.{made_in_line}
 use Rattle.wc_irc.proofs.link_acts.user_word.Goals as goal
 
 pub first_words-requires : goal.first_words-requires

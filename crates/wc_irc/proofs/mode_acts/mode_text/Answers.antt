@@ -1,7 +1,7 @@
 use Rattle.std.proofs.Common.{◌≡◌, ◌++◌, ◌∙◌, ap, sym, codes, List, ℕ, append-nil}
 use Rattle.std.proofs.lemmas.Result.{IfOk-weaker}
-use Rattle.wc_irc.specs.Rows.{param, params_from}
-use Rattle.wc_irc.specs.Texts.{spaced}
+use Rattle.wc_irc_texts.specs.Rows.{param, params_from}
+use Rattle.wc_irc_texts.specs.Texts.{spaced}
 use Rattle.wc_irc.proofs.MessageTextLemmas.{parts_6}
 use Rattle.wc_irc.proofs.mode_acts.mode_text.Goals as goal
 

@@ -1,12 +1,12 @@
 use Rattle.std.proofs.Common.{◌≡◌, ◌++◌, ap, ◌∙◌, refl}
 use Rattle.std.proofs.lemmas.Result.{on_ok_weaker}
-use Rattle.wc_irc.specs.declared.seat.ModeSet.{ModeSet}
-use Rattle.wc_irc.specs.Merged.{merged, put_seat}
-use Rattle.wc_irc.specs.MergedSeen.{seat_in}
+use Rattle.wc_irc_texts.specs.declared.seat.ModeSet.{ModeSet}
+use Rattle.wc_irc_nicks.specs.Merged.{merged, put_seat}
+use Rattle.wc_irc_nicks.specs.MergedSeen.{seat_in}
 use Rattle.wc_irc.specs.ModeActs.{modes_after, moved}
-use Rattle.wc_irc.specs.ModeBits.{highest}
-use Rattle.wc_irc.specs.ModesSeen.{change_in}
-use Rattle.wc_irc.specs.OverlaySeen.{seats_over}
+use Rattle.wc_irc_texts.specs.ModeBits.{highest}
+use Rattle.wc_irc_texts.specs.ModesSeen.{change_in}
+use Rattle.wc_irc_nicks.specs.OverlaySeen.{seats_over}
 use Rattle.wc_irc.proofs.ModeLemmas.{change_none, change_some, over_put}
 use Rattle.wc_irc.proofs.mode_acts.put_change.Goals as goal
 

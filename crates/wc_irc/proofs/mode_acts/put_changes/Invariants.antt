@@ -1,7 +1,7 @@
 use Rattle.std.proofs.Common.{◌≡◌, ◌++◌, drop}
 use Rattle.wc_irc.specs.ModeActs.{changes_acts}
-use Rattle.wc_irc.specs.ModesSeen.{changes_in}
-use Rattle.wc_irc.specs.OverlaySeen.{seats_over}
+use Rattle.wc_irc_texts.specs.ModesSeen.{changes_in}
+use Rattle.wc_irc_nicks.specs.OverlaySeen.{seats_over}
 use Rattle.wc_irc.proofs.mode_acts.put_changes.Given as goal
 
 abbrev pub invariant-loop-change : goal.invariant-loop-change

@@ -1,9 +1,9 @@
 use Rattle.std.proofs.Common.{◌≡◌, sym, ◌∙◌}
 use Rattle.std.proofs.lemmas.Result.{on_ok_weaker}
-use Rattle.wc_irc.specs.declared.seat.Seat.{Seat}
-use Rattle.wc_irc.specs.Merged.{merged, put_seat}
+use Rattle.wc_irc_texts.specs.declared.seat.Seat.{Seat}
+use Rattle.wc_irc_nicks.specs.Merged.{merged, put_seat}
 use Rattle.wc_irc.specs.NameActs.{listed_seat}
-use Rattle.wc_irc.specs.OverlaySeen.{seats_over}
+use Rattle.wc_irc_nicks.specs.OverlaySeen.{seats_over}
 use Rattle.wc_irc.proofs.ModeLemmas.{name_none, name_some, placed_none, placed_some, over_put}
 use Rattle.wc_irc.proofs.OneChannelLemmas.{short_nick}
 use Rattle.wc_irc.proofs.name_acts.put_name.Goals as goal

@@ -1,7 +1,7 @@
 use Rattle.std.proofs.Common.{◌≡◌, ◌++◌}
 use Rattle.wc_text.specs.Words.{words_of, words_left}
 use Rattle.wc_irc.specs.NameActs.{listed_seats, placed_all}
-use Rattle.wc_irc.specs.OverlaySeen.{seats_over}
+use Rattle.wc_irc_nicks.specs.OverlaySeen.{seats_over}
 use Rattle.wc_irc.proofs.name_acts.put_names_of.Given as goal
 
 abbrev pub invariant-loop-name : goal.invariant-loop-name

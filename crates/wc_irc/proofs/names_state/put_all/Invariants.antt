@@ -1,6 +1,6 @@
 use Rattle.std.proofs.Common.{◌≡◌, ◌≤◌, length}
 use Rattle.std.specs.Vec.Iter.{into_iter_items}
-use Rattle.wc_irc.specs.Merged.{merged}
+use Rattle.wc_irc_nicks.specs.Merged.{merged}
 use Rattle.wc_irc.specs.NamesSeen.{seats_of_comers, AllMayCome}
 use Rattle.wc_irc.proofs.names_state.put_all.Given as goal
 

@@ -1,6 +1,6 @@
 use Rattle.std.proofs.Common.{◌≡◌, sym, ap, ◌∙◌, refl, arith, subst, length, ◌++◌, ◌∷◌, []}
 use Rattle.wc_irc.specs.declared.names_state.Comer.{Comer}
-use Rattle.wc_irc.specs.Kept.{NewNickValue}
+use Rattle.wc_irc_nicks.specs.Kept.{NewNickValue}
 use Rattle.wc_irc.specs.NamesSeen.{AllMayCome, MayCome}
 use Rattle.wc_irc.proofs.ComerLemmas.{comers_none, comers_some, may_more}
 use Rattle.wc_irc.proofs.OneChannelLemmas.{short_nick}

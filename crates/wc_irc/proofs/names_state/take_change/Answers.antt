@@ -1,8 +1,8 @@
 use Rattle.std.proofs.Common.{ap, ◌∙◌}
-use Rattle.wc_irc.specs.declared.seat.ModeSet.{ModeSet}
-use Rattle.wc_irc.specs.Kept.{MembersValue}
-use Rattle.wc_irc.specs.ModesSeen.{change_in}
-use Rattle.wc_irc.specs.Seats.{with_modes}
+use Rattle.wc_irc_texts.specs.declared.seat.ModeSet.{ModeSet}
+use Rattle.wc_irc_nicks.specs.Kept.{MembersValue}
+use Rattle.wc_irc_texts.specs.ModesSeen.{change_in}
+use Rattle.wc_irc_nicks.specs.Seats.{with_modes}
 use Rattle.wc_irc.proofs.ModeLemmas.{taken_none, taken_some}
 use Rattle.wc_irc.proofs.names_state.take_change.Goals as goal
 

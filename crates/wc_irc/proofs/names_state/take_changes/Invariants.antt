@@ -1,6 +1,6 @@
 use Rattle.std.proofs.Common.{◌≡◌, drop}
 use Rattle.wc_irc.specs.ModeActs.{with_changes}
-use Rattle.wc_irc.specs.ModesSeen.{changes_in}
+use Rattle.wc_irc_texts.specs.ModesSeen.{changes_in}
 use Rattle.wc_irc.proofs.names_state.take_changes.Given as goal
 
 abbrev pub invariant-loop-change : goal.invariant-loop-change

@@ -1,5 +1,5 @@
 use Rattle.std.proofs.Common.{◌≡◌, ◌++◌}
-use Rattle.wc_irc.specs.KeptSeen.{seats_left}
+use Rattle.wc_irc_nicks.specs.KeptSeen.{seats_left}
 use Rattle.wc_irc.specs.NickActs.{emptied}
 use Rattle.wc_irc.proofs.nick_acts.put_emptied.Given as goal
 

@@ -1,6 +1,6 @@
 use Rattle.std.proofs.Common.{◌≡◌, ◌++◌, ◌∙◌, sym, codes, List, ℕ, append-nil, append_assoc}
 use Rattle.std.proofs.lemmas.Result.{IfOk-weaker}
-use Rattle.wc_irc.specs.Rows.{param}
+use Rattle.wc_irc_texts.specs.Rows.{param}
 use Rattle.wc_irc.proofs.rename_acts.nick_text.Goals as goal
 
 pub returns : goal.returns

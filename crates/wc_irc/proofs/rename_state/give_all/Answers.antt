@@ -1,7 +1,7 @@
 use Rattle.std.proofs.Common.{◌≡◌, ◌∷◌, ap, sym, ◌∙◌, subst, List, Option, map, drop}
 use Rattle.std.specs.Vec.Iter.{into_iter_items}
 use Rattle.wc_irc.specs.Channels.{joined}
-use Rattle.wc_irc.specs.Kept.{NewNickValue}
+use Rattle.wc_irc_nicks.specs.Kept.{NewNickValue}
 use Rattle.wc_irc.specs.ReadySeen.{AllCanGive}
 use Rattle.wc_irc.proofs.ReadyLemmas.{give_from, give_one_more, some_there, can_next, can_others}
 use Rattle.wc_irc.proofs.rename_state.give_all.Goals as goal

@@ -1,7 +1,7 @@
 use Rattle.std.proofs.Common.{◌≡◌, ap, sym, ◌∙◌}
 use Rattle.wc_irc.specs.declared.channel.Channel.{Channel}
 use Rattle.wc_irc.specs.Channels.{joined}
-use Rattle.wc_irc.specs.Kept.{NewNickValue}
+use Rattle.wc_irc_nicks.specs.Kept.{NewNickValue}
 use Rattle.wc_irc.proofs.ReadyLemmas.{ready_none, ready_some}
 use Rattle.wc_irc.proofs.rename_state.ready_name.Goals as goal
 

@@ -1,6 +1,6 @@
 use Rattle.std.proofs.Common.{◌≡◌, ◌∷◌, ap, ◌∙◌}
-use Rattle.wc_irc.specs.Pieces.{pieces_left}
-use Rattle.wc_irc.proofs.PieceLemmas.{pieces_split}
+use Rattle.wc_irc_texts.specs.Pieces.{pieces_left}
+use Rattle.wc_irc_texts.proofs.PieceLemmas.{pieces_split}
 use Rattle.wc_irc.proofs.StartLemmas.{one_nick_more}
 use Rattle.wc_irc.proofs.start.nicks_of.Goals as goal
 

@@ -1,5 +1,5 @@
 use Rattle.std.proofs.Common.{◌≡◌, ◌++◌, filter}
-use Rattle.wc_irc.specs.Pieces.{pieces, pieces_left, length_left}
+use Rattle.wc_irc_texts.specs.Pieces.{pieces, pieces_left, length_left}
 use Rattle.wc_irc.specs.Start.{may_be_tried}
 use Rattle.wc_irc.proofs.start.nicks_of.Given as goal
 

@@ -1,6 +1,6 @@
 use Rattle.std.proofs.Common.{◌≡◌, ◌++◌, ◌∙◌, sym, codes, List, ℕ}
 use Rattle.std.proofs.lemmas.Result.{IfOk-weaker}
-use Rattle.wc_irc.specs.Rows.{param}
+use Rattle.wc_irc_texts.specs.Rows.{param}
 use Rattle.wc_irc.proofs.MessageTextLemmas.{parts_6}
 use Rattle.wc_irc.proofs.title_acts.topic_text.Goals as goal
 

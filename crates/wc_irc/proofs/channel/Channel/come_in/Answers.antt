@@ -1,6 +1,6 @@
 use Rattle.std.proofs.Common.{ap, sym, ◌∙◌, length, arith}
 use Rattle.wc_irc.specs.Channels.{joined}
-use Rattle.wc_irc.specs.Kept.{NewNickValue}
+use Rattle.wc_irc_nicks.specs.Kept.{NewNickValue}
 use Rattle.wc_irc.proofs.OneChannelLemmas.{short_comer}
 use Rattle.wc_irc.proofs.channel.Channel.come_in.Goals as goal
 

@@ -3,8 +3,8 @@ use Rattle.wc_irc.specs.declared.channel.Channel.{Channel}
 use Rattle.wc_irc.specs.Channels.{joined}
 use Rattle.wc_irc.specs.ChannelStates.{change_first}
 use Rattle.wc_irc.specs.ModeActs.{with_changes, with_modes_of}
-use Rattle.wc_irc.specs.Modes.{ModeChange, mode_changes}
-use Rattle.wc_irc.specs.ModesSeen.{changes_in}
+use Rattle.wc_irc_texts.specs.Modes.{ModeChange, mode_changes}
+use Rattle.wc_irc_texts.specs.ModesSeen.{changes_in}
 use Rattle.wc_irc.specs.ServersSeen.{seen}
 use Rattle.wc_irc.proofs.OneChannelLemmas.{channel_changed, nowhere}
 use Rattle.wc_irc.proofs.state.State.take_modes.Goals as goal

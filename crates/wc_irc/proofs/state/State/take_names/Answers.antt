@@ -4,7 +4,7 @@ use Rattle.wc_text.specs.Words.{words_of}
 use Rattle.wc_irc.specs.declared.channel.Channel.{Channel}
 use Rattle.wc_irc.specs.Channels.{joined}
 use Rattle.wc_irc.specs.ChannelStates.{change_first}
-use Rattle.wc_irc.specs.Merged.{merged}
+use Rattle.wc_irc_nicks.specs.Merged.{merged}
 use Rattle.wc_irc.specs.NameActs.{listed_seats, seats_in, with_names}
 use Rattle.wc_irc.specs.ServersSeen.{seen}
 use Rattle.wc_irc.proofs.OneChannelLemmas.{channel_changed, channel_kept, place_inside, nowhere}

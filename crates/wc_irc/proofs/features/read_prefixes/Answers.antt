@@ -1,5 +1,0 @@
-use Rattle.wc_irc.proofs.FeatureLemmas.{prefixes_answered}
-use Rattle.wc_irc.proofs.features.read_prefixes.Goals as goal
-
-pub returns : goal.returns
-returns c = prefixes_answered c.args.value.now c.read_prefix_token.result c.read_prefix_token.ensures.found c.read_prefix_token.ensures.only

@@ -1,8 +1,0 @@
-use Rattle.std.proofs.Common.{rules}
-use Rattle.std.specs.Prelude.{is_some}
-use Rattle.std.proofs.lemmas.Fn.{filter_same}
-use Rattle.wc_irc.specs.declared.seat.Seat.{Seat}
-use Rattle.wc_irc.proofs.places.without_holes.Goals as goal
-
-pub returns : goal.returns
-returns c = filter_same _ (is_some {T = Seat}) _ (λ x b f' k. search rules) _ _ c.retain.ensures.filtered

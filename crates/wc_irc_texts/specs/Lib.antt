@@ -1,0 +1,13 @@
+pub mod Features
+pub mod Groups
+pub mod Listed
+pub mod ListedSeen
+pub mod ModeBits
+pub mod Modes
+pub mod ModesSeen
+pub mod Names
+pub mod Pieces
+pub mod Rows
+pub mod Speech
+pub mod Texts
+pub mod TextsSeen

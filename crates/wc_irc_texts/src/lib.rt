@@ -1,0 +1,27 @@
+//! The texts of an IRC server, without its state: names, nicks with their signs and groups, the kind
+//! of a message, modes, what a server tells of itself, and texts as they are printed and sent.
+#![tactic(auto)]
+
+mod features;
+mod formatting;
+mod groups;
+mod kind;
+mod line_text;
+mod listed;
+mod modes;
+mod names;
+mod params;
+mod seat;
+mod speech;
+
+pub use features::Features;
+pub use formatting::plain;
+pub use groups::{group_at, group_names, sign_at};
+pub use kind::{MessageKind, kind_of};
+pub use line_text::{in_one_line, joined, reason_text, source_text, spaced};
+pub use listed::{ListedName, listed_name};
+pub use modes::{ModeChange, mode_changes};
+pub use names::{LONGEST_NICK, is_channel, is_nick, is_same};
+pub use params::{last_param, param, params_from};
+pub use seat::{ModeSet, Seat};
+pub use speech::calls_nick;

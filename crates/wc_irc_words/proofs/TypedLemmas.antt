@@ -1,0 +1,93 @@
+-- Commands by their names, and words one after another.
+use Rattle.std.proofs.Common.{◌≡◌, ℕ, eqb, suc, ◌+◌, ◌<◌, ◌≤◌, Bool, true, false, cond, List, [], ◌∷◌, length, Option, Some, None, refl, ap, sym, ◌∙◌, arith, codes, nat_lt}
+use Rattle.std.specs.Prelude.{not, ◌&&◌, ◌||◌, ◌==◌, nat_le}
+use Rattle.std.specs.Str.{bytes_eq}
+use Rattle.std.proofs.lemmas.Bool.Decides.{nat_tests}
+use Rattle.wc_irc_words.specs.declared.command_word.CommandWord.{CommandWord}
+use Rattle.wc_irc_words.specs.declared.command_word.CommandWord.TheVariants as words
+use Rattle.wc_irc_words.specs.Typed.{ServerCommand, command_of, is_target, ends_at_colon, are_mode_words}
+use Rattle.wc_irc_words.specs.TypedSeen.{asked_with, word_named, mode_words_from}
+
+abbrev pub asked_by : Option CommandWord → List ℕ → Option ServerCommand
+asked_by None text = None
+asked_by (Some word) text = Some (asked_with word text)
+
+asked_if : (b : Bool) (word : CommandWord) (others : Option CommandWord) (text : List ℕ) → asked_by (cond b (Some word) others) text ≡ cond b (Some (asked_with word text)) (asked_by others text)
+asked_if true word others text = refl
+asked_if false word others text = refl
+
+-- one more name before others
+step : (b : Bool) (word : CommandWord) (others : Option CommandWord) (text : List ℕ) (rest : Option ServerCommand) → asked_by others text ≡ rest
+    → asked_by (cond b (Some word) others) text ≡ cond b (Some (asked_with word text)) rest
+step b word others text rest same = asked_if b word others text ∙ ap (cond b (Some (asked_with word text))) same
+
+pub command_named : (name text : List ℕ) → asked_by (word_named name) text ≡ command_of name text
+unfolding command_of
+command_named name text =
+    step (bytes_eq name (codes "join")) words.Join _ text _ (
+    step (bytes_eq name (codes "part")) words.Part _ text _ (
+    step (bytes_eq name (codes "msg")) words.Msg _ text _ (
+    step (bytes_eq name (codes "notice")) words.Notice _ text _ (
+    step (bytes_eq name (codes "query")) words.Query _ text _ (
+    step (bytes_eq name (codes "me")) words.Me _ text _ (
+    step (bytes_eq name (codes "nick")) words.Nick _ text _ (
+    step (bytes_eq name (codes "topic")) words.Topic _ text _ (
+    step (bytes_eq name (codes "kick")) words.Kick _ text _ (
+    step (bytes_eq name (codes "mode")) words.Mode _ text _ (
+    step (bytes_eq name (codes "names")) words.Names _ text _ (
+    step (bytes_eq name (codes "quote")) words.Quote _ text _ (
+    step (bytes_eq name (codes "server")) words.Server _ text _ (
+    step (bytes_eq name (codes "connect")) words.Connect _ text _ (
+    step (bytes_eq name (codes "disconnect")) words.Disconnect None text None refl))))))))))))))
+
+-- what so many words before, which did not end them, and these make together
+abbrev all_from : ℕ → List (List ℕ) → Bool
+all_from count words = nat_lt 0 (count + length words) && (nat_le (count + length words) 15 && ends_at_colon words)
+
+too_many : (count n : ℕ) (rest ends : Bool) → eqb count 15 ≡ true → false ≡ (nat_lt 0 (count + suc n) && (nat_le (count + suc n) 15 && ends))
+too_many count n rest ends full =
+    let over : nat_le (count + suc n) 15 ≡ false = grind (arith, nat_tests) in
+    sym (ap (λ t. nat_lt 0 (count + suc n) && (t && ends)) over ∙ and_false (nat_lt 0 (count + suc n))) where
+      and_false : (b : Bool) → (b && false) ≡ false
+      and_false true = refl
+      and_false false = refl
+
+none_after : (count : ℕ) → count ≤ 15 → nat_lt 0 count ≡ all_from count []
+none_after count few = grind (arith, nat_tests)
+
+last_word : (count : ℕ) (word : List ℕ) → count ≤ 15 → mode_words_from count false (word ∷ []) ≡ all_from count (word ∷ [])
+last_word count word few = by (eqb count 15) refl where
+  by : (t : Bool) → eqb count 15 ≡ t → (not t && nat_lt 0 (suc count)) ≡ (nat_lt 0 (count + 1) && (nat_le (count + 1) 15 && true))
+  by true full = too_many count 0 true true full
+  by false free = let more : count < 15 = grind (arith, nat_tests) in grind (arith, nat_tests)
+
+more_words : (count : ℕ) (word next : List ℕ) (words : List (List ℕ)) → count ≤ 15
+    → (suc count ≤ 15 → mode_words_from (suc count) false (next ∷ words) ≡ all_from (suc count) (next ∷ words))
+    → mode_words_from count false (word ∷ next ∷ words) ≡ all_from count (word ∷ next ∷ words)
+more_words count word next words few ih = by (eqb count 15) refl (is_target word) where
+  by : (t : Bool) → eqb count 15 ≡ t → (target : Bool) → (not t && mode_words_from (suc count) (not target) (next ∷ words))
+      ≡ (nat_lt 0 (count + suc (suc (length words))) && (nat_le (count + suc (suc (length words))) 15 && (target && ends_at_colon (next ∷ words))))
+  by true full target = too_many count (suc (length words)) true (target && ends_at_colon (next ∷ words)) full
+  by false free true =
+      let more : count < 15 = grind (arith, nat_tests) in
+      let same : suc count + suc (length words) ≡ count + suc (suc (length words)) = omega arith in
+      ih (omega arith) ∙ ap (λ n. nat_lt 0 n && (nat_le n 15 && ends_at_colon (next ∷ words))) same
+  by false free false = sym (never (nat_lt 0 (count + suc (suc (length words)))) (nat_le (count + suc (suc (length words))) 15)) where
+    never : (a b : Bool) → (a && (b && false)) ≡ false
+    never true true = refl
+    never true false = refl
+    never false b = refl
+
+mode_words_more : (words : List (List ℕ)) (count : ℕ) → count ≤ 15 → mode_words_from count false words ≡ all_from count words
+mode_words_more [] count few = none_after count few
+mode_words_more (word ∷ []) count few = last_word count word few
+mode_words_more (word ∷ next ∷ words) count few = more_words count word next words few (mode_words_more (next ∷ words) (suc count))
+
+pub mode_words_all : (words : List (List ℕ)) → mode_words_from 0 false words ≡ are_mode_words words
+mode_words_all words = mode_words_more words 0 (omega arith) ∙ ap (λ n. nat_lt 0 n && (nat_le n 15 && ends_at_colon words)) (none (length words)) where
+  none : (n : ℕ) → 0 + n ≡ n
+  none n = omega arith
+
+-- a word that may not come any more
+pub mode_words_end : (count : ℕ) (ends : Bool) (word : List ℕ) (words : List (List ℕ)) → (ends || (count == 15)) ≡ true → mode_words_from count ends (word ∷ words) ≡ false
+mode_words_end count ends word words full = ap (λ t. not t && mode_words_from (suc count) (not (is_target word)) words) full

@@ -1,0 +1,74 @@
+ghost use Rattle.std.specs.Prelude.{◌≡◌};
+ghost use Rattle.wc_irc_words.specs.TypedSeen.{name_of, word_named};
+
+/// The name of a command that speaks to servers.
+#[derive(Clone, Copy, PartialEq, Eq)]
+pub enum CommandWord {
+    Join,
+    Part,
+    Msg,
+    Notice,
+    Query,
+    Me,
+    Nick,
+    Topic,
+    Kick,
+    Mode,
+    Names,
+    Quote,
+    Server,
+    Connect,
+    Disconnect,
+}
+
+impl CommandWord {
+    const ALL: [CommandWord; 15] = [
+        CommandWord::Join,
+        CommandWord::Part,
+        CommandWord::Msg,
+        CommandWord::Notice,
+        CommandWord::Query,
+        CommandWord::Me,
+        CommandWord::Nick,
+        CommandWord::Topic,
+        CommandWord::Kick,
+        CommandWord::Mode,
+        CommandWord::Names,
+        CommandWord::Quote,
+        CommandWord::Server,
+        CommandWord::Connect,
+        CommandWord::Disconnect,
+    ];
+
+    fn name(self) -> &'static [u8]
+        ensures { result.now ≡ name_of self }
+    {
+        match self {
+            CommandWord::Join => b"join",
+            CommandWord::Part => b"part",
+            CommandWord::Msg => b"msg",
+            CommandWord::Notice => b"notice",
+            CommandWord::Query => b"query",
+            CommandWord::Me => b"me",
+            CommandWord::Nick => b"nick",
+            CommandWord::Topic => b"topic",
+            CommandWord::Kick => b"kick",
+            CommandWord::Mode => b"mode",
+            CommandWord::Names => b"names",
+            CommandWord::Quote => b"quote",
+            CommandWord::Server => b"server",
+            CommandWord::Connect => b"connect",
+            CommandWord::Disconnect => b"disconnect",
+        }
+    }
+
+    /// The command that is written so, with case kept.
+    pub fn named(text: &[u8]) -> Option<CommandWord>
+        ensures { result ≡ word_named text.now }
+    {
+        CommandWord::ALL
+            .iter()
+            .copied()
+            .find(|word| text == word.name())
+    }
+}

@@ -1,0 +1,11 @@
+//! What a text that is typed asks of IRC servers, by its bytes alone.
+#![tactic(auto)]
+
+mod command_word;
+mod typed;
+mod typed_server;
+mod typed_words;
+
+pub use command_word::CommandWord;
+pub use typed::{ServerCommand, read_server_command};
+pub use typed_words::is_target;
