@@ -31,12 +31,14 @@ use Rattle.wc_board.specs.Pushes.{pushed_connection}
 use Rattle.wc_board.specs.Served.{told_connection, ConnectionsKept, ConnectionsServed}
 use Rattle.wc_board.specs.Told.{Told, AreTold, AreTouched}
 use Rattle.wc_board.proofs.PushEach.{open_number, number_more, not_more, none_left, all_is}
+use Rattle.wc_text.specs.declared.names.Cause.TheVariants.{Surplus}
+use Rattle.wc_servers.specs.Seats.{ServersView, used_up}
 use Rattle.wc_core.specs.CoreView.{CoreView}
 use Rattle.wc_core.specs.Inputs.{MakesChange, push_before, AnswersRequestOf}
 use Rattle.wc_core.specs.Limits.{client_limit}
 use Rattle.wc_core.specs.Step.{client_link, no_step, push_step, request_step, line_step, loss_step, arrival_step}
 use Rattle.wc_core.specs.Served.{state_of, Does, AdmitsUnlessStarved, OutcomeUtf8}
-use Rattle.wc_core.proofs.CoreLemmas.{starved_only, lost-done, came, changes-all, changes-some, outcome-text, line-missing, line-leaving, line-asked}
+use Rattle.wc_core.proofs.CoreLemmas.{came-surplus, starved_only, lost-done, came, changes-all, changes-some, outcome-text, line-missing, line-leaving, line-asked}
 use Rattle.wc_core.proofs.DidLemmas.{Does-stays}
 use Rattle.wc_core.proofs.PushLemmas.{IsPushedCore, push-done}
 use Rattle.wc_core.proofs.ReplyLemmas.{reply_fits}
@@ -280,11 +282,19 @@ push-starved old board new world kept rows counts rises =
     let P : CoreView → Type 0 = λ new. Does old new push_step in
     subst P (sym counts) (push-by old board (min (old.starved + 1) (2 ^ 64 - 1)) world kept rows (inr (refl, omega (arith, count, rises))))
 
-pub came-by : (told : Told) (old : CoreView) (board : BoardView) (link : LinkId) (nonce : List ℕ) → length (filter (λ connection. is_open connection) old.connections) < client_limit old.options
-    → board ≡ record (board_of old) { connections = old.connections ++ new_connection old.options link nonce ∷ [] } → AdmitsUnlessStarved told link.0 old (with_board old board old.starved) None (arrival_step (state_of old told) link.0 nonce)
-came-by told old board link nonce few e =
-    let P : BoardView → Type 0 = λ b. AdmitsUnlessStarved told link.0 old (with_board old b old.starved) None (arrival_step (state_of old told) link.0 nonce) in
-    subst P (sym e) (came told old link nonce few)
+pub came-by : (told : Told) (old : CoreView) (board : BoardView) (servers : ServersView) (link : LinkId) (nonce : List ℕ) → length (filter (λ connection. is_open connection) old.connections) < client_limit old.options → servers ≡ used_up link.0 old.servers
+    → board ≡ record (board_of old) { connections = old.connections ++ new_connection old.options link nonce ∷ [] } → AdmitsUnlessStarved told link.0 old (with_board (record old { servers = servers }) board old.starved) None (arrival_step (state_of old told) link.0 nonce)
+came-by told old board servers link nonce few used e =
+    let P : BoardView → Type 0 = λ b. AdmitsUnlessStarved told link.0 old (with_board (record old { servers = servers }) b old.starved) None (arrival_step (state_of old told) link.0 nonce) in
+    let came_to = record (board_of old) { connections = old.connections ++ new_connection old.options link nonce ∷ [] } in
+    let Q : ServersView → Type 0 = λ servers. AdmitsUnlessStarved told link.0 old (with_board (record old { servers = servers }) came_to old.starved) None (arrival_step (state_of old told) link.0 nonce) in
+    subst P (sym e) (subst Q (sym used) (came told old link nonce few))
+
+pub surplus-by : (told : Told) (old : CoreView) (servers : ServersView) (link : LinkId) (nonce : List ℕ) → client_limit old.options ≤ length (filter (λ connection. is_open connection) old.connections) → servers ≡ used_up link.0 old.servers
+    → AdmitsUnlessStarved told link.0 old (record old { servers = servers }) (Some Surplus) (arrival_step (state_of old told) link.0 nonce)
+surplus-by told old servers link nonce full used =
+    let Q : ServersView → Type 0 = λ servers. AdmitsUnlessStarved told link.0 old (record old { servers = servers }) (Some Surplus) (arrival_step (state_of old told) link.0 nonce) in
+    subst Q (sym used) (came-surplus told old link nonce full)
 
 pub changed-all : (old : CoreView) (board : BoardView) (change : Change) (n : Notice) → Accepted old.world change board.world n → AreTouched old.world change old.pending board.pending → AreBuffers board.world.groups → NoStrayTouches old.world old.pending
     → board.connections ≡ map (told_connection board.world n) old.connections → MakesChange old change (with_board old board old.starved)

@@ -3,9 +3,6 @@ use Rattle.std.proofs.Common.{◌≡◌, ℕ, Bool, true, false, cond, eqb, ◌�
 use Rattle.wc_text.specs.declared.names.Cause.{Cause}
 use Rattle.wc_text.specs.declared.names.Cause.TheVariants.{NoMemory}
 use Rattle.std.specs.List.{flat_map}
-use Rattle.std.specs.FinMap.{FinMap}
-use Rattle.std.specs.Ordering.{nat_cmp}
-use Rattle.wc_nicklist.specs.declared.item.Row.{Row}
 use Rattle.wc_nickdiff.specs.declared.diff_item.Push.{Push}
 use Rattle.wc_session.specs.Event.{push_told}
 use Rattle.wc_objects.specs.declared.object.WireMessage.{WireMessage}
@@ -16,30 +13,26 @@ use Rattle.wc_session.specs.declared.outcome.Outcome.{Outcome}
 use Rattle.wc_session.specs.declared.outcome.Outcome.TheVariants as outcome
 use Rattle.wc_text.specs.declared.names.Handle.{Handle}
 use Rattle.wc_buffers.specs.Calls.{is_there}
-use Rattle.wc_model.specs.declared.change.Change.{Change}
-use Rattle.wc_model.specs.declared.notice.Notice.{Notice}
-use Rattle.wc_model.specs.declared.refused.ChangeRefused.{ChangeRefused}
-use Rattle.wc_model.specs.World.{World}
 use Rattle.wc_model.specs.Order.{order}
-use Rattle.wc_model.specs.Apply.{refusal, after}
-use Rattle.wc_model.specs.Notices.{notice}
-use Rattle.wc_model.specs.Touches.{told_after}
-use Rattle.wc_core.specs.Resolved.{Effect, Stays, Ends as ResolvedEnds, Tells, Asks, SetsOption, UnsetsOption, SavesOptions, effect_of, refusal_text, option_text, told_refusal}
+use Rattle.wc_model.specs.Apply.{after}
+use Rattle.wc_core.specs.Resolved.{Effect, Stays, Ends as ResolvedEnds, Tells, Asks, SetsOption, UnsetsOption, SavesOptions, effect_of, option_text}
 use Rattle.wc_options.specs.Options.{refusal_of, value_of}
 use Rattle.wc_options.specs.declared.refusal.SetRefused.{SetRefused}
 use Rattle.wc_options.specs.declared.refusal.SetRefused.TheVariants.{UnknownOption}
 use Rattle.wc_core.specs.Typed.{TypedCommand, typed_line, lines_of_text}
-use Rattle.wc_core.specs.State.{State, Stepped, has_end}
-use Rattle.wc_core.specs.Step.{set_step_if, unset_step_if, client_link, pushed_to, push_at, pushes_of, push_step, no_step, then_does, sends, tell_all_step, change_step, change_step_if, refusal_step, ask_step_if, effect_step, typed_step, is_quit, lines_step, outcome_step, answer_step, loss_step, core_buffer, commands_step}
+use Rattle.wc_core.specs.State.{State, has_end}
+use Rattle.wc_core.specs.Step.{set_step_if, unset_step_if, client_link, pushed_to, push_at, pushes_of, push_step, no_step, then_does, sends, ask_step, effect_step, typed_step, other_of, input_by, input_step, is_quit, lines_step, start_step, outcome_step, answer_step, loss_step, core_buffer, commands_step}
 use Rattle.wc_core.specs.CoreView.{CoreView}
 use Rattle.wc_core.specs.Served.{state_of, or_else, close_of, LeavesBy}
 use Rattle.wc_board.specs.Served.{StaysOrStarves}
+use Rattle.wc_irc_texts.specs.Texts.{in_one_line}
+use Rattle.wc_irc_words.specs.Typed.{asked_of}
+use Rattle.wc_core.specs.ServerSteps.{before_step}
+use Rattle.wc_core.specs.ServerTyped.{connect_all_step}
+use Rattle.wc_core.proofs.ChangeCloses.{closes_none-if, then-closes, tells-closes, asks-closes}
+use Rattle.wc_core.proofs.ServerCloses.{quits-closes, before-closes, connects_all-closes, serves-closes}
 use Rattle.wc_core.proofs.DidLemmas.{close_of-append, ClosesLater}
-use Rattle.wc_core.proofs.ConnectionLemmas.{close-sends, close-told}
-
-closes_none-if : (j : ℕ) (b : Bool) (x y : Stepped) → close_of j x.acts ≡ None → close_of j y.acts ≡ None → close_of j (cond b x y).acts ≡ None
-closes_none-if j true x y p q = p
-closes_none-if j false x y p q = q
+use Rattle.wc_core.proofs.ConnectionLemmas.{close-sends}
 
 -- ---- pushes
 
@@ -58,24 +51,7 @@ each-closes j state (buffer ∷ buffers) =
 pub pushes-closes : (j : ℕ) (state : State) → close_of j (push_step state).acts ≡ None
 pushes-closes j state = each-closes j state (order state.world.groups)
 
--- ---- changes and what is typed
-
-told_all-closes : (j : ℕ) (state : State) (told : FinMap nat_cmp (List Row)) (world : World) (n : Notice) → close_of j (tell_all_step state told world n).acts ≡ None
-told_all-closes j state told world n = close-told j world n state.clients
-
-changes-closes : (j : ℕ) (state : State) (change : Change) → close_of j (change_step state change).acts ≡ None
-changes-closes j state change = told_all-closes j state (told_after state.world change.buffer change.what state.told) (after state.world change) (notice state.world change)
-
-changes_if-closes : (j : ℕ) (state : State) (change : Change) (o : Option ChangeRefused) → close_of j (change_step_if state change o).acts ≡ None
-changes_if-closes j state change None = changes-closes j state change
-changes_if-closes j state change (Some reason) = refl
-
-tells-closes : (j : ℕ) (state : State) (text : List ℕ) → close_of j (refusal_step state text).acts ≡ None
-tells-closes j state text = changes_if-closes j state (told_refusal state.moment text) (refusal state.world (told_refusal state.moment text))
-
-asks_if-closes : (j : ℕ) (state : State) (change : Change) (o : Option ChangeRefused) → close_of j (ask_step_if state change o).acts ≡ None
-asks_if-closes j state change None = changes-closes j state change
-asks_if-closes j state change (Some reason) = tells-closes j state (refusal_text reason)
+-- ---- what is typed
 
 sets_if-closes : (j : ℕ) (state : State) (name value : List ℕ) (o : Option SetRefused) → close_of j (set_step_if state name value o).acts ≡ None
 sets_if-closes j state name value None = refl
@@ -87,9 +63,9 @@ unsets_if-closes j state name (Some value) = refl
 
 resolved-closes : (j : ℕ) (state : State) (r : Effect) → close_of j (effect_step state r).acts ≡ None
 resolved-closes j state Stays = refl
-resolved-closes j state ResolvedEnds = refl
+resolved-closes j state ResolvedEnds = quits-closes j state
 resolved-closes j state (Tells text) = tells-closes j state text
-resolved-closes j state (Asks change) = asks_if-closes j state change (refusal state.world change)
+resolved-closes j state (Asks change) = then-closes j (before_step state change) (λ next. ask_step next change) (before-closes j state change) (asks-closes j (before_step state change).state change)
 resolved-closes j state (SetsOption name value) = sets_if-closes j state name value (refusal_of state.options name value)
 resolved-closes j state (UnsetsOption name) = unsets_if-closes j state name (value_of state.options name)
 resolved-closes j state SavesOptions = refl
@@ -97,16 +73,20 @@ resolved-closes j state SavesOptions = refl
 pub does-closes : (j : ℕ) (state : State) (buffer : Handle) (typed : TypedCommand) → close_of j (typed_step state buffer typed).acts ≡ None
 does-closes j state buffer typed = resolved-closes j state (effect_of state.world state.moment buffer typed)
 
-pub then-closes : (j : ℕ) (first : Stepped) (next : State → Stepped) → close_of j first.acts ≡ None → close_of j (next first.state).acts ≡ None → close_of j (then_does first next).acts ≡ None
-then-closes j first next p q = close_of-append j first.acts (next first.state).acts ∙ ap (λ o. or_else o (close_of j (next first.state).acts)) p ∙ q
+input_by-closes : (j : ℕ) (state : State) (buffer : Handle) (line : List ℕ) (o : Option (List ℕ)) → close_of j (input_by state buffer line o).acts ≡ None
+input_by-closes j state buffer line None = does-closes j state buffer (typed_line line)
+input_by-closes j state buffer line (Some text) = serves-closes j state buffer line text (asked_of (in_one_line line))
+
+pub input-closes : (j : ℕ) (state : State) (buffer : Handle) (line : List ℕ) → close_of j (input_step state buffer line).acts ≡ None
+input-closes j state buffer line = input_by-closes j state buffer line (other_of (typed_line line))
 
 pub runs-closes : (j : ℕ) (state : State) (buffer : Handle) (lines : List (List ℕ)) → close_of j (lines_step state buffer lines).acts ≡ None
 runs-closes j state buffer [] = refl
 runs-closes j state buffer (line ∷ lines) =
-    let first = typed_step state buffer (typed_line line) in
+    let first = input_step state buffer line in
     closes_none-if j (not (is_there buffer state.world.groups)) (no_step state) (cond (is_quit (typed_line line)) first (then_does first (λ next. lines_step next buffer lines))) refl
-    (closes_none-if j (is_quit (typed_line line)) first (then_does first (λ next. lines_step next buffer lines)) (does-closes j state buffer (typed_line line))
-    (then-closes j first (λ next. lines_step next buffer lines) (does-closes j state buffer (typed_line line)) (runs-closes j first.state buffer lines)))
+    (closes_none-if j (is_quit (typed_line line)) first (then_does first (λ next. lines_step next buffer lines)) (input-closes j state buffer line)
+    (then-closes j first (λ next. lines_step next buffer lines) (input-closes j state buffer line) (runs-closes j first.state buffer lines)))
 
 pub commands-closes : (j : ℕ) (state : State) (commands : List (List ℕ)) → close_of j (commands_step state commands).acts ≡ None
 commands-closes j state [] = refl
@@ -115,10 +95,15 @@ commands-closes j state (command ∷ commands) =
     closes_none-if j (has_end first.acts) first (then_does first (λ next. commands_step next commands)) (runs-closes j state core_buffer (lines_of_text command))
     (then-closes j first (λ next. commands_step next commands) (runs-closes j state core_buffer (lines_of_text command)) (commands-closes j first.state commands))
 
-pub typed-later : (b : CoreView) (state : State) (buffer : Handle) (typed : TypedCommand) (lines : List (List ℕ)) → ClosesLater b (typed_step state buffer typed) (λ next. lines_step next buffer lines)
-typed-later b state buffer typed lines =
-    let first = typed_step state buffer typed in
-    record { first_none = λ j. does-closes j state buffer typed; same = λ j. runs-closes j (state_of b first.state.told) buffer lines ∙ sym (runs-closes j first.state buffer lines) }
+pub starts-closes : (j : ℕ) (state : State) (commands : List (List ℕ)) → close_of j (start_step state commands).acts ≡ None
+starts-closes j state commands =
+    let first = commands_step state commands in
+    closes_none-if j (has_end first.acts) first (then_does first connect_all_step) (commands-closes j state commands) (then-closes j first connect_all_step (commands-closes j state commands) (connects_all-closes j first.state))
+
+pub input-later : (b : CoreView) (state : State) (buffer : Handle) (line : List ℕ) (lines : List (List ℕ)) → ClosesLater b (input_step state buffer line) (λ next. lines_step next buffer lines)
+input-later b state buffer line lines =
+    let first = input_step state buffer line in
+    record { first_none = λ j. input-closes j state buffer line; same = λ j. runs-closes j (state_of b first.state.told) buffer lines ∙ sym (runs-closes j first.state buffer lines) }
 
 follows-same : (j k : ℕ) (o : Outcome) (s t : State) → close_of j (outcome_step s k o).acts ≡ close_of j (outcome_step t k o).acts
 follows-same j k outcome.Replied s t = refl

@@ -19,8 +19,8 @@ use Rattle.wc_core.specs.State.{Act, has_end}
 use Rattle.wc_core.specs.Step.{client_link, sends, told_to}
 use Rattle.wc_board.specs.Connections.{connection_link, is_open, unsent_in, unsent_on, leaving_in, leaving_on}
 use Rattle.wc_board.specs.Served.{told_connection}
-use Rattle.wc_core.specs.Served.{clients_of, sent_to, close_of, Absent, Distinct}
-use Rattle.wc_core.proofs.DidLemmas.{sent_to-append, close_of-append, has_end-append}
+use Rattle.wc_core.specs.Served.{clients_of, sent_to, close_of, outs_of, Absent, Distinct}
+use Rattle.wc_core.proofs.DidLemmas.{sent_to-append, close_of-append, outs_of-append, has_end-append}
 
 -- ---- messages for one client
 
@@ -43,6 +43,10 @@ pub close-sends : (j k : ℕ) (messages : List WireMessage) → close_of j (send
 close-sends j k [] = refl
 close-sends j k (m ∷ messages) = close-sends j k messages
 
+pub outs-sends : (k : ℕ) (messages : List WireMessage) → outs_of (sends k messages) ≡ []
+outs-sends k [] = refl
+outs-sends k (m ∷ messages) = outs-sends k messages
+
 pub end-sends : (k : ℕ) (messages : List WireMessage) → has_end (sends k messages) ≡ false
 end-sends k [] = refl
 end-sends k (m ∷ messages) = end-sends k messages
@@ -56,6 +60,11 @@ pub close-told : (j : ℕ) (w : World) (n : Notice) (clients : List Client) → 
 close-told j w n [] = refl
 close-told j w n (client ∷ clients) =
     close_of-append j (told_to w n client) (flat_map (told_to w n) clients) ∙ rw (close-sends j (client_link client) (notice_told w n client)) (close-told j w n clients)
+
+pub outs-told : (w : World) (n : Notice) (clients : List Client) → outs_of (flat_map (told_to w n) clients) ≡ []
+outs-told w n [] = refl
+outs-told w n (client ∷ clients) =
+    outs_of-append (told_to w n client) (flat_map (told_to w n) clients) ∙ rw (outs-sends (client_link client) (notice_told w n client)) (outs-told w n clients)
 
 pub end-told : (w : World) (n : Notice) (clients : List Client) → has_end (flat_map (told_to w n) clients) ≡ false
 end-told w n [] = refl

@@ -1,5 +1,5 @@
 -- What each of the core's calls does.
-use Rattle.std.proofs.Common.{◌≡◌, cond, ◌&&◌, ℕ, ◌+◌, ◌-◌, ◌^◌, ◌<◌, ◌≤◌, true, false, List, [], ◌∷◌, ◌++◌, length, inl, inr, Option, Some, None, Bool, not, nat_eq, ◌≢◌, refl, ap, sym, subst, ◌∙◌, arith, append-nil, nat_lt, min, filter, IfSome}
+use Rattle.std.proofs.Common.{◌≡◌, cond, ◌&&◌, ℕ, ◌+◌, ◌-◌, ◌^◌, ◌<◌, ◌≤◌, true, false, List, [], ◌∷◌, ◌++◌, length, inl, inr, Option, Some, None, Bool, not, nat_eq, ◌≢◌, refl, ap, sym, subst, ◌∙◌, arith, nat_lt, min, filter, IfSome}
 use Rattle.std.specs.Prelude.{map}
 use Rattle.std.proofs.lemmas.Bool.{false≢true}
 use Rattle.std.proofs.lemmas.Bool.Decides.{nat_tests}
@@ -31,13 +31,13 @@ use Rattle.wc_model.specs.Notices.{Accepted}
 use Rattle.wc_model.specs.Touches.{told_after}
 use Rattle.wc_nickdiff.specs.Held.{OfBuffer}
 use Rattle.wc_options.specs.Options.{OptionsValue}
-use Rattle.wc_core.specs.Typed.{TypedCommand, Nothing, Quits, Refused, Prints, Adds, Closes, Merges, Names, Changes as TypedChanges, Sets, Unsets, Switches, Saves}
+use Rattle.wc_core.specs.Typed.{TypedCommand, Nothing, Quits, Refused, Others, Prints, Adds, Closes, Merges, Names, Changes as TypedChanges, Sets, Unsets, Switches, Saves}
 use Rattle.wc_core.specs.Resolved.{Effect, Stays, Ends as ResolvedEnds, Tells, Asks, SetsOption, UnsetsOption, SavesOptions, switched, buffer_meant, of_meant, of_named, change_of, line_spec, effect_of, refusal_text, told_refusal}
 use Rattle.wc_core.specs.Inputs.{MakesChange, RefusesChange, push_before, AnswersRequestOf}
 use Rattle.wc_core.specs.Limits.{client_limit}
 use Rattle.wc_core.specs.State.{State, Act, Stepped}
 use Rattle.wc_core.specs.Step.{client_link, no_step, then_does, push_step, reply_step, sends, tell_all_step, change_step, change_step_if, refusal_step, ask_step_if, ask_step, effect_step, typed_step, is_quit, leave_step, loss_step, arrival_step, outcome_step, answer_step, request_step, line_step}
-use Rattle.wc_board.specs.Connections.{connection_link, is_open, is_open_at, unsent_on, leaving_on, left_if, left_at}
+use Rattle.wc_board.specs.Connections.{connection_link, is_open, is_open_at, leaving_on, left_if, left_at}
 use Rattle.wc_core.specs.Served.{clients_of, state_of, WereTold, close_of, Distinct, LeavesBy, FollowsUnlessStarved, Does, AdmitsUnlessStarved, RanOutOfMemory, OutcomeUtf8}
 use Rattle.wc_board.specs.Served.{StaysOrStarves, told_connection, ConnectionsServed, ConnectionsKept}
 use Rattle.wc_board.specs.Answered.{is_nicklist, AnsweredIf, AnsweredAt}
@@ -46,7 +46,9 @@ use Rattle.wc_board.specs.Told.{Told, told_of, AreTold, AreTouched}
 use Rattle.wc_board.proofs.TellLaw.{change_keeps_told}
 use Rattle.wc_buffers.specs.Kept.{AreBuffers}
 use Rattle.wc_core.proofs.CloseLemmas.{reply-later, lost-starves, pushes-closes, answer-closes-same}
-use Rattle.wc_core.proofs.DidLemmas.{ClosesLater, or-true, leaves-none, Follows-stays, KeepsClients-refl, KeepsClients-trans, KeepsClients-connections, saves-as, KeepsSaved-trans, FollowsUnlessStarved-exact, Does-stays, Does-starved, FollowsUnlessStarved-then}
+use Rattle.wc_servers.specs.Seats.{used_up}
+use Rattle.wc_core.proofs.ComeLemmas.{ServersKeep-refl}
+use Rattle.wc_core.proofs.DidLemmas.{servers-same, ClosesLater, leaves-none, Follows-stays, KeepsClients-refl, KeepsClients-trans, KeepsClients-connections, saves-as, KeepsSaved-trans, FollowsUnlessStarved-exact, Does-stays, Does-starved, FollowsUnlessStarved-then}
 use Rattle.wc_core.proofs.ConnectionLemmas.{open-length, clients-push, links-push, unsent-push, leaving-push, kept-push, client-open, client-missing, client-leaving}
 use Rattle.wc_board.proofs.ConnectionLemmas.{ConnectionsKept-causes}
 use Rattle.wc_board.proofs.EventLemmas.{served_map, served_kept}
@@ -61,7 +63,7 @@ pub starves-only : (old new : CoreView) → new ≡ record old { starved = min (
 starves-only old new e rises =
     let count : new.starved ≡ min (old.starved + 1) (2 ^ 64 - 1) = ap (λ (c : CoreView). c.starved) e in
     record {
-      keeps = KeepsClients-connections old new (ap (λ (c : CoreView). c.connections) e) rises (saves-as old new (record old { starved = min (old.starved + 1) (2 ^ 64 - 1) }) e refl refl);
+      keeps = KeepsClients-connections old new (ap (λ (c : CoreView). c.connections) e) rises (saves-as old new (record old { starved = min (old.starved + 1) (2 ^ 64 - 1) }) e refl refl) (servers-same old new (ap (λ (c : CoreView). c.servers) e));
       causes = λ distinct j. inl (ap (λ (c : CoreView). leaving_on j c.connections) e);
       counted = λ below. omega arith;
     }
@@ -77,7 +79,7 @@ done-starved old mid new step done e rises = λ told.
     let count : new.starved ≡ min (mid.starved + 1) (2 ^ 64 - 1) = ap (λ (c : CoreView). c.starved) e in
     let P : ℕ → List Connection → Type 0 = λ j connections. LeavesBy (leaving_on j old.connections) (close_of j (step (state_of old told)).acts) (leaving_on j connections) in
     record {
-      keeps = KeepsClients-trans old mid new f.keeps (KeepsClients-connections mid new connections rises (saves-as mid new (record mid { starved = min (mid.starved + 1) (2 ^ 64 - 1) }) e refl refl));
+      keeps = KeepsClients-trans old mid new f.keeps (KeepsClients-connections mid new connections rises (saves-as mid new (record mid { starved = min (mid.starved + 1) (2 ^ 64 - 1) }) e refl refl) (servers-same mid new (ap (λ (c : CoreView). c.servers) e)));
       causes = λ distinct j. subst (P j) (sym connections) (f.causes distinct j);
       does = λ same below distinct were. (let more = f.keeps.rises in absurd (omega arith));
     }
@@ -91,7 +93,7 @@ told-all told told' old world pending n new e were =
     let P : CoreView → Type 0 = λ c. FollowsUnlessStarved told old c step in
     subst P (sym e)
     (FollowsUnlessStarved-exact told old (told_to_all old world pending n) step
-    (KeepsClients-told old (told_to_all old world pending n) (served_kept world n old.connections (map (told_connection world n) old.connections) (served_map n.kind n.buffer.0 (told_connection world n) old.connections)) (omega arith) (inl (refl, refl)))
+    (KeepsClients-told old (told_to_all old world pending n) (served_kept world n old.connections (map (told_connection world n) old.connections) (served_map n.kind n.buffer.0 (told_connection world n) old.connections)) (omega arith) (inl (refl, refl)) (ServersKeep-refl old.servers))
     (λ distinct. told-left told told' old world n) (λ distinct before. Follows-told told told' old world pending n distinct (were before)))
 
 -- the board made a change, and told it to all whom its notice is for
@@ -130,7 +132,7 @@ changes-some old mid new change n service e served counts rises =
     let P : List Connection → Type 0 = λ connections. ConnectionsKept old.connections connections in
     let now : ConnectionsKept old.connections new.connections = subst P (sym (ap (λ (c : CoreView). c.connections) counts)) kept in
     inr (record {
-      keeps = KeepsClients-told old new now (omega (arith, same, rises)) (KeepsSaved-trans old mid new (saves-as old mid (record old { world = mid.world; pending = mid.pending; connections = mid.connections }) e refl refl) (saves-as mid new (record mid { starved = min (mid.starved + 1) (2 ^ 64 - 1) }) counts refl refl));
+      keeps = KeepsClients-told old new now (omega (arith, same, rises)) (KeepsSaved-trans old mid new (saves-as old mid (record old { world = mid.world; pending = mid.pending; connections = mid.connections }) e refl refl) (saves-as mid new (record mid { starved = min (mid.starved + 1) (2 ^ 64 - 1) }) counts refl refl)) (servers-same old new (ap (λ (c : CoreView). c.servers) counts ∙ ap (λ (c : CoreView). c.servers) e));
       causes = λ distinct j. ConnectionsKept-causes j old.connections new.connections now;
       counted = λ below. omega arith;
     })
@@ -184,13 +186,6 @@ does-resolved old new buffer typed r e done = λ told.
     let P : Effect → Type 0 = λ r. FollowsUnlessStarved told old new (effect_step (state_of old told) r) in
     subst P e (done told)
 
-pub quits-done : (old : CoreView) → Does old (record old { quits = true }) (λ state. effect_step state ResolvedEnds)
-quits-done old = λ told.
-    let new : CoreView = record old { quits = true } in
-    let step = effect_step (state_of old told) ResolvedEnds in
-    FollowsUnlessStarved-exact told old new step (KeepsClients-connections old new refl (omega arith) (inl (refl, refl))) (λ distinct. leaves-none old step (λ j. refl))
-    (λ distinct were. record { means = record { same = refl; told = were }; bytes = λ j. sym (append-nil (unsent_on j old.connections)); leaving = leaves-none old step (λ j. refl); quits = sym (or-true old.quits) })
-
 -- whether the run is to end
 abbrev quit_of : Effect → Bool
 quit_of Stays = false
@@ -218,6 +213,7 @@ unfolding effect_of
 quit_of-resolved world moment buffer Nothing = refl
 quit_of-resolved world moment buffer Quits = refl
 quit_of-resolved world moment buffer (Refused text) = refl
+quit_of-resolved world moment buffer (Others text) = refl
 quit_of-resolved world moment buffer (Prints name tags prefix message) = quit_of-named world.groups buffer (λ b. change_of b (what.Print (line_spec moment tags prefix message))) name
 quit_of-resolved world moment buffer (Adds name) = refl
 quit_of-resolved world moment buffer (Closes name) = quit_of-named world.groups buffer (λ b. change_of b what.Close) name
@@ -255,7 +251,7 @@ starve-at old mid new k done same e rises =
           let P : List Connection → Type 0 = λ connections. StaysOrStarves (leaving_on j old.connections) (leaving_on j connections) in
           subst P (sym (ap (λ (c : CoreView). c.connections) e))
           (lost-starves j k state (at_key client_link k (clients_of old.connections)) (leaving_on j old.connections) (leaving_on j mid.connections) (lost.causes distinct j));
-      keeps = KeepsClients-trans old mid new lost.keeps (KeepsClients-connections mid new (ap (λ (c : CoreView). c.connections) e) rises (saves-as mid new (record mid { starved = min (mid.starved + 1) (2 ^ 64 - 1) }) e refl refl));
+      keeps = KeepsClients-trans old mid new lost.keeps (KeepsClients-connections mid new (ap (λ (c : CoreView). c.connections) e) rises (saves-as mid new (record mid { starved = min (mid.starved + 1) (2 ^ 64 - 1) }) e refl refl) (servers-same mid new (ap (λ (c : CoreView). c.servers) e)));
       counted = λ below. (let count : new.starved ≡ min (mid.starved + 1) (2 ^ 64 - 1) = ap (λ (c : CoreView). c.starved) e in omega (arith, count, same, below));
     }
 
@@ -447,31 +443,37 @@ ask-done old mid new k request result is utf8 done starved = by (at_key connecti
 
 -- ---- arrivals
 
-pub came-surplus : (told : Told) (old : CoreView) (link : LinkId) (nonce : List ℕ) → client_limit old.options ≤ length (filter (λ connection. is_open connection) old.connections) → AdmitsUnlessStarved told link.0 old old (Some Surplus) (arrival_step (state_of old told) link.0 nonce)
+-- link numbers up to that of an arrival are used
+abbrev pub used_core : ℕ → CoreView → CoreView
+used_core link old = record old { servers = used_up link old.servers }
+
+pub came-surplus : (told : Told) (old : CoreView) (link : LinkId) (nonce : List ℕ) → client_limit old.options ≤ length (filter (λ connection. is_open connection) old.connections) → AdmitsUnlessStarved told link.0 old (used_core link.0 old) (Some Surplus) (arrival_step (state_of old told) link.0 nonce)
 came-surplus told old link nonce full =
     let same = open-length old.connections in
     let test : nat_lt (length (clients_of old.connections)) (client_limit old.options) ≡ false = grind (arith, nat_tests) in
     record {
       rises = omega arith;
       connections = refl;
+      servers = refl;
       kept = λ j some. refl;
       cause = rw test (inl refl);
       comes = λ stay below were. rw test (record { means = record { same = refl; told = were }; bytes = λ j. refl; leaving = λ j. refl; quits = refl; acts = refl });
     }
 
-pub came-starved : (told : Told) (old new : CoreView) (link : LinkId) (nonce : List ℕ) → new ≡ record old { starved = min (old.starved + 1) (2 ^ 64 - 1) } → old.starved ≤ new.starved → AdmitsUnlessStarved told link.0 old new (Some NoMemory) (arrival_step (state_of old told) link.0 nonce)
+pub came-starved : (told : Told) (old new : CoreView) (link : LinkId) (nonce : List ℕ) → new ≡ record (used_core link.0 old) { starved = min (old.starved + 1) (2 ^ 64 - 1) } → old.starved ≤ new.starved → AdmitsUnlessStarved told link.0 old new (Some NoMemory) (arrival_step (state_of old told) link.0 nonce)
 came-starved told old new link nonce e rises =
     let count : new.starved ≡ min (old.starved + 1) (2 ^ 64 - 1) = ap (λ (c : CoreView). c.starved) e in
     record {
       rises = rises;
       connections = ap (λ (c : CoreView). c.connections) e;
+      servers = ap (λ (c : CoreView). c.servers) e;
       kept = λ j some. ap (λ (c : CoreView). at_key connection_link j c.connections) e;
       cause = inr refl;
       comes = λ same below were. absurd (omega arith);
     }
 
 pub came : (told : Told) (old : CoreView) (link : LinkId) (nonce : List ℕ) → length (filter (λ connection. is_open connection) old.connections) < client_limit old.options
-    → AdmitsUnlessStarved told link.0 old (record old { connections = old.connections ++ record { session = new_session old.options link nonce; leaving = None } ∷ [] }) None (arrival_step (state_of old told) link.0 nonce)
+    → AdmitsUnlessStarved told link.0 old (record (used_core link.0 old) { connections = old.connections ++ record { session = new_session old.options link nonce; leaving = None } ∷ [] }) None (arrival_step (state_of old told) link.0 nonce)
 came told old link nonce few =
     let same = open-length old.connections in
     let connection : Connection = record { session = new_session old.options link nonce; leaving = None } in
@@ -479,6 +481,7 @@ came told old link nonce few =
     record {
       rises = omega arith;
       connections = links-push old.connections connection;
+      servers = refl;
       kept = λ j some. kept-push j old.connections connection some;
       cause = tt;
       comes = λ stay below were. rw test (record {

@@ -6,10 +6,14 @@ use Rattle.wc_text.specs.declared.names.Cause.TheVariants.{NoMemory}
 use Rattle.wc_outside.specs.Keyed.{at_key}
 use Rattle.wc_board.specs.declared.connection.Connection.{Connection}
 use Rattle.wc_core.specs.CoreView.{CoreView}
+use Rattle.wc_servers.specs.Outs.{Out, ServersFollow}
+use Rattle.wc_servers.proofs.OutLemmas.{ServersFollow-refl, ServersFollow-trans}
+use Rattle.wc_core.specs.ServersKept.{LeaveInOrder, ServersKeep}
+use Rattle.wc_core.proofs.ComeLemmas.{ServersKeep-refl, ServersKeep-trans, LeaveInOrder-refl, LeaveInOrder-trans}
 use Rattle.wc_core.specs.State.{State, Act, Stepped, is_end, has_end}
 use Rattle.wc_core.specs.Step.{no_step, then_does}
 use Rattle.wc_board.specs.Connections.{connection_link, unsent_on, leaving_in, leaving_on}
-use Rattle.wc_core.specs.Served.{links_of, state_of, WereTold, sent_by, sent_to, or_else, close_by, close_of, Distinct, Follows, LeavesBy, KeepsSaved, KeepsClients, FollowsUnlessStarved, Does, RanOutOfMemory}
+use Rattle.wc_core.specs.Served.{links_of, state_of, WereTold, sent_by, sent_to, or_else, close_by, close_of, outs_by, outs_of, Distinct, Follows, LeavesBy, KeepsSaved, KeepsClients, FollowsUnlessStarved, Does, RanOutOfMemory, ChangesBuffers, ChangesServers}
 use Rattle.wc_board.specs.Served.{StaysOrStarves}
 use Rattle.wc_board.specs.Told.{Told}
 
@@ -45,13 +49,31 @@ pub has_end-append : (a b : List Act) → has_end (a ++ b) ≡ (has_end a || has
 has_end-append [] b = refl
 has_end-append (x ∷ a) b = ap (λ t. is_end x || t) (has_end-append a b) ∙ sym (or-assoc (is_end x) (has_end a) (has_end b))
 
+pub outs_of-append : (a b : List Act) → outs_of (a ++ b) ≡ outs_of a ++ outs_of b
+outs_of-append [] b = refl
+outs_of-append (x ∷ a) b = ap (λ t. outs_by x ++ t) (outs_of-append a b) ∙ sym (append_assoc (outs_by x) (outs_of a) (outs_of b))
+
+-- servers stay as they are
+pub servers-same : (a b : CoreView) → b.servers ≡ a.servers → ServersKeep a.servers b.servers
+servers-same a b e = subst (ServersKeep a.servers) (sym e) (ServersKeep-refl a.servers)
+
+pub no-outs : (a b : CoreView) (acts : List Act) → b.servers ≡ a.servers → outs_of acts ≡ [] → ServersFollow a.servers b.servers (outs_of acts)
+no-outs a b acts e none =
+    let P : List Out → Type 0 = λ outs. ServersFollow a.servers b.servers outs in
+    subst P (sym none) (subst (λ servers. ServersFollow a.servers servers []) (sym e) (ServersFollow-refl a.servers))
+
+pub no-order : (a b : CoreView) (acts : List Act) → b.servers ≡ a.servers → outs_of acts ≡ [] → LeaveInOrder a.servers b.servers (outs_of acts)
+no-order a b acts e none =
+    let P : List Out → Type 0 = λ outs. LeaveInOrder a.servers b.servers outs in
+    subst P (sym none) (subst (λ servers. LeaveInOrder a.servers servers []) (sym e) (LeaveInOrder-refl a.servers))
+
 -- nothing is done
 pub Follows-stays : (told : Told) (a : CoreView) → WereTold a told → Follows a a (no_step (state_of a told))
-Follows-stays told a were = record { means = record { same = refl; told = were }; bytes = λ j. sym (append-nil (unsent_on j a.connections)); leaving = λ j. sym (or_else-none (leaving_on j a.connections)); quits = sym (or-false a.quits) }
+Follows-stays told a were = record { means = record { same = refl; told = were }; bytes = λ j. sym (append-nil (unsent_on j a.connections)); leaving = λ j. sym (or_else-none (leaving_on j a.connections)); quits = sym (or-false a.quits); servers = ServersFollow-refl a.servers; parts = LeaveInOrder-refl a.servers }
 
 -- one step after another
-pub Follows-then : (a b c : CoreView) (first : Stepped) (next : State → Stepped) → Follows a b first → Follows b c (next (state_of b first.state.told)) → Follows a c (then_does first next)
-Follows-then a b c first next f g =
+pub Follows-then : (a b c : CoreView) (first : Stepped) (next : State → Stepped) → ServersKeep a.servers b.servers → Follows a b first → Follows b c (next (state_of b first.state.told)) → Follows a c (then_does first next)
+Follows-then a b c first next come f g =
     let P : State → Type 0 = λ s. Follows b c (next s) in
     let h : Follows b c (next first.state) = subst P (sym f.means.same) g in
     let acts = (next first.state).acts in
@@ -60,6 +82,8 @@ Follows-then a b c first next f g =
       bytes = λ j. h.bytes j ∙ ap (λ t. t ++ sent_to j acts) (f.bytes j) ∙ append_assoc (unsent_on j a.connections) (sent_to j first.acts) (sent_to j acts) ∙ ap (λ t. unsent_on j a.connections ++ t) (sym (sent_to-append j first.acts acts));
       leaving = λ j. h.leaving j ∙ ap (λ o. or_else o (close_of j acts)) (f.leaving j) ∙ or_else-assoc (leaving_on j a.connections) (close_of j first.acts) (close_of j acts) ∙ ap (λ o. or_else (leaving_on j a.connections) o) (sym (close_of-append j first.acts acts));
       quits = h.quits ∙ ap (λ t. t || has_end acts) f.quits ∙ or-assoc a.quits (has_end first.acts) (has_end acts) ∙ ap (λ t. a.quits || t) (sym (has_end-append first.acts acts));
+      servers = (let Q : List Out → Type 0 = λ outs. ServersFollow a.servers c.servers outs in subst Q (sym (outs_of-append first.acts acts)) (ServersFollow-trans a.servers b.servers c.servers (outs_of first.acts) (outs_of acts) f.servers h.servers));
+      parts = (let Q : List Out → Type 0 = λ outs. LeaveInOrder a.servers c.servers outs in subst Q (sym (outs_of-append first.acts acts)) (LeaveInOrder-trans a.servers b.servers c.servers (outs_of first.acts) (outs_of acts) come f.parts h.parts));
     }
 
 pub KeepsSaved-trans : (a b c : CoreView) → KeepsSaved a b → KeepsSaved b c → KeepsSaved a c
@@ -68,7 +92,7 @@ KeepsSaved-trans a b c (inr f) (inl g) = inr (g.0 ∙ f.0, subst IsSome (sym g.1
 KeepsSaved-trans a b c f (inr g) = inr g
 
 pub KeepsClients-refl : (a : CoreView) → KeepsClients a a
-KeepsClients-refl a = record { rises = omega arith; links = refl; kept = λ j s. refl; saves = inl (refl, refl) }
+KeepsClients-refl a = record { rises = omega arith; links = refl; kept = λ j s. refl; saves = inl (refl, refl); servers = ServersKeep-refl a.servers }
 
 pub KeepsClients-trans : (a b c : CoreView) → KeepsClients a b → KeepsClients b c → KeepsClients a c
 KeepsClients-trans a b c f g = record {
@@ -79,11 +103,12 @@ KeepsClients-trans a b c f g = record {
       let P : Option Connection → Type 0 = λ o. IsSome (leaving_in o) in
       g.kept j (subst P (sym same) s) ∙ same;
   saves = KeepsSaved-trans a b c f.saves g.saves;
+  servers = ServersKeep-trans a.servers b.servers c.servers f.servers g.servers;
 }
 
 -- the same connections, and want of memory may be counted
-pub KeepsClients-connections : (a b : CoreView) → b.connections ≡ a.connections → a.starved ≤ b.starved → KeepsSaved a b → KeepsClients a b
-KeepsClients-connections a b e rises saves = record { rises = rises; links = ap (map connection_link) e; kept = λ j s. ap (at_key connection_link j) e; saves = saves }
+pub KeepsClients-connections : (a b : CoreView) → b.connections ≡ a.connections → a.starved ≤ b.starved → KeepsSaved a b → ServersKeep a.servers b.servers → KeepsClients a b
+KeepsClients-connections a b e rises saves servers = record { rises = rises; links = ap (map connection_link) e; kept = λ j s. ap (at_key connection_link j) e; saves = saves; servers = servers }
 
 -- nothing is saved where this is all that is known of what was saved
 pub saves-as : (a b c : CoreView) → b ≡ c → c.saved ≡ a.saved → c.unwritten ≡ a.unwritten → KeepsSaved a b
@@ -154,7 +179,21 @@ FollowsUnlessStarved-then told a b c first next closes f done = record {
       let half : b.starved ≡ a.starved = omega arith in
       let rest : c.starved ≡ b.starved = omega arith in
       let before = f.does half below distinct were in
-      Follows-then a b c first next before (g.does rest (omega arith) (subst Distinct (sym f.keeps.links) distinct) before.means.told);
+      Follows-then a b c first next f.keeps.servers before (g.does rest (omega arith) (subst Distinct (sym f.keeps.links) distinct) before.means.told);
 } where
   g : FollowsUnlessStarved first.state.told b c (next (state_of b first.state.told))
   g = done first.state.told
+
+-- ---- what stays
+
+pub ChangesBuffers-trans : (a b c : CoreView) → ChangesBuffers a b → ChangesBuffers b c → ChangesBuffers a c
+ChangesBuffers-trans a b c f g = let F : CoreView → CoreView = λ core. record core { world = c.world; pending = c.pending; connections = c.connections; starved = c.starved } in g ∙ ap F f
+
+pub ChangesServers-trans : (a b c : CoreView) → ChangesServers a b → ChangesServers b c → ChangesServers a c
+ChangesServers-trans a b c f g = let F : CoreView → CoreView = λ core. record core { world = c.world; pending = c.pending; connections = c.connections; servers = c.servers; starved = c.starved } in g ∙ ap F f
+
+pub changes-servers : (a b : CoreView) → ChangesBuffers a b → ChangesServers a b
+changes-servers a b e =
+    let F : CoreView → CoreView = λ core. record core { servers = b.servers } in
+    let same : b ≡ F b = refl in
+    same ∙ ap F e

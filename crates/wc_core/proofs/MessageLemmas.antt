@@ -4,7 +4,7 @@ use Rattle.std.specs.List.{flat_map}
 use Rattle.std.proofs.lemmas.List.Concat.{flat_map-append}
 use Rattle.wc_objects.specs.declared.object.WireMessage.{WireMessage}
 use Rattle.wc_session.specs.Sending.{spelling}
-use Rattle.wc_core.specs.State.{Act, Sends, Closes, Quits}
+use Rattle.wc_core.specs.State.{Act, Sends, Closes, Serves, Quits}
 use Rattle.wc_core.specs.Served.{messages_by, messages_to, sent_by, sent_to}
 
 abbrev spelt : List WireMessage → List ℕ
@@ -16,6 +16,7 @@ sent_by-spelt link (Sends to m) = by (eqb to link) where
   by true = sym (append-nil (spelling m))
   by false = refl
 sent_by-spelt link (Closes to cause) = refl
+sent_by-spelt link (Serves out) = refl
 sent_by-spelt link Quits = refl
 
 pub sent_to-messages : (link : ℕ) (acts : List Act) → sent_to link acts ≡ flat_map (λ m. spelling m) (messages_to link acts)

@@ -16,16 +16,18 @@ use Rattle.wc_core.specs.Step.{no_step, refusal_step, set_step, set_step_if, uns
 use Rattle.wc_core.specs.Served.{state_of, FollowsUnlessStarved, Does}
 use Rattle.wc_board.specs.Connections.{unsent_on}
 use Rattle.wc_board.specs.Told.{Told}
+use Rattle.wc_servers.proofs.OutLemmas.{ServersFollow-refl}
+use Rattle.wc_core.proofs.ComeLemmas.{ServersKeep-refl, LeaveInOrder-refl}
 use Rattle.wc_core.proofs.DidLemmas.{or-false, leaves-none, KeepsClients-connections, FollowsUnlessStarved-exact}
 use Rattle.wc_core.proofs.TypedLemmas.{ascii_text}
 
 -- ---- the options after a command
 
-options-are : (told : Told) (old : CoreView) (options : OptionsValue) → FollowsUnlessStarved told old (record old { options = options }) (no_step (record (state_of old told) { options = options }))
+pub options-are : (told : Told) (old : CoreView) (options : OptionsValue) → FollowsUnlessStarved told old (record old { options = options }) (no_step (record (state_of old told) { options = options }))
 options-are told old options =
     let step = no_step (record (state_of old told) { options = options }) in
-    FollowsUnlessStarved-exact told old (record old { options = options }) step (KeepsClients-connections old (record old { options = options }) refl (omega arith) (inl (refl, refl))) (λ distinct. leaves-none old step (λ j. refl))
-    (λ distinct were. record { means = record { same = refl; told = were }; bytes = λ j. sym (append-nil (unsent_on j old.connections)); leaving = leaves-none old step (λ j. refl); quits = sym (or-false old.quits) })
+    FollowsUnlessStarved-exact told old (record old { options = options }) step (KeepsClients-connections old (record old { options = options }) refl (omega arith) (inl (refl, refl)) (ServersKeep-refl old.servers)) (λ distinct. leaves-none old step (λ j. refl))
+    (λ distinct were. record { means = record { same = refl; told = were }; bytes = λ j. sym (append-nil (unsent_on j old.connections)); leaving = leaves-none old step (λ j. refl); quits = sym (or-false old.quits); servers = ServersFollow-refl old.servers; parts = LeaveInOrder-refl old.servers })
 
 -- the text of the options is kept as the one that was saved last
 pub save-done : (old : CoreView) (text : List ℕ) → text ≡ config_text old.options → Does old (record old { saved = Some text; unwritten = true }) save_step
@@ -33,8 +35,8 @@ save-done old text e = λ told.
     let new : CoreView = record old { saved = Some text; unwritten = true } in
     let step = save_step (state_of old told) in
     let of : List ℕ → State = λ text. record (state_of old told) { saved = Some text } in
-    FollowsUnlessStarved-exact told old new step (KeepsClients-connections old new refl (omega arith) (inr (refl, refl))) (λ distinct. leaves-none old step (λ j. refl))
-    (λ distinct were. record { means = record { same = ap of (sym e); told = were }; bytes = λ j. sym (append-nil (unsent_on j old.connections)); leaving = leaves-none old step (λ j. refl); quits = sym (or-false old.quits) })
+    FollowsUnlessStarved-exact told old new step (KeepsClients-connections old new refl (omega arith) (inr (refl, refl)) (ServersKeep-refl old.servers)) (λ distinct. leaves-none old step (λ j. refl))
+    (λ distinct were. record { means = record { same = ap of (sym e); told = were }; bytes = λ j. sym (append-nil (unsent_on j old.connections)); leaving = leaves-none old step (λ j. refl); quits = sym (or-false old.quits); servers = ServersFollow-refl old.servers; parts = LeaveInOrder-refl old.servers })
 
 pub set-done : (old : CoreView) (options : OptionsValue) (name value : List ℕ) → refusal_of old.options name value ≡ None → options ≡ with_value old.options name value → Does old (record old { options = options }) (λ state. set_step state name value)
 set-done old options name value accepted e = λ told.

@@ -28,14 +28,15 @@ use Rattle.wc_board.specs.Told.{Told, told_of, AreTold, AreSameTouches}
 use Rattle.wc_board.proofs.ConnectionLemmas.{ConnectionsKept-links, ConnectionsKept-leaving, ConnectionsKept-causes}
 use Rattle.wc_board.proofs.PushConnections.{sent_client}
 use Rattle.wc_board.proofs.TellLaw.{rows_told}
+use Rattle.wc_servers.specs.Seats.{no_servers, open_of}
 use Rattle.wc_core.specs.CoreView.{CoreView}
 use Rattle.wc_core.specs.Events.{Tick}
 use Rattle.wc_core.specs.State.{State, Stepped, first_state, has_end}
 use Rattle.wc_core.specs.Step.{step, client_link, pushed_to, push_step, pushes_of, push_at}
-use Rattle.wc_core.specs.Served.{links_of, clients_of, state_of, WereTold, Means, or_else, Distinct, Follows, KeepsClients, Does}
+use Rattle.wc_core.specs.Served.{links_of, clients_of, state_of, WereTold, Means, or_else, outs_of, Distinct, Follows, KeepsClients, Does}
 use Rattle.wc_core.proofs.CloseLemmas.{pushes-closes}
-use Rattle.wc_core.proofs.ConnectionLemmas.{end-sends}
-use Rattle.wc_core.proofs.DidLemmas.{or_else-none, or-false, has_end-append, saves-as}
+use Rattle.wc_core.proofs.ConnectionLemmas.{end-sends, outs-sends}
+use Rattle.wc_core.proofs.DidLemmas.{or_else-none, or-false, has_end-append, outs_of-append, no-outs, no-order, servers-same, saves-as}
 use Rattle.wc_core.proofs.PushBytes.{pushes-sent, pushed-clients}
 
 -- ---- the core at first
@@ -59,7 +60,7 @@ first_held : (limit : ℕ) → AreHeld (first_world limit)
 first_held limit b = subst IsRows (sym (first_rows limit b)) no_rows_held
 
 pub first-means : (options : OptionsValue) (limit : ℕ) (commands : List (List ℕ)) (starved : ℕ) (quits : Bool)
-    → Means (record { options = options; world = first_world limit; pending = []; connections = []; moment = 0; commands = commands; saved = None; unwritten = false; starved = starved; quits = quits }) (first_state options limit commands)
+    → Means (record { options = options; world = first_world limit; pending = []; connections = []; moment = 0; commands = commands; saved = None; unwritten = false; servers = no_servers; connects = true; starved = starved; quits = quits }) (first_state options limit commands)
 first-means options limit commands starved quits = record { same = refl; told = rows_told (first_world limit) [] (first_held limit) (λ b. refl) }
 
 -- ---- what is kept of touches
@@ -81,11 +82,11 @@ Does-over old mid new step e same done =
     over done = λ told.
         let f = done told in
         record {
-          keeps = record { rises = f.keeps.rises; links = f.keeps.links; kept = f.keeps.kept; saves = f.keeps.saves };
+          keeps = record { rises = f.keeps.rises; links = f.keeps.links; kept = f.keeps.kept; saves = f.keeps.saves; servers = f.keeps.servers };
           causes = f.causes;
           does = λ stays below distinct were.
               let g = f.does stays below distinct (same-told old mid.pending told same were) in
-              record { means = g.means; bytes = g.bytes; leaving = g.leaving; quits = g.quits };
+              record { means = g.means; bytes = g.bytes; leaving = g.leaving; quits = g.quits; servers = g.servers; parts = g.parts };
         }
 
 -- ---- pushes
@@ -104,6 +105,21 @@ each-ends state (buffer ∷ buffers) =
 
 pub pushes-end : (state : State) → has_end (push_step state).acts ≡ false
 pushes-end state = each-ends state (order state.world.groups)
+
+pushed-outs : (buffer : Handle) (push : Push) (clients : List Client) → outs_of (flat_map (pushed_to buffer push) clients) ≡ []
+pushed-outs buffer push [] = refl
+pushed-outs buffer push (client ∷ clients) =
+    outs_of-append (pushed_to buffer push client) (flat_map (pushed_to buffer push) clients)
+    ∙ ap (λ t. t ++ outs_of (flat_map (pushed_to buffer push) clients)) (outs-sends (client_link client) (push_told buffer push client)) ∙ pushed-outs buffer push clients
+
+each-outs : (state : State) (buffers : List ℕ) → outs_of (flat_map (pushes_of state) buffers) ≡ []
+each-outs state [] = refl
+each-outs state (buffer ∷ buffers) =
+    outs_of-append (pushes_of state buffer) (flat_map (pushes_of state) buffers)
+    ∙ ap (λ t. t ++ outs_of (flat_map (pushes_of state) buffers)) (pushed-outs (record { 0 = buffer }) (push_at state buffer) state.clients) ∙ each-outs state buffers
+
+pushes-outs : (state : State) → outs_of (push_step state).acts ≡ []
+pushes-outs state = each-outs state (order state.world.groups)
 
 sent_leaving : (messages : List WireMessage) (connection : Connection) → (sent_connection messages connection).leaving ≡ connection.leaving
 sent_leaving messages connection = by (is_open connection) where
@@ -141,6 +157,7 @@ pushed_keeps old new is = record {
   links = ConnectionsKept-links old.connections new.connections is.kept;
   kept = λ j some. ConnectionsKept-leaving j old.connections new.connections is.kept some;
   saves = saves-as old new (record old { pending = new.pending; connections = new.connections; starved = new.starved }) is.stays refl refl;
+  servers = servers-same old new (ap (λ (c : CoreView). c.servers) is.stays);
 }
 
 pub push-done : (old new : CoreView) → IsPushedCore old new → Does old new push_step
@@ -159,20 +176,22 @@ push-done old new is = λ told. record {
   by told same below distinct were =
       let state = state_of old told in
       let pushed = is.all below same (told_of told) were in
-      let of : List Client → State = λ clients. record { options = old.options; clients = clients; world = old.world; told = old.world.nicks; moment = old.moment; commands = old.commands; saved = old.saved } in
+      let of : List Client → State = λ clients. record { options = old.options; clients = clients; world = old.world; told = old.world.nicks; moment = old.moment; commands = old.commands; saved = old.saved; servers = open_of old.servers.seats; used = old.servers.used; connects = old.connects } in
       let P : CoreView → Type 0 = λ c. Follows old c (push_step state) in
       subst P (sym is.stays) (record {
         means = record { same = ap of (sym (ap clients_of pushed ∙ pushed-clients old.world (told_of told) (order old.world.groups) old.connections)); told = rows };
         bytes = λ j. pushes-sent j state old.world old.connections new.connections refl refl distinct pushed;
         leaving = λ j. ap (leaving_on j) pushed ∙ pushed_leaving j old.world (told_of told) (order old.world.groups) old.connections ∙ sym (ap (or_else (leaving_on j old.connections)) (pushes-closes j state) ∙ or_else-none (leaving_on j old.connections));
         quits = sym (ap (λ t. old.quits || t) (pushes-end state) ∙ or-false old.quits);
+        servers = no-outs old next (push_step state).acts refl (pushes-outs state);
+        parts = no-order old next (push_step state).acts refl (pushes-outs state);
       })
 
 pub tick-done : (old new : CoreView) (moment : ℕ) → Does (record old { moment = moment }) new push_step → Does old new (λ state. step state (Tick moment))
 tick-done old new moment done = λ told.
     let f = done told in
     record {
-      keeps = record { rises = f.keeps.rises; links = f.keeps.links; kept = f.keeps.kept; saves = f.keeps.saves };
+      keeps = record { rises = f.keeps.rises; links = f.keeps.links; kept = f.keeps.kept; saves = f.keeps.saves; servers = f.keeps.servers };
       causes = f.causes;
-      does = λ same below distinct were. (let g = f.does same below distinct were in record { means = g.means; bytes = g.bytes; leaving = g.leaving; quits = g.quits });
+      does = λ same below distinct were. (let g = f.does same below distinct were in record { means = g.means; bytes = g.bytes; leaving = g.leaving; quits = g.quits; servers = g.servers; parts = g.parts });
     }

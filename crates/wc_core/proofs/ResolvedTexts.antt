@@ -21,12 +21,10 @@ use Rattle.wc_model.specs.declared.change.What.TheVariants as what
 use Rattle.wc_model.specs.declared.refused.ChangeRefused.{ChangeRefused}
 use Rattle.wc_model.specs.declared.refused.ChangeRefused.TheVariants as refused
 use Rattle.wc_model.specs.World.{World, last_handle}
-use Rattle.wc_model.specs.declared.notice.Notice.{Notice}
-use Rattle.wc_model.specs.Notices.{Accepted, about, told_groups, name_in}
 use Rattle.wc_model.specs.Touches.{touched_key}
-use Rattle.wc_model.specs.Apply.{after, or_else, of_buffers, refusal_of_handles, is_held, no_line, row_of, refusal_of, refusal}
+use Rattle.wc_model.specs.Apply.{or_else, of_buffers, refusal_of_handles, is_held, no_line, row_of, refusal_of, refusal}
 use Rattle.wc_world.specs.Texts.{IsChangeText}
-use Rattle.wc_core.specs.Typed.{TypedCommand, Nothing, Quits, Refused, Prints, Adds, Closes, Merges, Names, Changes, Sets, Unsets, Switches, Saves, typed_line}
+use Rattle.wc_core.specs.Typed.{TypedCommand, Nothing, Quits, Refused, Others, Prints, Adds, Closes, Merges, Names, Changes, Sets, Unsets, Switches, Saves, typed_line}
 use Rattle.wc_core.specs.Resolved.{Effect, Stays, Ends, Tells, Asks, SetsOption, UnsetsOption, SavesOptions, switched, buffer_meant, no_such_buffer, of_meant, of_named, change_of, line_spec, core_spec, plugin_in, rename_of, effect_of, buffer_text, refusal_text, told_refusal}
 use Rattle.wc_core.specs.Texts.{WhatUtf8}
 use Rattle.wc_core.proofs.TypedLemmas.{ascii_text, TypedUtf8, typed_utf8}
@@ -72,6 +70,7 @@ unfolding effect_of
 resolved-utf8 world moment buffer Nothing are utf8 = tt
 resolved-utf8 world moment buffer Quits are utf8 = tt
 resolved-utf8 world moment buffer (Refused text) are utf8 = utf8
+resolved-utf8 world moment buffer (Others text) are utf8 = utf8
 resolved-utf8 world moment buffer (Prints name tags prefix message) are utf8 =
     named_text world.groups buffer (λ b. change_of b (what.Print (line_spec moment tags prefix message))) (λ b. record { tags = utf8.tags; prefix = utf8.prefix; message = utf8.message }) name
 resolved-utf8 world moment buffer (Adds name) are utf8 = added_text name utf8

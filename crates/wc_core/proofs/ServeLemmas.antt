@@ -25,14 +25,17 @@ use Rattle.wc_core.specs.Typed.{typed_line}
 use Rattle.wc_core.specs.TypedSeen.{lines_left}
 use Rattle.wc_core.specs.State.{State, Stepped}
 use Rattle.wc_core.specs.Inputs.{GoesOn, Stops}
-use Rattle.wc_core.specs.Step.{client_link, sends, no_step, then_does, tell_all_step, typed_step, is_quit, lines_step, leave_step}
+use Rattle.wc_core.specs.Step.{client_link, sends, no_step, then_does, tell_all_step, input_step, is_quit, lines_step, leave_step}
 use Rattle.wc_board.specs.Connections.{connection_link, is_open, unsent_in, unsent_on, leaving_in, leaving_on}
 use Rattle.wc_core.specs.Served.{links_of, clients_of, state_of, WereTold, or_else, close_of, LeavesBy, Distinct, Follows, KeepsSaved, KeepsClients, FollowsUnlessStarved, Does}
 use Rattle.wc_board.specs.Served.{StaysOrStarves, told_connection, ConnectionsKept}
 use Rattle.wc_board.specs.Told.{Told}
-use Rattle.wc_core.proofs.DidLemmas.{or_else-none, or-false, Does-stays, FollowsUnlessStarved-then}
-use Rattle.wc_core.proofs.CloseLemmas.{does-closes, typed-later}
-use Rattle.wc_core.proofs.ConnectionLemmas.{sent-sends, close-sends, end-sends, close-told, end-told, told-clients, told-leaving, told-bytes, clients-put, clients-leave}
+use Rattle.wc_servers.proofs.OutLemmas.{ServersFollow-refl}
+use Rattle.wc_core.specs.ServersKept.{ServersKeep}
+use Rattle.wc_core.proofs.ComeLemmas.{ServersKeep-refl, LeaveInOrder-refl}
+use Rattle.wc_core.proofs.DidLemmas.{no-outs, no-order, or_else-none, or-false, Does-stays, FollowsUnlessStarved-then}
+use Rattle.wc_core.proofs.CloseLemmas.{input-closes, input-later}
+use Rattle.wc_core.proofs.ConnectionLemmas.{sent-sends, close-sends, outs-sends, end-sends, close-told, outs-told, end-told, told-clients, told-leaving, told-bytes, clients-put, clients-leave}
 use Rattle.wc_board.proofs.ConnectionLemmas.{ConnectionsKept-links, ConnectionsKept-leaving}
 
 -- ---- a notice that is told
@@ -49,10 +52,12 @@ Follows-told told told' old world pending n distinct were = record {
   bytes = λ j. told-bytes j world n old.connections distinct;
   leaving = told-left told told' old world n;
   quits = sym (ap (λ t. old.quits || t) (end-told world n (clients_of old.connections)) ∙ or-false old.quits);
+  servers = no-outs old (told_to_all old world pending n) (tell_all_step (state_of old told) told' world n).acts refl (outs-told world n (clients_of old.connections));
+  parts = no-order old (told_to_all old world pending n) (tell_all_step (state_of old told) told' world n).acts refl (outs-told world n (clients_of old.connections));
 }
 
-pub KeepsClients-told : (old new : CoreView) → ConnectionsKept old.connections new.connections → old.starved ≤ new.starved → KeepsSaved old new → KeepsClients old new
-KeepsClients-told old new kept rises saves = record { saves = saves; rises = rises; links = ConnectionsKept-links old.connections new.connections kept; kept = λ j some. ConnectionsKept-leaving j old.connections new.connections kept some }
+pub KeepsClients-told : (old new : CoreView) → ConnectionsKept old.connections new.connections → old.starved ≤ new.starved → KeepsSaved old new → ServersKeep old.servers new.servers → KeepsClients old new
+KeepsClients-told old new kept rises saves servers = record { servers = servers; saves = saves; rises = rises; links = ConnectionsKept-links old.connections new.connections kept; kept = λ j some. ConnectionsKept-leaving j old.connections new.connections kept some }
 
 -- ---- a connection that is changed
 
@@ -81,6 +86,7 @@ KeepsClients-put old k s y at sits key = record {
   links = put-links k y old.connections key;
   kept = λ j some. by j (eqb j k) refl some;
   saves = inl (refl, refl);
+  servers = ServersKeep-refl old.servers;
 } where
   by : (j : ℕ) (t : Bool) → eqb j k ≡ t → IsSome (leaving_on j old.connections) → at_key connection_link j (put_at connection_link k y old.connections) ≡ at_key connection_link j old.connections
   by j true e some =
@@ -125,6 +131,8 @@ Follows-reply told old k s session' messages at sits key e were = record {
   bytes = λ j. bytes_by j (eqb k j) refl ∙ ap (λ t. unsent_on j old.connections ++ t) (sym (sent-sends j k messages));
   leaving = λ j. reply-left old k s session' messages j at sits key;
   quits = sym (ap (λ t. old.quits || t) (end-sends k messages) ∙ or-false old.quits);
+  servers = no-outs old (record old { connections = put_at connection_link k (record { session = session'; leaving = None }) old.connections }) (sends k messages) refl (outs-sends k messages);
+  parts = no-order old (record old { connections = put_at connection_link k (record { session = session'; leaving = None }) old.connections }) (sends k messages) refl (outs-sends k messages);
 } where
   y : Connection
   y = record { session = session'; leaving = None }
@@ -158,6 +166,8 @@ Follows-leave told old k s why distinct at sits were = record {
   bytes = λ j. bytes_by j (eqb k j) refl ∙ sym (append-nil (unsent_on j old.connections));
   leaving = λ j. leave-left told old k s why j at sits;
   quits = sym (or-false old.quits);
+  servers = ServersFollow-refl old.servers;
+  parts = LeaveInOrder-refl old.servers;
 } where
   y : Connection
   y = record { session = s.session; leaving = Some why }
@@ -187,9 +197,9 @@ abbrev run_if : Bool → Bool → Stepped → Stepped → Stepped → Stepped
 run_if there quit nothing one all = cond (not there) nothing (cond quit one all)
 
 runs-there : (P : Stepped → Type 0) (a : State) (buffer : Handle) (line : List ℕ) (lines : List (List ℕ)) (quit : Bool) → is_there buffer a.world.groups ≡ true → is_quit (typed_line line) ≡ quit
-    → P (cond quit (typed_step a buffer (typed_line line)) (then_does (typed_step a buffer (typed_line line)) (λ next. lines_step next buffer lines))) → P (lines_step a buffer (line ∷ lines))
+    → P (cond quit (input_step a buffer line) (then_does (input_step a buffer line) (λ next. lines_step next buffer lines))) → P (lines_step a buffer (line ∷ lines))
 runs-there P a buffer line lines quit there goes f =
-    let one = typed_step a buffer (typed_line line) in
+    let one = input_step a buffer line in
     let all = then_does one (λ next. lines_step next buffer lines) in
     let Q : Bool → Type 0 = λ t. P (run_if t (is_quit (typed_line line)) (no_step a) one all) in
     let R : Bool → Type 0 = λ q. P (run_if true q (no_step a) one all) in
@@ -202,18 +212,18 @@ Does-runs a b c buffer line lines there f g = λ told.
     let P : Stepped → Type 0 = λ s. FollowsUnlessStarved told a c s in
     let state = state_of a told in
     runs-there P state buffer line lines false there f.goes
-    (FollowsUnlessStarved-then told a b c (typed_step state buffer (typed_line line)) (λ next. lines_step next buffer lines) (typed-later b state buffer (typed_line line) lines) (f.does told) g)
+    (FollowsUnlessStarved-then told a b c (input_step state buffer line) (λ next. lines_step next buffer lines) (input-later b state buffer line lines) (f.does told) g)
 
 -- the lines after it are skipped where the run is to end, and where memory was refused
-pub stops-quit : (a b : CoreView) (buffer : Handle) (line : List ℕ) → is_quit (typed_line line) ≡ true → Does a b (λ state. typed_step state buffer (typed_line line)) → Stops a b buffer line
+pub stops-quit : (a b : CoreView) (buffer : Handle) (line : List ℕ) → is_quit (typed_line line) ≡ true → Does a b (λ state. input_step state buffer line) → Stops a b buffer line
 stops-quit a b buffer line quit f = λ lines there told.
     let P : Stepped → Type 0 = λ s. FollowsUnlessStarved told a b s in
     runs-there P (state_of a told) buffer line lines true there quit (f told)
 
-pub stops-starved : (a b : CoreView) (buffer : Handle) (line : List ℕ) → b.starved ≢ a.starved → Does a b (λ state. typed_step state buffer (typed_line line)) → Stops a b buffer line
+pub stops-starved : (a b : CoreView) (buffer : Handle) (line : List ℕ) → b.starved ≢ a.starved → Does a b (λ state. input_step state buffer line) → Stops a b buffer line
 stops-starved a b buffer line starved f = λ lines there told.
     let state = state_of a told in
-    FollowsUnlessStarved-cut told a b (typed_step state buffer (typed_line line)) (lines_step state buffer (line ∷ lines)) (λ j. does-closes j state buffer (typed_line line)) starved (f told)
+    FollowsUnlessStarved-cut told a b (input_step state buffer line) (lines_step state buffer (line ∷ lines)) (λ j. input-closes j state buffer line) starved (f told)
 
 left_lines : (left : Option (Bor (List ℕ))) (rest : Bor (List ℕ)) (line : List ℕ) (others : Option (Bor (List ℕ))) → left ≡ Some rest → line ≡ before 10 rest.now → option_copied others ≡ text_after 10 rest.now → line ∷ lines_left others ≡ lines_left left
 left_lines left rest line others e front back = ap (λ l. l ∷ lines_left others) front ∙ lines_left-split rest.now others back ∙ sym (ap lines_left e)
@@ -224,7 +234,7 @@ pub gone_left : (a : CoreView) (buffer : Handle) (left : Option (Bor (List ℕ))
 gone_left a buffer left rest line others e front back there = λ told.
     let state = state_of a told in
     let P : List (List ℕ) → Type 0 = λ lines. FollowsUnlessStarved told a a (lines_step state buffer lines) in
-    let one = typed_step state buffer (typed_line line) in
+    let one = input_step state buffer line in
     let Q : Bool → Type 0 = λ t. FollowsUnlessStarved told a a (run_if t (is_quit (typed_line line)) (no_step state) one (then_does one (λ next. lines_step next buffer (lines_left others)))) in
     subst P (left_lines left rest line others e front back) (subst Q (sym there) (Does-stays a told))
 

@@ -4,15 +4,16 @@ use Rattle.std.specs.Prelude.{map}
 use Rattle.wc_core.specs.CoreView.{CoreView}
 use Rattle.wc_core.specs.Typed.{lines_of_text}
 use Rattle.wc_core.specs.State.{State, Stepped, has_end}
-use Rattle.wc_core.specs.Step.{core_buffer, then_does, lines_step, commands_step}
+use Rattle.wc_core.specs.Step.{core_buffer, then_does, lines_step, commands_step, start_step}
+use Rattle.wc_core.specs.ServerTyped.{connect_all_step}
 use Rattle.wc_board.specs.Connections.{leaving_on}
 use Rattle.wc_board.specs.Served.{StaysOrStarves}
 use Rattle.wc_core.specs.Served.{state_of, or_else, close_of, LeavesBy, Follows, Does}
-use Rattle.wc_core.proofs.CloseLemmas.{then-closes, runs-closes, commands-closes}
-use Rattle.wc_core.proofs.DidLemmas.{or_else-none, ClosesLater, FollowsUnlessStarved-then}
-
-abbrev first_of : State → List ℕ → Stepped
-first_of state command = lines_step state core_buffer (lines_of_text command)
+use Rattle.wc_core.proofs.ChainLemmas.{ClosesNone, Does-then}
+use Rattle.wc_core.proofs.ChangeCloses.{then-closes}
+use Rattle.wc_core.proofs.ServerCloses.{connects_all-closes}
+use Rattle.wc_core.proofs.CloseLemmas.{runs-closes, commands-closes}
+use Rattle.wc_core.proofs.DidLemmas.{or_else-none}
 
 -- a step that closes none, in the place of another one that closes none
 stays-by : (j : ℕ) (a b : CoreView) (s : Stepped) → close_of j s.acts ≡ None → LeavesBy (leaving_on j a.connections) (close_of j s.acts) (leaving_on j b.connections) → StaysOrStarves (leaving_on j a.connections) (leaving_on j b.connections)
@@ -22,55 +23,70 @@ stays-by j a b s none (inr e) = e
 ended : (before after end : Bool) → before ≡ false → after ≡ (before || end) → end ≡ after
 ended before after end going e = sym (e ∙ ap (λ t. t || end) going)
 
--- a command that ran `/quit`
-pub commands-quit : (a b : CoreView) (command : List ℕ) (commands : List (List ℕ)) → a.quits ≡ false → b.quits ≡ true → Does a b (λ state. lines_step state core_buffer (lines_of_text command)) → Does a b (λ state. commands_step state (command ∷ commands))
-commands-quit a b command commands going quit done = λ told.
+-- a step that ran `/quit`, before another one
+pub ends-first : (a b : CoreView) (first next : State → Stepped) → ClosesNone first → a.quits ≡ false → b.quits ≡ true → Does a b first → Does a b (λ state. cond (has_end (first state).acts) (first state) (then_does (first state) next))
+ends-first a b first next none going quit done = λ told.
     let f = done told in
-    let first = first_of (state_of a told) command in
-    let then = then_does first (λ next. commands_step next commands) in
-    let P : Bool → Type 0 = λ t. Follows a b (cond t first then) in
+    let one = first (state_of a told) in
+    let P : Bool → Type 0 = λ t. Follows a b (cond t one (then_does one next)) in
     record {
       keeps = f.keeps;
-      causes = λ distinct j. inr (stays-by j a b first (runs-closes j (state_of a told) core_buffer (lines_of_text command)) (f.causes distinct j));
+      causes = λ distinct j. inr (stays-by j a b one (none j (state_of a told)) (f.causes distinct j));
       does = λ same below distinct were.
           let did = f.does same below distinct were in
-          subst P (sym (ended a.quits b.quits (has_end first.acts) going did.quits ∙ quit)) did;
+          subst P (sym (ended a.quits b.quits (has_end one.acts) going did.quits ∙ quit)) did;
     }
 
--- a command that did not, and those after it
-pub commands-more : (a b c : CoreView) (command : List ℕ) (commands : List (List ℕ)) → a.quits ≡ false → b.quits ≡ false → Does a b (λ state. lines_step state core_buffer (lines_of_text command)) → Does b c (λ state. commands_step state commands)
-    → Does a c (λ state. commands_step state (command ∷ commands))
-commands-more a b c command commands going on done more = λ told.
+-- one that did not, and the other one
+pub goes-on : (a b c : CoreView) (first next : State → Stepped) → ClosesNone first → ClosesNone next → a.quits ≡ false → b.quits ≡ false → Does a b first → Does b c next
+    → Does a c (λ state. cond (has_end (first state).acts) (first state) (then_does (first state) next))
+goes-on a b c first next none none' going on done more = λ told.
     let f = done told in
-    let state = state_of a told in
-    let first = first_of state command in
-    let next : State → Stepped = λ next. commands_step next commands in
-    let then = then_does first next in
-    let closes : ClosesLater b first next = record { first_none = λ j. runs-closes j state core_buffer (lines_of_text command); same = λ j. commands-closes j (state_of b first.state.told) commands ∙ sym (commands-closes j first.state commands) } in
-    let h = FollowsUnlessStarved-then told a b c first next closes f more in
-    let g = more first.state.told in
-    let P : Bool → Type 0 = λ t. Follows a c (cond t first then) in
+    let one = first (state_of a told) in
+    let all = then_does one next in
+    let h = Does-then a b c first next none none' done more told in
+    let g = more one.state.told in
+    let P : Bool → Type 0 = λ t. Follows a c (cond t one all) in
     record {
       keeps = h.keeps;
-      causes = λ distinct j. inr (stays-by j a c then (then-closes j first next (runs-closes j state core_buffer (lines_of_text command)) (commands-closes j first.state commands)) (h.causes distinct j));
+      causes = λ distinct j. inr (stays-by j a c all (then-closes j one next (none j (state_of a told)) (none' j one.state)) (h.causes distinct j));
       does = λ same below distinct were.
           let p = f.keeps.rises in
           let q = g.keeps.rises in
           let half : b.starved ≡ a.starved = omega arith in
           let did = f.does half below distinct were in
-          subst P (sym (ended a.quits b.quits (has_end first.acts) going did.quits ∙ on)) (h.does same below distinct were);
+          subst P (sym (ended a.quits b.quits (has_end one.acts) going did.quits ∙ on)) (h.does same below distinct were);
     }
 
+-- a command that ran `/quit`
+pub commands-quit : (a b : CoreView) (command : List ℕ) (commands : List (List ℕ)) → a.quits ≡ false → b.quits ≡ true → Does a b (λ state. lines_step state core_buffer (lines_of_text command)) → Does a b (λ state. commands_step state (command ∷ commands))
+commands-quit a b command commands going quit done =
+    ends-first a b (λ state. lines_step state core_buffer (lines_of_text command)) (λ next. commands_step next commands) (λ j state. runs-closes j state core_buffer (lines_of_text command)) going quit done
+
+-- a command that did not, and those after it
+pub commands-more : (a b c : CoreView) (command : List ℕ) (commands : List (List ℕ)) → a.quits ≡ false → b.quits ≡ false → Does a b (λ state. lines_step state core_buffer (lines_of_text command)) → Does b c (λ state. commands_step state commands)
+    → Does a c (λ state. commands_step state (command ∷ commands))
+commands-more a b c command commands going on done more =
+    goes-on a b c (λ state. lines_step state core_buffer (lines_of_text command)) (λ next. commands_step next commands) (λ j state. runs-closes j state core_buffer (lines_of_text command)) (λ j state. commands-closes j state commands) going on done more
+
+-- the commands of the start ran `/quit`, or servers are connected after them
+pub starts-quit : (a b : CoreView) (commands : List (List ℕ)) → a.quits ≡ false → b.quits ≡ true → Does a b (λ state. commands_step state commands) → Does a b (λ state. start_step state commands)
+starts-quit a b commands going quit done = ends-first a b (λ state. commands_step state commands) connect_all_step (λ j state. commands-closes j state commands) going quit done
+
+pub starts-more : (a b c : CoreView) (commands : List (List ℕ)) → a.quits ≡ false → b.quits ≡ false → Does a b (λ state. commands_step state commands) → Does b c connect_all_step → Does a c (λ state. start_step state commands)
+starts-more a b c commands going on done more =
+    goes-on a b c (λ state. commands_step state commands) connect_all_step (λ j state. commands-closes j state commands) (λ j state. connects_all-closes j state) going on done more
+
 -- the start sets the moment, and its commands are run as if no `/quit` had been run before
-pub started : (old new : CoreView) (moment : ℕ) → Does (record old { moment = moment; commands = []; quits = false }) new (λ state. commands_step state old.commands) → Does old (record new { quits = new.quits || old.quits }) (λ state. commands_step (record state { moment = moment; commands = [] }) state.commands)
+pub started : (old new : CoreView) (moment : ℕ) → Does (record old { moment = moment; commands = []; quits = false }) new (λ state. start_step state old.commands) → Does old (record new { quits = new.quits || old.quits }) (λ state. start_step (record state { moment = moment; commands = [] }) state.commands)
 started old new moment done = λ told.
     let f = done told in
     record {
-      keeps = record { rises = f.keeps.rises; links = f.keeps.links; kept = f.keeps.kept; saves = f.keeps.saves };
+      keeps = record { rises = f.keeps.rises; links = f.keeps.links; kept = f.keeps.kept; saves = f.keeps.saves; servers = f.keeps.servers };
       causes = f.causes;
       does = λ same below distinct were.
           let g = f.does same below distinct were in
-          record { means = record { same = g.means.same; told = g.means.told }; bytes = g.bytes; leaving = g.leaving; quits = ap (λ t. t || old.quits) g.quits ∙ or-turned _ old.quits };
+          record { means = record { same = g.means.same; told = g.means.told }; bytes = g.bytes; leaving = g.leaving; quits = ap (λ t. t || old.quits) g.quits ∙ or-turned _ old.quits; servers = g.servers; parts = g.parts };
     }
   where
     or-turned : (a b : Bool) → (a || b) ≡ (b || a)
@@ -80,12 +96,12 @@ started old new moment done = λ told.
     or-turned false false = refl
 
 pub started-by : (old mid : CoreView) (commands rest : List (List ℕ)) (quit' quit : Bool) (moment : ℕ) → rest ≡ [] → quit' ≡ false → quit ≡ old.quits → commands ≡ old.commands
-    → Does (record old { moment = moment; commands = rest; quits = quit' }) mid (λ state. commands_step state commands) → Does old (record mid { quits = mid.quits || quit }) (λ state. commands_step (record state { moment = moment; commands = [] }) state.commands)
+    → Does (record old { moment = moment; commands = rest; quits = quit' }) mid (λ state. start_step state commands) → Does old (record mid { quits = mid.quits || quit }) (λ state. start_step (record state { moment = moment; commands = [] }) state.commands)
 started-by old mid commands rest quit' quit moment none going was same done =
-    let P : List (List ℕ) → Type 0 = λ rest. Does (record old { moment = moment; commands = rest; quits = quit' }) mid (λ state. commands_step state commands) in
-    let Q : Bool → Type 0 = λ quits. Does (record old { moment = moment; commands = []; quits = quits }) mid (λ state. commands_step state commands) in
-    let R : List (List ℕ) → Type 0 = λ commands. Does (record old { moment = moment; commands = []; quits = false }) mid (λ state. commands_step state commands) in
-    let S : Bool → Type 0 = λ quit. Does old (record mid { quits = mid.quits || quit }) (λ state. commands_step (record state { moment = moment; commands = [] }) state.commands) in
+    let P : List (List ℕ) → Type 0 = λ rest. Does (record old { moment = moment; commands = rest; quits = quit' }) mid (λ state. start_step state commands) in
+    let Q : Bool → Type 0 = λ quits. Does (record old { moment = moment; commands = []; quits = quits }) mid (λ state. start_step state commands) in
+    let R : List (List ℕ) → Type 0 = λ commands. Does (record old { moment = moment; commands = []; quits = false }) mid (λ state. start_step state commands) in
+    let S : Bool → Type 0 = λ quit. Does old (record mid { quits = mid.quits || quit }) (λ state. start_step (record state { moment = moment; commands = [] }) state.commands) in
     subst S (sym was) (started old mid moment (subst R same (subst Q going (subst P none done))))
 
 abbrev nothing : (X : Type 0) → List X

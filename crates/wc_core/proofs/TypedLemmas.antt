@@ -18,7 +18,8 @@ use Rattle.wc_text.specs.Integer.{is_numeral}
 use Rattle.wc_text.specs.Words.{is_filled}
 use Rattle.wc_model.specs.declared.change.What.TheVariants as what
 use Rattle.wc_core.specs.Texts.{WhatUtf8}
-use Rattle.wc_core.specs.Typed.{TypedCommand, Nothing, Quits, Refused, Prints, Adds, Closes, Merges, Names, Changes, Sets, Unsets, no_text_here, wrong_arguments, unknown_command, print_unless_empty, print_words, tags_of, is_first, second_of, after_second, print_tagged, print_on, print_command, wrong_buffer, one_word, without_words, some_text, moves_to, close_command, starts, set_property, buffer_word, buffer_command, quit_command, set_option, set_command, unset_command, option_command, command, slash_command, typed_line, lines_parted, lines_of_text, Switches, switch_command, input_command, Saves, save_command}
+use Rattle.wc_core.specs.Step.{other_of}
+use Rattle.wc_core.specs.Typed.{TypedCommand, Nothing, Quits, Refused, Others, Prints, Adds, Closes, Merges, Names, Changes, Sets, Unsets, no_text_here, wrong_arguments, unknown_command, print_unless_empty, print_words, tags_of, is_first, second_of, after_second, print_tagged, print_on, print_command, wrong_buffer, one_word, without_words, some_text, moves_to, close_command, starts, set_property, buffer_word, buffer_command, quit_command, set_option, set_command, unset_command, option_command, command, slash_command, typed_line, lines_parted, lines_of_text, Switches, switch_command, input_command, Saves, save_command}
 use Rattle.wc_core.specs.TypedSeen.{lines_left, LeftUtf8}
 
 -- whether each byte is ASCII
@@ -44,6 +45,7 @@ abbrev pub TypedUtf8 : TypedCommand → Type 0
 TypedUtf8 Nothing = Unit {0}
 TypedUtf8 Quits = Unit {0}
 TypedUtf8 (Refused text) = IsUtf8 text
+TypedUtf8 (Others text) = IsUtf8 text
 TypedUtf8 (Prints buffer tags prefix message) = LineUtf8 tags prefix message
 TypedUtf8 (Adds name) = IsUtf8 name
 TypedUtf8 (Closes buffer) = Unit {0}
@@ -274,3 +276,22 @@ others_utf8 text (Some rest) utf8 e = after_text 10 text rest.now (lit< tt) utf8
 -- the lines that are left are those of the text
 pub lines_left-split : (text : List ℕ) (left : Option (Bor (List ℕ))) → option_copied left ≡ text_after 10 text → before 10 text ∷ lines_left left ≡ lines_of_text text
 lines_left-split text left e = ap (λ lines. before 10 text ∷ lines) (lines_left-text_after left ∙ ap lines_after e) ∙ sym (parted_split text)
+
+-- what is told of a line that the core does not know by itself is text
+pub others_text : (typed : TypedCommand) (text : List ℕ) → TypedUtf8 typed → Some text ≡ other_of typed → IsUtf8 text
+others_text (Others told) text utf8 e = subst IsUtf8 (some_text_is told text (sym e)) utf8 where
+  some_text_is : (a b : List ℕ) → Some a ≡ Some b → a ≡ b
+  some_text_is a b e = cc
+others_text Nothing text utf8 e = absurd (cc)
+others_text Quits text utf8 e = absurd (cc)
+others_text (Refused t) text utf8 e = absurd (cc)
+others_text (Prints buffer tags prefix message) text utf8 e = absurd (cc)
+others_text (Adds name) text utf8 e = absurd (cc)
+others_text (Closes buffer) text utf8 e = absurd (cc)
+others_text (Merges buffer) text utf8 e = absurd (cc)
+others_text (Names name) text utf8 e = absurd (cc)
+others_text (Changes w) text utf8 e = absurd (cc)
+others_text (Sets name value) text utf8 e = absurd (cc)
+others_text (Unsets name) text utf8 e = absurd (cc)
+others_text (Switches name) text utf8 e = absurd (cc)
+others_text Saves text utf8 e = absurd (cc)

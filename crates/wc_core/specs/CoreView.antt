@@ -4,6 +4,7 @@ use Rattle.wc_nickdiff.specs.Held.{OfBuffer}
 use Rattle.wc_options.specs.Options.{OptionsValue}
 use Rattle.wc_model.specs.World.{World}
 use Rattle.wc_board.specs.declared.connection.Connection.{Connection}
+use Rattle.wc_servers.specs.Seats.{ServersView}
 
 pub record CoreView : Type 0 where
   pub options : OptionsValue
@@ -19,6 +20,10 @@ pub record CoreView : Type 0 where
   -- the text of the options that was saved last, and whether it is still to be written
   pub saved : Option (List ℕ)
   pub unwritten : Bool
+  -- the servers that have a link, or are to have one
+  pub servers : ServersView
+  -- whether servers are connected by themselves at the start
+  pub connects : Bool
   -- how often memory was refused
   pub starved : ℕ
   -- whether the run is to end

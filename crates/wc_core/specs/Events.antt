@@ -9,6 +9,8 @@ pub data Event : Type 0 where
   Arrives : ℕ → List ℕ → Event
   -- a whole line of a link
   Line : ℕ → List ℕ → Event
+  -- the link of a server stands
+  Stands : ℕ → Event
   -- the bytes of a link came to their end, or the link failed
   Ends : ℕ → Event
   Fails : ℕ → Event

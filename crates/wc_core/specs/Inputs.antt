@@ -1,5 +1,5 @@
 -- How the core runs what is typed.
-use Rattle.std.specs.Prelude.{◌≡◌, ℕ, true, false, ◌⊎◌, ◌&&◌, if◌then◌else◌, List, ◌∷◌, Some, None}
+use Rattle.std.specs.Prelude.{◌≡◌, ℕ, true, false, ◌⊎◌, ◌&&◌, if◌then◌else◌, List, ◌∷◌, Option, Some, None}
 use Rattle.std.specs.Prelude.{IfSome}
 use Rattle.wc_text.specs.declared.names.Handle.{Handle}
 use Rattle.wc_buffers.specs.Calls.{is_there}
@@ -8,7 +8,10 @@ use Rattle.wc_model.specs.declared.refused.ChangeRefused.{ChangeRefused}
 use Rattle.wc_model.specs.Apply.{refusal}
 use Rattle.wc_core.specs.CoreView.{CoreView}
 use Rattle.wc_core.specs.Typed.{typed_line}
-use Rattle.wc_core.specs.Step.{no_step, push_step, change_step, typed_step, is_quit, lines_step}
+use Rattle.wc_core.specs.Step.{no_step, push_step, change_step, input_step, is_quit, lines_step}
+use Rattle.wc_core.specs.ServerSteps.{taken_step}
+use Rattle.wc_ircmsg.specs.declared.message.Message.{Message}
+use Rattle.wc_servers.specs.Seats.{ServerSeat}
 use Rattle.wc_outside.specs.Keyed.{at_key}
 use Rattle.wc_relaycmd.specs.declared.request.Request.{Request}
 use Rattle.wc_session.specs.declared.client.Client.{Client}
@@ -56,10 +59,15 @@ pub record AnswersRequestOf (link : ℕ) (request : Request) (result : Outcome)
       (record { world = new.world; pending = new.pending; connections = new.connections })
       (at_key connection_link link between.connections)
 
+-- a message of the server of a link
+abbrev pub taken_at : State → ℕ → Message → Option ServerSeat → Stepped
+taken_at state link m None = no_step state
+taken_at state link m (Some seat) = taken_step state link seat.server m
+
 -- after a line that is typed into a buffer the others are run
 pub record GoesOn (old new : CoreView) (buffer : Handle) (line : List ℕ) : Type 0 where
   pub goes : is_quit (typed_line line) ≡ false
-  pub does : Does old new (λ state. typed_step state buffer (typed_line line))
+  pub does : Does old new (λ state. input_step state buffer line)
 
 -- the lines after it are skipped
 abbrev pub Stops : CoreView → CoreView → Handle → List ℕ → Type 0

@@ -1,10 +1,15 @@
+pub mod Changing
 pub mod Events
 pub mod Inputs
 pub mod Limits
+pub mod LinksSeen
 pub mod Resolved
 pub mod ResolvedSeen
 pub mod Served
 pub mod CoreView
+pub mod ServersKept
+pub mod ServerSteps
+pub mod ServerTyped
 pub mod State
 pub mod Step
 pub mod Texts

@@ -22,8 +22,8 @@ use Rattle.wc_model.specs.World.{World}
 use Rattle.wc_options.specs.declared.refusal.SetRefused.{SetRefused}
 use Rattle.wc_options.specs.declared.refusal.SetRefused.TheVariants as option
 use Rattle.wc_session.specs.Names.{buffer_named}
-use Rattle.wc_core.specs.Typed.{TypedCommand, Nothing, Quits, Refused, Prints, Adds, Closes, Merges}
-use Rattle.wc_core.specs.Typed.{Names, Changes, Sets, Unsets, Switches, Saves}
+use Rattle.wc_core.specs.Typed.{TypedCommand, Nothing, Quits, Refused, Others, Prints, Adds, Closes}
+use Rattle.wc_core.specs.Typed.{Merges, Names, Changes, Sets, Unsets, Switches, Saves}
 
 pub data Effect : Type 0 where
   Stays : Effect
@@ -118,6 +118,7 @@ unfoldable pub effect_of : World → ℕ → Handle → TypedCommand → Effect
 effect_of world moment buffer Nothing = Stays
 effect_of world moment buffer Quits = Ends
 effect_of world moment buffer (Refused text) = Tells text
+effect_of world moment buffer (Others text) = Tells text
 effect_of world moment buffer (Prints name tags prefix message) =
     of_named world.groups buffer
     (λ b. change_of b (what.Print (line_spec moment tags prefix message))) name

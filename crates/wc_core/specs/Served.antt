@@ -16,7 +16,10 @@ use Rattle.wc_board.specs.declared.connection.Connection.{Connection}
 use Rattle.wc_board.specs.Connections.{connection_link, is_open, unsent_on, leaving_on}
 use Rattle.wc_board.specs.Served.{StaysOrStarves}
 use Rattle.wc_board.specs.Told.{Told, told_of, AreTold}
-use Rattle.wc_core.specs.State.{State, Act, Sends, Closes, Quits, Stepped, has_end}
+use Rattle.wc_servers.specs.Outs.{Out, ServersFollow}
+use Rattle.wc_servers.specs.Seats.{open_of, used_up}
+use Rattle.wc_core.specs.ServersKept.{ServersKeep, LeaveInOrder}
+use Rattle.wc_core.specs.State.{State, Act, Sends, Closes, Serves, Quits, Stepped, has_end}
 
 abbrev pub links_of : CoreView → List ℕ
 links_of core = map connection_link core.connections
@@ -37,6 +40,9 @@ state_of core told = record {
   moment = core.moment;
   commands = core.commands;
   saved = core.saved;
+  servers = open_of core.servers.seats;
+  used = core.servers.used;
+  connects = core.connects;
 }
 
 -- these rows were told, by what was touched since then
@@ -54,6 +60,7 @@ pub record Means (core : CoreView) (state : State) : Type 0 where
 abbrev pub messages_by : ℕ → Act → List WireMessage
 messages_by link (Sends to m) = if to == link then m ∷ [] else []
 messages_by link (Closes to cause) = []
+messages_by link (Serves out) = []
 messages_by link Quits = []
 
 -- the messages for the client of a link
@@ -64,6 +71,7 @@ messages_to link (act ∷ acts) = messages_by link act ++ messages_to link acts
 abbrev pub sent_by : ℕ → Act → List ℕ
 sent_by link (Sends to m) = if to == link then spelling m else []
 sent_by link (Closes to cause) = []
+sent_by link (Serves out) = []
 sent_by link Quits = []
 
 -- the bytes for the client of a link
@@ -78,12 +86,24 @@ or_else (Some cause) other = Some cause
 abbrev pub close_by : ℕ → Act → Option Cause
 close_by link (Sends to m) = None
 close_by link (Closes to cause) = if to == link then Some cause else None
+close_by link (Serves out) = None
 close_by link Quits = None
 
 -- why the client of a link is first told to leave, if it is
 abbrev pub close_of : ℕ → List Act → Option Cause
 close_of link [] = None
 close_of link (act ∷ acts) = or_else (close_by link act) (close_of link acts)
+
+abbrev pub outs_by : Act → List Out
+outs_by (Sends to m) = []
+outs_by (Closes to cause) = []
+outs_by (Serves out) = out ∷ []
+outs_by Quits = []
+
+-- what is to go out for servers
+abbrev pub outs_of : List Act → List Out
+outs_of [] = []
+outs_of (act ∷ acts) = outs_by act ++ outs_of acts
 
 -- ---- what is done
 
@@ -96,8 +116,9 @@ abbrev pub Distinct : List ℕ → Type 0
 Distinct [] = Unit {0}
 Distinct (n ∷ ns) = Absent n ns × Distinct ns
 
--- The core after a step: it means the state that the step comes to, the bytes for each link come
--- after its unsent ones, and the clients that the acts close are leaving.
+-- The core after a step: it means the state that the step comes to, the bytes for each client come
+-- after its unsent ones, the clients that the acts close are leaving, and what goes out for servers
+-- is put where it waits, in order.
 pub record Follows (old new : CoreView) (stepped : Stepped) : Type 0 where
   pub means : Means new stepped.state
   pub bytes : (link : ℕ) → unsent_on link new.connections ≡ unsent_on link old.connections
@@ -105,6 +126,8 @@ pub record Follows (old new : CoreView) (stepped : Stepped) : Type 0 where
   pub leaving : (link : ℕ) → leaving_on link new.connections
       ≡ or_else (leaving_on link old.connections) (close_of link stepped.acts)
   pub quits : new.quits ≡ (old.quits || has_end stepped.acts)
+  pub servers : ServersFollow old.servers new.servers (outs_of stepped.acts)
+  pub parts : LeaveInOrder old.servers new.servers (outs_of stepped.acts)
 
 -- the same, or as the acts close it
 abbrev pub LeavesBy : Option Cause → Option Cause → Option Cause → Type 0
@@ -120,13 +143,34 @@ abbrev pub unwritten_of : CoreView → Option (List ℕ)
 unwritten_of core = if core.unwritten then core.saved else None
 
 -- what holds also where memory was refused: the same links have a client, a client that is leaving
--- stays as it is, and what was saved is not lost
+-- stays as it is, servers come as they were begun and none goes, and what was saved is not lost
 pub record KeepsClients (old new : CoreView) : Type 0 where
   pub rises : old.starved ≤ new.starved
   pub links : links_of new ≡ links_of old
   pub kept : (link : ℕ) → IsSome (leaving_on link old.connections) →
       at_key connection_link link new.connections ≡ at_key connection_link link old.connections
   pub saves : KeepsSaved old new
+  pub servers : ServersKeep old.servers new.servers
+
+-- nothing but the buffers, the touches of their nicklists, clients, and the count of want of memory
+-- becomes another one
+abbrev pub ChangesBuffers : CoreView → CoreView → Type 0
+ChangesBuffers old new = new ≡ record old {
+  world = new.world;
+  pending = new.pending;
+  connections = new.connections;
+  starved = new.starved;
+}
+
+-- nor does anything but these and servers
+abbrev pub ChangesServers : CoreView → CoreView → Type 0
+ChangesServers old new = new ≡ record old {
+  world = new.world;
+  pending = new.pending;
+  connections = new.connections;
+  servers = new.servers;
+  starved = new.starved;
+}
 
 -- The step of the state that the core meant where these rows were told is done, unless some growth
 -- was refused. Who begins to leave does so for the cause that the step's acts give, or for want of
@@ -173,6 +217,7 @@ pub record AdmitsUnlessStarved (told : Told) (link : ℕ) (old new : CoreView)
     (refused : Option Cause) (stepped : Stepped) : Type 0 where
   pub rises : old.starved ≤ new.starved
   pub connections : connections_after old.connections new.connections link refused
+  pub servers : new.servers ≡ used_up link old.servers
   pub kept : (other : ℕ) → IsSome (leaving_on other old.connections) →
       at_key connection_link other new.connections ≡ at_key connection_link other old.connections
   -- it is refused for the cause that the step's acts give, or for want of memory

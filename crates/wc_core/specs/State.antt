@@ -7,6 +7,8 @@ use Rattle.wc_model.specs.World.{World, first_world}
 use Rattle.wc_objects.specs.declared.object.WireMessage.{WireMessage}
 use Rattle.wc_session.specs.declared.client.Client.{Client}
 use Rattle.wc_board.specs.Told.{Told, told_of}
+use Rattle.wc_servers.specs.Outs.{Out}
+use Rattle.wc_servers.specs.Seats.{ServerSeat}
 
 pub record State : Type 0 where
   -- the options and their values
@@ -23,18 +25,27 @@ pub record State : Type 0 where
   pub commands : List (List ℕ)
   -- the text of the options that was saved last, and none before the first time
   pub saved : Option (List ℕ)
+  -- the servers that have a link, or are to have one, in the order in which they were begun
+  pub servers : List ServerSeat
+  -- link numbers up to this one are used
+  pub used : ℕ
+  -- whether servers are connected by themselves at the start
+  pub connects : Bool
 
 -- what the core asks of the loop
 pub data Act : Type 0 where
   -- a message for the client of a link
   Sends : ℕ → WireMessage → Act
   Closes : ℕ → Cause → Act
+  -- what is to go out for servers
+  Serves : Out → Act
   -- the run is to end
   Quits : Act
 
 abbrev pub is_end : Act → Bool
 is_end (Sends to m) = false
 is_end (Closes to cause) = false
+is_end (Serves out) = false
 is_end Quits = true
 
 -- whether the run is to end by these acts
@@ -56,6 +67,9 @@ first_state options limit commands = record {
   moment = 0;
   commands = commands;
   saved = None;
+  servers = [];
+  used = 0;
+  connects = true;
 }
 
 abbrev pub told_at : State → ℕ → List Row

@@ -15,6 +15,8 @@ pub data TypedCommand : Type 0 where
   Quits : TypedCommand
   -- a refusal, which is told on the core buffer
   Refused : List ℕ → TypedCommand
+  -- what the core does not know by itself: this is told where no server takes it
+  Others : List ℕ → TypedCommand
   -- a line of the buffer that is named, or else of the one into which it was typed: its tags,
   -- prefix and message
   Prints : Option (List ℕ) → List (List ℕ) → List ℕ → List ℕ → TypedCommand
@@ -46,13 +48,13 @@ abbrev pub lines_of_text : List ℕ → List (List ℕ)
 lines_of_text text = lines_parted [] text
 
 abbrev pub unknown_command : List ℕ → TypedCommand
-unknown_command name = Refused (codes "unknown command: /" ++ name)
+unknown_command name = Others (codes "unknown command: /" ++ name)
 
 abbrev pub wrong_arguments : List ℕ → TypedCommand
 wrong_arguments name = Refused (codes "wrong arguments: /" ++ name)
 
 abbrev pub no_text_here : TypedCommand
-no_text_here = Refused (codes "no text here")
+no_text_here = Others (codes "no text here")
 
 -- ---- `/print`
 

@@ -13,8 +13,8 @@ use Rattle.wc_core.specs.declared.typed_buffer.Property.{Property}
 use Rattle.wc_core.specs.declared.typed_buffer.Property.TheVariants as properties
 use Rattle.wc_core.specs.declared.typed.CommandText.{CommandText}
 use Rattle.wc_core.specs.declared.typed.CommandText.TheVariants as asked
-use Rattle.wc_core.specs.Typed.{TypedCommand, Nothing, Quits, Refused, Prints, Adds, Closes, Merges}
-use Rattle.wc_core.specs.Typed.{Names, Changes, Sets, Unsets, Switches, Saves, lines_of_text, tags_of}
+use Rattle.wc_core.specs.Typed.{TypedCommand, Nothing, Quits, Refused, Others, Prints, Adds, Closes}
+use Rattle.wc_core.specs.Typed.{Merges, Names, Changes, Sets, Unsets, Switches, Saves, lines_of_text, tags_of}
 use Rattle.wc_core.specs.Typed.{wrong_buffer, some_text, without_words, starts}
 
 -- a word that was found
@@ -26,6 +26,7 @@ abbrev pub meaning : CommandText → TypedCommand
 meaning asked.Nothing = Nothing
 meaning asked.Quit = Quits
 meaning (asked.Refused front name) = Refused (front.now ++ name.now)
+meaning (asked.Other front name) = Others (front.now ++ name.now)
 meaning (asked.Print buffer tags prefix message) = Prints (word_in buffer) (tags_of tags.now)
     prefix.now message.now
 meaning (asked.Add name) = Adds name.now
@@ -46,6 +47,11 @@ meaning (asked.SetOption name value) = Sets name.now value.now
 meaning (asked.UnsetOption name) = Unsets name.now
 meaning (asked.Switch name) = Switches name.now
 meaning asked.Save = Saves
+
+-- two texts that were found, as one
+abbrev pub texts_in : Option (Bor (List ℕ) × Bor (List ℕ)) → Option (List ℕ)
+texts_in None = None
+texts_in (Some (front, name)) = Some (front.now ++ name.now)
 
 -- ---- the words of `/buffer`
 

@@ -1,43 +1,36 @@
 ghost use Rattle.std.specs.Prelude.{◌≡◌, ◌≢◌, ◌⊎◌, ◌∷◌, ◌≤◌, ◌^◌, ◌-◌, ◌+◌};
 ghost use Rattle.std.specs.Prelude.{◌<◌, ◌++◌, [], min, true, false, Some, None};
 ghost use Rattle.std.specs.Prelude.{IfOk, IfSome, map, string_bytes};
-ghost use Rattle.std.specs.Str.{IsUtf8};
 ghost use Rattle.wc_outside.specs.Keyed.{at_key, without};
-ghost use Rattle.wc_buffers.specs.Calls.{is_there};
-ghost use Rattle.wc_model.specs.Apply.{refusal};
-ghost use Rattle.wc_world.specs.Texts.{IsChangeText};
 ghost use Rattle.wc_relaycmd.specs.Utf8.{RequestIsUtf8};
 ghost use Rattle.wc_session.specs.Served.{OnServed, OnNoMemory};
 ghost use Rattle.wc_core.specs.Events.{Start, Tick, Arrives, Line as LineCame};
-ghost use Rattle.wc_core.specs.Typed.{typed_line, lines_of_text};
 ghost use Rattle.wc_core.specs.Limits.{most_lines};
 ghost use Rattle.wc_core.specs.State.{first_state};
-ghost use Rattle.wc_core.specs.Step.{step, commands_step, push_step, refusal_step, ask_step};
-ghost use Rattle.wc_core.specs.Step.{typed_step, is_quit, lines_step, loss_step};
+ghost use Rattle.wc_core.specs.Step.{step, commands_step, push_step, loss_step};
+ghost use Rattle.wc_core.specs.Step.{link_loss_step, line_step, start_step};
 ghost use Rattle.wc_core.specs.Step.{outcome_step, request_step, client_link};
-ghost use Rattle.wc_core.specs.Texts.{WhatUtf8};
+ghost use Rattle.wc_servers.specs.Seats.{no_servers, seat_link, used_up, open_in};
 ghost use Rattle.wc_board.specs.Told.{Told};
 ghost use Rattle.wc_board.specs.Connections.{connection_link, is_open_at};
-ghost use Rattle.wc_core.specs.Served.{state_of, Means, Does};
+ghost use Rattle.wc_core.specs.Served.{state_of, Means, Does, ChangesServers};
+ghost use Rattle.wc_core.specs.ServersKept.{LosesServer};
 ghost use Rattle.wc_board.specs.Connections.{left_at, new_connection};
 ghost use Rattle.wc_core.specs.Served.{Absent, links_of};
 ghost use Rattle.wc_core.specs.Served.{AdmitsUnlessStarved, RanOutOfMemory};
 ghost use Rattle.wc_core.specs.Served.{OutcomeUtf8};
-ghost use Rattle.wc_core.specs.Inputs.{MakesChange, RefusesChange, AnswersRequestOf, GoesOn, Stops};
+ghost use Rattle.wc_core.specs.Inputs.{AnswersRequestOf};
 
 use crate::limits::most_lines;
-use crate::refusals::refusal_text;
-use crate::resolve::{Resolution, resolve, told_refusal};
-use crate::typed::read_typed;
 use std::alloc::Global;
 use std::marker::Model;
 use std::mem;
 use wc_board::Board;
-use wc_model::{Change, ChangeRefused};
 use wc_options::Options;
 use wc_relaycmd::{Request, read_request};
+use wc_servers::Servers;
 use wc_session::Outcome;
-use wc_text::{Arrival, Cause, Handle, LinkId, NoMemory, Text, split_once};
+use wc_text::{Arrival, Cause, Handle, LinkId, NoMemory, Text};
 
 /// The core buffer.
 const CORE: Handle = Handle(1);
@@ -48,11 +41,14 @@ pub struct Core {
     pub(crate) alloc: Global,
     pub(crate) options: Options,
     pub(crate) board: Board,
-    moment: u64,
+    pub(crate) servers: Servers,
+    pub(crate) moment: u64,
     commands: Vec<String>,
     /// The text of the options that was saved last, and whether the loop is still to write it.
     pub(crate) saved: Option<Text>,
     pub(crate) unwritten: bool,
+    /// Whether servers are connected by themselves at the start.
+    pub(crate) connects: bool,
     pub(crate) starved: u64,
     pub(crate) quits: bool,
 }
@@ -76,6 +72,8 @@ impl Model for Core {
       commands = mapped string_bytes core.commands.items;
       saved = core.saved;
       unwritten = core.unwritten;
+      servers = core.servers;
+      connects = core.connects;
       starved = core.starved;
       quits = core.quits;
     } };
@@ -90,33 +88,53 @@ impl Core {
         ensures fresh { IfOk result (λ core. (core.connections ≡ []) × (core.starved ≡ 0)
             × (core.quits ≡ false)) }
         ensures written { IfOk result (λ core. (core.unwritten ≡ false) × (core.saved ≡ None)) }
+        ensures servers { IfOk result (λ core. core.servers ≡ no_servers) }
     {
         let board = Board::new(alloc, most_lines(&options))?;
         Ok(Core {
             alloc,
             options,
             board,
+            servers: Servers::new(alloc),
             moment: 0,
             commands,
             saved: None,
             unwritten: false,
+            connects: true,
             starved: 0,
             quits: false,
         })
     }
 
     /// Sets the starting moment, in milliseconds since 1970, and runs the commands of the start on
-    /// the core buffer, in order and each as an input of its own, up to `/quit`. Where there are no
-    /// commands, nothing but the moment changes.
+    /// the core buffer, in order and each as an input of its own, up to `/quit`. After them the
+    /// servers whose option `autoconnect` is on are connected, unless that was held back. Where
+    /// there are no commands and it was, nothing but the moment changes.
     pub fn start(&mut self, moment: u64)
         ensures does { Does self.old self.new (λ state. step state (Start moment)) }
-        ensures idle { self.old.commands ≡ [] → self.new ≡ record self.old { moment = moment } }
+        ensures idle { self.old.commands ≡ [] → self.old.connects ≡ false →
+            self.new ≡ record self.old { moment = moment } }
     {
         self.moment = moment;
         let commands = mem::replace(&mut self.commands, Vec::new(self.alloc));
         let quit = mem::replace(&mut self.quits, false);
-        self.run_commands(commands.as_slice());
+        self.run_start(commands.as_slice());
         self.quits |= quit;
+    }
+
+    /// Runs the commands of the start, and connects servers where they did not run `/quit`.
+    fn run_start(&mut self, commands: &[String])
+        requires { self.old.quits ≡ false }
+        ensures does { Does self.old self.new
+            (λ state. start_step state (map string_bytes commands.now)) }
+        ensures idle { map string_bytes commands.now ≡ [] → self.old.connects ≡ false →
+            self.new ≡ self.old }
+    {
+        self.run_commands(commands);
+        if self.quits {
+            return;
+        }
+        self.connect_all();
     }
 
     /// Runs the commands of the start, where `/quit` was not run. Each is an input of its own: where
@@ -184,13 +202,18 @@ impl Core {
             self.new ≡ record self.old {
               connections = self.old.connections
                   ++ new_connection self.old.options arrival.link arrival.nonce ∷ [];
+              servers = used_up arrival.link.0 self.old.servers;
             } }
         ensures refused { IfSome result
-            (λ cause. self.new ≡ record self.old { starved = self.new.starved }) }
+            (λ cause. self.new ≡ record self.old {
+              starved = self.new.starved;
+              servers = used_up arrival.link.0 self.old.servers;
+            }) }
         ensures cause { IfSome result (λ cause. (cause ≡ Cause.Surplus)
             ⊎ (cause ≡ Cause.NoMemory)) }
         ensures rises { self.old.starved ≤ self.new.starved }
     {
+        self.servers.use_up(arrival.link);
         if self.is_full() {
             return Some(Cause::Surplus);
         }
@@ -201,10 +224,23 @@ impl Core {
         None
     }
 
-    /// Serves a line of a client, where the client is open and the line is a request. A client that
-    /// finds no memory for its reply or an event leaves with that cause.
+    /// Serves a line of a link: that of an open client, where it is a request, or else that of a
+    /// server, where it is a message. A client that finds no memory for its reply or an event leaves
+    /// with that cause.
     pub fn relay_line(&mut self, link: LinkId, line: &[u8])
         ensures { Does self.old self.new (λ state. step state (LineCame link.0 line.now)) }
+    {
+        if self.board.is_open(link) {
+            self.client_line(link, line);
+            return;
+        }
+        self.server_line(link, line);
+    }
+
+    /// Serves a line of a client, where the client is open and the line is a request.
+    fn client_line(&mut self, link: LinkId, line: &[u8])
+        ensures { Does self.old self.new
+            (λ state. line_step state line.now (at_key client_link link.0 state.clients)) }
     {
         if !self.board.is_open(link) {
             return;
@@ -271,163 +307,59 @@ impl Core {
         self.starve();
     }
 
-    /// Runs a text that is typed into a buffer, line by line. After a `/quit` nothing is run, nor
-    /// once the buffer is closed, nor where memory was refused.
-    fn run_lines(&mut self, buffer: Handle, text: &[u8])
-        requires { IsUtf8 text.now }
-        ensures { Does self.old self.new
-            (λ state. lines_step state buffer (lines_of_text text.now)) }
-    {
-        let mut left = Some(text);
-        while let Some(rest) = left {
-            let (line, following) = split_once(rest, b'\n');
-            if !self.has_buffer(buffer) {
-                return;
-            }
-            if self.run_line(buffer, line) {
-                return;
-            }
-            left = following;
-        }
-    }
-
-    fn has_buffer(&self, buffer: Handle) -> bool
-        ensures { result ≡ is_there buffer self.now.world.groups }
-    {
-        match self.board.world().buffers().get(buffer) {
-            Some(_) => true,
-            None => false,
-        }
-    }
-
-    /// Runs a line that is typed into a buffer that is there. It answers whether what is after the
-    /// line is skipped.
-    fn run_line(&mut self, buffer: Handle, line: &[u8]) -> bool
-        requires { IsUtf8 line.now }
-        ensures goes_on { result ≡ false → GoesOn self.old self.new buffer line.now }
-        ensures stops { result ≡ true → Stops self.old self.new buffer line.now }
-    {
-        let starved = self.starved;
-        if self.do_line(buffer, line) {
-            return true;
-        }
-        self.starved != starved
-    }
-
-    /// Does what a line asks for that is typed into a buffer. It answers whether the run is to end.
-    fn do_line(&mut self, buffer: Handle, line: &[u8]) -> bool
-        requires { IsUtf8 line.now }
-        ensures does { Does self.old self.new
-            (λ state. typed_step state buffer (typed_line line.now)) }
-        ensures quits { result ≡ is_quit (typed_line line.now) }
-    {
-        let _texts = self.board.world().buffers().groups();
-        let asked = read_typed(line);
-        match resolve(self.alloc, self.board.world(), self.moment, buffer, asked) {
-            Ok(Resolution::Stays) => false,
-            Ok(Resolution::Ends) => {
-                self.quits = true;
-                true
-            }
-            Ok(Resolution::Tells(text)) => {
-                self.tell_refusal(text);
-                false
-            }
-            Ok(Resolution::Asks(change)) => {
-                self.ask_change(change);
-                false
-            }
-            Ok(Resolution::SetsOption(pair)) => {
-                self.set_option(&pair);
-                false
-            }
-            Ok(Resolution::UnsetsOption(name)) => {
-                self.unset_option(&name);
-                false
-            }
-            Ok(Resolution::SavesOptions) => {
-                self.save();
-                false
-            }
-            Err(NoMemory) => {
-                self.starve();
-                false
-            }
-        }
-    }
-
-    /// Makes a change, or tells why it is refused.
-    fn ask_change(&mut self, change: Change)
-        requires { WhatUtf8 change.what }
-        ensures { Does self.old self.new (λ state. ask_step state change) }
-    {
-        let Some(reason) = self.change(change) else {
-            return;
-        };
-        match refusal_text(self.alloc, &reason) {
-            Ok(text) => self.tell_refusal(text),
-            Err(NoMemory) => self.starve(),
-        }
-    }
-
-    /// Tells a refusal by a line of the core buffer, where there are handles for it.
-    pub(crate) fn tell_refusal(&mut self, text: Text)
-        requires { IsUtf8 text }
-        ensures { Does self.old self.new (λ state. refusal_step state text) }
-    {
-        match told_refusal(self.alloc, self.moment, text) {
-            Ok(line) => {
-                let _skipped = self.change(line);
-            }
-            Err(NoMemory) => self.starve(),
-        }
-    }
-
-    /// Makes a change, and tells it to each client that asked for its event. It answers why the
-    /// change is refused, and nothing where it is made or memory was refused.
-    fn change(&mut self, change: Change) -> Option<ChangeRefused>
-        requires { IsChangeText change.what }
-        ensures made { result ≡ None → MakesChange self.old change self.new }
-        ensures refused { IfSome result (λ reason. RefusesChange self.old change reason self.new) }
-    {
-        let _before = self.board.world();
-        match self.board.tell(change) {
-            Ok(told) => {
-                let _after = self.board.world().buffers().groups();
-                if !told.to_all {
-                    self.starve();
-                }
-                None
-            }
-            Err(ChangeRefused::NoMemory) => {
-                self.starve();
-                None
-            }
-            Err(reason) => Some(reason),
-        }
-    }
-
-    /// Serves the loss of a link for this cause: its client, if it is open, is leaving. The cause
-    /// NoMemory counts as want of memory.
+    /// Serves the loss of a link for this cause: its client, if it is open, is leaving, or else its
+    /// server. The cause NoMemory counts as want of memory.
     pub fn link_gone(&mut self, link: LinkId, cause: Cause)
         ensures does { Does self.old self.new
-            (λ state. loss_step state link.0 cause (at_key client_link link.0 state.clients)) }
+            (λ state. link_loss_step state link.0 cause (at_key client_link link.0 state.clients)) }
         ensures gone { is_open_at (at_key connection_link link.0 self.new.connections) ≡ false }
-        ensures leaves { self.new ≡ record self.old {
-          connections =
-              left_at link.0 cause self.old.connections
-              (at_key connection_link link.0 self.old.connections);
-          starved = self.new.starved;
-        } }
-        ensures starved { cause ≢ Cause.NoMemory → self.new.starved ≡ self.old.starved }
-        ensures starves { cause ≡ Cause.NoMemory → self.new.starved ≡ min (self.old.starved + 1)
+        ensures stays { ChangesServers self.old self.new }
+        ensures servers { LosesServer
+            (is_open_at (at_key connection_link link.0 self.old.connections)) link.0 cause
+            self.old.servers self.new.servers }
+        ensures leaves { open_in (at_key seat_link link.0 self.old.servers.seats) ≡ None →
+            self.new ≡ record self.old {
+              connections =
+                  left_at link.0 cause self.old.connections
+                  (at_key connection_link link.0 self.old.connections);
+              starved = self.new.starved;
+            } }
+        ensures counted { cause ≡ Cause.NoMemory → self.old.starved < 2 ^ 64 - 1 →
+            self.old.starved < self.new.starved }
+        ensures starved { open_in (at_key seat_link link.0 self.old.servers.seats) ≡ None →
+            cause ≢ Cause.NoMemory → self.new.starved ≡ self.old.starved }
+        ensures starves { open_in (at_key seat_link link.0 self.old.servers.seats) ≡ None →
+            cause ≡ Cause.NoMemory → self.new.starved ≡ min (self.old.starved + 1)
             (2 ^ 64 - 1) }
     {
-        self.lose(link, cause);
+        self.lose_link(link, cause);
         if cause != Cause::NoMemory {
             return;
         }
         self.starve();
+    }
+
+    /// Has the open client of a link leave, or else its server.
+    fn lose_link(&mut self, link: LinkId, cause: Cause)
+        ensures does { Does self.old self.new
+            (λ state. link_loss_step state link.0 cause (at_key client_link link.0 state.clients)) }
+        ensures gone { is_open_at (at_key connection_link link.0 self.new.connections) ≡ false }
+        ensures stays { ChangesServers self.old self.new }
+        ensures servers { LosesServer
+            (is_open_at (at_key connection_link link.0 self.old.connections)) link.0 cause
+            self.old.servers self.new.servers }
+        ensures leaves { open_in (at_key seat_link link.0 self.old.servers.seats) ≡ None →
+            self.new ≡ record self.old {
+              connections =
+                  left_at link.0 cause self.old.connections
+                  (at_key connection_link link.0 self.old.connections);
+            } }
+    {
+        if self.board.is_open(link) {
+            self.lose(link, cause);
+            return;
+        }
+        self.lose_server(link, cause);
     }
 
     fn lose(&mut self, link: LinkId, cause: Cause)

@@ -1,9 +1,14 @@
 //! The core: the clients, the buffers with their lines, and what is typed into them.
 #![tactic(auto)]
 
+mod core_acts;
+mod core_connect;
+mod core_input;
 mod core_links;
 mod core_options;
+mod core_servers;
 mod core_state;
+mod core_typed;
 mod limits;
 mod refusals;
 mod resolve;
@@ -13,3 +18,4 @@ mod typed_buffer;
 pub use core_state::Core;
 pub use limits::port_of;
 pub use wc_board::{Connection, Departure};
+pub use wc_servers::Wanted;

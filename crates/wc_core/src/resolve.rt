@@ -173,7 +173,9 @@ pub(crate) fn resolve(
     match asked {
         CommandText::Nothing => Ok(Resolution::Stays),
         CommandText::Quit => Ok(Resolution::Ends),
-        CommandText::Refused { front, name } => refuse(alloc, front, name),
+        CommandText::Refused { front, name } | CommandText::Other { front, name } => {
+            refuse(alloc, front, name)
+        }
         CommandText::Print {
             buffer: name,
             tags,

@@ -4,7 +4,8 @@ ghost use Rattle.wc_core.specs.Typed.{command, slash_command, typed_line, print_
 ghost use Rattle.wc_core.specs.Typed.{set_option, set_command, unset_command, option_command};
 ghost use Rattle.wc_core.specs.Typed.{input_command, save_command};
 ghost use Rattle.wc_core.specs.Typed.{print_tagged, print_on, print_command, tags_of};
-ghost use Rattle.wc_core.specs.TypedSeen.{meaning, word_in, number_of};
+ghost use Rattle.wc_core.specs.Step.{other_of};
+ghost use Rattle.wc_core.specs.TypedSeen.{meaning, word_in, number_of, texts_in};
 ghost use Rattle.wc_text.specs.Words.{is_filled};
 
 use crate::typed_buffer::{buffer_command, only_word};
@@ -23,6 +24,12 @@ pub enum CommandText<'a> {
     Quit,
     /// A refusal, whose text is these two.
     Refused {
+        front: &'a [u8],
+        name: &'a [u8],
+    },
+    /// What the core does not know by itself. A refusal whose text is these two is told where no
+    /// server takes it.
+    Other {
         front: &'a [u8],
         name: &'a [u8],
     },
@@ -70,7 +77,7 @@ pub enum CommandText<'a> {
 fn no_text_here<'a>() -> CommandText<'a>
     ensures { meaning result ≡ no_text_here }
 {
-    CommandText::Refused {
+    CommandText::Other {
         front: b"no text here",
         name: b"",
     }
@@ -79,7 +86,7 @@ fn no_text_here<'a>() -> CommandText<'a>
 fn unknown_command(name: &[u8]) -> CommandText<'_>
     ensures { meaning result ≡ unknown_command name.now }
 {
-    CommandText::Refused {
+    CommandText::Other {
         front: UNKNOWN,
         name,
     }
@@ -192,8 +199,8 @@ fn slash_command(text: &[u8]) -> CommandText<'_>
     command(name, rest)
 }
 
-/// Reads a line that is typed into a buffer. What does not begin with a `/` is a text, which no
-/// buffer takes.
+/// Reads a line that is typed into a buffer. What does not begin with a `/` is a text, which servers
+/// may take.
 #[tactic(auto, unfolding(crate::specs::Typed::typed_line))]
 pub fn read_typed(line: &[u8]) -> CommandText<'_>
     ensures { meaning result ≡ typed_line line.now }
@@ -202,6 +209,17 @@ pub fn read_typed(line: &[u8]) -> CommandText<'_>
         [] => CommandText::Nothing,
         [b'/', text @ ..] => slash_command(text),
         _ => no_text_here(),
+    }
+}
+
+/// The refusal of a line that the core does not know by itself, as two texts. None where it knows
+/// the line.
+pub(crate) fn other_in(line: &[u8]) -> Option<(&[u8], &[u8])>
+    ensures { texts_in result ≡ other_of (typed_line line.now) }
+{
+    match read_typed(line) {
+        CommandText::Other { front, name } => Some((front, name)),
+        _ => None,
     }
 }
 

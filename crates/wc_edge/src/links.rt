@@ -67,6 +67,15 @@ impl Links {
         link
     }
 
+    /// Uses up the next number, for no link.
+    pub(crate) fn pass_number(&mut self)
+        requires { self.old.used < 2 ^ 62 }
+        ensures used { self.new.used ≡ self.old.used + 1 }
+        ensures rows { self.new.rows.items ≡ self.old.rows.items }
+    {
+        self.used += 1;
+    }
+
     /// Removes a link, which is at this place.
     pub(crate) fn remove(&mut self, place: usize, link: LinkId)
         requires { IsKeyPlace number_of link.0 self.old.rows.items place }

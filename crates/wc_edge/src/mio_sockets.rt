@@ -10,7 +10,7 @@ use std::net::Net;
 use std::random::RandomSource;
 use std::rt::Clock;
 use wc_outside::{Failed, Got, Put, Ready, Sockets};
-use wc_text::{Arrival, LinkId};
+use wc_text::{Address, Arrival, LinkId};
 
 /// How many link numbers are given at most.
 const LINK_LIMIT: u64 = 1 << 62;
@@ -18,8 +18,8 @@ const LINK_LIMIT: u64 = 1 << 62;
 /// Non-blocking TCP sockets of the system, over epoll, which tell nothing of what they gave.
 ///
 /// The system remembers what is ready, and tells it once. At most 512 links are there at a time; a
-/// connection beyond them is closed as soon as it is accepted. Each failure raises a count of
-/// faults.
+/// connection beyond them is closed as soon as it is accepted, and one that is asked for fails. Each
+/// failure raises a count of faults.
 #[derive(Drop)]
 pub struct MioSockets<'a, R: Net + Clock + RandomSource> {
     streams: Streams<'a, R>,
@@ -27,6 +27,7 @@ pub struct MioSockets<'a, R: Net + Clock + RandomSource> {
     listening: bool,
     wait_faults: u64,
     listen_faults: u64,
+    connect_faults: u64,
     link_faults: u64,
 }
 
@@ -50,8 +51,16 @@ impl<'a, R: Net + Clock + RandomSource> MioSockets<'a, R> {
             listening: false,
             wait_faults: 0,
             listen_faults: 0,
+            connect_faults: 0,
             link_faults: 0,
         })
+    }
+
+    /// How many link numbers are used.
+    pub fn used(&self) -> u64
+        ensures { result ≡ (⟦<MioSockets<'a, R> as Sockets>⟧.seen self.now).used }
+    {
+        self.links.used
     }
 }
 
@@ -70,7 +79,12 @@ impl<'a, R: Net + Clock + RandomSource> Sockets for MioSockets<'a, R> {
       undrained = is_undrained s.links.rows.items;
       listening = s.listening;
       blocked = is_blocked s.links.rows.items;
-      faults = record { waits = s.wait_faults; listens = s.listen_faults; links = s.link_faults };
+      faults = record {
+        waits = s.wait_faults;
+        listens = s.listen_faults;
+        connects = s.connect_faults;
+        links = s.link_faults;
+      };
     } };
 
     fn listen(&mut self, port: u16) -> Result<(), Failed> {
@@ -109,6 +123,28 @@ impl<'a, R: Net + Clock + RandomSource> Sockets for MioSockets<'a, R> {
             }
             Err(_) => Err(fail(&mut self.listen_faults)),
         }
+    }
+
+    fn connect(&mut self, to: Address) -> Result<LinkId, Failed> {
+        let link = LinkId(self.links.used + 1);
+        if self.links.rows.len() >= SLOTS || self.streams.connect(link, to).is_err() {
+            self.links.pass_number();
+            return Err(fail(&mut self.connect_faults));
+        }
+        Ok(self.links.add())
+    }
+
+    fn connected(&mut self, link: LinkId) -> Result<bool, Failed> {
+        let Some(place) = self.links.place_of(link) else {
+            return Err(fail(&mut self.link_faults));
+        };
+        let Ok(stands) = self.streams.connected(place) else {
+            return Err(fail(&mut self.link_faults));
+        };
+        if !stands {
+            self.links.drain(place, link);
+        }
+        Ok(stands)
     }
 
     fn read(&mut self, link: LinkId, into: &mut [u8]) -> Result<Got, Failed> {

@@ -16,7 +16,7 @@ use std::random::RandomSource;
 use std::rt::Clock;
 use std::time::{Duration, SystemTime, UNIX_EPOCH};
 use wc_outside::{Got, Put, READY_LIMIT, Ready};
-use wc_text::LinkId;
+use wc_text::{Address, LinkId};
 
 /// The number under which the listener is registered; no link has it.
 pub(crate) const LISTENER: usize = 0;
@@ -140,13 +140,8 @@ impl<'a, R: Net + Clock + RandomSource> Streams<'a, R> {
             .reregister(listener, token, Interest::READABLE)
     }
 
-    /// Keeps the next connection under this link, and gives its nonce.
-    pub(crate) fn accept(&mut self, link: LinkId) -> io::Result<Option<[u8; 16]>> {
-        let Some(mut stream) = self.next_stream()? else {
-            return Ok(None);
-        };
-        let mut nonce = [0u8; 16];
-        self.rt.fill_bytes(&mut nonce)?;
+    /// Keeps a stream under this link, and has the system report both of its directions.
+    fn keep(&mut self, mut stream: TcpStream, link: LinkId) -> io::Result<()> {
         let _ = stream.set_nodelay(true);
         self.poll.registry().register(
             &mut stream,
@@ -158,7 +153,41 @@ impl<'a, R: Net + Clock + RandomSource> Streams<'a, R> {
             readable: false,
             uneven: false,
         })?;
+        Ok(())
+    }
+
+    /// Keeps the next connection under this link, and gives its nonce.
+    pub(crate) fn accept(&mut self, link: LinkId) -> io::Result<Option<[u8; 16]>> {
+        let Some(stream) = self.next_stream()? else {
+            return Ok(None);
+        };
+        let mut nonce = [0u8; 16];
+        self.rt.fill_bytes(&mut nonce)?;
+        self.keep(stream, link)?;
         Ok(Some(nonce))
+    }
+
+    /// Begins a connection, and keeps it under this link.
+    pub(crate) fn connect(&mut self, link: LinkId, to: Address) -> io::Result<()> {
+        let address = SocketAddr::from((Ipv4Addr::from(to.ip), to.port));
+        let stream = TcpStream::connect(self.rt, address)?;
+        self.keep(stream, link)
+    }
+
+    /// Whether the connection at this place stands. It is an error where it failed; where it is not
+    /// decided, an event will tell of it.
+    pub(crate) fn connected(&self, place: usize) -> io::Result<bool> {
+        let Some(peer) = self.peers.get(place) else {
+            return Err(io::Error::from(ErrorKind::NotFound));
+        };
+        if let Some(error) = peer.stream.take_error()? {
+            return Err(error);
+        }
+        match peer.stream.peer_addr() {
+            Ok(_) => Ok(true),
+            Err(error) if error.kind() == ErrorKind::NotConnected => Ok(false),
+            Err(error) => Err(error),
+        }
     }
 
     /// Reads from the stream at this place, where an event told of something to read.

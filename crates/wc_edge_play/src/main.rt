@@ -3,6 +3,7 @@
 //! Nothing is claimed here: what is printed is compared.
 #![tactic(auto)]
 
+mod connect_story;
 mod crowd_story;
 mod edge_story;
 mod keeper_story;
@@ -26,6 +27,7 @@ fn main(rt: HostRuntime) -> io::Result<()> {
     ping_story::play(&rt)?;
     edge_story::play(&rt)?;
     crowd_story::play(&rt)?;
+    connect_story::play(&rt)?;
     keeper_story::play(&rt)?;
     print_to_the_sink(&rt)
 }

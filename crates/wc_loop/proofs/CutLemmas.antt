@@ -3,9 +3,9 @@ use Rattle.std.proofs.Common.{◌≡◌, sym, ap, ◌∙◌}
 use Rattle.wc_outside.specs.Seen.{Seen}
 use Rattle.wc_core.specs.State.{State, has_end}
 use Rattle.wc_core.specs.Step.{run}
-use Rattle.wc_core.specs.Served.{sent_to}
 use Rattle.wc_turns.specs.declared.headless.Headless.{Headless}
 use Rattle.wc_turns.specs.Events.{whole}
+use Rattle.wc_turns.specs.Parties.{owed_to, asks_in}
 use Rattle.wc_turns.specs.Run.{up_to_quit}
 use Rattle.wc_loop.specs.Headline.{HandsOut}
 use Rattle.wc_loop.specs.Cuts.{RunAlike}
@@ -15,7 +15,8 @@ runs-alike first a b x y one other e = record {
   reached = same;
   world = sym (ap (λ (s : State). s.world) one.means.same) ∙ ap (λ events. (run first events).state.world) same ∙ ap (λ (s : State). s.world) other.means.same;
   quits = one.quits ∙ ap (λ events. has_end (run first events).acts) same ∙ sym other.quits;
-  owed = λ link. ap (λ events. sent_to link (run first events).acts) same;
+  owed = λ link. ap (λ events. owed_to link (run first events).acts) same;
+  asked = ap (λ events. asks_in (run first events).acts) same;
 } where
   same : one.events ≡ other.events
   same = one.ends ∙ ap (up_to_quit first) e ∙ sym other.ends

@@ -1,10 +1,12 @@
 -- How a run ends.
-use Rattle.std.proofs.Common.{◌≡◌, ◌≢◌, ◌⊎◌, inl, inr, ℕ, ◌≤◌, Bool, true, false, eqb, cond, IsTrue, List, [], ◌∷◌, Option, Some, None, Ok, Err, IfOk, IfSome, IsSomeAnd, is_some, refl, sym, ap, subst, ◌∙◌, arith}
+use Rattle.std.proofs.Common.{◌≡◌, ◌≢◌, ◌⊎◌, inl, inr, ℕ, ◌≤◌, Bool, true, false, eqb, cond, IsTrue, List, [], ◌∷◌, ◌++◌, length, map, Option, Some, None, Ok, Err, IfOk, IfSome, IsSomeAnd, is_some, refl, sym, ap, subst, ◌∙◌, arith}
 use Rattle.std.proofs.lemmas.Bool.{false≢true}
 use Rattle.std.proofs.lemmas.Bool.Decides.{nat_tests}
+use Rattle.std.proofs.lemmas.List.{length-append}
+use Rattle.wc_text.specs.declared.names.Address.{Address}
 use Rattle.wc_outside.specs.Faults.{Rose}
 use Rattle.wc_outside.specs.Seen.{Seen}
-use Rattle.wc_outside.specs.declared.happening.Asked.TheVariants.{Listen}
+use Rattle.wc_outside.specs.declared.happening.Asked.TheVariants.{Listen, Connect}
 use Rattle.wc_turns.specs.declared.headless.Headless.{Headless}
 use Rattle.wc_loop.specs.declared.ending.Ending.{Ending}
 use Rattle.wc_loop.specs.declared.ending.Ending.TheVariants.{Version, Help, BadWord, WaitFailed, NoConfiguration, BadLine, NoMemory, ListenFailed, NotSaved, TurnsTaken, Quit as EndsQuit}
@@ -18,6 +20,7 @@ use Rattle.wc_loop.proofs.OptionsLemmas.{some_port}
 use Rattle.wc_turns.specs.Sources.{AllServed, AllSent}
 use Rattle.wc_turns.specs.Turns.{wake_count, listen_faults, faults_then}
 use Rattle.wc_loop.specs.Headline.{Headline, IsConfigured}
+use Rattle.wc_loop.specs.Words.{Opening}
 use Rattle.wc_turns.specs.Saves.{held_by, SavesTurn}
 use Rattle.wc_loop.specs.Endings.{KeepsText, HoldsEarlier, HoldsSaved, FailsToSave, saved_in, status_of, asked_in, IsPort, kept_of, LastOf, WaitsAtMost, HasQuit, EndsAt, IsEarly, IsLastState, Runs}
 use Rattle.wc_loop.proofs.HeadlineLemmas.{IfSome-last}
@@ -33,19 +36,21 @@ readable : (contents : Option (List ℕ)) (P : Type 0) → IfSome contents IsRea
 readable None P known = tt
 readable (Some kept) P known = λ n bad. (let e : Ok known.0 ≡ Err n = sym known.1 ∙ bad in cc)
 
-pub known-readable : (commands : List (List ℕ)) (contents : Option (List ℕ)) (first : Headless) (port : ℕ) → IfSome contents (IsConfigured commands first port) → IfSome contents IsReadable
-known-readable commands None first port known = tt
-known-readable commands (Some kept) first port known = (known.options, known.set)
+pub known-readable : (opening : Opening) (contents : Option (List ℕ)) (first : Headless) (port : ℕ) → IfSome contents (IsConfigured opening first port) → IfSome contents IsReadable
+known-readable opening None first port known = tt
+known-readable opening (Some kept) first port known = (known.options, known.set)
 
-pub known-port : (commands : List (List ℕ)) (contents : Option (List ℕ)) (first : Headless) (port : ℕ) → IfSome contents (IsConfigured commands first port) → IsPort contents port
-known-port commands None first port known = tt
-known-port commands (Some kept) first port known = subst (λ r. IfOk r (λ options. port ≡ port_of options)) (sym known.set) known.port_set
+pub known-port : (opening : Opening) (contents : Option (List ℕ)) (first : Headless) (port : ℕ) → IfSome contents (IsConfigured opening first port) → IsPort contents port
+known-port opening None first port known = tt
+known-port opening (Some kept) first port known = subst (λ r. IfOk r (λ options. port ≡ port_of options)) (sym known.set) known.port_set
 
--- the listener was asked for at the port that is set
-pub record Listened (contents : Option (List ℕ)) (asked : List Asked) : Type 0 where
+-- the listener was asked for at the port that is set, and connections where a wait returned
+pub record Listened (contents : Option (List ℕ)) (waits : ℕ) (asked : List Asked) : Type 0 where
   pub port : ℕ
   pub set : IsPort contents port
-  pub is : asked ≡ Listen port ∷ []
+  pub connects : List Address
+  pub unwoken : waits ≡ 0 → connects ≡ []
+  pub is : asked ≡ Listen port ∷ map Connect connects
 
 not_early : (status : ℕ) → status ≢ 4 → status ≢ 5 → (status ≡ 4) ⊎ (status ≡ 5) → ⊥
 not_early status a b (inl q) = a q
@@ -77,6 +82,17 @@ keeper-of WaitFault ending at three = absurd (let e : 3 ≡ 2 = sym three ∙ ap
 keeper-of ListenFault ending at three = absurd (let e : 3 ≡ 6 = sym three ∙ ap status_of at in cc)
 keeper-of KeeperFault ending at three = refl
 
+pub none-asked : (before : List Asked) (connects : List Address) → before ++ map Connect connects ≡ before → connects ≡ []
+none-asked before [] e = refl
+none-asked before (address ∷ connects) e = absurd (omega (arith, ap length e, length-append before (map Connect (address ∷ connects))))
+
+unkept : (h : Headless) → is_some (kept_of h) ≡ false → h.turns ≡ 0
+unkept h = go (eqb h.turns 0) refl
+  where
+    go : (b : Bool) → eqb h.turns 0 ≡ b → is_some (cond b None (Some h)) ≡ false → h.turns ≡ 0
+    go true e none = grind (arith, nat_tests)
+    go false e none = cc
+
 -- no state is there where no wait returned
 pub kept_of-none : (h : Headless) → kept_of h ≡ None → h.turns ≡ 0
 kept_of-none h = go (eqb h.turns 0) refl
@@ -86,8 +102,8 @@ kept_of-none h = go (eqb h.turns 0) refl
     go false e none = cc
 
 -- what the keeper holds where the last turn failed to save
-pub held-earlier : (commands : List (List ℕ)) (contents mid kept : Option (List ℕ)) (x h : Headless) (before after : Seen) → x.core.saved ≡ None → mid ≡ contents → (f : FailsToSave x h before after mid kept) → Headline commands contents f.seen f.earlier → HoldsEarlier commands contents kept after h
-held-earlier commands contents mid kept x h before after none same f headline = record {
+pub held-earlier : (opening : Opening) (contents mid kept : Option (List ℕ)) (x h : Headless) (before after : Seen) → x.core.saved ≡ None → mid ≡ contents → (f : FailsToSave x h before after mid kept) → Headline opening contents f.seen f.earlier → HoldsEarlier opening contents kept after h
+held-earlier opening contents mid kept x h before after none same f headline = record {
   earlier = f.earlier;
   seen = f.seen;
   headline = headline;
@@ -97,16 +113,16 @@ held-earlier commands contents mid kept x h before after none same f headline = 
 }
 
 -- however the run ended
-pub held-saved : (commands : List (List ℕ)) (contents kept : Option (List ℕ)) (after : Seen) (status : ℕ) (last : Option Headless) → (status ≢ 3 → KeepsText contents kept last) → (status ≡ 3 → IfSome last (HoldsEarlier commands contents kept after)) → (last ≡ None → kept ≡ contents) → HoldsSaved commands contents kept after last
-held-saved commands contents kept after status None text earlier same = same refl
-held-saved commands contents kept after status (Some last) text earlier same = go (eqb status 3) refl
+pub held-saved : (opening : Opening) (contents kept : Option (List ℕ)) (after : Seen) (status : ℕ) (last : Option Headless) → (status ≢ 3 → KeepsText contents kept last) → (status ≡ 3 → IfSome last (HoldsEarlier opening contents kept after)) → (last ≡ None → kept ≡ contents) → HoldsSaved opening contents kept after last
+held-saved opening contents kept after status None text earlier same = same refl
+held-saved opening contents kept after status (Some last) text earlier same = go (eqb status 3) refl
   where
-    go : (b : Bool) → eqb status 3 ≡ b → HoldsSaved commands contents kept after (Some last)
+    go : (b : Bool) → eqb status 3 ≡ b → HoldsSaved opening contents kept after (Some last)
     go true e = inr (earlier (grind (arith, nat_tests)))
     go false e = inl (text (λ three. (let t = ap (λ n. eqb n 3) three in false≢true (sym e ∙ t))))
 
--- over the commands of the start
-module _ (commands : List (List ℕ)) where
+-- over what is run and connected at the start
+module _ (opening : Opening) where
   -- what comes after the last turn
   pub record After (turns : ℕ) (contents : Option (List ℕ)) (k k' : ℕ) (before after : Seen) (then : TurnEnd) (h : Headless) : Type 0 where
     pub above : 1 ≤ turns
@@ -122,10 +138,10 @@ module _ (commands : List (List ℕ)) where
     pub wait_fault : then ≡ WaitFault → Rose before.faults.waits after.faults.waits
     pub listen_fault : then ≡ ListenFault → Rose before.faults.listens after.faults.listens
     pub keeper_fault : then ≡ KeeperFault → Rose k k'
-    pub asked : IsTrue after.tells → Listened contents after.asked
-    pub served : then ≡ GoOn → AllServed h.core.connections before after
-    pub sent : then ≡ Quit → AllSent h.core.connections before after
-    pub left : 1 ≤ h.turns → IsLastState commands contents before after h
+    pub asked : IsTrue after.tells → Listened contents h.turns after.asked
+    pub served : then ≡ GoOn → AllServed h.core before after
+    pub sent : then ≡ Quit → AllSent h.core before after
+    pub left : 1 ≤ h.turns → IsLastState opening contents after h
 
   at-most : (turns : ℕ) (after : Seen) (h : Headless) → h.turns ≤ turns → (IsTrue after.tells → wake_count after.taken ≡ h.turns) → WaitsAtMost turns after (kept_of h)
   at-most turns after h most woke = record { counted = IfSome-last (kept_of h) h _ refl (λ above. most); told = λ t. (let w = woke t in omega arith) }
@@ -147,7 +163,7 @@ module _ (commands : List (List ℕ)) where
 
   -- the ends after the last turn
   pub Runs-following : (turns : ℕ) (contents : Option (List ℕ)) (k k' : ℕ) (before after : Seen) (then : TurnEnd) (ending : Ending) (h : Headless) → After turns contents k k' before after then h → EndsAt then ending
-      → Runs commands turns contents k k' before after ending (kept_of h)
+      → Runs opening turns contents k k' before after ending (kept_of h)
   Runs-following turns contents k k' before after GoOn ending h b at = rw at (record {
     ends = record {
       later = λ q. omega arith;
@@ -173,7 +189,7 @@ module _ (commands : List (List ℕ)) where
     served = λ q. IfSome-last (kept_of h) h _ refl (λ above. b.served refl);
     sent = λ q. absurd (omega arith);
     faults = record { wait = λ q. absurd (omega arith); keeper = λ q. absurd (omega arith); listener = λ q. absurd (omega arith) };
-    asked = λ t. (let l = b.asked t in record { port = l.port; set = l.set; is = l.is });
+    asked = λ t. (let l = b.asked t in record { port = l.port; set = l.set; connects = l.connects; unwoken = λ none. l.unwoken (unkept h none); is = l.is });
   })
   Runs-following turns contents k k' before after Quit ending h b at = rw at (record {
     ends = record {
@@ -200,7 +216,7 @@ module _ (commands : List (List ℕ)) where
     served = λ q. absurd (omega arith);
     sent = λ q. IfSome-last (kept_of h) h _ refl (λ above. b.sent refl);
     faults = record { wait = λ q. absurd (omega arith); keeper = λ q. absurd (omega arith); listener = λ q. absurd (omega arith) };
-    asked = λ t. (let l = b.asked t in record { port = l.port; set = l.set; is = l.is });
+    asked = λ t. (let l = b.asked t in record { port = l.port; set = l.set; connects = l.connects; unwoken = λ none. l.unwoken (unkept h none); is = l.is });
   })
   Runs-following turns contents k k' before after WaitFault ending h b at = rw at (record {
     ends = record {
@@ -227,7 +243,7 @@ module _ (commands : List (List ℕ)) where
     served = λ q. absurd (omega arith);
     sent = λ q. absurd (omega arith);
     faults = record { wait = λ q. b.wait_fault refl; keeper = λ q. absurd (omega arith); listener = λ q. absurd (omega arith) };
-    asked = λ t. (let l = b.asked t in record { port = l.port; set = l.set; is = l.is });
+    asked = λ t. (let l = b.asked t in record { port = l.port; set = l.set; connects = l.connects; unwoken = λ none. l.unwoken (unkept h none); is = l.is });
   })
   Runs-following turns contents k k' before after ListenFault ending h b at = rw at (record {
     ends = record {
@@ -254,7 +270,7 @@ module _ (commands : List (List ℕ)) where
     served = λ q. absurd (omega arith);
     sent = λ q. absurd (omega arith);
     faults = record { wait = λ q. absurd (omega arith); keeper = λ q. absurd (omega arith); listener = λ q. b.listen_fault refl };
-    asked = λ t. (let l = b.asked t in record { port = l.port; set = l.set; is = l.is });
+    asked = λ t. (let l = b.asked t in record { port = l.port; set = l.set; connects = l.connects; unwoken = λ none. l.unwoken (unkept h none); is = l.is });
   })
   Runs-following turns contents k k' before after KeeperFault ending h b at = rw at (record {
     ends = record {
@@ -281,7 +297,13 @@ module _ (commands : List (List ℕ)) where
     served = λ q. absurd (omega arith);
     sent = λ q. absurd (omega arith);
     faults = record { wait = λ q. absurd (omega arith); keeper = λ q. b.keeper_fault refl; listener = λ q. absurd (omega arith) };
-    asked = λ t. (let l = b.asked t in record { port = l.port; set = l.set; is = subst (λ o. after.asked ≡ asked_in l.port 3 (is_some o)) (sym (kept_of-some h (b.some (inr (inr refl))))) l.is });
+    asked = λ t. (let l = b.asked t in record {
+      port = l.port;
+      set = l.set;
+      connects = l.connects;
+      unwoken = λ none. l.unwoken (unkept h none);
+      is = subst (λ o. after.asked ≡ asked_in l.port 3 (is_some o) ++ map Connect l.connects) (sym (kept_of-some h (b.some (inr (inr refl))))) l.is;
+    });
   })
 
   bad-line : (contents : Option (List ℕ)) (n : ℕ) → IfSome contents (λ kept. config_of kept ≡ Err n) → IfSome contents (λ kept. (options : OptionsValue) → config_of kept ≢ Ok options)
@@ -298,7 +320,7 @@ module _ (commands : List (List ℕ)) where
     pub woke : IsTrue seen.tells → wake_count seen.taken ≡ 0
 
   -- the ends before the listener is asked for
-  pub Runs-early : (turns : ℕ) (contents : Option (List ℕ)) (k k' : ℕ) (seen : Seen) (ending : Ending) → Unawaited turns seen → (IsTrue seen.tells → seen.asked ≡ []) → IsEarly contents k k' ending → Runs commands turns contents k k' seen seen ending None
+  pub Runs-early : (turns : ℕ) (contents : Option (List ℕ)) (k k' : ℕ) (seen : Seen) (ending : Ending) → Unawaited turns seen → (IsTrue seen.tells → seen.asked ≡ []) → IsEarly contents k k' ending → Runs opening turns contents k k' seen seen ending None
   Runs-early turns contents k k' seen NoConfiguration u asked early = record {
     ends = record {
       later = λ q. omega arith;
@@ -324,7 +346,7 @@ module _ (commands : List (List ℕ)) where
     served = λ q. tt;
     sent = λ q. tt;
     faults = record { wait = λ q. absurd (omega arith); keeper = λ q. early; listener = λ q. absurd (omega arith) };
-    asked = λ t. (let p = some_port contents in record { port = p.0; set = p.1; is = asked t });
+    asked = λ t. (let p = some_port contents in record { port = p.0; set = p.1; connects = []; unwoken = λ none. refl; is = asked t });
   }
   Runs-early turns contents k k' seen (BadLine n) u asked early = record {
     ends = record {
@@ -351,7 +373,7 @@ module _ (commands : List (List ℕ)) where
     served = λ q. tt;
     sent = λ q. tt;
     faults = record { wait = λ q. absurd (omega arith); keeper = λ q. absurd (omega arith); listener = λ q. absurd (omega arith) };
-    asked = λ t. (let p = some_port contents in record { port = p.0; set = p.1; is = asked t });
+    asked = λ t. (let p = some_port contents in record { port = p.0; set = p.1; connects = []; unwoken = λ none. refl; is = asked t });
   }
   Runs-early turns contents k k' seen NoMemory u asked early = record {
     ends = record {
@@ -378,7 +400,7 @@ module _ (commands : List (List ℕ)) where
     served = λ q. tt;
     sent = λ q. tt;
     faults = record { wait = λ q. absurd (omega arith); keeper = λ q. absurd (omega arith); listener = λ q. absurd (omega arith) };
-    asked = λ t. (let p = some_port contents in record { port = p.0; set = p.1; is = asked t });
+    asked = λ t. (let p = some_port contents in record { port = p.0; set = p.1; connects = []; unwoken = λ none. refl; is = asked t });
   }
   Runs-early turns contents k k' seen Version u asked early = absurd early
   Runs-early turns contents k k' seen Help u asked early = absurd early
@@ -390,14 +412,14 @@ module _ (commands : List (List ℕ)) where
   Runs-early turns contents k k' seen EndsQuit u asked early = absurd early
 
   -- the listener was asked for in vain
-  pub Runs-unheard : (turns : ℕ) (contents : Option (List ℕ)) (k k' : ℕ) (before after : Seen) (first : Headless) (port : ℕ) → Unawaited turns after → IfSome contents (IsConfigured commands first port)
-      → (IsTrue after.tells → listen_faults after.taken ≡ 1) → Rose before.faults.listens after.faults.listens → (IsTrue after.tells → after.asked ≡ Listen port ∷ []) → Runs commands turns contents k k' before after ListenFailed None
+  pub Runs-unheard : (turns : ℕ) (contents : Option (List ℕ)) (k k' : ℕ) (before after : Seen) (first : Headless) (port : ℕ) → Unawaited turns after → IfSome contents (IsConfigured opening first port)
+      → (IsTrue after.tells → listen_faults after.taken ≡ 1) → Rose before.faults.listens after.faults.listens → (IsTrue after.tells → after.asked ≡ Listen port ∷ []) → Runs opening turns contents k k' before after ListenFailed None
   Runs-unheard turns contents k k' before after first port u known listens rose asked = record {
     ends = record {
       later = λ q. omega arith;
       known = omega arith;
       line = λ q. absurd (omega arith);
-      unreadable = readable contents _ (known-readable commands contents first port known);
+      unreadable = readable contents _ (known-readable opening contents first port known);
       quit = λ q. absurd (omega arith);
       quit_told = λ q t. absurd (omega arith);
       quit_due = λ q six three. absurd q;
@@ -417,5 +439,5 @@ module _ (commands : List (List ℕ)) where
     served = λ q. tt;
     sent = λ q. tt;
     faults = record { wait = λ q. absurd (omega arith); keeper = λ q. absurd (omega arith); listener = λ q. rose };
-    asked = λ t. record { port = port; set = known-port commands contents first port known; is = asked t };
+    asked = λ t. record { port = port; set = known-port opening contents first port known; connects = []; unwoken = λ none. refl; is = asked t };
   }

@@ -1,23 +1,24 @@
 -- What the clients that settled hold at the end of a run.
-use Rattle.std.proofs.Common.{◌≡◌, ℕ, ◌-◌, ◌≤◌, Bool, true, false, cond, eqb, nat_le, List, [], ◌∷◌, ◌++◌, length, take, slice_index, Option, Some, None, IfSome, IfOk, Result, Ok, Err, refl, sym, subst, arith}
+use Rattle.std.proofs.Common.{◌≡◌, ℕ, ◌-◌, ◌≤◌, Bool, true, false, cond, eqb, nat_le, List, [], ◌∷◌, ◌++◌, length, map, not, take, slice_index, Option, Some, None, IfSome, IfOk, Result, Ok, Err, refl, sym, subst, arith}
 use Rattle.std.specs.List.{AllByRecursion, flat_map}
 use Rattle.std.specs.Str.{IsUtf8}
 use Rattle.std.proofs.lemmas.Bool.{false≢true}
 use Rattle.std.proofs.lemmas.Bool.Decides.{nat_tests}
 use Rattle.std.proofs.lemmas.List.{length-take}
+use Rattle.wc_text.specs.declared.names.LinkId.{LinkId}
 use Rattle.wc_outside.specs.Seen.{Seen}
 use Rattle.wc_outside.specs.Keyed.{at_key}
 use Rattle.wc_outside.specs.declared.happening.Happening.{Happening}
-use Rattle.wc_outside.specs.declared.happening.Happening.TheVariants.{Woke, Accepted, Read, Ended, Failed, ListenFailed}
+use Rattle.wc_outside.specs.declared.happening.Happening.TheVariants.{Woke, Accepted, Read, Ended, Failed, Connected, Refused, ListenFailed}
 use Rattle.wc_session.specs.declared.client.Client.{Client}
 use Rattle.wc_core.specs.Events.{Event, Tick, Line}
-use Rattle.wc_core.specs.State.{State, first_state}
+use Rattle.wc_core.specs.State.{State}
 use Rattle.wc_core.specs.Step.{client_link, run}
 use Rattle.wc_board.specs.Connections.{unsent_on}
 use Rattle.wc_core.specs.Served.{state_of, sent_to}
 use Rattle.wc_mirror_laws.specs.Held.{HeldPart}
 use Rattle.wc_mirror_laws.specs.Bytes.{ShowsPart}
-use Rattle.wc_mirror_laws.specs.Mirrors.{IsShortLine}
+use Rattle.wc_mirror_laws.specs.Mirrors.{beginning, IsShortLine}
 use Rattle.wc_mirror_laws.specs.Settled.{SettledBy, is_following}
 use Rattle.wc_mirror_laws.proofs.BytesLemmas.{part_shows}
 use Rattle.wc_options.specs.Config.{config_of}
@@ -25,8 +26,9 @@ use Rattle.wc_options.specs.Options.{OptionsValue}
 use Rattle.wc_core.specs.Limits.{most_lines}
 use Rattle.wc_turns.specs.declared.headless.Headless.{Headless}
 use Rattle.wc_loop.proofs.OptionsLemmas.{limit_most}
-use Rattle.wc_turns.specs.Events.{events_of, events_from, wake_events, line_events, is_tick, tail_on, clock}
-use Rattle.wc_loop.specs.Headline.{HandsOut, ClientsHoldDumps}
+use Rattle.wc_turns.specs.Events.{events_of, events_from, wake_events, loss_of, refused_since, line_events, is_tick, tail_on, clock}
+use Rattle.wc_loop.specs.Headline.{HandsOut, ClientsHoldDumps, state_before}
+use Rattle.wc_loop.specs.Words.{Opening}
 use Rattle.wc_turns.specs.Lines.{ended_lines, without_cr, line_limit}
 
 -- ---- lines are no longer than one may be
@@ -65,12 +67,18 @@ short-lines : (link : ℕ) (lines : List (List ℕ)) → AllByRecursion IsShortL
 short-lines link [] = tt
 short-lines link (line ∷ lines) = short-append (line_events link line) (flat_map (line_events link) lines) (short-line link line) (short-lines link lines)
 
+short-losses : (refused : List LinkId) → AllByRecursion IsShortLine (map loss_of refused)
+short-losses [] = tt
+short-losses (link ∷ refused) = (tt, short-losses refused)
+
 short-of : (before : List Happening) (h : Happening) → AllByRecursion IsShortLine (events_of before h)
-short-of before (Woke m) = short-wake (clock before) m
+short-of before (Woke m) = short-append (wake_events (clock before) m) (map loss_of (refused_since before)) (short-wake (clock before) m) (short-losses (refused_since before))
 short-of before (Accepted link nonce) = (tt, tt)
 short-of before (Read link bytes) = short-lines link.0 (ended_lines (tail_on link.0 before) bytes)
 short-of before (Ended link) = (tt, tt)
 short-of before (Failed link) = (tt, tt)
+short-of before (Connected link) = (tt, tt)
+short-of before (Refused link) = tt
 short-of before ListenFailed = (tt, tt)
 
 pub short-from : (before happenings : List Happening) → AllByRecursion IsShortLine (events_from before happenings)
@@ -83,25 +91,25 @@ open-client : (P : Type 0) (o : Option Client) → is_following o ≡ true → (
 open-client P None e f = absurd (false≢true e)
 open-client P (Some client) e f = f client refl
 
-shows-by : (commands : List (List ℕ)) (texts : AllByRecursion IsUtf8 commands) (options : OptionsValue) (limit : ℕ) (seen : Seen) (last : Headless) → limit ≤ 4096 → (handed : HandsOut (first_state options limit commands) seen last) (which : HeldPart) (link : ℕ) (id : List ℕ) → 1 ≤ link → SettledBy which link id (first_state options limit commands) handed.events
-    → ShowsPart which limit id (seen.sent link ++ unsent_on link last.core.connections) (state_of last.core (run (first_state options limit commands) handed.events).state.told)
-shows-by commands texts options limit seen last most handed which link id one settled =
-    let first = first_state options limit commands in
+shows-by : (commands : List (List ℕ)) (connects : Bool) (texts : AllByRecursion IsUtf8 commands) (options : OptionsValue) (limit : ℕ) (seen : Seen) (last : Headless) → limit ≤ 4096 → (handed : HandsOut (beginning options limit commands connects) seen last) (which : HeldPart) (link : ℕ) (id : List ℕ) → 1 ≤ link → SettledBy which link id (beginning options limit commands connects) handed.events
+    → ShowsPart which limit id (seen.sent link ++ unsent_on link last.core.connections) (state_of last.core (run (beginning options limit commands connects) handed.events).state.told)
+shows-by commands connects texts options limit seen last most handed which link id one settled =
+    let first = beginning options limit commands connects in
     let means : State = state_of last.core (run first handed.events).state.told in
     let short = short-front handed.events handed.reaches.rest (subst (AllByRecursion IsShortLine) handed.reaches.front (short-from [] seen.taken)) in
-    let shows : ShowsPart which limit id (sent_to link (run first handed.events).acts) (run first handed.events).state = part_shows which options limit commands handed.events link id most texts short settled in
+    let shows : ShowsPart which limit id (sent_to link (run first handed.events).acts) (run first handed.events).state = part_shows which options limit commands connects handed.events link id most texts short settled in
     let bytes = open-client _ (at_key client_link link (run first handed.events).state.clients) settled.still (λ client there. handed.opened link client one there) in
     subst (λ sent. ShowsPart which limit id sent means) (sym bytes) (subst (λ state. ShowsPart which limit id (sent_to link (run first handed.events).acts) state) handed.means.same shows)
 
-pub ClientsHoldDumps-known : (commands : List (List ℕ)) → AllByRecursion IsUtf8 commands → (contents : Option (List ℕ)) (seen : Seen) (last : Headless) → ClientsHoldDumps commands contents seen last
-ClientsHoldDumps-known commands texts None seen last = tt
-ClientsHoldDumps-known commands texts (Some kept) seen last = go (config_of kept)
+pub ClientsHoldDumps-known : (opening : Opening) → AllByRecursion IsUtf8 opening.commands → (contents : Option (List ℕ)) (seen : Seen) (last : Headless) → ClientsHoldDumps opening contents seen last
+ClientsHoldDumps-known opening texts None seen last = tt
+ClientsHoldDumps-known opening texts (Some kept) seen last = go (config_of kept)
   where
-    go : (r : Result OptionsValue ℕ) → IfOk r (λ options. (handed : HandsOut (first_state options (most_lines options) commands) seen last) (which : HeldPart) (link : ℕ) (id : List ℕ) → 1 ≤ link → SettledBy which link id (first_state options (most_lines options) commands) handed.events
-        → ShowsPart which (most_lines options) id (seen.sent link ++ unsent_on link last.core.connections) (state_of last.core (run (first_state options (most_lines options) commands) handed.events).state.told))
-    go (Ok options) = λ handed which link id one settled. shows-by commands texts options (most_lines options) seen last (limit_most options) handed which link id one settled
+    go : (r : Result OptionsValue ℕ) → IfOk r (λ options. (handed : HandsOut (state_before options opening) seen last) (which : HeldPart) (link : ℕ) (id : List ℕ) → 1 ≤ link → SettledBy which link id (state_before options opening) handed.events
+        → ShowsPart which (most_lines options) id (seen.sent link ++ unsent_on link last.core.connections) (state_of last.core (run (state_before options opening) handed.events).state.told))
+    go (Ok options) = λ handed which link id one settled. shows-by opening.commands (not opening.holds) texts options (most_lines options) seen last (limit_most options) handed which link id one settled
     go (Err n) = tt
 
-pub ClientsHoldDumps-last : (commands : List (List ℕ)) → AllByRecursion IsUtf8 commands → (contents : Option (List ℕ)) (seen : Seen) (last : Option Headless) → IfSome last (ClientsHoldDumps commands contents seen)
-ClientsHoldDumps-last commands texts contents seen None = tt
-ClientsHoldDumps-last commands texts contents seen (Some last) = ClientsHoldDumps-known commands texts contents seen last
+pub ClientsHoldDumps-last : (opening : Opening) → AllByRecursion IsUtf8 opening.commands → (contents : Option (List ℕ)) (seen : Seen) (last : Option Headless) → IfSome last (ClientsHoldDumps opening contents seen)
+ClientsHoldDumps-last opening texts contents seen None = tt
+ClientsHoldDumps-last opening texts contents seen (Some last) = ClientsHoldDumps-known opening texts contents seen last

@@ -9,11 +9,11 @@ use Rattle.wc_options.specs.ReadConfig.{IsBadLine}
 use Rattle.wc_options.specs.declared.refusal.ConfigRefused.TheVariants.{BadLine}
 use Rattle.wc_session.specs.Heeded.{option_value}
 use Rattle.wc_core.specs.Limits.{most_lines, port_of}
-use Rattle.wc_core.specs.State.{first_state}
 use Rattle.wc_core.specs.Served.{Means}
 use Rattle.wc_turns.specs.declared.headless.Headless.{Headless}
 use Rattle.wc_loop.specs.Endings.{IsPort}
-use Rattle.wc_loop.specs.Headline.{IsConfigured}
+use Rattle.wc_loop.specs.Headline.{state_before, IsConfigured}
+use Rattle.wc_loop.specs.Words.{Opening}
 
 -- the number of an unreadable line
 pub line_is : (n : ℕ) (r : Result OptionsValue ℕ) → IsBadLine (BadLine n) r → r ≡ Err n
@@ -57,7 +57,7 @@ some_port None = (0, tt)
 some_port (Some configuration) = port_by (config_of configuration)
 
 -- a state and a port that were made by the options
-pub configured_by : (commands : List (List ℕ)) (contents : Option (List ℕ)) (headless : Headless) (port : ℕ) (options : OptionsValue) → IfSome contents (λ configuration. config_of configuration ≡ Ok options)
-    → Means headless.core (first_state options (most_lines options) commands) → port ≡ port_of options → IfSome contents (IsConfigured commands headless port)
-configured_by commands None headless port options set means at = tt
-configured_by commands (Some configuration) headless port options set means at = record { options = options; set = set; means = means; port_set = at }
+pub configured_by : (opening : Opening) (contents : Option (List ℕ)) (headless : Headless) (port : ℕ) (options : OptionsValue) → IfSome contents (λ configuration. config_of configuration ≡ Ok options)
+    → Means headless.core (state_before options opening) → port ≡ port_of options → IfSome contents (IsConfigured opening headless port)
+configured_by opening None headless port options set means at = tt
+configured_by opening (Some configuration) headless port options set means at = record { options = options; set = set; means = means; port_set = at }

@@ -7,17 +7,19 @@ use Rattle.wc_outside.specs.declared.happening.Happening.TheVariants.{Read}
 use Rattle.wc_core.specs.Events.{Event}
 use Rattle.wc_core.specs.State.{State}
 use Rattle.wc_core.specs.Step.{run}
-use Rattle.wc_core.specs.Served.{sent_to}
+use Rattle.wc_turns.specs.Parties.{owed_to, asks_in}
 use Rattle.wc_turns.specs.declared.headless.Headless.{Headless}
 use Rattle.wc_turns.specs.Events.{whole}
 use Rattle.wc_loop.specs.Headline.{HandsOut}
 
--- two runs take the same events, end in the same world, and owe each link the same bytes
+-- two runs take the same events, end in the same world, owe each link the same bytes, and want the
+-- same connections
 pub record RunAlike (first : State) (x y : Headless) (events others : List Event) : Type 0 where
   pub reached : events ≡ others
   pub world : x.core.world ≡ y.core.world
   pub quits : x.core.quits ≡ y.core.quits
-  pub owed : (link : ℕ) → sent_to link (run first events).acts ≡ sent_to link (run first others).acts
+  pub owed : (link : ℕ) → owed_to link (run first events).acts ≡ owed_to link (run first others).acts
+  pub asked : asks_in (run first events).acts ≡ asks_in (run first others).acts
 
 -- runs whose happenings spell the same events
 abbrev pub SpellAlike : Type 0

@@ -1,12 +1,13 @@
 -- How a run ends, and what it prints.
 use Rattle.std.specs.Prelude.{ℕ, ◌≡◌, ◌≢◌, ◌≤◌, ◌⊎◌, Bool, true, false, not, List, []}
-use Rattle.std.specs.Prelude.{◌∷◌, ◌++◌, All, ◌&&◌, nat_le, Option, Some, None, Result, Ok, Err}
+use Rattle.std.specs.Prelude.{◌∷◌, ◌++◌, map, All, ◌&&◌, nat_le, Option, Some, None, Result, Ok, Err}
 use Rattle.std.specs.Prelude.{IfSome, IfOk, IsSome, is_some, IsTrue, IsSomeAnd, if◌then◌else◌, ◌==◌, codes, decimal}
 use Rattle.std.specs.Io.KnownBytes.{append_known}
+use Rattle.wc_text.specs.declared.names.Address.{Address}
 use Rattle.wc_outside.specs.Faults.{Faults, Rose}
 use Rattle.wc_outside.specs.Seen.{Seen}
 use Rattle.wc_outside.specs.declared.happening.Asked.{Asked}
-use Rattle.wc_outside.specs.declared.happening.Asked.TheVariants.{Listen}
+use Rattle.wc_outside.specs.declared.happening.Asked.TheVariants.{Listen, Connect}
 use Rattle.wc_loop.specs.declared.ending.Ending.{Ending}
 use Rattle.wc_loop.specs.declared.ending.Ending.TheVariants.{Version, Help, BadWord, WaitFailed}
 use Rattle.wc_loop.specs.declared.ending.Ending.TheVariants.{NoConfiguration, BadLine, NoMemory}
@@ -24,10 +25,11 @@ use Rattle.wc_options.specs.Config.{config_of}
 use Rattle.wc_options.specs.Options.{OptionsValue}
 use Rattle.wc_core.specs.Limits.{port_of}
 use Rattle.wc_loop.specs.Headline.{Headline}
-use Rattle.wc_turns.specs.Served.{NobodyLeaving}
+use Rattle.wc_turns.specs.Parties.{IsCalm}
+use Rattle.wc_loop.specs.Words.{Opening}
 use Rattle.wc_turns.specs.Sources.{AllServed, AllSent}
-use Rattle.wc_turns.specs.Turns.{AgreesWithSockets, IsCaused, wake_count, listen_faults}
-use Rattle.wc_turns.specs.Turns.{FaultsIn, LoopStep, TurnStep}
+use Rattle.wc_turns.specs.Turns.{AgreesWithSockets, HasCause as HasCloseCause, wake_count}
+use Rattle.wc_turns.specs.Turns.{listen_faults, FaultsIn, LoopStep, TurnStep}
 
 -- the state at the end is there where a wait returned
 abbrev pub kept_of : Headless → Option Headless
@@ -170,8 +172,8 @@ pub record Prints (wish : Result Wish ℕ) (contents : Option (List ℕ)) (statu
   pub holds : after
       ≡ append_known before (printed_text (shown_by wish) (is_some last) status number)
 
--- what the sockets are asked for where words ask for turns: the listener at a port, unless the run
--- ended before
+-- what the sockets are asked for first where words ask for turns: the listener at a port, unless the
+-- run ended before
 abbrev pub asked_in : ℕ → ℕ → Bool → List Asked
 asked_in port status woken =
     if nat_le 3 status && nat_le status 5 && not woken then [] else Listen port ∷ []
@@ -181,12 +183,15 @@ abbrev pub IsPort : Option (List ℕ) → ℕ → Type 0
 IsPort contents port = IfSome contents (λ configuration. IfOk (config_of configuration)
     (λ options. port ≡ port_of options))
 
--- what the sockets were asked for in a run with this status, which may ask for turns
+-- what the sockets were asked for in a run with this status, which may ask for turns: the listener,
+-- and then connections where a wait returned
 pub record IsAsked (turns : Bool) (contents : Option (List ℕ)) (status : ℕ) (woken : Bool)
     (asked : List Asked) : Type 0 where
   pub port : ℕ
   pub set : IsPort contents port
-  pub is : asked ≡ (if turns then asked_in port status woken else [])
+  pub connects : List Address
+  pub unwoken : woken ≡ false → connects ≡ []
+  pub is : asked ≡ (if turns then asked_in port status woken ++ map Connect connects else [])
 
 -- each status that tells a fault comes only where that count rose
 pub record HasCause (before after : Faults) (kept kept' : ℕ) (status : ℕ) : Type 0 where
@@ -274,33 +279,43 @@ IsEarly contents kept kept' NotSaved = ⊥
 IsEarly contents kept kept' TurnsTaken = ⊥
 IsEarly contents kept kept' Quit = ⊥
 
+-- the links that the last turn closed have their causes in it, as far as they are not those of servers
+pub record ClosesLast (last : Headless) (after : Seen) : Type 0 where
+  -- the state before the last turn, and what was seen then
+  pub earlier : Headless
+  pub seen : Seen
+  pub end : TurnEnd
+  pub agrees : AgreesWithSockets earlier seen
+  pub turn : TurnStep end earlier last seen after
+  pub causes : All (HasCloseCause earlier last seen after) last.links.closed.items
+
 -- the state after the last turn
-pub record IsLastState (commands : List (List ℕ)) (contents : Option (List ℕ)) (before after : Seen)
+pub record IsLastState (opening : Opening) (contents : Option (List ℕ)) (after : Seen)
     (last : Headless) : Type 0 where
-  pub headline : Headline commands contents after last
+  pub headline : Headline opening contents after last
   pub agrees : AgreesWithSockets last after
-  pub calm : NobodyLeaving last.core.connections
-  pub causes : All (IsCaused before after) last.links.closed.items
+  pub calm : IsCalm last.core
+  pub causes : ClosesLast last after
 
 -- What was saved in the last turn could not be written. So a keeper that tells what it holds has what
 -- it had before that turn: the text that was saved last by then, or what it held at first.
-pub record HoldsEarlier (commands : List (List ℕ)) (contents kept : Option (List ℕ)) (after : Seen)
+pub record HoldsEarlier (opening : Opening) (contents kept : Option (List ℕ)) (after : Seen)
     (last : Headless) : Type 0 where
   -- the state before the last turn, and what was seen then
   pub earlier : Headless
   pub seen : Seen
-  pub headline : Headline commands contents seen earlier
+  pub headline : Headline opening contents seen earlier
   pub agrees : AgreesWithSockets earlier seen
   pub turn : TurnStep KeeperFault earlier last seen after
   pub holds : IsSome kept → kept ≡ held_by earlier.core.saved contents
 
 -- What a keeper has at the end: what it held at first where no wait returned, and else the text that
 -- was saved last, or what it had before the last turn.
-abbrev pub HoldsSaved : List (List ℕ) → Option (List ℕ) → Option (List ℕ) → Seen → Option Headless →
+abbrev pub HoldsSaved : Opening → Option (List ℕ) → Option (List ℕ) → Seen → Option Headless →
     Type 0
-HoldsSaved commands contents kept after None = kept ≡ contents
-HoldsSaved commands contents kept after (Some last) = KeepsText contents kept (Some last)
-    ⊎ HoldsEarlier commands contents kept after last
+HoldsSaved opening contents kept after None = kept ≡ contents
+HoldsSaved opening contents kept after (Some last) = KeepsText contents kept (Some last)
+    ⊎ HoldsEarlier opening contents kept after last
 
 -- a keeper failed at the end of the last of some turns, the first of which began so
 pub record FailsToSave (first last : Headless) (before after : Seen)
@@ -310,12 +325,12 @@ pub record FailsToSave (first last : Headless) (before after : Seen)
   pub waits : ℕ
   pub until : LoopStep false waits 0 first earlier before seen
   pub agrees : AgreesWithSockets earlier seen
-  pub calm : NobodyLeaving earlier.core.connections
+  pub calm : IsCalm earlier.core
   pub turn : TurnStep KeeperFault earlier last seen after
   pub saves : SavesTurn first.core earlier.core contents kept
 
 -- a run that was asked for this number of waits ends
-pub record Runs (commands : List (List ℕ)) (turns : ℕ) (contents : Option (List ℕ)) (kept kept' : ℕ) (before after : Seen)
+pub record Runs (opening : Opening) (turns : ℕ) (contents : Option (List ℕ)) (kept kept' : ℕ) (before after : Seen)
     (ending : Ending) (last : Option Headless) : Type 0 where
   pub ends : Ends turns contents after (status_of ending) last
   pub line : status_of ending ≡ 4 → IfSome contents (λ configuration. config_of configuration
@@ -325,12 +340,12 @@ pub record Runs (commands : List (List ℕ)) (turns : ℕ) (contents : Option (L
   pub saving : status_of ending ≡ 3 → is_unsaved ending ≡ is_some last
   pub counted : LastOf after last
   pub most : WaitsAtMost turns after last
-  pub left : IfSome last (IsLastState commands contents before after)
+  pub left : IfSome last (IsLastState opening contents after)
   -- after the last turn each source is served, and each link is written
   pub served : status_of ending ≡ 8 →
-      IfSome last (λ last. AllServed last.core.connections before after)
+      IfSome last (λ last. AllServed last.core before after)
   -- after `/quit` each link is written once
-  pub sent : status_of ending ≡ 0 → IfSome last (λ last. AllSent last.core.connections before after)
+  pub sent : status_of ending ≡ 0 → IfSome last (λ last. AllSent last.core before after)
   pub faults : HasCause before.faults after.faults kept kept' (status_of ending)
   pub asked : IsTrue after.tells → IsAsked true contents (status_of ending) (is_some last)
       after.asked
@@ -343,19 +358,19 @@ pub record AsksNothing (kept kept' : ℕ) (before after : Seen) (wanted ending :
   pub seen : after ≡ before
   pub faults : kept' ≡ kept
 
-abbrev pub RunsFor : Shows → List (List ℕ) → ℕ → Option (List ℕ) → ℕ → ℕ → Seen → Seen → Ending →
+abbrev pub RunsFor : Shows → Opening → ℕ → Option (List ℕ) → ℕ → ℕ → Seen → Seen → Ending →
     Option Headless → Type 0
-RunsFor shows.Version commands turns contents kept kept' before after ending last =
+RunsFor shows.Version opening turns contents kept kept' before after ending last =
     AsksNothing kept kept' before after Version ending last
-RunsFor shows.Help commands turns contents kept kept' before after ending last =
+RunsFor shows.Help opening turns contents kept kept' before after ending last =
     AsksNothing kept kept' before after Help ending last
-RunsFor shows.Nothing commands turns contents kept kept' before after ending last =
-    Runs commands turns contents kept kept' before after ending last
+RunsFor shows.Nothing opening turns contents kept kept' before after ending last =
+    Runs opening turns contents kept kept' before after ending last
 
 -- the program ends, by its words
-abbrev pub RunsBy : List (List ℕ) → Result Wish ℕ → Option (List ℕ) → ℕ → ℕ → Seen → Seen →
+abbrev pub RunsBy : Opening → Result Wish ℕ → Option (List ℕ) → ℕ → ℕ → Seen → Seen →
     Ending → Option Headless → Type 0
-RunsBy commands (Err n) contents kept kept' before after ending last = AsksNothing kept kept' before after
+RunsBy opening (Err n) contents kept kept' before after ending last = AsksNothing kept kept' before after
     (BadWord n) ending last
-RunsBy commands (Ok wish) contents kept kept' before after ending last =
-    RunsFor wish.shows commands wish.turns contents kept kept' before after ending last
+RunsBy opening (Ok wish) contents kept kept' before after ending last =
+    RunsFor wish.shows opening wish.turns contents kept kept' before after ending last

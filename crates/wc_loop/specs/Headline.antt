@@ -1,5 +1,6 @@
--- What a whole run hands to its clients.
-use Rattle.std.specs.Prelude.{ℕ, ◌≡◌, ◌≤◌, true, false, List, [], ◌++◌, Option, Some, None, IfSome}
+-- What a whole run hands to its clients and its servers.
+use Rattle.std.specs.Prelude.{ℕ, ◌≡◌, ◌≤◌, ◌||◌, Bool, true, false, not, List, [], ◌∷◌, ◌++◌}
+use Rattle.std.specs.Prelude.{Option, Some, None, IfSome}
 use Rattle.std.specs.Prelude.{IsTrue, is_some, IfOk, Ok}
 use Rattle.wc_outside.specs.Seen.{Seen}
 use Rattle.wc_turns.specs.declared.headless.Headless.{Headless}
@@ -13,7 +14,13 @@ use Rattle.wc_turns.specs.Run.{up_to_quit}
 use Rattle.wc_core.specs.Events.{Event}
 use Rattle.wc_core.specs.State.{State, first_state, has_end}
 use Rattle.wc_core.specs.Step.{client_link, run}
-use Rattle.wc_core.specs.Served.{Means, state_of, sent_to}
+use Rattle.wc_core.specs.Served.{Means, state_of, sent_to, outs_of}
+use Rattle.wc_servers.specs.Outs.{lines_to}
+use Rattle.wc_servers.specs.Seats.{ServerSeat, server_link, unsent_on as server_unsent_on}
+use Rattle.wc_servers.specs.Seats.{no_servers}
+use Rattle.wc_outside.specs.declared.happening.Asked.TheVariants.{Listen}
+use Rattle.wc_loop.specs.Words.{Opening}
+use Rattle.wc_turns.specs.Parties.{owed_to, asks_in}
 use Rattle.wc_board.specs.Connections.{unsent_on}
 use Rattle.wc_session.specs.declared.client.Client.{Client}
 use Rattle.wc_mirror_laws.specs.Held.{HeldPart}
@@ -23,9 +30,26 @@ use Rattle.wc_turns.specs.Events.{whole}
 use Rattle.wc_turns.specs.Served.{ReachesEvents}
 use Rattle.wc_turns.specs.Turns.{moment, point, QuitsWithin}
 
+-- the state before the start
+abbrev pub state_before : OptionsValue → Opening → State
+state_before options opening = record (first_state options (most_lines options) opening.commands) {
+  connects = not opening.holds;
+}
+
+-- the state of a loop whose servers are not connected by themselves, where that is held back
+abbrev pub held_if : Bool → Headless → Headless
+held_if true headless = record headless { core = record headless.core { connects = false } }
+held_if false headless = headless
+
+-- whether a link has a client or a server
+abbrev pub has_party_in : ℕ → State → Bool
+has_party_in link state = is_some (at_key client_link link state.clients)
+    || is_some (at_key server_link link state.servers)
+
 -- The core means the state of the run over the events that were reached, from this one on; what is
--- sent and then unsent on each open link is what the run owes; and what was sent on a closed link
--- is a front of that, all of it unless there was no room as it was closed, or it failed.
+-- sent and then unsent on each open link is what the run owes; what was sent on a closed link is a
+-- front of that, all of it unless there was no room as it was closed, or it failed; and the sockets
+-- were asked for what the run wants connected.
 pub record HandsOut (first : State) (seen : Seen) (last : Headless) : Type 0 where
   pub events : List Event
   pub reaches : ReachesEvents false last.core.quits 0 last.ran (whole seen.taken) events
@@ -36,42 +60,49 @@ pub record HandsOut (first : State) (seen : Seen) (last : Headless) : Type 0 whe
   pub means : Means last.core (run first events).state
   pub quits : last.core.quits ≡ has_end (run first events).acts
   pub links : (link : ℕ) → is_some (at_key link_number link last.links.opened.items)
-      ≡ is_some (at_key client_link link (run first events).state.clients)
+      ≡ has_party_in link (run first events).state
   pub opened : (link : ℕ) (client : Client) → 1 ≤ link →
       at_key client_link link (run first events).state.clients ≡ Some client
       → seen.sent link ++ unsent_on link last.core.connections
       ≡ sent_to link (run first events).acts
+  pub served : (link : ℕ) (seat : ServerSeat) → 1 ≤ link →
+      at_key server_link link (run first events).state.servers ≡ Some seat
+      → seen.sent link ++ server_unsent_on link last.core.servers.seats
+      ≡ lines_to link (outs_of (run first events).acts)
   pub closed : (link : ℕ) → 1 ≤ link → link ≤ seen.used →
-      at_key client_link link (run first events).state.clients ≡ None
-      → IsFrontOf (sent_to link (run first events).acts) (point link (moment last seen))
+      has_party_in link (run first events).state ≡ false
+      → IsFrontOf (owed_to link (run first events).acts) (point link (moment last seen))
+  -- what was asked for is the listener, and then what the run wants connected
+  pub port : ℕ
+  pub asked : seen.asked ≡ Listen port ∷ asks_in (run first events).acts
 
--- the same of a run that runs these commands at its start, where the sockets and the keeper tell what they hold and no growth was refused
-abbrev pub Headline : List (List ℕ) → Option (List ℕ) → Seen → Headless → Type 0
-Headline commands contents seen last =
+-- the same of a run that begins so, where the sockets and the keeper tell what they hold and no growth was refused
+abbrev pub Headline : Opening → Option (List ℕ) → Seen → Headless → Type 0
+Headline opening contents seen last =
     IfSome contents (λ configuration. IfOk (config_of configuration)
     (λ options. IsTrue seen.tells → last.core.starved ≡ 0 →
-    HandsOut (first_state options (most_lines options) commands) seen last))
+    HandsOut (state_before options opening) seen last))
 
 -- Where that is so, each client that settled by the dump of a part, the lines of all buffers, the
 -- buffers in their groups or the nicklists, has exactly this part of what the core holds, by the
 -- bytes that were sent to it and those that are unsent. Of nicklists it has the rows that the run
 -- last told, which the core knows by what was touched since then.
-abbrev pub ClientsHoldDumps : List (List ℕ) → Option (List ℕ) → Seen → Headless → Type 0
-ClientsHoldDumps commands contents seen last =
+abbrev pub ClientsHoldDumps : Opening → Option (List ℕ) → Seen → Headless → Type 0
+ClientsHoldDumps opening contents seen last =
     IfSome contents (λ configuration. IfOk (config_of configuration) (λ options.
-    (handed : HandsOut (first_state options (most_lines options) commands) seen last) (which : HeldPart)
+    (handed : HandsOut (state_before options opening) seen last) (which : HeldPart)
     (link : ℕ) (id : List ℕ) → 1 ≤ link →
-    SettledBy which link id (first_state options (most_lines options) commands) handed.events
+    SettledBy which link id (state_before options opening) handed.events
     → ShowsPart which (most_lines options) id (seen.sent link ++ unsent_on link last.core.connections)
     (state_of last.core
-    (run (first_state options (most_lines options) commands) handed.events).state.told)))
+    (run (state_before options opening) handed.events).state.told)))
 
 -- a state and a port that a configuration sets
-pub record IsConfigured (commands : List (List ℕ)) (headless : Headless) (port : ℕ)
+pub record IsConfigured (opening : Opening) (headless : Headless) (port : ℕ)
     (configuration : List ℕ) : Type 0 where
   pub options : OptionsValue
   pub set : config_of configuration ≡ Ok options
-  pub means : Means headless.core (first_state options (most_lines options) commands)
+  pub means : Means headless.core (state_before options opening)
   pub port_set : port ≡ port_of options
 
 -- a state before the first turn
@@ -88,6 +119,9 @@ pub record IsFirst (headless : Headless) : Type 0 where
   pub closed : headless.links.closed.items ≡ []
   pub saved : headless.core.saved ≡ None
   pub unwritten : headless.core.unwritten ≡ false
+  pub refused : headless.refused.items ≡ []
+  pub unlisted : headless.unlisted ≡ 0
+  pub servers : headless.core.servers ≡ no_servers
 
 -- sockets of which nothing was taken
 pub record NothingTaken (seen : Seen) : Type 0 where

@@ -1,5 +1,5 @@
 -- What the words of a call ask.
-use Rattle.std.specs.Prelude.{ℕ, ◌+◌, ◌^◌, ◌==◌, Bool, ◌&&◌, ◌||◌, List, [], ◌∷◌, ◌++◌}
+use Rattle.std.specs.Prelude.{ℕ, ◌+◌, ◌^◌, ◌==◌, Bool, true, false, ◌&&◌, ◌||◌, List, [], ◌∷◌, ◌++◌}
 use Rattle.std.specs.Prelude.{if◌then◌else◌, nat_le, Option, Some, None, Result, Ok, Err, codes, ℤ}
 use Rattle.std.specs.Prelude.{pos, negsuc}
 use Rattle.std.specs.Str.{bytes_eq}
@@ -40,7 +40,7 @@ is_unconnected word = bytes_eq word (codes "-a")
 unfoldable pub asked_by : Wish → List ℕ → Option Wish
 asked_by wish word = if is_version word then Some (record wish { shows = Version }) else (
     if is_help word then Some (record wish { shows = Help }) else (
-    if is_unconnected word then Some wish else None))
+    if is_unconnected word then Some (record wish { holds = true }) else None))
 
 -- whether a word takes a value that is text
 abbrev pub takes_text : List ℕ → Bool
@@ -68,7 +68,7 @@ wish_from place wish (word ∷ value ∷ words) = with_flag (asked_by wish word)
 
 -- what the words ask, or the number of the first one with a fault, counted from 1
 abbrev pub wish_of : List (List ℕ) → Result Wish ℕ
-wish_of words = wish_from 0 (record { shows = Nothing; turns = 2 ^ 62 }) words
+wish_of words = wish_from 0 (record { shows = Nothing; turns = 2 ^ 62; holds = false }) words
 
 -- the folder that words name after others that named one, the last of which counts
 abbrev pub folder_from : Option (List ℕ) → List (List ℕ) → Option (List ℕ)
@@ -99,3 +99,17 @@ commands_from commands (word ∷ value ∷ words) =
 -- the commands that are run at the start
 abbrev pub commands_of : List (List ℕ) → List (List ℕ)
 commands_of words = commands_from [] words
+
+-- whether no server is connected by itself at the start
+abbrev pub holds_in : Result Wish ℕ → Bool
+holds_in (Ok wish) = wish.holds
+holds_in (Err n) = false
+
+-- what words ask of the start
+pub record Opening : Type 0 where
+  -- what is run
+  pub commands : List (List ℕ)
+  pub holds : Bool
+
+abbrev pub opening_of : List (List ℕ) → Opening
+opening_of words = record { commands = commands_of words; holds = holds_in (wish_of words) }

@@ -7,24 +7,23 @@ ghost use Rattle.wc_outside.specs.Seen.{IsNew};
 ghost use Rattle.wc_loop.specs.Endings.{LastOf, StatusOf, WaitsAtMost, Prints, IsEarly, HasCause};
 ghost use Rattle.wc_loop.specs.Endings.{Runs, RunsBy, asks_turns, IsAsked, EndsAt, kept_of};
 ghost use Rattle.wc_loop.specs.Endings.{status_of, ending_text, KeepsText, HoldsEarlier};
-ghost use Rattle.wc_loop.specs.Endings.{HoldsSaved, FailsToSave};
+ghost use Rattle.wc_loop.specs.Endings.{HoldsSaved, FailsToSave, ClosesLast};
 ghost use Rattle.wc_turns.specs.Saves.{SavesTurn};
 ghost use Rattle.wc_options.specs.Config.{config_of};
-ghost use Rattle.wc_core.specs.Limits.{most_lines, port_of};
+ghost use Rattle.wc_core.specs.Limits.{port_of};
 ghost use Rattle.wc_core.specs.Served.{Means};
-ghost use Rattle.wc_core.specs.State.{first_state};
-ghost use Rattle.wc_loop.specs.Headline.{Headline, ClientsHoldDumps, IsFirst, IsConfigured};
-ghost use Rattle.wc_turns.specs.Served.{NobodyLeaving};
+ghost use Rattle.wc_loop.specs.Headline.{state_before, held_if, Headline, ClientsHoldDumps, IsFirst, IsConfigured};
+ghost use Rattle.wc_turns.specs.Parties.{IsCalm};
 ghost use Rattle.wc_turns.specs.Sources.{AllServed, AllSent};
-ghost use Rattle.wc_loop.specs.Words.{commands_of, wish_of};
+ghost use Rattle.wc_loop.specs.Words.{commands_of, opening_of, wish_of};
 ghost use Rattle.wc_loop.specs.Endings.{RunStep};
 ghost use Rattle.std.specs.Prelude.{OnOk, OnErr, is_some};
-ghost use Rattle.wc_turns.specs.Turns.{AgreesWithSockets, IsCaused};
+ghost use Rattle.wc_turns.specs.Turns.{AgreesWithSockets};
 
 use crate::ending::Ending;
 use crate::help::help;
 use crate::print::print;
-use crate::words::{Shows, read_words, start_commands};
+use crate::words::{Shows, Wish, read_words, start_commands};
 use std::alloc::Global;
 use wc_core::port_of;
 use wc_options::{ConfigRefused, Options, read_config};
@@ -73,29 +72,50 @@ struct Configured {
     port: u16,
 }
 
-/// Makes the state of a run by the options, which runs the commands after its first wait.
-fn state_by(alloc: Global, options: Options, commands: Vec<String>) -> Result<Configured, NoMemory>
+/// Makes the state of a run by the options, which runs the commands after its first wait, and then
+/// connects servers by itself, unless that is held back.
+fn state_by(
+    alloc: Global,
+    options: Options,
+    commands: Vec<String>,
+    holds: bool,
+) -> Result<Configured, NoMemory>
     ensures first { IfOk result (λ made. IsFirst made.headless) }
     ensures means { IfOk result (λ made. Means made.headless.core
-        (first_state options (most_lines options) (map string_bytes commands.items))) }
+        (state_before options
+        (record { commands = map string_bytes commands.items; holds = holds }))) }
     ensures port { IfOk result (λ made. made.port ≡ port_of options) }
-    ensures calm { IfOk result (λ made. NobodyLeaving made.headless.core.connections) }
+    ensures calm { IfOk result (λ made. IsCalm made.headless.core) }
 {
     let port = port_of(&options);
-    let headless = Headless::new(alloc, options, commands)?;
+    let mut headless = Headless::new(alloc, options, commands)?;
+    hold_if(holds, &mut headless);
     Ok(Configured { headless, port })
+}
+
+/// Has no server connect by itself at the start, where that is held back.
+fn hold_if(holds: bool, headless: &mut Headless)
+    ensures { headless.new ≡ held_if holds headless.old }
+{
+    if holds {
+        headless.hold_servers();
+    }
 }
 
 /// Makes the state of a run, by the configuration and the words.
 fn configure<K: Keeper>(
     alloc: Global,
     words: &[String],
+    holds: bool,
     keeper: &mut K,
 ) -> Result<Configured, Ending>
     ensures first { IfOk result (λ made. IsFirst made.headless) }
     ensures known { IfOk result (λ made. IfSome (K.contents keeper.old)
-        (IsConfigured (commands_of (map string_bytes words.now)) made.headless made.port)) }
-    ensures calm { IfOk result (λ made. NobodyLeaving made.headless.core.connections) }
+        (IsConfigured (record {
+          commands = commands_of (map string_bytes words.now);
+          holds = holds;
+        }) made.headless made.port)) }
+    ensures calm { IfOk result (λ made. IsCalm made.headless.core) }
     ensures early { IfErr result (IsEarly (K.contents keeper.old) (K.faults keeper.old)
         (K.faults keeper.new)) }
     ensures kept { K.contents keeper.new ≡ K.contents keeper.old }
@@ -106,7 +126,7 @@ fn configure<K: Keeper>(
         Ok(commands) => commands,
         Err(NoMemory) => return Err(Ending::NoMemory),
     };
-    match state_by(alloc, options, commands) {
+    match state_by(alloc, options, commands, holds) {
         Ok(made) => Ok(made),
         Err(_) => Err(Ending::NoMemory),
     }
@@ -125,12 +145,11 @@ fn take_turns<S: Sockets, K: Keeper>(
     ensures continues { RunStep result headless.old headless.new (S.seen sockets.old)
         (S.seen sockets.new) }
     ensures agrees { AgreesWithSockets headless.new (S.seen sockets.new) }
-    ensures calm { NobodyLeaving headless.new.core.connections }
-    ensures causes { All (IsCaused (S.seen sockets.old) (S.seen sockets.new))
-        headless.new.links.closed.items }
-    ensures served { result ≡ TurnEnd.GoOn → 1 ≤ turns → AllServed headless.new.core.connections
+    ensures calm { IsCalm headless.new.core }
+    ensures causes { 1 ≤ headless.new.turns → ClosesLast headless.new (S.seen sockets.new) }
+    ensures served { result ≡ TurnEnd.GoOn → 1 ≤ turns → AllServed headless.new.core
         (S.seen sockets.old) (S.seen sockets.new) }
-    ensures sent { result ≡ TurnEnd.Quit → AllSent headless.new.core.connections
+    ensures sent { result ≡ TurnEnd.Quit → AllSent headless.new.core
         (S.seen sockets.old) (S.seen sockets.new) }
     ensures quit { result ≡ TurnEnd.Quit → headless.new.core.quits ≡ true }
     ensures going { result ≢ TurnEnd.Quit → result ≢ TurnEnd.ListenFault →
@@ -148,6 +167,8 @@ fn take_turns<S: Sockets, K: Keeper>(
         (K.contents keeper.old) (K.contents keeper.new) }
     ensures unsaved { headless.new.turns ≡ 0 → headless.new.core.saved ≡ None }
     ensures unwoken { headless.new.turns ≡ 0 → K.contents keeper.new ≡ K.contents keeper.old }
+    ensures unasked { headless.new.turns ≡ 0 → IsTrue (S.seen sockets.new).tells →
+        (S.seen sockets.new).asked ≡ (S.seen sockets.old).asked }
     ensures unwritten { result ≡ TurnEnd.KeeperFault → FailsToSave headless.old headless.new
         (S.seen sockets.old) (S.seen sockets.new) (K.contents keeper.old) (K.contents keeper.new) }
     ensures keeper_fault { result ≡ TurnEnd.KeeperFault →
@@ -196,22 +217,27 @@ struct Outcome {
 fn run<S: Sockets, K: Keeper>(
     alloc: Global,
     words: &[String],
-    turns: u64,
+    wish: Wish,
     sockets: &mut S,
     keeper: &mut K,
 ) -> Outcome
-    requires above { 1 ≤ turns }
+    requires above { 1 ≤ wish.turns }
     requires new { IsNew (S.seen sockets.old) }
-    ensures runs { Runs (commands_of (map string_bytes words.now)) turns (K.contents keeper.old) (K.faults keeper.old) (K.faults keeper.new)
-        (S.seen sockets.old) (S.seen sockets.new) result.ending result.last }
+    ensures runs { Runs (record {
+      commands = commands_of (map string_bytes words.now);
+      holds = wish.holds;
+    }) wish.turns (K.contents keeper.old) (K.faults keeper.old)
+        (K.faults keeper.new) (S.seen sockets.old) (S.seen sockets.new) result.ending
+        result.last }
     ensures kept { status_of result.ending ≢ 3 → KeepsText (K.contents keeper.old)
         (K.contents keeper.new) result.last }
-    ensures unsaved { status_of result.ending ≡ 3 → IfSome result.last (HoldsEarlier
-        (commands_of (map string_bytes words.now)) (K.contents keeper.old)
-        (K.contents keeper.new) (S.seen sockets.new)) }
+    ensures unsaved { status_of result.ending ≡ 3 → IfSome result.last (HoldsEarlier (record {
+      commands = commands_of (map string_bytes words.now);
+      holds = wish.holds;
+    }) (K.contents keeper.old) (K.contents keeper.new) (S.seen sockets.new)) }
     ensures unwoken { result.last ≡ None → K.contents keeper.new ≡ K.contents keeper.old }
 {
-    let Configured { mut headless, port } = match configure(alloc, words, keeper) {
+    let Configured { mut headless, port } = match configure(alloc, words, wish.holds, keeper) {
         Ok(made) => made,
         Err(ending) => return Outcome { ending, last: None },
     };
@@ -221,7 +247,7 @@ fn run<S: Sockets, K: Keeper>(
             last: None,
         };
     };
-    let then = take_turns(&mut headless, sockets, keeper, turns);
+    let then = take_turns(&mut headless, sockets, keeper, wish.turns);
     Outcome {
         ending: ending_of(then),
         last: last_state(headless),
@@ -236,14 +262,14 @@ fn run_words<S: Sockets, K: Keeper>(
     keeper: &mut K,
 ) -> Outcome
     requires { IsNew (S.seen sockets.old) }
-    ensures runs { RunsBy (commands_of (map string_bytes words.now))
+    ensures runs { RunsBy (opening_of (map string_bytes words.now))
         (wish_of (map string_bytes words.now)) (K.contents keeper.old)
         (K.faults keeper.old) (K.faults keeper.new) (S.seen sockets.old) (S.seen sockets.new)
         result.ending result.last }
     ensures kept { status_of result.ending ≢ 3 → KeepsText (K.contents keeper.old)
         (K.contents keeper.new) result.last }
     ensures unsaved { status_of result.ending ≡ 3 → IfSome result.last (HoldsEarlier
-        (commands_of (map string_bytes words.now)) (K.contents keeper.old)
+        (opening_of (map string_bytes words.now)) (K.contents keeper.old)
         (K.contents keeper.new) (S.seen sockets.new)) }
     ensures unwoken { result.last ≡ None → K.contents keeper.new ≡ K.contents keeper.old }
 {
@@ -257,7 +283,7 @@ fn run_words<S: Sockets, K: Keeper>(
         }
     };
     match wish.shows {
-        Shows::Nothing => run(alloc, words, wish.turns, sockets, keeper),
+        Shows::Nothing => run(alloc, words, wish, sockets, keeper),
         Shows::Version => Outcome {
             ending: Ending::Version,
             last: None,
@@ -328,10 +354,10 @@ pub fn run_program<S: Sockets, K: Keeper, O: Sink>(
 ) -> Ended
     requires { IsNew (S.seen sockets.old) }
     ensures headline { IfSome result.last (Headline
-        (commands_of (map string_bytes words.now.items)) (K.contents keeper.old)
+        (opening_of (map string_bytes words.now.items)) (K.contents keeper.old)
         (S.seen sockets.new)) }
     ensures mirrored { IfSome result.last (ClientsHoldDumps
-        (commands_of (map string_bytes words.now.items)) (K.contents keeper.old)
+        (opening_of (map string_bytes words.now.items)) (K.contents keeper.old)
         (S.seen sockets.new)) }
     ensures status { result.status ≢ 7 → StatusOf (wish_of (map string_bytes words.now.items))
         (K.contents keeper.old) (S.seen sockets.new) result.status result.last }
@@ -342,14 +368,13 @@ pub fn run_program<S: Sockets, K: Keeper, O: Sink>(
     ensures waits { IfOk (wish_of (map string_bytes words.now.items))
         (λ wish. WaitsAtMost wish.turns (S.seen sockets.new) result.last) }
     ensures agrees { IfSome result.last (λ last. AgreesWithSockets last (S.seen sockets.new)) }
-    ensures calm { IfSome result.last (λ last. NobodyLeaving last.core.connections) }
-    ensures causes { IfSome result.last
-        (λ last. All (IsCaused (S.seen sockets.old) (S.seen sockets.new)) last.links.closed.items) }
+    ensures calm { IfSome result.last (λ last. IsCalm last.core) }
+    ensures causes { IfSome result.last (λ last. ClosesLast last (S.seen sockets.new)) }
     ensures served { result.status ≡ 8 →
-        IfSome result.last (λ last. AllServed last.core.connections (S.seen sockets.old)
+        IfSome result.last (λ last. AllServed last.core (S.seen sockets.old)
         (S.seen sockets.new)) }
     ensures sent { result.status ≡ 0 →
-        IfSome result.last (λ last. AllSent last.core.connections (S.seen sockets.old)
+        IfSome result.last (λ last. AllSent last.core (S.seen sockets.old)
         (S.seen sockets.new)) }
     ensures faults { HasCause (S.seen sockets.old).faults (S.seen sockets.new).faults
         (K.faults keeper.old) (K.faults keeper.new) result.status }
@@ -363,9 +388,9 @@ pub fn run_program<S: Sockets, K: Keeper, O: Sink>(
     ensures kept { result.status ≢ 3 → result.status ≢ 7 → KeepsText (K.contents keeper.old)
         (K.contents keeper.new) result.last }
     ensures unsaved { result.status ≡ 3 → IfSome result.last (HoldsEarlier
-        (commands_of (map string_bytes words.now.items)) (K.contents keeper.old)
+        (opening_of (map string_bytes words.now.items)) (K.contents keeper.old)
         (K.contents keeper.new) (S.seen sockets.new)) }
-    ensures held { HoldsSaved (commands_of (map string_bytes words.now.items))
+    ensures held { HoldsSaved (opening_of (map string_bytes words.now.items))
         (K.contents keeper.old) (K.contents keeper.new) (S.seen sockets.new) result.last }
 {
     let outcome = run_words(alloc, words.as_slice(), sockets, keeper);

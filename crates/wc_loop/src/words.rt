@@ -25,6 +25,8 @@ pub struct Wish {
     pub shows: Shows,
     /// For so many waits.
     pub turns: u64,
+    /// Whether no server is connected by itself at the start.
+    pub holds: bool,
 }
 
 /// The number of turns that a word asks for, from 1 to 2^62.
@@ -101,7 +103,10 @@ fn asked_by(wish: Wish, word: &str) -> Option<Wish>
         });
     }
     if is_unconnected(word) {
-        return Some(wish);
+        return Some(Wish {
+            holds: true,
+            ..wish
+        });
     }
     None
 }
@@ -152,6 +157,7 @@ pub fn read_words(words: &[String]) -> Result<Wish, u64>
     let mut wish = Wish {
         shows: Shows::Nothing,
         turns: 1 << 62,
+        holds: false,
     };
     let mut place = 0;
     let mut rest = words;

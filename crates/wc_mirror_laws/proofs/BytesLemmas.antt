@@ -1,5 +1,5 @@
 -- The bytes that are sent to a link spell messages, in one way.
-use Rattle.std.proofs.Common.{◌≡◌, ℕ, Bool, true, false, cond, List, [], ◌∷◌, ◌++◌, length, take, drop, Option, Some, None, refl, sym, ap, subst, ◌∙◌, arith, nat_lt}
+use Rattle.std.proofs.Common.{◌≡◌, ℕ, Bool, true, false, List, [], ◌∷◌, ◌++◌, length, take, drop, Option, Some, None, refl, sym, ap, subst, ◌∙◌, arith, nat_lt}
 use Rattle.std.specs.List.{flat_map}
 use Rattle.std.proofs.Math.Seq.{take-append_seam, drop-append_seam}
 use Rattle.std.proofs.lemmas.List.{length-append}
@@ -18,21 +18,24 @@ use Rattle.wc_relaycmd.proofs.RequestTexts.{RequestIsUtf8-reads}
 use Rattle.wc_session.specs.declared.client.Client.{Client}
 use Rattle.wc_session.specs.declared.outcome.Outcome.{Outcome}
 use Rattle.wc_session.specs.declared.outcome.Outcome.TheVariants as outcome
-use Rattle.wc_session.specs.Known.{new_client}
 use Rattle.wc_session.specs.Reply.{reply_of}
 use Rattle.wc_session.specs.Sending.{spelling}
-use Rattle.wc_core.specs.Events.{Event, Start, Tick, Arrives, Line as LineCame, Ends, Fails, ListenFails}
-use Rattle.wc_core.specs.State.{State, Stepped, Closes, first_state}
+use Rattle.wc_core.specs.Events.{Event, Start, Tick, Arrives, Line as LineCame, Stands, Ends, Fails, ListenFails}
+use Rattle.wc_core.specs.State.{State, Stepped}
+use Rattle.wc_servers.specs.Seats.{server_link}
 use Rattle.wc_core.specs.Limits.{client_limit}
-use Rattle.wc_core.specs.Step.{client_link, no_step, sends, outcome_step, reply_step, request_step, line_step, loss_step, step, run}
+use Rattle.wc_core.specs.Step.{client_link, sends, outcome_step, reply_step, request_step, link_line_step, link_loss_step, step, run}
 use Rattle.wc_core.specs.Served.{OutcomeUtf8, messages_to}
 use Rattle.wc_core.specs.Typed.{lines_of_text}
 use Rattle.wc_core.proofs.MessageLemmas.{sent_to-messages}
 use Rattle.wc_mirror_laws.specs.Held.{HeldPart, Lines, Buffers, Nicks}
 use Rattle.wc_mirror_laws.specs.Kept.{IsStateKept}
+use Rattle.wc_mirror_laws.specs.Mirrors.{beginning}
 use Rattle.wc_mirror_laws.specs.Bytes.{IsSpelt, SpellOnce, RunSpells, PartShows, BytesShow, BuffersShow, NicksShow}
-use Rattle.wc_mirror_laws.proofs.ChangeLemmas.{acts_spelt, sends_spelt, Tells-runs, Tells-start}
-use Rattle.wc_mirror_laws.proofs.StepLemmas.{reply_link, reply_text, kept-put, ticked, kept-ticked, step_keeps}
+use Rattle.wc_mirror_laws.proofs.ChangeLemmas.{acts_spelt, sends_spelt}
+use Rattle.wc_mirror_laws.proofs.InputLemmas.{Tells-runs, Tells-start}
+use Rattle.wc_mirror_laws.proofs.ServerLemmas.{Tells-line, Tells-loss, Tells-stands}
+use Rattle.wc_mirror_laws.proofs.StepLemmas.{arrived, reply_link, reply_text, kept-put, ticked, kept-ticked, step_keeps}
 use Rattle.wc_mirror_laws.proofs.AskedLemmas.{before_reply, asked_after, Tells-before}
 use Rattle.wc_mirror_laws.proofs.PushLemmas.{Tells-pushes}
 use Rattle.wc_mirror_laws.proofs.SpeltLemmas.{answer_spelt}
@@ -66,24 +69,25 @@ line_spelt limit link state k line kept = came (at_key client_link k state.clien
       (sends_spelt link (client_link client) answer.messages (answer_spelt limit now.world now.options client request tells.kept.world utf8))
       (follows_spelt limit link next (client_link client) answer.outcome (reply_text now client line request e) (kept-put limit link now (client_link client) answer.client (reply_link now client line request e) tells.kept))))
 
-  came : (o : Option Client) → AllSpelt (messages_to link (line_step state line o).acts)
-  came None = tt
+  came : (o : Option Client) → AllSpelt (messages_to link (link_line_step state k line o).acts)
+  came None = (Tells-line Lines limit link [] tt state k line (at_key server_link k state.servers) kept).spelt
   came (Some client) = served client (request_of client.escaped line) refl
 
-lost_spelt : (link : ℕ) (state : State) (k : ℕ) (why : Cause) (o : Option Client) → AllSpelt (messages_to link (loss_step state k why o).acts)
-lost_spelt link state k why None = tt
-lost_spelt link state k why (Some client) = tt
+lost_spelt : (limit link : ℕ) (state : State) (k : ℕ) (why : Cause) (o : Option Client) → IsStateKept limit link state → AllSpelt (messages_to link (link_loss_step state k why o).acts)
+lost_spelt limit link state k why None kept = (Tells-loss Lines limit link [] tt k why state (at_key server_link k state.servers) kept).spelt
+lost_spelt limit link state k why (Some client) kept = tt
 
 step_spelt : (limit link : ℕ) (state : State) (event : Event) → IsStateKept limit link state → AllSpelt (messages_to link (step state event).acts)
 step_spelt limit link state (Start moment) kept = (Tells-start Lines limit link [] state moment tt kept).spelt
 step_spelt limit link state (Tick moment) kept = (Tells-pushes Lines limit link [] (ticked state moment) tt (kept-ticked limit link state moment kept)).spelt
 step_spelt limit link state (Arrives k nonce) kept = by (nat_lt (length state.clients) (client_limit state.options)) where
-  by : (b : Bool) → AllSpelt (messages_to link (cond b (no_step (record state { clients = state.clients ++ new_client state.options (record { 0 = k }) nonce ∷ [] })) (record { state = state; acts = Closes k cause.Surplus ∷ [] })).acts)
+  by : (b : Bool) → AllSpelt (messages_to link (arrived state k nonce b).acts)
   by true = tt
   by false = tt
 step_spelt limit link state (LineCame k line) kept = line_spelt limit link state k line kept
-step_spelt limit link state (Ends k) kept = lost_spelt link state k cause.Ended (at_key client_link k state.clients)
-step_spelt limit link state (Fails k) kept = lost_spelt link state k cause.Failed (at_key client_link k state.clients)
+step_spelt limit link state (Stands k) kept = (Tells-stands Lines limit link [] tt state k (at_key server_link k state.servers) kept).spelt
+step_spelt limit link state (Ends k) kept = lost_spelt limit link state k cause.Ended (at_key client_link k state.clients) kept
+step_spelt limit link state (Fails k) kept = lost_spelt limit link state k cause.Failed (at_key client_link k state.clients) kept
 step_spelt limit link state ListenFails kept = tt
 
 spelt_on : (limit link : ℕ) (state : State) (events : List Event) → IsStateKept limit link state → AllSpelt (messages_to link (run state events).acts)
@@ -95,15 +99,15 @@ spelt_on limit link state (event ∷ events) kept =
 -- ---- the bytes
 
 pub run_spells : RunSpells
-run_spells options limit commands events link most texts =
-    let acts = (run (first_state options limit commands) events).acts in
-    record { each = spelt_on limit link (first_state options limit commands) events (start_kept limit link options commands most texts); whole = sent_to-messages link acts }
+run_spells options limit commands connects events link most texts =
+    let acts = (run (beginning options limit commands connects) events).acts in
+    record { each = spelt_on limit link (beginning options limit commands connects) events (start_kept limit link options commands connects most texts); whole = sent_to-messages link acts }
 
 pub part_shows : (which : HeldPart) → PartShows which
-part_shows which options limit commands events link id most texts short settled = record {
-  messages = messages_to link (run (first_state options limit commands) events).acts;
-  spell = run_spells options limit commands events link most texts;
-  has = mirrors which options limit commands events link id most texts short settled;
+part_shows which options limit commands connects events link id most texts short settled = record {
+  messages = messages_to link (run (beginning options limit commands connects) events).acts;
+  spell = run_spells options limit commands connects events link most texts;
+  has = mirrors which options limit commands connects events link id most texts short settled;
 }
 
 pub bytes_show : BytesShow

@@ -1,10 +1,8 @@
 -- Changes reach the client that follows them, for each part that it may hold.
-use Rattle.std.proofs.Common.{◌≡◌, ℕ, Bool, true, false, cond, not, List, [], ◌∷◌, ◌++◌, Option, Some, None, refl, sym, ap, subst, ◌∙◌, eqb, IsUtf8}
-use Rattle.std.specs.List.{AllByRecursion, flat_map}
+use Rattle.std.proofs.Common.{◌≡◌, ℕ, Bool, true, false, cond, List, [], ◌∷◌, ◌++◌, Option, Some, None, refl, sym, ap, subst, ◌∙◌, eqb, IsUtf8}
+use Rattle.std.specs.List.{flat_map}
 use Rattle.std.proofs.lemmas.Bool.{false≢true}
 use Rattle.std.proofs.lemmas.List.Elements.{All-nil}
-use Rattle.wc_text.specs.declared.names.Handle.{Handle}
-use Rattle.wc_buffers.specs.Calls.{is_there}
 use Rattle.wc_model.specs.declared.change.Change.{Change}
 use Rattle.wc_model.specs.declared.notice.Notice.{Notice}
 use Rattle.wc_model.specs.declared.refused.ChangeRefused.{ChangeRefused}
@@ -17,13 +15,9 @@ use Rattle.wc_text.specs.Splits.{BeginsWithout}
 use Rattle.wc_session.specs.declared.client.Client.{Client}
 use Rattle.wc_session.specs.Event.{event_messages, notice_told}
 use Rattle.wc_session.specs.Sync.{follows}
-use Rattle.wc_core.specs.Resolved.{Effect, Stays, Ends as ResolvedEnds, Tells as TellsRefusal, Asks, SetsOption, UnsetsOption, SavesOptions, effect_of, refusal_text, option_text, told_refusal}
-use Rattle.wc_options.specs.Options.{OptionsValue, refusal_of, value_of, with_value, without_value}
-use Rattle.wc_options.specs.declared.refusal.SetRefused.{SetRefused}
-use Rattle.wc_options.specs.declared.refusal.SetRefused.TheVariants.{UnknownOption}
-use Rattle.wc_core.specs.State.{State, Act, Stepped, has_end}
-use Rattle.wc_core.specs.Step.{client_link, no_step, then_does, sends, told_to, tell_all_step, change_step, change_step_if, refusal_step, set_step_if, unset_step_if, ask_step_if, ask_step, effect_step, typed_step, is_quit, lines_step, core_buffer, commands_step}
-use Rattle.wc_core.specs.Typed.{typed_line, lines_of_text}
+use Rattle.wc_core.specs.Resolved.{refusal_text, told_refusal}
+use Rattle.wc_core.specs.State.{State, Act, Stepped}
+use Rattle.wc_core.specs.Step.{client_link, no_step, then_does, sends, told_to, tell_all_step, change_step, change_step_if, refusal_step, ask_step_if, ask_step}
 use Rattle.wc_core.specs.Served.{messages_to}
 use Rattle.wc_core.proofs.MessageLemmas.{messages_to-append}
 use Rattle.wc_view.specs.NickFold.{NickPart}
@@ -37,7 +31,6 @@ use Rattle.wc_mirror_laws.proofs.HeldLemmas.{change_right}
 use Rattle.wc_mirror_laws.proofs.NoticeLemmas.{telling}
 use Rattle.wc_mirror_laws.proofs.PrintLemmas.{level_fits}
 use Rattle.wc_mirror_laws.proofs.TellingLemmas.{AllSpelt, event_spelt}
-use Rattle.wc_mirror_laws.proofs.TypedLemmas.{OnAsks, parted_text, typed_text, resolved_told}
 use Rattle.wc_mirror_laws.specs.Changes.{IsTold}
 use Rattle.wc_mirror_laws.proofs.WorldLemmas.{after_kept, told_kept}
 
@@ -89,7 +82,7 @@ pub record Tells (which : HeldPart) (limit link : ℕ) (id : List ℕ) (state : 
 pub Tells-stays : (which : HeldPart) (limit link : ℕ) (id : List ℕ) (state : State) → IsStateKept limit link state → Tells which limit link id state (no_step state)
 Tells-stays which limit link id state kept = record { following = refl; kept = kept; spelt = tt; right = λ follows part had. had }
 
-Tells-then : (which : HeldPart) (limit link : ℕ) (id : List ℕ) (state : State) (first : Stepped) (others : State → Stepped) → Tells which limit link id state first → Tells which limit link id first.state (others first.state)
+pub Tells-then : (which : HeldPart) (limit link : ℕ) (id : List ℕ) (state : State) (first : Stepped) (others : State → Stepped) → Tells which limit link id state first → Tells which limit link id first.state (others first.state)
     → Tells which limit link id state (then_does first others)
 Tells-then which limit link id state first others a b = record {
   following = b.following ∙ a.following;
@@ -111,7 +104,7 @@ told_event limit link state told world n kept follows = by (client_on link state
   by None at e = absurd (false≢true e)
   by (Some client) at e = told-first link (notice_told world n) (told_nothing world n) state.clients client kept.first at ∙ told_each world n client e
 
-Tells-changes : (which : HeldPart) (limit link : ℕ) (id : List ℕ) (state : State) (change : Change) → BeginsWithout 95 id → IsStateKept limit link state → IsTold change.what
+pub Tells-changes : (which : HeldPart) (limit link : ℕ) (id : List ℕ) (state : State) (change : Change) → BeginsWithout 95 id → IsStateKept limit link state → IsTold change.what
     → refusal state.world change ≡ None → Tells which limit link id state (change_step state change)
 Tells-changes which limit link id state change free kept told good =
     let w = state.world in
@@ -136,83 +129,14 @@ pub change_mirrors : (which : HeldPart) → ChangeMirrors which
 change_mirrors which limit link id state change part kept free told good follows had = (Tells-changes which limit link id state change free kept told good).right follows part had
 
 -- a refusal that is told
-Tells-tells : (which : HeldPart) (limit link : ℕ) (id : List ℕ) (state : State) (text : List ℕ) → BeginsWithout 95 id → IsStateKept limit link state → Tells which limit link id state (refusal_step state text)
+pub Tells-tells : (which : HeldPart) (limit link : ℕ) (id : List ℕ) (state : State) (text : List ℕ) → BeginsWithout 95 id → IsStateKept limit link state → Tells which limit link id state (refusal_step state text)
 Tells-tells which limit link id state text free kept = by (refusal state.world (told_refusal state.moment text)) refl where
   by : (o : Option ChangeRefused) → refusal state.world (told_refusal state.moment text) ≡ o → Tells which limit link id state (change_step_if state (told_refusal state.moment text) o)
   by None good = Tells-changes which limit link id state (told_refusal state.moment text) free kept (All-nil IsUtf8, level_fits [] false) good
   by (Some reason) good = Tells-stays which limit link id state kept
 
--- ---- what is typed
-
-Tells-asks : (which : HeldPart) (limit link : ℕ) (id : List ℕ) (state : State) (change : Change) → BeginsWithout 95 id → IsStateKept limit link state → IsTold change.what → Tells which limit link id state (ask_step state change)
+pub Tells-asks : (which : HeldPart) (limit link : ℕ) (id : List ℕ) (state : State) (change : Change) → BeginsWithout 95 id → IsStateKept limit link state → IsTold change.what → Tells which limit link id state (ask_step state change)
 Tells-asks which limit link id state change free kept told = by (refusal state.world change) refl where
   by : (o : Option ChangeRefused) → refusal state.world change ≡ o → Tells which limit link id state (ask_step_if state change o)
   by None good = Tells-changes which limit link id state change free kept told good
   by (Some reason) good = Tells-tells which limit link id state (refusal_text reason) free kept
-
--- the options have no part in what is held
-Tells-options : (which : HeldPart) (limit link : ℕ) (id : List ℕ) (state : State) (options : OptionsValue) → IsStateKept limit link state → Tells which limit link id state (no_step (record state { options = options }))
-Tells-options which limit link id state options kept = record { following = refl; kept = record { most = kept.most; world = kept.world; told = kept.told; texts = kept.texts; first = kept.first }; spelt = tt; right = λ follows part had. had }
-
-Tells-sets : (which : HeldPart) (limit link : ℕ) (id : List ℕ) (state : State) (name value : List ℕ) (o : Option SetRefused) → BeginsWithout 95 id → IsStateKept limit link state → Tells which limit link id state (set_step_if state name value o)
-Tells-sets which limit link id state name value None free kept = Tells-options which limit link id state (with_value state.options name value) kept
-Tells-sets which limit link id state name value (Some reason) free kept = Tells-tells which limit link id state (option_text name reason) free kept
-
-Tells-unsets : (which : HeldPart) (limit link : ℕ) (id : List ℕ) (state : State) (name : List ℕ) (o : Option (List ℕ)) → BeginsWithout 95 id → IsStateKept limit link state → Tells which limit link id state (unset_step_if state name o)
-Tells-unsets which limit link id state name None free kept = Tells-tells which limit link id state (option_text name UnknownOption) free kept
-Tells-unsets which limit link id state name (Some value) free kept = Tells-options which limit link id state (without_value state.options name) kept
-
-Tells-resolved : (which : HeldPart) (limit link : ℕ) (id : List ℕ) (state : State) (r : Effect) → BeginsWithout 95 id → IsStateKept limit link state → OnAsks r → Tells which limit link id state (effect_step state r)
-Tells-resolved which limit link id state Stays free kept told = Tells-stays which limit link id state kept
-Tells-resolved which limit link id state ResolvedEnds free kept told = record { following = refl; kept = kept; spelt = tt; right = λ follows part had. had }
-Tells-resolved which limit link id state (TellsRefusal text) free kept told = Tells-tells which limit link id state text free kept
-Tells-resolved which limit link id state (Asks change) free kept told = Tells-asks which limit link id state change free kept told
-Tells-resolved which limit link id state (SetsOption name value) free kept told = Tells-sets which limit link id state name value (refusal_of state.options name value) free kept
-Tells-resolved which limit link id state (UnsetsOption name) free kept told = Tells-unsets which limit link id state name (value_of state.options name) free kept
-Tells-resolved which limit link id state SavesOptions free kept told = record { following = refl; kept = record { most = kept.most; world = kept.world; told = kept.told; texts = kept.texts; first = kept.first }; spelt = tt; right = λ follows part had. had }
-
-Tells-does : (which : HeldPart) (limit link : ℕ) (id : List ℕ) (state : State) (buffer : Handle) (line : List ℕ) → BeginsWithout 95 id → IsStateKept limit link state → IsUtf8 line
-    → Tells which limit link id state (typed_step state buffer (typed_line line))
-Tells-does which limit link id state buffer line free kept utf8 =
-    Tells-resolved which limit link id state (effect_of state.world state.moment buffer (typed_line line)) free kept
-    (resolved_told limit state.world state.moment buffer (typed_line line) kept.world (typed_text line utf8))
-
-pub Tells-runs : (which : HeldPart) (limit link : ℕ) (id : List ℕ) (state : State) (buffer : Handle) (lines : List (List ℕ)) → BeginsWithout 95 id → IsStateKept limit link state → AllByRecursion IsUtf8 lines
-    → Tells which limit link id state (lines_step state buffer lines)
-Tells-runs which limit link id state buffer [] free kept utf8 = Tells-stays which limit link id state kept
-Tells-runs which limit link id state buffer (line ∷ lines) free kept utf8 =
-    by (not (is_there buffer state.world.groups)) (is_quit (typed_line line)) (Tells-does which limit link id state buffer line free kept utf8.0)
-    (λ next k. Tells-runs which limit link id next buffer lines free k utf8.1)
-  where
-    one : Stepped
-    one = typed_step state buffer (typed_line line)
-
-    by : (gone quits : Bool) → Tells which limit link id state one → ((next : State) → IsStateKept limit link next → Tells which limit link id next (lines_step next buffer lines))
-        → Tells which limit link id state (cond gone (no_step state) (cond quits one (then_does one (λ next. lines_step next buffer lines))))
-    by true quits first others = Tells-stays which limit link id state kept
-    by false true first others = first
-    by false false first others = Tells-then which limit link id state one (λ next. lines_step next buffer lines) first (others one.state first.kept)
-
--- the commands of the start
-pub Tells-commands : (which : HeldPart) (limit link : ℕ) (id : List ℕ) (state : State) (commands : List (List ℕ)) → BeginsWithout 95 id → IsStateKept limit link state → AllByRecursion IsUtf8 commands
-    → Tells which limit link id state (commands_step state commands)
-Tells-commands which limit link id state [] free kept utf8 = Tells-stays which limit link id state kept
-Tells-commands which limit link id state (command ∷ commands) free kept utf8 =
-    by (has_end one.acts) (Tells-runs which limit link id state core_buffer (lines_of_text command) free kept (parted_text command utf8.0))
-    (λ next k. Tells-commands which limit link id next commands free k utf8.1)
-  where
-    one : Stepped
-    one = lines_step state core_buffer (lines_of_text command)
-
-    by : (quits : Bool) → Tells which limit link id state one → ((next : State) → IsStateKept limit link next → Tells which limit link id next (commands_step next commands))
-        → Tells which limit link id state (cond quits one (then_does one (λ next. commands_step next commands)))
-    by true first others = first
-    by false first others = Tells-then which limit link id state one (λ next. commands_step next commands) first (others one.state first.kept)
-
--- the state in which the commands of the start are run
-abbrev pub opened_at : State → ℕ → State
-opened_at state moment = record state { moment = moment; commands = [] }
-
-pub Tells-start : (which : HeldPart) (limit link : ℕ) (id : List ℕ) (state : State) (moment : ℕ) → BeginsWithout 95 id → IsStateKept limit link state → Tells which limit link id (opened_at state moment) (commands_step (opened_at state moment) state.commands)
-Tells-start which limit link id state moment free kept =
-    Tells-commands which limit link id (opened_at state moment) state.commands free (record { most = kept.most; world = kept.world; told = kept.told; texts = tt; first = kept.first }) kept.texts

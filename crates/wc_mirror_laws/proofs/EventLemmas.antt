@@ -1,5 +1,5 @@
 -- One event leaves a client that follows with what it holds of the world.
-use Rattle.std.proofs.Common.{◌≡◌, ℕ, ◌≤◌, Bool, true, false, cond, List, [], ◌∷◌, ◌++◌, length, Option, Some, None, refl, sym, ap, subst, ◌∙◌, eqb, nat_lt}
+use Rattle.std.proofs.Common.{◌≡◌, ℕ, ◌≤◌, Bool, true, false, cond, List, [], ◌∷◌, length, Option, Some, None, refl, sym, ap, subst, ◌∙◌, eqb, nat_lt}
 use Rattle.std.specs.List.{AllByRecursion}
 use Rattle.wc_text.specs.declared.names.Cause.{Cause}
 use Rattle.wc_text.specs.declared.names.Cause.TheVariants as cause
@@ -9,12 +9,12 @@ use Rattle.wc_relaycmd.specs.declared.request.Request.{Request}
 use Rattle.wc_relaycmd.specs.Answers.{request_of}
 use Rattle.wc_text.specs.Splits.{BeginsWithout}
 use Rattle.wc_session.specs.declared.client.Client.{Client}
-use Rattle.wc_session.specs.Known.{new_client}
 use Rattle.wc_session.specs.Reply.{reply_of}
-use Rattle.wc_core.specs.Events.{Event, Start, Tick, Arrives, Line as LineCame, Ends, Fails, ListenFails}
-use Rattle.wc_core.specs.State.{State, Stepped, Closes}
+use Rattle.wc_core.specs.Events.{Event, Start, Tick, Arrives, Line as LineCame, Stands, Ends, Fails, ListenFails}
+use Rattle.wc_core.specs.State.{State, Stepped}
+use Rattle.wc_servers.specs.Seats.{server_link}
 use Rattle.wc_core.specs.Limits.{client_limit}
-use Rattle.wc_core.specs.Step.{client_link, no_step, then_does, sends, reply_step, request_step, line_step, loss_step, step}
+use Rattle.wc_core.specs.Step.{client_link, then_does, sends, reply_step, request_step, link_line_step, link_loss_step, step}
 use Rattle.wc_mirror_laws.specs.Held.{HeldPart, HeldOf, Has}
 use Rattle.wc_mirror_laws.specs.Settled.{AskedFor, asked_by, asked_with, asked_in, client_on, is_following, TakesDump, IsFair}
 use Rattle.wc_mirror_laws.specs.Kept.{IsStateKept}
@@ -23,8 +23,10 @@ use Rattle.wc_mirror_laws.proofs.IdLemmas.{request_free}
 use Rattle.wc_mirror_laws.proofs.AskedLemmas.{before_reply, asked_after, Tells-before, all_told, before_right}
 use Rattle.wc_mirror_laws.proofs.PushLemmas.{Tells-pushes}
 use Rattle.wc_mirror_laws.proofs.ReplyLemmas.{dump_right, reply_right, sends_right}
-use Rattle.wc_mirror_laws.proofs.ChangeLemmas.{mirror-append, Tells-start}
-use Rattle.wc_mirror_laws.proofs.StepLemmas.{asked_here, ticked, kept-ticked, reply_link, reply_text, right-answers}
+use Rattle.wc_mirror_laws.proofs.ChangeLemmas.{mirror-append}
+use Rattle.wc_mirror_laws.proofs.InputLemmas.{Tells-start}
+use Rattle.wc_mirror_laws.proofs.ServerLemmas.{Tells-line, Tells-loss, Tells-stands}
+use Rattle.wc_mirror_laws.proofs.StepLemmas.{arrived, asked_here, ticked, kept-ticked, reply_link, reply_text, right-answers}
 
 -- ---- what the client of a link asks at an event
 
@@ -56,6 +58,7 @@ asked_one link state (LineCame k line) first others e = by (eqb k link) e where
   by : (b : Bool) → cond b (asked_by line (client_on link state)) [] ≡ first ∷ others → IsOne link state first others
   by true e = came (client_on link state) refl e
   by false e = absurd (let h = e in cc)
+asked_one link state (Stands k) first others e = absurd (let h = e in cc)
 asked_one link state (Ends k) first others e = absurd (let h = e in cc)
 asked_one link state (Fails k) first others e = absurd (let h = e in cc)
 asked_one link state ListenFails first others e = absurd (let h = e in cc)
@@ -112,17 +115,22 @@ line_right which limit link id state k line part kept free within fair after had
       (sends_right which limit link id next (client_link client) (reply_of next.world next.options client request).messages then
       (λ here. reply_right which limit link id next client line request then (Tells-before which limit link id state client request free kept).kept free within read (own here) (all_told which state client request) had') (λ else. had')))
 
-  came : (o : Option Client) → at_key client_link k state.clients ≡ o → is_following (client_on link (line_step state line o).state) ≡ true
-      → Has which (mirror_after which limit link id part (line_step state line o).acts) (line_step state line o).state
-  came None at after = had
+  came : (o : Option Client) → at_key client_link k state.clients ≡ o → is_following (client_on link (link_line_step state k line o).state) ≡ true
+      → Has which (mirror_after which limit link id part (link_line_step state k line o).acts) (link_line_step state k line o).state
+  came None at after =
+      let tells = Tells-line which limit link id free state k line (at_key server_link k state.servers) kept in
+      tells.right (sym tells.following ∙ after) part had
   came (Some client) at after = served client (request_of client.escaped line) at refl after
 
 -- ---- one event
 
-lost_right : (which : HeldPart) (limit link : ℕ) (id : List ℕ) (state : State) (k : ℕ) (why : Cause) (o : Option Client) (part : HeldOf which) → Has which part state
-    → Has which (mirror_after which limit link id part (loss_step state k why o).acts) (loss_step state k why o).state
-lost_right which limit link id state k why None part had = had
-lost_right which limit link id state k why (Some client) part had = had
+lost_right : (which : HeldPart) (limit link : ℕ) (id : List ℕ) (state : State) (k : ℕ) (why : Cause) (o : Option Client) (part : HeldOf which) → IsStateKept limit link state → BeginsWithout 95 id
+    → is_following (client_on link (link_loss_step state k why o).state) ≡ true → Has which part state
+    → Has which (mirror_after which limit link id part (link_loss_step state k why o).acts) (link_loss_step state k why o).state
+lost_right which limit link id state k why None part kept free after had =
+    let tells = Tells-loss which limit link id free k why state (at_key server_link k state.servers) kept in
+    tells.right (sym tells.following ∙ after) part had
+lost_right which limit link id state k why (Some client) part kept free after had = had
 
 pub step_mirrors : (which : HeldPart) → StepMirrors which
 step_mirrors which limit link id state (Start moment) part kept free within fair after had =
@@ -131,15 +139,15 @@ step_mirrors which limit link id state (Start moment) part kept free within fair
 step_mirrors which limit link id state (Tick moment) part kept free within fair after had =
     (Tells-pushes which limit link id (ticked state moment) free (kept-ticked limit link state moment kept)).right after part had
 step_mirrors which limit link id state (Arrives k nonce) part kept free within fair after had = by (nat_lt (length state.clients) (client_limit state.options)) where
-  arrived : Bool → Stepped
-  arrived b = cond b (no_step (record state { clients = state.clients ++ new_client state.options (record { 0 = k }) nonce ∷ [] })) (record { state = state; acts = Closes k cause.Surplus ∷ [] })
-
-  by : (b : Bool) → Has which (mirror_after which limit link id part (arrived b).acts) (arrived b).state
+  by : (b : Bool) → Has which (mirror_after which limit link id part (arrived state k nonce b).acts) (arrived state k nonce b).state
   by true = had
   by false = had
 step_mirrors which limit link id state (LineCame k line) part kept free within fair after had = line_right which limit link id state k line part kept free within fair after had
-step_mirrors which limit link id state (Ends k) part kept free within fair after had = lost_right which limit link id state k cause.Ended (at_key client_link k state.clients) part had
-step_mirrors which limit link id state (Fails k) part kept free within fair after had = lost_right which limit link id state k cause.Failed (at_key client_link k state.clients) part had
+step_mirrors which limit link id state (Stands k) part kept free within fair after had =
+    let tells = Tells-stands which limit link id free state k (at_key server_link k state.servers) kept in
+    tells.right (sym tells.following ∙ after) part had
+step_mirrors which limit link id state (Ends k) part kept free within fair after had = lost_right which limit link id state k cause.Ended (at_key client_link k state.clients) part kept free after had
+step_mirrors which limit link id state (Fails k) part kept free within fair after had = lost_right which limit link id state k cause.Failed (at_key client_link k state.clients) part kept free after had
 step_mirrors which limit link id state ListenFails part kept free within fair after had = had
 
 -- ---- the dump
@@ -172,8 +180,8 @@ line_dumps which limit link id state k line part dump kept within e takes after 
       (λ here. dump_right which limit link id next client line request then (Tells-before which limit link id state client request free kept).kept within read taken (all_told which state client request taken.logged_in taken.dump))
       (λ else. absurd (let h : false ≡ true = sym else ∙ key in cc))))
 
-  came : (o : Option Client) → at_key client_link k state.clients ≡ o → eqb k link ≡ true → asked_by line o ≡ dump ∷ [] → is_following (client_on link (line_step state line o).state) ≡ true
-      → Has which (mirror_after which limit link id part (line_step state line o).acts) (line_step state line o).state
+  came : (o : Option Client) → at_key client_link k state.clients ≡ o → eqb k link ≡ true → asked_by line o ≡ dump ∷ [] → is_following (client_on link (link_line_step state k line o).state) ≡ true
+      → Has which (mirror_after which limit link id part (link_line_step state k line o).acts) (link_line_step state k line o).state
   came None at here is after = absurd (let h = is in cc)
   came (Some client) at here is after = served client (request_of client.escaped line) at refl here is after
 
@@ -186,6 +194,7 @@ dump_mirrors which limit link id state (Start moment) part dump kept within e ta
 dump_mirrors which limit link id state (Tick moment) part dump kept within e takes after = absurd (let h = e in cc)
 dump_mirrors which limit link id state (Arrives k nonce) part dump kept within e takes after = absurd (let h = e in cc)
 dump_mirrors which limit link id state (LineCame k line) part dump kept within e takes after = line_dumps which limit link id state k line part dump kept within e takes after
+dump_mirrors which limit link id state (Stands k) part dump kept within e takes after = absurd (let h = e in cc)
 dump_mirrors which limit link id state (Ends k) part dump kept within e takes after = absurd (let h = e in cc)
 dump_mirrors which limit link id state (Fails k) part dump kept within e takes after = absurd (let h = e in cc)
 dump_mirrors which limit link id state ListenFails part dump kept within e takes after = absurd (let h = e in cc)

@@ -28,7 +28,7 @@ use Rattle.wc_options.specs.Number.{number_in}
 use Rattle.wc_core.specs.Events.{Event, Arrives, Line}
 use Rattle.wc_core.specs.Limits.{client_limit}
 use Rattle.wc_core.specs.State.{State, Stepped, Closes, first_state}
-use Rattle.wc_core.specs.Step.{client_link, no_step, line_step, reply_step, request_step, answer_step, step, run}
+use Rattle.wc_core.specs.Step.{client_link, no_step, link_line_step, reply_step, request_step, answer_step, step, run}
 use Rattle.wc_outside.specs.Keyed.{at_key}
 use Rattle.wc_mirror_laws.specs.Held.{HeldPart, Lines, Buffers, Nicks}
 use Rattle.wc_mirror_laws.specs.Settled.{AskedFor, asked_by, asked_with, asked_in, asked_on, client_on, follows_all, is_following, TakesDump, SettledBy}
@@ -146,7 +146,7 @@ nicks_answered limit = refl
 -- ---- the run
 
 abbrev with_client : ℕ → Client → State
-with_client limit client = record (first_state only_password limit []) { clients = client ∷ [] }
+with_client limit client = record (first_state only_password limit []) { clients = client ∷ []; used = 1 }
 
 most_are : client_limit only_password ≡ 5
 unfolding client_limit value_of with_value fresh located globals place_in number_in
@@ -156,7 +156,7 @@ most_are = refl
 first_step : (limit : ℕ) → (step (first_state only_password limit []) (Arrives 1 [])).state ≡ with_client limit came
 first_step limit =
     let state = first_state only_password limit [] in
-    ap (λ n. (cond (nat_lt 0 n) (no_step (with_client limit came)) (record { state = state; acts = Closes 1 cause.Surplus ∷ [] })).state) most_are
+    ap (λ n. (cond (nat_lt 0 n) (no_step (with_client limit came)) (record { state = record state { used = 1 }; acts = Closes 1 cause.Surplus ∷ [] })).state) most_are
 
 found : (client : Client) → client_link client ≡ 1 → at_key client_link 1 (client ∷ []) ≡ Some client
 found client key = ap (λ n. cond (eqb n 1) (Some client) None) key
@@ -166,14 +166,14 @@ line_state : (limit : ℕ) (client : Client) (line : List ℕ) (request : Reques
     → reply_of (first_world limit) only_password client request ≡ answer → (step (with_client limit client) (Line 1 line)).state ≡ (answer_step (with_client limit client) 1 answer).state
 line_state limit client line request answer key reads answered =
     let state = with_client limit client in
-    ap (λ o. (line_step state line o).state) (found client key) ∙ ap (λ o. (request_step state client o).state) reads
+    ap (λ o. (link_line_step state 1 line o).state) (found client key) ∙ ap (λ o. (request_step state client o).state) reads
     ∙ ap (λ (s : Stepped). s.state) (asked_after state client request) ∙ ap (λ s. (reply_step s client request).state) (told_already state (lists_nicks client request) refl) ∙ ap (λ a. (answer_step state (client_link client) a).state) answered ∙ ap (λ n. (answer_step state n answer).state) key
 
 silent_step : (limit : ℕ) (before after : Client) (line : List ℕ) (request : Request) → client_link before ≡ 1 → request_of before.escaped line ≡ Some request
     → reply_of (first_world limit) only_password before request ≡ silent after → (step (with_client limit before) (Line 1 line)).state ≡ with_client limit after
 silent_step limit before after line request key reads answered =
     line_state limit before line request (silent after) key reads answered
-    ∙ ap (λ n. record (first_state only_password limit []) { clients = cond (eqb n 1) (after ∷ []) (before ∷ []) }) key
+    ∙ ap (λ n. record (first_state only_password limit []) { used = 1; clients = cond (eqb n 1) (after ∷ []) (before ∷ []) }) key
 
 -- what is asked by it
 abbrev request_by : Client → Request → AskedFor

@@ -10,8 +10,12 @@ mod ExampleLemmas
 mod HandleLemmas
 mod HeldLemmas
 mod IdLemmas
+mod InputLemmas
 mod ListLemmas
 mod MapLemmas
+mod MildCommands
+mod MildLemmas
+mod MildMessages
 mod NickDumps
 mod NickRows
 mod NickWorlds
@@ -24,6 +28,8 @@ mod RootEvents
 mod RootLemmas
 mod RowLemmas
 mod RunLemmas
+mod ServedLemmas
+mod ServerLemmas
 mod SizeLemmas
 mod SpeltLemmas
 mod StepLemmas

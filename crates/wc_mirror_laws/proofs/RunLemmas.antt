@@ -1,16 +1,16 @@
 -- A client that settled by the dump of a part has it after all events.
-use Rattle.std.proofs.Common.{◌≡◌, ℕ, ◌≤◌, true, List, [], ◌∷◌, ◌++◌, refl, sym, ap, subst, ◌∙◌}
+use Rattle.std.proofs.Common.{◌≡◌, ℕ, ◌≤◌, Bool, true, List, [], ◌∷◌, ◌++◌, refl, sym, ap, subst, ◌∙◌}
 use Rattle.std.specs.List.{AllByRecursion}
 use Rattle.std.specs.Str.{IsUtf8}
 use Rattle.wc_text.specs.Splits.{BeginsWithout}
 use Rattle.wc_options.specs.Options.{OptionsValue}
 use Rattle.wc_core.specs.Events.{Event}
-use Rattle.wc_core.specs.State.{State, first_state}
+use Rattle.wc_core.specs.State.{State}
 use Rattle.wc_core.specs.Step.{step, run}
 use Rattle.wc_mirror_laws.specs.Held.{HeldPart, HeldOf, nothing, Has}
 use Rattle.wc_mirror_laws.specs.Settled.{AskedFor, asked_in, asked_on, client_on, follows_all, is_following, TakesDump, IsFair}
 use Rattle.wc_mirror_laws.specs.Kept.{IsStateKept}
-use Rattle.wc_mirror_laws.specs.Mirrors.{mirror_after, IsShortLine, Mirrors, RunKeeps}
+use Rattle.wc_mirror_laws.specs.Mirrors.{mirror_after, beginning, IsShortLine, Mirrors, RunKeeps}
 use Rattle.wc_mirror_laws.proofs.ChangeLemmas.{mirror-append}
 use Rattle.wc_mirror_laws.proofs.ListLemmas.{all_front, all_back}
 use Rattle.wc_mirror_laws.proofs.WorldLemmas.{first_lists, first_kept}
@@ -119,19 +119,19 @@ settles which limit link id state (event ∷ events) part before following dump 
 
 -- ---- from the start
 
-pub start_kept : (limit link : ℕ) (options : OptionsValue) (commands : List (List ℕ)) → limit ≤ 4096 → AllByRecursion IsUtf8 commands → IsStateKept limit link (first_state options limit commands)
-start_kept limit link options commands most texts = record { most = most; world = first_kept limit; told = first_lists; texts = texts; first = refl }
+pub start_kept : (limit link : ℕ) (options : OptionsValue) (commands : List (List ℕ)) (connects : Bool) → limit ≤ 4096 → AllByRecursion IsUtf8 commands → IsStateKept limit link (beginning options limit commands connects)
+start_kept limit link options commands connects most texts = record { most = most; world = first_kept limit; told = first_lists; texts = texts; first = refl }
 
 kept_on : (limit link : ℕ) (state : State) (events : List Event) → IsStateKept limit link state → IsStateKept limit link (run state events).state
 kept_on limit link state [] kept = kept
 kept_on limit link state (event ∷ events) kept = kept_on limit link (step state event).state events (step_keeps limit link state event kept)
 
 pub run_keeps : RunKeeps
-run_keeps options limit commands events link most texts = kept_on limit link (first_state options limit commands) events (start_kept limit link options commands most texts)
+run_keeps options limit commands connects events link most texts = kept_on limit link (beginning options limit commands connects) events (start_kept limit link options commands connects most texts)
 
 pub mirrors : (which : HeldPart) → Mirrors which
-mirrors which options limit commands events link id most texts within settled =
-    settles which limit link id (first_state options limit commands) events (nothing which) settled.before settled.following settled.dump (start_kept limit link options commands most texts) within
+mirrors which options limit commands connects events link id most texts within settled =
+    settles which limit link id (beginning options limit commands connects) events (nothing which) settled.before settled.following settled.dump (start_kept limit link options commands connects most texts) within
     (record {
       takes = settled.takes;
       fair = settled.fair;

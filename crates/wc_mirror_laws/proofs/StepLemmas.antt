@@ -1,5 +1,5 @@
 -- What one event leaves of the core and of its clients.
-use Rattle.std.proofs.Common.{◌≡◌, ◌≢◌, ℕ, Bool, true, false, cond, List, [], ◌∷◌, ◌++◌, length, Option, Some, None, refl, sym, ap, subst, ◌∙◌, arith, eqb, nat_lt}
+use Rattle.std.proofs.Common.{◌≡◌, ◌≢◌, ℕ, Bool, true, false, cond, List, [], ◌∷◌, ◌++◌, length, Option, Some, None, refl, sym, ap, subst, ◌∙◌, arith, eqb, nat_lt, max}
 use Rattle.std.proofs.lemmas.Bool.{false≢true}
 use Rattle.std.proofs.lemmas.Bool.Decides.{nat_tests}
 use Rattle.wc_text.specs.declared.names.Cause.{Cause}
@@ -17,10 +17,11 @@ use Rattle.wc_session.specs.declared.outcome.Outcome.{Outcome}
 use Rattle.wc_session.specs.declared.outcome.Outcome.TheVariants as outcome
 use Rattle.wc_session.specs.Known.{new_client}
 use Rattle.wc_session.specs.Reply.{Answer, reply_of}
-use Rattle.wc_core.specs.Events.{Event, Start, Tick, Arrives, Line as LineCame, Ends, Fails, ListenFails}
+use Rattle.wc_core.specs.Events.{Event, Start, Tick, Arrives, Line as LineCame, Stands, Ends, Fails, ListenFails}
 use Rattle.wc_core.specs.State.{State, Stepped, Closes}
+use Rattle.wc_servers.specs.Seats.{server_link}
 use Rattle.wc_core.specs.Limits.{client_limit}
-use Rattle.wc_core.specs.Step.{client_link, no_step, sends, leave_step, outcome_step, answer_step, request_step, line_step, loss_step, step}
+use Rattle.wc_core.specs.Step.{client_link, no_step, sends, leave_step, outcome_step, answer_step, request_step, link_line_step, link_loss_step, step}
 use Rattle.wc_core.specs.Served.{OutcomeUtf8}
 use Rattle.wc_core.specs.Typed.{lines_of_text}
 use Rattle.wc_core.proofs.ReplyLemmas.{reply_fits}
@@ -29,7 +30,9 @@ use Rattle.wc_mirror_laws.specs.Settled.{asked_by, asked_with, asked_in, client_
 use Rattle.wc_mirror_laws.specs.Kept.{is_first_alone, IsStateKept}
 use Rattle.wc_mirror_laws.specs.Mirrors.{mirror_after, StepKeeps}
 use Rattle.wc_mirror_laws.proofs.ClientLemmas.{following-push, first-push, first-put, first-without}
-use Rattle.wc_mirror_laws.proofs.ChangeLemmas.{mirror-append, Tells-runs, Tells-start}
+use Rattle.wc_mirror_laws.proofs.ChangeLemmas.{mirror-append}
+use Rattle.wc_mirror_laws.proofs.InputLemmas.{Tells-runs, Tells-start}
+use Rattle.wc_mirror_laws.proofs.ServerLemmas.{Tells-line, Tells-loss, Tells-stands}
 use Rattle.wc_mirror_laws.proofs.AskedLemmas.{before_reply, asked_after, Tells-before}
 use Rattle.wc_mirror_laws.proofs.PushLemmas.{Tells-pushes}
 use Rattle.wc_mirror_laws.proofs.TypedLemmas.{parted_text}
@@ -110,14 +113,14 @@ kept-line limit link state k line kept = came (at_key client_link k state.client
       (kept-answers limit link next (client_link client) (reply_of next.world next.options client request) (reply_link next client line request e) (reply_text next client line request e)
       (Tells-before Lines limit link [] state client request tt kept).kept)
 
-  came : (o : Option Client) → IsStateKept limit link (line_step state line o).state
-  came None = kept
+  came : (o : Option Client) → IsStateKept limit link (link_line_step state k line o).state
+  came None = (Tells-line Lines limit link [] tt state k line (at_key server_link k state.servers) kept).kept
   came (Some client) = served client (request_of client.escaped line) refl
 
 -- ---- one event
 
-kept-lost : (limit link : ℕ) (state : State) (k : ℕ) (why : Cause) (o : Option Client) → IsStateKept limit link state → IsStateKept limit link (loss_step state k why o).state
-kept-lost limit link state k why None kept = kept
+kept-lost : (limit link : ℕ) (state : State) (k : ℕ) (why : Cause) (o : Option Client) → IsStateKept limit link state → IsStateKept limit link (link_loss_step state k why o).state
+kept-lost limit link state k why None kept = (Tells-loss Lines limit link [] tt k why state (at_key server_link k state.servers) kept).kept
 kept-lost limit link state k why (Some client) kept = kept-leaves limit link state k why kept
 
 -- the state of which what is to be pushed is at a tick
@@ -127,6 +130,13 @@ ticked state moment = record state { moment = moment }
 pub kept-ticked : (limit link : ℕ) (state : State) (moment : ℕ) → IsStateKept limit link state → IsStateKept limit link (ticked state moment)
 kept-ticked limit link state moment kept = record { most = kept.most; world = kept.world; told = kept.told; texts = kept.texts; first = kept.first }
 
+-- a client that came, where there are not too many
+abbrev pub arrived : State → ℕ → List ℕ → Bool → Stepped
+arrived state k nonce b = cond b (no_step (record state {
+  clients = state.clients ++ new_client state.options (record { 0 = k }) nonce ∷ [];
+  used = max state.used k;
+})) (record { state = record state { used = max state.used k }; acts = Closes k cause.Surplus ∷ [] })
+
 pub step_keeps : StepKeeps
 step_keeps limit link state (Start moment) kept = (Tells-start Lines limit link [] state moment tt kept).kept
 step_keeps limit link state (Tick moment) kept = (Tells-pushes Lines limit link [] (ticked state moment) tt (kept-ticked limit link state moment kept)).kept
@@ -134,10 +144,11 @@ step_keeps limit link state (Arrives k nonce) kept = by (nat_lt (length state.cl
   came : Client
   came = new_client state.options (record { 0 = k }) nonce
 
-  by : (b : Bool) → IsStateKept limit link (cond b (no_step (record state { clients = state.clients ++ came ∷ [] })) (record { state = state; acts = Closes k cause.Surplus ∷ [] })).state
-  by true = kept-clients limit link state (state.clients ++ came ∷ []) kept (first-push link came state.clients refl ∙ kept.first)
-  by false = kept
+  by : (b : Bool) → IsStateKept limit link (arrived state k nonce b).state
+  by true = record { most = kept.most; world = kept.world; told = kept.told; texts = kept.texts; first = first-push link came state.clients refl ∙ kept.first }
+  by false = record { most = kept.most; world = kept.world; told = kept.told; texts = kept.texts; first = kept.first }
 step_keeps limit link state (LineCame k line) kept = kept-line limit link state k line kept
+step_keeps limit link state (Stands k) kept = (Tells-stands Lines limit link [] tt state k (at_key server_link k state.servers) kept).kept
 step_keeps limit link state (Ends k) kept = kept-lost limit link state k cause.Ended (at_key client_link k state.clients) kept
 step_keeps limit link state (Fails k) kept = kept-lost limit link state k cause.Failed (at_key client_link k state.clients) kept
 step_keeps limit link state ListenFails kept = kept
@@ -153,9 +164,9 @@ following-leaves link state k after = by (eqb link k) refl where
       absurd (false≢true (sym (ap is_following gone) ∙ after))
   by false e = sym (ap is_following (at_key-without_other client_link k link state.clients (grind (arith, nat_tests)))) ∙ after
 
-following-lost : (link : ℕ) (state : State) (k : ℕ) (why : Cause) (o : Option Client) → is_following (client_on link (loss_step state k why o).state) ≡ true → is_following (client_on link state) ≡ true
-following-lost link state k why None after = after
-following-lost link state k why (Some client) after = following-leaves link state k after
+following-lost : (limit link : ℕ) (state : State) (k : ℕ) (why : Cause) (o : Option Client) → IsStateKept limit link state → is_following (client_on link (link_loss_step state k why o).state) ≡ true → is_following (client_on link state) ≡ true
+following-lost limit link state k why None kept after = sym (Tells-loss Lines limit link [] tt k why state (at_key server_link k state.servers) kept).following ∙ after
+following-lost limit link state k why (Some client) kept after = following-leaves link state k after
 
 following-follows : (limit link : ℕ) (state : State) (k : ℕ) (o : Outcome) → OutcomeUtf8 o → IsStateKept limit link state → is_following (client_on link (outcome_step state k o).state) ≡ true → is_following (client_on link state) ≡ true
 following-follows limit link state k outcome.Replied utf8 kept after = after
@@ -192,8 +203,8 @@ following-line limit link state k line kept none after = came (at_key client_lin
       ∙ following-answers limit link next (client_link client) (reply_of next.world next.options client request) (reply_link next client line request e) (other client request at e) (reply_text next client line request e) tells.kept
       (subst (λ (s : Stepped). is_following (client_on link s.state) ≡ true) (asked_after state client request) after)
 
-  came : (o : Option Client) → at_key client_link k state.clients ≡ o → is_following (client_on link (line_step state line o).state) ≡ true → is_following (client_on link state) ≡ true
-  came None at after = after
+  came : (o : Option Client) → at_key client_link k state.clients ≡ o → is_following (client_on link (link_line_step state k line o).state) ≡ true → is_following (client_on link state) ≡ true
+  came None at after = sym (Tells-line Lines limit link [] tt state k line (at_key server_link k state.servers) kept).following ∙ after
   came (Some client) at after = served client (request_of client.escaped line) at refl after
 
 -- A client that asked nothing at an event, and follows all events after it, did so before.
@@ -205,11 +216,11 @@ followed limit link state (Arrives k nonce) kept none after = by (nat_lt (length
   came : Client
   came = new_client state.options (record { 0 = k }) nonce
 
-  by : (b : Bool) → is_following (client_on link (cond b (no_step (record state { clients = state.clients ++ came ∷ [] })) (record { state = state; acts = Closes k cause.Surplus ∷ [] })).state) ≡ true
-      → is_following (client_on link state) ≡ true
+  by : (b : Bool) → is_following (client_on link (arrived state k nonce b).state) ≡ true → is_following (client_on link state) ≡ true
   by true after = sym (following-push link came state.clients refl) ∙ after
   by false after = after
 followed limit link state (LineCame k line) kept none after = following-line limit link state k line kept none after
-followed limit link state (Ends k) kept none after = following-lost link state k cause.Ended (at_key client_link k state.clients) after
-followed limit link state (Fails k) kept none after = following-lost link state k cause.Failed (at_key client_link k state.clients) after
+followed limit link state (Stands k) kept none after = sym (Tells-stands Lines limit link [] tt state k (at_key server_link k state.servers) kept).following ∙ after
+followed limit link state (Ends k) kept none after = following-lost limit link state k cause.Ended (at_key client_link k state.clients) kept after
+followed limit link state (Fails k) kept none after = following-lost limit link state k cause.Failed (at_key client_link k state.clients) kept after
 followed limit link state ListenFails kept none after = after

@@ -21,7 +21,7 @@ use Rattle.wc_model.specs.World.{World}
 use Rattle.wc_text.specs.Splits.{onward, text_after, word_of, rest_of}
 use Rattle.wc_relaycmd.proofs.Utf8Lemmas.{cut_text, put_byte, before_text, past_text}
 use Rattle.wc_core.specs.Resolved.{Effect, Stays, Ends, Tells, Asks, SetsOption, UnsetsOption, SavesOptions, switched, buffer_meant, of_meant, of_named, change_of, line_spec, plugin_in, effect_of}
-use Rattle.wc_core.specs.Typed.{TypedCommand, Nothing, Quits, Refused, Prints, Adds, Closes, Merges, Names, Changes, Sets, Unsets, Switches, Saves, save_command, switch_command, input_command, set_option, set_command, unset_command, option_command, unknown_command, wrong_arguments, lines_parted, lines_of_text, print_unless_empty, print_words, tags_of, is_first, second_of, after_second, print_tagged, print_on, print_command, wrong_buffer, one_word, without_words, some_text, moves_to, close_command, starts, set_property, buffer_word, buffer_command, quit_command, command, slash_command, typed_line}
+use Rattle.wc_core.specs.Typed.{TypedCommand, Nothing, Quits, Refused, Others, Prints, Adds, Closes, Merges, Names, Changes, Sets, Unsets, Switches, Saves, save_command, switch_command, input_command, set_option, set_command, unset_command, option_command, unknown_command, wrong_arguments, lines_parted, lines_of_text, print_unless_empty, print_words, tags_of, is_first, second_of, after_second, print_tagged, print_on, print_command, wrong_buffer, one_word, without_words, some_text, moves_to, close_command, starts, set_property, buffer_word, buffer_command, quit_command, command, slash_command, typed_line}
 use Rattle.wc_mirror_laws.specs.Worlds.{IsBufferKept, IsWorldKept}
 use Rattle.wc_mirror_laws.proofs.ListLemmas.{all_filter}
 use Rattle.wc_mirror_laws.proofs.RowLemmas.{row_has}
@@ -99,6 +99,7 @@ abbrev pub IsTypedText : TypedCommand → Type 0
 IsTypedText Nothing = Unit {0}
 IsTypedText Quits = Unit {0}
 IsTypedText (Refused text) = Unit {0}
+IsTypedText (Others text) = Unit {0}
 IsTypedText (Prints buffer tags prefix message) = AllByRecursion IsUtf8 tags
 IsTypedText (Adds name) = IsUtf8 name
 IsTypedText (Closes buffer) = Unit {0}
@@ -319,6 +320,7 @@ unfolding effect_of
 resolved_told limit w moment buffer Nothing is text = tt
 resolved_told limit w moment buffer Quits is text = tt
 resolved_told limit w moment buffer (Refused told) is text = tt
+resolved_told limit w moment buffer (Others told) is text = tt
 resolved_told limit w moment buffer (Prints name tags prefix message) is text =
     named_told w.groups buffer (λ b. change_of b (what.Print (line_spec moment tags prefix message))) name (λ h. (All-from_recursion IsUtf8 tags text, level_fits tags false))
 resolved_told limit w moment buffer (Adds name) is text = (IsUtf8-append (codes "core.") name core_text text, text, IsUtf8-nil, All-nil IsText)

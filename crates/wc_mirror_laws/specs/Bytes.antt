@@ -1,5 +1,5 @@
 -- What a client makes of all bytes that it was sent.
-use Rattle.std.specs.Prelude.{◌≡◌, ℕ, ◌≤◌, List}
+use Rattle.std.specs.Prelude.{◌≡◌, ℕ, ◌≤◌, Bool, List}
 use Rattle.std.specs.List.{AllByRecursion, flat_map}
 use Rattle.std.specs.Str.{IsUtf8}
 use Rattle.wc_objects.specs.declared.object.WireMessage.{WireMessage}
@@ -8,12 +8,12 @@ use Rattle.wc_objects.specs.Within.{IsWithin}
 use Rattle.wc_session.specs.Sending.{spelling}
 use Rattle.wc_options.specs.Options.{OptionsValue}
 use Rattle.wc_core.specs.Events.{Event}
-use Rattle.wc_core.specs.State.{State, first_state}
+use Rattle.wc_core.specs.State.{State}
 use Rattle.wc_core.specs.Step.{run}
 use Rattle.wc_core.specs.Served.{messages_to, sent_to}
 use Rattle.wc_mirror_laws.specs.Held.{HeldPart, Lines, Buffers, Nicks, nothing, Has}
 use Rattle.wc_mirror_laws.specs.Settled.{SettledBy}
-use Rattle.wc_mirror_laws.specs.Mirrors.{fold_all, IsShortLine}
+use Rattle.wc_mirror_laws.specs.Mirrors.{fold_all, beginning, IsShortLine}
 
 -- a message that keeps the rules, whose numbers are of their types
 pub record IsSpelt (message : WireMessage) : Type 0 where
@@ -50,20 +50,21 @@ SpellOnce = (bytes : List ℕ) (a b : List WireMessage) → Spell bytes a → Sp
 
 -- What is sent to a link spells the messages for it.
 abbrev pub RunSpells : Type 0
-RunSpells = (options : OptionsValue) (limit : ℕ) (commands : List (List ℕ)) (events : List Event)
-    (link : ℕ) → limit ≤ 4096 → AllByRecursion IsUtf8 commands
-    → Spell (sent_to link (run (first_state options limit commands) events).acts)
-    (messages_to link (run (first_state options limit commands) events).acts)
+RunSpells = (options : OptionsValue) (limit : ℕ) (commands : List (List ℕ)) (connects : Bool)
+    (events : List Event) (link : ℕ) → limit ≤ 4096 → AllByRecursion IsUtf8 commands
+    → Spell (sent_to link (run (beginning options limit commands connects) events).acts)
+    (messages_to link (run (beginning options limit commands connects) events).acts)
 
 -- Whoever settled by the dump of a part has exactly this part of the state, by all bytes that it
 -- was sent.
 abbrev pub PartShows : HeldPart → Type 0
-PartShows which = (options : OptionsValue) (limit : ℕ) (commands : List (List ℕ))
+PartShows which = (options : OptionsValue) (limit : ℕ) (commands : List (List ℕ)) (connects : Bool)
     (events : List Event) (link : ℕ) (id : List ℕ)
     → limit ≤ 4096 → AllByRecursion IsUtf8 commands → AllByRecursion IsShortLine events →
-    SettledBy which link id (first_state options limit commands) events
-    → ShowsPart which limit id (sent_to link (run (first_state options limit commands) events).acts)
-    (run (first_state options limit commands) events).state
+    SettledBy which link id (beginning options limit commands connects) events
+    → ShowsPart which limit id
+    (sent_to link (run (beginning options limit commands connects) events).acts)
+    (run (beginning options limit commands connects) events).state
 
 -- the lines that each buffer holds
 abbrev pub BytesShow : Type 0

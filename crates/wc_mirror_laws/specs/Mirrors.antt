@@ -1,5 +1,5 @@
 -- A client that settled by the dump of a part has this part of the world.
-use Rattle.std.specs.Prelude.{◌≡◌, ℕ, ◌≤◌, true, List, [], ◌∷◌, length, None, IfSome}
+use Rattle.std.specs.Prelude.{◌≡◌, ℕ, ◌≤◌, Bool, true, List, [], ◌∷◌, length, None, IfSome}
 use Rattle.std.specs.List.{AllByRecursion}
 use Rattle.std.specs.Str.{IsUtf8}
 use Rattle.wc_text.specs.declared.names.Handle.{Handle}
@@ -33,6 +33,12 @@ abbrev pub mirror_after : (which : HeldPart) → ℕ → ℕ → List ℕ → He
     HeldOf which
 mirror_after which limit link id part acts = fold_all which limit id part (messages_to link acts)
 
+-- the state before the start, where servers are connected by themselves or are not
+abbrev pub beginning : OptionsValue → ℕ → List (List ℕ) → Bool → State
+beginning options limit commands connects = record (first_state options limit commands) {
+  connects = connects;
+}
+
 -- a line of a client is no longer than one may be
 abbrev pub IsShortLine : Event → Type 0
 IsShortLine (Line link line) = length line ≤ 65536
@@ -41,13 +47,13 @@ IsShortLine _ = Unit {0}
 -- Whoever settled by the dump of a part has exactly this part of the world, by all messages that it
 -- was sent.
 abbrev pub Mirrors : HeldPart → Type 0
-Mirrors which = (options : OptionsValue) (limit : ℕ) (commands : List (List ℕ)) (events : List Event)
-    (link : ℕ) (id : List ℕ)
+Mirrors which = (options : OptionsValue) (limit : ℕ) (commands : List (List ℕ)) (connects : Bool)
+    (events : List Event) (link : ℕ) (id : List ℕ)
     → limit ≤ 4096 → AllByRecursion IsUtf8 commands → AllByRecursion IsShortLine events →
-    SettledBy which link id (first_state options limit commands) events
+    SettledBy which link id (beginning options limit commands connects) events
     → Has which (mirror_after which limit link id (nothing which)
-    (run (first_state options limit commands) events).acts)
-    (run (first_state options limit commands) events).state
+    (run (beginning options limit commands connects) events).acts)
+    (run (beginning options limit commands connects) events).state
 
 -- One event: a client that had the part, and that is open and follows all events afterwards, has it
 -- still.
@@ -77,9 +83,9 @@ StepKeeps = (limit link : ℕ) (state : State) (event : Event) → IsStateKept l
     IsStateKept limit link (step state event).state
 
 abbrev pub RunKeeps : Type 0
-RunKeeps = (options : OptionsValue) (limit : ℕ) (commands : List (List ℕ)) (events : List Event)
-    (link : ℕ) → limit ≤ 4096 → AllByRecursion IsUtf8 commands →
-    IsStateKept limit link (run (first_state options limit commands) events).state
+RunKeeps = (options : OptionsValue) (limit : ℕ) (commands : List (List ℕ)) (connects : Bool)
+    (events : List Event) (link : ℕ) → limit ≤ 4096 → AllByRecursion IsUtf8 commands →
+    IsStateKept limit link (run (beginning options limit commands connects) events).state
 
 -- The same of an accepted change of any kind, be it of a nicklist, and whoever asked for it.
 abbrev pub ChangeKeeps : Type 0

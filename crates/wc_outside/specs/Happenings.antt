@@ -1,6 +1,6 @@
 -- The happenings that a call adds, the bytes that it sends, and the sources that it speaks of.
 use Rattle.std.specs.Prelude.{ℕ, Bool, true, false, ◌+◌, ◌≤◌, List, [], ◌∷◌, take, ◌==◌, Option}
-use Rattle.std.specs.Prelude.{Some, None, Result, Ok, Err, IsTrue}
+use Rattle.std.specs.Prelude.{Some, None, Result, Ok, Err, IsTrue, not}
 use Rattle.wc_text.specs.declared.names.LinkId.{LinkId}
 use Rattle.wc_text.specs.declared.names.Arrival.{Arrival}
 use Rattle.wc_outside.specs.declared.happening.Failed.{Failed as Fault}
@@ -12,7 +12,8 @@ use Rattle.wc_outside.specs.declared.sockets.Token.{Token}
 use Rattle.wc_outside.specs.declared.sockets.Token.TheVariants.{Listener, Link}
 use Rattle.wc_outside.specs.declared.happening.Happening.{Happening}
 use Rattle.wc_outside.specs.declared.happening.Happening.TheVariants.{Woke, Accepted, Read, Ended}
-use Rattle.wc_outside.specs.declared.happening.Happening.TheVariants.{Failed, ListenFailed}
+use Rattle.wc_outside.specs.declared.happening.Happening.TheVariants.{Failed, Connected, Refused}
+use Rattle.wc_outside.specs.declared.happening.Happening.TheVariants.{ListenFailed}
 
 -- what a wait adds
 abbrev pub wait_gives : Result ℕ Fault → List Happening
@@ -36,6 +37,17 @@ read_gives link buffer (Ok (Bytes n)) = Read link (take n buffer) ∷ []
 read_gives link buffer (Ok End) = Ended link ∷ []
 read_gives link buffer (Ok NotYet) = []
 read_gives link buffer (Err fault) = Failed link ∷ []
+
+-- what the making of a connection adds, where so many link numbers were used before
+abbrev pub connect_gives : ℕ → Result LinkId Fault → List Happening
+connect_gives used (Ok link) = []
+connect_gives used (Err fault) = Refused (record { 0 = used + 1 }) ∷ []
+
+-- what the question whether a link is connected adds
+abbrev pub connected_gives : LinkId → Result Bool Fault → List Happening
+connected_gives link (Ok true) = Connected link ∷ []
+connected_gives link (Ok false) = []
+connected_gives link (Err fault) = Failed link ∷ []
 
 -- what a write to a link adds
 abbrev pub write_gives : LinkId → Result Put Fault → List Happening
@@ -78,6 +90,11 @@ abbrev pub IsPutWithin : ℕ → Put → Type 0
 IsPutWithin size (Took n) = (n ≤ size) × (1 ≤ size → 1 ≤ n)
 IsPutWithin size NoRoom = Unit {0}
 
+-- whether it is not decided yet whether a link is connected
+abbrev pub is_undecided : Result Bool Fault → Bool
+is_undecided (Ok stands) = not stands
+is_undecided (Err fault) = false
+
 -- how many link numbers are used after an accept, which gives the next number
 abbrev pub used_after : ℕ → Result (Option Arrival) Fault → ℕ
 used_after used (Ok (Some arrival)) = used + 1
@@ -89,6 +106,11 @@ abbrev pub is_arrival : ℕ → Result (Option Arrival) Fault → Bool
 is_arrival link (Ok (Some arrival)) = arrival.link.0 == link
 is_arrival link (Ok None) = false
 is_arrival link (Err fault) = false
+
+-- whether a connection has this link
+abbrev pub is_connection : ℕ → Result LinkId Fault → Bool
+is_connection link (Ok made) = made.0 == link
+is_connection link (Err fault) = false
 
 -- whether a token is this link, and whether it is the listener
 abbrev pub is_link : ℕ → Token → Bool

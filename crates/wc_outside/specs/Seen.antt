@@ -11,13 +11,13 @@ pub record Seen : Type 0 where
   pub taken : List Happening
   -- the bytes that were sent on each link
   pub sent : ℕ → List ℕ
-  -- what they were asked to listen at, in order
+  -- what they were asked to listen at and to connect to, in order
   pub asked : List Asked
   -- whether a link was closed while its last write had found no room
   pub choked : ℕ → Bool
   -- how many link numbers are used
   pub used : ℕ
-  -- whether a link was given and is not closed
+  -- whether a link was given or connected and is not closed
   pub there : ℕ → Bool
   -- whether a link was reported ready and is not drained, and whether the listener was
   pub undrained : ℕ → Bool

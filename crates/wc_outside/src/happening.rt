@@ -1,4 +1,4 @@
-use wc_text::{LinkId, Text};
+use wc_text::{Address, LinkId, Text};
 
 /// One thing that the sockets gave.
 #[derive(Drop)]
@@ -11,8 +11,12 @@ pub enum Happening {
     Read(LinkId, Text),
     /// A link's bytes came to their end.
     Ended(LinkId),
-    /// A read of a link or a write to it failed.
+    /// A read of a link or a write to it failed, or so did its connection.
     Failed(LinkId),
+    /// A connection that was asked for stands.
+    Connected(LinkId),
+    /// A connection was refused as it was asked for; its link was never there.
+    Refused(LinkId),
     /// The listener failed.
     ListenFailed,
 }
@@ -22,6 +26,8 @@ pub enum Happening {
 pub enum Asked {
     /// To listen at this port of 127.0.0.1.
     Listen(u16),
+    /// To connect to this address.
+    Connect(Address),
 }
 
 /// A call of the outside failed.

@@ -9,10 +9,11 @@ ghost use Rattle.wc_outside.specs.Happenings.{wait_gives, listen_gives, accept_g
 ghost use Rattle.wc_outside.specs.Happenings.{write_gives, sent_of, found_no_room, found_nothing};
 ghost use Rattle.wc_outside.specs.Happenings.{found_no_arrival, used_after, is_arrival};
 ghost use Rattle.wc_outside.specs.Happenings.{IsReadWithin, IsPutWithin, is_link, is_listener};
-ghost use Rattle.wc_outside.specs.Happenings.{IsThere};
+ghost use Rattle.wc_outside.specs.Happenings.{IsThere, connect_gives, connected_gives};
+ghost use Rattle.wc_outside.specs.Happenings.{is_connection, is_undecided};
 
 use crate::happening::{Asked, Failed};
-use wc_text::{Arrival, LinkId};
+use wc_text::{Address, Arrival, LinkId};
 
 /// What may be ready.
 #[derive(Clone, Copy, Debug, PartialEq, Eq)]
@@ -64,7 +65,7 @@ pub enum Put {
     NotYet,
 }
 
-/// A listener at 127.0.0.1 and the links that it gave.
+/// A listener at 127.0.0.1, the links that it gave, and those that were connected to others.
 ///
 /// Contracts see a record of what was given and sent, where that is told, and of the links, the
 /// sources that are ready, and the counts of faults, which are always told. An implementation that
@@ -163,6 +164,58 @@ pub trait Sockets {
         ensures counts { NeverFall (seen self.old).faults (seen self.new).faults }
         ensures failed { OnErr result
             (Rose (seen self.old).faults.listens (seen self.new).faults.listens) };
+
+    /// Begins a connection to this address, whose link has the next number and is there from then
+    /// on. Whether it stands is told by `connected`. It fails only where the count of failed
+    /// connections rose, and uses the next number up all the same.
+    fn connect(&mut self, to: Address) -> Result<LinkId, Failed>
+        requires { (seen self.old).used < 2 ^ 62 }
+        ensures told { IsTrue (seen self.new).tells → IsTrue (seen self.old).tells }
+        ensures taken { IsTrue (seen self.new).tells → (seen self.new).taken ≡ (seen self.old).taken
+            ++ connect_gives (seen self.old).used result }
+        ensures sent { IsTrue (seen self.new).tells → (link : ℕ) → (seen self.new).sent link
+            ≡ (seen self.old).sent link }
+        ensures asked { IsTrue (seen self.new).tells → (seen self.new).asked ≡ (seen self.old).asked
+            ++ Asked.Connect to ∷ [] }
+        ensures choked { IsTrue (seen self.new).tells → (link : ℕ) → (seen self.new).choked link
+            ≡ (seen self.old).choked link }
+        ensures used { (seen self.new).used ≡ (seen self.old).used + 1 }
+        ensures next { IfOk result (λ link. link.0 ≡ (seen self.old).used + 1) }
+        ensures there { (link : ℕ) → (seen self.new).there link ≡ (seen self.old).there link
+            || is_connection link result }
+        ensures undrained { (link : ℕ) → (seen self.new).undrained link
+            ≡ (seen self.old).undrained link }
+        ensures listening { (seen self.new).listening ≡ (seen self.old).listening }
+        ensures blocked { (link : ℕ) → (seen self.new).blocked link ≡ (seen self.old).blocked link }
+        ensures counts { NeverFall (seen self.old).faults (seen self.new).faults }
+        ensures failed { OnErr result
+            (Rose (seen self.old).faults.connects (seen self.new).faults.connects) };
+
+    /// Whether the connection of a link stands. False only where that is not decided yet, and the
+    /// link is then drained: a wait reports it once it is decided. It fails only where the links'
+    /// count of faults rose, as where the peer refused the connection, and always for a link that
+    /// is not there.
+    fn connected(&mut self, link: LinkId) -> Result<bool, Failed>
+        ensures told { IsTrue (seen self.new).tells → IsTrue (seen self.old).tells }
+        ensures taken { IsTrue (seen self.new).tells → (seen self.new).taken ≡ (seen self.old).taken
+            ++ connected_gives link result }
+        ensures sent { IsTrue (seen self.new).tells → (other : ℕ) → (seen self.new).sent other
+            ≡ (seen self.old).sent other }
+        ensures asked { IsTrue (seen self.new).tells → (seen self.new).asked
+            ≡ (seen self.old).asked }
+        ensures choked { IsTrue (seen self.new).tells → (other : ℕ) → (seen self.new).choked other
+            ≡ (seen self.old).choked other }
+        ensures used { (seen self.new).used ≡ (seen self.old).used }
+        ensures there { (other : ℕ) → (seen self.new).there other ≡ (seen self.old).there other }
+        ensures known { (seen self.old).there link.0 ≡ false → IsErr result }
+        ensures undrained { (other : ℕ) → (seen self.new).undrained other
+            ≡ (seen self.old).undrained other && not (other == link.0 && is_undecided result) }
+        ensures listening { (seen self.new).listening ≡ (seen self.old).listening }
+        ensures blocked { (other : ℕ) → (seen self.new).blocked other
+            ≡ (seen self.old).blocked other }
+        ensures counts { NeverFall (seen self.old).faults (seen self.new).faults }
+        ensures failed { OnErr result
+            (Rose (seen self.old).faults.links (seen self.new).faults.links) };
 
     /// Reads bytes of a link to the front of the buffer. It gives `NotYet` only where nothing was
     /// ready, and the link is then drained. It fails only where the links' count of faults rose,

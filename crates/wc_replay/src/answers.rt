@@ -24,6 +24,14 @@ fn first_message(bytes: &[u8]) -> &[u8] {
     bytes.get(..length.max(4)).unwrap_or(bytes)
 }
 
+/// The first line of these bytes with its end, or all that there is of it.
+fn first_line(bytes: &[u8]) -> &[u8] {
+    match bytes.iter().position(|byte| *byte == b'\n') {
+        Some(place) => bytes.get(..=place).unwrap_or(bytes),
+        None => bytes,
+    }
+}
+
 /// The id that a word names: `-` is none.
 fn meant_id(word: &str) -> &[u8] {
     if word == "-" {
@@ -81,13 +89,25 @@ impl<'a> Answers<'a> {
         self.sockets.sent(link).get(named..).unwrap_or(&[])
     }
 
+    /// Takes note that the script named so many bytes of a link.
+    fn name(&mut self, link: LinkId, count: usize) {
+        if let Some(named) = self.named.get_mut(link.0 as usize) {
+            *named = named.saturating_add(count);
+        }
+    }
+
     /// The next message of a link, which is named by this.
     fn next(&mut self, link: LinkId) -> &'a [u8] {
         let message = first_message(self.rest_of_link(link));
-        if let Some(named) = self.named.get_mut(link.0 as usize) {
-            *named = named.saturating_add(message.len());
-        }
+        self.name(link, message.len());
         message
+    }
+
+    /// The next line of a link with its end, which is named by this.
+    fn next_line(&mut self, link: LinkId) -> &'a [u8] {
+        let line = first_line(self.rest_of_link(link));
+        self.name(link, line.len());
+        line
     }
 
     /// Compares the next message of a link as a line asks:
@@ -96,6 +116,7 @@ impl<'a> Answers<'a> {
     /// - `message 1 ID BYTES`: it has this id, which `-` is none, and its objects are these bytes;
     /// - `any 1 ID`: it has this id.
     ///
+    /// `line 1 BYTES` compares the next line of the connection to a server, whose end is CR LF.
     /// Where less than a message was sent, it is what there is of it. There are also `name` and
     /// comments, as before the run.
     pub fn compare(
@@ -109,6 +130,7 @@ impl<'a> Answers<'a> {
             "" | "#" => Ok(()),
             "name" => forms.define(rest),
             "expect" => self.expect(out, forms, rest),
+            "line" => self.expect_line(out, forms, rest),
             "message" => self.expect_message(out, forms, rest),
             "any" => self.expect_id(out, rest),
             _ => Err(Wrong::Word),
@@ -120,6 +142,15 @@ impl<'a> Answers<'a> {
         let (link, text) = on_link(rest)?;
         let wanted = forms.spell(text)?;
         let came = self.next(link);
+        Ok(judge(out, came == wanted.as_slice(), came)?)
+    }
+
+    /// The next line is these bytes and its end.
+    fn expect_line(&mut self, out: &mut String, forms: &Forms, rest: &str) -> Result<(), Wrong> {
+        let (link, text) = on_link(rest)?;
+        let mut wanted = forms.spell(text)?;
+        wanted.append(b"\r\n")?;
+        let came = self.next_line(link);
         Ok(judge(out, came == wanted.as_slice(), came)?)
     }
 

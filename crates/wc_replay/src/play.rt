@@ -7,9 +7,9 @@ use crate::keeper::ReplayKeeper;
 use crate::stage::{Kept, SHOWN, Stage};
 use std::alloc::{AllocError, Global};
 use wc_loop::{Ended, run_program};
-use wc_outside::Sockets;
+use wc_outside::{Asked, Sockets};
 use wc_scripted::{MemorySink, MemorySockets};
-use wc_text::{Items, LinkId, NoMemory};
+use wc_text::{Address, Items, LinkId, NoMemory};
 use wc_turns::{Closed, Headless};
 
 /// What is looked at after a run: the lines that compare, and how many links there may be.
@@ -131,6 +131,32 @@ fn show_outside(
     show_bytes(out, "  kept: ", keeper.contents())
 }
 
+/// Writes an address that was to be connected to.
+fn show_address(out: &mut String, address: Address) -> Result<(), AllocError> {
+    let [a, b, c, d] = address.ip.to_be_bytes();
+    let port = address.port;
+    write!(out, "  connects to {a}.{b}.{c}.{d}/{port}\n")
+}
+
+/// Writes what the sockets were asked to connect to, in order.
+fn show_asked(out: &mut String, sockets: &MemorySockets) -> Result<(), AllocError> {
+    for asked in sockets.asked().unwrap_or(&[]) {
+        if let Asked::Connect(address) = asked {
+            show_address(out, *address)?;
+        }
+    }
+    Ok(())
+}
+
+/// How many connections the sockets were asked for.
+fn connections(sockets: &MemorySockets) -> u64 {
+    let asked = sockets.asked().unwrap_or(&[]);
+    asked
+        .iter()
+        .filter(|asked| matches!(asked, Asked::Connect(_)))
+        .count() as u64
+}
+
 fn with_sink(
     alloc: Global,
     words: &Vec<String>,
@@ -142,7 +168,8 @@ fn with_sink(
     requires { IsNew (⟦<MemorySockets as Sockets>⟧.seen sockets.old) }
 {
     run(alloc, words, sockets, keeper, sink, out)?;
-    Ok(show_outside(out, sink, keeper)?)
+    show_outside(out, sink, keeper)?;
+    Ok(show_asked(out, sockets)?)
 }
 
 fn with_sockets(
@@ -182,8 +209,9 @@ pub fn play(
     lines: &str,
     out: &mut String,
 ) -> Result<(), NoMemory> {
-    let links = stage.arrivals;
+    let arrivals = stage.arrivals;
     let sockets = run_stage(alloc, stage, out)?;
+    let links = arrivals.saturating_add(connections(&sockets));
     let wanted = Wanted { lines, links };
     Ok(show_links(alloc, out, &sockets, forms, wanted)?)
 }

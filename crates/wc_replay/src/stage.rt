@@ -125,7 +125,8 @@ impl Stage {
     /// Adds the step of a line, of which these begin with the number of a link:
     ///
     /// - `says 1 BYTES`: the bytes and a line feed come on it; `gives 1 BYTES`: the bytes alone;
-    /// - `ends 1`: its bytes come to their end.
+    /// - `ends 1`: its bytes come to their end;
+    /// - `stands 1`: it is a connection, which stands from now on.
     ///
     /// The others are:
     ///
@@ -160,6 +161,7 @@ impl Stage {
             "wake" => self.wake(rest),
             "arrive" => self.arrive(rest),
             "ends" => self.end(rest),
+            "stands" => self.stand(rest),
             _ => self.settle(word, rest),
         }
     }
@@ -257,6 +259,12 @@ impl Stage {
     fn end(&mut self, rest: &str) -> Result<(), Wrong> {
         let link = link(rest)?;
         Ok(self.wires.script.push(Scripted::Ends(link))?)
+    }
+
+    /// The connection of a link stands.
+    fn stand(&mut self, rest: &str) -> Result<(), Wrong> {
+        let link = link(rest)?;
+        Ok(self.wires.script.push(Scripted::Stands(link))?)
     }
 
     /// From here on so many bytes come at once, or any number for 0.

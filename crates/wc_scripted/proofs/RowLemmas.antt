@@ -1,8 +1,8 @@
 -- Laws of rows by link number, of what is released, and of what waits report.
-use Rattle.std.proofs.Common.{◌≡◌, ℕ, zero, suc, ◌+◌, ◌-◌, ◌<◌, ◌≤◌, Bool, true, false, cond, ◌||◌, ◌&&◌, not, List, [], ◌∷◌, ◌++◌, length, take, drop, map, refl, ap, sym, ◌∙◌, subst, arith, All, append_assoc, append-nil, IsTrue, nat_lt, nat_eq, set}
-use Rattle.std.specs.List.{list_any, slice_index_or}
+use Rattle.std.proofs.Common.{◌≡◌, ℕ, zero, suc, ◌+◌, ◌<◌, ◌≤◌, Bool, true, false, ◌||◌, ◌&&◌, not, List, [], ◌∷◌, ◌++◌, length, take, map, refl, ap, sym, ◌∙◌, subst, arith, All, append_assoc, append-nil, nat_lt, set, ◌⊎◌, inl, inr}
+use Rattle.std.specs.List.{list_any}
 use Rattle.std.proofs.lemmas.List.Folds.{list_any-append}
-use Rattle.std.proofs.lemmas.List.{length-append, take-append-le, length-take-le, take_all}
+use Rattle.std.proofs.lemmas.List.{take_all, get_or_past}
 use Rattle.std.proofs.Math.Seq.{take-append_seam}
 use Rattle.std.proofs.lemmas.Bool.Decides.{nat_tests}
 use Rattle.std.proofs.lemmas.Grind.{common_steps}
@@ -197,14 +197,26 @@ set_rest f (x ∷ xs) zero (suc other) row h = refl
 set_rest f (x ∷ xs) (suc link) zero row h = refl
 set_rest f (x ∷ xs) (suc link) (suc other) row h = set_rest f xs link other row h
 
-took_here : (a n lost : ℕ) (b : Bool) → lost ≡ cond b 0 n → a + lost ≡ a + cond (true && not b) n 0
-took_here a n lost true e = ap (λ k. a + k) e
-took_here a n lost false e = ap (λ k. a + k) e
+-- a number past the last row has a blank one
+pub row_past : (rows : List Row) (link : ℕ) → length rows ≤ link → row_at link rows ≡ blank
+row_past rows link h = get_or_past rows link blank h
 
--- how many bytes a link took of its window after a write
-pub took-set : (rows : List Row) (link other n lost : ℕ) (b : Bool) (row : Row) → row.taken ≡ (row_at link rows).taken + lost → lost ≡ cond b 0 n → (row_at link rows).is_open ≡ true → (row_at other (set rows link row)).taken ≡ (row_at other rows).taken + cond (nat_eq other link && not b) n 0
-took-set [] link other n lost b row h e o = cc
-took-set (x ∷ xs) zero zero n lost b row h e o = h ∙ took_here x.taken n lost b e
-took-set (x ∷ xs) zero (suc other) n lost b row h e o = grind (arith, nat_tests)
-took-set (x ∷ xs) (suc link) zero n lost b row h e o = grind (arith, nat_tests)
-took-set (x ∷ xs) (suc link) (suc other) n lost b row h e o = grind (arith, nat_tests, took-set xs link other n lost b row h e o)
+pub fresh_past : (rows : List Row) (link : ℕ) (b : Bool) → length rows ≤ link → (row_at link rows).is_open && b ≡ false
+fresh_past rows link b h = rw (row_past rows link h) refl
+
+below_past-by : (test : ℕ → Bool) (n m : ℕ) (b : Bool) → nat_lt m n ≡ b → n ≤ suc m → test m ≡ false ⊎ (m < n) → (n ≤ m → links_below test m ≡ links_below test n) → links_below test (suc m) ≡ links_below test n
+below_past-by test n m true e h t f = let same : suc m ≡ n = grind (arith, nat_tests) in ap (links_below test) same
+below_past-by test n m false e h (inl t) f = ap (λ b. links_below test m ++ found_at b m) t ∙ append-nil (links_below test m) ∙ f (grind (arith, nat_tests))
+below_past-by test n m false e h (inr t) f = absurd (grind (arith, nat_tests))
+
+at_or_below : (test : ℕ → Bool) (n m : ℕ) (b : Bool) → nat_lt m n ≡ b → ((link : ℕ) → n ≤ link → test link ≡ false) → test m ≡ false ⊎ (m < n)
+at_or_below test n m true e f = inr (grind (arith, nat_tests))
+at_or_below test n m false e f = inl (f m (grind (arith, nat_tests)))
+
+-- where a test holds for no number from one on, the links below are those below it
+below_past : (test : ℕ → Bool) (n m : ℕ) → n ≤ m → ((link : ℕ) → n ≤ link → test link ≡ false) → links_below test m ≡ links_below test n
+below_past test n zero h f = let same : 0 ≡ n = omega arith in ap (links_below test) same
+below_past test n (suc m) h f = below_past-by test n m (nat_lt m n) refl h (at_or_below test n m (nat_lt m n) refl f) (λ g. below_past test n m g f)
+
+pub sources_past : (a : Bool) (test : ℕ → Bool) (n m : ℕ) → n ≤ m → ((link : ℕ) → n ≤ link → test link ≡ false) → sources a test n ≡ sources a test m
+sources_past a test n m h f = ap (λ s. front a ++ s) (sym (below_past test n m h f))

@@ -1,6 +1,6 @@
 -- How far sockets in memory have played their script, and what each call makes of it.
 use Rattle.std.specs.Prelude.{ℕ, zero, suc, ◌≡◌, ◌+◌, ◌-◌, ◌^◌, ◌≤◌, min, Bool, true, false, ◌==◌, ◌&&◌, ◌||◌, not}
-use Rattle.std.specs.Prelude.{if◌then◌else◌, List, [], ◌∷◌, ◌++◌, length, take, drop, Option, Some, None, ◌⊎◌}
+use Rattle.std.specs.Prelude.{if◌then◌else◌, List, [], ◌∷◌, ◌++◌, length, map, take, drop, Option, Some, None, ◌⊎◌}
 use Rattle.std.specs.Prelude.{Result, Ok, Err, slice_get}
 use Rattle.std.specs.List.{list_any}
 use Rattle.wc_text.specs.declared.names.LinkId.{LinkId}
@@ -24,7 +24,9 @@ pub record Plays : Type 0 where
   pub coming : List Scripted
   -- the moment of the last wait that returned, or 0
   pub moment : ℕ
-  -- how many bytes of each link reads gave
+  -- how many arrivals were accepted
+  pub arrived : ℕ
+  -- how much of what is due to each link was given: bytes by reads, and that its connection stands
   pub given : ℕ → ℕ
   -- whether something of a link was released that no wait reported, and whether an arrival was
   pub news : ℕ → Bool
@@ -44,6 +46,7 @@ pub record IsAsFar (play other : Plays) : Type 0 where
   pub released : play.released ≡ other.released
   pub coming : play.coming ≡ other.coming
   pub moment : play.moment ≡ other.moment
+  pub arrived : play.arrived ≡ other.arrived
   pub given : (link : ℕ) → play.given link ≡ other.given link
   pub news : (link : ℕ) → play.news link ≡ other.news link
   pub arriving : play.arriving ≡ other.arriving
@@ -57,6 +60,7 @@ pub record IsStart (script : List Scripted) (fails : List ℕ) (bound : ℕ) (pl
   pub released : play.released ≡ []
   pub coming : play.coming ≡ script
   pub moment : play.moment ≡ 0
+  pub arrived : play.arrived ≡ 0
   pub given : (link : ℕ) → play.given link ≡ 0
   pub news : (link : ℕ) → play.news link ≡ false
   pub arriving : play.arriving ≡ false
@@ -128,14 +132,29 @@ after_wait play seen tokens (Ok moment) = record (called play) {
 }
 after_wait play seen tokens (Err fault) = called play
 
--- how far an accept has played: a link that it gives has news where its first steps were released
--- before it came
+-- a new link has news where its first steps were released before it came
+abbrev pub with_link : Plays → ℕ → Plays
+with_link play new = record play {
+  news = λ link. if link == new then list_any (is_for new) play.released else play.news link;
+}
+
 abbrev pub after_accept : Plays → Result (Option Arrival) Fault → Plays
-after_accept play (Ok (Some arrival)) = record (called play) {
-  news = λ link. if link == arrival.link.0 then list_any (is_for link) play.released else play.news link;
+after_accept play (Ok (Some arrival)) = record (called (with_link play arrival.link.0)) {
+  arrived = play.arrived + 1;
 }
 after_accept play (Ok None) = called play
 after_accept play (Err fault) = called play
+
+abbrev pub after_connect : Plays → Result LinkId Fault → Plays
+after_connect play (Ok link) = called (with_link play link.0)
+after_connect play (Err fault) = called play
+
+-- the script passes that a connection stands where that was found
+abbrev pub after_connected : Plays → ℕ → Result Bool Fault → Plays
+after_connected play link (Ok stands) = record (called play) {
+  given = λ other. play.given other + (if (other == link) && stands then 1 else 0);
+}
+after_connected play link (Err fault) = called play
 
 -- how many bytes a read gave
 abbrev pub given_by : Got → ℕ
@@ -160,28 +179,35 @@ after_write play link (Ok put) = record (called play) {
 }
 after_write play link (Err fault) = called play
 
--- the next nonce of those that are released; none only where all were given, or 2^62 numbers are
--- used
-abbrev pub IsNonce : List Scripted → ℕ → Option (List ℕ) → Type 0
-IsNonce steps used (Some nonce) = slice_get (nonces steps) used ≡ Some nonce
-IsNonce steps used None = (2 ^ 62 ≤ used) ⊎ (length (nonces steps) ≤ used)
+-- the next nonce of those that are released, where so many link numbers are used and so many arrivals
+-- were accepted; none only where all were, or 2^62 numbers are used
+abbrev pub IsNonce : List Scripted → ℕ → ℕ → Option (List ℕ) → Type 0
+IsNonce steps used arrived (Some nonce) = slice_get (nonces steps) arrived ≡ Some nonce
+IsNonce steps used arrived None = (2 ^ 62 ≤ used) ⊎ (length (nonces steps) ≤ arrived)
 
 -- what an accept gives has the next nonce
 abbrev pub IsArrival : Plays → ℕ → Option Arrival → Type 0
-IsArrival play used (Some arrival) = IsNonce play.released used (Some arrival.nonce)
-IsArrival play used None = IsNonce play.released used None
+IsArrival play used (Some arrival) = IsNonce play.released used play.arrived (Some arrival.nonce)
+IsArrival play used None = IsNonce play.released used play.arrived None
 
 -- what is still to be given of a link: what the released steps have of it, after what was given
-abbrev pub left : List Scripted → ℕ → ℕ → List ℕ
+abbrev pub left : List Scripted → ℕ → ℕ → List (Option ℕ)
 left steps link given = drop given (due link steps)
 
--- a read gives bytes from the front of what is left of a link; where nothing is, its end, or nothing
--- yet where that is not released
+-- whether it is next that a connection stands
+abbrev pub stands_next : List (Option ℕ) → Bool
+stands_next [] = false
+stands_next (None ∷ rest) = true
+stands_next (Some byte ∷ rest) = false
+
+-- a read gives bytes from the front of what is left of a link; where nothing is left, its end; and
+-- nothing yet where that is not released, or where it is next that the connection stands
 abbrev pub IsFound : List Scripted → ℕ → ℕ → List ℕ → Got → Type 0
 IsFound steps link given buffer (Bytes n) =
-    (n ≤ length (left steps link given)) × (take n buffer ≡ take n (left steps link given))
+    (n ≤ length (left steps link given)) × (map Some (take n buffer) ≡ take n (left steps link given))
 IsFound steps link given buffer End = (left steps link given ≡ []) × (has_end link steps ≡ true)
-IsFound steps link given buffer NotYet = (left steps link given ≡ []) × (has_end link steps ≡ false)
+IsFound steps link given buffer NotYet = (stands_next (left steps link given) ≡ true)
+    ⊎ ((left steps link given ≡ []) × (has_end link steps ≡ false))
 
 -- how many bytes of a piece a link takes
 abbrev pub room_for : ℕ → ℕ → ℕ → ℕ

@@ -1,11 +1,10 @@
 -- The rows of links by number, where a link that was never made has an empty row.
-use Rattle.std.specs.Prelude.{ℕ, ◌≡◌, ◌||◌, ◌&&◌, not, Bool, false, true, List, [], length, All}
-use Rattle.std.specs.Prelude.{if◌then◌else◌}
+use Rattle.std.specs.Prelude.{ℕ, ◌≡◌, ◌||◌, ◌&&◌, not, Bool, false, List, [], length, All}
 use Rattle.std.specs.List.{list_any, slice_index_or}
 use Rattle.wc_scripted.specs.declared.rows.Row.{Row}
 use Rattle.wc_scripted.specs.declared.scripted.Scripted.{Scripted}
 use Rattle.wc_outside.specs.declared.sockets.Token.{Token}
-use Rattle.wc_outside.specs.Happenings.{is_link, is_listener, IsThere}
+use Rattle.wc_outside.specs.Happenings.{is_link, IsThere}
 use Rattle.wc_scripted.specs.Scripts.{is_for, is_arrival}
 
 -- the row of a link that is not there
@@ -23,6 +22,14 @@ blank = record {
 -- a link's row
 abbrev pub row_at : ℕ → List Row → Row
 row_at link rows = slice_index_or rows link blank
+
+-- the row of a number that gets its place, of a link that is there or not, where these steps were
+-- released before
+abbrev pub placed_row : Bool → ℕ → List Scripted → Row
+placed_row is_there link steps = record blank {
+  is_open = is_there;
+  news = is_there && list_any (is_for link) steps;
+}
 
 -- what each row is once its link is closed
 abbrev pub closed_row : Row → Row

@@ -1,14 +1,15 @@
 -- What the steps of a script give: to the listener, to each link, and to one wait.
 use Rattle.std.specs.Prelude.{ℕ, ◌+◌, ◌-◌, ◌^◌, min, Bool, true, false, ◌==◌, ◌&&◌, if◌then◌else◌}
-use Rattle.std.specs.Prelude.{List, [], ◌∷◌, ◌++◌, Option, Some, None}
+use Rattle.std.specs.Prelude.{List, [], ◌∷◌, ◌++◌, map, Option, Some, None}
 use Rattle.std.specs.List.{list_any, position_or_len}
 use Rattle.wc_scripted.specs.declared.scripted.Scripted.{Scripted}
-use Rattle.wc_scripted.specs.declared.scripted.Scripted.TheVariants.{Wake, Arrive, Gives, Ends}
+use Rattle.wc_scripted.specs.declared.scripted.Scripted.TheVariants.{Wake, Arrive, Stands, Gives, Ends}
 
 -- whether a wait comes back at a step
 abbrev pub is_wake : Scripted → Bool
 is_wake (Wake moment) = true
 is_wake (Arrive nonce) = false
+is_wake (Stands link) = false
 is_wake (Gives link bytes) = false
 is_wake (Ends link) = false
 
@@ -16,6 +17,7 @@ is_wake (Ends link) = false
 abbrev pub nonce_of : Scripted → Option (List ℕ)
 nonce_of (Wake moment) = None
 nonce_of (Arrive nonce) = Some nonce
+nonce_of (Stands link) = None
 nonce_of (Gives link bytes) = None
 nonce_of (Ends link) = None
 
@@ -23,20 +25,23 @@ nonce_of (Ends link) = None
 abbrev pub is_arrival : Scripted → Bool
 is_arrival (Wake moment) = false
 is_arrival (Arrive nonce) = true
+is_arrival (Stands link) = false
 is_arrival (Gives link bytes) = false
 is_arrival (Ends link) = false
 
--- the bytes that a step gives a link
-abbrev pub bytes_for : ℕ → Scripted → List ℕ
-bytes_for link (Wake moment) = []
-bytes_for link (Arrive nonce) = []
-bytes_for link (Gives other bytes) = if other.0 == link then bytes else []
-bytes_for link (Ends other) = []
+-- what a step has for a link: bytes, and at None that its connection stands
+abbrev pub due_of : ℕ → Scripted → List (Option ℕ)
+due_of link (Wake moment) = []
+due_of link (Arrive nonce) = []
+due_of link (Stands other) = if other.0 == link then None ∷ [] else []
+due_of link (Gives other bytes) = if other.0 == link then map Some bytes else []
+due_of link (Ends other) = []
 
 -- whether a link's bytes end by it
 abbrev pub is_end : ℕ → Scripted → Bool
 is_end link (Wake moment) = false
 is_end link (Arrive nonce) = false
+is_end link (Stands other) = false
 is_end link (Gives other bytes) = false
 is_end link (Ends other) = other.0 == link
 
@@ -44,10 +49,11 @@ abbrev pub has_bytes : List ℕ → Bool
 has_bytes [] = false
 has_bytes (byte ∷ bytes) = true
 
--- whether a read of a link finds something by it
+-- whether something is found of a link by it
 abbrev pub is_for : ℕ → Scripted → Bool
 is_for link (Wake moment) = false
 is_for link (Arrive nonce) = false
+is_for link (Stands other) = other.0 == link
 is_for link (Gives other bytes) = (other.0 == link) && has_bytes bytes
 is_for link (Ends other) = other.0 == link
 
@@ -60,10 +66,10 @@ abbrev pub nonces : List Scripted → List (List ℕ)
 nonces [] = []
 nonces (step ∷ steps) = listed (nonce_of step) ++ nonces steps
 
--- the bytes that steps give a link, up to its end
-abbrev pub due : ℕ → List Scripted → List ℕ
+-- what steps have for a link, up to its end
+abbrev pub due : ℕ → List Scripted → List (Option ℕ)
 due link [] = []
-due link (step ∷ steps) = if is_end link step then [] else bytes_for link step ++ due link steps
+due link (step ∷ steps) = if is_end link step then [] else due_of link step ++ due link steps
 
 -- whether a link's bytes end by one of these steps
 abbrev pub has_end : ℕ → List Scripted → Bool
@@ -80,5 +86,6 @@ abbrev pub next_moment : ℕ → List Scripted → ℕ
 next_moment moment [] = min (moment + 100) (2 ^ 64 - 1)
 next_moment moment (Wake next ∷ steps) = next
 next_moment moment (Arrive nonce ∷ steps) = min (moment + 100) (2 ^ 64 - 1)
+next_moment moment (Stands link ∷ steps) = min (moment + 100) (2 ^ 64 - 1)
 next_moment moment (Gives link bytes ∷ steps) = min (moment + 100) (2 ^ 64 - 1)
 next_moment moment (Ends link ∷ steps) = min (moment + 100) (2 ^ 64 - 1)

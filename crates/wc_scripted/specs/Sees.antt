@@ -1,11 +1,11 @@
 -- What each call of sockets makes of what is seen of them.
-use Rattle.std.specs.Prelude.{ℕ, ◌≡◌, Bool, true, false, ◌==◌, ◌&&◌, ◌||◌, not, if◌then◌else◌}
-use Rattle.std.specs.Prelude.{List, [], ◌∷◌, ◌++◌, Option, Some, None, Result, Ok, Err, IsTrue}
+use Rattle.std.specs.Prelude.{ℕ, ◌≡◌, Bool, ◌==◌, ◌&&◌, ◌||◌, not, if◌then◌else◌}
+use Rattle.std.specs.Prelude.{List, [], ◌∷◌, ◌++◌, ◌+◌, Option, Result, Ok, Err, IsTrue}
 use Rattle.std.specs.List.{list_any}
+use Rattle.wc_text.specs.declared.names.Address.{Address}
 use Rattle.wc_text.specs.declared.names.LinkId.{LinkId}
 use Rattle.wc_text.specs.declared.names.Arrival.{Arrival}
-use Rattle.wc_outside.specs.declared.happening.Asked.{Asked}
-use Rattle.wc_outside.specs.declared.happening.Asked.TheVariants.{Listen}
+use Rattle.wc_outside.specs.declared.happening.Asked.TheVariants.{Listen, Connect}
 use Rattle.wc_outside.specs.declared.happening.Failed.{Failed as Fault}
 use Rattle.wc_outside.specs.declared.sockets.Got.{Got}
 use Rattle.wc_outside.specs.declared.sockets.Put.{Put}
@@ -14,6 +14,7 @@ use Rattle.wc_outside.specs.Faults.{NeverFall}
 use Rattle.wc_outside.specs.Happenings.{wait_gives, listen_gives, accept_gives, read_gives, write_gives}
 use Rattle.wc_outside.specs.Happenings.{sent_of, found_no_room, found_nothing, found_no_arrival}
 use Rattle.wc_outside.specs.Happenings.{used_after, is_arrival, is_link, is_listener}
+use Rattle.wc_outside.specs.Happenings.{connect_gives, connected_gives, is_connection, is_undecided}
 use Rattle.wc_outside.specs.Seen.{Seen}
 
 -- after a call all is seen that is wanted of it, as far as it is told, and no count of faults fell
@@ -52,6 +53,20 @@ accept_sees seen result = record seen {
   used = used_after seen.used result;
   there = λ link. seen.there link || is_arrival link result;
   listening = seen.listening && not (found_no_arrival result);
+}
+
+abbrev pub connect_sees : Seen → Address → Result LinkId Fault → Seen
+connect_sees seen to result = record seen {
+  taken = seen.taken ++ connect_gives seen.used result;
+  asked = seen.asked ++ Connect to ∷ [];
+  used = seen.used + 1;
+  there = λ link. seen.there link || is_connection link result;
+}
+
+abbrev pub connected_sees : Seen → LinkId → Result Bool Fault → Seen
+connected_sees seen link result = record seen {
+  taken = seen.taken ++ connected_gives link result;
+  undrained = λ other. seen.undrained other && not ((other == link.0) && is_undecided result);
 }
 
 abbrev pub read_sees : Seen → LinkId → List ℕ → Result Got Fault → Seen

@@ -1,10 +1,10 @@
 -- What contracts see of sockets in memory.
-use Rattle.std.specs.Prelude.{ℕ, ◌-◌, take, drop, vec_len}
+use Rattle.std.specs.Prelude.{length, take, drop}
 use Rattle.wc_scripted.specs.declared.memory_sockets.MemorySockets.{MemorySockets}
 use Rattle.wc_scripted.specs.Cursors.{cursor_at, given_at}
-use Rattle.wc_outside.specs.Faults.{Faults}
 use Rattle.wc_scripted.specs.Plays.{Plays}
 use Rattle.wc_scripted.specs.Rows.{row_at}
+use Rattle.wc_scripted.specs.Scripts.{nonces}
 use Rattle.wc_outside.specs.Seen.{Seen}
 
 -- what they gave, were sent and report
@@ -15,12 +15,17 @@ seen_of s = record {
   sent = λ link. (row_at link s.rows.items).sent;
   asked = s.told.asked;
   choked = λ link. (row_at link s.rows.items).choked;
-  used = vec_len s.rows - 1;
+  used = s.used;
   there = λ link. (row_at link s.rows.items).is_open;
   undrained = λ link. (row_at link s.rows.items).undrained;
   listening = s.listening;
   blocked = λ link. (row_at link s.rows.items).blocked;
-  faults = record { waits = s.faults.waits; listens = s.faults.listens; links = s.faults.links };
+  faults = record {
+    waits = s.faults.waits;
+    listens = s.faults.listens;
+    connects = s.faults.connects;
+    links = s.faults.links;
+  };
 }
 
 -- how far they have played their script
@@ -29,6 +34,7 @@ play_of s = record {
   released = take s.play.script.released s.play.script.steps;
   coming = drop s.play.script.released s.play.script.steps;
   moment = s.play.script.moment;
+  arrived = length (nonces (take s.play.listener (take s.play.script.released s.play.script.steps)));
   given = λ link. given_at (take s.play.script.released s.play.script.steps) link
       (cursor_at link s.play.cursors.items);
   news = λ link. (row_at link s.rows.items).news;

@@ -4,7 +4,7 @@ ghost use Rattle.std.specs.List.{list_any};
 ghost use Rattle.wc_outside.specs.Happenings.{IsReadWithin};
 ghost use Rattle.wc_scripted.specs.Scripts.{is_for};
 ghost use Rattle.wc_scripted.specs.Cursors.{at_start, given_at, IsPlaced, BeginsFor};
-ghost use Rattle.wc_scripted.specs.Plays.{IsFound, given_by};
+ghost use Rattle.wc_scripted.specs.Plays.{IsFound, given_by, left, stands_next};
 
 use crate::scripted::{Scripted, before_link};
 use wc_outside::Got;
@@ -15,7 +15,7 @@ use wc_text::LinkId;
 pub(crate) struct Cursor {
     /// The steps before it are passed.
     pub(crate) step: usize,
-    /// How many bytes of that step were given.
+    /// How much of that step was given.
     pub(crate) given: usize,
 }
 
@@ -75,6 +75,7 @@ impl Cursor {
                 Got::Bytes(count)
             }
             Some(Scripted::Ends(_)) => Got::End,
+            Some(Scripted::Stands(_)) => Got::NotYet,
             Some(Scripted::Wake(_)) => Got::NotYet,
             Some(Scripted::Arrive(_)) => Got::NotYet,
             None => Got::NotYet,
@@ -94,5 +95,40 @@ impl Cursor {
     {
         self.seek(steps, link);
         self.give(steps, link, into)
+    }
+    /// Passes that a link's connection stands, where the next step, which is the link's, says so.
+    fn stand(&mut self, steps: &[Scripted], link: LinkId) -> bool
+        requires placed { IsPlaced steps.now link.0 self.old }
+        requires begins { BeginsFor link.0 (drop self.old.step steps.now) }
+        ensures placed { IsPlaced steps.now link.0 self.new }
+        ensures found { result
+            ≡ stands_next (left steps.now link.0 (given_at steps.now link.0 self.old)) }
+        ensures given { given_at steps.now link.0 self.new
+            ≡ given_at steps.now link.0 self.old + (if result then 1 else 0) }
+    {
+        match steps.get(self.step) {
+            Some(Scripted::Stands(_)) => {
+                self.step += 1;
+                true
+            }
+            Some(Scripted::Wake(_)) => false,
+            Some(Scripted::Arrive(_)) => false,
+            Some(Scripted::Gives(_, _)) => false,
+            Some(Scripted::Ends(_)) => false,
+            None => false,
+        }
+    }
+
+    /// Whether it is next of a link that its connection stands, which is passed then.
+    pub(crate) fn stands(&mut self, steps: &[Scripted], link: LinkId) -> bool
+        requires placed { IsPlaced steps.now link.0 self.old }
+        ensures placed { IsPlaced steps.now link.0 self.new }
+        ensures found { result
+            ≡ stands_next (left steps.now link.0 (given_at steps.now link.0 self.old)) }
+        ensures given { given_at steps.now link.0 self.new
+            ≡ given_at steps.now link.0 self.old + (if result then 1 else 0) }
+    {
+        self.seek(steps, link);
+        self.stand(steps, link)
     }
 }

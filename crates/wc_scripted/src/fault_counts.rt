@@ -35,11 +35,12 @@ impl Calls {
     }
 }
 
-/// How often a wait, the listener and a link failed.
+/// How often a wait, the listener, the making of a connection and a link failed.
 #[derive(Clone, Copy)]
 pub(crate) struct FaultCounts {
     pub(crate) waits: u64,
     pub(crate) listens: u64,
+    pub(crate) connects: u64,
     pub(crate) links: u64,
 }
 
@@ -81,6 +82,30 @@ pub(crate) fn starve(told: &mut Told, count: &mut u64, happening: Happening) -> 
     }
     count_fault(count);
     Failed
+}
+
+/// Does the same in a call that noted before what was asked for, where this was the count of what
+/// was refused: at most one refusal is counted of a call.
+pub(crate) fn starve_noted(
+    told: &mut Told,
+    count: &mut u64,
+    happening: Happening,
+    before: u64,
+) -> Failed
+    requires noted { RoseOnce before told.old.refused }
+    requires stops { (told.old.refused ≡ before) ⊎ (told.old.tells ≡ false) }
+    ensures rose { Rose count.old count.new }
+    ensures counts { count.old ≤ count.new }
+    ensures tells { IsTrue told.new.tells → IsTrue told.old.tells }
+    ensures taken { IsTrue told.new.tells → told.new.taken ≡ told.old.taken ++ happening ∷ [] }
+    ensures asked { told.new.asked ≡ told.old.asked }
+    ensures refused { Rose before told.new.refused }
+    ensures once { RoseOnce before told.new.refused }
+{
+    if told.refused == before {
+        return starve(told, count, happening);
+    }
+    fail(told, count, happening)
 }
 
 /// Tells what was given. Where memory for it is refused, that is a fault.

@@ -6,6 +6,7 @@ mod fault_counts;
 mod memory_keeper;
 mod memory_sink;
 mod memory_sockets;
+mod places;
 mod play;
 mod report;
 mod rows;

@@ -1,21 +1,25 @@
 ghost use Rattle.std.specs.Prelude.{◌≡◌, ◌+◌, ◌-◌, ◌^◌, ◌<◌, ◌≤◌, ◌++◌, ◌∷◌, ◌||◌, not, [], ℕ};
+ghost use Rattle.std.specs.Prelude.{◌==◌, if◌then◌else◌};
 ghost use Rattle.std.specs.Prelude.{true, false, IsTrue, IfOk, OnOk, OnErr, MatchOption, vec_len};
 ghost use Rattle.std.specs.Prelude.{length, take, drop, All, IfSome, IsSome};
-ghost use Rattle.std.specs.List.{list_any};
-ghost use Rattle.wc_scripted.specs.Cursors.{cursor_at, given_at, BeginsArrival};
+ghost use Rattle.wc_scripted.specs.Cursors.{cursor_at, given_at};
 ghost use Rattle.wc_outside.specs.Faults.{Rose};
 ghost use Rattle.wc_scripted.specs.Rises.{RoseOnce};
 ghost use Rattle.wc_outside.specs.Happenings.{IsThere, IsReadWithin, IsPutWithin};
 ghost use Rattle.wc_scripted.specs.Plays.{IsAsFar, called, next_fails, fresh_sources, after_wait};
 ghost use Rattle.wc_scripted.specs.Plays.{after_accept, after_read, after_write, IsArrival, IsFound};
 ghost use Rattle.wc_scripted.specs.Plays.{IsTaken, FailsWhere, FailsOrStarves, room_for, IsStart};
-ghost use Rattle.wc_scripted.specs.Rows.{blank, row_at};
-ghost use Rattle.wc_scripted.specs.Scripts.{next_moment, is_for};
+ghost use Rattle.wc_scripted.specs.Plays.{after_connect, after_connected, left, stands_next};
+ghost use Rattle.wc_scripted.specs.Rows.{row_at};
+ghost use Rattle.wc_scripted.specs.Scripts.{next_moment};
 ghost use Rattle.wc_outside.specs.Seen.{IsNew};
 ghost use Rattle.wc_scripted.specs.Sees.{Sees, listen_sees, wait_sees, accept_sees, read_sees};
-ghost use Rattle.wc_scripted.specs.Sees.{write_sees, close_sees};
+ghost use Rattle.wc_scripted.specs.Sees.{write_sees, close_sees, connect_sees, connected_sees};
 
-use crate::fault_counts::{Calls, FaultCounts, count_fault, fail, give, give_bytes, note, starve};
+use crate::fault_counts::{
+    Calls, FaultCounts, count_fault, fail, give, give_bytes, note, starve, starve_noted,
+};
+use crate::places::make_link;
 use crate::play::Play;
 use crate::report::report_turn;
 use crate::rows::{Row, close, drain, is_open, send, set_blocked, taken};
@@ -23,12 +27,12 @@ use crate::scripted::Scripted;
 use crate::told::Told;
 use std::alloc::Global;
 use wc_outside::{Asked, Failed, Got, Happening, Put, Ready, Sockets};
-use wc_text::{Arrival, Items, LinkId, NoMemory};
+use wc_text::{Address, Arrival, Items, LinkId, NoMemory};
 
 /// Sockets in memory, which play a script and tell what they gave and were sent.
 ///
 /// A count of faults rises at each call that is named as failing, at each in which memory is
-/// refused to them, and at each read or write of a link that is not there.
+/// refused to them, and at each call for a link that is not there.
 #[derive(Drop)]
 pub struct MemorySockets {
     alloc: Global,
@@ -37,44 +41,19 @@ pub struct MemorySockets {
     /// How many bytes a link takes between two waits, or 0 where there is no bound.
     window: usize,
     told: Told,
-    /// By link number; no link has the place of 0.
+    /// How many link numbers are used.
+    used: u64,
+    /// By link number, up to the last link that there was; no link has the place of 0.
     rows: Vec<Row>,
     /// Whether an arrival was released that no wait reported.
     arriving: bool,
     /// Whether the listener was reported and is not drained.
     listening: bool,
     faults: FaultCounts,
-    ghost numbered: { 0 < vec_len rows },
+    ghost limit: { used ≤ 2 ^ 62 },
+    ghost numbered: { vec_len rows ≤ used + 1 },
     ghost paired: { vec_len rows ≡ vec_len play.cursors },
     ghost none: { (row_at 0 rows.items).is_open ≡ false },
-}
-
-/// Makes the link of the next arrival.
-fn make_link(alloc: Global, play: &mut Play, rows: &mut Vec<Row>) -> Result<LinkId, NoMemory>
-    requires begins { BeginsArrival
-        (drop play.old.listener (take play.old.script.released play.old.script.steps)) }
-    requires paired { vec_len rows.old ≡ vec_len play.old.cursors }
-    ensures number { IfOk result (λ link. link.0 ≡ vec_len rows.old) }
-    ensures rows { IfOk result (λ link. rows.new.items ≡ rows.old.items
-        ++ record blank {
-          is_open = true;
-          news = list_any (is_for link.0) (take play.old.script.released play.old.script.steps);
-        } ∷ []) }
-    ensures err { OnErr result (rows.new.items ≡ rows.old.items) }
-    ensures paired { vec_len rows.new ≡ vec_len play.new.cursors }
-    ensures script { play.new.script ≡ play.old.script }
-    ensures given { let steps = take play.old.script.released play.old.script.steps in
-        (link : ℕ) → given_at steps link (cursor_at link play.new.cursors.items)
-        ≡ given_at steps link (cursor_at link play.old.cursors.items) }
-{
-    let link = LinkId(rows.len() as u64);
-    let mut row = Row::new(alloc);
-    row.is_open = true;
-    rows.reserve(1)?;
-    play.reserve()?;
-    row.news = play.admit();
-    rows.push_reserved(row);
-    Ok(link)
 }
 
 /// How many bytes of a piece of this size a link takes that took so many of its window.
@@ -117,12 +96,14 @@ impl MemorySockets {
             play: Play::new(alloc, script)?,
             window: window as usize,
             told: Told::new(alloc),
+            used: 0,
             rows,
             arriving: false,
             listening: false,
             faults: FaultCounts {
                 waits: 0,
                 listens: 0,
+                connects: 0,
                 links: 0,
             },
         })
@@ -259,23 +240,97 @@ impl Sockets for MemorySockets {
                 Happening::ListenFailed,
             ));
         }
-        let Some(nonce) = self.play.arrival() else {
+        let Some(nonce) = self.play.arrival(self.used) else {
             self.listening = false;
             return Ok(None);
         };
-        let Ok(link) = make_link(self.alloc, &mut self.play, &mut self.rows) else {
+        let link = LinkId(self.used + 1);
+        let Ok(()) = make_link(self.alloc, &mut self.play, &mut self.rows, link) else {
             return Err(starve(
                 &mut self.told,
                 &mut self.faults.listens,
                 Happening::ListenFailed,
             ));
         };
+        self.play.pass_arrival();
+        self.used += 1;
         give(
             &mut self.told,
             &mut self.faults.listens,
             Happening::Accepted(link, nonce),
         );
         Ok(Some(Arrival { link, nonce }))
+    }
+
+    fn connect(&mut self, to: Address) -> Result<LinkId, Failed>
+        requires { (seen_of self.old).used < 2 ^ 62 }
+        ensures sees { Sees (seen_of self.old) (seen_of self.new)
+            (connect_sees (seen_of self.old) to result) }
+        ensures play { IsAsFar (play_of self.new) (after_connect (play_of self.old) result) }
+        ensures fails { FailsOrStarves (next_fails (play_of self.old)) (play_of self.old).refused
+            (play_of self.new).refused result }
+        ensures refused { RoseOnce (play_of self.old).refused (play_of self.new).refused }
+        ensures next { IfOk result (λ link. link.0 ≡ (seen_of self.old).used + 1) }
+        ensures failed { OnErr result (Rose (seen_of self.old).faults.connects
+            (seen_of self.new).faults.connects) }
+    {
+        let before = self.told.refused;
+        let fails = self.calls.next_fails();
+        note(
+            &mut self.told,
+            &mut self.faults.connects,
+            Asked::Connect(to),
+        );
+        self.used += 1;
+        let link = LinkId(self.used);
+        if fails {
+            return Err(fail(
+                &mut self.told,
+                &mut self.faults.connects,
+                Happening::Refused(link),
+            ));
+        }
+        let Ok(()) = make_link(self.alloc, &mut self.play, &mut self.rows, link) else {
+            return Err(starve_noted(
+                &mut self.told,
+                &mut self.faults.connects,
+                Happening::Refused(link),
+                before,
+            ));
+        };
+        Ok(link)
+    }
+
+    fn connected(&mut self, link: LinkId) -> Result<bool, Failed>
+        ensures sees { Sees (seen_of self.old) (seen_of self.new)
+            (connected_sees (seen_of self.old) link result) }
+        ensures found { let play = play_of self.old in IfOk result (λ stands. stands
+            ≡ stands_next (left play.released link.0 (play.given link.0))) }
+        ensures play { IsAsFar (play_of self.new) (after_connected (play_of self.old) link.0
+            result) }
+        ensures fails { FailsWhere (next_fails (play_of self.old)
+            || not ((seen_of self.old).there link.0)) result }
+        ensures refused { RoseOnce (play_of self.old).refused (play_of self.new).refused }
+        ensures failed { OnErr result (Rose (seen_of self.old).faults.links
+            (seen_of self.new).faults.links) }
+    {
+        if self.calls.next_fails() || !is_open(&self.rows, link) {
+            return Err(fail(
+                &mut self.told,
+                &mut self.faults.links,
+                Happening::Failed(link),
+            ));
+        }
+        if !self.play.stands(link) {
+            drain(&mut self.rows, link);
+            return Ok(false);
+        }
+        give(
+            &mut self.told,
+            &mut self.faults.links,
+            Happening::Connected(link),
+        );
+        Ok(true)
     }
 
     fn read(&mut self, link: LinkId, into: &mut [u8]) -> Result<Got, Failed>

@@ -1,11 +1,11 @@
 ghost use Rattle.std.specs.Prelude.{◌≡◌, ◌+◌, ◌-◌, ◌<◌, ◌≤◌, ◌++◌, ◌∷◌, [], ℕ, IfOk, OnOk};
 ghost use Rattle.std.specs.Prelude.{OnErr, MatchOption, IsSome, length, take, drop, ◌^◌};
 ghost use Rattle.std.specs.Prelude.{vec_len, vec_capacity};
-ghost use Rattle.std.specs.Prelude.{◌==◌, if◌then◌else◌};
+ghost use Rattle.std.specs.Prelude.{◌==◌, ◌&&◌, if◌then◌else◌};
 ghost use Rattle.std.specs.List.{list_any};
 ghost use Rattle.wc_outside.specs.Happenings.{IsReadWithin};
 ghost use Rattle.wc_scripted.specs.Cursors.{at_start, cursor_at, given_at, IsPlay, BeginsArrival};
-ghost use Rattle.wc_scripted.specs.Plays.{IsFound, IsNonce, given_by};
+ghost use Rattle.wc_scripted.specs.Plays.{IsFound, IsNonce, given_by, left, stands_next};
 ghost use Rattle.wc_scripted.specs.Scripts.{is_for, nonces, turn_size, next_moment};
 
 use crate::cursors::Cursor;
@@ -16,7 +16,7 @@ use wc_outside::Got;
 use wc_text::{Items, LinkId, NoMemory};
 
 /// How many links are given at most.
-const LINK_LIMIT: usize = 1 << 62;
+const LINK_LIMIT: u64 = 1 << 62;
 
 /// A script, and how far the listener and each link have come in it.
 #[derive(Drop)]
@@ -54,22 +54,25 @@ impl Play {
         ensures moment { result ≡ next_moment self.old.script.moment
             (drop self.old.script.released self.old.script.steps) }
         ensures kept { self.new.script.moment ≡ result }
+        ensures listener { self.new.listener ≡ self.old.listener }
         ensures cursors { self.new.cursors.items ≡ self.old.cursors.items }
     {
         self.script.wake()
     }
 
     /// The nonce of the next arrival, where one is released and a number is left for its link.
-    pub(crate) fn arrival(&mut self) -> Option<[u8; 16]>
+    pub(crate) fn arrival(&mut self, used: u64) -> Option<[u8; 16]>
         ensures script { self.new.script ≡ self.old.script }
         ensures cursors { self.new.cursors.items ≡ self.old.cursors.items }
         ensures begins { MatchOption result (Unit {0}) (λ _. BeginsArrival
             (drop self.new.listener (take self.new.script.released self.new.script.steps))) }
-        ensures found { IsNonce (take self.old.script.released self.old.script.steps)
-            (vec_len self.old.cursors - 1) result }
-        ensures limit { IsSome result → vec_len self.old.cursors ≤ 2 ^ 62 }
+        ensures arrived { let steps = take self.old.script.released self.old.script.steps in
+            nonces (take self.new.listener steps) ≡ nonces (take self.old.listener steps) }
+        ensures found { let steps = take self.old.script.released self.old.script.steps in
+            IsNonce steps used (length (nonces (take self.old.listener steps))) result }
+        ensures limit { IsSome result → used < 2 ^ 62 }
     {
-        if self.cursors.len() > LINK_LIMIT {
+        if used >= LINK_LIMIT {
             return None;
         }
         let coming = self.script.ready().split_at(self.listener).1;
@@ -91,13 +94,11 @@ impl Play {
         Ok(())
     }
 
-    /// Passes the next arrival, and makes the place of its link. Whether a step for the link is
-    /// released already.
+    /// Makes the place of the next link. Whether a step for it is released already.
     pub(crate) fn admit(&mut self) -> bool
-        requires begins { BeginsArrival
-            (drop self.old.listener (take self.old.script.released self.old.script.steps)) }
         requires room { vec_len self.old.cursors < vec_capacity self.old.cursors }
         ensures script { self.new.script ≡ self.old.script }
+        ensures listener { self.new.listener ≡ self.old.listener }
         ensures count { vec_len self.new.cursors ≡ vec_len self.old.cursors + 1 }
         ensures given { let steps = take self.old.script.released self.old.script.steps in
             (link : ℕ) → given_at steps link (cursor_at link self.new.cursors.items)
@@ -109,8 +110,21 @@ impl Play {
         let mut cursor = Cursor::new();
         let has_news = cursor.seek(self.script.ready(), link);
         self.cursors.push_reserved(cursor);
-        self.listener += 1;
         has_news
+    }
+
+    /// Passes the next arrival.
+    pub(crate) fn pass_arrival(&mut self)
+        requires begins { BeginsArrival
+            (drop self.old.listener (take self.old.script.released self.old.script.steps)) }
+        ensures script { self.new.script ≡ self.old.script }
+        ensures cursors { self.new.cursors.items ≡ self.old.cursors.items }
+        ensures arrived { let steps = take self.old.script.released self.old.script.steps in
+            length (nonces (take self.new.listener steps))
+            ≡ length (nonces (take self.old.listener steps)) + 1 }
+    {
+        let coming = self.script.ready().split_at(self.listener).1;
+        self.listener += coming.len().min(1);
     }
 
     /// Gives what a read of a link finds.
@@ -118,6 +132,7 @@ impl Play {
         requires there { link.0 < vec_len self.old.cursors }
         requires room { 0 < length into.old }
         ensures script { self.new.script ≡ self.old.script }
+        ensures listener { self.new.listener ≡ self.old.listener }
         ensures count { vec_len self.new.cursors ≡ vec_len self.old.cursors }
         ensures found { let steps = take self.old.script.released self.old.script.steps in
             IsFound steps link.0 (given_at steps link.0 (cursor_at link.0 self.old.cursors.items))
@@ -130,5 +145,22 @@ impl Play {
     {
         let cursor = &mut self.cursors[link.0 as usize];
         cursor.read(self.script.ready(), link, into)
+    }
+    /// Whether it is next of a link that its connection stands, which is passed then.
+    pub(crate) fn stands(&mut self, link: LinkId) -> bool
+        requires there { link.0 < vec_len self.old.cursors }
+        ensures script { self.new.script ≡ self.old.script }
+        ensures listener { self.new.listener ≡ self.old.listener }
+        ensures count { vec_len self.new.cursors ≡ vec_len self.old.cursors }
+        ensures found { let steps = take self.old.script.released self.old.script.steps in result
+            ≡ stands_next (left steps link.0
+            (given_at steps link.0 (cursor_at link.0 self.old.cursors.items))) }
+        ensures given { let steps = take self.old.script.released self.old.script.steps in
+            (other : ℕ) → given_at steps other (cursor_at other self.new.cursors.items)
+            ≡ given_at steps other (cursor_at other self.old.cursors.items)
+            + (if (other == link.0) && result then 1 else 0) }
+    {
+        let cursor = &mut self.cursors[link.0 as usize];
+        cursor.stands(self.script.ready(), link)
     }
 }

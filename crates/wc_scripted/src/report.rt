@@ -24,7 +24,7 @@ fn note_step(rows: &mut [Row], arriving: &mut bool, step: &Scripted)
                 note_link(rows, *link);
             }
         }
-        Scripted::Ends(link) => note_link(rows, *link),
+        Scripted::Stands(link) | Scripted::Ends(link) => note_link(rows, *link),
     }
 }
 

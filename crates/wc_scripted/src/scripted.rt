@@ -8,13 +8,16 @@ use wc_text::{LinkId, Text};
 ///
 /// What is between one `Wake` and the next is released by the wait that comes back at the first of
 /// them, and that wait reports it. A step for a link that is not there yet waits for that link: the
-/// next wait after the accept reports it. One for a link that is closed is passed over.
+/// next wait after the accept or the connect reports it. One for a link that is closed is passed
+/// over.
 #[derive(Drop)]
 pub enum Scripted {
     /// A wait comes back at this moment, in milliseconds since 1970.
     Wake(u64),
     /// A client comes, with this nonce.
     Arrive([u8; 16]),
+    /// The connection of a link stands. A read finds nothing of the link before `connected` found it.
+    Stands(LinkId),
     /// Bytes come on a link.
     Gives(LinkId, Text),
     /// The bytes of a link come to their end.
@@ -42,17 +45,18 @@ impl Scripted {
     {
         match self {
             Scripted::Arrive(nonce) => Some(*nonce),
-            Scripted::Wake(_) | Scripted::Gives(_, _) | Scripted::Ends(_) => None,
+            Scripted::Wake(_) | Scripted::Stands(_) | Scripted::Gives(_, _) | Scripted::Ends(_) =>
+                None,
         }
     }
 
-    /// Whether a read of this link finds something by it.
+    /// Whether something is found of this link by it.
     pub(crate) fn is_for(&self, link: LinkId) -> bool
         ensures { result ≡ is_for link.0 self.now }
     {
         match self {
             Scripted::Gives(other, bytes) => *other == link && !bytes.as_slice().is_empty(),
-            Scripted::Ends(other) => *other == link,
+            Scripted::Stands(other) | Scripted::Ends(other) => *other == link,
             Scripted::Wake(_) | Scripted::Arrive(_) => false,
         }
     }

@@ -1,5 +1,5 @@
 -- What the core does at an arrival.
-use Rattle.std.proofs.Common.{◌≡◌, ℕ, ◌+◌, ◌-◌, ◌^◌, ◌<◌, ◌≤◌, inl, inr, min, nat_lt, Bool, true, false, eqb, List, [], ◌∷◌, ◌++◌, map, length, cond, Option, Some, None, IfSome, Result, Ok, Err, OnOk, is_err, refl, sym, ap, ◌∙◌, arith}
+use Rattle.std.proofs.Common.{◌≡◌, ℕ, ◌+◌, ◌-◌, ◌^◌, ◌<◌, ◌≤◌, inl, inr, min, max, nat_lt, Bool, true, false, eqb, List, [], ◌∷◌, ◌++◌, length, cond, Option, Some, None, IfSome, Result, Ok, Err, OnOk, is_err, refl, sym, ap, ◌∙◌, arith}
 use Rattle.std.proofs.lemmas.Bool.{false≢true}
 use Rattle.std.proofs.lemmas.Bool.Decides.{nat_tests}
 use Rattle.wc_text.specs.declared.names.LinkId.{LinkId}
@@ -15,14 +15,15 @@ use Rattle.wc_board.specs.Connections.{connection_link, is_open, left_if, left_a
 use Rattle.wc_core.specs.Served.{links_of, state_of, WereTold, Means, refusal, Absent, AdmitsUnlessStarved}
 use Rattle.wc_core.specs.Limits.{client_limit}
 use Rattle.wc_board.specs.Told.{Told}
-use Rattle.wc_core.proofs.ConnectionLemmas.{absent-connection}
+use Rattle.wc_servers.specs.Seats.{SeatView, ServersView, seat_link, open_in, used_up, forgotten}
 use Rattle.wc_turns.specs.declared.links.LinkState.{LinkState}
 use Rattle.wc_turns.specs.declared.links.Closed.{Closed}
 use Rattle.wc_turns.specs.Contained.{HasStarved}
 use Rattle.wc_turns.specs.Links.{link_number, new_state, with_closed}
-use Rattle.wc_turns.specs.Served.{closed_by, leaving_closes, NobodyLeaving, closed_number}
-use Rattle.wc_turns.proofs.KeyedLemmas.{at_key-key, without-missing, without-put_at, at_key-push_same}
-use Rattle.wc_turns.proofs.ConnectionLemmas.{leaving-without}
+use Rattle.wc_turns.specs.Parties.{has_party, closes_asked, seat_closes, IsCalm}
+use Rattle.wc_turns.specs.Served.{closed_by, leaving_closes}
+use Rattle.wc_turns.proofs.KeyedLemmas.{at_key-key, without-missing, without-put_at, at_key-push_same, absent-missing}
+use Rattle.wc_turns.proofs.PointLemmas.{no-client, no-server}
 
 pub starved-more : (old mid new : ℕ) → old ≤ mid → new ≡ min (mid + 1) (2 ^ 64 - 1) → HasStarved old new
 starved-more old mid new rises e = more-by (nat_lt mid (2 ^ 64 - 1)) refl
@@ -44,21 +45,43 @@ without-push key k y [] e = let test : eqb (key y) k ≡ true = grind (arith, na
 without-push key k y (x ∷ xs) e = grind (arith, nat_tests, without-push key k y xs e)
 
 -- a client that came may have been refused
-mid-connections : (r : Option Cause) (old mid : CoreView) (link : LinkId) (nonce : List ℕ) → (r ≡ None → mid ≡ record old { connections = old.connections ++ new_connection old.options link nonce ∷ [] }) → IfSome r (λ why. mid ≡ record old { starved = mid.starved })
+mid-core : (r : Option Cause) (old mid : CoreView) (link : LinkId) (nonce : List ℕ) → (r ≡ None → mid ≡ record old { connections = old.connections ++ new_connection old.options link nonce ∷ []; servers = used_up link.0 old.servers }) → IfSome r (λ why. mid ≡ record old { starved = mid.starved; servers = used_up link.0 old.servers })
+    → mid ≡ record old { connections = mid.connections; servers = used_up link.0 old.servers; starved = mid.starved }
+mid-core None old mid link nonce admitted refused = rw (admitted refl) refl
+mid-core (Some why) old mid link nonce admitted refused = rw refused refl
+
+mid-connections : (r : Option Cause) (old mid : CoreView) (link : LinkId) (nonce : List ℕ) → (r ≡ None → mid ≡ record old { connections = old.connections ++ new_connection old.options link nonce ∷ []; servers = used_up link.0 old.servers }) → IfSome r (λ why. mid ≡ record old { starved = mid.starved; servers = used_up link.0 old.servers })
     → without connection_link link.0 mid.connections ≡ without connection_link link.0 old.connections
 mid-connections None old mid link nonce admitted refused = ap (λ (c : CoreView). without connection_link link.0 c.connections) (admitted refl) ∙ without-push connection_link link.0 (new_connection old.options link nonce) old.connections refl
 mid-connections (Some why) old mid link nonce admitted refused = ap (λ (c : CoreView). without connection_link link.0 c.connections) refused
 
--- a client that came is lost and forgotten
-pub starve-connections : (r : Option Cause) (old mid : CoreView) (link : LinkId) (nonce : List ℕ) (why : Cause) (new : List Connection) → (r ≡ None → mid ≡ record old { connections = old.connections ++ new_connection old.options link nonce ∷ [] }) → IfSome r (λ why. mid ≡ record old { starved = mid.starved })
-    → new ≡ without connection_link link.0 (left_at link.0 why mid.connections (at_key connection_link link.0 mid.connections)) → new ≡ without connection_link link.0 old.connections
-starve-connections r old mid link nonce why new admitted refused e = e ∙ without-left link.0 why mid.connections (at_key connection_link link.0 mid.connections) refl ∙ mid-connections r old mid link nonce admitted refused
+-- a core with these clients and servers
+abbrev with_parts : CoreView → List Connection → ServersView → ℕ → CoreView
+with_parts core connections servers starved = record core { connections = connections; servers = servers; starved = starved }
 
-pub starve-same : (link : ℕ) (old new : List Connection) → new ≡ without connection_link link old → Absent link (map connection_link old) → new ≡ old
-starve-same link old new e absent = e ∙ without-missing connection_link link old (absent-connection link old absent)
+-- a client that came is lost and forgotten, where nobody had its link
+pub starve-core : (r : Option Cause) (old mid lost new : CoreView) (link : LinkId) (nonce : List ℕ) (why : Cause) → has_party link.0 old ≡ false
+    → (r ≡ None → mid ≡ record old { connections = old.connections ++ new_connection old.options link nonce ∷ []; servers = used_up link.0 old.servers }) → IfSome r (λ why. mid ≡ record old { starved = mid.starved; servers = used_up link.0 old.servers })
+    → (open_in (at_key seat_link link.0 mid.servers.seats) ≡ None → lost ≡ record mid { connections = left_at link.0 why mid.connections (at_key connection_link link.0 mid.connections); starved = lost.starved })
+    → new ≡ record lost { connections = without connection_link link.0 lost.connections; servers = forgotten link.0 lost.servers }
+    → new ≡ record old { servers = used_up link.0 old.servers; starved = new.starved }
+starve-core r old mid lost new link nonce why nobody admitted refused loses forgets =
+    let came = mid-core r old mid link nonce admitted refused in
+    let no_seat : at_key seat_link link.0 old.servers.seats ≡ None = no-server link.0 old nobody in
+    let no_connection : at_key connection_link link.0 old.connections ≡ None = no-client link.0 old nobody in
+    let servers : mid.servers ≡ used_up link.0 old.servers = ap (λ (c : CoreView). c.servers) came in
+    let left = loses (ap (λ (v : ServersView). open_in (at_key seat_link link.0 v.seats)) servers ∙ ap open_in no_seat) in
+    let connections : without connection_link link.0 lost.connections ≡ old.connections =
+    ap (λ (c : CoreView). without connection_link link.0 c.connections) left ∙ without-left link.0 why mid.connections (at_key connection_link link.0 mid.connections) refl ∙ mid-connections r old mid link nonce admitted refused ∙ without-missing connection_link link.0 old.connections no_connection in
+    let seats : forgotten link.0 lost.servers ≡ used_up link.0 old.servers =
+    ap (forgotten link.0) (ap (λ (c : CoreView). c.servers) left ∙ servers) ∙ ap (λ (xs : List SeatView). record (used_up link.0 old.servers) { seats = xs }) (without-missing seat_link link.0 old.servers.seats no_seat) in
+    let starved : new.starved ≡ lost.starved = ap (λ (c : CoreView). c.starved) forgets in
+    forgets ∙ ap (λ (xs : List Connection). with_parts lost xs (forgotten link.0 lost.servers) lost.starved) connections ∙ ap (λ (v : ServersView). with_parts lost old.connections v lost.starved) seats
+    ∙ ap (λ (c : CoreView). with_parts c old.connections (used_up link.0 old.servers) lost.starved) left ∙ ap (λ (n : ℕ). with_parts mid old.connections (used_up link.0 old.servers) n) (sym starved)
+    ∙ ap (λ (c : CoreView). with_parts c old.connections (used_up link.0 old.servers) new.starved) came
 
-pub starve-calm : (link : ℕ) (old new : List Connection) → new ≡ without connection_link link old → NobodyLeaving old → NobodyLeaving new
-starve-calm link old new e calm = ap leaving_closes e ∙ leaving-without link old ∙ ap (without closed_number link) calm
+pub calm-as : (old new : CoreView) (link : ℕ) → new ≡ record old { servers = used_up link old.servers; starved = new.starved } → IsCalm old → IsCalm new
+calm-as old new link e calm = record { parted = ap closes_asked e ∙ calm.parted; asked = ap (λ c. c.servers.wanted) e ∙ calm.asked }
 
 stepped-same : (p : Stepped) (state : State) (acts : List Act) → p.state ≡ state → p.acts ≡ acts → p ≡ record { state = state; acts = acts }
 stepped-same p state acts e f = rw (← e, ← f) refl
@@ -70,35 +93,40 @@ arrival-told state link nonce = by (nat_lt (length state.clients) (client_limit 
     by true x y p q = p
     by false x y p q = q
 
-arrival-state : (old new : CoreView) (link : ℕ) (nonce : List ℕ) (told : Told) → new ≡ record old { starved = new.starved } → Means new (step (state_of old told) (Arrives link nonce)).state → (step (state_of old told) (Arrives link nonce)).state ≡ state_of old told
+arrival-state : (old new : CoreView) (link : ℕ) (nonce : List ℕ) (told : Told) → new ≡ record old { servers = used_up link old.servers; starved = new.starved } → Means new (step (state_of old told) (Arrives link nonce)).state
+    → (step (state_of old told) (Arrives link nonce)).state ≡ record (state_of old told) { used = max old.servers.used link }
 arrival-state old new link nonce told core means =
     let stepped = step (state_of old told) (Arrives link nonce) in
-    means.same ∙ ap (λ (c : CoreView). state_of c stepped.state.told) core ∙ ap (state_of old) (arrival-told (state_of old told) link nonce)
+    means.same ∙ ap (λ (c : CoreView). state_of c stepped.state.told) core ∙ ap (λ (rows : Told). record (state_of old rows) { used = max old.servers.used link }) (arrival-told (state_of old told) link nonce)
 
 -- a refused client is none
-pub refused-step : (old new : CoreView) (link : ℕ) (nonce : List ℕ) (why : Cause) → new ≡ record old { starved = new.starved } → (Absent link (links_of old) → (told : Told) → AdmitsUnlessStarved told link old new (Some why) (step (state_of old told) (Arrives link nonce)))
-    → new.starved ≡ old.starved → old.starved < 2 ^ 64 - 1 → Absent link (links_of old) → (told : Told) → WereTold old told → step (state_of old told) (Arrives link nonce) ≡ record { state = state_of old told; acts = refusal link (Some why) }
-refused-step old new link nonce why core comes same below absent told were =
+pub refused-step : (old new : CoreView) (link : ℕ) (nonce : List ℕ) (why : Cause) → new ≡ record old { servers = used_up link old.servers; starved = new.starved } → (Absent link (links_of old) → (told : Told) → AdmitsUnlessStarved told link old new (Some why) (step (state_of old told) (Arrives link nonce)))
+    → new.starved ≡ old.starved → old.starved < 2 ^ 64 - 1 → has_party link old ≡ false → (told : Told) → WereTold old told → step (state_of old told) (Arrives link nonce) ≡ record { state = record (state_of old told) { used = max old.servers.used link }; acts = refusal link (Some why) }
+refused-step old new link nonce why core comes same below nobody told were =
+    let absent = absent-missing connection_link link old.connections (no-client link old nobody) in
     let came = (comes absent told).comes same below were in
-    stepped-same (step (state_of old told) (Arrives link nonce)) (state_of old told) (refusal link (Some why)) (arrival-state old new link nonce told core came.means) came.acts
+    stepped-same (step (state_of old told) (Arrives link nonce)) (record (state_of old told) { used = max old.servers.used link }) (refusal link (Some why)) (arrival-state old new link nonce told core came.means) came.acts
 
-pub refused-opened : (link : LinkId) (old mid new : List LinkState) → mid ≡ old ++ new_state link ∷ [] → new ≡ without link_number link.0 mid → at_key link_number link.0 old ≡ None → new ≡ old
-refused-opened link old mid new admitted closed none = closed ∙ ap (without link_number link.0) admitted ∙ without-push link_number link.0 (new_state link) old refl ∙ without-missing link_number link.0 old none
+pub refused-opened : (link : LinkId) (old mid new : List LinkState) → mid ≡ old ++ new_state link None false ∷ [] → new ≡ without link_number link.0 mid → at_key link_number link.0 old ≡ None → new ≡ old
+refused-opened link old mid new admitted closed none = closed ∙ ap (without link_number link.0) admitted ∙ without-push link_number link.0 (new_state link None false) old refl ∙ without-missing link_number link.0 old none
 
-pub refused-closed : (link : LinkId) (old mid : List LinkState) (closed new : List Closed) (one : Closed) → mid ≡ old ++ new_state link ∷ [] → new ≡ with_closed (at_key link_number link.0 mid) closed one → at_key link_number link.0 old ≡ None → new ≡ closed ++ one ∷ []
-refused-closed link old mid closed new one admitted e none = e ∙ ap (λ o. with_closed o closed one) (ap (at_key link_number link.0) admitted ∙ at_key-push_same link_number (new_state link) old none)
+pub refused-closed : (link : LinkId) (old mid : List LinkState) (closed new : List Closed) (one : Closed) → mid ≡ old ++ new_state link None false ∷ [] → new ≡ with_closed (at_key link_number link.0 mid) closed one → at_key link_number link.0 old ≡ None → new ≡ closed ++ one ∷ []
+refused-closed link old mid closed new one admitted e none = e ∙ ap (λ o. with_closed o closed one) (ap (at_key link_number link.0) admitted ∙ at_key-push_same link_number (new_state link None false) old none)
 
 pub no-starving : {A : Type 0} (old new : ℕ) → HasStarved old new → new ≡ old → old < 2 ^ 64 - 1 → A
 no-starving old new (inl more) same below = absurd (omega arith)
 no-starving old new (inr most) same below = absurd (omega arith)
 
-pub calm-push : (options : OptionsValue) (connections : List Connection) (link : LinkId) (nonce : List ℕ) → NobodyLeaving connections → NobodyLeaving (connections ++ new_connection options link nonce ∷ [])
-calm-push options [] link nonce calm = refl
-calm-push options (s ∷ connections) link nonce calm = calm-by s.leaving calm (calm-push options connections link nonce)
-  where
-    calm-by : (why : Option Cause) → closed_by s.session.client.link why ++ leaving_closes connections ≡ [] → (NobodyLeaving connections → NobodyLeaving (connections ++ new_connection options link nonce ∷ [])) → closed_by s.session.client.link why ++ leaving_closes (connections ++ new_connection options link nonce ∷ []) ≡ []
-    calm-by None e ih = ih e
-    calm-by (Some cause) e ih = absurd (let q : record { link = s.session.client.link; cause = cause } ∷ leaving_closes connections ≡ [] = e in cc)
+closes-push : (options : OptionsValue) (connections : List Connection) (link : LinkId) (nonce : List ℕ) → leaving_closes (connections ++ new_connection options link nonce ∷ []) ≡ leaving_closes connections
+closes-push options [] link nonce = refl
+closes-push options (s ∷ connections) link nonce = ap (λ cs. closed_by s.session.client.link s.leaving ++ cs) (closes-push options connections link nonce)
+
+-- a client that came is not leaving
+pub calm-push : (old new : CoreView) (link : LinkId) (nonce : List ℕ) → new ≡ record old { connections = old.connections ++ new_connection old.options link nonce ∷ []; servers = used_up link.0 old.servers } → IsCalm old → IsCalm new
+calm-push old new link nonce e calm = record {
+  parted = ap closes_asked e ∙ ap (λ cs. seat_closes old.servers.seats ++ cs) (closes-push old.options old.connections link nonce) ∙ calm.parted;
+  asked = ap (λ c. c.servers.wanted) e ∙ calm.asked;
+}
 
 pub admitted-of : {A E : Type 0} (r : Result A E) (P : Type 0) → is_err r ≡ false → OnOk r P → P
 admitted-of (Ok v) P e h = h

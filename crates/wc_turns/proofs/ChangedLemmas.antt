@@ -1,12 +1,12 @@
 -- A link that is kept changes: it is reported, drained, or written.
-use Rattle.std.proofs.Common.{◌≡◌, ◌≢◌, ℕ, Bool, true, false, not, cond, eqb, ◌&&◌, ◌||◌, List, map, Option, Some, None, IfSome, is_some, refl, sym, ap, ◌∙◌, arith}
+use Rattle.std.proofs.Common.{◌≡◌, ◌≢◌, ◌⊎◌, inl, inr, ℕ, Bool, true, false, not, cond, eqb, ◌&&◌, ◌||◌, List, map, Option, Some, None, IfSome, is_some, refl, sym, ap, ◌∙◌, arith}
 use Rattle.std.proofs.lemmas.Bool.Decides.{nat_tests}
 use Rattle.wc_turns.specs.declared.links.LinkState.{LinkState}
 use Rattle.wc_outside.specs.Keyed.{at_key, put_at}
-use Rattle.wc_turns.specs.Links.{link_number, is_undrained, is_blocked, changed_at, reported_state, drained_state, written_link}
-use Rattle.wc_turns.specs.Steps.{SameTails}
+use Rattle.wc_turns.specs.Links.{Kind, link_number, is_undrained, is_blocked, is_there, kind_of, changed_at, reported_state, drained_state, written_link, standing_state}
+use Rattle.wc_turns.specs.Steps.{SameTails, SameKinds}
 use Rattle.wc_turns.specs.Tails.{IsTail}
-use Rattle.wc_turns.proofs.KeyedLemmas.{at_key-key, at_key-put_other, at_key-put_same, map-put_at, or-false}
+use Rattle.wc_turns.proofs.KeyedLemmas.{at_key-key, at_key-put_other, at_key-put_same, map-put_at, none_of, or-false, same-keys}
 
 -- what is looked up, where it is the link that changes or is not
 abbrev pub changed : Bool → (LinkState → LinkState) → Option LinkState → Option LinkState
@@ -27,6 +27,9 @@ keeps-drained = record { number = λ state. refl; tail = λ state. refl }
 
 pub keeps-written : (blocked : Bool) → KeepsLink (written_link blocked)
 keeps-written blocked = record { number = λ state. refl; tail = λ state. refl }
+
+pub keeps-standing : KeepsLink standing_state
+keeps-standing = record { number = λ state. refl; tail = λ state. refl }
 
 changed-by : (j k : ℕ) (t : Bool) → eqb k j ≡ t → (change : LinkState → LinkState) → KeepsLink change → (states : List LinkState) (o : Option LinkState) → at_key link_number j states ≡ o → at_key link_number k (changed_at j change states o) ≡ changed t change (at_key link_number k states)
 changed-by j k true e change keeps states None h =
@@ -61,6 +64,47 @@ tails-by false change keeps line o h = h
 
 pub SameTails-changed : (j : ℕ) (change : LinkState → LinkState) → KeepsLink change → (states : List LinkState) → SameTails states (changed_at j change states (at_key link_number j states))
 SameTails-changed j change keeps states = λ k line h. rw (at_key-changed j k change keeps states) (tails-by (eqb k j) change keeps line (at_key link_number k states) h)
+
+-- a change of what is ready of a link alone
+pub record KeepsKind (change : LinkState → LinkState) : Type 0 where
+  pub server : (state : LinkState) → (change state).server ≡ state.server
+  pub connecting : (state : LinkState) → (change state).connecting ≡ state.connecting
+  pub refused : (state : LinkState) → (change state).refused ≡ state.refused
+
+pub kind-reported : KeepsKind reported_state
+kind-reported = record { server = λ state. refl; connecting = λ state. refl; refused = λ state. refl }
+
+pub kind-drained : KeepsKind drained_state
+kind-drained = record { server = λ state. refl; connecting = λ state. refl; refused = λ state. refl }
+
+pub kind-written : (blocked : Bool) → KeepsKind (written_link blocked)
+kind-written blocked = record { server = λ state. refl; connecting = λ state. refl; refused = λ state. refl }
+
+kinds-by : (t : Bool) (change : LinkState → LinkState) → KeepsKind change → (o : Option LinkState) → kind_of (changed t change o) ≡ kind_of o
+kinds-by true change keeps (Some state) = rw (keeps.server state, keeps.connecting state, keeps.refused state) refl
+kinds-by true change keeps None = refl
+kinds-by false change keeps o = refl
+
+pub SameKinds-changed : (j : ℕ) (change : LinkState → LinkState) → KeepsLink change → KeepsKind change → (states : List LinkState) → SameKinds states (changed_at j change states (at_key link_number j states))
+SameKinds-changed j change keeps kind states = λ k. inr (ap kind_of (at_key-changed j k change keeps states) ∙ kinds-by (eqb k j) change kind (at_key link_number k states))
+
+-- the sockets have the same links as before
+pub there-kind : (o o' : Option LinkState) → kind_of o' ≡ kind_of o → is_there o' ≡ is_there o
+there-kind None None e = refl
+there-kind None (Some new) e = absurd (let q : kind_of (Some new) ≡ None = e in cc)
+there-kind (Some old) None e = absurd (let q : None ≡ kind_of (Some old) = e in cc)
+there-kind (Some old) (Some new) e = ap (λ k. not (refused_of k)) e
+  where
+    refused_of : Option Kind → Bool
+    refused_of None = false
+    refused_of (Some kind) = kind.refused
+
+there-by : (o o' : Option LinkState) → is_some o' ≡ is_some o → (o' ≡ None) ⊎ (kind_of o' ≡ kind_of o) → is_there o' ≡ is_there o
+there-by o o' same (inr e) = there-kind o o' e
+there-by o o' same (inl none) = ap is_there none ∙ sym (ap is_there (none_of o (sym same ∙ ap is_some none)))
+
+pub there-as : (states states' : List LinkState) → map link_number states' ≡ map link_number states → SameKinds states states' → (k : ℕ) → is_there (at_key link_number k states') ≡ is_there (at_key link_number k states)
+there-as states states' numbers kinds k = there-by (at_key link_number k states) (at_key link_number k states') (same-keys link_number k states' states numbers) (kinds k)
 
 -- ---- a link is reported
 

@@ -1,5 +1,5 @@
 -- No link is lost.
-use Rattle.std.proofs.Common.{◌≡◌, ◌≢◌, ℕ, ◌+◌, ◌<◌, ◌≤◌, ◌⊎◌, inl, inr, nat_le, Bool, true, false, eqb, ◌||◌, List, ◌++◌, Option, Some, None, is_some, refl, ap, ◌∙◌, arith}
+use Rattle.std.proofs.Common.{◌≡◌, ◌≢◌, ℕ, ◌+◌, ◌-◌, ◌^◌, ◌<◌, ◌≤◌, ◌⊎◌, inl, inr, nat_lt, nat_le, Bool, true, false, eqb, ◌||◌, List, [], ◌∷◌, ◌++◌, Option, Some, None, is_some, refl, ap, ◌∙◌, arith}
 use Rattle.std.proofs.lemmas.Bool.{false≢true}
 use Rattle.std.proofs.lemmas.Bool.Decides.{nat_tests}
 use Rattle.std.proofs.lemmas.List.{append-nil}
@@ -27,6 +27,14 @@ starved-following a b c low (inr h) = inr h
 pub starved-later : (a b c : ℕ) → b ≤ c → HasStarved a b → HasStarved a c
 starved-later a b c low (inl h) = inl (omega arith)
 starved-later a b c low (inr h) = inr (omega arith)
+
+-- it is counted where it can be
+pub starved-counted : (old mid new : ℕ) → old ≤ mid → mid ≤ new → (mid < 2 ^ 64 - 1 → mid < new) → HasStarved old new
+starved-counted old mid new rises later counts = counted-by (nat_lt mid (2 ^ 64 - 1)) refl
+  where
+    counted-by : (t : Bool) → nat_lt mid (2 ^ 64 - 1) ≡ t → HasStarved old new
+    counted-by true e = inl (let below : mid < 2 ^ 64 - 1 = grind (arith, nat_tests) in let more = counts below in omega arith)
+    counted-by false e = inr (let above : 2 ^ 64 - 1 ≤ mid = grind (arith, nat_tests) in omega arith)
 
 pub KeepsLinks-trans : (x y z : Headless) → KeepsLinks x y → KeepsLinks y z → KeepsLinks x z
 KeepsLinks-trans x y z h g = record {
@@ -102,20 +110,34 @@ KeepsLinks-close x y link cause used starved opened closed = record {
   came = λ k above below. absurd (omega arith);
 }
 
+-- a link comes, and is kept
+pub KeepsLinks-more : (x y : Headless) (state : LinkState) → link_number state ≡ x.used + 1 → y.used ≡ x.used + 1 → x.core.starved ≤ y.core.starved → y.links.opened.items ≡ x.links.opened.items ++ state ∷ [] → y.links.closed.items ≡ x.links.closed.items → KeepsLinks x y
+KeepsLinks-more x y state next used rises opened closed =
+    let some : (k : ℕ) → is_some (at_key link_number k y.links.opened.items) ≡ (is_some (at_key link_number k x.links.opened.items) || eqb (link_number state) k) = λ k. ap (λ ss. is_some (at_key link_number k ss)) opened ∙ is_some-push link_number k state x.links.opened.items in
+    record {
+      used = omega arith;
+      rises = rises;
+      known = λ k h. or-either (is_some (at_key link_number k x.links.opened.items)) (is_some (at_key closed_number k x.links.closed.items)) _ _ (λ q. some k ∙ ap (λ t. t || eqb (link_number state) k) q) (λ q. or-here _ _ (ap (λ cs. is_some (at_key closed_number k cs)) closed ∙ q)) h;
+      came = λ k above below. inl
+          (let same : link_number state ≡ k = omega arith in
+          let here : eqb (link_number state) k ≡ true = grind (arith, nat_tests) in
+          ap (λ t. t || is_some (at_key closed_number k y.links.closed.items)) (some k ∙ or-here (eqb (link_number state) k) (is_some (at_key link_number k x.links.opened.items)) here));
+    }
+
+-- a link comes for which there is no memory
+pub KeepsLinks-dropped : (x y : Headless) → y.used ≡ x.used + 1 → x.core.starved ≤ y.core.starved → HasStarved x.core.starved y.core.starved → y.links.opened.items ≡ x.links.opened.items → y.links.closed.items ≡ x.links.closed.items → KeepsLinks x y
+KeepsLinks-dropped x y used rises starved opened closed = record {
+  used = omega arith;
+  rises = rises;
+  known = λ k h. rw (opened, closed) h;
+  came = λ k above below. inr starved;
+}
+
 -- a client came
 pub KeepsLinks-came : (x y : Headless) (link : LinkId) (nonce : List ℕ) → LinkComes x y link → TakesArrival x y link nonce → link.0 ≡ x.used + 1 → KeepsLinks x y
 KeepsLinks-came x y link nonce comes admits next =
-    let used = comes.used in
     let starved = ap (λ c. c.starved) admits.core in
-    let some : (k : ℕ) → is_some (at_key link_number k y.links.opened.items) ≡ (is_some (at_key link_number k x.links.opened.items) || eqb link.0 k) = λ k. ap (λ ss. is_some (at_key link_number k ss)) admits.opened ∙ is_some-push link_number k (new_state link) x.links.opened.items in
-    record {
-      used = omega arith;
-      rises = omega arith;
-      known = λ k h. or-either (is_some (at_key link_number k x.links.opened.items)) (is_some (at_key closed_number k x.links.closed.items)) _ _ (λ q. some k ∙ ap (λ t. t || eqb link.0 k) q) (λ q. or-here _ _ (ap (λ cs. is_some (at_key closed_number k cs)) admits.closed ∙ q)) h;
-      came = λ k above below. inl
-          (let here : eqb link.0 k ≡ true = (let same : link.0 ≡ k = omega arith in grind (arith, nat_tests)) in
-          ap (λ t. t || is_some (at_key closed_number k y.links.closed.items)) (some k ∙ or-here (eqb link.0 k) (is_some (at_key link_number k x.links.opened.items)) here));
-    }
+    KeepsLinks-more x y (new_state link None false) next (comes.used ∙ next) (omega arith) admits.opened admits.closed
 
 closed-more : (k : ℕ) (link : LinkId) (o : Option Cause) (closed : List Closed) → is_some (at_key closed_number k closed) ≡ true → is_some (at_key closed_number k (closed ++ closed_by link o)) ≡ true
 closed-more k link None closed e = ap (λ cs. is_some (at_key closed_number k cs)) (append-nil closed) ∙ e

@@ -1,5 +1,5 @@
 -- The least link above another.
-use Rattle.std.proofs.Common.{◌≡◌, ◌≢◌, ℕ, ◌+◌, ◌<◌, ◌≤◌, Bool, true, false, eqb, cond, refl, List, [], ◌∷◌, ◌++◌, length, take, slice_index_or, Option, Some, None, IfSome, arith}
+use Rattle.std.proofs.Common.{◌≡◌, ◌≢◌, ℕ, ◌+◌, ◌<◌, ◌≤◌, Bool, true, false, eqb, cond, refl, List, [], ◌∷◌, ◌++◌, length, take, slice_index_or, Option, Some, None, IfSome, arith, ◌⊎◌, ◌||◌, inl, inr, subst, sym}
 use Rattle.std.proofs.lemmas.Bool.Decides.{nat_tests}
 use Rattle.std.proofs.lemmas.List.{take_more}
 use Rattle.wc_text.specs.declared.names.LinkId.{LinkId}
@@ -43,3 +43,25 @@ passed_between key flag last i xs d s (Some r) is n f between = λ o low high. n
 pub other_between : {X : Type 0} (key : X → ℕ) (flag : X → Bool) (last : ℕ) (s : X) (result : Option LinkId) → IfSome result (λ least. (o : ℕ) → last < o → o < least.0 → key s ≢ o) → IfSome result (λ least. (o : ℕ) → last < o → o < least.0 → key s ≡ o → flag s ≡ false)
 other_between key flag last s None h = tt
 other_between key flag last s (Some r) h = λ o low high same. absurd (h o low high same)
+
+-- ---- the lesser one of two
+
+pub least-above : (r a b : Option LinkId) (last : ℕ) → (r ≡ a) ⊎ (r ≡ b) → IfSome a (λ link. last < link.0) → IfSome b (λ link. last < link.0) → IfSome r (λ link. last < link.0)
+least-above r a b last (inl e) h g = subst (λ (o : Option LinkId). IfSome o (λ link. last < link.0)) (sym e) h
+least-above r a b last (inr e) h g = subst (λ (o : Option LinkId). IfSome o (λ link. last < link.0)) (sym e) g
+
+quiet-below : (a : Option LinkId) (least : LinkId) (last : ℕ) (f : ℕ → Bool) (k : ℕ) → IfSome a (λ link. least.0 ≤ link.0) → IfSome a (λ link. (other : ℕ) → last < other → other < link.0 → f other ≡ false) → (a ≡ None → (other : ℕ) → last < other → f other ≡ false) → last < k → k < least.0 → f k ≡ false
+quiet-below None least last f k below between none above low = none refl k above
+quiet-below (Some link) least last f k below between none above low = between k above (omega arith)
+
+pub next-none : (f g : Bool) → f ≡ false → g ≡ false → (f || g) ≡ false
+next-none true g e h = e
+next-none false g e h = h
+
+pub next-between : (r a b : Option LinkId) (last : ℕ) (f g : ℕ → Bool) → IfSome a (λ link. IfSome r (λ least. least.0 ≤ link.0)) → IfSome b (λ link. IfSome r (λ least. least.0 ≤ link.0))
+    → IfSome a (λ link. (other : ℕ) → last < other → other < link.0 → f other ≡ false) → (a ≡ None → (other : ℕ) → last < other → f other ≡ false)
+    → IfSome b (λ link. (other : ℕ) → last < other → other < link.0 → g other ≡ false) → (b ≡ None → (other : ℕ) → last < other → g other ≡ false)
+    → IfSome r (λ link. (other : ℕ) → last < other → other < link.0 → (f other || g other) ≡ false)
+next-between None a b last f g first second between none between' none' = tt
+next-between (Some least) a b last f g first second between none between' none' =
+    λ k above low. next-none (f k) (g k) (quiet-below a least last f k first between none above low) (quiet-below b least last g k second between' none' above low)

@@ -8,7 +8,7 @@ use Rattle.wc_turns.specs.Links.{link_number, with_closed}
 use Rattle.wc_turns.proofs.KeyedLemmas.{length-without, some_of}
 
 pub some_tail : LinkState
-some_tail = record { link = record { 0 = 0 }; tail = record { line = []; over = false }; undrained = false; blocked = false }
+some_tail = record { link = record { 0 = 0 }; server = None; connecting = false; refused = false; tail = record { line = []; over = false }; undrained = false; blocked = false }
 
 -- a place that is not given
 pub missing-place : (k : ℕ) (states : List LinkState) (place : Option ℕ) → PlaceOf link_number k states place → is_some place ≡ false → at_key link_number k states ≡ None

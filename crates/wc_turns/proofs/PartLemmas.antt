@@ -1,5 +1,5 @@
--- Clients that are leaving are parted with.
-use Rattle.std.proofs.Common.{◌≡◌, ◌≢◌, ℕ, ◌<◌, ◌⊎◌, inl, inr, Bool, true, false, eqb, ◌||◌, IsTrue, List, [], ◌∷◌, ◌++◌, length, map, drop, Option, Some, None, IsSome, is_some, refl, sym, ap, ◌∙◌, subst, arith}
+-- Clients and servers that are leaving are parted with.
+use Rattle.std.proofs.Common.{◌≡◌, ◌≢◌, ℕ, ◌<◌, ◌⊎◌, inl, inr, Bool, true, false, eqb, ◌||◌, IsTrue, List, [], ◌∷◌, ◌++◌, length, map, Option, Some, None, IsSome, is_some, refl, sym, ap, ◌∙◌, subst, arith}
 use Rattle.std.specs.List.{list_any}
 use Rattle.std.proofs.lemmas.Bool.{false≢true}
 use Rattle.std.proofs.lemmas.Bool.Decides.{nat_tests}
@@ -12,29 +12,78 @@ use Rattle.wc_outside.specs.declared.happening.Happening.TheVariants.{Failed}
 use Rattle.wc_outside.specs.Keyed.{at_key, without}
 use Rattle.wc_board.specs.declared.connection.Connection.{Connection}
 use Rattle.wc_board.specs.declared.connection.Departure.{Departure}
+use Rattle.wc_board.specs.Connections.{connection_link, leaving_in, leaving_on}
+use Rattle.wc_servers.specs.Seats.{AreApart, seat_link, leaving_in as server_leaving_in, leaving_on as server_leaving_on}
 use Rattle.wc_core.specs.CoreView.{CoreView}
-use Rattle.wc_board.specs.Connections.{connection_link, leaving_in, leaving_on, gone_at, departure_by, departure_of}
-use Rattle.wc_core.specs.Served.{links_of, Distinct}
+use Rattle.wc_core.specs.LinksSeen.{departure_in, gone_in}
+use Rattle.wc_core.specs.Served.{links_of, or_else, Distinct}
 use Rattle.wc_turns.specs.declared.links.Closed.{Closed}
+use Rattle.wc_turns.specs.declared.links.LinkState.{LinkState}
 use Rattle.wc_turns.specs.declared.headless.Headless.{Headless}
 use Rattle.wc_turns.specs.Contained.{KeepsLinks}
-use Rattle.wc_turns.specs.Links.{link_number, is_blocked, changed_at, written_link}
-use Rattle.wc_turns.specs.Parts.{FailureIgnored, SendsOn, ClosesLeaving, SparesOthers, HasFailed}
-use Rattle.wc_turns.specs.Served.{closed_by, leaving_closes, closed_number}
+use Rattle.wc_turns.specs.Links.{Kind, link_number, is_blocked, is_connecting, kind_of, IsStanding, changed_at, written_link}
+use Rattle.wc_turns.specs.Parties.{has_party, party_count, closes_asked}
+use Rattle.wc_turns.specs.Parts.{leaving_of, FailureIgnored, SameParty, SendsOn, ClosesLeaving, SparesOthers, HasFailed}
+use Rattle.wc_turns.specs.Served.{closed_number}
 use Rattle.wc_turns.specs.Sources.{NothingBecameReady, IsSent, TakesNothing}
+use Rattle.wc_turns.specs.Steps.{SameKinds}
 use Rattle.wc_turns.specs.Turns.{AgreesWithSockets, HasGained, IsSettled, is_failure, has_failed}
-use Rattle.wc_turns.proofs.KeyedLemmas.{at_key-key, at_key-put_other, at_key-put_same, at_key-filter_other, at_key-filter_same, length-without, some_of, none_of, same-keys}
+use Rattle.wc_turns.proofs.KeyedLemmas.{at_key-filter_same, at_key-filter_other, same-keys}
 use Rattle.wc_turns.proofs.CauseLemmas.{gained-following}
-use Rattle.wc_turns.proofs.ChangedLemmas.{keeps-written, numbers-changed}
+use Rattle.wc_turns.proofs.ChangedLemmas.{keeps-written, kind-written, numbers-changed, SameKinds-changed}
 use Rattle.wc_turns.proofs.StepLemmas.{OnlyLinks}
 use Rattle.wc_turns.proofs.ContainedLemmas.{KeepsLinks-refl, KeepsLinks-trans, KeepsLinks-same}
-use Rattle.wc_turns.proofs.ConnectionLemmas.{departed-there, departed-all, departed-leaving, leaving-without, all-without, leaving-gone, links-gone}
+use Rattle.wc_turns.proofs.ForgetLemmas.{forgot, departed-party, departed-why, departed-all, forgot-here, forgot-other, forgot-fewer, forgot-spares}
+use Rattle.wc_turns.proofs.GoneLemmas.{gone-links, gone-seats, gone-closes, gone-wanted, gone-quits, gone-starved, gone-why, gone-other}
 use Rattle.wc_turns.proofs.SourceLemmas.{Later, NothingBecameReady-refl, NothingBecameReady-trans, TakesNothing-refl, TakesNothing-trans}
+
+-- ---- who is at a link
+
+pub SameParty-refl : (k : ℕ) (x : CoreView) → SameParty k x x
+SameParty-refl k x = record { client = refl; server = refl }
+
+pub SameParty-trans : (k : ℕ) (x y z : CoreView) → SameParty k x y → SameParty k y z → SameParty k x z
+SameParty-trans k x y z h g = record { client = g.client ∙ h.client; server = g.server ∙ h.server }
+
+pub SameParty-core : (k : ℕ) (x y : CoreView) → y ≡ x → SameParty k x y
+SameParty-core k x y e = record { client = ap (λ (c : CoreView). at_key connection_link k c.connections) e; server = ap (λ (c : CoreView). at_key seat_link k c.servers.seats) e }
+
+pub same-why : (k : ℕ) (x y : CoreView) → SameParty k x y → leaving_of k y ≡ leaving_of k x
+same-why k x y same = ap (λ o. or_else (server_leaving_in o) (leaving_on k y.connections)) same.server ∙ ap (λ o. or_else (server_leaving_on k x.servers.seats) (leaving_in o)) same.client
+
+pub same-has : (k : ℕ) (x y : CoreView) → SameParty k x y → has_party k y ≡ has_party k x
+same-has k x y same = ap (λ o. is_some (at_key connection_link k y.connections) || is_some o) same.server ∙ ap (λ o. is_some o || is_some (at_key seat_link k x.servers.seats)) same.client
+
+abbrev connects : Option Kind → Bool
+connects None = false
+connects (Some kind) = kind.connecting
+
+connecting-as : (o : Option LinkState) → is_connecting o ≡ connects (kind_of o)
+connecting-as None = refl
+connecting-as (Some state) = refl
+
+-- a link that stands goes on so where it leads to whom it led
+pub kinds-stand : (old new : List LinkState) → SameKinds old new → (k : ℕ) → IsStanding k old → IsStanding k new
+kinds-stand old new same k h = stand-by (same k)
+  where
+    kind-by : (o p : Option LinkState) → kind_of o ≡ kind_of p → is_connecting p ≡ false → is_connecting o ≡ false
+    kind-by o p e f = connecting-as o ∙ ap connects e ∙ sym (connecting-as p) ∙ f
+
+    stand-by : (at_key link_number k new ≡ None) ⊎ (kind_of (at_key link_number k new) ≡ kind_of (at_key link_number k old)) → is_connecting (at_key link_number k new) ≡ false
+    stand-by (inl none) = ap is_connecting none
+    stand-by (inr e) = kind-by (at_key link_number k new) (at_key link_number k old) e h
+
+pub without-stand : (j : ℕ) (states : List LinkState) (k : ℕ) → IsStanding k states → IsStanding k (without link_number j states)
+without-stand j states k h = stand-by (eqb k j) refl
+  where
+    stand-by : (t : Bool) → eqb k j ≡ t → is_connecting (at_key link_number k (without link_number j states)) ≡ false
+    stand-by true e = let same : k ≡ j = grind (arith, nat_tests) in ap (λ i. is_connecting (at_key link_number i (without link_number j states))) same ∙ ap is_connecting (at_key-filter_same link_number j states)
+    stand-by false e = ap is_connecting (at_key-filter_other link_number j k states (λ q. grind (arith, nat_tests))) ∙ h
 
 -- ---- bytes are sent
 
 pub SendsOn-refl : (link : ℕ) (x : Headless) (a : Seen) → SendsOn link x x a a
-SendsOn-refl link x a = record { falls = NothingBecameReady-refl a; nothing = TakesNothing-refl a; quits = refl; starved = refl; used = refl; numbers = refl; closed = refl; links = refl; leaving = refl; why = refl; connections = λ k n. refl; blocked = λ k n. refl }
+SendsOn-refl link x a = record { falls = NothingBecameReady-refl a; nothing = TakesNothing-refl a; quits = refl; starved = refl; used = refl; numbers = refl; closed = refl; links = refl; servers = refl; wanted = refl; leaving = refl; why = refl; parties = λ k n. SameParty-refl k x.core; blocked = λ k n. refl; stands = λ k h. h }
 
 pub SendsOn-trans : (link : ℕ) (x y z : Headless) (a b c : Seen) → (IsTrue c.tells → IsTrue b.tells) → SendsOn link x y a b → SendsOn link y z b c → SendsOn link x z a c
 SendsOn-trans link x y z a b c told h g = record {
@@ -46,15 +95,19 @@ SendsOn-trans link x y z a b c told h g = record {
   numbers = g.numbers ∙ h.numbers;
   closed = g.closed ∙ h.closed;
   links = g.links ∙ h.links;
+  servers = g.servers ∙ h.servers;
+  wanted = g.wanted ∙ h.wanted;
   leaving = g.leaving ∙ h.leaving;
   why = g.why ∙ h.why;
-  connections = λ k n. g.connections k n ∙ h.connections k n;
+  parties = λ k n. SameParty-trans k x.core y.core z.core (h.parties k n) (g.parties k n);
   blocked = λ k n. g.blocked k n ∙ h.blocked k n;
+  stands = λ k s. g.stands k (h.stands k s);
 }
 
--- a call that leaves the clients as they are
-pub SendsOn-call : (link : ℕ) (x y : Headless) (a b : Seen) → y.core ≡ x.core → y.used ≡ x.used → map link_number y.links.opened.items ≡ map link_number x.links.opened.items → y.links.closed.items ≡ x.links.closed.items → NothingBecameReady a b → TakesNothing a b → ((k : ℕ) → k ≢ link → b.blocked k ≡ a.blocked k) → SendsOn link x y a b
-SendsOn-call link x y a b core used numbers closed falls nothing blocked = record {
+-- a call that leaves clients and servers as they are
+pub SendsOn-call : (link : ℕ) (x y : Headless) (a b : Seen) → y.core ≡ x.core → y.used ≡ x.used → map link_number y.links.opened.items ≡ map link_number x.links.opened.items → y.links.closed.items ≡ x.links.closed.items → SameKinds x.links.opened.items y.links.opened.items
+    → NothingBecameReady a b → TakesNothing a b → ((k : ℕ) → k ≢ link → b.blocked k ≡ a.blocked k) → SendsOn link x y a b
+SendsOn-call link x y a b core used numbers closed kinds falls nothing blocked = record {
   falls = falls;
   nothing = nothing;
   quits = ap (λ c. c.quits) core;
@@ -63,55 +116,76 @@ SendsOn-call link x y a b core used numbers closed falls nothing blocked = recor
   numbers = numbers;
   closed = closed;
   links = ap (λ c. map connection_link c.connections) core;
-  leaving = ap (λ c. leaving_closes c.connections) core;
-  why = ap (λ c. leaving_on link c.connections) core;
-  connections = λ k n. ap (λ c. at_key connection_link k c.connections) core;
+  servers = ap (λ c. map seat_link c.servers.seats) core;
+  wanted = ap (λ c. c.servers.wanted) core;
+  leaving = ap closes_asked core;
+  why = ap (leaving_of link) core;
+  parties = λ k n. SameParty-core k x.core y.core core;
   blocked = blocked;
+  stands = kinds-stand x.links.opened.items y.links.opened.items kinds;
 }
 
-why-gone : (link count : ℕ) (connections : List Connection) (o : Option Connection) → at_key connection_link link connections ≡ o → leaving_on link (gone_at link count connections o) ≡ leaving_on link connections
-why-gone link count connections None e = refl
-why-gone link count connections (Some s) e =
-    ap leaving_in (at_key-put_same connection_link link s (record s { session = record s.session { unsent = drop count s.session.unsent } }) connections (at_key-key connection_link link connections s e) e) ∙ ap leaving_in (sym e)
-
-pub connections-gone : (link count k : ℕ) (connections : List Connection) (o : Option Connection) → at_key connection_link link connections ≡ o → k ≢ link → at_key connection_link k (gone_at link count connections o) ≡ at_key connection_link k connections
-connections-gone link count k connections None e n = refl
-connections-gone link count k connections (Some s) e n = at_key-put_other connection_link link k (record s { session = record s.session { unsent = drop count s.session.unsent } }) connections (at_key-key connection_link link connections s e) n
+pub same-kinds : (states : List LinkState) → SameKinds states states
+same-kinds states = λ k. inr refl
 
 -- some bytes were sent
 pub SendsOn-took : (link count : ℕ) (x : Headless) (a b : Seen) (o : Option Connection) → at_key connection_link link x.core.connections ≡ o → NothingBecameReady a b → TakesNothing a b → ((k : ℕ) → k ≢ link → b.blocked k ≡ a.blocked k)
-    → SendsOn link x (record x { core = record x.core { connections = gone_at link count x.core.connections o } }) a b
+    → SendsOn link x (record x { core = gone_in link count x.core o }) a b
 SendsOn-took link count x a b o found falls nothing blocked = record {
   falls = falls;
   nothing = nothing;
-  quits = refl;
-  starved = refl;
+  quits = gone-quits link count x.core o;
+  starved = gone-starved link count x.core o;
   used = refl;
   numbers = refl;
   closed = refl;
-  links = links-gone link count x.core.connections o found;
-  leaving = leaving-gone link count x.core.connections o found;
-  why = why-gone link count x.core.connections o found;
-  connections = λ k n. connections-gone link count k x.core.connections o found n;
+  links = gone-links link count x.core o found;
+  servers = gone-seats link count x.core o found;
+  wanted = gone-wanted link count x.core o;
+  leaving = gone-closes link count x.core o found;
+  why = gone-why link count x.core o found;
+  parties = λ k n. gone-other link count k x.core o found n;
   blocked = blocked;
+  stands = λ k h. h;
 }
 
 -- it is kept whether a write to the link found no room
 pub SendsOn-written : (link : ℕ) (found : Bool) (x y : Headless) (a : Seen) → OnlyLinks x y → y.links.opened.items ≡ changed_at link (written_link found) x.links.opened.items (at_key link_number link x.links.opened.items) → SendsOn link x y a a
 SendsOn-written link found x y a only opened =
-    SendsOn-call link x y a a only.core only.used (ap (λ ss. map link_number ss) opened ∙ numbers-changed link (written_link found) (keeps-written found) x.links.opened.items) only.closed (NothingBecameReady-refl a) (TakesNothing-refl a) (λ k n. refl)
+    SendsOn-call link x y a a only.core only.used (ap (λ ss. map link_number ss) opened ∙ numbers-changed link (written_link found) (keeps-written found) x.links.opened.items) only.closed
+    (rw opened (SameKinds-changed link (written_link found) (keeps-written found) (kind-written found) x.links.opened.items)) (NothingBecameReady-refl a) (TakesNothing-refl a) (λ k n. refl)
 
 pub KeepsLinks-sends : (link : ℕ) (x y : Headless) (a b : Seen) → SendsOn link x y a b → KeepsLinks x y
 KeepsLinks-sends link x y a b h = KeepsLinks-same x y h.used (let e = h.starved in omega arith) (λ k. same-keys link_number k y.links.opened.items x.links.opened.items h.numbers) h.closed
 
+-- a link without any way to send is as it was
+pub sends-has : (link : ℕ) (x y : Headless) (a b : Seen) → SendsOn link x y a b → (k : ℕ) → has_party k y.core ≡ has_party k x.core
+sends-has link x y a b h k =
+    ap (λ t. t || is_some (at_key seat_link k y.core.servers.seats)) (same-keys connection_link k y.core.connections x.core.connections h.links)
+    ∙ ap (λ t. is_some (at_key connection_link k x.core.connections) || t) (same-keys seat_link k y.core.servers.seats x.core.servers.seats h.servers)
+
+map-length : {X : Type 0} (f : X → ℕ) (xs : List X) → length (map f xs) ≡ length xs
+map-length f [] = refl
+map-length f (x ∷ xs) = let ih = map-length f xs in omega arith
+
+pub sends-count : (link : ℕ) (x y : Headless) (a b : Seen) → SendsOn link x y a b → party_count y.core ≡ party_count x.core
+sends-count link x y a b h =
+    let c = ap length h.links in
+    let s = ap length h.servers in
+    let c1 = map-length connection_link y.core.connections in
+    let c2 = map-length connection_link x.core.connections in
+    let s1 = map-length seat_link y.core.servers.seats in
+    let s2 = map-length seat_link x.core.servers.seats in
+    omega arith
+
 pub FailureIgnored-later : (link : ℕ) (x y : Headless) (a b : Seen) → SendsOn link x y a b → FailureIgnored link x.core → FailureIgnored link y.core
 FailureIgnored-later link x y a b h (inl over) = inl (h.quits ∙ over)
-FailureIgnored-later link x y a b h (inr leaves) = inr (λ distinct. subst (λ (o : Option Cause). IsSome o) (sym h.why) (leaves (subst Distinct h.links distinct)))
+FailureIgnored-later link x y a b h (inr leaves) = inr (λ distinct apart. subst (λ (o : Option Cause). IsSome o) (sym h.why) (leaves (subst Distinct h.links distinct) (subst AreApart h.servers apart)))
 
-pub IsSent-following : (link : ℕ) (connections : List Connection) (a b c : Seen) → Later a b → NeverFall a.faults b.faults → (IsTrue c.tells → IsTrue b.tells) → IsSent link connections b c → IsSent link connections a c
-IsSent-following link connections a b c first counts told (inl e) = inl e
-IsSent-following link connections a b c first counts told (inr (inl e)) = inr (inl e)
-IsSent-following link connections a b c first counts told (inr (inr h)) =
+pub IsSent-following : (link : ℕ) (core : CoreView) (a b c : Seen) → Later a b → NeverFall a.faults b.faults → (IsTrue c.tells → IsTrue b.tells) → IsSent link core b c → IsSent link core a c
+IsSent-following link core a b c first counts told (inl e) = inl e
+IsSent-following link core a b c first counts told (inr (inl e)) = inr (inl e)
+IsSent-following link core a b c first counts told (inr (inr h)) =
     inr (inr ((let p = h.0 in let q = counts.links in omega arith), (λ t. gained-following a b c (Failed (record { 0 = link })) first.more (first.taken (told t)) (h.1 t))))
 
 has-gained : (link : ℕ) (a b : Seen) → HasGained a b (Failed (record { 0 = link })) → has_failed link b.taken ≡ true
@@ -128,91 +202,73 @@ has-gained link a b h = ap (has_failed link) h.taken ∙ list_any-append (is_fai
     found = ap (λ t. list_any (is_failure link) h.front || (t || list_any (is_failure link) h.rest)) here ∙ or-true (list_any (is_failure link) h.front)
 
 -- what was sent as far as may be is settled
-pub IsSettled-sent : (link : ℕ) (connections : List Connection) (a b : Seen) → IsSent link connections a b → IsSettled link connections b
-IsSettled-sent link connections a b (inl e) = λ t free fit. e
-IsSettled-sent link connections a b (inr (inl e)) = λ t free fit. absurd (false≢true (sym free ∙ e))
-IsSettled-sent link connections a b (inr (inr h)) = λ t free fit. absurd (false≢true (sym fit ∙ has-gained link a b (h.1 t)))
+pub IsSettled-sent : (link : ℕ) (core : CoreView) (a b : Seen) → IsSent link core a b → IsSettled link core b
+IsSettled-sent link core a b (inl e) = λ t free fit. e
+IsSettled-sent link core a b (inr (inl e)) = λ t free fit. absurd (false≢true (sym free ∙ e))
+IsSettled-sent link core a b (inr (inr h)) = λ t free fit. absurd (false≢true (sym fit ∙ has-gained link a b (h.1 t)))
 
 -- nothing is sent on a link that is kept as one without room
-pub IsSettled-blocked : (link : ℕ) (h : Headless) (a : Seen) → is_blocked (at_key link_number link h.links.opened.items) ≡ true → AgreesWithSockets h a → IsSettled link h.core.connections a
+pub IsSettled-blocked : (link : ℕ) (h : Headless) (a : Seen) → is_blocked (at_key link_number link h.links.opened.items) ≡ true → AgreesWithSockets h a → IsSettled link h.core a
 IsSettled-blocked link h a blocked s = λ t free fit. absurd (false≢true (sym free ∙ s.among.blocked link ∙ blocked))
 
 -- nothing is to be sent on a link that failed
-pub IsSettled-failed : (link : LinkId) (lost : Option LinkId) (connections : List Connection) (a : Seen) → lost ≡ Some link → HasFailed lost a → IsSettled link.0 connections a
-IsSettled-failed link lost connections a e h = λ t free fit. (let failed = rw e at h in absurd (false≢true (sym fit ∙ failed t)))
+pub IsSettled-failed : (link : LinkId) (lost : Option LinkId) (core : CoreView) (a : Seen) → lost ≡ Some link → HasFailed lost a → IsSettled link.0 core a
+IsSettled-failed link lost core a e h = λ t free fit. (let failed = rw e at h in absurd (false≢true (sym fit ∙ failed t)))
 
 -- ---- parting
 
-pub FailureIgnored-departed : (connections : List Connection) (d : Departure) → departure_of connections ≡ Some d → Distinct (map connection_link connections) → IsSome (leaving_on d.link.0 connections)
-FailureIgnored-departed connections d e distinct = subst (λ (o : Option Cause). IsSome o) (sym (departed-leaving connections d e distinct)) refl
-
--- a departure is the first close that is asked for
-abbrev pub first_close : List Closed → Option Departure
-first_close [] = None
-first_close (c ∷ cs) = Some (record { link = c.link; cause = c.cause })
-
-departure-close : (connections : List Connection) → departure_of connections ≡ first_close (leaving_closes connections)
-departure-close [] = refl
-departure-close (connection ∷ connections) = close-by connection.leaving (departure-close connections)
-  where
-    close-by : (why : Option Cause) → departure_of connections ≡ first_close (leaving_closes connections) → departure_by connection.session.client.link why (departure_of connections) ≡ first_close (closed_by connection.session.client.link why ++ leaving_closes connections)
-    close-by None ih = ih
-    close-by (Some cause) ih = refl
-
-pub departure-same : (old new : List Connection) (d : Departure) → leaving_closes new ≡ leaving_closes old → departure_of old ≡ Some d → departure_of new ≡ Some d
-departure-same old new d e h = departure-close new ∙ ap first_close e ∙ sym (departure-close old) ∙ h
+pub FailureIgnored-departed : (core : CoreView) (d : Departure) → departure_in core ≡ Some d → FailureIgnored d.link.0 core
+FailureIgnored-departed core d e = inr (λ distinct apart. departed-why core d e distinct apart)
 
 pub HasFailed-later : (lost : Option LinkId) (a b : Seen) → Later a b → HasFailed lost a → HasFailed lost b
 HasFailed-later None a b later h = tt
 HasFailed-later (Some link) a b later h = λ t. ap (has_failed link.0) (later.taken t) ∙ list_any-append (is_failure link.0) a.taken later.more ∙ ap (λ f. f || list_any (is_failure link.0) later.more) (h (later.told t))
 
-parted-by : (k link : ℕ) (t : Bool) → eqb k link ≡ t → (x y z : List Connection) → z ≡ without connection_link link y → (k ≢ link → at_key connection_link k y ≡ at_key connection_link k x)
-    → (at_key connection_link k z ≡ None) ⊎ ((leaving_on k z ≡ leaving_on k x) × (is_some (at_key connection_link k z) ≡ is_some (at_key connection_link k x)))
-parted-by k link true e x y z left same = inl (let here : k ≡ link = grind (arith, nat_tests) in ap (at_key connection_link k) left ∙ ap (λ i. at_key connection_link i (without connection_link link y)) here ∙ at_key-filter_same connection_link link y)
-parted-by k link false e x y z left same =
-    let other : k ≢ link = λ q. grind (arith, nat_tests) in
-    let kept : at_key connection_link k z ≡ at_key connection_link k x = ap (at_key connection_link k) left ∙ at_key-filter_other connection_link link k y other ∙ same other in
-    inr (ap leaving_in kept, ap is_some kept)
+-- who was at a link is forgotten, or stays
+parted-by : (k j : ℕ) (t : Bool) → eqb k j ≡ t → (x y z : CoreView) → z ≡ forgot j y → (k ≢ j → SameParty k x y) → (has_party k z ≡ false) ⊎ ((leaving_of k z ≡ leaving_of k x) × (has_party k z ≡ has_party k x))
+parted-by k j true e x y z left same = inl (let here : k ≡ j = grind (arith, nat_tests) in ap (has_party k) left ∙ ap (λ i. has_party i (forgot j y)) here ∙ forgot-here j y)
+parted-by k j false e x y z left same =
+    let other : k ≢ j = λ q. grind (arith, nat_tests) in
+    let kept : SameParty k x (forgot j y) = SameParty-trans k x y (forgot j y) (same other) (forgot-other k j y other) in
+    inr (ap (leaving_of k) left ∙ same-why k x (forgot j y) kept, ap (has_party k) left ∙ same-has k x (forgot j y) kept)
 
 -- the first one that is leaving is parted with
-pub ClosesLeaving-first : (x y z : Headless) (a b c : Seen) (d : Departure) → departure_of x.core.connections ≡ Some d → (IsTrue c.tells → IsTrue b.tells) → SendsOn d.link.0 x y a b → z.core ≡ record y.core { connections = without connection_link d.link.0 y.core.connections }
+pub ClosesLeaving-first : (x y z : Headless) (a b c : Seen) (d : Departure) → departure_in x.core ≡ Some d → (IsTrue c.tells → IsTrue b.tells) → SendsOn d.link.0 x y a b → z.core ≡ forgot d.link.0 y.core → z.links.opened.items ≡ without link_number d.link.0 y.links.opened.items
     → KeepsLinks y z → NothingBecameReady b c → TakesNothing b c → ((k : ℕ) → k ≢ d.link.0 → c.blocked k ≡ b.blocked k) → ClosesLeaving x z a c
-ClosesLeaving-first x y z a b c d first told sends core contained falls nothing blocked =
-    let connections : z.core.connections ≡ without connection_link d.link.0 y.core.connections = ap (λ s. s.connections) core in
-    let left : leaving_closes z.core.connections ≡ without closed_number d.link.0 (leaving_closes x.core.connections) = ap leaving_closes connections ∙ leaving-without d.link.0 y.core.connections ∙ ap (without closed_number d.link.0) sends.leaving in
-    let other : (k : ℕ) → SparesOthers k (leaving_closes x.core.connections) → k ≢ d.link.0 = λ k s q. departed-all (λ (close : Closed). closed_number close ≢ k) x.core.connections d first s (sym q) in
+ClosesLeaving-first x y z a b c d first told sends core opened contained falls nothing blocked =
+    let other : (k : ℕ) → SparesOthers k (closes_asked x.core) → k ≢ d.link.0 = λ k s q. departed-all (λ (close : Closed). closed_number close ≢ k) x.core d first s (sym q) in
+    let there : has_party d.link.0 y.core ≡ true = sends-has d.link.0 x y a b sends d.link.0 ∙ departed-party x.core d first in
     record {
       falls = NothingBecameReady-trans a b c sends.falls falls;
       nothing = TakesNothing-trans a b c told sends.nothing nothing;
       quits = ap (λ s. s.quits) core ∙ sends.quits;
-      spared = λ k s. subst (SparesOthers k) (sym left) (all-without (λ (close : Closed). closed_number close ≢ k) d.link.0 (leaving_closes x.core.connections) s);
-      connections = λ k s. ap (at_key connection_link k) connections ∙ at_key-filter_other connection_link d.link.0 k y.core.connections (other k s) ∙ sends.connections k (other k s);
+      wanted = ap (λ s. s.servers.wanted) core ∙ sends.wanted;
+      spared = λ k s. subst (SparesOthers k) (ap closes_asked (sym core)) (forgot-spares (λ (close : Closed). closed_number close ≢ k) d.link.0 y.core (subst (SparesOthers k) (sym sends.leaving) s));
+      parties = λ k s. SameParty-trans k x.core (forgot d.link.0 y.core) z.core (SameParty-trans k x.core y.core (forgot d.link.0 y.core) (sends.parties k (other k s)) (forgot-other k d.link.0 y.core (other k s))) (SameParty-core k (forgot d.link.0 y.core) z.core core);
       blocked = λ k s. blocked k (other k s) ∙ sends.blocked k (other k s);
       contained = KeepsLinks-trans x y z (KeepsLinks-sends d.link.0 x y a b sends) contained;
-      parted = λ k. parted-by k d.link.0 (eqb k d.link.0) refl x.core.connections y.core.connections z.core.connections connections (sends.connections k);
+      parted = λ k. parted-by k d.link.0 (eqb k d.link.0) refl x.core y.core z.core core (sends.parties k);
+      fewer = (let less = forgot-fewer d.link.0 y.core there in let same = sends-count d.link.0 x y a b sends in let now = ap party_count core in omega arith);
+      lost = λ k was gone. (let less = forgot-fewer d.link.0 y.core there in let same = sends-count d.link.0 x y a b sends in let now = ap party_count core in omega arith);
+      stands = λ k s. (let P : List LinkState → Type 0 = λ states. IsStanding k states in subst P (sym opened) (without-stand d.link.0 y.links.opened.items k (sends.stands k s)));
     }
 
-length-map-links : (connections : List Connection) → length (map connection_link connections) ≡ length connections
-length-map-links [] = refl
-length-map-links (s ∷ ss) = let ih = length-map-links ss in omega arith
-
-pub fewer-parted : (x y z : CoreView) (d : Departure) → departure_of y.connections ≡ Some d → map connection_link y.connections ≡ map connection_link x.connections → z ≡ record y { connections = without connection_link d.link.0 y.connections } → length z.connections < length x.connections
-fewer-parted x y z d first links core =
-    let less = length-without connection_link d.link.0 y.connections (some_of _ (departed-there y.connections d first)) in
-    let now = ap (λ (s : CoreView). length s.connections) core in
-    let size = ap length links in
-    let p = length-map-links y.connections in
-    let q = length-map-links x.connections in
+pub fewer-parted : (x y z : Headless) (a b : Seen) (d : Departure) → departure_in x.core ≡ Some d → SendsOn d.link.0 x y a b → z.core ≡ forgot d.link.0 y.core → party_count z.core < party_count x.core
+fewer-parted x y z a b d first sends core =
+    let there : has_party d.link.0 y.core ≡ true = sends-has d.link.0 x y a b sends d.link.0 ∙ departed-party x.core d first in
+    let less = forgot-fewer d.link.0 y.core there in
+    let same = sends-count d.link.0 x y a b sends in
+    let now = ap party_count core in
     omega arith
 
 pub ClosesLeaving-refl : (x : Headless) (a : Seen) → ClosesLeaving x x a a
-ClosesLeaving-refl x a = record { falls = NothingBecameReady-refl a; nothing = TakesNothing-refl a; quits = refl; spared = λ k s. s; connections = λ k s. refl; blocked = λ k s. refl; contained = KeepsLinks-refl x; parted = λ k. inr (refl, refl) }
+ClosesLeaving-refl x a = record { falls = NothingBecameReady-refl a; nothing = TakesNothing-refl a; quits = refl; wanted = refl; spared = λ k s. s; parties = λ k s. SameParty-refl k x.core; blocked = λ k s. refl; contained = KeepsLinks-refl x; parted = λ k. inr (refl, refl); fewer = omega arith; lost = λ k was gone. absurd (false≢true (sym gone ∙ was)); stands = λ k h. h }
 
-parted-then : (k : ℕ) (x y z : List Connection) → (at_key connection_link k y ≡ None) ⊎ ((leaving_on k y ≡ leaving_on k x) × (is_some (at_key connection_link k y) ≡ is_some (at_key connection_link k x)))
-    → (at_key connection_link k z ≡ None) ⊎ ((leaving_on k z ≡ leaving_on k y) × (is_some (at_key connection_link k z) ≡ is_some (at_key connection_link k y)))
-    → (at_key connection_link k z ≡ None) ⊎ ((leaving_on k z ≡ leaving_on k x) × (is_some (at_key connection_link k z) ≡ is_some (at_key connection_link k x)))
+parted-then : (k : ℕ) (x y z : CoreView) → (has_party k y ≡ false) ⊎ ((leaving_of k y ≡ leaving_of k x) × (has_party k y ≡ has_party k x))
+    → (has_party k z ≡ false) ⊎ ((leaving_of k z ≡ leaving_of k y) × (has_party k z ≡ has_party k y))
+    → (has_party k z ≡ false) ⊎ ((leaving_of k z ≡ leaving_of k x) × (has_party k z ≡ has_party k x))
 parted-then k x y z h (inl none) = inl none
-parted-then k x y z (inl none) (inr g) = inl (none_of _ (g.1 ∙ ap is_some none))
+parted-then k x y z (inl none) (inr g) = inl (g.1 ∙ none)
 parted-then k x y z (inr h) (inr g) = inr (g.0 ∙ h.0, g.1 ∙ h.1)
 
 pub ClosesLeaving-trans : (x y z : Headless) (a b c : Seen) → (IsTrue c.tells → IsTrue b.tells) → ClosesLeaving x y a b → ClosesLeaving y z b c → ClosesLeaving x z a c
@@ -220,17 +276,24 @@ ClosesLeaving-trans x y z a b c told h g = record {
   falls = NothingBecameReady-trans a b c h.falls g.falls;
   nothing = TakesNothing-trans a b c told h.nothing g.nothing;
   quits = g.quits ∙ h.quits;
+  wanted = g.wanted ∙ h.wanted;
   spared = λ k s. g.spared k (h.spared k s);
-  connections = λ k s. g.connections k (h.spared k s) ∙ h.connections k s;
+  parties = λ k s. SameParty-trans k x.core y.core z.core (h.parties k s) (g.parties k (h.spared k s));
   blocked = λ k s. g.blocked k (h.spared k s) ∙ h.blocked k s;
   contained = KeepsLinks-trans x y z h.contained g.contained;
-  parted = λ k. parted-then k x.core.connections y.core.connections z.core.connections (h.parted k) (g.parted k);
-}
+  parted = λ k. parted-then k x.core y.core z.core (h.parted k) (g.parted k);
+  fewer = (let p = h.fewer in let q = g.fewer in omega arith);
+  lost = λ k was gone. lost-by k was gone (has_party k y.core) refl;
+  stands = λ k s. g.stands k (h.stands k s);
+} where
+  lost-by : (k : ℕ) → has_party k x.core ≡ true → has_party k z.core ≡ false → (t : Bool) → has_party k y.core ≡ t → party_count z.core < party_count x.core
+  lost-by k was gone true e = (let p = h.fewer in let q = g.lost k e gone in omega arith)
+  lost-by k was gone false e = (let p = h.lost k was e in let q = g.fewer in omega arith)
 
--- where `/quit` was not run, the client of the link is leaving
-pub misses-going : (link : ℕ) (core : CoreView) → FailureIgnored link core → core.quits ≡ false → Distinct (links_of core) → IsSome (leaving_on link core.connections)
-misses-going link core (inl over) on distinct = absurd (false≢true (sym on ∙ over))
-misses-going link core (inr leaves) on distinct = leaves distinct
+-- where `/quit` was not run, who is at the link is leaving
+pub misses-going : (link : ℕ) (core : CoreView) → FailureIgnored link core → core.quits ≡ false → Distinct (links_of core) → AreApart (map seat_link core.servers.seats) → IsSome (leaving_of link core)
+misses-going link core (inl over) on distinct seats = absurd (false≢true (sym on ∙ over))
+misses-going link core (inr leaves) on distinct seats = leaves distinct seats
 
 or-last : (b : Bool) → (b || (true || false)) ≡ true
 or-last true = refl

@@ -1,34 +1,39 @@
 -- What one call takes of a link.
-use Rattle.std.proofs.Common.{◌≡◌, ◌≢◌, ℕ, ◌+◌, ◌≤◌, ◌⊎◌, inl, inr, Bool, true, false, not, eqb, ◌&&◌, IsTrue, List, [], ◌∷◌, ◌++◌, length, take, All, Option, Some, None, is_some, is_none, refl, sym, ap, ◌∙◌, subst, arith}
+use Rattle.std.proofs.Common.{◌≡◌, ◌≢◌, ℕ, ◌+◌, ◌<◌, ◌≤◌, Bool, true, false, not, eqb, nat_le, ◌&&◌, ◌||◌, IsTrue, List, [], ◌∷◌, ◌++◌, length, map, take, All, Option, Some, None, IsSome, is_some, is_none, refl, sym, ap, ◌∙◌, subst, arith}
 use Rattle.std.proofs.lemmas.Bool.{false≢true}
 use Rattle.std.proofs.lemmas.Bool.Decides.{nat_tests}
 use Rattle.std.proofs.lemmas.List.{length-append, length-take}
-use Rattle.std.proofs.lemmas.List.Elements.{All-nil, All-cons}
 use Rattle.wc_text.specs.declared.names.LinkId.{LinkId}
 use Rattle.wc_text.specs.declared.names.Cause.{Cause}
 use Rattle.wc_outside.specs.Seen.{Seen}
 use Rattle.wc_outside.specs.declared.happening.Happening.{Happening}
-use Rattle.wc_outside.specs.declared.happening.Happening.TheVariants.{Read, Accepted, ListenFailed}
+use Rattle.wc_outside.specs.declared.happening.Happening.TheVariants.{Read, Accepted, ListenFailed, Connected}
 use Rattle.wc_outside.specs.Keyed.{at_key}
 use Rattle.wc_board.specs.declared.connection.Connection.{Connection}
-use Rattle.wc_board.specs.Connections.{connection_link, unsent_in, unsent_on, is_open, is_open_at, leaving_in, leaving_on, left_if, left_at}
+use Rattle.wc_board.specs.Connections.{connection_link, is_open_at, leaving_in, leaving_on}
+use Rattle.wc_servers.specs.Seats.{SeatView, seat_link, is_open_at as server_is_open_at, leaving_in as server_leaving_in, leaving_on as server_leaving_on}
 use Rattle.wc_core.specs.CoreView.{CoreView}
-use Rattle.wc_turns.specs.declared.links.Closed.{Closed}
+use Rattle.wc_core.specs.Served.{or_else, KeepsClients, Distinct, links_of}
+use Rattle.wc_core.specs.ServersKept.{is_wanted, LosesServer}
 use Rattle.wc_turns.specs.declared.headless.Headless.{Headless}
 use Rattle.wc_turns.specs.Events.{tail_on, events_of}
-use Rattle.wc_turns.specs.Links.{is_undrained}
-use Rattle.wc_turns.specs.Parts.{SparesOthers, ClosesLeaving, ReadsOn}
-use Rattle.wc_core.proofs.DidLemmas.{saves-as}
-use Rattle.wc_turns.specs.Served.{leaving_closes, NobodyLeaving, closed_number, LeavesAtLine}
+use Rattle.wc_turns.specs.Links.{link_number, is_undrained, is_connecting}
+use Rattle.wc_turns.specs.Parties.{has_party, party_count, IsCalm}
+use Rattle.wc_turns.specs.Parts.{leaving_of, Settles, ReadsOn}
+use Rattle.wc_turns.specs.Served.{LeavesAtLine}
 use Rattle.wc_turns.specs.Sources.{NothingBecameReady, TakesNothing, bytes_taken, arrivals}
+use Rattle.wc_turns.specs.Steps.{LosesLink}
 use Rattle.wc_turns.specs.Turns.{AgreesWithSockets, CausedBy, LoopStep, TakesHappening, is_wake, is_listen_fault}
-use Rattle.wc_turns.proofs.KeyedLemmas.{none_of, at_key-key, at_key-put_other, at_key-put_same}
-use Rattle.wc_turns.proofs.ConnectionLemmas.{calm-left, calm-leaving}
+use Rattle.wc_turns.proofs.KeyedLemmas.{none_of, same-keys}
+use Rattle.wc_turns.proofs.PointLemmas.{or_left, sides-kept}
 use Rattle.wc_turns.proofs.TurnLemmas.{Call}
 use Rattle.wc_turns.proofs.StepLemmas.{SameSets}
-use Rattle.wc_turns.proofs.ClosingLemmas.{IsOf, read-of}
-use Rattle.wc_turns.proofs.TakesLemmas.{LoopStep-takes, causes-line, causes-lost}
+use Rattle.wc_turns.proofs.SeatLemmas.{loses-keeps, loses-shut}
+use Rattle.wc_turns.proofs.ClosingLemmas.{IsOf, read-of, stands-of}
+use Rattle.wc_turns.proofs.TakesLemmas.{LoopStep-takes, causes-line, causes-lost, none-arrives, causes-stands}
 use Rattle.wc_turns.proofs.SourceLemmas.{NothingBecameReady-refl, NothingBecameReady-trans, NothingBecameReady-same, bytes_taken-append, arrivals-append}
+use Rattle.wc_board.specs.Served.{StaysOrStarves}
+use Rattle.wc_turns.specs.declared.links.LinkState.{LinkState}
 
 pub ReadsOn-refl : (link : ℕ) (a : Seen) → ReadsOn link a a
 ReadsOn-refl link a = record { falls = NothingBecameReady-refl a; others = λ t k n. refl; clients = λ t. refl }
@@ -48,12 +53,12 @@ ReadsOn-call link a b given falls taken none nobody = record {
   clients = λ t. (let e = ap arrivals (taken t) in let q = arrivals-append a.taken given in omega arith);
 }
 
--- and clients were parted with after it
-pub ReadsOn-parts : (link : ℕ) (x y : Headless) (a b c : Seen) → (IsTrue c.tells → IsTrue b.tells) → ReadsOn link a b → ClosesLeaving x y b c → ReadsOn link a c
-ReadsOn-parts link x y a b c told h parts = record {
-  falls = NothingBecameReady-trans a b c h.falls parts.falls;
-  others = λ t k n. parts.nothing.bytes t k ∙ h.others (told t) k n;
-  clients = λ t. parts.nothing.clients t ∙ h.clients (told t);
+-- and what the core asks for was done after it
+pub ReadsOn-settles : (link : ℕ) (x y : Headless) (a b c : Seen) → (IsTrue c.tells → IsTrue b.tells) → ReadsOn link a b → Settles x y b c → ReadsOn link a c
+ReadsOn-settles link x y a b c told h settles = record {
+  falls = NothingBecameReady-trans a b c h.falls settles.falls;
+  others = λ t k n. settles.nothing.bytes t k ∙ h.others (told t) k n;
+  clients = λ t. settles.nothing.clients t ∙ h.clients (told t);
 }
 
 pub other-bytes : (link : LinkId) (bytes : List ℕ) (k : ℕ) → k ≢ link.0 → bytes_taken k (Read link bytes ∷ []) ≡ 0
@@ -70,76 +75,12 @@ bytes-read link count buffer before after e within =
     let front = length-take count buffer in
     omega arith
 
-open-by : (why : Option Cause) → why ≡ None → is_none why ≡ true
-open-by None e = refl
-open-by (Some cause) e = absurd (let q : Some cause ≡ None = e in cc)
-
--- a link without an open client is closed where no client is leaving
-pub closed-drained : (link : ℕ) (y : Headless) (c : Seen) → AgreesWithSockets y c → NobodyLeaving y.core.connections → is_open_at (at_key connection_link link y.core.connections) ≡ false → c.undrained link ≡ false
-closed-drained link y c s calm closed =
-    let none : at_key connection_link link y.core.connections ≡ None = none-by (at_key connection_link link y.core.connections) refl (calm-leaving link y.core.connections calm) closed in
-    s.among.undrained link ∙ ap is_undrained (none_of _ (sym (s.among.clients link) ∙ ap is_some none))
-  where
-    none-by : (o : Option Connection) → at_key connection_link link y.core.connections ≡ o → leaving_in o ≡ None → is_open_at o ≡ false → o ≡ None
-    none-by None e stays f = refl
-    none-by (Some connection) e stays f = absurd (false≢true (sym f ∙ open-by connection.leaving stays))
-
--- the client of a link was lost, so every other link is spared
-pub spares-left : (link : LinkId) (why : Cause) (connections : List Connection) (k : ℕ) → NobodyLeaving connections → k ≢ link.0 → SparesOthers k (leaving_closes (left_at link.0 why connections (at_key connection_link link.0 connections)))
-spares-left link why connections k calm n = spares-by (at_key connection_link link.0 connections) refl
-  where
-    spares-by : (o : Option Connection) → at_key connection_link link.0 connections ≡ o → SparesOthers k (leaving_closes (left_at link.0 why connections o))
-    spares-by None e = rw (calm-left link why connections None e calm) (All-nil (λ (c : Closed). closed_number c ≢ k))
-    spares-by (Some s) e = rw (calm-left link why connections (Some s) e calm) (All-cons (λ (c : Closed). closed_number c ≢ k) (record { link = link; cause = why }) [] (λ q. n (sym q)) (All-nil (λ (c : Closed). closed_number c ≢ k)))
-
 -- a client came, and none came where the listener failed
 pub arrived-one : (link : LinkId) (nonce : List ℕ) (before after : List Happening) → after ≡ before ++ Accepted link nonce ∷ [] → arrivals after ≡ arrivals before + 1
 arrived-one link nonce before after e = (let all = ap arrivals e in let parts = arrivals-append before (Accepted link nonce ∷ []) in omega arith)
 
 pub arrived-none : (before after : List Happening) → after ≡ before ++ ListenFailed ∷ [] → arrivals after ≡ arrivals before + 0
 arrived-none before after e = (let all = ap arrivals e in let parts = arrivals-append before (ListenFailed ∷ []) in omega arith)
-
--- the connections of the other links stay
-left-other : (link k : ℕ) (why : Cause) (connections : List Connection) (o : Option Connection) → at_key connection_link link connections ≡ o → k ≢ link → at_key connection_link k (left_at link why connections o) ≡ at_key connection_link k connections
-left-other link k why connections None e n = refl
-left-other link k why connections (Some s) e n = left-by (is_open s)
-  where
-    left-by : (t : Bool) → at_key connection_link k (left_if t link why connections s) ≡ at_key connection_link k connections
-    left-by true = at_key-put_other connection_link link k (record s { leaving = Some why }) connections (at_key-key connection_link link connections s e) n
-    left-by false = refl
-
-pub connections-left : (link k : ℕ) (why : Cause) (x y : CoreView) → y ≡ record x { connections = left_at link why x.connections (at_key connection_link link x.connections) } → k ≢ link → at_key connection_link k y.connections ≡ at_key connection_link k x.connections
-connections-left link k why x y e n = ap (λ (s : CoreView). at_key connection_link k s.connections) e ∙ left-other link k why x.connections (at_key connection_link link x.connections) refl n
-
-left-here : (link : ℕ) (why : Cause) (connections : List Connection) (s : Connection) → at_key connection_link link connections ≡ Some s → s.leaving ≡ None → leaving_on link (left_at link why connections (Some s)) ≡ Some why
-left-here link why connections s e stays =
-    let test : is_open s ≡ true = open-by s.leaving stays in
-    rw test (ap leaving_in (at_key-put_same connection_link link s (record s { leaving = Some why }) connections (at_key-key connection_link link connections s e) e))
-
--- a client that was lost and parted with has nothing unsent
-pub unsent-closed : (link : LinkId) (why : Cause) (x : List Connection) (y z : Headless) (b c : Seen) → NobodyLeaving x → y.core.connections ≡ left_at link.0 why x (at_key connection_link link.0 x) → ClosesLeaving y z b c → NobodyLeaving z.core.connections → unsent_on link.0 z.core.connections ≡ []
-unsent-closed link why x y z b c calm left parts calm' = closed-by (at_key connection_link link.0 x) refl (parts.parted link.0)
-  where
-    closed-by : (o : Option Connection) → at_key connection_link link.0 x ≡ o
-        → (at_key connection_link link.0 z.core.connections ≡ None) ⊎ ((leaving_on link.0 z.core.connections ≡ leaving_on link.0 y.core.connections) × (is_some (at_key connection_link link.0 z.core.connections) ≡ is_some (at_key connection_link link.0 y.core.connections))) → unsent_on link.0 z.core.connections ≡ []
-    closed-by o e (inl none) = ap unsent_in none
-    closed-by None e (inr h) =
-        let same : y.core.connections ≡ x = left ∙ ap (left_at link.0 why x) e in
-        ap unsent_in (none_of _ (h.1 ∙ ap (λ ss. is_some (at_key connection_link link.0 ss)) same ∙ ap is_some e))
-    closed-by (Some s) e (inr h) =
-        let stays : s.leaving ≡ None = sym (ap leaving_in e) ∙ calm-leaving link.0 x calm in
-        let leaves : leaving_on link.0 y.core.connections ≡ Some why = ap (leaving_on link.0) (left ∙ ap (left_at link.0 why x) e) ∙ left-here link.0 why x s e stays in
-        absurd (let q : Some why ≡ None = sym (h.0 ∙ leaves) ∙ calm-leaving link.0 z.core.connections calm' in cc)
-
--- and none of them is open any more
-pub closed-gone : (link : ℕ) (y z : Headless) (b c : Seen) → ClosesLeaving y z b c → NobodyLeaving z.core.connections → is_open_at (at_key connection_link link y.core.connections) ≡ false → is_open_at (at_key connection_link link z.core.connections) ≡ false
-closed-gone link y z b c parts calm closed = gone-by (at_key connection_link link y.core.connections) refl closed (parts.parted link)
-  where
-    gone-by : (o : Option Connection) → at_key connection_link link y.core.connections ≡ o → is_open_at o ≡ false
-        → (at_key connection_link link z.core.connections ≡ None) ⊎ ((leaving_on link z.core.connections ≡ leaving_on link y.core.connections) × (is_some (at_key connection_link link z.core.connections) ≡ is_some (at_key connection_link link y.core.connections))) → is_open_at (at_key connection_link link z.core.connections) ≡ false
-    gone-by o e f (inl none) = ap is_open_at none
-    gone-by None e f (inr h) = ap is_open_at (none_of _ (h.1 ∙ ap is_some e))
-    gone-by (Some s) e f (inr h) = absurd (false≢true (sym f ∙ open-by s.leaving (sym (ap leaving_in e) ∙ sym h.0 ∙ calm-leaving link z.core.connections calm)))
 
 pub and-not-none : (b t : Bool) → (b && not (t && false)) ≡ b
 and-not-none true true = refl
@@ -159,23 +100,121 @@ pub record Gave (a b : Seen) (h : Happening) : Type 0 where
   pub call : Call a b (h ∷ [])
   pub sent : IsTrue b.tells → (k : ℕ) → b.sent k ≡ a.sent k
   pub choked : IsTrue b.tells → (k : ℕ) → b.choked k ≡ a.choked k
+  pub asked : IsTrue b.tells → b.asked ≡ a.asked
   pub same : SameSets a b
 
 -- bytes were read and served
-pub LoopStep-read : (x y : Headless) (link : LinkId) (bytes : List ℕ) (a b : Seen) → Gave a b (Read link bytes) → NobodyLeaving x.core.connections → x.core.quits ≡ false → TakesHappening x y (Read link bytes) → LeavesAtLine link.0 x.core y.core → LoopStep true 0 0 x y a b
+pub LoopStep-read : (x y : Headless) (link : LinkId) (bytes : List ℕ) (a b : Seen) → Gave a b (Read link bytes) → IsCalm x.core → x.core.quits ≡ false → TakesHappening x y (Read link bytes) → LeavesAtLine link.0 x.core y.core → LoopStep true 0 0 x y a b
 LoopStep-read x y link bytes a b gave calm going takes causes =
-    LoopStep-takes x y link a b (Read link bytes) refl gave.call gave.sent gave.choked gave.same calm going takes
-    (λ taken. read-of link.0 (tail_on link.0 taken) bytes) (causes-line link bytes x.core y.core a b calm causes gave.call.taken) causes.saves
+    LoopStep-takes x y link a b (Read link bytes) refl gave.call gave.sent gave.choked gave.asked gave.same calm going takes causes.rises
+    (λ taken. read-of link.0 (tail_on link.0 taken) bytes)
+    (λ s. causes-line link bytes x y a b calm causes gave.call.taken s.among.once (takes.servers.seats s.among.seats) (sides-kept x.core y.core takes.servers)) causes.saves
 
-pub ReadsOn-read : (x y : Headless) (link : LinkId) (bytes : List ℕ) (a b c : Seen) → Gave a b (Read link bytes) → (IsTrue c.tells → IsTrue b.tells) → ClosesLeaving x y b c → ReadsOn link.0 a c
-ReadsOn-read x y link bytes a b c gave told parts =
-    ReadsOn-parts link.0 x y a b c told (ReadsOn-call link.0 a b (Read link bytes ∷ []) (NothingBecameReady-same a b gave.same.undrained gave.same.listening) gave.call.taken (other-bytes link bytes) refl) parts
+pub ReadsOn-read : (x y : Headless) (link : LinkId) (bytes : List ℕ) (a b c : Seen) → Gave a b (Read link bytes) → (IsTrue c.tells → IsTrue b.tells) → Settles x y b c → ReadsOn link.0 a c
+ReadsOn-read x y link bytes a b c gave told settles =
+    ReadsOn-settles link.0 x y a b c told (ReadsOn-call link.0 a b (Read link bytes ∷ []) (NothingBecameReady-same a b gave.same.undrained gave.same.listening) gave.call.taken (other-bytes link bytes) refl) settles
 
--- a client was lost
-pub LoopStep-lost : (x y : Headless) (link : LinkId) (h : Happening) (why : Cause) (a b : Seen) → Gave a b h → is_wake h ≡ 0 → is_listen_fault h ≡ 0 → NobodyLeaving x.core.connections → x.core.quits ≡ false → TakesHappening x y h → ((taken : List Happening) → All (IsOf link.0) (events_of taken h))
-    → y.core ≡ record x.core { connections = left_at link.0 why x.core.connections (at_key connection_link link.0 x.core.connections) } → CausedBy why link.0 a b → LoopStep true 0 0 x y a b
-LoopStep-lost x y link h why a b gave wake listen calm going takes of core cause =
-    let connections = ap (λ (c : CoreView). c.connections) core in
+-- a link was lost
+pub LoopStep-lost : (x y : Headless) (link : LinkId) (h : Happening) (why : Cause) (a b : Seen) → Gave a b h → is_wake h ≡ 0 → is_listen_fault h ≡ 0 → IsCalm x.core → x.core.quits ≡ false → TakesHappening x y h → ((taken : List Happening) → All (IsOf link.0) (events_of taken h))
+    → LosesLink link.0 why x.core y.core → CausedBy why link.0 a b → LoopStep true 0 0 x y a b
+LoopStep-lost x y link h why a b gave wake listen calm going takes of loses cause =
     subst (λ n. LoopStep true 0 n x y a b) listen
-    (LoopStep-takes x y link a b h wake gave.call gave.sent gave.choked gave.same calm going takes of
-    (λ distinct. rw connections (causes-lost link why x.core.connections a b calm cause)) (saves-as x.core y.core _ core refl refl))
+    (LoopStep-takes x y link a b h wake gave.call gave.sent gave.choked gave.asked gave.same calm going takes loses.keeps.rises of
+    (λ s. causes-lost link why x y a b h calm loses s.among.once (takes.servers.seats s.among.seats) (sides-kept x.core y.core takes.servers) gave.call.taken (λ k. none-arrives link k h (of [])) cause) loses.keeps.saves)
+
+-- a connection stands
+pub LoopStep-stood : (x y : Headless) (link : LinkId) (a b : Seen) → Gave a b (Connected link) → IsCalm x.core → x.core.quits ≡ false → TakesHappening x y (Connected link) → KeepsClients x.core y.core
+    → (Distinct (links_of x.core) → (k : ℕ) → StaysOrStarves (leaving_on k x.core.connections) (leaving_on k y.core.connections)) → LoopStep true 0 0 x y a b
+LoopStep-stood x y link a b gave calm going takes keeps stays =
+    LoopStep-takes x y link a b (Connected link) refl gave.call gave.sent gave.choked gave.asked gave.same calm going takes keeps.rises
+    (λ taken. stands-of link.0)
+    (λ s. causes-stands x y a b (Connected link ∷ []) calm keeps.links s.among.once (takes.servers.seats s.among.seats) (sides-kept x.core y.core takes.servers) gave.call.taken (λ k. refl) (stays s.among.once)) keeps.saves
+
+-- one that does not stand is there
+pub connecting-there : (o : Option LinkState) → is_connecting o ≡ true → is_some o ≡ true
+connecting-there (Some state) e = refl
+connecting-there None e = absurd (false≢true e)
+
+-- ---- who is at a link that was lost
+
+leaves-shut : (o : Option Connection) → is_some o ≡ true → is_open_at o ≡ false → IsSome (leaving_in o)
+leaves-shut None there shut = absurd (false≢true there)
+leaves-shut (Some s) there shut = leaves-by s.leaving shut
+  where
+    leaves-by : (why : Option Cause) → is_none why ≡ false → IsSome why
+    leaves-by None e = absurd (false≢true (sym e))
+    leaves-by (Some cause) e = refl
+
+seat-shut : (o : Option SeatView) → is_some o ≡ true → server_is_open_at o ≡ false → IsSome (server_leaving_in o)
+seat-shut None there shut = absurd (false≢true there)
+seat-shut (Some s) there shut = leaves-by s.leaving shut
+  where
+    leaves-by : (why : Option Cause) → is_none why ≡ false → IsSome why
+    leaves-by None e = absurd (false≢true (sym e))
+    leaves-by (Some cause) e = refl
+
+pub some-second : (a b : Option Cause) → IsSome b → IsSome (or_else a b)
+some-second None b h = h
+some-second (Some cause) b h = refl
+
+pub some-first : (a b : Option Cause) → IsSome a → IsSome (or_else a b)
+some-first None b h = absurd (false≢true h)
+some-first (Some cause) b h = refl
+
+-- who is at the link is leaving after it
+pub lost-leaves : (link : ℕ) (why : Cause) (x y : CoreView) → LosesLink link why x y → has_party link x ≡ true → IsSome (leaving_of link y)
+lost-leaves link why x y loses there = leaves-by (at_key connection_link link x.connections) refl loses.server
+  where
+    client : is_some (at_key connection_link link y.connections) ≡ is_some (at_key connection_link link x.connections)
+    client = same-keys connection_link link y.connections x.connections loses.keeps.links
+
+    server : LosesServer (is_open_at (at_key connection_link link x.connections)) link why x.servers y.servers → is_some (at_key seat_link link y.servers.seats) ≡ is_some (at_key seat_link link x.servers.seats)
+    server h = same-keys seat_link link y.servers.seats x.servers.seats (loses-keeps (is_open_at (at_key connection_link link x.connections)) link why x.servers y.servers h).links
+
+    leaves-by : (o : Option Connection) → at_key connection_link link x.connections ≡ o → LosesServer (is_open_at (at_key connection_link link x.connections)) link why x.servers y.servers → IsSome (leaving_of link y)
+    leaves-by (Some s) e h = some-second (server_leaving_on link y.servers.seats) (leaving_on link y.connections) (leaves-shut (at_key connection_link link y.connections) (client ∙ ap is_some e) loses.gone)
+    leaves-by None e h =
+        let seat : is_some (at_key seat_link link x.servers.seats) ≡ true = ap (λ o. is_some o || is_some (at_key seat_link link x.servers.seats)) (sym e) ∙ there in
+        let shut : is_open_at (at_key connection_link link x.connections) ≡ false = ap is_open_at e in
+        some-first (server_leaving_on link y.servers.seats) (leaving_on link y.connections)
+        (seat-shut (at_key seat_link link y.servers.seats) (server h ∙ seat) (loses-shut link why x.servers y.servers (subst (λ t. LosesServer t link why x.servers y.servers) shut h)))
+
+pub lost-has : (link : ℕ) (why : Cause) (x y : CoreView) → LosesLink link why x y → (k : ℕ) → has_party k y ≡ has_party k x
+lost-has link why x y loses k =
+    ap (λ t. t || is_some (at_key seat_link k y.servers.seats)) (same-keys connection_link k y.connections x.connections loses.keeps.links)
+    ∙ ap (λ t. is_some (at_key connection_link k x.connections) || t) (same-keys seat_link k y.servers.seats x.servers.seats (loses-keeps (is_open_at (at_key connection_link link x.connections)) link why x.servers y.servers loses.server).links)
+
+map-length : {X : Type 0} (f : X → ℕ) (xs : List X) → length (map f xs) ≡ length xs
+map-length f [] = refl
+map-length f (x ∷ xs) = let ih = map-length f xs in omega arith
+
+pub lost-count : (link : ℕ) (why : Cause) (x y : CoreView) → LosesLink link why x y → party_count y ≡ party_count x
+lost-count link why x y loses =
+    let c = ap length loses.keeps.links in
+    let s = ap length (loses-keeps (is_open_at (at_key connection_link link x.connections)) link why x.servers y.servers loses.server).links in
+    let c1 = map-length connection_link y.connections in
+    let c2 = map-length connection_link x.connections in
+    let s1 = map-length seat_link y.servers.seats in
+    let s2 = map-length seat_link x.servers.seats in
+    omega arith
+
+-- a link that is kept has somebody
+pub kept-party : (link : ℕ) (x : Headless) (a : Seen) → AgreesWithSockets x a → is_some (at_key link_number link x.links.opened.items) ≡ true → has_party link x.core ≡ true
+kept-party link x a s there = s.among.parties link ∙ ap (λ t. t || is_wanted link x.core.servers.wanted) there
+
+-- and its number is used
+pub kept-used : (link : ℕ) (x : Headless) (a : Seen) → AgreesWithSockets x a → is_some (at_key link_number link x.links.opened.items) ≡ true → link ≤ x.used
+kept-used link x a s there = used-by (nat_le link x.used) refl
+  where
+    used-by : (t : Bool) → nat_le link x.used ≡ t → link ≤ x.used
+    used-by true e = grind (arith, nat_tests)
+    used-by false e =
+        let above : x.used < link = grind (arith, nat_tests) in
+        absurd (false≢true (sym (ap is_some (s.among.unknown link above)) ∙ there))
+
+-- a link that was lost is closed, so it is drained
+pub settled-drained : (link : ℕ) (y z : Headless) (b c : Seen) → AgreesWithSockets z c → Settles y z b c → IsSome (leaving_of link y.core) → c.undrained link ≡ false
+settled-drained link y z b c s settles leaves =
+    let nobody : has_party link z.core ≡ false = settles.parted link leaves in
+    let none : is_some (at_key link_number link z.links.opened.items) ≡ false = or_left _ _ (sym (s.among.parties link) ∙ nobody) in
+    s.among.undrained link ∙ ap is_undrained (none_of _ none)

@@ -17,7 +17,32 @@ use Rattle.wc_turns.proofs.TurnLemmas.{LoopStep-as}
 -- ---- nothing else changes as it is written
 
 pub agrees-written : (h : Headless) (seen : Seen) → AgreesWithSockets h seen → AgreesWithSockets (written_state h) seen
-agrees-written h seen s = record { among = s.among; told = s.told }
+agrees-written h seen s =
+    let a = s.among in
+    record {
+      among = record {
+        counted = a.counted;
+        there = a.there;
+        undrained = a.undrained;
+        blocked = a.blocked;
+        listens = a.listens;
+        parties = a.parties;
+        alone = a.alone;
+        once = a.once;
+        seats = a.seats;
+        order = a.order;
+        apart = a.apart;
+        unknown = a.unknown;
+        clients = a.clients;
+        unrefused = a.unrefused;
+        spared = a.spared;
+        next = a.next;
+        reached = a.reached;
+        limited = a.limited;
+      };
+      told = s.told;
+      idle = s.idle;
+    }
 
 takes-written : (x h : Headless) (a b : Seen) (ran ran' : ℕ) (closed : List Closed) (more : List Happening) → CoreTakes (moment x a) (moment h b) ran ran' closed more → CoreTakes (moment x a) (moment (written_state h) b) ran ran' closed more
 takes-written x h a b ran ran' closed more c = record {
@@ -26,13 +51,13 @@ takes-written x h a b ran ran' closed more c = record {
   rises = c.rises;
   advances = λ same below told were.
       let m = c.advances same below told were in
-      record { means = record { same = m.means.same; told = m.means.told }; stops = m.stops; hands = m.hands; closes = m.closes; quits = m.quits };
+      record { means = record { same = m.means.same; told = m.means.told }; stops = m.stops; hands = m.hands; sides = record { clients = m.sides.clients; servers = m.sides.servers }; asks = m.asks; closes = m.closes; quits = m.quits };
   silent = c.silent;
   last = c.last;
 }
 
 pub step-written : {n f : ℕ} (x h : Headless) (a b : Seen) → LoopStep false n f x h a b → LoopStep false n f x (written_state h) a b
-step-written x h a b s = LoopStep-as x h (written_state h) a b refl (λ over. over) (agrees-written h b) (λ closed more. takes-written x h a b x.ran h.ran closed more) s
+step-written x h a b s = LoopStep-as x h (written_state h) a b refl refl refl refl (λ over. over) (agrees-written h b) (λ closed more. takes-written x h a b x.ran h.ran closed more) s
 
 pub closes-written : (x h : Headless) (a b : Seen) → ClosesExactly x h a b → ClosesExactly x (written_state h) a b
 closes-written x h a b c = record { gained = c.gained; taken = c.taken; events = c.events; reaches = c.reaches; closed = c.closed }

@@ -1,5 +1,5 @@
 -- How the sources that a wait named are served, and those that an earlier turn left.
-use Rattle.std.proofs.Common.{◌≡◌, ◌≢◌, ℕ, zero, suc, ◌+◌, ◌<◌, ◌≤◌, ◌⊎◌, inl, inr, Bool, true, false, not, eqb, nat_lt, ◌&&◌, ◌||◌, List, [], ◌∷◌, length, take, slice_index_or, Option, Some, None, IfSome, Result, Ok, Err, OnOk, OnErr, is_ok, is_err, IsTrue, refl, sym, ap, ◌∙◌, subst, arith}
+use Rattle.std.proofs.Common.{◌≡◌, ◌≢◌, ℕ, zero, suc, ◌+◌, ◌<◌, ◌≤◌, ◌⊎◌, inl, inr, Bool, true, false, not, eqb, nat_lt, ◌&&◌, ◌||◌, List, [], ◌∷◌, ◌++◌, length, take, slice_index_or, Option, Some, None, IfSome, Result, Ok, Err, OnOk, OnErr, is_ok, is_err, IsTrue, refl, sym, ap, ◌∙◌, subst, arith}
 use Rattle.std.specs.List.{list_any}
 use Rattle.std.proofs.lemmas.Bool.{false≢true}
 use Rattle.std.proofs.lemmas.Bool.Decides.{nat_tests}
@@ -13,13 +13,15 @@ use Rattle.wc_outside.specs.declared.happening.Failed.{Failed as Fault}
 use Rattle.wc_outside.specs.declared.sockets.Token.{Token}
 use Rattle.wc_outside.specs.declared.sockets.Token.TheVariants.{Listener, Link}
 use Rattle.wc_board.specs.declared.connection.Connection.{Connection}
-use Rattle.wc_board.specs.Connections.{connection_link, unsent_in, unsent_on}
+use Rattle.wc_board.specs.Connections.{connection_link, unsent_in}
+use Rattle.wc_servers.specs.Seats.{SeatView, seat_link, unsent_in as server_unsent_in}
+use Rattle.wc_core.specs.CoreView.{CoreView}
 use Rattle.wc_turns.specs.declared.headless.Headless.{Headless}
 use Rattle.wc_turns.specs.declared.links.LinkState.{LinkState}
 use Rattle.wc_turns.specs.Contained.{KeepsLinks}
 use Rattle.wc_turns.specs.Links.{link_number, is_undrained, is_blocked}
-use Rattle.wc_turns.specs.Served.{NobodyLeaving}
-use Rattle.wc_turns.specs.Sources.{bytes_taken, arrivals, NothingBecameReady, IsServed, IsHeard, IsWritten, IsSent, AllServed, AllSent, ServesNamed, TakesWithin, TakesNothing, has_flag, may_write, is_left_over}
+use Rattle.wc_turns.specs.Parties.{unsent_on, IsCalm}
+use Rattle.wc_turns.specs.Sources.{bytes_taken, arrivals, NothingBecameReady, IsServed, IsHeard, IsWritten, IsSent, AllServed, AllSent, ServesNamed, TakesWithin, TakesNothing, has_flag, may_write, may_write_seat, may_write_on, is_left_over}
 use Rattle.wc_turns.specs.Turns.{AgreesWithSockets, LoopStep, faults_of}
 use Rattle.wc_turns.proofs.KeyedLemmas.{at_key-key}
 use Rattle.wc_turns.proofs.CauseLemmas.{gained-later, gained-following}
@@ -98,39 +100,49 @@ no-bytes : (bytes : List ℕ) → length bytes ≡ 0 → bytes ≡ []
 no-bytes [] q = refl
 no-bytes (b ∷ bytes) q = absurd (omega arith)
 
--- a client that is passed over has no unsent bytes, or its link is kept as one without room
+-- who is passed over has no unsent bytes, or its link is kept as one without room
 passed-by : (unsent blocked : Bool) → (unsent && not blocked) ≡ false → (unsent ≡ false) ⊎ (blocked ≡ true)
 passed-by true true e = inr refl
 passed-by true false e = absurd (false≢true (sym e))
 passed-by false blocked e = inl refl
 
-passed-over : (states : List LinkState) (k : ℕ) (o : Option Connection) → IfSome o (λ s. connection_link s ≡ k) → has_flag (may_write states) o ≡ false → (unsent_in o ≡ []) ⊎ (is_blocked (at_key link_number k states) ≡ true)
-passed-over states k None key e = inl refl
-passed-over states k (Some s) key e = by (passed-by (not (eqb (length s.session.unsent) 0)) (is_blocked (at_key link_number (connection_link s) states)) e)
+passed-bytes : (states : List LinkState) (k link : ℕ) (unsent : List ℕ) → link ≡ k → (not (eqb (length unsent) 0) && not (is_blocked (at_key link_number link states))) ≡ false → (unsent ≡ []) ⊎ (is_blocked (at_key link_number k states) ≡ true)
+passed-bytes states k link unsent key e = by (passed-by (not (eqb (length unsent) 0)) (is_blocked (at_key link_number link states)) e)
   where
-    by : (not (eqb (length s.session.unsent) 0) ≡ false) ⊎ (is_blocked (at_key link_number (connection_link s) states) ≡ true) → (s.session.unsent ≡ []) ⊎ (is_blocked (at_key link_number k states) ≡ true)
-    by (inl q) = inl (no-bytes s.session.unsent (not-zero (length s.session.unsent) q))
+    by : (not (eqb (length unsent) 0) ≡ false) ⊎ (is_blocked (at_key link_number link states) ≡ true) → (unsent ≡ []) ⊎ (is_blocked (at_key link_number k states) ≡ true)
+    by (inl q) = inl (no-bytes unsent (not-zero (length unsent) q))
     by (inr q) = inr (subst (λ i. is_blocked (at_key link_number i states) ≡ true) key q)
 
-connection-key : (k : ℕ) (connections : List Connection) (o : Option Connection) → at_key connection_link k connections ≡ o → IfSome o (λ s. connection_link s ≡ k)
-connection-key k connections None e = tt
-connection-key k connections (Some s) e = at_key-key connection_link k connections s e
+passed-client : (states : List LinkState) (k : ℕ) (connections : List Connection) (o : Option Connection) → at_key connection_link k connections ≡ o → has_flag (may_write states) o ≡ false → (unsent_in o ≡ []) ⊎ (is_blocked (at_key link_number k states) ≡ true)
+passed-client states k connections None f e = inl refl
+passed-client states k connections (Some s) f e = passed-bytes states k (connection_link s) s.session.unsent (at_key-key connection_link k connections s f) e
+
+passed-seat : (states : List LinkState) (k : ℕ) (seats : List SeatView) (o : Option SeatView) → at_key seat_link k seats ≡ o → has_flag (may_write_seat states) o ≡ false → (server_unsent_in o ≡ []) ⊎ (is_blocked (at_key link_number k states) ≡ true)
+passed-seat states k seats None f e = inl refl
+passed-seat states k seats (Some s) f e = passed-bytes states k s.link s.unsent (at_key-key seat_link k seats s f) e
+
+both-false : (a b : Bool) → (a || b) ≡ false → (a ≡ false) × (b ≡ false)
+both-false true b e = absurd (false≢true (sym e))
+both-false false b e = (refl, e)
 
 -- what holds of a link without unsent bytes, and of one without room for them, holds of one that is passed over
-passed : (states : List LinkState) (k : ℕ) (connections : List Connection) (P : Type 0) → (unsent_on k connections ≡ [] → P) → (is_blocked (at_key link_number k states) ≡ true → P) → has_flag (may_write states) (at_key connection_link k connections) ≡ false → P
-passed states k connections P empty blocked e = by (passed-over states k (at_key connection_link k connections) (connection-key k connections _ refl) e)
+passed : (states : List LinkState) (k : ℕ) (core : CoreView) (P : Type 0) → (unsent_on k core ≡ [] → P) → (is_blocked (at_key link_number k states) ≡ true → P) → may_write_on k states core ≡ false → P
+passed states k core P empty blocked e =
+    let parts = both-false (has_flag (may_write states) (at_key connection_link k core.connections)) (has_flag (may_write_seat states) (at_key seat_link k core.servers.seats)) e in
+    by (passed-client states k core.connections (at_key connection_link k core.connections) refl parts.0) (passed-seat states k core.servers.seats (at_key seat_link k core.servers.seats) refl parts.1)
   where
-    by : (unsent_on k connections ≡ []) ⊎ (is_blocked (at_key link_number k states) ≡ true) → P
-    by (inl q) = empty q
-    by (inr q) = blocked q
+    by : (unsent_in (at_key connection_link k core.connections) ≡ []) ⊎ (is_blocked (at_key link_number k states) ≡ true) → (server_unsent_in (at_key seat_link k core.servers.seats) ≡ []) ⊎ (is_blocked (at_key link_number k states) ≡ true) → P
+    by (inl p) (inl q) = empty (ap (λ xs. xs ++ server_unsent_in (at_key seat_link k core.servers.seats)) p ∙ q)
+    by (inl p) (inr q) = blocked q
+    by (inr p) q = blocked p
 
 -- one more link was gone through: what holds of links that are passed over, and of those gone through, holds of this one
-pub passed-next : (states : List LinkState) (k last link : ℕ) (connections : List Connection) (P Q : Type 0) → (k ≤ last → P) → (unsent_on k connections ≡ [] → P) → (is_blocked (at_key link_number k states) ≡ true → P)
-    → (last < k → k < link → has_flag (may_write states) (at_key connection_link k connections) ≡ false) → (k ≢ link → P → Q) → (k ≡ link → Q) → k ≤ link → Q
-passed-next states k last link connections P Q low empty blocked between others done most = go (eqb k link) refl
+pub passed-next : (states : List LinkState) (k last link : ℕ) (core : CoreView) (P Q : Type 0) → (k ≤ last → P) → (unsent_on k core ≡ [] → P) → (is_blocked (at_key link_number k states) ≡ true → P)
+    → (last < k → k < link → may_write_on k states core ≡ false) → (k ≢ link → P → Q) → (k ≡ link → Q) → k ≤ link → Q
+passed-next states k last link core P Q low empty blocked between others done most = go (eqb k link) refl
   where
     before : k ≢ link → (t : Bool) → nat_lt last k ≡ t → P
-    before n true e = passed states k connections P empty blocked (between (grind (arith, nat_tests)) (grind (arith, nat_tests)))
+    before n true e = passed states k core P empty blocked (between (grind (arith, nat_tests)) (grind (arith, nat_tests)))
     before n false e = low (grind (arith, nat_tests))
 
     go : (t : Bool) → eqb k link ≡ t → Q
@@ -138,12 +150,12 @@ passed-next states k last link connections P Q low empty blocked between others 
     go false e = let n : k ≢ link = λ q. grind (arith, nat_tests) in others n (before n (nat_lt last k) refl)
 
 -- every other link is passed over
-pub passed-rest : (states : List LinkState) (k last : ℕ) (connections : List Connection) (P : Type 0) → (k ≤ last → P) → (unsent_on k connections ≡ [] → P) → (is_blocked (at_key link_number k states) ≡ true → P)
-    → (last < k → has_flag (may_write states) (at_key connection_link k connections) ≡ false) → P
-passed-rest states k last connections P low empty blocked above = go (nat_lt last k) refl
+pub passed-rest : (states : List LinkState) (k last : ℕ) (core : CoreView) (P : Type 0) → (k ≤ last → P) → (unsent_on k core ≡ [] → P) → (is_blocked (at_key link_number k states) ≡ true → P)
+    → (last < k → may_write_on k states core ≡ false) → P
+passed-rest states k last core P low empty blocked above = go (nat_lt last k) refl
   where
     go : (t : Bool) → nat_lt last k ≡ t → P
-    go true e = passed states k connections P empty blocked (above (grind (arith, nat_tests)))
+    go true e = passed states k core P empty blocked (above (grind (arith, nat_tests)))
     go false e = low (grind (arith, nat_tests))
 
 -- what the loop keeps of a link without room is that of the sockets
@@ -153,41 +165,41 @@ pub record KnowsBlocked (states : List LinkState) (k : ℕ) (seen : Seen) : Type
 pub blocked-kept : (h : Headless) (k : ℕ) (seen : Seen) → AgreesWithSockets h seen → KnowsBlocked h.links.opened.items k seen
 blocked-kept h k seen s = record { is = λ b. s.among.blocked k ∙ b }
 
-pub written-next : (states : List LinkState) (k last link : ℕ) (connections after : List Connection) (a b : Seen) → KnowsBlocked states k a → (k ≤ last → IsWritten k connections a) → (last < k → k < link → has_flag (may_write states) (at_key connection_link k connections) ≡ false)
-    → (k ≢ link → IsWritten k connections a → IsWritten k after b) → IsWritten link after b → k ≤ link → IsWritten k after b
-written-next states k last link connections after a b known low between others done most =
-    passed-next states k last link connections (IsWritten k connections a) (IsWritten k after b) low (λ e. inl e) (λ e. inr (known.is e)) between others (λ same. subst (λ j. IsWritten j after b) (sym same) done) most
+pub written-next : (states : List LinkState) (k last link : ℕ) (core after : CoreView) (a b : Seen) → KnowsBlocked states k a → (k ≤ last → IsWritten k core a) → (last < k → k < link → may_write_on k states core ≡ false)
+    → (k ≢ link → IsWritten k core a → IsWritten k after b) → IsWritten link after b → k ≤ link → IsWritten k after b
+written-next states k last link core after a b known low between others done most =
+    passed-next states k last link core (IsWritten k core a) (IsWritten k after b) low (λ e. inl e) (λ e. inr (known.is e)) between others (λ same. subst (λ j. IsWritten j after b) (sym same) done) most
 
-pub written-rest : (states : List LinkState) (k last : ℕ) (connections : List Connection) (a : Seen) → KnowsBlocked states k a → (k ≤ last → IsWritten k connections a) → (last < k → has_flag (may_write states) (at_key connection_link k connections) ≡ false) → IsWritten k connections a
-written-rest states k last connections a known low above = passed-rest states k last connections (IsWritten k connections a) low (λ e. inl e) (λ e. inr (known.is e)) above
+pub written-rest : (states : List LinkState) (k last : ℕ) (core : CoreView) (a : Seen) → KnowsBlocked states k a → (k ≤ last → IsWritten k core a) → (last < k → may_write_on k states core ≡ false) → IsWritten k core a
+written-rest states k last core a known low above = passed-rest states k last core (IsWritten k core a) low (λ e. inl e) (λ e. inr (known.is e)) above
 
 -- ---- links are written after the end
 
 -- what was sent stays so where a link is not written again
-pub IsSent-later : (k : ℕ) (connections after : List Connection) (a b c : Seen) → Later b c → NeverFall b.faults c.faults → unsent_on k after ≡ unsent_on k connections → c.blocked k ≡ b.blocked k → IsSent k connections a b → IsSent k after a c
-IsSent-later k connections after a b c later counts unsent blocked (inl e) = inl (unsent ∙ e)
-IsSent-later k connections after a b c later counts unsent blocked (inr (inl e)) = inr (inl (blocked ∙ e))
-IsSent-later k connections after a b c later counts unsent blocked (inr (inr h)) =
+pub IsSent-later : (k : ℕ) (core after : CoreView) (a b c : Seen) → Later b c → NeverFall b.faults c.faults → unsent_on k after ≡ unsent_on k core → c.blocked k ≡ b.blocked k → IsSent k core a b → IsSent k after a c
+IsSent-later k core after a b c later counts unsent blocked (inl e) = inl (unsent ∙ e)
+IsSent-later k core after a b c later counts unsent blocked (inr (inl e)) = inr (inl (blocked ∙ e))
+IsSent-later k core after a b c later counts unsent blocked (inr (inr h)) =
     inr (inr ((let p = h.0 in let q = counts.links in omega arith), λ t. gained-later a b c _ later.more (later.taken t) (h.1 (later.told t))))
 
-pub IsSent-following : (k : ℕ) (connections : List Connection) (a b c : Seen) → Later a b → Later b c → NeverFall a.faults b.faults → IsSent k connections b c → IsSent k connections a c
-IsSent-following k connections a b c first later counts (inl e) = inl e
-IsSent-following k connections a b c first later counts (inr (inl e)) = inr (inl e)
-IsSent-following k connections a b c first later counts (inr (inr h)) =
+pub IsSent-following : (k : ℕ) (core : CoreView) (a b c : Seen) → Later a b → Later b c → NeverFall a.faults b.faults → IsSent k core b c → IsSent k core a c
+IsSent-following k core a b c first later counts (inl e) = inl e
+IsSent-following k core a b c first later counts (inr (inl e)) = inr (inl e)
+IsSent-following k core a b c first later counts (inr (inr h)) =
     inr (inr ((let p = h.0 in let q = counts.links in omega arith), λ t. gained-following a b c _ first.more (first.taken (later.told t)) (h.1 t)))
 
-pub AllSent-following : (connections : List Connection) (a b c : Seen) → Later a b → Later b c → NeverFall a.faults b.faults → AllSent connections b c → AllSent connections a c
-AllSent-following connections a b c first later counts h = λ k one. IsSent-following k connections a b c first later counts (h k one)
+pub AllSent-following : (core : CoreView) (a b c : Seen) → Later a b → Later b c → NeverFall a.faults b.faults → AllSent core b c → AllSent core a c
+AllSent-following core a b c first later counts h = λ k one. IsSent-following k core a b c first later counts (h k one)
 
-pub sent-next : (states : List LinkState) (k last link : ℕ) (connections after : List Connection) (a b c : Seen) → KnowsBlocked states k b → Later a b → Later b c → NeverFall a.faults b.faults → NeverFall b.faults c.faults → (k ≤ last → IsSent k connections a b) → (last < k → k < link → has_flag (may_write states) (at_key connection_link k connections) ≡ false)
-    → (k ≢ link → (unsent_on k after ≡ unsent_on k connections) × (c.blocked k ≡ b.blocked k)) → IsSent link after b c → k ≤ link → IsSent k after a c
-sent-next states k last link connections after a b c known first later fell counts low between others done most =
-    passed-next states k last link connections (IsSent k connections a b) (IsSent k after a c) low (λ e. inl e) (λ e. inr (inl (known.is e))) between
-    (λ n h. IsSent-later k connections after a b c later counts (others n).0 (others n).1 h)
+pub sent-next : (states : List LinkState) (k last link : ℕ) (core after : CoreView) (a b c : Seen) → KnowsBlocked states k b → Later a b → Later b c → NeverFall a.faults b.faults → NeverFall b.faults c.faults → (k ≤ last → IsSent k core a b) → (last < k → k < link → may_write_on k states core ≡ false)
+    → (k ≢ link → (unsent_on k after ≡ unsent_on k core) × (c.blocked k ≡ b.blocked k)) → IsSent link after b c → k ≤ link → IsSent k after a c
+sent-next states k last link core after a b c known first later fell counts low between others done most =
+    passed-next states k last link core (IsSent k core a b) (IsSent k after a c) low (λ e. inl e) (λ e. inr (inl (known.is e))) between
+    (λ n h. IsSent-later k core after a b c later counts (others n).0 (others n).1 h)
     (λ same. IsSent-following k after a b c first later fell (subst (λ j. IsSent j after b c) (sym same) done)) most
 
-pub sent-rest : (states : List LinkState) (k last : ℕ) (connections : List Connection) (a b : Seen) → KnowsBlocked states k b → (k ≤ last → IsSent k connections a b) → (last < k → has_flag (may_write states) (at_key connection_link k connections) ≡ false) → IsSent k connections a b
-sent-rest states k last connections a b known low above = passed-rest states k last connections (IsSent k connections a b) low (λ e. inl e) (λ e. inr (inl (known.is e))) above
+pub sent-rest : (states : List LinkState) (k last : ℕ) (core : CoreView) (a b : Seen) → KnowsBlocked states k b → (k ≤ last → IsSent k core a b) → (last < k → may_write_on k states core ≡ false) → IsSent k core a b
+sent-rest states k last core a b known low above = passed-rest states k last core (IsSent k core a b) low (λ e. inl e) (λ e. inr (inl (known.is e))) above
 
 -- ---- links that an earlier turn left
 
@@ -301,7 +313,7 @@ not-more p front all token more e = go (list_any p front) (p token) (sym (more.a
 still-more : (p : Token → Bool) (front all : List Token) (token : Token) → IsMore front all token → IsTrue (list_any p front) → IsTrue (list_any p all)
 still-more p front all token more h = more.any p ∙ ap (λ b. b || p token) h
 
-pub Named-none : (x : Headless) (a : Seen) → NobodyLeaving x.core.connections → ServesNamed [] 0 x x a a
+pub Named-none : (x : Headless) (a : Seen) → IsCalm x.core → ServesNamed [] 0 x x a a
 Named-none x a calm = record {
   continues = LoopStep-refl x a;
   calm = calm;
@@ -350,7 +362,7 @@ Named-link-again front all link faults x y a b more named h = record {
 
 -- a link is read
 pub Named-link : (front all : List Token) (link : LinkId) (faults : ℕ) (x y z : Headless) (a b c : Seen) → IsMore front all (Link link) → list_any (is_link link.0) front ≡ false → y.core.quits ≡ false → ServesNamed front faults x y a b
-    → LoopStep true 0 0 y z b c → NobodyLeaving z.core.connections → NothingBecameReady b c → KeepsLinks y z → (AgreesWithSockets y b → z.core.quits ≡ false → IsServed link.0 b c) → TakesOf link.0 b c → ServesNamed all faults x z a c
+    → LoopStep true 0 0 y z b c → IsCalm z.core → NothingBecameReady b c → KeepsLinks y z → (AgreesWithSockets y b → z.core.quits ≡ false → IsServed link.0 b c) → TakesOf link.0 b c → ServesNamed all faults x z a c
 Named-link front all link faults x y z a b c more out going h continues calm falls contained served takes =
     let later = later-of b c continues in
     record {
@@ -385,7 +397,7 @@ Named-link front all link faults x y z a b c more out going h continues calm fal
 
 -- the listener is asked for arrivals
 pub Named-listener : {A : Type 0} (r : Result A Fault) (front all : List Token) (faults : ℕ) (x y z : Headless) (a b c : Seen) → IsMore front all Listener → list_any is_listener front ≡ false → y.core.quits ≡ false → ServesNamed front faults x y a b
-    → LoopStep true 0 (faults_of r) y z b c → NobodyLeaving z.core.connections → NothingBecameReady b c → (AgreesWithSockets y b → KeepsLinks y z) → OnOk r (IsHeard b c) → OnErr r (Rose b.faults.listens c.faults.listens) → (IsTrue c.tells → arrivals c.taken ≤ arrivals b.taken + 1024) → (IsTrue c.tells → (k : ℕ) → bytes_taken k c.taken ≡ bytes_taken k b.taken)
+    → LoopStep true 0 (faults_of r) y z b c → IsCalm z.core → NothingBecameReady b c → (AgreesWithSockets y b → KeepsLinks y z) → OnOk r (IsHeard b c) → OnErr r (Rose b.faults.listens c.faults.listens) → (IsTrue c.tells → arrivals c.taken ≤ arrivals b.taken + 1024) → (IsTrue c.tells → (k : ℕ) → bytes_taken k c.taken ≡ bytes_taken k b.taken)
     → ServesNamed all (faults_of r) x z a c
 Named-listener r front all faults x y z a b c more out going h continues calm falls contained heard failed clients bytes =
     let later = later-of b c continues in
@@ -440,8 +452,8 @@ any-take p (suc i) (token ∷ tokens) h = go (p token) refl h (any-take p i toke
 
 -- ---- all sources
 
-pub AllServed-following : (connections : List Connection) (a b c : Seen) → Later a b → Later b c → AllServed connections b c → AllServed connections a c
-AllServed-following connections a b c first later h = record {
+pub AllServed-following : (core : CoreView) (a b c : Seen) → Later a b → Later b c → AllServed core b c → AllServed core a c
+AllServed-following core a b c first later h = record {
   links = λ k one. IsServed-following k a b c first later (h.links k one);
   listener = IsHeard-following a b c first later h.listener;
   written = h.written;

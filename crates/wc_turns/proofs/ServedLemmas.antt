@@ -8,11 +8,14 @@ use Rattle.wc_core.specs.Events.{Event, Line}
 use Rattle.wc_core.specs.CoreView.{CoreView}
 use Rattle.wc_core.specs.State.{State, Act, has_end}
 use Rattle.wc_core.specs.Step.{step, run}
-use Rattle.wc_core.specs.Served.{links_of, state_of, WereTold, Means, sent_to, close_of, or_else, Distinct, Follows, FollowsUnlessStarved, Does, LeavesBy}
+use Rattle.wc_core.specs.Served.{links_of, state_of, WereTold, Means, sent_to, outs_of, close_of, or_else, Distinct, Follows, FollowsUnlessStarved, Does, LeavesBy}
 use Rattle.wc_board.specs.Connections.{leaving_in, leaving_on, unsent_on}
 use Rattle.wc_board.specs.Told.{Told}
+use Rattle.wc_core.proofs.ComeLemmas.{ServersKeep-refl, ServersKeep-trans}
 use Rattle.wc_core.proofs.DidLemmas.{Follows-stays, Follows-then, KeepsClients-refl, KeepsClients-trans, KeepsSaved-trans}
 use Rattle.wc_turns.specs.Served.{MayRun, LeavesFor, LeavesAtLine}
+use Rattle.wc_core.specs.ServersKept.{LeaveInOrder, ServersKeep}
+use Rattle.wc_servers.specs.Outs.{ServersFollow}
 use Rattle.wc_turns.specs.Run.{EndsAtQuit}
 use Rattle.wc_turns.proofs.RunLemmas.{run-append-state, run-append-acts, EndsAtQuit-one, EndsAtQuit-append}
 use Rattle.wc_turns.proofs.ClosingLemmas.{LineCause, line-cause, line-others}
@@ -20,9 +23,9 @@ use Rattle.wc_turns.proofs.ClosingLemmas.{LineCause, line-cause, line-others}
 pub Follows-acts : (a b : CoreView) (state : State) (acts acts' : List Act) → acts ≡ acts' → Follows a b (record { state = state; acts = acts }) → Follows a b (record { state = state; acts = acts' })
 Follows-acts a b state acts acts' e did = subst (λ xs. Follows a b (record { state = state; acts = xs })) e did
 
-Follows-append : (told : Told) (a b c : CoreView) (es fs : List Event) → Follows a b (run (state_of a told) es) → Follows b c (run (state_of b (run (state_of a told) es).state.told) fs) → Follows a c (run (state_of a told) (es ++ fs))
-Follows-append told a b c es fs h g =
-    let did = Follows-then a b c (run (state_of a told) es) (λ next. run next fs) h g in
+Follows-append : (told : Told) (a b c : CoreView) (es fs : List Event) → ServersKeep a.servers b.servers → Follows a b (run (state_of a told) es) → Follows b c (run (state_of b (run (state_of a told) es).state.told) fs) → Follows a c (run (state_of a told) (es ++ fs))
+Follows-append told a b c es fs keep h g =
+    let did = Follows-then a b c (run (state_of a told) es) (λ next. run next fs) keep h g in
     let acts = sym (run-append-acts (state_of a told) es fs) in
     let P : State → Type 0 = λ state. Means c state in
     record {
@@ -30,11 +33,13 @@ Follows-append told a b c es fs h g =
       bytes = λ k. did.bytes k ∙ ap (λ xs. unsent_on k a.connections ++ sent_to k xs) acts;
       leaving = λ k. did.leaving k ∙ ap (λ xs. or_else (leaving_on k a.connections) (close_of k xs)) acts;
       quits = did.quits ∙ ap (λ xs. a.quits || has_end xs) acts;
+      servers = subst (λ xs. ServersFollow a.servers c.servers (outs_of xs)) acts did.servers;
+      parts = subst (λ xs. LeaveInOrder a.servers c.servers (outs_of xs)) acts did.parts;
     }
 
-quits-not : (before after end : Bool) → after ≡ false → after ≡ (before || end) → end ≡ true → ⊥
-quits-not true after end going e q = false≢true (sym going ∙ e)
-quits-not false after end going e q = false≢true (sym going ∙ e ∙ q)
+ends-by : (before end : Bool) → end ≡ true → (before || end) ≡ true
+ends-by true end q = refl
+ends-by false end q = q
 
 pub MayRun-none : (a : CoreView) → MayRun a a []
 MayRun-none a = record { keeps = KeepsClients-refl a; does = λ same below distinct told were. Follows-stays told a were; stops = λ same below distinct told were. tt }
@@ -46,18 +51,18 @@ MayRun-one a b event h = record {
   stops = λ same below distinct told were. EndsAtQuit-one (state_of a told) (event ∷ []) refl;
 }
 
--- where the first of them ran no `/quit`
-pub MayRun-trans : (a b c : CoreView) (es fs : List Event) → b.quits ≡ false → MayRun a b es → MayRun b c fs → MayRun a c (es ++ fs)
-MayRun-trans a b c es fs going h g = record {
+-- where `/quit` was run by the first of them, there are none after it
+pub MayRun-then : (a b c : CoreView) (es fs : List Event) → (b.quits ≡ true → fs ≡ []) → MayRun a b es → MayRun b c fs → MayRun a c (es ++ fs)
+MayRun-then a b c es fs over h g = record {
   keeps = KeepsClients-trans a b c h.keeps g.keeps;
   does = λ same below distinct told were.
       let before = first same below distinct told were in
-      Follows-append told a b c es fs before (g.does (later same) (under same below) (following distinct) (run (state_of a told) es).state.told before.means.told);
+      Follows-append told a b c es fs h.keeps.servers before (g.does (later same) (under same below) (following distinct) (run (state_of a told) es).state.told before.means.told);
   stops = λ same below distinct told were.
       let before = first same below distinct told were in
       let state = (run (state_of a told) es).state in
       let P : State → Type 0 = λ s. EndsAtQuit s fs in
-      EndsAtQuit-append (state_of a told) es fs (h.stops (half same) below distinct told were) (λ q. absurd (quits-not a.quits b.quits (has_end (run (state_of a told) es).acts) going before.quits q))
+      EndsAtQuit-append (state_of a told) es fs (h.stops (half same) below distinct told were) (λ q. over (before.quits ∙ ends-by a.quits (has_end (run (state_of a told) es).acts) q))
       (subst P (sym before.means.same) (g.stops (later same) (under same below) (following distinct) state.told before.means.told));
 } where
   half : c.starved ≡ a.starved → b.starved ≡ a.starved
@@ -75,6 +80,10 @@ MayRun-trans a b c es fs going h g = record {
   first : c.starved ≡ a.starved → a.starved < 2 ^ 64 - 1 → Distinct (links_of a) → (told : Told) → WereTold a told → Follows a b (run (state_of a told) es)
   first same below distinct told were = h.does (half same) below distinct told were
 
+-- where the first of them ran no `/quit`
+pub MayRun-trans : (a b c : CoreView) (es fs : List Event) → b.quits ≡ false → MayRun a b es → MayRun b c fs → MayRun a c (es ++ fs)
+MayRun-trans a b c es fs going h g = MayRun-then a b c es fs (λ over. absurd (false≢true (sym going ∙ over))) h g
+
 -- ---- who leaves at a line
 
 some_here : {X : Type 0} (o : Option X) (x : X) → o ≡ Some x → IsSome o
@@ -86,7 +95,7 @@ for-same link other None = tt
 for-same link other (Some why) = refl
 
 pub LeavesAtLine-refl : (link : ℕ) (core : CoreView) → LeavesAtLine link core core
-LeavesAtLine-refl link core = record { saves = inl (refl, refl); rises = omega arith; links = refl; leaving = λ distinct other. for-same link other (leaving_on other core.connections) }
+LeavesAtLine-refl link core = record { servers = ServersKeep-refl core.servers; saves = inl (refl, refl); rises = omega arith; links = refl; leaving = λ distinct other. for-same link other (leaving_on other core.connections) }
 
 for-then : (link other : ℕ) (a b c : Option Cause) → LeavesFor link other a b → LeavesFor link other b c → LeavesFor link other a c
 for-then link other (Some why) b c h g = subst (λ o. LeavesFor link other o c) h g
@@ -98,6 +107,7 @@ LeavesAtLine-trans link a b c h g = record {
   rises = (let p = h.rises in let q = g.rises in omega arith);
   links = g.links ∙ h.links;
   saves = KeepsSaved-trans a b c h.saves g.saves;
+  servers = ServersKeep-trans a.servers b.servers c.servers h.servers g.servers;
   leaving = λ distinct other. for-then link other (leaving_on other a.connections) (leaving_on other b.connections) (leaving_on other c.connections) (h.leaving distinct other) (g.leaving (subst Distinct (sym h.links) distinct) other);
 }
 
@@ -123,6 +133,7 @@ LeavesAtLine-one link a b line done = record {
   rises = h.keeps.rises;
   links = h.keeps.links;
   saves = h.keeps.saves;
+  servers = h.keeps.servers;
   leaving = λ distinct other. for-step link other (leaving_on other a.connections) (close_of other (step state (Line link line)).acts) (leaving_on other b.connections) (λ s. ap leaving_in (h.keeps.kept other s)) (h.causes distinct other)
       (for-closed link other state line (eqb other link) refl);
 } where

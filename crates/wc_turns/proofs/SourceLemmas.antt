@@ -1,22 +1,20 @@
 -- How the sources that are ready are served.
-use Rattle.std.proofs.Common.{◌≡◌, ◌≢◌, ℕ, ◌+◌, ◌≤◌, inl, inr, Bool, true, false, not, cond, eqb, ◌&&◌, List, [], ◌∷◌, ◌++◌, length, take, drop, Option, Some, None, IsTrue, refl, sym, ap, ◌∙◌, arith}
+use Rattle.std.proofs.Common.{◌≡◌, ◌≢◌, ℕ, ◌+◌, ◌≤◌, inl, inr, Bool, true, false, not, cond, eqb, ◌&&◌, List, [], ◌∷◌, ◌++◌, length, take, IsTrue, refl, sym, ap, ◌∙◌, arith}
 use Rattle.std.specs.List.{flat_map}
 use Rattle.std.proofs.lemmas.Bool.{false≢true}
 use Rattle.std.proofs.lemmas.Bool.Decides.{nat_tests}
 use Rattle.std.proofs.lemmas.Grind.{flat_map-append}
 use Rattle.std.proofs.lemmas.List.{length-append, length-take}
 use Rattle.wc_text.specs.declared.names.LinkId.{LinkId}
-use Rattle.wc_outside.specs.Keyed.{at_key}
 use Rattle.wc_outside.specs.Seen.{Seen}
 use Rattle.wc_outside.specs.declared.happening.Happening.{Happening}
 use Rattle.wc_outside.specs.declared.happening.Happening.TheVariants.{Read, Accepted}
 use Rattle.wc_turns.specs.declared.headless.Headless.{Headless}
-use Rattle.wc_board.specs.declared.connection.Connection.{Connection}
-use Rattle.wc_board.specs.Connections.{connection_link, unsent_at, unsent_in, unsent_on, gone_at}
+use Rattle.wc_core.specs.CoreView.{CoreView}
 use Rattle.wc_turns.specs.Events.{bytes_on}
+use Rattle.wc_turns.specs.Parties.{unsent_on}
 use Rattle.wc_turns.specs.Sources.{bytes_taken, arrivals, NothingBecameReady, IsServed, IsHeard, IsWritten, TakesNothing}
 use Rattle.wc_turns.specs.Turns.{LoopStep}
-use Rattle.wc_turns.proofs.KeyedLemmas.{at_key-key, at_key-put_other}
 
 -- what was taken goes on
 pub record Later (before after : Seen) : Type 0 where
@@ -79,15 +77,10 @@ IsHeard-following a b c first later h = λ t e. (let p = arrivals-later a b firs
 pub IsHeard-drained : (a b : Seen) → b.listening ≡ false → IsHeard a b
 IsHeard-drained a b drained = λ t e. absurd (false≢true (sym drained ∙ e))
 
--- a write to another link leaves unsent bytes as they are
-pub others-unsent : (link k count : ℕ) (connections : List Connection) (o : Option Connection) → at_key connection_link link connections ≡ o → k ≢ link → unsent_on k (gone_at link count connections o) ≡ unsent_on k connections
-others-unsent link k count connections None found n = refl
-others-unsent link k count connections (Some s) found n =
-    ap unsent_in (at_key-put_other connection_link link k (record s { session = record s.session { unsent = drop count s.session.unsent } }) connections (at_key-key connection_link link connections s found) n)
-
-pub IsWritten-later : (k : ℕ) (connections after : List Connection) (a b : Seen) → unsent_on k after ≡ unsent_on k connections → b.blocked k ≡ a.blocked k → IsWritten k connections a → IsWritten k after b
-IsWritten-later k connections after a b e h (inl p) = inl (e ∙ p)
-IsWritten-later k connections after a b e h (inr q) = inr (h ∙ q)
+-- where the unsent bytes of a link stay, and it has no more room than before
+pub IsWritten-later : (k : ℕ) (core after : CoreView) (a b : Seen) → unsent_on k after ≡ unsent_on k core → b.blocked k ≡ a.blocked k → IsWritten k core a → IsWritten k after b
+IsWritten-later k core after a b e h (inl p) = inl (e ∙ p)
+IsWritten-later k core after a b e h (inr q) = inr (h ∙ q)
 
 pub kept-other : (k link : ℕ) (b : Bool) → k ≢ link → (b && not (eqb k link)) ≡ b
 kept-other k link true n = grind (arith, nat_tests)
@@ -127,15 +120,6 @@ arrivals-came link nonce before after last more e q =
     let first = ap arrivals e in
     let one = arrivals-append before (Accepted link nonce ∷ []) in
     omega arith
-
--- what is given of the unsent bytes of a link
-pub none-given : (o : Option Connection) → None ≡ unsent_at o → unsent_in o ≡ []
-none-given None e = refl
-none-given (Some s) e = absurd (let q : None ≡ Some s.session.unsent = e in cc)
-
-pub some-given : (o : Option Connection) (bytes : List ℕ) → Some bytes ≡ unsent_at o → unsent_in o ≡ bytes
-some-given None bytes e = absurd (let q : Some bytes ≡ None = e in cc)
-some-given (Some s) bytes e = let q : Some bytes ≡ Some s.session.unsent = e in cc
 
 pub blocked-here : (link : ℕ) (b c : Bool) → cond (eqb link link) b c ≡ b
 blocked-here link b c = let here : eqb link link ≡ true = grind (arith, nat_tests) in rw here refl

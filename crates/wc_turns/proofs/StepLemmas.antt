@@ -1,33 +1,39 @@
 -- The steps of a loop.
-use Rattle.std.proofs.Common.{◌≡◌, ℕ, ◌+◌, ◌-◌, ◌^◌, min, Bool, true, false, IsTrue, List, [], ◌∷◌, ◌++◌, length, map, Option, Some, None, IsSome, is_some, is_none, inl, refl, sym, ap, ◌∙◌, subst, arith}
+use Rattle.std.proofs.Common.{◌≡◌, ℕ, ◌+◌, ◌-◌, ◌^◌, min, Bool, true, false, ◌||◌, IsTrue, List, [], ◌∷◌, ◌++◌, length, map, Option, Some, None, IsSome, is_some, is_none, inl, refl, sym, ap, ◌∙◌, subst, arith}
 use Rattle.std.proofs.lemmas.Bool.{false≢true}
 use Rattle.std.proofs.lemmas.List.{append-nil}
-use Rattle.std.proofs.lemmas.List.Elements.{All-nil}
 use Rattle.wc_text.specs.declared.names.LinkId.{LinkId}
 use Rattle.wc_text.specs.declared.names.Cause.{Cause}
 use Rattle.wc_outside.specs.Seen.{Seen}
 use Rattle.wc_outside.specs.declared.happening.Happening.{Happening}
-use Rattle.wc_outside.specs.declared.happening.Happening.TheVariants.{Failed}
+use Rattle.wc_outside.specs.declared.happening.Happening.TheVariants.{Woke, Accepted, Read, Ended, Failed, Connected, Refused, ListenFailed}
 use Rattle.wc_board.specs.declared.connection.Connection.{Connection}
 use Rattle.wc_core.specs.CoreView.{CoreView}
 use Rattle.wc_core.specs.Step.{run, no_step, client_link}
 use Rattle.wc_board.specs.Told.{Told}
 use Rattle.wc_board.specs.Connections.{connection_link, leaving_in, leaving_on}
-use Rattle.wc_core.specs.Served.{state_of, clients_of, links_of, Distinct}
+use Rattle.wc_core.specs.Served.{state_of, clients_of, links_of, or_else, Distinct}
 use Rattle.wc_core.proofs.DidLemmas.{saves-as}
-use Rattle.wc_core.proofs.ConnectionLemmas.{client-leaving}
+use Rattle.wc_core.proofs.ConnectionLemmas.{client-leaving, client-missing}
+use Rattle.wc_servers.specs.Seats.{seat_link, server_link, open_of, is_open_at, AreSeats, leaving_on as server_leaving_on}
 use Rattle.wc_turns.specs.declared.links.LinkState.{LinkState}
 use Rattle.wc_turns.specs.declared.headless.Headless.{Headless}
 use Rattle.wc_outside.specs.Keyed.{at_key}
-use Rattle.wc_turns.specs.Events.{bytes_on, events_of, events_from}
+use Rattle.std.specs.List.{list_any}
+use Rattle.wc_turns.specs.Events.{bytes_on, comes_on, has_come, events_of, events_from}
 use Rattle.wc_turns.specs.Links.{link_number, is_undrained, is_blocked}
-use Rattle.wc_turns.specs.Served.{leaving_closes}
-use Rattle.wc_turns.specs.Steps.{SameTails, reached_after_miss}
-use Rattle.wc_turns.specs.Turns.{AgreesOnLinks, AgreesWithSockets, moment, GivesNothing, CoreTakes, is_wake, is_listen_fault, LoopStep}
+use Rattle.wc_core.specs.ServersKept.{is_wanted}
+use Rattle.wc_turns.specs.Parties.{asks_of, closes_asked}
+use Rattle.wc_turns.specs.Parts.{leaving_of}
+use Rattle.wc_turns.specs.Steps.{SameTails, SameKinds, reached_after_miss}
+use Rattle.wc_turns.specs.Turns.{AgreesOnLinks, AgreesWithSockets, moment, gives, GivesNothing, CoreTakes, is_wake, is_listen_fault, LoopStep}
 use Rattle.wc_turns.proofs.KeyedLemmas.{none_of, same-keys}
 use Rattle.wc_turns.proofs.RunLemmas.{ReachesEvents-all, ReachesEvents-over, EndsAtQuit-one}
-use Rattle.wc_turns.proofs.PointLemmas.{MomentAdvances-same}
-use Rattle.wc_turns.proofs.AgreesLemmas.{IsTimeless, For-quiet, For-states, missing-as}
+use Rattle.wc_turns.proofs.PointLemmas.{AreAlone, MomentAdvances-same}
+use Rattle.wc_turns.proofs.AgreesLemmas.{IsTimeless, KeepsRefused, IsUnstanding, For-quiet, For-states, missing-as}
+use Rattle.wc_turns.proofs.CauseLemmas.{Onward-none, reasons-same}
+use Rattle.wc_turns.proofs.ChangedLemmas.{there-as}
+use Rattle.wc_turns.proofs.SeatLemmas.{open-none, shut-leaving}
 use Rattle.wc_turns.proofs.TurnLemmas.{Call, LoopStep-step, LoopStep-still}
 
 -- the sockets stay as they were but for what they gave and sent
@@ -38,53 +44,92 @@ pub record SameSets (a b : Seen) : Type 0 where
   pub blocked : (k : ℕ) → b.blocked k ≡ a.blocked k
   pub listening : b.listening ≡ a.listening
 
-pub among-same : (states : List LinkState) (connections : List Connection) (used : ℕ) (listening : Bool) (a b : Seen) → SameSets a b → AgreesOnLinks states connections used listening a → AgreesOnLinks states connections used listening b
-among-same states connections used listening a b same s = record {
+pub among-same : (states : List LinkState) (core : CoreView) (used : ℕ) (listening : Bool) (refused : List LinkId) (a b : Seen) → SameSets a b → AgreesOnLinks states core used listening refused a → AgreesOnLinks states core used listening refused b
+among-same states core used listening refused a b same s = record {
   counted = s.counted ∙ sym same.used;
   there = λ k. same.there k ∙ s.there k;
   undrained = λ k. same.undrained k ∙ s.undrained k;
   blocked = λ k. same.blocked k ∙ s.blocked k;
   listens = same.listening ∙ s.listens;
-  clients = s.clients;
+  parties = s.parties;
+  alone = s.alone;
   once = s.once;
+  seats = s.seats;
+  order = s.order;
   apart = s.apart;
   unknown = s.unknown;
+  clients = s.clients;
+  unrefused = s.unrefused;
+  spared = s.spared;
+  next = s.next;
+  reached = s.reached;
+  limited = s.limited;
 }
 
-missed-by : (x : Headless) (n : ℕ) (a b : Seen) (h : Happening) (q : Bool) → x.core.quits ≡ q → n ≡ reached_after_miss x.core.quits x.ran → b.taken ≡ a.taken ++ h ∷ [] → ((k : ℕ) → b.sent k ≡ a.sent k) → ((k : ℕ) → b.choked k ≡ a.choked k)
+-- a happening that gives nothing is no arrival
+no-arrival : (k : ℕ) (h : Happening) → GivesNothing (h ∷ []) → has_come k (h ∷ []) ≡ false
+no-arrival k (Accepted link nonce) e = absurd (false≢true (sym e))
+no-arrival k (Woke moment) e = refl
+no-arrival k (Read link bytes) e = refl
+no-arrival k (Ended link) e = refl
+no-arrival k (Failed link) e = refl
+no-arrival k (Connected link) e = refl
+no-arrival k (Refused link) e = refl
+no-arrival k ListenFailed e = refl
+
+or-first : (a b : Bool) → (a || b) ≡ false → a ≡ false
+or-first true b e = e
+or-first false b e = refl
+
+or-second : (a b : Bool) → (a || b) ≡ false → b ≡ false
+or-second true b e = absurd (false≢true (sym e))
+or-second false b e = e
+
+pub no-arrivals : (k : ℕ) (given : List Happening) → GivesNothing given → has_come k given ≡ false
+no-arrivals k [] e = refl
+no-arrivals k (h ∷ given) e =
+    let first : has_come k (h ∷ []) ≡ false = no-arrival k h (ap (λ t. t || false) (or-first (gives h) (list_any gives given) e)) in
+    rw (or-first (comes_on k h) false first) (no-arrivals k given (or-second (gives h) (list_any gives given) e))
+
+missed-by : (x : Headless) (n : ℕ) (a b : Seen) (h : Happening) (q : Bool) → x.core.quits ≡ q → n ≡ reached_after_miss x.core.quits x.ran → b.taken ≡ a.taken ++ h ∷ [] → ((k : ℕ) → b.sent k ≡ a.sent k) → ((k : ℕ) → b.choked k ≡ a.choked k) → b.asked ≡ a.asked
     → length (events_of a.taken h) ≡ 1 → GivesNothing (h ∷ []) → (x.core.quits ≡ false → (told : Told) → run (state_of x.core told) (events_of a.taken h) ≡ no_step (state_of x.core told)) → CoreTakes (moment x a) (moment (record x { ran = n }) b) x.ran n [] (h ∷ [])
-missed-by x n a b h true e count taken sent choked one gives none =
+missed-by x n a b h true e count taken sent choked asked one gives none =
     let same : n ≡ x.ran = rw e at count in
     record {
       events = [];
       reaches = rw same (ReachesEvents-over x.core.quits x.core.quits x.ran (events_from a.taken (h ∷ [])) e);
       rises = omega arith;
-      advances = λ still below told were. MomentAdvances-same told (moment x a) (moment (record x { ran = n }) b) refl refl sent choked (h ∷ []) taken [] refl were tt;
+      advances = λ still below told were. MomentAdvances-same told (moment x a) (moment (record x { ran = n }) b) refl refl sent choked (ap (λ xs. xs ++ asks_of x.core.servers.wanted) asked) (h ∷ []) taken [] refl were tt;
       silent = λ over. gives;
       last = λ still below told were going over. absurd (false≢true (sym going ∙ over));
     }
-missed-by x n a b h false e count taken sent choked one gives none =
+missed-by x n a b h false e count taken sent choked asked one gives none =
     let more : n ≡ min (x.ran + 1) (2 ^ 64 - 1) = rw e at count in
     record {
       events = events_of a.taken h;
       reaches = rw (append-nil (events_of a.taken h)) (ReachesEvents-all x.core.quits x.core.quits x.ran n (events_of a.taken h) e (λ fits. omega arith));
       rises = omega arith;
-      advances = λ still below told were. MomentAdvances-same told (moment x a) (moment (record x { ran = n }) b) refl refl sent choked (h ∷ []) taken (events_of a.taken h) (none e told) were (EndsAtQuit-one (state_of x.core told) (events_of a.taken h) one);
+      advances = λ still below told were. MomentAdvances-same told (moment x a) (moment (record x { ran = n }) b) refl refl sent choked (ap (λ xs. xs ++ asks_of x.core.servers.wanted) asked) (h ∷ []) taken (events_of a.taken h) (none e told) were (EndsAtQuit-one (state_of x.core told) (events_of a.taken h) one);
       silent = λ over. gives;
       last = λ still below told were going over. absurd (false≢true (sym going ∙ over));
     }
 
+ran-before : (q : Bool) (ran n : ℕ) → n ≡ reached_after_miss q ran → n ≡ 0 → ran ≡ 0
+ran-before true ran n count e = sym count ∙ e
+ran-before false ran n count e = omega arith
+
 -- an event that changes nothing
-pub LoopStep-missed : (x : Headless) (n : ℕ) (a b : Seen) (h : Happening) → is_wake h ≡ 0 → GivesNothing (h ∷ []) → Call a b (h ∷ []) → (IsTrue b.tells → (k : ℕ) → b.sent k ≡ a.sent k) → (IsTrue b.tells → (k : ℕ) → b.choked k ≡ a.choked k) → SameSets a b
-    → ((k : ℕ) → bytes_on k h ≡ []) → IsTimeless h → ((taken : List Happening) → length (events_of taken h) ≡ 1) → n ≡ reached_after_miss x.core.quits x.ran
+pub LoopStep-missed : (x : Headless) (n : ℕ) (a b : Seen) (h : Happening) → is_wake h ≡ 0 → GivesNothing (h ∷ []) → Call a b (h ∷ []) → (IsTrue b.tells → (k : ℕ) → b.sent k ≡ a.sent k) → (IsTrue b.tells → (k : ℕ) → b.choked k ≡ a.choked k) → (IsTrue b.tells → b.asked ≡ a.asked) → SameSets a b
+    → ((k : ℕ) → bytes_on k h ≡ []) → IsTimeless h → KeepsRefused h → IsUnstanding h → ((taken : List Happening) → length (events_of taken h) ≡ 1) → n ≡ reached_after_miss x.core.quits x.ran
     → (AgreesWithSockets x a → x.core.quits ≡ false → (taken : List Happening) (told : Told) → run (state_of x.core told) (events_of taken h) ≡ no_step (state_of x.core told))
     → LoopStep true 0 (is_listen_fault h) x (record x { ran = n }) a b
-LoopStep-missed x n a b h wake gives call sent choked same quiet timeless one count none =
+LoopStep-missed x n a b h wake gives call sent choked asked same quiet timeless keeps unstanding one count none =
     LoopStep-step true 0 (is_listen_fault h) x (record x { ran = n }) a b (h ∷ []) [] call (λ below. omega arith) (omega arith) (omega arith)
-    (λ t s. sym (append-nil _)) (λ s. All-nil _) (λ over. over) (λ t s. inl (refl, refl))
-    (among-same x.links.opened.items x.core.connections x.used x.listening a b same)
-    (λ t s on. (let more : n ≡ min (x.ran + 1) (2 ^ 64 - 1) = rw on at count in let o = one a.taken in For-quiet x.clock x.links.opened.items x.used x.ran n a.taken h quiet timeless (omega arith) (omega arith) (s.told (call.told t) on)))
-    (λ t s. missed-by x n a b h x.core.quits refl count (call.taken t) (sent t) (choked t) (one a.taken) gives (λ on. none s on a.taken))
+    (omega arith) (λ t s unstarved below. sym (append-nil _)) (λ s. reasons-same x (record x { ran = n }) a b refl) (λ s k h. h) (λ s. Onward-none x.core x.core (h ∷ []) (omega arith) (λ k. no-arrival k h gives)) (λ over. over) (λ t s. inl (refl, refl))
+    (among-same x.links.opened.items x.core x.used x.listening x.refused.items a b same)
+    (λ t s on. (let more : n ≡ min (x.ran + 1) (2 ^ 64 - 1) = rw on at count in let o = one a.taken in For-quiet x.clock x.links.opened.items x.used x.ran n x.refused.items x.unlisted a.taken h quiet timeless keeps unstanding (omega arith) (omega arith) (s.told (call.told t) on)))
+    (λ s stopped. s.idle (ran-before x.core.quits x.ran n count stopped))
+    (λ t s. missed-by x n a b h x.core.quits refl count (call.taken t) (sent t) (choked t) (asked t) (one a.taken) gives (λ on. none s on a.taken))
 
 left-client : (k : ℕ) (connections : List Connection) (o : Option Connection) → at_key connection_link k connections ≡ o → Distinct (map connection_link connections) → IsSome (leaving_in o) → at_key client_link k (clients_of connections) ≡ None
 left-client k connections None e d h = absurd (false≢true h)
@@ -94,9 +139,26 @@ left-client k connections (Some connection) e d h = client-leaving k connections
     closed-connection None q = absurd (false≢true q)
     closed-connection (Some cause) q = refl
 
--- the failure of a link whose client is leaving changes nothing
-pub failed-left : (core : CoreView) (link : LinkId) (taken : List Happening) → Distinct (links_of core) → IsSome (leaving_on link.0 core.connections) → (told : Told) → run (state_of core told) (events_of taken (Failed link)) ≡ no_step (state_of core told)
-failed-left core link taken d h told = rw (left-client link.0 core.connections (at_key connection_link link.0 core.connections) refl d h) refl
+-- the failure of a link whose client or server is leaving changes nothing
+pub failed-left : (core : CoreView) (link : LinkId) (taken : List Happening) → Distinct (links_of core) → AreSeats core.servers → AreAlone core → IsSome (leaving_of link.0 core) → (told : Told) → run (state_of core told) (events_of taken (Failed link)) ≡ no_step (state_of core told)
+failed-left core link taken d seats alone h told = left-by (server_leaving_on link.0 core.servers.seats) refl h
+  where
+    no-client : (o : Option Connection) → at_key connection_link link.0 core.connections ≡ o → IsSome (server_leaving_on link.0 core.servers.seats) → o ≡ None
+    no-client None e q = refl
+    no-client (Some connection) e q = absurd (false≢true (rw (alone link.0 (ap is_some e)) at q))
+
+    no-server : IsSome (leaving_on link.0 core.connections) → (o : Option Connection) → at_key connection_link link.0 core.connections ≡ o → is_open_at (at_key seat_link link.0 core.servers.seats) ≡ false
+    no-server q None e = absurd (false≢true (rw e at q))
+    no-server q (Some connection) e = rw (alone link.0 (ap is_some e)) refl
+
+    done : at_key client_link link.0 (clients_of core.connections) ≡ None → at_key server_link link.0 (open_of core.servers.seats) ≡ None → run (state_of core told) (events_of taken (Failed link)) ≡ no_step (state_of core told)
+    done none other = rw (none, other) refl
+
+    left-by : (why : Option Cause) → server_leaving_on link.0 core.servers.seats ≡ why → IsSome (or_else why (leaving_on link.0 core.connections)) → run (state_of core told) (events_of taken (Failed link)) ≡ no_step (state_of core told)
+    left-by None e q = done (left-client link.0 core.connections (at_key connection_link link.0 core.connections) refl d q) (open-none link.0 core.servers.seats seats.apart (no-server q (at_key connection_link link.0 core.connections) refl))
+    left-by (Some cause) e q =
+        let leaves : IsSome (server_leaving_on link.0 core.servers.seats) = rw e refl in
+        done (client-missing link.0 core.connections (no-client (at_key connection_link link.0 core.connections) refl leaves)) (open-none link.0 core.servers.seats seats.apart (shut-leaving (at_key seat_link link.0 core.servers.seats) leaves))
 
 -- only the links change
 pub record OnlyLinks (x y : Headless) : Type 0 where
@@ -106,28 +168,39 @@ pub record OnlyLinks (x y : Headless) : Type 0 where
   pub listening : y.listening ≡ x.listening
   pub turns : y.turns ≡ x.turns
   pub ran : y.ran ≡ x.ran
+  pub refused : y.refused ≡ x.refused
+  pub unlisted : y.unlisted ≡ x.unlisted
   pub closed : y.links.closed.items ≡ x.links.closed.items
 
 -- the links are flagged anew
-pub LoopStep-flags : (x y : Headless) (a b : Seen) → OnlyLinks x y → Call a b [] → (IsTrue b.tells → (k : ℕ) → b.sent k ≡ a.sent k) → (IsTrue b.tells → (k : ℕ) → b.choked k ≡ a.choked k)
+pub LoopStep-flags : (x y : Headless) (a b : Seen) → OnlyLinks x y → Call a b [] → (IsTrue b.tells → (k : ℕ) → b.sent k ≡ a.sent k) → (IsTrue b.tells → (k : ℕ) → b.choked k ≡ a.choked k) → (IsTrue b.tells → b.asked ≡ a.asked)
     → b.used ≡ a.used → ((k : ℕ) → b.there k ≡ a.there k) → b.listening ≡ a.listening → map link_number y.links.opened.items ≡ map link_number x.links.opened.items
     → ((k : ℕ) → a.undrained k ≡ is_undrained (at_key link_number k x.links.opened.items) → b.undrained k ≡ is_undrained (at_key link_number k y.links.opened.items))
-    → ((k : ℕ) → AgreesOnLinks x.links.opened.items x.core.connections x.used x.listening a → b.blocked k ≡ is_blocked (at_key link_number k y.links.opened.items))
-    → SameTails x.links.opened.items y.links.opened.items → LoopStep true 0 0 x y a b
-LoopStep-flags x y a b only call sent choked used there listening numbers flags blocked tails =
+    → ((k : ℕ) → AgreesOnLinks x.links.opened.items x.core x.used x.listening x.refused.items a → b.blocked k ≡ is_blocked (at_key link_number k y.links.opened.items))
+    → SameTails x.links.opened.items y.links.opened.items → SameKinds x.links.opened.items y.links.opened.items → LoopStep true 0 0 x y a b
+LoopStep-flags x y a b only call sent choked asked used there listening numbers flags blocked tails kinds =
     let links : (k : ℕ) → is_some (at_key link_number k y.links.opened.items) ≡ is_some (at_key link_number k x.links.opened.items) = λ k. same-keys link_number k y.links.opened.items x.links.opened.items numbers in
-    LoopStep-still x y a b call only.turns (ap (λ c. c.starved) only.core) (ap (λ c. c.quits) only.core) only.ran (saves-as x.core y.core x.core only.core refl refl)
-    (λ s. ap (λ cs. cs ++ leaving_closes y.core.connections) only.closed ∙ ap (λ c. x.links.closed.items ++ leaving_closes c.connections) only.core)
-    (λ s. rw (only.core, only.used, only.listening) (record {
+    LoopStep-still x y a b call only.turns (ap (λ c. c.starved) only.core) (ap (λ c. c.quits) only.core) only.ran (λ k h. rw only.core at h) (ap (λ c. c.servers.used) only.core) (ap (λ c. c.servers.wanted) only.core) (saves-as x.core y.core x.core only.core refl refl)
+    (ap (λ cs. cs ++ closes_asked y.core) only.closed ∙ ap (λ c. x.links.closed.items ++ closes_asked c) only.core)
+    (λ s. rw (only.core, only.used, only.listening, only.refused) (record {
       counted = s.counted ∙ sym used;
-      there = λ k. there k ∙ s.there k ∙ sym (links k);
+      there = λ k. there k ∙ s.there k ∙ sym (there-as x.links.opened.items y.links.opened.items numbers kinds k);
       undrained = λ k. flags k (s.undrained k);
       blocked = λ k. blocked k s;
       listens = listening ∙ s.listens;
-      clients = λ k. s.clients k ∙ sym (links k);
+      parties = λ k. s.parties k ∙ ap (λ b'. b' || is_wanted k x.core.servers.wanted) (sym (links k));
+      alone = s.alone;
       once = s.once;
+      seats = s.seats;
+      order = s.order;
       apart = subst Distinct (sym numbers) s.apart;
       unknown = λ k below. none_of _ (links k ∙ ap is_some (s.unknown k below));
+      clients = s.clients;
+      unrefused = s.unrefused;
+      spared = s.spared;
+      next = s.next;
+      reached = s.reached;
+      limited = s.limited;
     }))
-    (λ t s. rw (only.clock, only.used, only.ran) (For-states x.clock x.links.opened.items y.links.opened.items x.used x.ran a.taken tails (missing-as x.links.opened.items y.links.opened.items numbers) s))
-    (λ t s told were. MomentAdvances-same told (moment x a) (moment y b) only.core only.used (sent t) (choked t) [] (call.taken t) [] refl were tt)
+    (λ t s. rw (only.clock, only.used, only.ran, only.refused, only.unlisted) (For-states x.clock x.links.opened.items y.links.opened.items x.used x.ran x.refused.items x.unlisted a.taken tails kinds (missing-as x.links.opened.items y.links.opened.items numbers) s))
+    (λ t s told were. MomentAdvances-same told (moment x a) (moment y b) only.core only.used (sent t) (choked t) (ap (λ xs. xs ++ asks_of y.core.servers.wanted) (asked t) ∙ ap (λ c. a.asked ++ asks_of c.servers.wanted) only.core) [] (call.taken t) [] refl were tt)

@@ -1,39 +1,50 @@
 -- One happening is taken.
-use Rattle.std.proofs.Common.{◌≡◌, ◌≢◌, ℕ, ◌+◌, ◌-◌, ◌^◌, ◌<◌, ◌||◌, min, Bool, true, false, eqb, IsTrue, List, [], ◌∷◌, ◌++◌, length, map, All, Option, Some, None, is_some, get_or, set, refl, sym, ap, ◌∙◌, subst, arith}
+use Rattle.std.proofs.Common.{◌≡◌, ◌≢◌, ◌⊎◌, inl, inr, ℕ, ◌+◌, ◌-◌, ◌^◌, ◌<◌, ◌≤◌, nat_le, ◌||◌, min, Bool, true, false, eqb, IsTrue, List, [], ◌∷◌, ◌++◌, length, map, All, Option, Some, None, is_some, get_or, set, refl, sym, ap, ◌∙◌, subst, arith, append_assoc}
 use Rattle.std.proofs.lemmas.Bool.{false≢true}
 use Rattle.std.proofs.lemmas.Bool.Decides.{nat_tests}
 use Rattle.std.proofs.lemmas.List.{append-nil}
-use Rattle.std.proofs.lemmas.List.Elements.{All-nil, All-cons}
+use Rattle.std.proofs.lemmas.List.Elements.{All-head, All-append}
 use Rattle.wc_text.specs.declared.names.LinkId.{LinkId}
 use Rattle.wc_text.specs.declared.names.Cause.{Cause}
 use Rattle.wc_text.specs.declared.names.Cause.TheVariants.{NoMemory, LoginFailed, Surplus, Quit, Ended as CauseEnded, Failed as CauseFailed, Disconnected, NickTaken}
 use Rattle.wc_outside.specs.Seen.{Seen}
 use Rattle.wc_outside.specs.declared.happening.Happening.{Happening}
-use Rattle.wc_outside.specs.declared.happening.Happening.TheVariants.{Read}
+use Rattle.wc_outside.specs.declared.happening.Happening.TheVariants.{Woke, Accepted, Read, Ended, Failed, Connected, Refused, ListenFailed}
 use Rattle.wc_outside.specs.Keyed.{at_key, put_at, IsKeyPlace}
-use Rattle.wc_board.specs.declared.connection.Connection.{Connection}
-use Rattle.wc_core.specs.Events.{Event}
+use Rattle.wc_board.specs.Connections.{connection_link, leaving_on}
+use Rattle.wc_board.specs.Told.{Told}
+use Rattle.wc_servers.specs.Outs.{wanted_in, part_of, or_else as or_other}
+use Rattle.wc_servers.specs.Seats.{SeatView, AreSeats, seat_link, server_link, is_open_at as server_is_open_at, leaving_in as server_leaving_in, leaving_on as server_leaving_on}
+use Rattle.wc_core.specs.Events.{Event, Arrives, Stands}
 use Rattle.wc_core.specs.CoreView.{CoreView}
 use Rattle.wc_core.specs.State.{State, Act, has_end}
 use Rattle.wc_core.specs.Step.{run, step}
-use Rattle.wc_board.specs.Connections.{connection_link, leaving_on, left_at}
-use Rattle.wc_core.specs.Served.{links_of, state_of, close_of, or_else, Distinct, Does, KeepsSaved}
+use Rattle.wc_core.specs.Served.{links_of, state_of, outs_of, close_of, or_else, Distinct, Does, Follows, KeepsSaved}
+use Rattle.wc_core.specs.ServersKept.{AreInOrder, parts_in, ServersKeep}
+use Rattle.wc_core.proofs.ConnectionLemmas.{client-missing}
+use Rattle.wc_board.specs.Served.{StaysOrStarves}
 use Rattle.wc_turns.specs.declared.links.LinkState.{LinkState}
 use Rattle.wc_turns.specs.declared.headless.Headless.{Headless}
 use Rattle.wc_turns.specs.Lines.{rest}
-use Rattle.wc_turns.specs.Links.{link_number, is_undrained, is_blocked}
-use Rattle.wc_turns.specs.Events.{bytes_on, tail_on, events_of, read_events}
-use Rattle.wc_turns.specs.Run.{closings}
-use Rattle.wc_turns.specs.Served.{closed_by, leaving_closes, NobodyLeaving, MayTake, IsOfLine, LeavesFor, LeavesAtLine}
+use Rattle.wc_turns.specs.Links.{link_number, is_undrained, is_blocked, is_there, is_connecting, kind_of, changed_at, standing_state, IsConnecting}
+use Rattle.wc_turns.specs.Events.{bytes_on, has_come, tail_on, events_of, read_events}
+use Rattle.wc_turns.specs.Parties.{asks_of, asks_in, closes_asked, seat_closes, IsCalm}
+use Rattle.wc_turns.specs.Run.{closings, close_of_parting}
+use Rattle.wc_turns.specs.Steps.{LosesLink}
+use Rattle.wc_turns.specs.Served.{closed_by, leaving_closes, MayTake, IsOfLine, LeavesFor, LeavesAtLine}
 use Rattle.wc_turns.specs.Tails.{IsTail}
-use Rattle.wc_turns.specs.Turns.{AgreesOnLinks, moment, CausedBy, IsCaused, is_wake, is_listen_fault, LoopStep, TakesHappening}
+use Rattle.wc_turns.specs.Turns.{AgreesOnLinks, AgreesWithSockets, moment, CausedBy, IsOfServer, HasCause, is_wake, is_listen_fault, closed_so_far, LoopStep, TakesHappening}
 use Rattle.wc_turns.proofs.KeyedLemmas.{at_key-key, at_key-put_same, at_key-put_other, map-put_at, none_of, same-keys}
 use Rattle.wc_turns.proofs.RunLemmas.{ReachesEvents-all}
-use Rattle.wc_turns.proofs.PointLemmas.{MomentAdvances-takes}
-use Rattle.wc_turns.proofs.ConnectionLemmas.{calm-leaving, one-closes, calm-left, closes-all}
-use Rattle.wc_turns.proofs.ClosingLemmas.{IsOf, OneLink, run-one, all-front}
+use Rattle.wc_turns.proofs.PointLemmas.{AreAlone, seats-above, sides-kept, MomentAdvances-takes, asks_of-append}
+use Rattle.wc_turns.proofs.ChangedLemmas.{changed, keeps-standing, at_key-changed, numbers-changed, there-kind}
+use Rattle.wc_turns.proofs.ClosingLemmas.{IsOf, IsApart, parted, run-one, all-front}
+use Rattle.wc_turns.proofs.ConnectionLemmas.{calm-leaving, closes-all, one-closes}
 use Rattle.wc_turns.proofs.ServedLemmas.{MayRun-one}
-use Rattle.wc_turns.proofs.AgreesLemmas.{For-read, For-quiet, IsTail-at, IsTimeless}
+use Rattle.wc_turns.proofs.CauseLemmas.{KeepsSides, Onward-none, uncome-as, reasons-more}
+use Rattle.wc_turns.proofs.AgreesLemmas.{For-read, For-quiet, For-stands, IsTail-at, IsTimeless, KeepsRefused, IsUnstanding}
+use Rattle.wc_turns.proofs.SeatLemmas.{open-none, seats-all, calm-partings}
+use Rattle.wc_turns.proofs.PartyLemmas.{among-come, party-used, clients-above, calm-clients, calm-seats}
 use Rattle.wc_turns.proofs.StepLemmas.{SameSets}
 use Rattle.wc_turns.proofs.TurnLemmas.{Call, LoopStep-step}
 
@@ -49,13 +60,26 @@ flag-put f j k false e old new states found key flag = let other : k ≢ j = λ 
 reached : (n m : ℕ) (all es others : List Event) → others ≡ [] → all ≡ es ++ others → m ≡ min (n + length es) (2 ^ 64 - 1) → m ≡ min (n + length all) (2 ^ 64 - 1)
 reached n m all es others none front count = let e = ap length (front ∙ ap (λ xs. es ++ xs) none ∙ append-nil es) in omega arith
 
-pub TakesHappening-read : (x y : Headless) (link : LinkId) (place : ℕ) (old new : LinkState) (bytes : List ℕ) → IsKeyPlace link_number link.0 x.links.opened.items place → old ≡ get_or x.links.opened.items place old → new.link ≡ old.link → new.undrained ≡ old.undrained → new.blocked ≡ old.blocked
-    → y.turns ≡ x.turns → y.used ≡ x.used → y.listening ≡ x.listening → y.clock ≡ x.clock → y.links.closed.items ≡ x.links.closed.items → y.links.opened.items ≡ set x.links.opened.items place new
-    → map connection_link y.core.connections ≡ map connection_link x.core.connections
+-- the link of a place goes on standing
+pub read-stands : (states : List LinkState) (link place : ℕ) (old new : LinkState) → IsKeyPlace link_number link states place → old ≡ get_or states place old → new.link ≡ old.link → new.connecting ≡ old.connecting → is_connecting (at_key link_number link states) ≡ false → is_connecting (at_key link_number link (set states place new)) ≡ false
+read-stands states link place old new p at key kind stands =
+    let found : at_key link_number link states ≡ Some old = p.found old ∙ ap Some (sym at) in
+    let number : link_number new ≡ link = ap (λ (l : LinkId). l.0) key ∙ at_key-key link_number link states old found in
+    ap (λ ss. is_connecting (at_key link_number link ss)) (p.put new) ∙ flag-put is_connecting link link (eqb link link) refl old new states found number kind ∙ stands
+
+-- the link of a place stands
+pub standing-at : (states : List LinkState) (link place : ℕ) (old : LinkState) → IsKeyPlace link_number link states place → old ≡ get_or states place old → is_connecting (at_key link_number link states) ≡ false → old.connecting ≡ false
+standing-at states link place old p at stands =
+    let found : at_key link_number link states ≡ Some old = p.found old ∙ ap Some (sym at) in
+    sym (ap is_connecting found) ∙ stands
+
+pub TakesHappening-read : (x y : Headless) (link : LinkId) (place : ℕ) (old new : LinkState) (bytes : List ℕ) → IsKeyPlace link_number link.0 x.links.opened.items place → old ≡ get_or x.links.opened.items place old → new.link ≡ old.link → new.undrained ≡ old.undrained → new.blocked ≡ old.blocked → old.connecting ≡ false → kind_of (Some new) ≡ kind_of (Some old)
+    → y.turns ≡ x.turns → y.used ≡ x.used → y.listening ≡ x.listening → y.refused ≡ x.refused → y.unlisted ≡ x.unlisted → y.clock ≡ x.clock → y.links.closed.items ≡ x.links.closed.items → y.links.opened.items ≡ set x.links.opened.items place new
+    → map connection_link y.core.connections ≡ map connection_link x.core.connections → ServersKeep x.core.servers y.core.servers → (y.ran ≡ 0 → y.core ≡ x.core)
     → (y.core.quits ≡ false → (line : List ℕ) → IsTail line old.tail → IsTail (rest line bytes) new.tail)
     → ((line : List ℕ) → IsTail line old.tail → MayTake x.core y.core x.ran y.ran (read_events link.0 line bytes))
     → TakesHappening x y (Read link bytes)
-TakesHappening-read x y link place old new bytes p at key flag block turns used listening clock closed opened clients tail takes =
+TakesHappening-read x y link place old new bytes p at key flag block stands kind turns used listening refused unlisted clock closed opened clients servers idle tail takes =
     let found : at_key link_number link.0 x.links.opened.items ≡ Some old = p.found old ∙ ap Some (sym at) in
     let number : link_number new ≡ link.0 = ap (λ (l : LinkId). l.0) key ∙ at_key-key link_number link.0 x.links.opened.items old found in
     record {
@@ -63,59 +87,89 @@ TakesHappening-read x y link place old new bytes p at key flag block turns used 
       closed = closed;
       used = used;
       listening = listening;
+      refused = ap (λ r. r.items) refused;
       numbers = rw (opened, p.put new) (map-put_at link_number link.0 new x.links.opened.items number);
       undrained = λ k. rw (opened, p.put new) (flag-put is_undrained link.0 k (eqb k link.0) refl old new x.links.opened.items found number flag);
       blocked = λ k. rw (opened, p.put new) (flag-put is_blocked link.0 k (eqb k link.0) refl old new x.links.opened.items found number block);
+      there = λ k. rw (opened, p.put new) (flag-put is_there link.0 k (eqb k link.0) refl old new x.links.opened.items found number (there-kind (Some old) (Some new) kind));
       clients = clients;
+      servers = servers;
+      idle = λ none. ap (λ c. c.servers.wanted) (idle none);
       told = λ taken unknown going s.
-          let t = IsTail-at x.clock x.links.opened.items x.used x.ran taken link.0 place old p at s in
+          let t = IsTail-at x.clock x.links.opened.items x.used x.ran x.refused.items x.unlisted taken link.0 place old p at s in
           let m = takes (tail_on link.0 taken) t in
           let count = reached x.ran y.ran (read_events link.0 (tail_on link.0 taken) bytes) m.events m.reaches.rest (m.reaches.whole going) m.reaches.front (m.reaches.counts (let e = s.events in omega arith)) in
-          rw (opened, clock, used) (For-read x.clock x.links.opened.items x.used x.ran y.ran taken link place old new bytes p at key (unknown link.0) (tail going (tail_on link.0 taken) t) count s);
-      takes = λ taken s. takes (tail_on link.0 taken) (IsTail-at x.clock x.links.opened.items x.used x.ran taken link.0 place old p at s);
+          rw (opened, clock, used, refused, unlisted) (For-read x.clock x.links.opened.items x.used x.ran y.ran x.refused.items x.unlisted taken link place old new bytes p at key (unknown link.0) stands kind (tail going (tail_on link.0 taken) t) count s);
+      takes = λ taken s. takes (tail_on link.0 taken) (IsTail-at x.clock x.links.opened.items x.used x.ran x.refused.items x.unlisted taken link.0 place old p at s);
     }
 
--- the link of a client is lost
-pub TakesHappening-lost : (x y : Headless) (h : Happening) (event : Event) → x.core.quits ≡ false → ((k : ℕ) → bytes_on k h ≡ []) → IsTimeless h → ((taken : List Happening) → events_of taken h ≡ event ∷ [])
-    → y.turns ≡ x.turns → y.used ≡ x.used → y.listening ≡ x.listening → y.clock ≡ x.clock → y.links ≡ x.links → y.ran ≡ min (x.ran + 1) (2 ^ 64 - 1)
+-- the link of a client or of a server is lost
+pub TakesHappening-lost : (x y : Headless) (h : Happening) (event : Event) → x.core.quits ≡ false → ((k : ℕ) → bytes_on k h ≡ []) → IsTimeless h → KeepsRefused h → IsUnstanding h → ((taken : List Happening) → events_of taken h ≡ event ∷ [])
+    → y.turns ≡ x.turns → y.used ≡ x.used → y.listening ≡ x.listening → y.refused ≡ x.refused → y.unlisted ≡ x.unlisted → y.clock ≡ x.clock → y.links ≡ x.links → y.ran ≡ min (x.ran + 1) (2 ^ 64 - 1)
     → Does x.core y.core (λ state. step state event) → TakesHappening x y h
-TakesHappening-lost x y h event going quiet timeless events turns used listening clock links ran does = record {
+TakesHappening-lost x y h event going quiet timeless keeps unstanding events turns used listening refused unlisted clock links ran does = record {
   turns = turns;
   closed = ap (λ l. l.closed.items) links;
   used = used;
   listening = listening;
+  refused = ap (λ r. r.items) refused;
   numbers = rw links refl;
   undrained = λ k. rw links refl;
   blocked = λ k. rw links refl;
+  there = λ k. rw links refl;
   clients = (does x.core.world.nicks).keeps.links;
-  told = λ taken unknown on s. rw (links, clock, used) (For-quiet x.clock x.links.opened.items x.used x.ran y.ran taken h quiet timeless (let e = ap length (events taken) in omega arith) (let e = ap length (events taken) in omega arith) s);
+  servers = (does x.core.world.nicks).keeps.servers;
+  idle = λ none. absurd (omega arith);
+  told = λ taken unknown on s. rw (links, clock, used, refused, unlisted) (For-quiet x.clock x.links.opened.items x.used x.ran y.ran x.refused.items x.unlisted taken h quiet timeless keeps unstanding (let e = ap length (events taken) in omega arith) (let e = ap length (events taken) in omega arith) s);
   takes = λ taken s. rw (events taken) (record { events = event ∷ []; reaches = ReachesEvents-all x.core.quits y.core.quits x.ran y.ran (event ∷ []) going (λ fits. omega arith); takes = MayRun-one x.core y.core event does });
 }
 
--- from no client that is leaving, events of one link close what is leaving after them
-closes-left : (link : LinkId) (a b : CoreView) (acts : List Act) → OneLink link.0 acts → NobodyLeaving a.connections → Distinct (map connection_link b.connections) → ((k : ℕ) → leaving_on k b.connections ≡ or_else (leaving_on k a.connections) (close_of k acts)) → closings acts ≡ leaving_closes b.connections
-closes-left link a b acts one calm distinct leaving =
-    let now : (k : ℕ) → leaving_on k b.connections ≡ close_of k acts = λ k. leaving k ∙ ap (λ o. or_else o (close_of k acts)) (calm-leaving k a.connections calm) in
-    one.one ∙ ap (closed_by link) (sym (now link.0)) ∙ sym (one-closes link b.connections distinct (λ k n. now k ∙ one.others k n))
-
--- the links are flagged as they were
-among-takes : (states states' : List LinkState) (connections connections' : List Connection) (used used' : ℕ) (listening listening' : Bool) (a b : Seen)
-    → map link_number states' ≡ map link_number states → ((k : ℕ) → is_undrained (at_key link_number k states') ≡ is_undrained (at_key link_number k states)) → ((k : ℕ) → is_blocked (at_key link_number k states') ≡ is_blocked (at_key link_number k states)) → map connection_link connections' ≡ map connection_link connections
-    → used' ≡ used → listening' ≡ listening → SameSets a b
-    → AgreesOnLinks states connections used listening a → AgreesOnLinks states' connections' used' listening' b
-among-takes states states' connections connections' used used' listening listening' a b numbers flags blocks keeps u l same s = record {
-  counted = u ∙ s.counted ∙ sym same.used;
-  there = λ k. same.there k ∙ s.there k ∙ sym (links k);
-  undrained = λ k. same.undrained k ∙ s.undrained k ∙ sym (flags k);
-  blocked = λ k. same.blocked k ∙ s.blocked k ∙ sym (blocks k);
-  listens = same.listening ∙ s.listens ∙ sym l;
-  clients = λ k. same-keys connection_link k connections' connections keeps ∙ s.clients k ∙ sym (links k);
-  once = subst Distinct (sym keeps) s.once;
-  apart = subst Distinct (sym numbers) s.apart;
-  unknown = λ k below. none_of _ (links k ∙ ap is_some (s.unknown k (rw u at below)));
+-- a connection stands
+pub TakesHappening-stands : (x y : Headless) (link : LinkId) → x.core.quits ≡ false → IsConnecting link.0 x.links.opened.items → y.turns ≡ x.turns → y.used ≡ x.used → y.listening ≡ x.listening → y.refused ≡ x.refused → y.unlisted ≡ x.unlisted → y.clock ≡ x.clock → y.links.closed ≡ x.links.closed
+    → y.links.opened.items ≡ changed_at link.0 standing_state x.links.opened.items (at_key link_number link.0 x.links.opened.items) → y.ran ≡ min (x.ran + 1) (2 ^ 64 - 1) → Does x.core y.core (λ state. step state (Stands link.0)) → TakesHappening x y (Connected link)
+TakesHappening-stands x y link going connecting turns used listening refused unlisted clock closed opened ran does = record {
+  turns = turns;
+  closed = ap (λ v. v.items) closed;
+  used = used;
+  listening = listening;
+  refused = ap (λ r. r.items) refused;
+  numbers = rw opened (numbers-changed link.0 standing_state keeps-standing states);
+  undrained = λ k. rw opened (flag-stands is_undrained (λ state. refl) k);
+  blocked = λ k. rw opened (flag-stands is_blocked (λ state. refl) k);
+  there = λ k. rw opened (flag-stands is_there (λ state. refl) k);
+  clients = (does x.core.world.nicks).keeps.links;
+  servers = (does x.core.world.nicks).keeps.servers;
+  idle = λ none. absurd (omega arith);
+  told = λ taken unknown on s. rw (opened, clock, used, refused, unlisted) (For-stands x.clock states x.used x.ran y.ran x.refused.items x.unlisted taken link (within unknown (nat_le link.0 x.used) refl) ran s);
+  takes = λ taken s. record { events = Stands link.0 ∷ []; reaches = ReachesEvents-all x.core.quits y.core.quits x.ran y.ran (Stands link.0 ∷ []) going (λ fits. omega arith); takes = MayRun-one x.core y.core (Stands link.0) does };
 } where
-  links : (k : ℕ) → is_some (at_key link_number k states') ≡ is_some (at_key link_number k states)
-  links k = same-keys link_number k states' states numbers
+  states : List LinkState
+  states = x.links.opened.items
+
+  flag-by : (f : Option LinkState → Bool) → ((state : LinkState) → f (Some (standing_state state)) ≡ f (Some state)) → (t : Bool) (o : Option LinkState) → f (changed t standing_state o) ≡ f o
+  flag-by f same true None = refl
+  flag-by f same true (Some state) = same state
+  flag-by f same false o = refl
+
+  flag-stands : (f : Option LinkState → Bool) → ((state : LinkState) → f (Some (standing_state state)) ≡ f (Some state)) → (k : ℕ) → f (at_key link_number k (changed_at link.0 standing_state states (at_key link_number link.0 states))) ≡ f (at_key link_number k states)
+  flag-stands f same k = ap f (at_key-changed link.0 k standing_state keeps-standing states) ∙ flag-by f same (eqb k link.0) (at_key link_number k states)
+
+  -- a link that is kept has a used number
+  within : ((k : ℕ) → x.used < k → at_key link_number k states ≡ None) → (t : Bool) → nat_le link.0 x.used ≡ t → link.0 ≤ x.used
+  within unknown true e = grind (arith, nat_tests)
+  within unknown false e =
+      let above : x.used < link.0 = grind (arith, nat_tests) in
+      absurd (false≢true (sym (ap is_connecting (unknown link.0 above)) ∙ connecting))
+
+-- and no longer as one that does not stand
+stood-by : (o : Option LinkState) → is_connecting (changed true standing_state o) ≡ false
+stood-by None = refl
+stood-by (Some state) = refl
+
+pub stood-at : (link : ℕ) (states now : List LinkState) → now ≡ changed_at link standing_state states (at_key link_number link states) → is_connecting (at_key link_number link now) ≡ false
+stood-at link states now e =
+    let same : eqb link link ≡ true = grind (arith, nat_tests) in
+    ap (λ ls. is_connecting (at_key link_number link ls)) e ∙ ap is_connecting (at_key-changed link link standing_state keeps-standing states) ∙ ap (λ t. is_connecting (changed t standing_state (at_key link_number link states))) same ∙ stood-by (at_key link_number link states)
 
 pub some-events : (state : State) (events : List Event) → has_end (run state events).acts ≡ true → 0 < length events
 some-events state [] e = absurd (false≢true e)
@@ -124,19 +178,68 @@ some-events state (event ∷ events) e = omega arith
 pub end-by : (before after end : Bool) → before ≡ false → after ≡ (before || end) → after ≡ true → end ≡ true
 end-by before after end going e over = sym (ap (λ b. b || end) going) ∙ sym e ∙ over
 
--- the sockets gave a happening of a link, and its client may begin to leave, and others for want of memory
-pub LoopStep-takes : (x y : Headless) (link : LinkId) (a b : Seen) (h : Happening) → is_wake h ≡ 0 → Call a b (h ∷ []) → (IsTrue b.tells → (k : ℕ) → b.sent k ≡ a.sent k) → (IsTrue b.tells → (k : ℕ) → b.choked k ≡ a.choked k)
-    → SameSets a b → NobodyLeaving x.core.connections → x.core.quits ≡ false → TakesHappening x y h
-    → ((taken : List Happening) → All (IsOf link.0) (events_of taken h)) → (Distinct (links_of x.core) → All (IsCaused a b) (leaving_closes y.core.connections)) → KeepsSaved x.core y.core
+-- ---- what events of one link close
+
+later-cause : (a b : Option Cause) → or_other a b ≡ None → b ≡ None
+later-cause None b e = e
+later-cause (Some cause) b e = absurd (let q : Some cause ≡ None = e in cc)
+
+-- from no one that is leaving, events of one link close who is leaving after them, in order
+closes-taken : (link : LinkId) (told : Told) (a b : CoreView) (events : List Event) → IsCalm a → map connection_link b.connections ≡ map connection_link a.connections → Distinct (links_of a) → AreAlone b → AreSeats b.servers → a.servers.used ≤ 2 ^ 62 → AreInOrder a.servers
+    → All (IsOf link.0) events → Follows a b (run (state_of a told) events) → closings (run (state_of a told) events).acts ≡ closes_asked b
+closes-taken link told a b events calm links distinct alone seats few order all did =
+    let one = run-one link.0 (state_of a told) events all (apart (is_some (at_key connection_link link.0 a.connections)) refl) in
+    one.one ∙ ap (λ cs. cs ++ closed_by link (close_of link.0 acts)) servers ∙ ap (λ cs. seat_closes b.servers.seats ++ cs) (clients one.others)
+  where
+    acts : List Act
+    acts = (run (state_of a told) events).acts
+
+    servers : parted acts ≡ seat_closes b.servers.seats
+    servers = sym (ap (map close_of_parting) (did.parts few order ∙ ap (λ ps. ps ++ parts_in (outs_of acts)) (calm-partings a.servers.seats (calm-seats a calm))))
+
+    now : (k : ℕ) → leaving_on k b.connections ≡ close_of k acts
+    now k = did.leaving k ∙ ap (λ o. or_else o (close_of k acts)) (calm-leaving k a.connections (calm-clients a calm))
+
+    clients : ((k : ℕ) → k ≢ link.0 → close_of k acts ≡ None) → closed_by link (close_of link.0 acts) ≡ leaving_closes b.connections
+    clients others = ap (closed_by link) (sym (now link.0)) ∙ sym (one-closes link b.connections (subst Distinct (sym links) distinct) (λ k n. now k ∙ others k n))
+
+    apart : (t : Bool) → is_some (at_key connection_link link.0 a.connections) ≡ t → IsApart link.0 (state_of a told) events
+    apart false e = inl (client-missing link.0 a.connections (none_of (at_key connection_link link.0 a.connections) e))
+    apart true e =
+        let none : at_key seat_link link.0 b.servers.seats ≡ None = alone link.0 (same-keys connection_link link.0 b.connections a.connections links ∙ e) in
+        inr (
+          ap (λ (s : State). at_key server_link link.0 s.servers) did.means.same ∙ open-none link.0 b.servers.seats seats.apart (ap server_is_open_at none),
+          later-cause (server_leaving_on link.0 a.servers.seats) (part_of link.0 (outs_of acts)) (sym (did.servers.leaving link.0) ∙ ap server_leaving_in none),
+        )
+
+-- where its events are those of a link that came, it is no arrival
+pub none-arrives : (link : LinkId) (k : ℕ) (h : Happening) → All (IsOf link.0) (events_of [] h) → has_come k (h ∷ []) ≡ false
+none-arrives link k (Accepted other nonce) of = absurd (All-head (IsOf link.0) (Arrives other.0 nonce) [] of)
+none-arrives link k (Woke moment) of = refl
+none-arrives link k (Read other bytes) of = refl
+none-arrives link k (Ended other) of = refl
+none-arrives link k (Failed other) of = refl
+none-arrives link k (Connected other) of = refl
+none-arrives link k (Refused other) of = refl
+none-arrives link k ListenFailed of = refl
+
+-- The sockets gave a happening of a link, at which its client or servers may begin to leave, and
+-- others for want of memory. What its events close, in order, is what is then to be closed.
+pub LoopStep-takes : (x y : Headless) (link : LinkId) (a b : Seen) (h : Happening) → is_wake h ≡ 0 → Call a b (h ∷ []) → (IsTrue b.tells → (k : ℕ) → b.sent k ≡ a.sent k) → (IsTrue b.tells → (k : ℕ) → b.choked k ≡ a.choked k) → (IsTrue b.tells → b.asked ≡ a.asked)
+    → SameSets a b → IsCalm x.core → x.core.quits ≡ false → TakesHappening x y h → x.core.starved ≤ y.core.starved → ((taken : List Happening) → All (IsOf link.0) (events_of taken h))
+    → (AgreesWithSockets x a → All (HasCause x y a b) (closes_asked y.core)) → KeepsSaved x.core y.core
     → LoopStep true 0 (is_listen_fault h) x y a b
-LoopStep-takes x y link a b h wake call sent choked same calm going takes of causes saves =
-    LoopStep-step true 0 (is_listen_fault h) x y a b (h ∷ []) (leaving_closes y.core.connections) call (λ below. (let e = takes.turns in omega arith)) (omega arith) (omega arith)
-    (λ t s. ap (λ xs. xs ++ leaving_closes y.core.connections) (takes.closed ∙ sym (ap (λ cs. x.links.closed.items ++ cs) calm ∙ append-nil x.links.closed.items)))
-    (λ s. causes s.among.once) (λ over. absurd (false≢true (sym going ∙ over))) (λ t s. saves)
-    (among-takes x.links.opened.items y.links.opened.items x.core.connections y.core.connections x.used y.used x.listening y.listening a b takes.numbers takes.undrained takes.blocked takes.clients takes.used takes.listening same)
+LoopStep-takes x y link a b h wake call sent choked asked same calm going takes rises of causes saves =
+    let grows : closed_so_far y ≡ closed_so_far x ++ closes_asked y.core = ap (λ xs. xs ++ closes_asked y.core) (takes.closed ∙ sym (ap (λ cs. x.links.closed.items ++ cs) calm.parted ∙ append-nil x.links.closed.items)) in
+    LoopStep-step true 0 (is_listen_fault h) x y a b (h ∷ []) (closes_asked y.core) call (λ below. (let e = takes.turns in omega arith)) (omega arith) (omega arith)
+    rises (λ t s unstarved below. grows) (λ s. reasons-more x y a b (closes_asked y.core) grows (causes s)) (λ s. sides-kept x.core y.core takes.servers) (λ s. Onward-none x.core y.core (h ∷ []) (let r = takes.servers.reached in omega arith) (λ k. none-arrives link k h (of [])))
+    (λ over. absurd (false≢true (sym going ∙ over))) (λ t s. saves)
+    (λ s. rw (takes.used, takes.listening, takes.refused) (among s))
     (λ t s on. takes.told a.taken s.among.unknown on (s.told (call.told t) going))
+    (λ s none. takes.idle none ∙ calm.asked)
     (λ t s.
     let m = takes.takes a.taken (s.told (call.told t) going) in
+    let later = among s.among in
     let one : All (IsOf link.0) m.events = all-front (IsOf link.0) m.events m.reaches.rest (subst (All (IsOf link.0)) m.reaches.front (of a.taken)) in
     record {
       events = m.events;
@@ -144,13 +247,26 @@ LoopStep-takes x y link a b h wake call sent choked same calm going takes of cau
       rises = m.takes.keeps.rises;
       advances = λ fed below rows were.
           let did = m.takes.does fed below s.among.once rows were in
-          MomentAdvances-takes rows (moment x a) (moment y b) (leaving_closes y.core.connections) m.events did takes.clients takes.used (sent t) (choked t) (h ∷ []) (call.taken t)
-          (closes-left link x.core y.core (run (state_of x.core rows) m.events).acts (run-one link.0 (state_of x.core rows) m.events one) calm (subst Distinct (sym takes.clients) s.among.once) did.leaving) (m.takes.stops fed below s.among.once rows were);
+          let acts = (run (state_of x.core rows) m.events).acts in
+          MomentAdvances-takes rows (moment x a) (moment y b) (closes_asked y.core) m.events did takes.clients takes.used takes.servers later.seats (clients-above x.links.opened.items x.core x.used x.listening x.refused.items a s.among)
+          (λ k used. party-used k x.links.opened.items y.links.opened.items x.core y.core x.used x.listening x.refused.items a used takes.clients takes.servers s.among) s.among.alone later.alone (sent t) (choked t)
+          (rw (asked t, did.servers.wanted) (ap (λ xs. a.asked ++ xs) (asks_of-append x.core.servers.wanted (wanted_in (outs_of acts))) ∙ sym (append_assoc a.asked (asks_of x.core.servers.wanted) (asks_in acts))))
+          (h ∷ []) (call.taken t) (closes-taken link rows x.core y.core m.events calm takes.clients s.among.once later.alone later.seats s.among.limited s.among.order one did) (m.takes.stops fed below s.among.once rows were);
       silent = λ over. absurd (false≢true (sym going ∙ over));
       last = λ fed below rows were on over.
           let did = m.takes.does fed below s.among.once rows were in
-          record { front = []; happening = h; back = []; same = refl; within = some-events (state_of x.core rows) m.events (end-by x.core.quits y.core.quits _ going did.quits over); silent = refl };
+          record {
+            front = [];
+            happening = h;
+            back = [];
+            same = refl;
+            within = some-events (state_of x.core rows) m.events (end-by x.core.quits y.core.quits (has_end (run (state_of x.core rows) m.events).acts) going did.quits over);
+            silent = refl;
+          };
     })
+  where
+    among : AgreesOnLinks x.links.opened.items x.core x.used x.listening x.refused.items a → AgreesOnLinks y.links.opened.items y.core x.used x.listening x.refused.items b
+    among s = among-come x.links.opened.items y.links.opened.items x.core y.core x.used x.listening x.refused.items a b takes.numbers takes.undrained takes.blocked takes.there takes.clients takes.servers same s
 
 -- ---- causes
 
@@ -169,14 +285,76 @@ began link other None None why e f h = absurd (let q : None ≡ Some why = f in 
 began link other None (Some c) why e f h = let same : c ≡ why = (let q : Some c ≡ Some why = f in cc) in subst (IsOfLine link other) same h
 began link other (Some c) after why e f h = absurd (let q : Some c ≡ None = e in cc)
 
-pub causes-line : (link : LinkId) (bytes : List ℕ) (old new : CoreView) (a b : Seen) → NobodyLeaving old.connections → LeavesAtLine link.0 old new → (IsTrue b.tells → b.taken ≡ a.taken ++ Read link bytes ∷ []) → Distinct (links_of old) → All (IsCaused a b) (leaving_closes new.connections)
-causes-line link bytes old new a b calm h e distinct =
-    closes-all (λ k why. CausedBy why k a b) new.connections (subst Distinct (sym h.links) distinct)
-    (λ k why leaves. line-caused link k bytes why a b (began link.0 k (leaving_on k old.connections) (leaving_on k new.connections) why (calm-leaving k old.connections calm) leaves (h.leaving distinct k)) e)
+there-leaving : (o : Option SeatView) (why : Cause) → server_leaving_in o ≡ Some why → is_some o ≡ true
+there-leaving None why e = absurd (let q : None ≡ Some why = e in cc)
+there-leaving (Some seat) why e = refl
 
-pub causes-lost : (link : LinkId) (why : Cause) (old : List Connection) (a b : Seen) → NobodyLeaving old → CausedBy why link.0 a b → All (IsCaused a b) (leaving_closes (left_at link.0 why old (at_key connection_link link.0 old)))
-causes-lost link why old a b calm h = lost-by (at_key connection_link link.0 old) refl
+-- the number of a server that is leaving is drawn
+pub leaving-drawn : (core : CoreView) (k : ℕ) (why : Cause) → AreSeats core.servers → server_leaving_on k core.servers.seats ≡ Some why → k ≤ core.servers.used
+leaving-drawn core k why seats leaves = drawn-by (nat_le k core.servers.used) refl
   where
-    lost-by : (o : Option Connection) → at_key connection_link link.0 old ≡ o → All (IsCaused a b) (leaving_closes (left_at link.0 why old o))
-    lost-by None e = rw (calm-left link why old None e calm) (All-nil (IsCaused a b))
-    lost-by (Some s) e = rw (calm-left link why old (Some s) e calm) (All-cons (IsCaused a b) (record { link = link; cause = why }) [] h (All-nil (IsCaused a b)))
+    drawn-by : (t : Bool) → nat_le k core.servers.used ≡ t → k ≤ core.servers.used
+    drawn-by true e = grind (arith, nat_tests)
+    drawn-by false e =
+        let above : core.servers.used < k = grind (arith, nat_tests) in
+        absurd (let missing : None ≡ Some why = sym (ap server_leaving_in (seats-above core k seats above)) ∙ leaves in cc)
+
+-- a server that is leaving after a happening that is no arrival
+pub is-of-server : (x y : Headless) (a b : Seen) (k : ℕ) (why : Cause) (given : List Happening) → AreSeats y.core.servers → KeepsSides x.core y.core → (IsTrue b.tells → b.taken ≡ a.taken ++ given) → has_come k given ≡ false → server_leaving_on k y.core.servers.seats ≡ Some why
+    → IsOfServer x y a b (record { link = record { 0 = k }; cause = why })
+is-of-server x y a b k why given seats sides taken none leaves = record {
+  side = sides k (inl (there-leaving (at_key seat_link k y.core.servers.seats) why leaves));
+  drawn = leaving-drawn y.core k why seats leaves;
+  uncome = uncome-as k a b given taken none;
+}
+
+-- what is to be closed of clients has its cause
+pub causes-all : (x y : Headless) (a b : Seen) (given : List Happening) → Distinct (links_of y.core) → AreSeats y.core.servers → KeepsSides x.core y.core → (IsTrue b.tells → b.taken ≡ a.taken ++ given) → ((k : ℕ) → has_come k given ≡ false) → ((k : ℕ) (why : Cause) → leaving_on k y.core.connections ≡ Some why → CausedBy why k a b)
+    → All (HasCause x y a b) (closes_asked y.core)
+causes-all x y a b given distinct seats sides taken none clients =
+    All-append (HasCause x y a b) (seat_closes y.core.servers.seats) (leaving_closes y.core.connections)
+    (seats-all (λ k why. HasCause x y a b (record { link = record { 0 = k }; cause = why })) y.core.servers.seats seats.apart (λ k why leaves. inr (is-of-server x y a b k why given seats sides taken (none k) leaves)))
+    (closes-all (λ k why. HasCause x y a b (record { link = record { 0 = k }; cause = why })) y.core.connections distinct (λ k why leaves. inl (clients k why leaves)))
+
+-- what is to be closed after a read has its cause in it
+pub causes-line : (link : LinkId) (bytes : List ℕ) (x y : Headless) (a b : Seen) → IsCalm x.core → LeavesAtLine link.0 x.core y.core → (IsTrue b.tells → b.taken ≡ a.taken ++ Read link bytes ∷ []) → Distinct (links_of x.core) → AreSeats y.core.servers → KeepsSides x.core y.core
+    → All (HasCause x y a b) (closes_asked y.core)
+causes-line link bytes x y a b calm h e distinct seats sides =
+    causes-all x y a b (Read link bytes ∷ []) (subst Distinct (sym h.links) distinct) seats sides e (λ k. refl)
+    (λ k why leaves. line-caused link k bytes why a b (began link.0 k (leaving_on k x.core.connections) (leaving_on k y.core.connections) why (calm-leaving k x.core.connections (calm-clients x.core calm)) leaves (h.leaving distinct k)) e)
+
+no-memory : (a b : Seen) (k : ℕ) (before after : Option Cause) (why : Cause) → before ≡ None → after ≡ Some why → StaysOrStarves before after → CausedBy why k a b
+no-memory a b k before after why none some (inl e) = absurd (let q : None ≡ Some why = sym none ∙ sym e ∙ some in cc)
+no-memory a b k before after why none some (inr e) = let same : NoMemory ≡ why = (let q : Some NoMemory ≡ Some why = sym e ∙ some in cc) in subst (λ c. CausedBy c k a b) same tt
+
+-- where clients leave for want of memory alone
+pub causes-stands : (x y : Headless) (a b : Seen) (given : List Happening) → IsCalm x.core → links_of y.core ≡ links_of x.core → Distinct (links_of x.core) → AreSeats y.core.servers → KeepsSides x.core y.core → (IsTrue b.tells → b.taken ≡ a.taken ++ given) → ((k : ℕ) → has_come k given ≡ false)
+    → ((k : ℕ) → StaysOrStarves (leaving_on k x.core.connections) (leaving_on k y.core.connections)) → All (HasCause x y a b) (closes_asked y.core)
+causes-stands x y a b given calm links distinct seats sides taken none stays =
+    causes-all x y a b given (subst Distinct (sym links) distinct) seats sides taken none
+    (λ k why leaves. no-memory a b k (leaving_on k x.core.connections) (leaving_on k y.core.connections) why (calm-leaving k x.core.connections (calm-clients x.core calm)) leaves (stays k))
+
+same-cause : (o : Option Cause) (cause why : Cause) → o ≡ Some cause → o ≡ Some why → cause ≡ why
+same-cause o cause why e f = let q : Some cause ≡ Some why = sym e ∙ f in cc
+
+-- what is to be closed after a link was lost
+pub causes-lost : (link : LinkId) (cause : Cause) (x y : Headless) (a b : Seen) (h : Happening) → IsCalm x.core → LosesLink link.0 cause x.core y.core → Distinct (links_of x.core) → AreSeats y.core.servers → KeepsSides x.core y.core → (IsTrue b.tells → b.taken ≡ a.taken ++ h ∷ []) → ((k : ℕ) → has_come k (h ∷ []) ≡ false) → CausedBy cause link.0 a b
+    → All (HasCause x y a b) (closes_asked y.core)
+causes-lost link cause x y a b happening calm h distinct seats sides taken none caused =
+    causes-all x y a b (happening ∷ []) (subst Distinct (sym h.keeps.links) distinct) seats sides taken none (λ k why leaves. client-by k why leaves (eqb k link.0) refl)
+  where
+    before : (k : ℕ) → leaving_on k x.core.connections ≡ None
+    before k = calm-leaving k x.core.connections (calm-clients x.core calm)
+
+    own-by : (why : Cause) → leaving_on link.0 y.core.connections ≡ Some why → (leaving_on link.0 y.core.connections ≡ None) ⊎ ((leaving_on link.0 y.core.connections ≡ Some cause) ⊎ (leaving_on link.0 y.core.connections ≡ Some NoMemory)) → CausedBy why link.0 a b
+    own-by why leaves (inl none) = absurd (let q : None ≡ Some why = sym none ∙ leaves in cc)
+    own-by why leaves (inr (inl left)) = subst (λ c. CausedBy c link.0 a b) (same-cause (leaving_on link.0 y.core.connections) cause why left leaves) caused
+    own-by why leaves (inr (inr starves)) = subst (λ c. CausedBy c link.0 a b) (same-cause (leaving_on link.0 y.core.connections) NoMemory why starves leaves) tt
+
+    client-by : (k : ℕ) (why : Cause) → leaving_on k y.core.connections ≡ Some why → (t : Bool) → eqb k link.0 ≡ t → CausedBy why k a b
+    client-by k why leaves true e =
+        let same : k ≡ link.0 = grind (arith, nat_tests) in
+        subst (λ n. CausedBy why n a b) (sym same) (own-by why (ap (λ n. leaving_on n y.core.connections) (sym same) ∙ leaves) (h.leaves distinct (before link.0)))
+    client-by k why leaves false e =
+        let other : k ≢ link.0 = λ q. grind (arith, nat_tests) in
+        no-memory a b k (leaving_on k x.core.connections) (leaving_on k y.core.connections) why (before k) leaves (h.causes distinct k other)

@@ -1,9 +1,8 @@
 -- How a loop goes on.
-use Rattle.std.proofs.Common.{◌≡◌, ℕ, ◌+◌, ◌^◌, ◌<◌, ◌≤◌, Bool, true, false, ◌||◌, IsTrue, List, [], ◌∷◌, ◌++◌, length, All, Result, Ok, Err, OnErr, is_ok, refl, sym, ap, ◌∙◌, subst, arith, append_assoc}
+use Rattle.std.proofs.Common.{◌≡◌, ℕ, ◌+◌, ◌-◌, ◌^◌, ◌<◌, ◌≤◌, Bool, true, false, ◌||◌, IsTrue, List, [], ◌∷◌, ◌++◌, length, map, All, Result, Ok, Err, OnErr, is_ok, refl, sym, ap, ◌∙◌, subst, arith, append_assoc}
 use Rattle.std.proofs.lemmas.Bool.{false≢true}
 use Rattle.std.proofs.lemmas.List.{append-nil, length-append}
 use Rattle.std.proofs.lemmas.List.Folds.{list_any-append}
-use Rattle.std.proofs.lemmas.List.Elements.{All-nil, All-append}
 use Rattle.wc_outside.specs.Seen.{Seen}
 use Rattle.wc_outside.specs.Faults.{Faults, NeverFall, Rose}
 use Rattle.wc_outside.specs.declared.happening.Happening.{Happening}
@@ -11,26 +10,31 @@ use Rattle.wc_outside.specs.declared.happening.Failed.{Failed as Fault}
 use Rattle.wc_core.specs.Events.{Event}
 use Rattle.wc_core.specs.State.{State, has_end}
 use Rattle.wc_core.specs.Step.{run}
-use Rattle.wc_core.specs.Served.{state_of, WereTold, Means, sent_to, KeepsSaved}
+use Rattle.wc_core.specs.Served.{state_of, WereTold, Means, KeepsSaved}
+use Rattle.wc_text.specs.declared.names.Address.{Address}
+use Rattle.wc_outside.specs.declared.happening.Asked.TheVariants.{Connect}
 use Rattle.wc_board.specs.Told.{Told}
-use Rattle.wc_core.proofs.DidLemmas.{sent_to-append, has_end-append, KeepsSaved-trans}
+use Rattle.wc_core.proofs.DidLemmas.{has_end-append, KeepsSaved-trans}
 use Rattle.wc_turns.specs.declared.links.Closed.{Closed}
 use Rattle.wc_turns.specs.declared.headless.Headless.{Headless}
 use Rattle.wc_turns.specs.Events.{events_from}
 use Rattle.wc_turns.specs.Run.{closings, EndsAtQuit}
-use Rattle.wc_turns.specs.Served.{NobodyLeaving, ReachesEvents}
-use Rattle.wc_turns.specs.Turns.{AgreesWithHappenings, AgreesOnLinks, AgreesWithSockets, Moment, moment, point, MomentAdvances, gives, GivesNothing, QuitsWithin, CoreTakes, IsCaused, wake_count, listen_faults, faults_of, closed_so_far, LoopStep, ClosesExactly}
+use Rattle.wc_turns.specs.Parties.{owed_to, asks_in, IsCalm}
+use Rattle.wc_turns.specs.Served.{ReachesEvents}
+use Rattle.wc_turns.specs.Turns.{AgreesWithHappenings, AgreesOnLinks, AgreesWithSockets, Moment, moment, point, MomentAdvances, gives, GivesNothing, QuitsWithin, CoreTakes, HasCause, HasReason, wake_count, listen_faults, faults_of, closed_so_far, LoopStep, ClosesExactly}
 use Rattle.wc_turns.proofs.RunLemmas.{run-append-state, run-append-acts, closings-append, events_from-append, ReachesEvents-trans, ReachesEvents-none, EndsAtQuit-append}
 use Rattle.wc_turns.proofs.HandsLemmas.{Delivers-trans}
-use Rattle.wc_turns.proofs.CauseLemmas.{caused-later, caused-following}
+use Rattle.wc_turns.proofs.PointLemmas.{owed_to-append, asks_in-append, OnOneSide-trans}
+use Rattle.wc_turns.proofs.CauseLemmas.{KeepsSides, Onward, Onward-none, Onward-trans, reasons-trans, reasons-as, reasons-same, turn-reasons}
 
 pub NeverFall-refl : (a : Faults) → NeverFall a a
-NeverFall-refl a = record { waits = omega arith; listens = omega arith; links = omega arith }
+NeverFall-refl a = record { waits = omega arith; listens = omega arith; connects = omega arith; links = omega arith }
 
 pub NeverFall-trans : (a b c : Faults) → NeverFall a b → NeverFall b c → NeverFall a c
 NeverFall-trans a b c h g = record {
   waits = (let p = h.waits in let q = g.waits in omega arith);
   listens = (let p = h.listens in let q = g.listens in omega arith);
+  connects = (let p = h.connects in let q = g.connects in omega arith);
   links = (let p = h.links in let q = g.links in omega arith);
 }
 
@@ -54,7 +58,9 @@ MomentAdvances-trans told a b c closed closed' es fs over h g =
     record {
       means = subst P (ap (λ s. (run s fs).state) (sym h.means.same) ∙ sym (run-append-state (state_of a.core told) es fs)) g.means;
       stops = EndsAtQuit-append (state_of a.core told) es fs h.stops (λ q. over (h.quits ∙ or-end a.core.quits (has_end first) q)) (subst (λ s. EndsAtQuit s fs) (sym h.means.same) g.stops);
-      hands = λ k. rw (acts, sent_to-append k first second) (Delivers-trans (point k a) (point k b) (point k c) (sent_to k first) (sent_to k second) (h.hands k) (rw same at (g.hands k)));
+      hands = λ k. rw (acts, owed_to-append k first second) (Delivers-trans (point k a) (point k b) (point k c) (owed_to k first) (owed_to k second) (h.hands k) (rw same at (g.hands k)));
+      sides = rw acts (OnOneSide-trans a.core b.core c.core first second h.sides (rw same at g.sides));
+      asks = rw (acts, asks_in-append first second) (g.asks ∙ ap (λ xs. xs ++ asks_in (run later fs).acts) h.asks ∙ append_assoc a.asked (asks_in first) _ ∙ ap (λ acts'. a.asked ++ (asks_in first ++ asks_in acts')) same);
       closes = rw acts (closings-append first second ∙ ap (λ cs. cs ++ closings second) h.closes ∙ ap (λ cs. closed ++ cs) (rw same at g.closes));
       quits = g.quits ∙ ap (λ q. q || has_end (run later fs).acts) h.quits ∙ or-assoc a.core.quits (has_end first) _
           ∙ ap (λ acts'. a.core.quits || (has_end first || has_end acts')) same ∙ ap (λ q. a.core.quits || q) (sym (has_end-append first second)) ∙ ap (λ done. a.core.quits || has_end done) (sym acts);
@@ -134,48 +140,90 @@ pub record Call (before after : Seen) (given : List Happening) : Type 0 where
   pub asked : IsTrue after.tells → after.asked ≡ before.asked
   pub counts : NeverFall before.faults after.faults
 
--- a step of the loop: a call of the sockets, and what the loop does at it
-unfoldable pub LoopStep-step : (w : Bool) (n f : ℕ) (x y : Headless) (a b : Seen) (given : List Happening) (closed : List Closed)
-    → Call a b given → (x.turns + n < 2 ^ 64 → y.turns ≡ x.turns + n) → wake_count given ≡ n → listen_faults given ≡ f
-    → (w ≡ true → AgreesWithSockets x a → closed_so_far y ≡ closed_so_far x ++ closed) → (AgreesWithSockets x a → All (IsCaused a b) closed) → (x.core.quits ≡ true → y.core.quits ≡ true) → (w ≡ true → AgreesWithSockets x a → KeepsSaved x.core y.core)
-    → (AgreesOnLinks x.links.opened.items x.core.connections x.used x.listening a → AgreesOnLinks y.links.opened.items y.core.connections y.used y.listening b)
-    → (IsTrue b.tells → AgreesWithSockets x a → y.core.quits ≡ false → AgreesWithHappenings y.clock y.links.opened.items y.used y.ran (a.taken ++ given))
+-- one that may ask for connections
+pub record AskingCall (before after : Seen) (given : List Happening) (connects : List Address) : Type 0 where
+  pub told : IsTrue after.tells → IsTrue before.tells
+  pub taken : IsTrue after.tells → after.taken ≡ before.taken ++ given
+  pub asked : IsTrue after.tells → after.asked ≡ before.asked ++ map Connect connects
+  pub counts : NeverFall before.faults after.faults
+
+-- a step of the loop: a call of the sockets, at which it may ask for connections, and what the loop
+-- does at it
+unfoldable pub LoopStep-ask : (w : Bool) (n f : ℕ) (x y : Headless) (a b : Seen) (given : List Happening) (connects : List Address) (closed : List Closed)
+    → AskingCall a b given connects → (x.turns + n < 2 ^ 64 → y.turns ≡ x.turns + n) → wake_count given ≡ n → listen_faults given ≡ f
+    → x.core.starved ≤ y.core.starved → (w ≡ true → AgreesWithSockets x a → y.core.starved ≡ x.core.starved → x.core.starved < 2 ^ 64 - 1 → closed_so_far y ≡ closed_so_far x ++ closed) → (AgreesWithSockets x a → All (HasReason x y a b) (closed_so_far y)) → (AgreesWithSockets x a → KeepsSides x.core y.core) → (AgreesWithSockets x a → Onward x.core y.core given)
+    → (x.core.quits ≡ true → y.core.quits ≡ true) → (w ≡ true → AgreesWithSockets x a → KeepsSaved x.core y.core)
+    → (AgreesOnLinks x.links.opened.items x.core x.used x.listening x.refused.items a → AgreesOnLinks y.links.opened.items y.core y.used y.listening y.refused.items b)
+    → (IsTrue b.tells → AgreesWithSockets x a → y.core.quits ≡ false → AgreesWithHappenings y.clock y.links.opened.items y.used y.ran y.refused.items y.unlisted (a.taken ++ given))
+    → (AgreesWithSockets x a → y.ran ≡ 0 → y.core.servers.wanted ≡ [])
     → (IsTrue b.tells → AgreesWithSockets x a → CoreTakes (moment x a) (moment y b) x.ran y.ran closed given)
     → LoopStep w n f x y a b
-LoopStep-step w n f x y a b given closed call turns wake listen grows causes quits saves among told goes = record {
+LoopStep-ask w n f x y a b given connects closed call turns wake listen rises grows causes sides onward quits saves among told idle goes = record {
   turns = turns;
   counts = call.counts;
   told = call.told;
+  connects = connects;
   asked = call.asked;
   wakes = λ t. (let e = ap wake_count (call.taken t) in let q = wakes-append a.taken given in omega arith);
   listens = λ t. (let e = ap listen_faults (call.taken t) in let q = listen_faults-append a.taken given in omega arith);
   gained = given;
   taken = call.taken;
+  rises = rises;
   closed = closed;
   grows = grows;
   causes = causes;
+  sides = sides;
+  reached = λ s. (onward s).reached;
+  comes = λ s. (onward s).comes;
   quits = quits;
   saves = saves;
-  agrees = λ s. record { among = among s.among; told = λ t on. rw (call.taken t) (told t s on) };
+  agrees = λ s. record { among = among s.among; told = λ t on. rw (call.taken t) (told t s on); idle = idle s };
   goes = goes;
 }
 
+-- a step at which nothing is asked for
+unfoldable pub LoopStep-step : (w : Bool) (n f : ℕ) (x y : Headless) (a b : Seen) (given : List Happening) (closed : List Closed)
+    → Call a b given → (x.turns + n < 2 ^ 64 → y.turns ≡ x.turns + n) → wake_count given ≡ n → listen_faults given ≡ f
+    → x.core.starved ≤ y.core.starved → (w ≡ true → AgreesWithSockets x a → y.core.starved ≡ x.core.starved → x.core.starved < 2 ^ 64 - 1 → closed_so_far y ≡ closed_so_far x ++ closed) → (AgreesWithSockets x a → All (HasReason x y a b) (closed_so_far y)) → (AgreesWithSockets x a → KeepsSides x.core y.core) → (AgreesWithSockets x a → Onward x.core y.core given)
+    → (x.core.quits ≡ true → y.core.quits ≡ true) → (w ≡ true → AgreesWithSockets x a → KeepsSaved x.core y.core)
+    → (AgreesOnLinks x.links.opened.items x.core x.used x.listening x.refused.items a → AgreesOnLinks y.links.opened.items y.core y.used y.listening y.refused.items b)
+    → (IsTrue b.tells → AgreesWithSockets x a → y.core.quits ≡ false → AgreesWithHappenings y.clock y.links.opened.items y.used y.ran y.refused.items y.unlisted (a.taken ++ given))
+    → (AgreesWithSockets x a → y.ran ≡ 0 → y.core.servers.wanted ≡ [])
+    → (IsTrue b.tells → AgreesWithSockets x a → CoreTakes (moment x a) (moment y b) x.ran y.ran closed given)
+    → LoopStep w n f x y a b
+unfolding LoopStep-ask
+LoopStep-step w n f x y a b given closed call turns wake listen rises grows causes sides onward quits saves among told idle goes =
+    LoopStep-ask w n f x y a b given [] closed (record { told = call.told; taken = call.taken; asked = λ t. call.asked t ∙ sym (append-nil a.asked); counts = call.counts }) turns wake listen rises grows causes sides onward quits saves among told idle goes
+
+connects-both : (xs ys : List Address) → map Connect (xs ++ ys) ≡ map Connect xs ++ map Connect ys
+connects-both [] ys = refl
+connects-both (x ∷ xs) ys = ap (λ zs. Connect x ∷ zs) (connects-both xs ys)
+
 grown-by : (x y z : Headless) (c d : List Closed) → closed_so_far y ≡ closed_so_far x ++ c → closed_so_far z ≡ closed_so_far y ++ d → closed_so_far z ≡ closed_so_far x ++ (c ++ d)
 grown-by x y z c d e f = f ∙ ap (λ xs. xs ++ d) e ∙ append_assoc (closed_so_far x) c d
+
+-- what comes at a step
+pub onward-of : {w : Bool} {n f : ℕ} (x y : Headless) (a b : Seen) (h : LoopStep w n f x y a b) → AgreesWithSockets x a → Onward x.core y.core h.gained
+onward-of x y a b h s = record { reached = h.reached s; comes = h.comes s }
 
 pub LoopStep-sum : {w : Bool} {n m k f g e : ℕ} → n + m ≡ k → f + g ≡ e → (x y z : Headless) (a b c : Seen) → LoopStep w n f x y a b → LoopStep w m g y z b c → LoopStep w k e x z a c
 LoopStep-sum {w} {n} {m} {k} {f} {g} {e} nm fg x y z a b c h q = record {
   turns = λ below. (let first = h.turns (omega arith) in let second = q.turns (omega arith) in omega arith);
   counts = NeverFall-trans _ _ _ h.counts q.counts;
   told = λ t. h.told (q.told t);
-  asked = λ t. q.asked t ∙ h.asked (q.told t);
+  connects = h.connects ++ q.connects;
+  asked = λ t. q.asked t ∙ ap (λ xs. xs ++ map Connect q.connects) (h.asked (q.told t)) ∙ append_assoc a.asked (map Connect h.connects) (map Connect q.connects) ∙ ap (λ xs. a.asked ++ xs) (sym (connects-both h.connects q.connects));
   wakes = λ t. (let first = h.wakes (q.told t) in let second = q.wakes t in omega arith);
   listens = λ t. (let first = h.listens (q.told t) in let second = q.listens t in omega arith);
   closed = h.closed ++ q.closed;
-  grows = λ t s. grown-by x y z h.closed q.closed (h.grows t s) (q.grows t (h.agrees s));
+  rises = (let first = h.rises in let second = q.rises in omega arith);
+  grows = λ t s same below. (let first = h.rises in let second = q.rises in grown-by x y z h.closed q.closed (h.grows t s (omega arith) below) (q.grows t (h.agrees s) (omega arith) (omega arith)));
   gained = h.gained ++ q.gained;
   taken = λ t. q.taken t ∙ ap (λ xs. xs ++ q.gained) (h.taken (q.told t)) ∙ append_assoc a.taken h.gained q.gained;
-  causes = λ s. All-append (IsCaused a c) h.closed q.closed (caused-later a b c h.closed q.gained q.told q.taken q.counts (h.causes s)) (caused-following a b c q.closed h.gained q.told h.taken h.counts (q.causes (h.agrees s)));
+  causes = λ s. reasons-trans x y z a b c h.gained q.gained q.told h.taken q.taken h.counts q.counts (h.sides s) (onward-of x y a b h s) (onward-of y z b c q (h.agrees s)) (h.causes s) (q.causes (h.agrees s));
+  sides = λ s k g. h.sides s k (q.sides (h.agrees s) k g);
+  reached = λ s. (Onward-trans x.core y.core z.core h.gained q.gained (q.sides (h.agrees s)) (onward-of x y a b h s) (onward-of y z b c q (h.agrees s))).reached;
+  comes = λ s. (Onward-trans x.core y.core z.core h.gained q.gained (q.sides (h.agrees s)) (onward-of x y a b h s) (onward-of y z b c q (h.agrees s))).comes;
   quits = λ over. q.quits (h.quits over);
   saves = λ t s. KeepsSaved-trans x.core y.core z.core (h.saves t s) (q.saves t (h.agrees s));
   agrees = λ s. q.agrees (h.agrees s);
@@ -199,20 +247,25 @@ LoopStep-good (Ok v) x y a b e h = h
 LoopStep-good (Err f) x y a b e h = absurd (false≢true e)
 
 -- what is seen of more than one turn, of a state that stands for the same
-pub LoopStep-as : {w : Bool} {n f : ℕ} (x y z : Headless) (a b : Seen) → z.turns ≡ y.turns → (y.core.quits ≡ true → z.core.quits ≡ true) → (AgreesWithSockets y b → AgreesWithSockets z b)
+pub LoopStep-as : {w : Bool} {n f : ℕ} (x y z : Headless) (a b : Seen) → z.turns ≡ y.turns → z.core.starved ≡ y.core.starved → closed_so_far z ≡ closed_so_far y → z.core.servers ≡ y.core.servers → (y.core.quits ≡ true → z.core.quits ≡ true) → (AgreesWithSockets y b → AgreesWithSockets z b)
     → ((closed : List Closed) (more : List Happening) → CoreTakes (moment x a) (moment y b) x.ran y.ran closed more → CoreTakes (moment x a) (moment z b) x.ran z.ran closed more) → LoopStep w n f x y a b → LoopStep false n f x z a b
-LoopStep-as x y z a b turns quits agrees takes h = record {
+LoopStep-as {w} x y z a b turns starved closes servers quits agrees takes h = record {
   turns = λ below. turns ∙ h.turns below;
   counts = h.counts;
   told = h.told;
+  connects = h.connects;
   asked = h.asked;
   wakes = h.wakes;
   listens = h.listens;
   gained = h.gained;
   taken = h.taken;
+  rises = (let r = h.rises in omega arith);
   closed = h.closed;
   grows = λ t. absurd (false≢true t);
-  causes = h.causes;
+  causes = λ s. rw closes (reasons-as x y z a b (ap (λ v. v.used) servers) (closed_so_far y) (h.causes s));
+  sides = λ s k g. h.sides s k (rw servers at g);
+  reached = λ s. (let p = h.reached s in let e = ap (λ v. v.used) servers in omega arith);
+  comes = λ s k e. (let q = h.comes s k e in (q.0, λ g. q.1 (rw servers at g)));
   quits = λ over. quits (h.quits over);
   saves = λ t. absurd (false≢true t);
   agrees = λ s. agrees (h.agrees s);
@@ -220,7 +273,7 @@ LoopStep-as x y z a b turns quits agrees takes h = record {
 }
 
 pub LoopStep-wider : {n f : ℕ} (x y : Headless) (a b : Seen) → LoopStep true n f x y a b → LoopStep false n f x y a b
-LoopStep-wider x y a b h = LoopStep-as x y y a b refl (λ over. over) (λ s. s) (λ closed more takes. takes) h
+LoopStep-wider x y a b h = LoopStep-as x y y a b refl refl refl refl (λ over. over) (λ s. s) (λ closed more takes. takes) h
 
 -- a turn begins, and what it closes then goes on
 pub LoopStep-joined : (x y z : Headless) (a b c : Seen) (h : LoopStep false 1 0 x y a b) (q : LoopStep true 0 0 y z b c) → (j : LoopStep false 1 0 x z a c) × (j.closed ≡ h.closed ++ q.closed)
@@ -228,16 +281,17 @@ unfolding LoopStep-sum LoopStep-wider LoopStep-as
 LoopStep-joined x y z a b c h q = (LoopStep-sum (omega arith) (omega arith) x y z a b c h (LoopStep-wider y z b c q), refl)
 
 -- nothing is taken, and the loop changes nothing that its clients or the happenings see
-pub LoopStep-still : (x y : Headless) (a b : Seen) → Call a b [] → y.turns ≡ x.turns → y.core.starved ≡ x.core.starved → y.core.quits ≡ x.core.quits → y.ran ≡ x.ran → KeepsSaved x.core y.core
-    → (AgreesWithSockets x a → closed_so_far y ≡ closed_so_far x)
-    → (AgreesOnLinks x.links.opened.items x.core.connections x.used x.listening a → AgreesOnLinks y.links.opened.items y.core.connections y.used y.listening b)
-    → (IsTrue b.tells → AgreesWithHappenings x.clock x.links.opened.items x.used x.ran a.taken → AgreesWithHappenings y.clock y.links.opened.items y.used y.ran a.taken)
+pub LoopStep-still : (x y : Headless) (a b : Seen) → Call a b [] → y.turns ≡ x.turns → y.core.starved ≡ x.core.starved → y.core.quits ≡ x.core.quits → y.ran ≡ x.ran → KeepsSides x.core y.core → y.core.servers.used ≡ x.core.servers.used → y.core.servers.wanted ≡ x.core.servers.wanted → KeepsSaved x.core y.core
+    → closed_so_far y ≡ closed_so_far x
+    → (AgreesOnLinks x.links.opened.items x.core x.used x.listening x.refused.items a → AgreesOnLinks y.links.opened.items y.core y.used y.listening y.refused.items b)
+    → (IsTrue b.tells → AgreesWithHappenings x.clock x.links.opened.items x.used x.ran x.refused.items x.unlisted a.taken → AgreesWithHappenings y.clock y.links.opened.items y.used y.ran y.refused.items y.unlisted a.taken)
     → (IsTrue b.tells → AgreesWithSockets x a → (told : Told) → WereTold x.core told → MomentAdvances told (moment x a) (moment y b) [] [])
     → LoopStep true 0 0 x y a b
-LoopStep-still x y a b call turns starved quits ran saves closed among told advances =
+LoopStep-still x y a b call turns starved quits ran sides used wanted saves closed among told advances =
     LoopStep-step true 0 0 x y a b [] [] call (λ below. omega arith) refl refl
-    (λ t s. closed s ∙ sym (append-nil _)) (λ s. All-nil _) (λ over. quits ∙ over) (λ t s. saves) among
+    (omega arith) (λ t s same below. closed ∙ sym (append-nil _)) (λ s. reasons-same x y a b closed) (λ s. sides) (λ s. Onward-none x.core y.core [] (omega arith) (λ k. refl)) (λ over. quits ∙ over) (λ t s. saves) among
     (λ t s on. rw (append-nil a.taken) (told t (s.told (call.told t) (sym quits ∙ on))))
+    (λ s none. wanted ∙ s.idle (sym ran ∙ none))
     (λ t s. record { events = []; reaches = rw ran (ReachesEvents-none x.core.quits y.core.quits x.ran); rises = omega arith; advances = λ same below. advances t s; silent = λ over. refl; last = λ same below told were going over. absurd (false≢true (sym going ∙ sym quits ∙ over)) })
 
 pub Rose-following : {A : Type 0} (r : Result A Fault) (p q n : ℕ) → p ≤ q → OnErr r (Rose q n) → OnErr r (Rose p n)
@@ -248,19 +302,25 @@ pub Rose-later : {A : Type 0} (r : Result A Fault) (p q n : ℕ) → q ≤ n →
 Rose-later (Ok v) p q n below h = tt
 Rose-later (Err f) p q n below h = omega arith
 
--- the links that a turn closes
-pub turn-closes : {f : ℕ} (x z w : Headless) (a b c : Seen) → AgreesWithSockets x a → NobodyLeaving z.core.connections → NobodyLeaving w.core.connections → (h : LoopStep false 1 0 x z a b) → z.links.closed.items ≡ h.closed → (q : LoopStep true 0 f z w b c) → w.links.closed.items ≡ h.closed ++ q.closed
-turn-closes x z w a b c s calm calm' h lists q =
-    sym (ap (λ cs. w.links.closed.items ++ cs) calm' ∙ append-nil _) ∙ q.grows refl (h.agrees s) ∙ ap (λ cs. cs ++ q.closed) (ap (λ cs. z.links.closed.items ++ cs) calm ∙ append-nil _ ∙ lists)
+-- what is left to close where nobody is leaving
+calm-closed : (x : Headless) → IsCalm x.core → closed_so_far x ≡ x.links.closed.items
+calm-closed x calm = ap (λ cs. x.links.closed.items ++ cs) calm.parted ∙ append-nil x.links.closed.items
 
-pub turn-causes : {f : ℕ} (x z w : Headless) (a b c : Seen) → AgreesWithSockets x a → NobodyLeaving z.core.connections → NobodyLeaving w.core.connections → (h : LoopStep false 1 0 x z a b) → z.links.closed.items ≡ h.closed → (q : LoopStep true 0 f z w b c) → All (IsCaused a c) w.links.closed.items
-turn-causes x z w a b c s calm calm' h lists q = rw (turn-closes x z w a b c s calm calm' h lists q)
-    (All-append (IsCaused a c) h.closed q.closed (caused-later a b c h.closed q.gained q.told q.taken q.counts (h.causes s)) (caused-following a b c q.closed h.gained q.told h.taken h.counts (q.causes (h.agrees s))))
+-- the links that a turn closes
+pub turn-closes : {f : ℕ} (x z w : Headless) (a b c : Seen) → AgreesWithSockets x a → IsCalm z.core → IsCalm w.core → (h : LoopStep false 1 0 x z a b) → (z.core.starved ≡ x.core.starved → x.core.starved < 2 ^ 64 - 1 → z.links.closed.items ≡ h.closed) → (q : LoopStep true 0 f z w b c) → w.core.starved ≡ x.core.starved → x.core.starved < 2 ^ 64 - 1 → w.links.closed.items ≡ h.closed ++ q.closed
+turn-closes x z w a b c s calm calm' h lists q same below =
+    let first = h.rises in
+    let second = q.rises in
+    sym (calm-closed w calm') ∙ q.grows refl (h.agrees s) (omega arith) (omega arith) ∙ ap (λ cs. cs ++ q.closed) (calm-closed z calm ∙ lists (omega arith) below)
+
+pub turn-causes : {f : ℕ} (x z w : Headless) (a b c : Seen) → AgreesWithSockets x a → IsCalm z.core → IsCalm w.core → (h : LoopStep false 1 0 x z a b) → All (HasCause x z a b) z.links.closed.items → (q : LoopStep true 0 f z w b c) → All (HasCause x w a c) w.links.closed.items
+turn-causes x z w a b c s calm calm' h caused q = rw (calm-closed w calm') at
+    (turn-reasons x z w a b c h.gained q.gained q.told h.taken q.taken h.counts q.counts (h.sides s) (onward-of x z a b h s) (onward-of z w b c q (h.agrees s)) (rw (calm-closed z calm) caused) (q.causes (h.agrees s)))
 
 pub turn-continues : {f : ℕ} (x z w : Headless) (a b c : Seen) → LoopStep false 1 0 x z a b → LoopStep true 0 f z w b c → LoopStep false 1 f x w a c
 turn-continues {f} x z w a b c h q = LoopStep-sum (omega arith) (omega arith) x z w a b c h (LoopStep-wider z w b c q)
 
-exactly-by : {f : ℕ} (x z w : Headless) (a b c : Seen) → AgreesWithSockets x a → NobodyLeaving z.core.connections → NobodyLeaving w.core.connections → (h : LoopStep false 1 0 x z a b) → z.links.closed.items ≡ h.closed → (q : LoopStep true 0 f z w b c) → (t : Bool) → c.tells ≡ t → ClosesExactly x w a c
+exactly-by : {f : ℕ} (x z w : Headless) (a b c : Seen) → AgreesWithSockets x a → IsCalm z.core → IsCalm w.core → (h : LoopStep false 1 0 x z a b) → (z.core.starved ≡ x.core.starved → x.core.starved < 2 ^ 64 - 1 → z.links.closed.items ≡ h.closed) → (q : LoopStep true 0 f z w b c) → (t : Bool) → c.tells ≡ t → ClosesExactly x w a c
 exactly-by x z w a b c s calm calm' h lists q true t' =
     let done = CoreTakes-trans (moment x a) (moment z b) (moment w c) x.ran z.ran w.ran h.closed q.closed h.gained q.gained (h.taken (q.told t')) h.quits q.quits (h.goes (q.told t') s) (q.goes t' (h.agrees s)) in
     record {
@@ -268,7 +328,7 @@ exactly-by x z w a b c s calm calm' h lists q true t' =
       taken = λ t. q.taken t ∙ ap (λ ts. ts ++ q.gained) (h.taken (q.told t)) ∙ append_assoc a.taken h.gained q.gained;
       events = done.events;
       reaches = λ t. done.reaches;
-      closed = λ t same below told were. turn-closes x z w a b c s calm calm' h lists q ∙ sym (done.advances same below told were).closes;
+      closed = λ t same below told were. turn-closes x z w a b c s calm calm' h lists q same below ∙ sym (done.advances same below told were).closes;
     }
 exactly-by x z w a b c s calm calm' h lists q false t' = record {
   gained = h.gained ++ q.gained;
@@ -278,5 +338,5 @@ exactly-by x z w a b c s calm calm' h lists q false t' = record {
   closed = λ t. absurd (false≢true (sym t' ∙ t));
 }
 
-pub turn-closes-exactly : {f : ℕ} (x z w : Headless) (a b c : Seen) → AgreesWithSockets x a → NobodyLeaving z.core.connections → NobodyLeaving w.core.connections → (h : LoopStep false 1 0 x z a b) → z.links.closed.items ≡ h.closed → (q : LoopStep true 0 f z w b c) → ClosesExactly x w a c
+pub turn-closes-exactly : {f : ℕ} (x z w : Headless) (a b c : Seen) → AgreesWithSockets x a → IsCalm z.core → IsCalm w.core → (h : LoopStep false 1 0 x z a b) → (z.core.starved ≡ x.core.starved → x.core.starved < 2 ^ 64 - 1 → z.links.closed.items ≡ h.closed) → (q : LoopStep true 0 f z w b c) → ClosesExactly x w a c
 turn-closes-exactly x z w a b c s calm calm' h lists q = exactly-by x z w a b c s calm calm' h lists q c.tells refl

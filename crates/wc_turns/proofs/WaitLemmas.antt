@@ -1,5 +1,5 @@
 -- How a turn waits, and how it ends.
-use Rattle.std.proofs.Common.{◌≡◌, ◌⊎◌, inl, inr, ℕ, ◌<◌, ◌≤◌, nat_le, Bool, true, false, cond, eqb, ◌||◌, IsTrue, List, [], ◌∷◌, ◌++◌, map, Option, Some, None, is_some, Result, Ok, Err, OnOk, OnErr, is_err, refl, sym, ap, ◌∙◌, arith}
+use Rattle.std.proofs.Common.{◌≡◌, ◌⊎◌, inl, inr, ℕ, ◌<◌, ◌≤◌, nat_le, Bool, true, false, cond, eqb, ◌||◌, IsTrue, List, [], ◌∷◌, ◌++◌, map, Option, Some, None, is_some, All, Result, Ok, Err, OnOk, OnErr, is_err, refl, sym, ap, ◌∙◌, subst, arith}
 use Rattle.std.proofs.lemmas.Bool.{false≢true}
 use Rattle.std.proofs.lemmas.Bool.Decides.{nat_tests}
 use Rattle.std.proofs.lemmas.List.{append-nil}
@@ -13,12 +13,14 @@ use Rattle.wc_turns.specs.declared.turn.TurnEnd.{TurnEnd}
 use Rattle.wc_turns.specs.declared.turn.TurnEnd.TheVariants.{GoOn, Quit}
 use Rattle.wc_outside.specs.Keyed.{at_key}
 use Rattle.wc_turns.specs.Contained.{is_known, HasStarved, KeepsLinks}
+use Rattle.wc_core.specs.CoreView.{CoreView}
 use Rattle.wc_core.specs.Served.{Distinct}
 use Rattle.wc_turns.specs.declared.links.LinkState.{LinkState}
 use Rattle.wc_turns.specs.Links.{link_number, is_undrained}
 use Rattle.wc_turns.specs.Served.{closed_number}
 use Rattle.wc_turns.specs.Sources.{TakesNothing, TakesWithin, has_flag}
-use Rattle.wc_turns.specs.Turns.{AgreesWithSockets, LoopStep, ClosesExactly, moment, waits_then, faults_then, faults_of}
+use Rattle.wc_turns.specs.Parties.{asks_of, closes_asked, IsCalm}
+use Rattle.wc_turns.specs.Turns.{AgreesWithSockets, IsServers, HasReason, closed_so_far, LoopStep, ClosesExactly, moment, waits_then, faults_then, faults_of}
 use Rattle.wc_turns.specs.Waits.{has_undrained, timeout_of, then_of, WakesCore, LosesNone}
 use Rattle.wc_turns.proofs.KeyedLemmas.{absent-there}
 use Rattle.wc_turns.proofs.ContainedLemmas.{starved-following, starved-later}
@@ -26,6 +28,7 @@ use Rattle.wc_turns.proofs.PointLemmas.{MomentAdvances-same}
 use Rattle.wc_turns.proofs.RunLemmas.{ReachesEvents-none}
 use Rattle.wc_turns.proofs.SourceLemmas.{TakesNothing-call}
 use Rattle.wc_turns.proofs.StepLemmas.{SameSets, among-same}
+use Rattle.wc_turns.proofs.CauseLemmas.{Onward-none}
 use Rattle.wc_turns.proofs.TurnLemmas.{Call, LoopStep-step}
 
 -- ---- nothing is taken
@@ -45,20 +48,24 @@ Within-none a b h = record {
 -- ---- a wait failed
 
 -- the links that the turn before closed are forgotten
-unfoldable pub LoopStep-unwoken : (x y : Headless) (a b : Seen) → y.core ≡ x.core → y.clock ≡ x.clock → y.used ≡ x.used → y.listening ≡ x.listening → y.turns ≡ x.turns → y.ran ≡ x.ran → y.links.opened.items ≡ x.links.opened.items
-    → Call a b [] → (IsTrue b.tells → (k : ℕ) → b.sent k ≡ a.sent k) → (IsTrue b.tells → (k : ℕ) → b.choked k ≡ a.choked k) → SameSets a b → LoopStep false 0 0 x y a b
-LoopStep-unwoken x y a b core clock used listening turns ran opened call sent choked same =
+unfoldable pub LoopStep-unwoken : (x y : Headless) (a b : Seen) → y.core ≡ x.core → y.clock ≡ x.clock → y.used ≡ x.used → y.listening ≡ x.listening → y.refused.items ≡ x.refused.items → y.unlisted ≡ x.unlisted → y.turns ≡ x.turns → y.ran ≡ x.ran → y.links.opened.items ≡ x.links.opened.items → y.links.closed.items ≡ [] → IsCalm x.core
+    → Call a b [] → (IsTrue b.tells → (k : ℕ) → b.sent k ≡ a.sent k) → (IsTrue b.tells → (k : ℕ) → b.choked k ≡ a.choked k) → (IsTrue b.tells → b.asked ≡ a.asked) → SameSets a b → LoopStep false 0 0 x y a b
+LoopStep-unwoken x y a b core clock used listening refused unlisted turns ran opened closed calm call sent choked asked same =
+    let none : closed_so_far y ≡ [] = ap (λ cs. cs ++ closes_asked y.core) closed ∙ ap closes_asked core ∙ calm.parted in
     LoopStep-step false 0 0 x y a b [] [] call (λ below. omega arith) refl refl
-    (λ t s. absurd (false≢true t)) (λ s. All-nil _) (λ over. ap (λ c. c.quits) core ∙ over) (λ t. absurd (false≢true t))
-    (λ s. rw (opened, ap (λ c. c.connections) core, used, listening) (among-same x.links.opened.items x.core.connections x.used x.listening a b same s))
-    (λ t s on. rw (append-nil a.taken, clock, opened, used, ran) (s.told (call.told t) (sym (ap (λ c. c.quits) core) ∙ on)))
+    (let q = ap (λ (c : CoreView). c.starved) core in omega arith)
+    (λ t s. absurd (false≢true t)) (λ s. subst (All (HasReason x y a b)) (sym none) (All-nil (HasReason x y a b))) (λ s k h. subst (IsServers k) core h) (λ s. Onward-none x.core y.core [] (let e = ap (λ (c : CoreView). c.servers.used) core in omega arith) (λ k. refl))
+    (λ over. ap (λ (c : CoreView). c.quits) core ∙ over) (λ t. absurd (false≢true t))
+    (λ s. rw (opened, core, used, listening, refused) (among-same x.links.opened.items x.core x.used x.listening x.refused.items a b same s))
+    (λ t s on. rw (append-nil a.taken, clock, opened, used, ran, refused, unlisted) (s.told (call.told t) (sym (ap (λ (c : CoreView). c.quits) core) ∙ on)))
+    (λ s stopped. ap (λ (c : CoreView). c.servers.wanted) core ∙ s.idle (sym ran ∙ stopped))
     (λ t s. record {
       events = [];
       reaches = rw ran (ReachesEvents-none x.core.quits y.core.quits x.ran);
-      rises = (let q = ap (λ c. c.starved) core in omega arith);
-      advances = λ fed below told' were. MomentAdvances-same told' (moment x a) (moment y b) core used (sent t) (choked t) [] (call.taken t) [] refl were tt;
+      rises = (let q = ap (λ (c : CoreView). c.starved) core in omega arith);
+      advances = λ fed below told' were. MomentAdvances-same told' (moment x a) (moment y b) core used (sent t) (choked t) (ap (λ xs. xs ++ asks_of y.core.servers.wanted) (asked t) ∙ ap (λ (c : CoreView). a.asked ++ asks_of c.servers.wanted) core) [] (call.taken t) [] refl were tt;
       silent = λ over. refl;
-      last = λ fed below told' were going over. absurd (false≢true (sym going ∙ sym (ap (λ c. c.quits) core) ∙ over));
+      last = λ fed below told' were going over. absurd (false≢true (sym going ∙ sym (ap (λ (c : CoreView). c.quits) core) ∙ over));
     })
 
 closes-by : (x y : Headless) (a b : Seen) → AgreesWithSockets x a → WakesCore 0 x y a b → (t : Bool) → b.tells ≡ t → ClosesExactly x y a b
@@ -69,7 +76,7 @@ closes-by x y a b s w true told =
       taken = w.continues.taken;
       events = goes.events;
       reaches = λ t. goes.reaches;
-      closed = λ t fed below told' were. w.closed ∙ sym (goes.advances fed below told' were).closes;
+      closed = λ t fed below told' were. w.closed fed below ∙ sym (goes.advances fed below told' were).closes;
     }
 closes-by x y a b s w false told = record {
   gained = w.continues.gained;

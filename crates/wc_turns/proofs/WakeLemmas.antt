@@ -1,10 +1,10 @@
 -- Waits return.
-use Rattle.std.proofs.Common.{◌≡◌, ◌⊎◌, inl, inr, ℕ, ◌+◌, ◌-◌, ◌^◌, ◌<◌, ◌≤◌, min, Bool, true, false, not, cond, eqb, ◌&&◌, ◌||◌, IsTrue, List, [], ◌∷◌, ◌++◌, map, take, length, slice_index_or, Option, Some, None, is_some, All, refl, sym, ap, ◌∙◌, subst, arith}
+use Rattle.std.proofs.Common.{◌≡◌, ◌⊎◌, inl, inr, ℕ, ◌+◌, ◌-◌, ◌^◌, ◌<◌, ◌≤◌, min, Bool, true, false, not, cond, eqb, ◌&&◌, ◌||◌, IsTrue, List, [], ◌∷◌, ◌++◌, map, take, length, slice_index_or, Option, Some, None, is_some, All, refl, sym, ap, ◌∙◌, subst, arith, append_assoc, zero, suc, drop}
 use Rattle.std.specs.List.{list_any}
 use Rattle.std.proofs.lemmas.Bool.{false≢true}
 use Rattle.std.proofs.lemmas.Bool.Decides.{nat_tests}
-use Rattle.std.proofs.lemmas.List.{append-nil}
-use Rattle.std.proofs.lemmas.List.Elements.{All-head, All-tail}
+use Rattle.std.proofs.lemmas.List.{append-nil, length-append, length-take, length-drop, take-append-drop}
+use Rattle.std.proofs.lemmas.List.Elements.{All-head, All-tail, All-weaker}
 use Rattle.std.proofs.lemmas.List.Folds.{list_any_more}
 use Rattle.wc_text.specs.declared.names.Cause.{Cause}
 use Rattle.wc_text.specs.declared.names.Cause.TheVariants.{NoMemory}
@@ -15,36 +15,51 @@ use Rattle.wc_outside.specs.declared.sockets.Token.TheVariants.{Listener, Link}
 use Rattle.wc_outside.specs.declared.happening.Happening.TheVariants.{Woke}
 use Rattle.wc_turns.specs.declared.headless.Headless.{Headless}
 use Rattle.wc_outside.specs.Keyed.{at_key}
-use Rattle.wc_core.specs.Events.{Start, Tick}
+use Rattle.wc_core.specs.Events.{Start, Tick, Stands, Event}
 use Rattle.wc_core.specs.CoreView.{CoreView}
 use Rattle.wc_core.specs.State.{State, Act, Stepped}
-use Rattle.wc_core.specs.Step.{step, run, push_step, commands_step}
-use Rattle.wc_board.specs.Connections.{connection_link, leaving_on}
+use Rattle.wc_core.specs.Step.{step, run, push_step, start_step}
+use Rattle.wc_board.specs.Connections.{connection_link, leaving_on, leaving_in}
 use Rattle.wc_board.specs.Served.{StaysOrStarves}
-use Rattle.wc_core.specs.Served.{links_of, state_of, close_of, or_else, Distinct, Follows, LeavesBy, Does, KeepsSaved}
-use Rattle.wc_core.proofs.CloseLemmas.{pushes-closes, commands-closes}
-use Rattle.wc_core.proofs.DidLemmas.{or_else-none, saves-as, KeepsSaved-trans}
+use Rattle.wc_core.specs.Served.{links_of, state_of, close_of, or_else, Distinct, Follows, LeavesBy, Does, KeepsSaved, WereTold, KeepsClients, outs_of}
+use Rattle.wc_core.proofs.CloseLemmas.{pushes-closes, starts-closes}
+use Rattle.wc_core.proofs.ServerCloses.{stands-closes}
+use Rattle.wc_servers.specs.Seats.{server_link}
+use Rattle.wc_core.proofs.DidLemmas.{or_else-none, saves-as, KeepsSaved-trans, close_of-append, KeepsClients-trans}
 use Rattle.wc_turns.specs.declared.links.Closed.{Closed}
 use Rattle.wc_turns.specs.Contained.{is_known, HasStarved, KeepsLinks}
-use Rattle.wc_turns.specs.Events.{is_tick, clock, clock_from, wake_events, events_of}
-use Rattle.wc_turns.specs.Links.{link_number, is_undrained, is_blocked, changed_at, reported_state}
-use Rattle.wc_turns.specs.Served.{leaving_closes, closed_number, NobodyLeaving, MayRun}
-use Rattle.wc_turns.specs.Steps.{MarksLink, ReportsSources, BeginsTurn}
-use Rattle.wc_turns.specs.Turns.{LoopStep, CausedBy, IsCaused, moment, closed_so_far}
+use Rattle.wc_turns.specs.Events.{is_tick, clock, clock_from, wake_events, events_of, loss_of, refused_since}
+use Rattle.wc_turns.specs.Links.{link_number, is_undrained, is_blocked, changed_at, reported_state, is_there, kind_of}
+use Rattle.wc_turns.specs.Served.{leaving_closes, closed_number, MayRun, ReachesEvents}
+use Rattle.wc_turns.specs.Steps.{MarksLink, ReportsSources, BeginsTurn, SameKinds, TakesAside, WakesParties}
+use Rattle.wc_turns.specs.Turns.{LoopStep, CausedBy, moment, closed_so_far, AgreesWithHappenings, AgreesOnLinks, AgreesWithSockets, MomentAdvances, HasCause, HasReason}
 use Rattle.wc_turns.specs.Waits.{LosesNone}
-use Rattle.wc_turns.proofs.ConnectionLemmas.{calm-leaving, all-calm, closes-all}
+use Rattle.wc_turns.proofs.ConnectionLemmas.{calm-leaving, all-calm}
 use Rattle.wc_turns.proofs.ContainedLemmas.{starved-following}
 use Rattle.wc_turns.proofs.KeyedLemmas.{or-false, none_of, same-keys}
-use Rattle.wc_turns.proofs.RunLemmas.{ReachesEvents-all}
-use Rattle.wc_turns.proofs.PointLemmas.{MomentAdvances-takes}
-use Rattle.wc_turns.proofs.ServedLemmas.{MayRun-none, MayRun-one}
-use Rattle.wc_turns.proofs.TakesLemmas.{some-events, end-by}
-use Rattle.wc_turns.proofs.ClosingLemmas.{no-closes}
-use Rattle.wc_turns.specs.Run.{closings, EndsAtQuit}
+use Rattle.wc_turns.proofs.RunLemmas.{ReachesEvents-all, run-append-acts, ReachesEvents-trans}
+use Rattle.wc_turns.proofs.PointLemmas.{MomentAdvances-takes, asks_of-append, sides-kept}
+use Rattle.wc_turns.proofs.ServedLemmas.{MayRun-none, MayRun-one, MayRun-then}
+use Rattle.wc_turns.proofs.TakesLemmas.{some-events, end-by, causes-all}
+use Rattle.wc_turns.proofs.ClosingLemmas.{no-closes, parted}
+use Rattle.wc_turns.specs.Run.{closings, close_of_parting}
 use Rattle.wc_turns.proofs.AgreesLemmas.{For-states, For-woke, missing-as}
-use Rattle.wc_turns.proofs.ChangedLemmas.{keeps-reported, numbers-changed, SameTails-changed, undrained-reported, blocked-reported}
-use Rattle.wc_turns.proofs.CloseLemmas.{and-not-false}
-use Rattle.wc_turns.proofs.TurnLemmas.{Call, LoopStep-step}
+use Rattle.wc_turns.proofs.ChangedLemmas.{keeps-reported, numbers-changed, SameTails-changed, undrained-reported, blocked-reported, kind-reported, SameKinds-changed, there-as}
+use Rattle.wc_turns.proofs.CloseLemmas.{there-some}
+use Rattle.wc_turns.proofs.ForgetLemmas.{and-not-false}
+use Rattle.wc_turns.proofs.TurnLemmas.{Call, LoopStep-step, onward-of}
+use Rattle.wc_board.specs.Told.{Told}
+use Rattle.wc_core.specs.ServersKept.{is_wanted, AreInOrder, parts_in}
+use Rattle.wc_servers.specs.Outs.{wanted_in}
+use Rattle.wc_turns.specs.Parties.{is_refused, asks_of, asks_in, seat_closes, closes_asked, IsCalm}
+use Rattle.wc_turns.proofs.LossLemmas.{MayRun-starved, stays-further}
+use Rattle.wc_turns.proofs.ArriveLemmas.{no-starving}
+use Rattle.wc_turns.proofs.PartyLemmas.{among-come, party-used, clients-above, calm-clients, calm-seats}
+use Rattle.wc_turns.proofs.SeatLemmas.{calm-partings}
+use Rattle.wc_turns.proofs.CauseLemmas.{turn-reasons, Onward-none}
+use Rattle.wc_text.specs.declared.names.LinkId.{LinkId}
+use Rattle.wc_board.specs.declared.connection.Connection.{Connection}
+use Rattle.wc_turns.specs.declared.links.LinkState.{LinkState}
 
 pub ReportsSources-none : (x : Headless) → ReportsSources x x []
 ReportsSources-none x = record {
@@ -53,12 +68,15 @@ ReportsSources-none x = record {
   used = refl;
   turns = refl;
   ran = refl;
+  refused = refl;
+  unlisted = refl;
   closed = refl;
   listening = sym (or-false x.listening);
   numbers = refl;
   undrained = λ k. sym (or-false _);
   blocked = λ k. sym (and-not-false _);
   tails = λ k line h. h;
+  kinds = λ k. inr refl;
 }
 
 or-assoc : (a b c : Bool) → ((a || b) || c) ≡ (a || (b || c))
@@ -89,17 +107,22 @@ MarksLink-listener x y token e f = rw (e, f) (record {
   used = refl;
   turns = refl;
   ran = refl;
+  refused = refl;
+  unlisted = refl;
   closed = refl;
   listening = or-true-right x.listening;
   numbers = refl;
   undrained = λ k. sym (or-false _);
   blocked = λ k. sym (and-not-false _);
   tails = λ k line h. h;
+  kinds = λ k. inr refl;
 })
 
-pub MarksLink-link : (x y : Headless) (token : Token) (j : ℕ) → ((k : ℕ) → is_link k token ≡ eqb j k) → is_listener token ≡ false → y.core ≡ x.core → y.clock ≡ x.clock → y.used ≡ x.used → y.turns ≡ x.turns → y.ran ≡ x.ran → y.listening ≡ x.listening
+pub MarksLink-link : (x y : Headless) (token : Token) (j : ℕ) → ((k : ℕ) → is_link k token ≡ eqb j k) → is_listener token ≡ false → y.core ≡ x.core → y.clock ≡ x.clock → y.used ≡ x.used → y.turns ≡ x.turns → y.ran ≡ x.ran → y.listening ≡ x.listening → y.refused ≡ x.refused → y.unlisted ≡ x.unlisted
     → y.links.closed.items ≡ x.links.closed.items → y.links.opened.items ≡ changed_at j reported_state x.links.opened.items (at_key link_number j x.links.opened.items) → MarksLink x y token
-MarksLink-link x y token j link none core clock used turns ran listening closed opened = record {
+MarksLink-link x y token j link none core clock used turns ran listening refused unlisted closed opened = record {
+  refused = ap (λ v. v.items) refused;
+  unlisted = unlisted;
   core = core;
   clock = clock;
   used = used;
@@ -111,7 +134,20 @@ MarksLink-link x y token j link none core clock used turns ran listening closed 
   undrained = λ k. rw (opened, link k) (undrained-reported j k x.links.opened.items);
   blocked = λ k. rw (opened, link k) (blocked-reported j k x.links.opened.items);
   tails = rw opened (SameTails-changed j reported_state keeps-reported x.links.opened.items);
+  kinds = rw opened (SameKinds-changed j reported_state keeps-reported kind-reported x.links.opened.items);
 }
+
+kinds-then : (a b c : List LinkState) → SameKinds a b → SameKinds b c → SameKinds a c
+kinds-then a b c h g k = kinds-by (h k) (g k)
+  where
+    kinds-by : (at_key link_number k b ≡ None) ⊎ (kind_of (at_key link_number k b) ≡ kind_of (at_key link_number k a)) → (at_key link_number k c ≡ None) ⊎ (kind_of (at_key link_number k c) ≡ kind_of (at_key link_number k b)) → (at_key link_number k c ≡ None) ⊎ (kind_of (at_key link_number k c) ≡ kind_of (at_key link_number k a))
+    kinds-by p (inl none) = inl none
+    kinds-by (inr e) (inr f) = inr (f ∙ e)
+    kinds-by (inl none) (inr f) = inl (no-kind (at_key link_number k c) (f ∙ ap kind_of none))
+      where
+        no-kind : (o : Option LinkState) → kind_of o ≡ None → o ≡ None
+        no-kind None q = refl
+        no-kind (Some state) q = absurd (let r : kind_of (Some state) ≡ None = q in cc)
 
 pub ReportsSources-more : (x y z : Headless) (tokens : List Token) (i : ℕ) (d : Token) → i < length tokens → ReportsSources x y (take i tokens) → MarksLink y z (slice_index_or tokens i d) → ReportsSources x z (take (i + 1) tokens)
 ReportsSources-more x y z tokens i d below r m = record {
@@ -120,6 +156,8 @@ ReportsSources-more x y z tokens i d below r m = record {
   used = m.used ∙ r.used;
   turns = m.turns ∙ r.turns;
   ran = m.ran ∙ r.ran;
+  refused = m.refused ∙ r.refused;
+  unlisted = m.unlisted ∙ r.unlisted;
   closed = m.closed ∙ r.closed;
   listening = m.listening ∙ ap (λ b. b || is_listener (slice_index_or tokens i d)) r.listening ∙ or-assoc x.listening _ _ ∙ ap (λ b. x.listening || b) (sym (list_any_more is_listener tokens i d below));
   numbers = m.numbers ∙ r.numbers;
@@ -131,6 +169,7 @@ ReportsSources-more x y z tokens i d below r m = record {
       ∙ and-nor (is_blocked (at_key link_number k x.links.opened.items)) (list_any (is_link k) (take i tokens)) (is_link k (slice_index_or tokens i d))
       ∙ ap (λ b. is_blocked (at_key link_number k x.links.opened.items) && not b) (sym (list_any_more (is_link k) tokens i d below));
   tails = λ k line h. m.tails k line (r.tails k line h);
+  kinds = kinds-then x.links.opened.items y.links.opened.items z.links.opened.items r.kinds m.kinds;
 }
 
 there_one : (there : ℕ → Bool) (k : ℕ) (token : Token) → IsThere there token → is_link k token ≡ true → there k ≡ true
@@ -167,16 +206,24 @@ starves-alone old new step k none does distinct = by ((does old.world.nicks).cau
   by (inl e) = inl (e ∙ ap (or_else (leaving_on k old.connections)) (none (state_of old old.world.nicks)) ∙ or_else-none (leaving_on k old.connections))
   by (inr starves) = starves
 
+-- a connection that stands closes no client
+pub stands-causes : (old new : CoreView) (link : ℕ) → Does old new (λ state. step state (Stands link)) → Distinct (links_of old) → (k : ℕ) → StaysOrStarves (leaving_on k old.connections) (leaving_on k new.connections)
+stands-causes old new link does distinct k = starves-alone old new (λ state. step state (Stands link)) k (λ state. stands-closes k state link (at_key server_link link state.servers)) does distinct
+
 pub start-causes : (old new : CoreView) (moment : ℕ) → Does old new (λ state. step state (Start moment)) → Distinct (links_of old) → (k : ℕ) → StaysOrStarves (leaving_on k old.connections) (leaving_on k new.connections)
-start-causes old new moment does distinct k = starves-alone old new (λ state. step state (Start moment)) k (λ state. commands-closes k (record state { moment = moment; commands = [] }) state.commands) does distinct
+start-causes old new moment does distinct k = starves-alone old new (λ state. step state (Start moment)) k (λ state. starts-closes k (record state { moment = moment; commands = [] }) state.commands) does distinct
 
 pub tick-causes : (old new : CoreView) (moment : ℕ) → Does old new (λ state. step state (Tick moment)) → Distinct (links_of old) → (k : ℕ) → StaysOrStarves (leaving_on k old.connections) (leaving_on k new.connections)
 tick-causes old new moment does distinct k = starves-alone old new (λ state. step state (Tick moment)) k (λ state. pushes-closes k (record state { moment = moment })) does distinct
 
+pub still-causes : (core : CoreView) → WakesParties core core
+still-causes core = record { causes = λ distinct k. inl refl }
+
+-- the event of a wait closes no client
 pub wake-leaves : (k : ℕ) (last : Option ℕ) (moment : ℕ) (state : State) → close_of k (run state (wake_events last moment)).acts ≡ None
 wake-leaves k None moment state =
     let next : State = record state { moment = moment; commands = [] } in
-    ap (close_of k) (append-nil (commands_step next state.commands).acts) ∙ commands-closes k next state.commands
+    ap (close_of k) (append-nil (start_step next state.commands).acts) ∙ starts-closes k next state.commands
 wake-leaves k (Some last) moment state = by (is_tick last moment)
   where
     by : (t : Bool) → close_of k (run state (cond t (Tick moment ∷ []) [])).acts ≡ None
@@ -185,134 +232,272 @@ wake-leaves k (Some last) moment state = by (is_tick last moment)
         ap (close_of k) (append-nil (push_step next).acts) ∙ pushes-closes k next
     by false = refl
 
-pub wake-closes : (last : Option ℕ) (moment : ℕ) (state : State) → closings (run state (wake_events last moment)).acts ≡ []
-wake-closes None moment state =
-    let next : State = record state { moment = moment; commands = [] } in
-    ap closings (append-nil (commands_step next state.commands).acts) ∙ no-closes (commands_step next state.commands).acts (λ k. commands-closes k next state.commands)
-wake-closes (Some last) moment state = tick-closes (is_tick last moment)
+-- the event of a wait, and the losses after it
+pub aside-after : (x c y : CoreView) (refused : List LinkId) (unlisted ran mid ran' moment : ℕ) (last : Option ℕ) → x.quits ≡ false → MayRun x c (wake_events last moment) → mid ≡ min (ran + length (wake_events last moment)) (2 ^ 64 - 1) → KeepsClients c y → y.quits ≡ c.quits → (1 ≤ unlisted → HasStarved c.starved y.starved)
+    → ((all : List Event) → (unlisted ≡ 0 → all ≡ map loss_of refused) → length all ≡ length refused + unlisted → TakesAside refused c y mid ran' all)
+    → (all : List Event) → (unlisted ≡ 0 → all ≡ wake_events last moment ++ map loss_of refused) → length all ≡ length (wake_events last moment) + length refused + unlisted → TakesAside refused x y ran ran' all
+aside-after x c y refused unlisted ran mid ran' moment last going woke count keeps quits starves loses all listed size = by unlisted refl
   where
-    tick-closes : (t : Bool) → closings (run state (cond t (Tick moment ∷ []) [])).acts ≡ []
-    tick-closes true =
-        let next : State = record state { moment = moment } in
-        ap closings (append-nil (push_step next).acts) ∙ no-closes (push_step next).acts (λ k. pushes-closes k next)
-    tick-closes false = refl
+    wake : List Event
+    wake = wake_events last moment
 
-pub wake-stops : (last : Option ℕ) (moment : ℕ) (state : State) → EndsAtQuit state (wake_events last moment)
-wake-stops None moment state = (λ q. refl, tt)
-wake-stops (Some last) moment state = tick-stops (is_tick last moment)
+    map-size : (links : List LinkId) → length (map loss_of links) ≡ length links
+    map-size [] = refl
+    map-size (l ∷ ls) = let ih = map-size ls in omega arith
+
+    on : c.quits ≡ true → y.quits ≡ true
+    on over = quits ∙ over
+
+    first : (es : List Event) → length es ≡ length wake → ReachesEvents x.quits c.quits ran mid es es
+    first es same = ReachesEvents-all x.quits c.quits ran mid es going (λ fits. omega arith)
+
+    by : (n : ℕ) → unlisted ≡ n → TakesAside refused x y ran ran' all
+    by zero none =
+        let t = loses (map loss_of refused) (λ q. refl) (let m = map-size refused in omega arith) in
+        subst (TakesAside refused x y ran ran') (sym (listed none)) (record {
+          takes = record {
+            events = wake ++ t.takes.events;
+            reaches = ReachesEvents-trans x.quits c.quits y.quits ran mid ran' wake (map loss_of refused) wake t.takes.events (λ over. absurd (false≢true (sym going ∙ over))) on (first wake refl) t.takes.reaches;
+            takes = MayRun-then x c y wake t.takes.events t.takes.reaches.nothing woke t.takes.takes;
+          };
+          closes = λ aside still below distinct told were k.
+              let rises = woke.keeps.rises in
+              let later = keeps.rises in
+              let half : c.starved ≡ x.starved = omega arith in
+              let did = woke.does half below distinct told were in
+              let rows = (run (state_of x told) wake).state.told in
+              let one = t.closes (λ j e. none_of _ (same-keys connection_link j c.connections x.connections woke.keeps.links ∙ ap is_some (aside j e))) (let f = still in omega arith) (let f = below in omega arith) (subst Distinct (sym woke.keeps.links) distinct) rows did.means.told k in
+              ap (close_of k) (run-append-acts (state_of x told) wake t.takes.events) ∙ close_of-append k (run (state_of x told) wake).acts (run (run (state_of x told) wake).state t.takes.events).acts
+              ∙ ap (λ o. or_else o (close_of k (run (run (state_of x told) wake).state t.takes.events).acts)) (wake-leaves k last moment (state_of x told)) ∙ ap (λ s. close_of k (run s t.takes.events).acts) did.means.same ∙ one;
+        })
+    by (suc n) some =
+        let start : List Event = take (length wake) all in
+        let rest : List Event = drop (length wake) all in
+        let fore : length start ≡ length wake = (let l = length-take (length wake) all in omega arith) in
+        let aft : length rest ≡ length refused + unlisted = (let l = length-append start rest in let w = ap length (take-append-drop (length wake) all) in omega arith) in
+        let starved : HasStarved x.starved y.starved = starved-following x.starved c.starved y.starved woke.keeps.rises (starves (omega arith)) in
+        let t = loses rest (λ q. absurd (omega arith)) aft in
+        subst (TakesAside refused x y ran ran') (take-append-drop (length wake) all) (record {
+          takes = record {
+            events = start ++ t.takes.events;
+            reaches = ReachesEvents-trans x.quits c.quits y.quits ran mid ran' start rest start t.takes.events (λ over. absurd (false≢true (sym going ∙ over))) on (first start fore) t.takes.reaches;
+            takes = MayRun-starved x y (start ++ t.takes.events) (KeepsClients-trans x c y woke.keeps keeps) starved;
+          };
+          closes = λ aside still below distinct told were k. no-starving x.starved y.starved starved still below;
+        })
+
+-- ---- a turn begins
+
+-- the event of the wait is taken, and then the losses
+pub begin-takes : (x y z : CoreView) (last : Option ℕ) (moment : ℕ) (refused : List LinkId) (unlisted ran ran' ran'' : ℕ) → x.quits ≡ false → MayRun x y (wake_events last moment) → ran' ≡ min (ran + length (wake_events last moment)) (2 ^ 64 - 1) → KeepsClients y z → z.quits ≡ y.quits → (1 ≤ unlisted → HasStarved y.starved z.starved)
+    → ((all : List Event) → (unlisted ≡ 0 → all ≡ map loss_of refused) → length all ≡ length refused + unlisted → TakesAside refused y z ran' ran'' all)
+    → (all : List Event) → (unlisted ≡ 0 → all ≡ wake_events last moment ++ map loss_of refused) → length all ≡ length (wake_events last moment) + length refused + unlisted → TakesAside refused x z ran ran'' all
+begin-takes x y z last moment refused unlisted ran ran' ran'' going runs count keeps quits starves losses = begin-by unlisted starves losses
   where
-    tick-stops : (t : Bool) → EndsAtQuit state (cond t (Tick moment ∷ []) [])
-    tick-stops true = (λ q. refl, tt)
-    tick-stops false = tt
+    wake : List Event
+    wake = wake_events last moment
 
--- a turn begins at the start, or at a tick
-pub began-start : (x z : Headless) (moment ran : ℕ) → x.clock ≡ None → Does x.core z.core (λ state. step state (Start moment)) → z.used ≡ x.used → z.listening ≡ x.listening → z.links.opened.items ≡ x.links.opened.items → z.turns ≡ min (x.turns + 1) (2 ^ 64 - 1)
-    → ran ≡ min (x.ran + 1) (2 ^ 64 - 1) → BeginsTurn x (record z { clock = Some moment; ran = ran }) moment
-began-start x z moment ran none does used listening opened turns reached =
-    let P : Option ℕ → Type 0 = λ c. MayRun x.core z.core (wake_events c moment) in
-    record {
-      takes = subst P (sym none) (MayRun-start x.core z.core moment does);
-      causes = λ distinct k. start-causes x.core z.core moment does distinct k;
-      used = used;
-      listening = listening;
-      opened = opened;
-      turns = turns;
-      clock = sym (ap (λ c. clock_from c (Woke moment ∷ [])) none);
-      ran = reached ∙ sym (ap (λ c. min (x.ran + length (wake_events c moment)) (2 ^ 64 - 1)) none);
-    }
+    map-size : (links : List LinkId) → length (map loss_of links) ≡ length links
+    map-size [] = refl
+    map-size (l ∷ ls) = let ih = map-size ls in omega arith
 
-pub began-tick : (x z : Headless) (last moment ran : ℕ) → x.clock ≡ Some last → is_tick last moment ≡ true → Does x.core z.core (λ state. step state (Tick moment)) → z.used ≡ x.used → z.listening ≡ x.listening → z.links.opened.items ≡ x.links.opened.items → z.turns ≡ min (x.turns + 1) (2 ^ 64 - 1)
-    → ran ≡ min (x.ran + 1) (2 ^ 64 - 1) → BeginsTurn x (record z { clock = Some moment; ran = ran }) moment
-began-tick x z last moment ran some ticks does used listening opened turns reached =
-    let P : Option ℕ → Type 0 = λ c. MayRun x.core z.core (wake_events c moment) in
-    record {
-      takes = subst P (sym some) (MayRun-tick x.core z.core last moment ticks does);
-      causes = λ distinct k. tick-causes x.core z.core moment does distinct k;
-      used = used;
-      listening = listening;
-      opened = opened;
-      turns = turns;
-      clock = sym (ap (λ c. clock_from c (Woke moment ∷ [])) some ∙ ap (λ t. Some (cond t moment last)) ticks);
-      ran = reached ∙ sym (ap (λ c. min (x.ran + length (wake_events c moment)) (2 ^ 64 - 1)) some ∙ ap (λ t. min (x.ran + length (cond t (Tick moment ∷ []) [])) (2 ^ 64 - 1)) ticks);
-    }
+    reaches : (front more events : List Event) → ran' ≡ min (ran + length front) (2 ^ 64 - 1) → ReachesEvents y.quits z.quits ran' ran'' more events → ReachesEvents x.quits z.quits ran ran'' (front ++ more) (front ++ events)
+    reaches front more events c r = ReachesEvents-trans x.quits y.quits z.quits ran ran' ran'' front more front events (λ over. absurd (false≢true (sym going ∙ over))) (λ over. quits ∙ over) (ReachesEvents-all x.quits y.quits ran ran' front going (λ fits. c)) r
+
+    begin-by : (n : ℕ) → (1 ≤ n → HasStarved y.starved z.starved) → ((all : List Event) → (n ≡ 0 → all ≡ map loss_of refused) → length all ≡ length refused + n → TakesAside refused y z ran' ran'' all)
+        → (all : List Event) → (n ≡ 0 → all ≡ wake ++ map loss_of refused) → length all ≡ length wake + length refused + n → TakesAside refused x z ran ran'' all
+    begin-by zero starves' losses' all listed size =
+        let m = losses' (map loss_of refused) (λ q. refl) (let n = map-size refused in omega arith) in
+        subst (TakesAside refused x z ran ran'') (sym (listed refl)) (record {
+          takes = record { events = wake ++ m.takes.events; reaches = reaches wake (map loss_of refused) m.takes.events count m.takes.reaches; takes = MayRun-then x y z wake m.takes.events m.takes.reaches.nothing runs m.takes.takes };
+          closes = λ aside same below distinct told were k.
+              let first = runs.keeps.rises in
+              let second = keeps.rises in
+              let half : y.starved ≡ x.starved = omega arith in
+              let did = runs.does half below distinct told were in
+              let rows = (run (state_of x told) wake).state.told in
+              let aside' : (link : ℕ) → is_refused link refused ≡ true → at_key connection_link link y.connections ≡ None = λ link e. none_of _ (same-keys connection_link link y.connections x.connections runs.keeps.links ∙ ap is_some (aside link e)) in
+              let later = m.closes aside' (omega arith) (omega arith) (subst Distinct (sym runs.keeps.links) distinct) rows did.means.told k in
+              ap (close_of k) (run-append-acts (state_of x told) wake m.takes.events) ∙ close_of-append k (run (state_of x told) wake).acts (run (run (state_of x told) wake).state m.takes.events).acts
+              ∙ ap (λ o. or_else o (close_of k (run (run (state_of x told) wake).state m.takes.events).acts)) (wake-leaves k last moment (state_of x told))
+              ∙ ap (λ s. close_of k (run s m.takes.events).acts) did.means.same ∙ later;
+        })
+    begin-by (suc n) starves' losses' all listed size =
+        let front = take (length wake) all in
+        let more = drop (length wake) all in
+        let long = length-take (length wake) all in
+        let left = length-drop (length wake) all in
+        let m = losses' more (λ q. absurd (let r : suc n ≡ 0 = q in omega arith)) (omega arith) in
+        let starved : HasStarved x.starved z.starved = starved-following x.starved y.starved z.starved runs.keeps.rises (starves' (omega arith)) in
+        subst (TakesAside refused x z ran ran'') (take-append-drop (length wake) all) (record {
+          takes = record { events = front ++ m.takes.events; reaches = reaches front more m.takes.events (omega arith) m.takes.reaches; takes = MayRun-starved x z (front ++ m.takes.events) (KeepsClients-trans x y z runs.keeps keeps) starved };
+          closes = λ aside same below distinct told were k. no-starving x.starved z.starved starved same below;
+        })
+
+pub begin-causes : (x y z : CoreView) (refused : List LinkId) → WakesParties x y → links_of y ≡ links_of x → (Distinct (links_of y) → (k : ℕ) → is_refused k refused ≡ false → StaysOrStarves (leaving_on k y.connections) (leaving_on k z.connections)) → Distinct (links_of x) → (k : ℕ) → is_refused k refused ≡ false → StaysOrStarves (leaving_on k x.connections) (leaving_on k z.connections)
+begin-causes x y z refused wakes links later distinct k out =
+    stays-further (leaving_on k x.connections) (leaving_on k y.connections) (leaving_on k z.connections) (wakes.causes distinct k) (later (subst Distinct (sym links) distinct) k out)
+
+-- ---- a wait returned
+
+-- the links agree as a wait returned
+pub among-woke : (x z : Headless) (y : Headless) (a b : Seen) (m : ℕ) (tokens : List Token) → b.used ≡ a.used → ((k : ℕ) → b.there k ≡ a.there k) → ((k : ℕ) → b.undrained k ≡ (a.undrained k || list_any (is_link k) tokens)) → b.listening ≡ (a.listening || list_any is_listener tokens) → ((k : ℕ) → b.blocked k ≡ (a.blocked k && not (list_any (is_link k) tokens))) → All (IsThere a.there) tokens
+    → BeginsTurn x y m → ReportsSources y z tokens → z.refused.items ≡ [] → AgreesOnLinks x.links.opened.items x.core x.used x.listening x.refused.items a → AgreesOnLinks z.links.opened.items z.core z.used z.listening z.refused.items b
+among-woke x z y a b m tokens used there undrained listening blocked tokens_there begins reports none s =
+    let numbers : map link_number z.links.opened.items ≡ map link_number x.links.opened.items = reports.numbers ∙ ap (λ o. map link_number o) begins.opened in
+    let kinds : SameKinds x.links.opened.items z.links.opened.items = subst (λ o. SameKinds o z.links.opened.items) begins.opened reports.kinds in
+    let keeps : KeepsClients x.core z.core = subst (KeepsClients x.core) (sym reports.core) begins.keeps in
+    let came = among-come x.links.opened.items x.links.opened.items x.core z.core x.used x.listening x.refused.items a a refl (λ k. refl) (λ k. refl) (λ k. refl) keeps.links keeps.servers (record { used = refl; there = λ k. refl; undrained = λ k. refl; blocked = λ k. refl; listening = refl }) s in
+    let known : (k : ℕ) → is_some (at_key link_number k z.links.opened.items) ≡ is_some (at_key link_number k x.links.opened.items) = λ k. same-keys link_number k z.links.opened.items x.links.opened.items numbers in
+    rw (none, reports.used ∙ begins.used) (record {
+      counted = s.counted ∙ sym used;
+      there = λ k. there k ∙ s.there k ∙ sym (there-as x.links.opened.items z.links.opened.items numbers kinds k);
+      undrained = λ k. undrained k ∙ ap (λ q. q || list_any (is_link k) tokens) (s.undrained k ∙ ap (λ o. is_undrained (at_key link_number k o)) (sym begins.opened))
+          ∙ ap (λ q. is_undrained (at_key link_number k y.links.opened.items) || q) (and-if _ _ (λ e. is-kept k (there_any a.there k tokens tokens_there e))) ∙ sym (reports.undrained k);
+      blocked = λ k. blocked k ∙ ap (λ q. q && not (list_any (is_link k) tokens)) (s.blocked k ∙ ap (λ o. is_blocked (at_key link_number k o)) (sym begins.opened)) ∙ sym (reports.blocked k);
+      listens = listening ∙ ap (λ q. q || list_any is_listener tokens) (s.listens ∙ sym begins.listening) ∙ sym reports.listening;
+      parties = λ k. came.parties k ∙ ap (λ q. q || is_wanted k z.core.servers.wanted) (sym (known k));
+      alone = came.alone;
+      once = came.once;
+      seats = came.seats;
+      order = came.order;
+      apart = subst Distinct (sym numbers) s.apart;
+      unknown = λ k below. none_of _ (known k ∙ ap is_some (s.unknown k below));
+      clients = came.clients;
+      unrefused = λ k below. refl;
+      spared = λ k e. absurd (false≢true e);
+      next = came.next;
+      reached = came.reached;
+      limited = came.limited;
+    })
+  where
+    -- a link that is reported is kept
+    is-kept : (k : ℕ) → a.there k ≡ true → is_some (at_key link_number k y.links.opened.items) ≡ true
+    is-kept k e = there-some _ (ap (λ o. is_there (at_key link_number k o)) begins.opened ∙ sym (s.there k) ∙ e)
+
+-- the closes that are asked for once a turn began are, in order, those of what was run
+pub woke-closes : (told : Told) (x z : CoreView) (events : List Event) → IsCalm x → map connection_link z.connections ≡ map connection_link x.connections → Distinct (links_of x) → x.servers.used ≤ 2 ^ 62 → AreInOrder x.servers → Follows x z (run (state_of x told) events) → ((k : ℕ) → close_of k (run (state_of x told) events).acts ≡ None)
+    → closings (run (state_of x told) events).acts ≡ closes_asked z
+woke-closes told x z events calm links distinct few order did none =
+    no-closes acts none ∙ servers ∙ sym (append-nil (seat_closes z.servers.seats)) ∙ ap (λ cs. seat_closes z.servers.seats ++ cs) (sym clients)
+  where
+    acts : List Act
+    acts = (run (state_of x told) events).acts
+
+    servers : parted acts ≡ seat_closes z.servers.seats
+    servers = sym (ap (map close_of_parting) (did.parts few order ∙ ap (λ ps. ps ++ parts_in (outs_of acts)) (calm-partings x.servers.seats (calm-seats x calm))))
+
+    clients : leaving_closes z.connections ≡ []
+    clients = all-calm z.connections (subst Distinct (sym links) distinct) (λ k. did.leaving k ∙ ap (λ o. or_else o (close_of k acts)) (calm-leaving k x.connections (calm-clients x calm)) ∙ none k)
 
 -- who began to leave did so for want of memory
 starved-cause : (k : ℕ) (before after : Option Cause) (why : Cause) (a b : Seen) → before ≡ None → after ≡ Some why → StaysOrStarves before after → CausedBy why k a b
 starved-cause k before after why a b none leaves (inl e) = absurd (let q : None ≡ Some why = sym none ∙ sym e ∙ leaves in cc)
 starved-cause k before after why a b none leaves (inr e) = let same : why ≡ NoMemory = (let q : Some why ≡ Some NoMemory = sym leaves ∙ e in cc) in subst (λ c. CausedBy c k a b) (sym same) tt
 
-pub wake-causes : (x z : CoreView) (a b : Seen) → NobodyLeaving x.connections → Distinct (links_of z) → ((k : ℕ) → StaysOrStarves (leaving_on k x.connections) (leaving_on k z.connections)) → All (IsCaused a b) (leaving_closes z.connections)
-wake-causes x z a b calm distinct causes =
-    closes-all (λ k why. CausedBy why k a b) z.connections distinct
-    (λ k why leaves. starved-cause k (leaving_on k x.connections) (leaving_on k z.connections) why a b (calm-leaving k x.connections calm) leaves (causes k))
+-- what a turn is to close at its begin has its cause
+pub woke-causes : (x z y : Headless) (a b : Seen) (m : ℕ) (tokens : List Token) → IsCalm x.core → BeginsTurn x y m → ReportsSources y z tokens → (IsTrue b.tells → b.taken ≡ a.taken ++ Woke m ∷ []) → AgreesWithSockets x a → All (HasCause x z a b) (closes_asked z.core)
+woke-causes x z y a b m tokens calm begins reports taken s =
+    causes-all x z a b (Woke m ∷ []) (subst Distinct (sym keeps.links) s.among.once) (keeps.servers.seats s.among.seats) (sides-kept x.core z.core keeps.servers) taken (λ k. refl) (λ k why leaves. client k why leaves (is_refused k x.refused.items) refl)
+  where
+    keeps : KeepsClients x.core z.core
+    keeps = subst (KeepsClients x.core) (sym reports.core) begins.keeps
 
--- where the step closes none, and no client was leaving, none is leaving after it
-pub wake-calm : (x z : CoreView) (acts : List Act) → NobodyLeaving x.connections → Distinct (links_of z) → ((k : ℕ) → leaving_on k z.connections ≡ or_else (leaving_on k x.connections) (close_of k acts)) → ((k : ℕ) → close_of k acts ≡ None) → NobodyLeaving z.connections
-wake-calm x z acts calm distinct leaves none =
-    all-calm z.connections distinct (λ k. leaves k ∙ ap (λ o. or_else o (close_of k acts)) (calm-leaving k x.connections calm) ∙ none k)
+    client : (k : ℕ) (why : Cause) → leaving_on k z.core.connections ≡ Some why → (t : Bool) → is_refused k x.refused.items ≡ t → CausedBy why k a b
+    client k why leaves true e = absurd (gone (at_key connection_link k z.core.connections) (none_of _ (same-keys connection_link k z.core.connections x.core.connections keeps.links ∙ ap is_some (s.among.spared k e))) leaves)
+      where
+        gone : (o : Option Connection) → o ≡ None → leaving_in o ≡ Some why → ⊥
+        gone None q h = absurd (let r : None ≡ Some why = h in cc)
+        gone (Some c) q h = absurd (let r : Some c ≡ None = q in cc)
+    client k why leaves false e = starved-cause k (leaving_on k x.core.connections) (leaving_on k z.core.connections) why a b (calm-leaving k x.core.connections (calm-clients x.core calm)) leaves
+        (subst (λ (c : CoreView). StaysOrStarves (leaving_on k x.core.connections) (leaving_on k c.connections)) (sym reports.core) (begins.causes s.among.once k e))
 
 -- a wait returned
-unfoldable pub LoopStep-woke : (x y z : Headless) (a b : Seen) (moment' : ℕ) (tokens : List Token) → Call a b (Woke moment' ∷ []) → (IsTrue b.tells → (k : ℕ) → b.sent k ≡ a.sent k) → (IsTrue b.tells → (k : ℕ) → b.choked k ≡ a.choked k)
+unfoldable pub LoopStep-woke : (x y z : Headless) (a b : Seen) (m : ℕ) (tokens : List Token) → Call a b (Woke m ∷ []) → (IsTrue b.tells → (k : ℕ) → b.sent k ≡ a.sent k) → (IsTrue b.tells → (k : ℕ) → b.choked k ≡ a.choked k) → (IsTrue b.tells → b.asked ≡ a.asked)
     → b.used ≡ a.used → ((k : ℕ) → b.there k ≡ a.there k) → ((k : ℕ) → b.undrained k ≡ (a.undrained k || list_any (is_link k) tokens)) → b.listening ≡ (a.listening || list_any is_listener tokens) → ((k : ℕ) → b.blocked k ≡ (a.blocked k && not (list_any (is_link k) tokens))) → All (IsThere a.there) tokens
-    → x.core.quits ≡ false → NobodyLeaving x.core.connections → BeginsTurn x y moment' → ReportsSources y z tokens → LoopStep false 1 0 x z a b
-LoopStep-woke x y z a b m tokens call sent choked used there undrained listening blocked tokens_there going calm begins reports =
-    let numbers : map link_number z.links.opened.items ≡ map link_number x.links.opened.items = reports.numbers ∙ ap (λ o. map link_number o) begins.opened in
-    let known : (k : ℕ) → is_some (at_key link_number k z.links.opened.items) ≡ is_some (at_key link_number k x.links.opened.items) = λ k. same-keys link_number k z.links.opened.items x.links.opened.items numbers in
-    let links : map connection_link z.core.connections ≡ map connection_link x.core.connections = ap (λ (c : CoreView). map connection_link c.connections) reports.core ∙ begins.takes.keeps.links in
-    let runs : MayRun x.core z.core (wake_events x.clock m) = (let P : CoreView → Type 0 = λ c. MayRun x.core c (wake_events x.clock m) in subst P (sym reports.core) begins.takes) in
-    LoopStep-step false 1 0 x z a b (Woke m ∷ []) (leaving_closes z.core.connections) call (λ below. (let t = begins.turns in let r = reports.turns in omega arith)) refl refl
-    (λ t. absurd (false≢true t))
-    (λ s. (let P : CoreView → Type 0 = λ c. (k : ℕ) → StaysOrStarves (leaving_on k x.core.connections) (leaving_on k c.connections) in wake-causes x.core z.core a b calm (subst Distinct (sym links) s.among.once) (subst P (sym reports.core) (begins.causes s.among.once))))
-    (λ over. absurd (false≢true (sym going ∙ over))) (λ t. absurd (false≢true t))
-    (λ s. record {
-      counted = reports.used ∙ begins.used ∙ s.counted ∙ sym used;
-      there = λ k. there k ∙ s.there k ∙ sym (known k);
-      undrained = λ k.
-          let some : a.there k ≡ is_some (at_key link_number k y.links.opened.items) = s.there k ∙ ap (λ o. is_some (at_key link_number k o)) (sym begins.opened) in
-          undrained k ∙ ap (λ q. q || list_any (is_link k) tokens) (s.undrained k ∙ ap (λ o. is_undrained (at_key link_number k o)) (sym begins.opened))
-          ∙ ap (λ q. is_undrained (at_key link_number k y.links.opened.items) || q) (and-if _ _ (λ e. sym some ∙ there_any a.there k tokens tokens_there e)) ∙ sym (reports.undrained k);
-      blocked = λ k. blocked k ∙ ap (λ q. q && not (list_any (is_link k) tokens)) (s.blocked k ∙ ap (λ o. is_blocked (at_key link_number k o)) (sym begins.opened)) ∙ sym (reports.blocked k);
-      listens = listening ∙ ap (λ q. q || list_any is_listener tokens) (s.listens ∙ sym begins.listening) ∙ sym reports.listening;
-      clients = λ k. same-keys connection_link k z.core.connections x.core.connections links ∙ s.clients k ∙ sym (known k);
-      once = subst Distinct (sym links) s.once;
-      apart = subst Distinct (sym numbers) s.apart;
-      unknown = λ k below. none_of _ (known k ∙ ap is_some (s.unknown k (rw (reports.used, begins.used) at below)));
-    })
-    (λ t s on.
-    let told = s.told (call.told t) going in
-    let count : z.ran ≡ min (x.ran + length (events_of a.taken (Woke m))) (2 ^ 64 - 1) = reports.ran ∙ begins.ran ∙ ap (λ c. min (x.ran + length (wake_events c m)) (2 ^ 64 - 1)) told.clock in
-    rw (reports.clock, begins.clock, reports.used, begins.used) (For-states _ x.links.opened.items z.links.opened.items x.used z.ran (a.taken ++ Woke m ∷ []) (rw begins.opened at reports.tails) (missing-as x.links.opened.items z.links.opened.items numbers) (For-woke x.clock x.links.opened.items x.used x.ran z.ran m a.taken count told)))
-    (λ t s.
-    let told = s.told (call.told t) going in
-    let count : z.ran ≡ min (x.ran + length (events_of a.taken (Woke m))) (2 ^ 64 - 1) = reports.ran ∙ begins.ran ∙ ap (λ c. min (x.ran + length (wake_events c m)) (2 ^ 64 - 1)) told.clock in
-    record {
-      events = events_of a.taken (Woke m);
-      reaches = rw (append-nil (events_of a.taken (Woke m))) (ReachesEvents-all x.core.quits z.core.quits x.ran z.ran (events_of a.taken (Woke m)) going (λ fits. count));
-      rises = runs.keeps.rises;
-      advances = λ same below rows were.
-          let state = state_of x.core rows in
-          let P : Option ℕ → Type 0 = λ c. Follows x.core z.core (run state (wake_events c m)) in
-          let did = subst P told.clock (runs.does same below s.among.once rows were) in
-          let none = wake-calm x.core z.core (run state (wake_events (clock a.taken) m)).acts calm (subst Distinct (sym links) s.among.once) did.leaving (λ k. wake-leaves k (clock a.taken) m state) in
-          MomentAdvances-takes rows (moment x a) (moment z b) (leaving_closes z.core.connections) (events_of a.taken (Woke m)) did links (reports.used ∙ begins.used) (sent t) (choked t) (Woke m ∷ []) (call.taken t)
-          (wake-closes (clock a.taken) m state ∙ sym none) (wake-stops (clock a.taken) m state);
+    → x.core.quits ≡ false → IsCalm x.core → BeginsTurn x y m → ReportsSources y z tokens → z.refused.items ≡ [] → z.unlisted ≡ 0 → z.links.closed.items ≡ [] → LoopStep false 1 0 x z a b
+LoopStep-woke x y z a b m tokens call sent choked asked used there undrained listening blocked tokens_there going calm begins reports none none' empty =
+    LoopStep-step false 1 0 x z a b (Woke m ∷ []) (closes_asked z.core) call (λ below. (let t = begins.turns in let r = reports.turns in omega arith)) refl refl
+    keeps.rises (λ t. absurd (false≢true t)) (λ s. reasons s) (λ s. sides-kept x.core z.core keeps.servers) (λ s. Onward-none x.core z.core (Woke m ∷ []) (let r = keeps.servers.reached in omega arith) (λ k. refl))
+    (λ over. absurd (false≢true (sym going ∙ over))) (λ t. absurd (false≢true t)) among
+    (λ t s on. told (s.told (call.told t) going) on)
+    (λ s stopped. began s stopped)
+    (λ t s. record {
+      events = (takes (s.told (call.told t) going)).takes.events;
+      reaches = rw (append-nil (events_of a.taken (Woke m))) ((takes (s.told (call.told t) going)).takes.reaches);
+      rises = keeps.rises;
+      advances = λ same below rows were. advances t s same below rows were (s.told (call.told t) going);
       silent = λ over. refl;
       last = λ same below rows were on over.
-          let state = state_of x.core rows in
-          let P : Option ℕ → Type 0 = λ c. Follows x.core z.core (run state (wake_events c m)) in
-          let did = subst P told.clock (runs.does same below s.among.once rows were) in
-          record { front = []; happening = Woke m; back = []; same = refl; within = some-events state (events_of a.taken (Woke m)) (end-by x.core.quits z.core.quits _ going did.quits over); silent = refl };
+          let events = (takes (s.told (call.told t) going)).takes.events in
+          let did = (takes (s.told (call.told t) going)).takes.takes.does same below s.among.once rows were in
+          record { front = []; happening = Woke m; back = []; same = refl; within = some-events (state_of x.core rows) events (end-by x.core.quits z.core.quits _ going did.quits over); silent = refl };
     })
+  where
+    keeps : KeepsClients x.core z.core
+    keeps = subst (KeepsClients x.core) (sym reports.core) begins.keeps
+
+    among : AgreesOnLinks x.links.opened.items x.core x.used x.listening x.refused.items a → AgreesOnLinks z.links.opened.items z.core z.used z.listening z.refused.items b
+    among s = among-woke x z y a b m tokens used there undrained listening blocked tokens_there begins reports none s
+
+    numbers : map link_number z.links.opened.items ≡ map link_number x.links.opened.items
+    numbers = reports.numbers ∙ ap (λ o. map link_number o) begins.opened
+
+    reasons : AgreesWithSockets x a → All (HasReason x z a b) (closed_so_far z)
+    reasons s = subst (All (HasReason x z a b)) (ap (λ cs. cs ++ closes_asked z.core) (sym empty)) (All-weaker (HasCause x z a b) (HasReason x z a b) (λ c h. inr h) (closes_asked z.core) (woke-causes x z y a b m tokens calm begins reports call.taken s))
+
+    map-size : (links : List LinkId) → length (map loss_of links) ≡ length links
+    map-size [] = refl
+    map-size (l ∷ ls) = let ih = map-size ls in omega arith
+
+    takes : AgreesWithHappenings x.clock x.links.opened.items x.used x.ran x.refused.items x.unlisted a.taken → TakesAside x.refused.items x.core z.core x.ran z.ran (events_of a.taken (Woke m))
+    takes t =
+        let P : CoreView → Type 0 = λ c. TakesAside x.refused.items x.core c x.ran z.ran (events_of a.taken (Woke m)) in
+        let size : length (events_of a.taken (Woke m)) ≡ length (wake_events x.clock m) + length x.refused.items + x.unlisted =
+        (let l = length-append (wake_events (clock a.taken) m) (map loss_of (refused_since a.taken)) in let n = map-size (refused_since a.taken) in let c = t.counted in let w = ap (λ o. length (wake_events o m)) t.clock in omega arith) in
+        subst P (sym reports.core) (subst (λ n. TakesAside x.refused.items x.core y.core x.ran n (events_of a.taken (Woke m))) (sym reports.ran)
+        (begins.takes (events_of a.taken (Woke m)) (λ q. ap (λ o. wake_events o m ++ map loss_of (refused_since a.taken)) (sym t.clock) ∙ ap (λ links. wake_events x.clock m ++ map loss_of links) (sym (t.since q))) size))
+
+    reached : AgreesWithHappenings x.clock x.links.opened.items x.used x.ran x.refused.items x.unlisted a.taken → z.core.quits ≡ false → z.ran ≡ min (x.ran + length (events_of a.taken (Woke m))) (2 ^ 64 - 1)
+    reached t on =
+        let r = (takes t).takes.reaches in
+        let e = ap length (r.front ∙ ap (λ xs. (takes t).takes.events ++ xs) (r.whole on) ∙ append-nil (takes t).takes.events) in
+        let c = r.counts (let f = t.events in omega arith) in
+        omega arith
+
+    told : AgreesWithHappenings x.clock x.links.opened.items x.used x.ran x.refused.items x.unlisted a.taken → z.core.quits ≡ false → AgreesWithHappenings z.clock z.links.opened.items z.used z.ran z.refused.items z.unlisted (a.taken ++ Woke m ∷ [])
+    told t on =
+        rw (reports.clock, begins.clock, reports.used, begins.used, none, none')
+        (For-states (clock_from x.clock (Woke m ∷ [])) x.links.opened.items z.links.opened.items x.used z.ran [] 0 (a.taken ++ Woke m ∷ []) (rw begins.opened at reports.tails) (subst (λ o. SameKinds o z.links.opened.items) begins.opened reports.kinds) (missing-as x.links.opened.items z.links.opened.items numbers)
+        (For-woke x.clock x.links.opened.items x.used x.ran z.ran m x.refused.items x.unlisted a.taken (reached t on) t))
+
+    -- where no event was reached, none came to be wanted
+    began : AgreesWithSockets x a → z.ran ≡ 0 → z.core.servers.wanted ≡ []
+    began s stopped = ap (λ (c : CoreView). c.servers.wanted) reports.core ∙ begins.idle calm.asked (sym reports.ran ∙ stopped)
+
+    advances : IsTrue b.tells → AgreesWithSockets x a → z.core.starved ≡ x.core.starved → x.core.starved < 2 ^ 64 - 1 → (rows : Told) → WereTold x.core rows → (t : AgreesWithHappenings x.clock x.links.opened.items x.used x.ran x.refused.items x.unlisted a.taken) → MomentAdvances rows (moment x a) (moment z b) (closes_asked z.core) (takes t).takes.events
+    advances t s same below rows were told' =
+        let events = (takes told').takes.events in
+        let did = (takes told').takes.takes.does same below s.among.once rows were in
+        let acts = (run (state_of x.core rows) events).acts in
+        let later = among s.among in
+        let closes = (takes told').closes (λ link e. s.among.spared link e) same below s.among.once rows were in
+        MomentAdvances-takes rows (moment x a) (moment z b) (closes_asked z.core) events did keeps.links (reports.used ∙ begins.used) keeps.servers later.seats (clients-above x.links.opened.items x.core x.used x.listening x.refused.items a s.among)
+        (λ k low. party-used k x.links.opened.items z.links.opened.items x.core z.core x.used x.listening x.refused.items a low keeps.links keeps.servers s.among) s.among.alone later.alone (sent t) (choked t)
+        (rw (asked t, did.servers.wanted) (ap (λ xs. a.asked ++ xs) (asks_of-append x.core.servers.wanted (wanted_in (outs_of acts))) ∙ sym (append_assoc a.asked (asks_of x.core.servers.wanted) (asks_in acts))))
+        (Woke m ∷ []) (call.taken t) (woke-closes rows x.core z.core events calm keeps.links s.among.once s.among.limited s.among.order did closes) ((takes told').takes.takes.stops same below s.among.once rows were)
+
+-- ---- what follows of it
 
 -- what a turn closed as it began
-pub woken-closed : (z w : Headless) (closed : List Closed) → z.links.closed.items ≡ [] → NobodyLeaving w.core.connections → closed_so_far w ≡ closed_so_far z ++ closed → w.links.closed.items ≡ leaving_closes z.core.connections ++ closed
+pub woken-closed : (z w : Headless) (closed : List Closed) → z.links.closed.items ≡ [] → IsCalm w.core → closed_so_far w ≡ closed_so_far z ++ closed → w.links.closed.items ≡ closes_asked z.core ++ closed
 woken-closed z w closed empty calm grows =
-    sym (ap (λ cs. w.links.closed.items ++ cs) calm ∙ append-nil _) ∙ grows ∙ ap (λ cs. (cs ++ leaving_closes z.core.connections) ++ closed) empty
+    sym (ap (λ cs. w.links.closed.items ++ cs) calm.parted ∙ append-nil _) ∙ grows ∙ ap (λ cs. (cs ++ closes_asked z.core) ++ closed) empty
 
 -- what was saved before is not lost
 pub woken-saves : (x y z w : Headless) (m : ℕ) (tokens : List Token) → BeginsTurn x y m → ReportsSources y z tokens → KeepsSaved z.core w.core → KeepsSaved x.core w.core
 woken-saves x y z w m tokens begins reports later =
-    KeepsSaved-trans x.core y.core w.core begins.takes.keeps.saves (KeepsSaved-trans y.core z.core w.core (saves-as y.core z.core y.core reports.core refl refl) later)
+    KeepsSaved-trans x.core y.core w.core begins.keeps.saves (KeepsSaved-trans y.core z.core w.core (saves-as y.core z.core y.core reports.core refl refl) later)
 
 -- no link is lost as a turn begins
 pub woken-loses : (x y z w : Headless) (m : ℕ) (tokens : List Token) → BeginsTurn x y m → ReportsSources y z tokens → KeepsLinks z w → LosesNone x w
@@ -323,8 +508,14 @@ woken-loses x y z w m tokens begins reports keeps = record {
   came = λ k above below. by k (keeps.came k (let u = reports.used in let v = begins.used in omega arith) below);
 } where
   rises : x.core.starved ≤ z.core.starved
-  rises = let e = ap (λ (c : CoreView). c.starved) reports.core in let p = begins.takes.keeps.rises in omega arith
+  rises = let e = ap (λ (c : CoreView). c.starved) reports.core in let p = begins.keeps.rises in omega arith
 
   by : (k : ℕ) → (is_known k w ≡ true) ⊎ HasStarved z.core.starved w.core.starved → (is_known k w ≡ true) ⊎ HasStarved x.core.starved w.core.starved
   by k (inl known) = inl known
   by k (inr starved) = inr (starved-following x.core.starved z.core.starved w.core.starved rises starved)
+
+-- what a turn closed as it began has its cause, and nothing else is to be closed
+pub woken-causes : (x z w : Headless) (a b c : Seen) (h : LoopStep false 1 0 x z a b) → AgreesWithSockets x a → LoopStep true 0 0 z w b c → z.links.closed.items ≡ [] → All (HasCause x z a b) (closes_asked z.core) → IsCalm w.core → All (HasCause x w a c) w.links.closed.items
+woken-causes x z w a b c h s q empty caused calm =
+    subst (All (HasCause x w a c)) (ap (λ cs. w.links.closed.items ++ cs) calm.parted ∙ append-nil _)
+    (turn-reasons x z w a b c h.gained q.gained q.told h.taken q.taken h.counts q.counts (h.sides s) (onward-of x z a b h s) (onward-of z w b c q (h.agrees s)) (subst (All (HasCause x z a b)) (ap (λ cs. cs ++ closes_asked z.core) (sym empty)) caused) (q.causes (h.agrees s)))

@@ -1,4 +1,4 @@
--- No link is lost.
+-- No link is lost, nor a connection that was asked for.
 use Rattle.std.specs.Prelude.{ℕ, ◌-◌, ◌^◌, ◌≡◌, ◌<◌, ◌≤◌, ◌⊎◌, ◌||◌, Bool, true}
 use Rattle.std.specs.Prelude.{is_some}
 use Rattle.wc_outside.specs.Keyed.{at_key}

@@ -1,11 +1,14 @@
 -- The events that the happenings of the sockets spell.
-use Rattle.std.specs.Prelude.{ℕ, ◌+◌, Bool, true, List, [], ◌∷◌, ◌++◌, length, if◌then◌else◌}
-use Rattle.std.specs.Prelude.{◌==◌, nat_lt, nat_le, ◌||◌, Option, Some, None}
-use Rattle.std.specs.List.{flat_map}
+use Rattle.std.specs.Prelude.{ℕ, ◌+◌, Bool, true, false, List, [], ◌∷◌, ◌++◌, length, map}
+use Rattle.std.specs.Prelude.{if◌then◌else◌, ◌==◌, nat_lt, nat_le, ◌||◌, Option, Some, None}
+use Rattle.std.specs.List.{flat_map, list_any}
 use Rattle.wc_outside.specs.declared.happening.Happening.{Happening}
 use Rattle.wc_outside.specs.declared.happening.Happening.TheVariants.{Woke, Accepted, Read, Ended}
-use Rattle.wc_outside.specs.declared.happening.Happening.TheVariants.{Failed, ListenFailed}
-use Rattle.wc_core.specs.Events.{Event, Start, Tick, Arrives, Line, Ends, Fails, ListenFails}
+use Rattle.wc_outside.specs.declared.happening.Happening.TheVariants.{Failed, Connected, Refused}
+use Rattle.wc_outside.specs.declared.happening.Happening.TheVariants.{ListenFailed}
+use Rattle.wc_core.specs.Events.{Event, Start, Tick, Arrives, Line, Stands, Ends, Fails}
+use Rattle.wc_core.specs.Events.{ListenFails}
+use Rattle.wc_text.specs.declared.names.LinkId.{LinkId}
 use Rattle.wc_turns.specs.Lines.{ended_lines, rest, without_cr, line_limit}
 
 -- the bytes of a happening that came on a link
@@ -15,7 +18,37 @@ bytes_on link (Woke moment) = []
 bytes_on link (Accepted other nonce) = []
 bytes_on link (Ended other) = []
 bytes_on link (Failed other) = []
+bytes_on link (Connected other) = []
+bytes_on link (Refused other) = []
 bytes_on link ListenFailed = []
+
+-- whether a happening is that the connection of a link stands
+abbrev pub stands_at : ℕ → Happening → Bool
+stands_at link (Connected other) = other.0 == link
+stands_at link (Woke moment) = false
+stands_at link (Accepted other nonce) = false
+stands_at link (Read other bytes) = false
+stands_at link (Ended other) = false
+stands_at link (Failed other) = false
+stands_at link (Refused other) = false
+stands_at link ListenFailed = false
+
+abbrev pub has_stood : ℕ → List Happening → Bool
+has_stood link happenings = list_any (stands_at link) happenings
+
+-- whether a happening is that a client came on a link
+abbrev pub comes_on : ℕ → Happening → Bool
+comes_on link (Accepted other nonce) = other.0 == link
+comes_on link (Woke moment) = false
+comes_on link (Read other bytes) = false
+comes_on link (Ended other) = false
+comes_on link (Failed other) = false
+comes_on link (Connected other) = false
+comes_on link (Refused other) = false
+comes_on link ListenFailed = false
+
+abbrev pub has_come : ℕ → List Happening → Bool
+has_come link happenings = list_any (comes_on link) happenings
 
 -- what comes after the last LF of all bytes that came on a link
 abbrev pub tail_on : ℕ → List Happening → List ℕ
@@ -39,6 +72,8 @@ clock_from last (Accepted link nonce ∷ happenings) = clock_from last happening
 clock_from last (Read link bytes ∷ happenings) = clock_from last happenings
 clock_from last (Ended link ∷ happenings) = clock_from last happenings
 clock_from last (Failed link ∷ happenings) = clock_from last happenings
+clock_from last (Connected link ∷ happenings) = clock_from last happenings
+clock_from last (Refused link ∷ happenings) = clock_from last happenings
 clock_from last (ListenFailed ∷ happenings) = clock_from last happenings
 
 -- the moment of the last tick, or of the start
@@ -49,6 +84,26 @@ abbrev pub wake_events : Option ℕ → ℕ → List Event
 wake_events None moment = Start moment ∷ []
 wake_events (Some last) moment = if is_tick last moment then Tick moment ∷ [] else []
 
+-- the connections that were refused since the last wake, after these
+abbrev pub refused_from : List LinkId → List Happening → List LinkId
+refused_from refused [] = refused
+refused_from refused (Woke moment ∷ happenings) = refused_from [] happenings
+refused_from refused (Refused link ∷ happenings) = refused_from (refused ++ link ∷ []) happenings
+refused_from refused (Accepted link nonce ∷ happenings) = refused_from refused happenings
+refused_from refused (Read link bytes ∷ happenings) = refused_from refused happenings
+refused_from refused (Ended link ∷ happenings) = refused_from refused happenings
+refused_from refused (Failed link ∷ happenings) = refused_from refused happenings
+refused_from refused (Connected link ∷ happenings) = refused_from refused happenings
+refused_from refused (ListenFailed ∷ happenings) = refused_from refused happenings
+
+-- the connections that were refused since the last wake, in order
+abbrev pub refused_since : List Happening → List LinkId
+refused_since happenings = refused_from [] happenings
+
+-- the loss of a connection that was refused
+abbrev pub loss_of : LinkId → Event
+loss_of link = Fails link.0
+
 -- a line of a link, unless it is too long
 abbrev pub line_events : ℕ → List ℕ → List Event
 line_events link line = if nat_le (length line) line_limit
@@ -58,13 +113,17 @@ line_events link line = if nat_le (length line) line_limit
 abbrev pub read_events : ℕ → List ℕ → List ℕ → List Event
 read_events link line bytes = flat_map (line_events link) (ended_lines line bytes)
 
--- the events of a happening, after those that came before
+-- the events of a happening, after those that came before; the connections that were refused are
+-- lost after the next wake
 abbrev pub events_of : List Happening → Happening → List Event
 events_of before (Woke moment) = wake_events (clock before) moment
+    ++ map loss_of (refused_since before)
 events_of before (Accepted link nonce) = Arrives link.0 nonce ∷ []
 events_of before (Read link bytes) = read_events link.0 (tail_on link.0 before) bytes
 events_of before (Ended link) = Ends link.0 ∷ []
 events_of before (Failed link) = Fails link.0 ∷ []
+events_of before (Connected link) = Stands link.0 ∷ []
+events_of before (Refused link) = []
 events_of before ListenFailed = ListenFails ∷ []
 
 -- the events of happenings, after those that came before

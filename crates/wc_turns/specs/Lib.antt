@@ -3,6 +3,7 @@ pub mod Events
 pub mod Hands
 pub mod Lines
 pub mod Links
+pub mod Parties
 pub mod Parts
 pub mod Run
 pub mod Saves

@@ -1,6 +1,7 @@
--- The links that are open.
+-- The links that are open, and the connections that are to be.
 use Rattle.std.specs.Prelude.{ℕ, Bool, true, false, List, [], ◌∷◌, ◌++◌, Option, Some, None}
-use Rattle.wc_outside.specs.Keyed.{put_at}
+use Rattle.std.specs.Prelude.{◌≡◌, is_some, not}
+use Rattle.wc_outside.specs.Keyed.{at_key, put_at}
 use Rattle.wc_turns.specs.declared.links.Closed.{Closed}
 use Rattle.wc_text.specs.declared.names.LinkId.{LinkId}
 use Rattle.wc_turns.specs.declared.links.LinkState.{LinkState}
@@ -23,6 +24,39 @@ abbrev pub is_blocked : Option LinkState → Bool
 is_blocked (Some state) = state.blocked
 is_blocked None = false
 
+-- whether a link is kept as a connection that does not stand yet
+abbrev pub is_connecting : Option LinkState → Bool
+is_connecting (Some state) = state.connecting
+is_connecting None = false
+
+-- whether a link is kept that the sockets have too: one whose connection was refused they do not have
+abbrev pub is_there : Option LinkState → Bool
+is_there (Some state) = not state.refused
+is_there None = false
+
+-- to whom a link leads: the name of a server, or none for a client; whether it is a connection that
+-- does not stand yet; and whether that was refused as it was asked for
+pub record Kind : Type 0 where
+  pub server : Option (List ℕ)
+  pub connecting : Bool
+  pub refused : Bool
+
+abbrev pub kind_of : Option LinkState → Option Kind
+kind_of (Some state) = Some (record {
+  server = state.server;
+  connecting = state.connecting;
+  refused = state.refused;
+})
+kind_of None = None
+
+-- a link is kept as a connection that does not stand yet
+abbrev pub IsConnecting : ℕ → List LinkState → Type 0
+IsConnecting link states = is_connecting (at_key link_number link states) ≡ true
+
+-- a link is not kept as a connection that does not stand yet
+abbrev pub IsStanding : ℕ → List LinkState → Type 0
+IsStanding link states = is_connecting (at_key link_number link states) ≡ false
+
 -- the links after one of them changed so, where it is there
 abbrev pub changed_at : ℕ → (LinkState → LinkState) → List LinkState → Option LinkState →
     List LinkState
@@ -41,10 +75,18 @@ drained_state state = record state { undrained = false }
 abbrev pub written_link : Bool → LinkState → LinkState
 written_link blocked state = record state { blocked = blocked }
 
--- a link that came
-abbrev pub new_state : LinkId → LinkState
-new_state link = record {
+-- a connection that stands
+abbrev pub standing_state : LinkState → LinkState
+standing_state state = record state { connecting = false }
+
+-- a link that came: that of a client, or the connection to a server of this name, which does not
+-- stand yet, or was refused as it was asked for
+abbrev pub new_state : LinkId → Option (List ℕ) → Bool → LinkState
+new_state link server refused = record {
   link = link;
+  server = server;
+  connecting = is_some server;
+  refused = refused;
   tail = record { line = []; over = false };
   undrained = false;
   blocked = false;

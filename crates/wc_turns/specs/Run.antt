@@ -2,14 +2,30 @@
 use Rattle.std.specs.Prelude.{◌≡◌, true, List, [], ◌∷◌, if◌then◌else◌}
 use Rattle.std.specs.List.{flat_map}
 use Rattle.wc_core.specs.Events.{Event}
-use Rattle.wc_core.specs.State.{State, Act, Sends, Closes, Quits, has_end}
+use Rattle.wc_core.specs.State.{State, Act, Sends, Closes, Serves, Quits, has_end}
+use Rattle.wc_servers.specs.Outs.{Out, SendsLine, Connects, Parts}
+use Rattle.wc_core.specs.ServersKept.{Parting}
 use Rattle.wc_core.specs.Step.{step}
 use Rattle.wc_turns.specs.declared.links.Closed.{Closed}
+
+-- the close that a server asks for
+abbrev pub close_of_parting : Parting → Closed
+close_of_parting parting = record {
+  link = record { 0 = parting.link };
+  cause = parting.cause;
+}
+
+-- the link that goes out for a server as a close, with its cause
+abbrev pub out_closes : Out → List Closed
+out_closes (SendsLine link bytes) = []
+out_closes (Connects link address server) = []
+out_closes (Parts link cause) = record { link = record { 0 = link }; cause = cause } ∷ []
 
 -- the links that acts close, in order, each with its cause
 abbrev pub act_closes : Act → List Closed
 act_closes (Sends link message) = []
 act_closes (Closes link cause) = record { link = record { 0 = link }; cause = cause } ∷ []
+act_closes (Serves out) = out_closes out
 act_closes Quits = []
 
 abbrev pub closings : List Act → List Closed

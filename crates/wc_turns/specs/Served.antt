@@ -1,4 +1,4 @@
--- The clients of the core, as the loop serves them.
+-- The clients and servers of the core, as the loop serves them.
 use Rattle.std.specs.Prelude.{ℕ, ◌+◌, ◌-◌, ◌^◌, ◌≡◌, ◌<◌, ◌≤◌, Bool, true, false, min}
 use Rattle.std.specs.Prelude.{List, [], ◌∷◌, ◌++◌, length, Option, Some, None}
 use Rattle.wc_text.specs.declared.names.LinkId.{LinkId}
@@ -12,6 +12,7 @@ use Rattle.wc_core.specs.Step.{run}
 use Rattle.wc_core.specs.Served.{links_of, state_of, WereTold, Distinct, KeepsClients, KeepsSaved}
 use Rattle.wc_board.specs.Connections.{leaving_on}
 use Rattle.wc_core.specs.Served.{Follows}
+use Rattle.wc_core.specs.ServersKept.{ServersKeep}
 use Rattle.wc_board.specs.Told.{Told}
 use Rattle.wc_turns.specs.declared.links.Closed.{Closed}
 use Rattle.wc_turns.specs.Run.{EndsAtQuit}
@@ -75,14 +76,15 @@ LeavesFor link other (Some before) now = now ≡ Some before
 LeavesFor link other None (Some cause) = IsOfLine link other cause
 LeavesFor link other None None = Unit {0}
 
--- the same links have clients, those that began to leave could do so at a line of this link, and
--- what was saved is not lost
+-- the same links have clients, those that began to leave could do so at a line of this link, servers
+-- come as they were begun, and what was saved is not lost
 pub record LeavesAtLine (link : ℕ) (old new : CoreView) : Type 0 where
   pub rises : old.starved ≤ new.starved
   pub links : links_of new ≡ links_of old
   pub leaving : Distinct (links_of old) → (other : ℕ) →
       LeavesFor link other (leaving_on other old.connections) (leaving_on other new.connections)
   pub saves : KeepsSaved old new
+  pub servers : ServersKeep old.servers new.servers
 
 -- a close goes by the number of its link
 abbrev pub closed_number : Closed → ℕ

@@ -1,22 +1,25 @@
 -- How the sources that are ready are served.
 use Rattle.std.specs.Prelude.{ℕ, ◌≡◌, ◌+◌, ◌≤◌, ◌⊎◌, ◌==◌, Bool, true, false, not}
-use Rattle.std.specs.Prelude.{◌&&◌, List, [], ◌∷◌, length, Option, Some, None, IsTrue}
+use Rattle.std.specs.Prelude.{◌&&◌, ◌||◌, List, [], ◌∷◌, length, Option, Some, None, IsTrue}
 use Rattle.std.specs.List.{flat_map, list_any}
 use Rattle.wc_outside.specs.Happenings.{is_link, is_listener}
 use Rattle.wc_outside.specs.Seen.{Seen}
 use Rattle.wc_outside.specs.Faults.{Rose}
 use Rattle.wc_turns.specs.declared.headless.Headless.{Headless}
 use Rattle.wc_turns.specs.Contained.{KeepsLinks}
-use Rattle.wc_turns.specs.Served.{NobodyLeaving}
+use Rattle.wc_turns.specs.Parties.{IsCalm, unsent_on}
 use Rattle.wc_turns.specs.Turns.{HasGained, AgreesWithSockets, LoopStep}
 use Rattle.wc_outside.specs.declared.happening.Happening.{Happening}
 use Rattle.wc_outside.specs.declared.happening.Happening.TheVariants.{Woke, Accepted, Read, Ended}
-use Rattle.wc_outside.specs.declared.happening.Happening.TheVariants.{Failed, ListenFailed}
+use Rattle.wc_outside.specs.declared.happening.Happening.TheVariants.{Failed, Connected, Refused}
+use Rattle.wc_outside.specs.declared.happening.Happening.TheVariants.{ListenFailed}
 use Rattle.wc_outside.specs.declared.sockets.Token.{Token}
 use Rattle.wc_turns.specs.declared.links.LinkState.{LinkState}
 use Rattle.wc_board.specs.declared.connection.Connection.{Connection}
 use Rattle.wc_turns.specs.Events.{bytes_on}
-use Rattle.wc_board.specs.Connections.{connection_link, unsent_on}
+use Rattle.wc_board.specs.Connections.{connection_link}
+use Rattle.wc_servers.specs.Seats.{SeatView, seat_link}
+use Rattle.wc_core.specs.CoreView.{CoreView}
 use Rattle.wc_turns.specs.Links.{link_number, is_blocked}
 use Rattle.wc_outside.specs.Keyed.{at_key}
 
@@ -30,6 +33,8 @@ is_arrival (Woke moment) = 0
 is_arrival (Read link bytes) = 0
 is_arrival (Ended link) = 0
 is_arrival (Failed link) = 0
+is_arrival (Connected link) = 0
+is_arrival (Refused link) = 0
 is_arrival ListenFailed = 0
 
 -- how many clients came
@@ -53,31 +58,31 @@ IsHeard before after = IsTrue after.tells → after.listening ≡ true → arriv
     ≤ arrivals after.taken
 
 -- nothing is unsent on a link, or its last write found no room
-abbrev pub IsWritten : ℕ → List Connection → Seen → Type 0
-IsWritten link connections seen = (unsent_on link connections ≡ []) ⊎ (seen.blocked link ≡ true)
+abbrev pub IsWritten : ℕ → CoreView → Seen → Type 0
+IsWritten link core seen = (unsent_on link core ≡ []) ⊎ (seen.blocked link ≡ true)
 
 -- each source was served between two moments, and each link is written
-pub record AllServed (connections : List Connection) (before after : Seen) : Type 0 where
+pub record AllServed (core : CoreView) (before after : Seen) : Type 0 where
   pub links : (link : ℕ) → 1 ≤ link → IsServed link before after
   pub listener : IsHeard before after
-  pub written : (link : ℕ) → 1 ≤ link → IsWritten link connections after
+  pub written : (link : ℕ) → 1 ≤ link → IsWritten link core after
 
 -- nothing is unsent on a link, or its last write found no room, or it failed between
-abbrev pub IsSent : ℕ → List Connection → Seen → Seen → Type 0
-IsSent link connections before after = (unsent_on link connections ≡ [])
+abbrev pub IsSent : ℕ → CoreView → Seen → Seen → Type 0
+IsSent link core before after = (unsent_on link core ≡ [])
     ⊎ ((after.blocked link ≡ true) ⊎ (Rose before.faults.links after.faults.links
     × (IsTrue after.tells → HasGained before after (Failed (record { 0 = link })))))
 
 -- after `/quit` each link with unsent bytes is written once
-abbrev pub AllSent : List Connection → Seen → Seen → Type 0
-AllSent connections before after = (link : ℕ) → 1 ≤ link → IsSent link connections before after
+abbrev pub AllSent : CoreView → Seen → Seen → Type 0
+AllSent core before after = (link : ℕ) → 1 ≤ link → IsSent link core before after
 
 -- the sources that these tokens name are served between two moments, each once, unless `/quit` was
 -- run; the listener failed so often
 pub record ServesNamed (tokens : List Token) (faults : ℕ) (old new : Headless) (before after : Seen)
     : Type 0 where
   pub continues : LoopStep true 0 faults old new before after
-  pub calm : NobodyLeaving new.core.connections
+  pub calm : IsCalm new.core
   pub falls : NothingBecameReady before after
   pub contained : AgreesWithSockets old before → KeepsLinks old new
   pub served : AgreesWithSockets old before → new.core.quits ≡ false → (link : ℕ) →
@@ -104,6 +109,17 @@ abbrev pub may_write : List LinkState → Connection → Bool
 may_write states connection = not (length connection.session.unsent == 0)
     && not (is_blocked (at_key link_number (connection_link connection) states))
 
+-- the same of a server
+abbrev pub may_write_seat : List LinkState → SeatView → Bool
+may_write_seat states seat = not (length seat.unsent == 0)
+    && not (is_blocked (at_key link_number seat.link states))
+
+-- whether a link has a client or a server of which this is so
+abbrev pub may_write_on : ℕ → List LinkState → CoreView → Bool
+may_write_on link states core =
+    has_flag (may_write states) (at_key connection_link link core.connections)
+    || has_flag (may_write_seat states) (at_key seat_link link core.servers.seats)
+
 -- whether a link is not drained, and these tokens do not name it
 abbrev pub is_left_over : List Token → LinkState → Bool
 is_left_over tokens state = state.undrained && not (list_any (is_link state.link.0) tokens)
@@ -117,7 +133,7 @@ pub record TakesWithin (before after : Seen) : Type 0 where
 -- each source is served between two moments, unless `/quit` was run; the listener failed so often
 pub record ServesSources (faults : ℕ) (old new : Headless) (before after : Seen) : Type 0 where
   pub continues : LoopStep true 0 faults old new before after
-  pub calm : NobodyLeaving new.core.connections
+  pub calm : IsCalm new.core
   pub contained : AgreesWithSockets old before → KeepsLinks old new
   pub served : AgreesWithSockets old before → new.core.quits ≡ false → (link : ℕ) → 1 ≤ link →
       IsServed link before after

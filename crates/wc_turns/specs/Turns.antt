@@ -1,8 +1,10 @@
 -- What the loop keeps, and how it goes on from one moment to another.
 use Rattle.std.specs.Prelude.{ℕ, ◌+◌, ◌-◌, ◌^◌, ◌≡◌, ◌<◌, ◌≤◌, ◌==◌, Bool, true}
 use Rattle.std.specs.Prelude.{false, ◌&&◌, ◌||◌, nat_le, min, List, [], ◌∷◌, ◌++◌, length, map}
-use Rattle.std.specs.Prelude.{Option, None, is_some, is_none, IfSome, Result, Ok, Err, IsTrue, All}
+use Rattle.std.specs.Prelude.{Option, None, is_some, not, ◌⊎◌, IfSome, Result, Ok, Err, IsTrue, All}
 use Rattle.std.specs.List.{flat_map, list_any}
+use Rattle.wc_text.specs.declared.names.Address.{Address}
+use Rattle.wc_text.specs.declared.names.LinkId.{LinkId}
 use Rattle.wc_text.specs.declared.names.Cause.{Cause}
 use Rattle.wc_text.specs.declared.names.Cause.TheVariants.{Ended as CauseEnded}
 use Rattle.wc_text.specs.declared.names.Cause.TheVariants.{Failed as CauseFailed, LoginFailed}
@@ -12,16 +14,20 @@ use Rattle.wc_outside.specs.Seen.{Seen}
 use Rattle.wc_outside.specs.Faults.{NeverFall, Rose}
 use Rattle.wc_outside.specs.declared.happening.Happening.{Happening}
 use Rattle.wc_outside.specs.declared.happening.Happening.TheVariants.{Woke, Accepted, Read, Ended}
-use Rattle.wc_outside.specs.declared.happening.Happening.TheVariants.{Failed, ListenFailed}
+use Rattle.wc_outside.specs.declared.happening.Happening.TheVariants.{Failed, Connected, Refused}
+use Rattle.wc_outside.specs.declared.happening.Happening.TheVariants.{ListenFailed}
+use Rattle.wc_outside.specs.declared.happening.Asked.{Asked}
+use Rattle.wc_outside.specs.declared.happening.Asked.TheVariants.{Connect}
 use Rattle.wc_outside.specs.declared.happening.Failed.{Failed as Fault}
-use Rattle.wc_board.specs.declared.connection.Connection.{Connection}
 use Rattle.wc_core.specs.Events.{Event}
 use Rattle.wc_core.specs.CoreView.{CoreView}
 use Rattle.wc_core.specs.Step.{run}
-use Rattle.wc_board.specs.Connections.{connection_link, unsent_on}
-use Rattle.wc_core.specs.Served.{state_of, WereTold, Means, sent_to}
-use Rattle.wc_core.specs.Served.{Distinct, KeepsSaved}
-use Rattle.wc_core.specs.State.{has_end}
+use Rattle.wc_board.specs.Connections.{connection_link}
+use Rattle.wc_servers.specs.Outs.{lines_to}
+use Rattle.wc_servers.specs.Seats.{seat_link, AreSeats}
+use Rattle.wc_core.specs.Served.{state_of, WereTold, Means, Distinct, KeepsSaved, outs_of, sent_to}
+use Rattle.wc_core.specs.ServersKept.{is_wanted, AreNext, AreInOrder, ServersKeep}
+use Rattle.wc_core.specs.State.{Act, has_end}
 use Rattle.wc_board.specs.Told.{Told}
 use Rattle.wc_turns.specs.declared.links.LinkState.{LinkState}
 use Rattle.wc_turns.specs.declared.links.Closed.{Closed}
@@ -30,56 +36,88 @@ use Rattle.wc_turns.specs.declared.turn.TurnEnd.{TurnEnd}
 use Rattle.wc_turns.specs.declared.turn.TurnEnd.TheVariants.{GoOn, Quit, WaitFault, ListenFault}
 use Rattle.wc_turns.specs.declared.turn.TurnEnd.TheVariants.{KeeperFault}
 use Rattle.wc_outside.specs.Keyed.{at_key}
-use Rattle.wc_turns.specs.Events.{bytes_on, tail_on, clock, events_of, events_from, whole}
+use Rattle.wc_turns.specs.Events.{bytes_on, tail_on, has_stood, has_come, clock, refused_since, events_of}
+use Rattle.wc_turns.specs.Events.{events_from, whole}
 use Rattle.wc_turns.specs.Hands.{Point, Delivers}
-use Rattle.wc_turns.specs.Links.{link_number, is_undrained, is_blocked}
+use Rattle.wc_turns.specs.Links.{link_number, is_undrained, is_blocked, is_connecting, is_there}
 use Rattle.wc_turns.specs.Run.{closings, EndsAtQuit}
-use Rattle.wc_turns.specs.Served.{leaving_closes, ReachesEvents, MayTake}
+use Rattle.wc_turns.specs.Parties.{has_party, unsent_on, owed_to, asks_of, asks_in, is_refused}
+use Rattle.wc_turns.specs.Parties.{closes_asked}
+use Rattle.wc_turns.specs.Served.{ReachesEvents, MayTake}
 use Rattle.wc_turns.specs.Tails.{IsTail}
 
 -- what the loop keeps is what the happenings make of it: the clock, what came after the last LF of
--- each link, and how many events were reached
+-- each link, which connections stand, which ones were refused since the last wake, of which some are
+-- not listed, and how many events were reached
 pub record AgreesWithHappenings (clocked : Option ℕ) (states : List LinkState) (used ran : ℕ)
-    (taken : List Happening) : Type 0 where
+    (refused : List LinkId) (unlisted : ℕ) (taken : List Happening) : Type 0 where
   pub clock : clocked ≡ clock taken
   pub tails : (link : ℕ) → IfSome (at_key link_number link states)
       (λ state. IsTail (tail_on link taken) state.tail)
-  -- no byte came on a link that is not used yet
+  -- no byte came on a link that is not used yet, nor is it told that one stands
   pub fresh : (link : ℕ) → used < link → flat_map (bytes_on link) taken ≡ []
+  pub unmade : (link : ℕ) → used < link → has_stood link taken ≡ false
+  -- a connection to a server is kept as one that does not stand until it is told that it does, and
+  -- till then no byte came on it
+  pub stood : (link : ℕ) → IfSome (at_key link_number link states)
+      (λ state. state.connecting ≡ (is_some state.server && not (has_stood link taken)))
+  pub unread : (link : ℕ) → is_connecting (at_key link_number link states) ≡ true →
+      flat_map (bytes_on link) taken ≡ []
   pub events : ran ≡ min (length (whole taken)) (2 ^ 64 - 1)
+  pub since : unlisted ≡ 0 → refused ≡ refused_since taken
+  pub counted : length refused + unlisted ≡ length (refused_since taken)
+  pub within : length refused + unlisted ≤ used
   -- before the start, which is the first event, nothing happened, and no link is there
   pub silent : ran ≡ 0 → taken ≡ []
   pub empty : ran ≡ 0 → (link : ℕ) → at_key link_number link states ≡ None
 
--- the links that the loop keeps are those of these sockets, and those of the clients, also of those
--- that are leaving
-pub record AgreesOnLinks (states : List LinkState) (connections : List Connection) (used : ℕ)
-    (listening : Bool) (seen : Seen) : Type 0 where
+-- The links that the loop keeps are those of these sockets, and connections that were refused. Each
+-- has a client or a server, also one that is leaving, and so has each connection that is still to be
+-- asked for, which has the next number.
+pub record AgreesOnLinks (states : List LinkState) (core : CoreView) (used : ℕ) (listening : Bool)
+    (refused : List LinkId) (seen : Seen) : Type 0 where
   pub counted : used ≡ seen.used
-  pub there : (link : ℕ) → seen.there link ≡ is_some (at_key link_number link states)
+  pub there : (link : ℕ) → seen.there link ≡ is_there (at_key link_number link states)
   pub undrained : (link : ℕ) → seen.undrained link ≡ is_undrained (at_key link_number link states)
   pub blocked : (link : ℕ) → seen.blocked link ≡ is_blocked (at_key link_number link states)
   pub listens : seen.listening ≡ listening
-  pub clients : (link : ℕ) → is_some (at_key connection_link link connections)
-      ≡ is_some (at_key link_number link states)
-  pub once : Distinct (map connection_link connections)
+  pub parties : (link : ℕ) → has_party link core
+      ≡ (is_some (at_key link_number link states) || is_wanted link core.servers.wanted)
+  -- no link has both
+  pub alone : (link : ℕ) → is_some (at_key connection_link link core.connections) ≡ true →
+      at_key seat_link link core.servers.seats ≡ None
+  pub once : Distinct (map connection_link core.connections)
+  pub seats : AreSeats core.servers
+  pub order : AreInOrder core.servers
   pub apart : Distinct (map link_number states)
-  -- no link above those that are used is known
+  -- no link above those that are used is known, nor has it a client
   pub unknown : (link : ℕ) → used < link → at_key link_number link states ≡ None
+  pub clients : (link : ℕ) → used < link → at_key connection_link link core.connections ≡ None
+  pub unrefused : (link : ℕ) → used < link → is_refused link refused ≡ false
+  -- no client has a link that was refused
+  pub spared : (link : ℕ) → is_refused link refused ≡ true →
+      at_key connection_link link core.connections ≡ None
+  pub next : AreNext used core.servers.wanted
+  pub reached : core.servers.used ≡ used + length core.servers.wanted
+  pub limited : core.servers.used ≤ 2 ^ 62
 
 -- what the loop keeps is that of these sockets, until `/quit` is run
 pub record AgreesWithSockets (headless : Headless) (seen : Seen) : Type 0 where
-  pub among : AgreesOnLinks headless.links.opened.items headless.core.connections headless.used
-      headless.listening seen
+  pub among : AgreesOnLinks headless.links.opened.items headless.core headless.used
+      headless.listening headless.refused.items seen
   pub told : IsTrue seen.tells → headless.core.quits ≡ false →
       AgreesWithHappenings headless.clock headless.links.opened.items headless.used
-      headless.ran seen.taken
+      headless.ran headless.refused.items headless.unlisted seen.taken
+  -- before the start no connection is to be asked for
+  pub idle : headless.ran ≡ 0 → headless.core.servers.wanted ≡ []
 
 -- what is seen at a moment
 pub record Moment : Type 0 where
   pub taken : List Happening
   pub sent : ℕ → List ℕ
   pub choked : ℕ → Bool
+  -- what the sockets were asked for, and what they are still to be asked for
+  pub asked : List Asked
   pub used : ℕ
   pub core : CoreView
 
@@ -88,20 +126,23 @@ moment headless seen = record {
   taken = seen.taken;
   sent = seen.sent;
   choked = seen.choked;
+  asked = seen.asked ++ asks_of headless.core.servers.wanted;
   used = headless.used;
   core = headless.core;
 }
 
--- whether a happening is the failure of a link
+-- whether a happening is the failure of a link, or the refusal of its connection
 abbrev pub is_failure : ℕ → Happening → Bool
 is_failure link (Failed other) = other.0 == link
 is_failure link (Woke moment) = false
 is_failure link (Accepted other nonce) = false
 is_failure link (Read other bytes) = false
 is_failure link (Ended other) = false
+is_failure link (Connected other) = false
+is_failure link (Refused other) = other.0 == link
 is_failure link ListenFailed = false
 
--- whether a link failed
+-- whether a link failed, or was refused
 abbrev pub has_failed : ℕ → List Happening → Bool
 has_failed link taken = list_any (is_failure link) taken
 
@@ -109,29 +150,51 @@ has_failed link taken = list_any (is_failure link) taken
 abbrev pub point : ℕ → Moment → Point
 point link m = record {
   sent = m.sent link;
-  unsent = unsent_on link m.core.connections;
-  gone = nat_le link m.used && is_none (at_key connection_link link m.core.connections);
+  unsent = unsent_on link m.core;
+  gone = nat_le link m.used && not (has_party link m.core);
   spoiled = m.choked link || has_failed link m.taken;
 }
 
+-- a link has a client, or its number is not used yet
+abbrev pub IsClients : ℕ → CoreView → Type 0
+IsClients link core = (is_some (at_key connection_link link core.connections) ≡ true)
+    ⊎ (core.servers.used < link)
+
+-- a link has a server, or its number is not used yet
+abbrev pub IsServers : ℕ → CoreView → Type 0
+IsServers link core = (is_some (at_key seat_link link core.servers.seats) ≡ true)
+    ⊎ (core.servers.used < link)
+
+-- what these acts owe to a link that has a client at the end is for that client, and the same of
+-- servers
+pub record OnOneSide (old new : CoreView) (acts : List Act) : Type 0 where
+  pub clients : (link : ℕ) → IsClients link new →
+      IsClients link old × (lines_to link (outs_of acts) ≡ [])
+  pub servers : (link : ℕ) → IsServers link new → IsServers link old × (sent_to link acts ≡ [])
+
 -- From one moment to another the core, where these rows were told before, takes these events, of
--- which none comes after `/quit`, what it owes is handed to each link, and it closes these links.
+-- which none comes after `/quit`, what it owes is handed to each link, what it wants connected is
+-- asked for, and it closes these links.
 pub record MomentAdvances (told : Told) (a b : Moment) (closed : List Closed)
     (events : List Event) : Type 0 where
   pub means : Means b.core (run (state_of a.core told) events).state
   pub stops : EndsAtQuit (state_of a.core told) events
   pub hands : (link : ℕ) → Delivers (point link a) (point link b)
-      (sent_to link (run (state_of a.core told) events).acts)
+      (owed_to link (run (state_of a.core told) events).acts)
+  pub sides : OnOneSide a.core b.core (run (state_of a.core told) events).acts
+  pub asks : b.asked ≡ a.asked ++ asks_in (run (state_of a.core told) events).acts
   pub closes : closings (run (state_of a.core told) events).acts ≡ closed
   pub quits : b.core.quits ≡ (a.core.quits || has_end (run (state_of a.core told) events).acts)
 
--- whether a happening gives bytes or a client
+-- whether a happening gives bytes, a client, or a connection that stands
 abbrev pub gives : Happening → Bool
 gives (Read link bytes) = true
 gives (Accepted link nonce) = true
 gives (Woke moment) = false
 gives (Ended link) = false
 gives (Failed link) = false
+gives (Connected link) = true
+gives (Refused link) = false
 gives ListenFailed = false
 
 abbrev pub GivesNothing : List Happening → Type 0
@@ -186,6 +249,20 @@ CausedBy NickTaken link before after = ⊥
 abbrev pub IsCaused : Seen → Seen → Closed → Type 0
 IsCaused before after closed = CausedBy closed.cause closed.link.0 before after
 
+-- a close may be that of a server: its link has one at the first of two moments, or its number came
+-- to be drawn between them, and no client came on it
+pub record IsOfServer (old new : Headless) (before after : Seen) (closed : Closed) : Type 0 where
+  pub side : IsServers closed.link.0 old.core
+  pub drawn : closed.link.0 ≤ new.core.servers.used
+  pub uncome : IsTrue after.tells → (gained : List Happening) →
+      after.taken ≡ before.taken ++ gained → has_come closed.link.0 gained ≡ false
+
+-- A close has its cause between two moments, or it is that of a server. For what the link of a server
+-- is closed is said by the closes of what is run, in order.
+abbrev pub HasCause : Headless → Headless → Seen → Seen → Closed → Type 0
+HasCause old new before after closed = IsCaused before after closed
+    ⊎ IsOfServer old new before after closed
+
 -- whether a happening is the return of a wait, or the failure of the listener
 abbrev pub is_wake : Happening → ℕ
 is_wake (Woke moment) = 1
@@ -193,6 +270,8 @@ is_wake (Accepted link nonce) = 0
 is_wake (Read link bytes) = 0
 is_wake (Ended link) = 0
 is_wake (Failed link) = 0
+is_wake (Connected link) = 0
+is_wake (Refused link) = 0
 is_wake ListenFailed = 0
 
 abbrev pub is_listen_fault : Happening → ℕ
@@ -201,6 +280,8 @@ is_listen_fault (Accepted link nonce) = 0
 is_listen_fault (Read link bytes) = 0
 is_listen_fault (Ended link) = 0
 is_listen_fault (Failed link) = 0
+is_listen_fault (Connected link) = 0
+is_listen_fault (Refused link) = 0
 is_listen_fault ListenFailed = 1
 
 -- how many waits returned, and how often the listener failed
@@ -232,27 +313,50 @@ faults_then Quit = 0
 faults_then WaitFault = 0
 faults_then KeeperFault = 0
 
--- the links that were closed in a turn so far, and those whose clients are leaving
+-- the links that were closed in a turn so far, and those whose clients or servers are leaving
 abbrev pub closed_so_far : Headless → List Closed
-closed_so_far headless = headless.links.closed.items ++ leaving_closes headless.core.connections
+closed_so_far headless = headless.links.closed.items ++ closes_asked headless.core
+
+-- a close is one of these
+abbrev pub IsAmong : Closed → List Closed → Type 0
+IsAmong closed [] = ⊥
+IsAmong closed (one ∷ others) = (closed ≡ one) ⊎ IsAmong closed others
+
+-- a close was there at the first of two moments, or what happened between has its cause
+abbrev pub HasReason : Headless → Headless → Seen → Seen → Closed → Type 0
+HasReason old new before after closed = IsAmong closed (closed_so_far old)
+    ⊎ HasCause old new before after closed
 
 -- a loop goes on over `waits` returned waits and `faults` failures of the listener: what it keeps
 -- goes on standing for the happenings, and the core takes the events that they add. Within one turn
--- it lists what it closes.
+-- it lists what it closes, in order unless some growth was refused.
 pub record LoopStep (within : Bool) (waits faults : ℕ) (old new : Headless) (before after : Seen) :
     Type 0 where
   pub turns : old.turns + waits < 2 ^ 64 → new.turns ≡ old.turns + waits
   pub counts : NeverFall before.faults after.faults
   pub told : IsTrue after.tells → IsTrue before.tells
-  pub asked : IsTrue after.tells → after.asked ≡ before.asked
+  -- nothing but connections is asked for
+  pub connects : List Address
+  pub asked : IsTrue after.tells → after.asked ≡ before.asked ++ map Connect connects
   pub wakes : IsTrue after.tells → wake_count after.taken ≡ wake_count before.taken + waits
   pub listens : IsTrue after.tells → listen_faults after.taken ≡ listen_faults before.taken + faults
   pub gained : List Happening
   pub taken : IsTrue after.tells → after.taken ≡ before.taken ++ gained
+  pub rises : old.core.starved ≤ new.core.starved
   pub closed : List Closed
-  pub grows : within ≡ true → AgreesWithSockets old before → closed_so_far new
-      ≡ closed_so_far old ++ closed
-  pub causes : AgreesWithSockets old before → All (IsCaused before after) closed
+  pub grows : within ≡ true → AgreesWithSockets old before →
+      new.core.starved ≡ old.core.starved → old.core.starved < 2 ^ 64 - 1 →
+      closed_so_far new ≡ closed_so_far old ++ closed
+  -- each close was there before, or has its cause between
+  pub causes : AgreesWithSockets old before →
+      All (HasReason old new before after) (closed_so_far new)
+  -- no server comes to a link whose number is used
+  pub sides : AgreesWithSockets old before → (link : ℕ) → IsServers link new.core →
+      IsServers link old.core
+  -- a client that comes has a new number, and no server
+  pub reached : AgreesWithSockets old before → old.core.servers.used ≤ new.core.servers.used
+  pub comes : AgreesWithSockets old before → (link : ℕ) → has_come link gained ≡ true →
+      (old.core.servers.used < link) × (IsServers link new.core → ⊥)
   pub quits : old.core.quits ≡ true → new.core.quits ≡ true
   pub saves : within ≡ true → AgreesWithSockets old before → KeepsSaved old.core new.core
   pub agrees : AgreesWithSockets old before → AgreesWithSockets new after
@@ -271,33 +375,40 @@ pub record TurnStep (end : TurnEnd) (old new : Headless) (before after : Seen) :
   pub fits : FaultsIn end faults
   pub step : LoopStep false (waits_then end) faults old new before after
 
--- one happening is taken, before which `/quit` was not run; clients may be leaving after it
+-- One happening is taken, before which `/quit` was not run. Clients and servers may be leaving after
+-- it, and connections are to be asked for after those that were.
 pub record TakesHappening (old new : Headless) (happening : Happening) : Type 0 where
   pub turns : new.turns ≡ old.turns
   pub closed : new.links.closed.items ≡ old.links.closed.items
   pub used : new.used ≡ old.used
   pub listening : new.listening ≡ old.listening
+  pub refused : new.refused.items ≡ old.refused.items
   pub numbers : map link_number new.links.opened.items ≡ map link_number old.links.opened.items
   pub undrained : (link : ℕ) → is_undrained (at_key link_number link new.links.opened.items)
       ≡ is_undrained (at_key link_number link old.links.opened.items)
   pub blocked : (link : ℕ) → is_blocked (at_key link_number link new.links.opened.items)
       ≡ is_blocked (at_key link_number link old.links.opened.items)
+  pub there : (link : ℕ) → is_there (at_key link_number link new.links.opened.items)
+      ≡ is_there (at_key link_number link old.links.opened.items)
   pub clients : map connection_link new.core.connections ≡ map connection_link old.core.connections
+  pub servers : ServersKeep old.core.servers new.core.servers
+  -- where no event was reached yet, no connection came to be wanted
+  pub idle : new.ran ≡ 0 → new.core.servers.wanted ≡ old.core.servers.wanted
   pub told : (taken : List Happening) →
       ((link : ℕ) → old.used < link → at_key link_number link old.links.opened.items ≡ None) →
       new.core.quits ≡ false
-      → AgreesWithHappenings old.clock old.links.opened.items old.used old.ran taken →
-      AgreesWithHappenings new.clock new.links.opened.items new.used new.ran
-      (taken ++ happening ∷ [])
+      → AgreesWithHappenings old.clock old.links.opened.items old.used old.ran old.refused.items
+      old.unlisted taken →
+      AgreesWithHappenings new.clock new.links.opened.items new.used new.ran new.refused.items
+      new.unlisted (taken ++ happening ∷ [])
   pub takes : (taken : List Happening) → AgreesWithHappenings old.clock old.links.opened.items
-      old.used old.ran taken
+      old.used old.ran old.refused.items old.unlisted taken
       → MayTake old.core new.core old.ran new.ran (events_of taken happening)
 
--- a client that is leaving is settled: what it is owed is sent, or there is no room for it, or its
--- link failed
-abbrev pub IsSettled : ℕ → List Connection → Seen → Type 0
-IsSettled link connections seen = IsTrue seen.tells → seen.blocked link ≡ false →
-    has_failed link seen.taken ≡ false → unsent_on link connections ≡ []
+-- who is leaving is settled: what it is owed is sent, or there is no room for it, or its link failed
+abbrev pub IsSettled : ℕ → CoreView → Seen → Type 0
+IsSettled link core seen = IsTrue seen.tells → seen.blocked link ≡ false →
+    has_failed link seen.taken ≡ false → unsent_on link core ≡ []
 
 -- the links that a turn closed are, in order, those that the core closes at the events that the
 -- turn added, unless some growth was refused

@@ -1,6 +1,6 @@
 -- How a turn waits, and how it ends.
-use Rattle.std.specs.Prelude.{ℕ, ◌≡◌, ◌<◌, ◌≤◌, ◌⊎◌, ◌==◌, Bool, true, false, ◌||◌}
-use Rattle.std.specs.Prelude.{if◌then◌else◌, is_some, Result, Ok, Err}
+use Rattle.std.specs.Prelude.{ℕ, ◌-◌, ◌^◌, ◌≡◌, ◌<◌, ◌≤◌, ◌⊎◌, ◌==◌, Bool, true, false, ◌||◌}
+use Rattle.std.specs.Prelude.{if◌then◌else◌, is_some, All, Result, Ok, Err}
 use Rattle.std.specs.List.{list_any}
 use Rattle.wc_outside.specs.Seen.{Seen}
 use Rattle.wc_outside.specs.declared.happening.Failed.{Failed as Fault}
@@ -11,9 +11,9 @@ use Rattle.wc_outside.specs.Keyed.{at_key}
 use Rattle.wc_core.specs.Served.{KeepsSaved}
 use Rattle.wc_turns.specs.Contained.{is_known, HasStarved}
 use Rattle.wc_turns.specs.Links.{link_number}
-use Rattle.wc_turns.specs.Served.{NobodyLeaving}
+use Rattle.wc_turns.specs.Parties.{IsCalm}
 use Rattle.wc_turns.specs.Sources.{TakesNothing}
-use Rattle.wc_turns.specs.Turns.{LoopStep}
+use Rattle.wc_turns.specs.Turns.{LoopStep, AgreesWithSockets, HasCause}
 
 -- whether a source was reported ready and is not drained
 abbrev pub has_undrained : Headless → Bool
@@ -41,9 +41,12 @@ pub record LosesNone (x y : Headless) : Type 0 where
 -- so many waits return, and a turn begins, at which clients may leave for want of memory
 pub record WakesCore (waits : ℕ) (old new : Headless) (before after : Seen) : Type 0 where
   pub continues : LoopStep false waits 0 old new before after
-  pub closed : new.links.closed.items ≡ continues.closed
-  pub calm : NobodyLeaving new.core.connections
+  pub closed : new.core.starved ≡ old.core.starved → old.core.starved < 2 ^ 64 - 1 →
+      new.links.closed.items ≡ continues.closed
+  pub calm : IsCalm new.core
   pub rises : old.core.starved ≤ new.core.starved
   pub loses : LosesNone old new
   pub nothing : TakesNothing before after
+  pub causes : AgreesWithSockets old before →
+      All (HasCause old new before after) new.links.closed.items
   pub saves : KeepsSaved old.core new.core

@@ -15,6 +15,7 @@ use wc_text::LinkId;
 fn serve_line(core: &mut Core, link: LinkId, line: &[u8], ran: &mut u64)
     ensures does { MayRun core.old core.new (line_events link.0 line.now) }
     ensures causes { LeavesAtLine link.0 core.old core.new }
+    ensures idle { ran.new ≡ 0 → (ran.old ≡ 0) × (core.new ≡ core.old) }
     ensures ran { ran.new ≡ min (ran.old + length (line_events link.0 line.now)) (2 ^ 64 - 1) }
 {
     let _ran = *ran;
@@ -31,6 +32,7 @@ fn serve_tail(core: &mut Core, link: LinkId, tail: &mut Tail, ran: &mut u64)
     ensures does { (line : List ℕ) → IsTail line tail.old →
         MayRun core.old core.new (line_events link.0 line) }
     ensures causes { LeavesAtLine link.0 core.old core.new }
+    ensures idle { ran.new ≡ 0 → (ran.old ≡ 0) × (core.new ≡ core.old) }
     ensures ran { (line : List ℕ) → IsTail line tail.old →
         ran.new ≡ min (ran.old + length (line_events link.0 line)) (2 ^ 64 - 1) }
 {
@@ -49,6 +51,7 @@ fn end_line(core: &mut Core, link: LinkId, tail: &mut Tail, front: &[u8], ran: &
     ensures does { (line : List ℕ) → IsTail line tail.old →
         MayRun core.old core.new (line_events link.0 (line ++ front.now)) }
     ensures causes { LeavesAtLine link.0 core.old core.new }
+    ensures idle { ran.new ≡ 0 → (ran.old ≡ 0) × (core.new ≡ core.old) }
     ensures ran { (line : List ℕ) → IsTail line tail.old →
         ran.new ≡ min (ran.old + length (line_events link.0 (line ++ front.now))) (2 ^ 64 - 1) }
 {
@@ -81,6 +84,7 @@ pub fn feed(core: &mut Core, link: LinkId, tail: &mut Tail, bytes: &[u8], ran: &
     ensures takes { (line : List ℕ) → IsTail line tail.old →
         MayTake core.old core.new ran.old ran.new (read_events link.0 line bytes.now) }
     ensures causes { LeavesAtLine link.0 core.old core.new }
+    ensures idle { ran.new ≡ 0 → (ran.old ≡ 0) × (core.new ≡ core.old) }
 {
     let _ran = *ran;
     let mut rest = bytes;

@@ -1,18 +1,19 @@
 ghost use Rattle.std.specs.Prelude.{◌≡◌, ◌≢◌, ◌⊎◌, ◌+◌, ◌-◌, ◌^◌, ◌<◌, ◌≤◌};
-ghost use Rattle.std.specs.Prelude.{◌++◌, ◌∷◌, [], None, false, IfOk, IfSome, map, min, take};
+ghost use Rattle.std.specs.Prelude.{◌∷◌, [], None, Some, false, IfOk, length, map, min, take};
 ghost use Rattle.std.specs.Prelude.{string_bytes};
 ghost use Rattle.std.specs.Option.{option_copied};
-ghost use Rattle.wc_outside.specs.declared.happening.Happening.TheVariants.{Read, Ended, Failed};
-ghost use Rattle.wc_outside.specs.Keyed.{at_key, IsKeyPlace};
+ghost use Rattle.wc_outside.specs.declared.happening.Happening.TheVariants.{Woke, Read, Ended, Failed};
+ghost use Rattle.wc_outside.specs.Keyed.{IsKeyPlace};
 ghost use Rattle.wc_core.specs.Limits.{most_lines};
 ghost use Rattle.wc_core.specs.State.{first_state};
-ghost use Rattle.wc_board.specs.Connections.{connection_link, left_at, unsent_at};
-ghost use Rattle.wc_core.specs.Served.{Means, links_of};
-ghost use Rattle.wc_board.specs.Connections.{is_open_at};
-ghost use Rattle.wc_core.specs.Served.{Absent};
-ghost use Rattle.wc_turns.specs.Events.{is_tick};
-ghost use Rattle.wc_turns.specs.Links.{link_number};
-ghost use Rattle.wc_turns.specs.Served.{NobodyLeaving, LeavesAtLine};
+ghost use Rattle.wc_core.specs.LinksSeen.{unsent_in_core};
+ghost use Rattle.wc_servers.specs.Seats.{no_servers, used_up};
+ghost use Rattle.wc_core.specs.Served.{Means};
+ghost use Rattle.wc_turns.specs.Events.{is_tick, wake_events, clock_from};
+ghost use Rattle.wc_turns.specs.Parties.{has_party};
+ghost use Rattle.wc_turns.specs.Links.{link_number, IsStanding};
+ghost use Rattle.wc_turns.specs.Served.{LeavesAtLine, MayRun};
+ghost use Rattle.wc_turns.specs.Steps.{LosesLink, WakesParties};
 
 use crate::feed::feed;
 use crate::links::{Closed, LinkState, Links};
@@ -35,6 +36,10 @@ pub struct Headless {
     pub(crate) used: u64,
     /// Whether the listener was reported ready and is not drained.
     pub(crate) listening: bool,
+    /// The connections that were refused since the last wait, in order.
+    pub(crate) refused: Vec<LinkId>,
+    /// How many more were refused since then, for which there was no memory.
+    pub(crate) unlisted: u64,
     pub(crate) turns: u64,
     pub(crate) ran: u64,
 }
@@ -63,6 +68,9 @@ impl Headless {
             × (headless.links.closed.items ≡ [])) }
         ensures rest { IfOk result (λ headless. (headless.clock ≡ None) × (headless.used ≡ 0)
             × (headless.listening ≡ false) × (headless.turns ≡ 0) × (headless.ran ≡ 0)) }
+        ensures refused { IfOk result (λ headless. (headless.refused.items ≡ [])
+            × (headless.unlisted ≡ 0)) }
+        ensures servers { IfOk result (λ headless. headless.core.servers ≡ no_servers) }
         ensures written { IfOk result (λ headless. (headless.core.unwritten ≡ false)
             × (headless.core.saved ≡ None)) }
     {
@@ -75,17 +83,21 @@ impl Headless {
             clock: None,
             used: 0,
             listening: false,
+            refused: Vec::new(alloc),
+            unlisted: 0,
             turns: 0,
             ran: 0,
         })
     }
 
-    /// Serves bytes of a link. Clients may begin to leave.
+    /// Serves bytes of a link. Clients and servers may begin to leave, and connections may be wanted.
     pub(crate) fn bytes_came(&mut self, place: usize, link: LinkId, bytes: &[u8])
         requires place { IsKeyPlace link_number link.0 self.old.links.opened.items place }
         requires going { self.old.core.quits ≡ false }
+        requires stands { IsStanding link.0 self.old.links.opened.items }
         ensures takes { TakesHappening self.old self.new (Read link bytes.now) }
         ensures causes { LeavesAtLine link.0 self.old.core self.new.core }
+        ensures stands { IsStanding link.0 self.new.links.opened.items }
     {
         feed(
             &mut self.core,
@@ -96,26 +108,22 @@ impl Headless {
         );
     }
 
-    /// Serves the end of a link, or its failure. Its client begins to leave.
+    /// Serves the end of a link, or its failure. Its client or server begins to leave.
     pub(crate) fn link_gone(&mut self, link: LinkId, cause: Cause)
         requires going { self.old.core.quits ≡ false }
         requires cause { cause ≢ Cause.NoMemory }
         ensures ended { cause ≡ Cause.Ended → TakesHappening self.old self.new (Ended link) }
         ensures failed { cause ≡ Cause.Failed → TakesHappening self.old self.new (Failed link) }
-        ensures core { self.new.core ≡ record self.old.core {
-          connections =
-              left_at link.0 cause self.old.core.connections
-              (at_key connection_link link.0 self.old.core.connections);
-        } }
-        ensures gone { is_open_at
-            (at_key connection_link link.0 self.new.core.connections) ≡ false }
+        ensures core { LosesLink link.0 cause self.old.core self.new.core }
+        ensures rest { self.new ≡ record self.old { core = self.new.core; ran = self.new.ran } }
+        ensures ran { self.new.ran ≡ min (self.old.ran + 1) (2 ^ 64 - 1) }
     {
         self.ran = self.ran.saturating_add(1);
         self.core.link_gone(link, cause);
     }
 
-    /// Counts an event that changes nothing, as the failure of a link whose client is leaving, or
-    /// that of the listener. After `/quit` no event is reached.
+    /// Counts an event that changes nothing, as the failure of a link whose client or server is
+    /// leaving, or that of the listener. After `/quit` no event is reached.
     pub(crate) fn link_missed(&mut self)
         ensures { self.new ≡ record self.old {
           ran = reached_after_miss self.old.core.quits
@@ -137,7 +145,11 @@ impl Headless {
     {
         self.used = arrival.link.0;
         self.ran = self.ran.saturating_add(1);
-        if self.links.admit(self.alloc, arrival.link).is_err() {
+        if self
+            .links
+            .admit(self.alloc, arrival.link, None, false)
+            .is_err()
+        {
             self.starve(arrival);
             return true;
         }
@@ -152,19 +164,14 @@ impl Headless {
 
     /// Serves an arrival for whose link there is no memory.
     fn starve(&mut self, arrival: Arrival)
-        ensures core { self.new ≡ record self.old {
-          core =
-              record self.old.core {
-                connections = self.new.core.connections;
-                starved = self.new.core.starved;
-              };
-        } }
+        ensures rest { self.new ≡ record self.old { core = self.new.core } }
         ensures starved { HasStarved self.old.core.starved self.new.core.starved }
         ensures rises { self.old.core.starved ≤ self.new.core.starved }
-        ensures connections { Absent arrival.link.0 (links_of self.old.core) →
-            self.new.core.connections ≡ self.old.core.connections }
-        ensures calm { NobodyLeaving self.old.core.connections →
-            NobodyLeaving self.new.core.connections }
+        ensures core { has_party arrival.link.0 self.old.core ≡ false → self.new.core
+            ≡ record self.old.core {
+              servers = used_up arrival.link.0 self.old.core.servers;
+              starved = self.new.core.starved;
+            } }
     {
         let _refused = self.core.accepted(arrival);
         self.core.link_gone(arrival.link, Cause::NoMemory);
@@ -192,22 +199,64 @@ impl Headless {
 
     /// Begins a turn at the moment at which a wait returned.
     pub(crate) fn begin_turn(&mut self, moment: u64)
+        requires going { self.old.core.quits ≡ false }
         ensures begins { BeginsTurn self.old self.new moment }
         ensures closed { self.new.links.closed.items ≡ [] }
     {
-        let reached = self.ran.saturating_add(1);
         self.turns = self.turns.saturating_add(1);
         self.links.begin_turn();
-        match self.clock {
-            None => self.core.start(moment),
-            Some(last) if is_tick(last, moment) => self.core.tick(moment),
-            Some(_) => return,
-        }
-        self.clock = Some(moment);
-        self.ran = reached;
+        self.wake_core(moment);
+        self.lose_refused();
     }
 
-    /// The links that are open, in the order of their numbers.
+    /// Serves the return of a wait: the start, or a tick where it is one.
+    fn wake_core(&mut self, moment: u64)
+        ensures takes { MayRun self.old.core self.new.core (wake_events self.old.clock moment) }
+        ensures causes { WakesParties self.old.core self.new.core }
+        ensures clock { self.new.clock ≡ clock_from self.old.clock (Woke moment ∷ []) }
+        ensures ran { self.new.ran
+            ≡ min (self.old.ran + length (wake_events self.old.clock moment)) (2 ^ 64 - 1) }
+        ensures idle { self.new.ran ≡ 0 → self.new.core ≡ self.old.core }
+        ensures rest { self.new ≡ record self.old {
+          core = self.new.core;
+          clock = self.new.clock;
+          ran = self.new.ran;
+        } }
+    {
+        let _ran = self.ran();
+        let Some(last) = self.clock else {
+            self.core.start(moment);
+            self.reach(moment);
+            return;
+        };
+        if !is_tick(last, moment) {
+            return;
+        }
+        self.core.tick(moment);
+        self.reach(moment);
+    }
+
+    /// Counts the start or a tick at this moment.
+    fn reach(&mut self, moment: u64)
+        ensures { self.new ≡ record self.old {
+          clock = Some moment;
+          ran = min (self.old.ran + 1) (2 ^ 64 - 1);
+        } }
+    {
+        self.clock = Some(moment);
+        self.ran = self.ran.saturating_add(1);
+    }
+
+    /// Has no server connect by itself at the start.
+    pub fn hold_servers(&mut self)
+        ensures { self.new ≡ record self.old {
+          core = record self.old.core { connects = false };
+        } }
+    {
+        self.core.hold_servers();
+    }
+
+    /// The links that are open, and the connections that are to be, in the order of their numbers.
     pub fn links(&self) -> &[LinkState]
         ensures { result.now ≡ self.now.links.opened.items }
     {
@@ -221,11 +270,10 @@ impl Headless {
         self.links.closed.as_slice()
     }
 
-    /// The bytes that a client is owed and that are not sent yet. There are none exactly where the
-    /// link has no client.
+    /// The bytes that a client or a server is owed and that are not sent yet. There are none exactly
+    /// where the link has neither.
     pub fn unsent(&self, link: LinkId) -> Option<&[u8]>
-        ensures { option_copied result
-            ≡ unsent_at (at_key connection_link link.0 self.now.core.connections) }
+        ensures { option_copied result ≡ unsent_in_core link.0 self.now.core }
     {
         self.core.unsent(link)
     }

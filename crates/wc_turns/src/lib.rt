@@ -2,6 +2,7 @@
 //! nothing of a client's mirror.
 #![tactic(auto)]
 
+mod connect;
 mod feed;
 mod headless;
 mod line_buffer;

@@ -4,12 +4,18 @@ ghost use Rattle.wc_outside.specs.Keyed.{at_key, without, PlaceOf};
 
 use crate::tail::Tail;
 use std::alloc::Global;
-use wc_text::{Cause, LinkId, NoMemory};
+use wc_text::{Cause, LinkId, NoMemory, Text};
 
-/// A link that is open.
+/// A link that is open, or a connection that is to be one.
 #[derive(Drop)]
 pub struct LinkState {
     pub link: LinkId,
+    /// The name of the server that it was connected to; none for a client.
+    pub server: Option<Text>,
+    /// Whether it is a connection that does not stand yet.
+    pub(crate) connecting: bool,
+    /// Whether that was refused as it was asked for: the sockets have no such link.
+    pub(crate) refused: bool,
     pub(crate) tail: Tail,
     /// Whether it was reported ready and is not drained.
     pub(crate) undrained: bool,
@@ -45,7 +51,7 @@ fn position_of(opened: &[LinkState], link: LinkId) -> Option<usize>
 impl Links {
     ghost use Rattle.wc_turns.specs.Links.{link_number, is_blocked, new_state, with_closed};
     ghost use Rattle.wc_turns.specs.Links.{changed_at, reported_state, drained_state};
-    ghost use Rattle.wc_turns.specs.Links.{written_link};
+    ghost use Rattle.wc_turns.specs.Links.{written_link, is_connecting, standing_state};
 
     /// No link, with room for the first ones.
     pub fn new(alloc: Global) -> Result<Links, NoMemory>
@@ -64,18 +70,29 @@ impl Links {
         position_of(&self.opened, link)
     }
 
-    /// Takes a link in, with room for a line of it and for its close.
-    pub fn admit(&mut self, alloc: Global, link: LinkId) -> Result<(), NoMemory>
+    /// Takes a link in, with room for a line of it and for its close: one of a client, or the
+    /// connection to a server of this name, which does not stand yet, or was refused.
+    pub fn admit(
+        &mut self,
+        alloc: Global,
+        link: LinkId,
+        server: Option<Text>,
+        refused: bool,
+    ) -> Result<(), NoMemory>
         ensures ok { OnOk result (self.new.opened.items ≡ self.old.opened.items
-            ++ new_state link ∷ []) }
+            ++ new_state link server refused ∷ []) }
         ensures err { OnErr result (self.new.opened.items ≡ self.old.opened.items) }
         ensures closed { self.new.closed.items ≡ self.old.closed.items }
     {
         let tail = Tail::new(alloc)?;
         self.opened.reserve(1)?;
         self.closed.reserve(self.opened.len() + 1)?;
+        let connecting = server.is_some();
         self.opened.push_reserved(LinkState {
             link,
+            server,
+            connecting,
+            refused,
             tail,
             undrained: false,
             blocked: false,
@@ -104,6 +121,27 @@ impl Links {
         match self.place(link) {
             Some(place) => self.opened[place].blocked,
             None => false,
+        }
+    }
+
+    /// Whether a link is a connection that does not stand yet.
+    pub fn is_connecting(&self, link: LinkId) -> bool
+        ensures { result ≡ is_connecting (at_key link_number link.0 self.now.opened.items) }
+    {
+        match self.place(link) {
+            Some(place) => self.opened[place].connecting,
+            None => false,
+        }
+    }
+
+    /// Marks a connection as one that stands.
+    pub fn mark_standing(&mut self, link: LinkId)
+        ensures opened { self.new.opened.items ≡ changed_at link.0 standing_state
+            self.old.opened.items (at_key link_number link.0 self.old.opened.items) }
+        ensures closed { self.new.closed ≡ self.old.closed }
+    {
+        if let Some(place) = self.place(link) {
+            self.opened[place].connecting = false;
         }
     }
 

@@ -7,18 +7,22 @@ ghost use Rattle.wc_outside.specs.Keyed.{at_key};
 ghost use Rattle.wc_board.specs.Connections.{connection_link};
 ghost use Rattle.wc_turns.specs.Contained.{KeepsLinks};
 ghost use Rattle.wc_turns.specs.Links.{link_number};
-ghost use Rattle.wc_turns.specs.Served.{NobodyLeaving};
+ghost use Rattle.wc_turns.specs.Parties.{IsCalm};
+ghost use Rattle.wc_servers.specs.Seats.{seat_link};
 ghost use Rattle.wc_turns.specs.Sources.{NothingBecameReady, IsServed, IsHeard, IsWritten};
 ghost use Rattle.wc_turns.specs.Sources.{AllServed, AllSent, ServesNamed, ServesSources, TakesWithin};
 ghost use Rattle.wc_turns.specs.Sources.{TakesNothing, bytes_taken, arrivals, has_flag, may_write};
+ghost use Rattle.wc_turns.specs.Sources.{may_write_seat, may_write_on};
 ghost use Rattle.wc_turns.specs.Sources.{is_left_over};
 ghost use Rattle.wc_turns.specs.Turns.{LoopStep, AgreesWithSockets, faults_of};
 
+use crate::connect::stand_link;
 use crate::headless::Headless;
 use crate::links::{LinkState, Links};
 use crate::turns::{accept_all, read_link, send_link, write_link};
-use wc_core::Connection;
+use wc_core::{Connection, Core};
 use wc_outside::{Failed, Ready, Sockets, Token};
+use wc_servers::Seat;
 use wc_text::LinkId;
 
 /// The lesser one of two links, where it is above the last one.
@@ -52,7 +56,7 @@ fn may_write(links: &Links, connection: &Connection) -> bool
 }
 
 /// The client with the least number above the last one that has unsent bytes and is not blocked.
-fn next_unsent(connections: &[Connection], links: &Links, last: u64) -> Option<LinkId>
+fn next_client(connections: &[Connection], links: &Links, last: u64) -> Option<LinkId>
     ensures above { IfSome result (λ link. last < link.0) }
     ensures between { IfSome result (λ link. (other : ℕ) → last < other → other < link.0 →
         has_flag (may_write links.now.opened.items)
@@ -68,6 +72,62 @@ fn next_unsent(connections: &[Connection], links: &Links, last: u64) -> Option<L
         }
     }
     next
+}
+
+/// Whether a server has unsent bytes, and its link is not known to have no room for them.
+fn may_write_seat(links: &Links, seat: &Seat) -> bool
+    ensures { result ≡ may_write_seat links.now.opened.items seat.now }
+{
+    if seat.unsent().is_empty() {
+        return false;
+    }
+    !links.is_blocked(seat.link())
+}
+
+/// The server with the least number above the last one that has unsent bytes and is not blocked.
+fn next_seat(seats: &[Seat], links: &Links, last: u64) -> Option<LinkId>
+    ensures above { IfSome result (λ link. last < link.0) }
+    ensures between { IfSome result (λ link. (other : ℕ) → last < other → other < link.0 →
+        has_flag (may_write_seat links.now.opened.items)
+        (at_key seat_link other seats.now) ≡ false) }
+    ensures none { result ≡ None → (other : ℕ) → last < other →
+        has_flag (may_write_seat links.now.opened.items)
+        (at_key seat_link other seats.now) ≡ false }
+{
+    let mut next = None;
+    for seat in seats {
+        if may_write_seat(links, seat) {
+            next = lesser(next, seat.link(), last);
+        }
+    }
+    next
+}
+
+/// The lesser one of two links.
+fn lesser_of(a: Option<LinkId>, b: Option<LinkId>) -> Option<LinkId>
+    ensures one { (result ≡ a) ⊎ (result ≡ b) }
+    ensures first { IfSome a (λ link. IfSome result (λ least. least.0 ≤ link.0)) }
+    ensures second { IfSome b (λ link. IfSome result (λ least. least.0 ≤ link.0)) }
+    ensures none { result ≡ None → (a ≡ None) × (b ≡ None) }
+{
+    match (a, b) {
+        (Some(first), Some(second)) if first.0 <= second.0 => Some(first),
+        (Some(first), None) => Some(first),
+        (_, other) => other,
+    }
+}
+
+/// The link with the least number above the last one that has unsent bytes and is not blocked.
+fn next_unsent(core: &Core, links: &Links, last: u64) -> Option<LinkId>
+    ensures above { IfSome result (λ link. last < link.0) }
+    ensures between { IfSome result (λ link. (other : ℕ) → last < other → other < link.0 →
+        may_write_on other links.now.opened.items core.now ≡ false) }
+    ensures none { result ≡ None → (other : ℕ) → last < other →
+        may_write_on other links.now.opened.items core.now ≡ false }
+{
+    let client = next_client(core.connections(), links, last);
+    let server = next_seat(core.servers().seats(), links, last);
+    lesser_of(client, server)
 }
 
 /// Whether tokens name a link.
@@ -110,56 +170,93 @@ fn next_undrained(states: &[LinkState], tokens: &[Token], last: u64) -> Option<L
     next
 }
 
-/// Writes the unsent bytes of each client that is not blocked, in the order of their numbers.
+/// Writes the unsent bytes of each client and server that is not blocked, in the order of their
+/// numbers. Where a link fails they are gone through again, since its loss is told.
 fn write_all<S: Sockets>(headless: &mut Headless, sockets: &mut S)
-    requires calm { NobodyLeaving headless.old.core.connections }
+    requires agrees { AgreesWithSockets headless.old (S.seen sockets.old) }
+    requires calm { IsCalm headless.old.core }
     requires going { headless.old.core.quits ≡ false }
     ensures continues { LoopStep true 0 0 headless.old headless.new (S.seen sockets.old)
         (S.seen sockets.new) }
-    ensures calm { NobodyLeaving headless.new.core.connections }
+    ensures calm { IsCalm headless.new.core }
     ensures contained { KeepsLinks headless.old headless.new }
     ensures going { headless.new.core.quits ≡ false }
     ensures falls { NothingBecameReady (S.seen sockets.old) (S.seen sockets.new) }
     ensures written { AgreesWithSockets headless.old (S.seen sockets.old) → (link : ℕ) → 1 ≤ link →
-        IsWritten link headless.new.core.connections (S.seen sockets.new) }
+        IsWritten link headless.new.core (S.seen sockets.new) }
     ensures nothing { TakesNothing (S.seen sockets.old) (S.seen sockets.new) }
 {
     let mut last = 0;
-    while let Some(link) = next_unsent(headless.core.connections(), &headless.links, last) {
-        write_link(headless, sockets, link);
+    while let Some(link) = next_unsent(&headless.core, &headless.links, last) {
+        last = if write_link(headless, sockets, link) {
+            0
+        } else {
+            link.0
+        };
+    }
+}
+
+/// Sends the unsent bytes of each client and server that is not blocked after `/quit`, in the order
+/// of their numbers.
+fn send_all<S: Sockets>(headless: &mut Headless, sockets: &mut S)
+    requires agrees { AgreesWithSockets headless.old (S.seen sockets.old) }
+    requires calm { IsCalm headless.old.core }
+    requires quit { headless.old.core.quits ≡ true }
+    ensures continues { LoopStep true 0 0 headless.old headless.new (S.seen sockets.old)
+        (S.seen sockets.new) }
+    ensures calm { IsCalm headless.new.core }
+    ensures contained { KeepsLinks headless.old headless.new }
+    ensures quits { headless.new.core.quits ≡ headless.old.core.quits }
+    ensures sent { AgreesWithSockets headless.old (S.seen sockets.old) →
+        AllSent headless.new.core (S.seen sockets.old) (S.seen sockets.new) }
+    ensures nothing { TakesNothing (S.seen sockets.old) (S.seen sockets.new) }
+{
+    let mut last = 0;
+    while let Some(link) = next_unsent(&headless.core, &headless.links, last) {
+        send_link(headless, sockets, link);
         last = link.0;
     }
 }
 
-/// Sends the unsent bytes of each client that is not blocked after `/quit`, in the order of their
-/// numbers.
-fn send_all<S: Sockets>(headless: &mut Headless, sockets: &mut S)
-    requires calm { NobodyLeaving headless.old.core.connections }
-    requires quit { headless.old.core.quits ≡ true }
+/// Serves a link that is ready: asks whether it stands, where that is not known, and reads it.
+fn serve_link<S: Sockets>(headless: &mut Headless, sockets: &mut S, link: LinkId)
+    requires agrees { AgreesWithSockets headless.old (S.seen sockets.old) }
+    requires calm { IsCalm headless.old.core }
+    requires going { headless.old.core.quits ≡ false }
     ensures continues { LoopStep true 0 0 headless.old headless.new (S.seen sockets.old)
         (S.seen sockets.new) }
-    ensures calm { NobodyLeaving headless.new.core.connections }
+    ensures calm { IsCalm headless.new.core }
+    ensures falls { NothingBecameReady (S.seen sockets.old) (S.seen sockets.new) }
+    ensures served { headless.new.core.quits ≡ false →
+        IsServed link.0 (S.seen sockets.old) (S.seen sockets.new) }
+    ensures within { IsTrue (S.seen sockets.new).tells →
+        bytes_taken link.0 (S.seen sockets.new).taken ≤ bytes_taken link.0
+        (S.seen sockets.old).taken + 1048576 }
+    ensures others { IsTrue (S.seen sockets.new).tells → (other : ℕ) → other ≢ link.0 →
+        bytes_taken other (S.seen sockets.new).taken ≡ bytes_taken other
+        (S.seen sockets.old).taken }
+    ensures clients { IsTrue (S.seen sockets.new).tells → arrivals (S.seen sockets.new).taken
+        ≡ arrivals (S.seen sockets.old).taken }
     ensures contained { KeepsLinks headless.old headless.new }
-    ensures quits { headless.new.core.quits ≡ headless.old.core.quits }
-    ensures sent { AgreesWithSockets headless.old (S.seen sockets.old) →
-        AllSent headless.new.core.connections (S.seen sockets.old) (S.seen sockets.new) }
-    ensures nothing { TakesNothing (S.seen sockets.old) (S.seen sockets.new) }
 {
-    let mut last = 0;
-    while let Some(link) = next_unsent(headless.core.connections(), &headless.links, last) {
-        send_link(headless, sockets, link);
-        last = link.0;
+    if !headless.links.is_connecting(link) {
+        read_link(headless, sockets, link);
+        return;
+    }
+    if stand_link(headless, sockets, link) {
+        read_link(headless, sockets, link);
     }
 }
 
 /// Reads the links that an earlier turn left undrained and that these tokens do not name, in the
 /// order of their numbers, unless `/quit` is run.
 fn read_rest<S: Sockets>(headless: &mut Headless, sockets: &mut S, tokens: &[Token])
-    requires calm { NobodyLeaving headless.old.core.connections }
+    requires agrees { AgreesWithSockets headless.old (S.seen sockets.old) }
+    requires calm { IsCalm headless.old.core }
     requires going { headless.old.core.quits ≡ false }
     ensures continues { LoopStep true 0 0 headless.old headless.new (S.seen sockets.old)
         (S.seen sockets.new) }
-    ensures calm { NobodyLeaving headless.new.core.connections }
+    ensures calm { IsCalm headless.new.core }
     ensures contained { KeepsLinks headless.old headless.new }
     ensures falls { NothingBecameReady (S.seen sockets.old) (S.seen sockets.new) }
     ensures served { AgreesWithSockets headless.old (S.seen sockets.old) → headless.new.core.quits
@@ -179,7 +276,7 @@ fn read_rest<S: Sockets>(headless: &mut Headless, sockets: &mut S, tokens: &[Tok
         if headless.core.quits() {
             return;
         }
-        read_link(headless, sockets, link);
+        serve_link(headless, sockets, link);
         last = link.0;
     }
 }
@@ -191,7 +288,8 @@ pub(crate) fn serve_tokens<S: Sockets>(
     sockets: &mut S,
     tokens: &[Token],
 ) -> Result<(), Failed>
-    requires calm { NobodyLeaving headless.old.core.connections }
+    requires agrees { AgreesWithSockets headless.old (S.seen sockets.old) }
+    requires calm { IsCalm headless.old.core }
     requires going { headless.old.core.quits ≡ false }
     ensures { ServesNamed tokens.now (faults_of result) headless.old headless.new
         (S.seen sockets.old) (S.seen sockets.new) }
@@ -210,7 +308,7 @@ pub(crate) fn serve_tokens<S: Sockets>(
             }
             Token::Link(link) => {
                 if !is_named(before, link) {
-                    read_link(headless, sockets, link);
+                    serve_link(headless, sockets, link);
                 }
             }
         }
@@ -224,11 +322,12 @@ fn accept_rest<S: Sockets>(
     sockets: &mut S,
     tokens: &[Token],
 ) -> Result<(), Failed>
-    requires calm { NobodyLeaving headless.old.core.connections }
+    requires agrees { AgreesWithSockets headless.old (S.seen sockets.old) }
+    requires calm { IsCalm headless.old.core }
     requires going { headless.old.core.quits ≡ false }
     ensures continues { LoopStep true 0 (faults_of result) headless.old headless.new
         (S.seen sockets.old) (S.seen sockets.new) }
-    ensures calm { NobodyLeaving headless.new.core.connections }
+    ensures calm { IsCalm headless.new.core }
     ensures contained { AgreesWithSockets headless.old (S.seen sockets.old) →
         KeepsLinks headless.old headless.new }
     ensures going { headless.new.core.quits ≡ false }
@@ -258,7 +357,8 @@ fn serve_sources<S: Sockets>(
     sockets: &mut S,
     tokens: &[Token],
 ) -> Result<(), Failed>
-    requires calm { NobodyLeaving headless.old.core.connections }
+    requires agrees { AgreesWithSockets headless.old (S.seen sockets.old) }
+    requires calm { IsCalm headless.old.core }
     requires going { headless.old.core.quits ≡ false }
     ensures { ServesSources (faults_of result) headless.old headless.new (S.seen sockets.old)
         (S.seen sockets.new) }
@@ -283,7 +383,8 @@ fn serve_unless_quit<S: Sockets>(
     sockets: &mut S,
     tokens: &[Token],
 ) -> Result<(), Failed>
-    requires calm { NobodyLeaving headless.old.core.connections }
+    requires agrees { AgreesWithSockets headless.old (S.seen sockets.old) }
+    requires calm { IsCalm headless.old.core }
     ensures { ServesSources (faults_of result) headless.old headless.new (S.seen sockets.old)
         (S.seen sockets.new) }
 {
@@ -295,19 +396,20 @@ fn serve_unless_quit<S: Sockets>(
 
 /// Writes what is unsent, or sends it after `/quit`.
 fn write_unsent<S: Sockets>(headless: &mut Headless, sockets: &mut S)
-    requires calm { NobodyLeaving headless.old.core.connections }
+    requires agrees { AgreesWithSockets headless.old (S.seen sockets.old) }
+    requires calm { IsCalm headless.old.core }
     ensures continues { LoopStep true 0 0 headless.old headless.new (S.seen sockets.old)
         (S.seen sockets.new) }
-    ensures calm { NobodyLeaving headless.new.core.connections }
+    ensures calm { IsCalm headless.new.core }
     ensures contained { KeepsLinks headless.old headless.new }
     ensures quits { headless.new.core.quits ≡ headless.old.core.quits }
     ensures falls { headless.new.core.quits ≡ false → NothingBecameReady (S.seen sockets.old)
         (S.seen sockets.new) }
     ensures written { AgreesWithSockets headless.old (S.seen sockets.old) →
         headless.new.core.quits ≡ false → (link : ℕ) → 1 ≤ link →
-        IsWritten link headless.new.core.connections (S.seen sockets.new) }
+        IsWritten link headless.new.core (S.seen sockets.new) }
     ensures sent { AgreesWithSockets headless.old (S.seen sockets.old) → headless.new.core.quits
-        ≡ true → AllSent headless.new.core.connections (S.seen sockets.old) (S.seen sockets.new) }
+        ≡ true → AllSent headless.new.core (S.seen sockets.old) (S.seen sockets.new) }
     ensures nothing { TakesNothing (S.seen sockets.old) (S.seen sockets.new) }
 {
     if headless.core.quits() {
@@ -323,17 +425,18 @@ pub fn serve_ready<S: Sockets>(
     sockets: &mut S,
     ready: &Ready,
 ) -> Result<(), Failed>
-    requires calm { NobodyLeaving headless.old.core.connections }
+    requires agrees { AgreesWithSockets headless.old (S.seen sockets.old) }
+    requires calm { IsCalm headless.old.core }
     ensures continues { LoopStep true 0 (faults_of result) headless.old headless.new
         (S.seen sockets.old) (S.seen sockets.new) }
-    ensures calm { NobodyLeaving headless.new.core.connections }
+    ensures calm { IsCalm headless.new.core }
     ensures contained { AgreesWithSockets headless.old (S.seen sockets.old) →
         KeepsLinks headless.old headless.new }
     ensures served { OnOk result (AgreesWithSockets headless.old (S.seen sockets.old) →
-        headless.new.core.quits ≡ false → AllServed headless.new.core.connections
+        headless.new.core.quits ≡ false → AllServed headless.new.core
         (S.seen sockets.old) (S.seen sockets.new)) }
     ensures sent { AgreesWithSockets headless.old (S.seen sockets.old) → headless.new.core.quits
-        ≡ true → AllSent headless.new.core.connections (S.seen sockets.old) (S.seen sockets.new) }
+        ≡ true → AllSent headless.new.core (S.seen sockets.old) (S.seen sockets.new) }
     ensures failed { OnErr result (Rose (S.seen sockets.old).faults.listens
         (S.seen sockets.new).faults.listens) }
     ensures within { TakesWithin (S.seen sockets.old) (S.seen sockets.new) }

@@ -2,10 +2,10 @@ ghost use Rattle.std.specs.List.{list_any};
 ghost use Rattle.std.specs.Prelude.{◌≡◌, ◌≢◌, All};
 ghost use Rattle.wc_outside.specs.Faults.{Rose};
 
+use crate::connect::settle;
 use crate::headless::Headless;
 use crate::links::LinkState;
 use crate::serve::serve_ready;
-use crate::turns::close_all_leaving;
 use wc_outside::{Failed, Keeper, Ready, Sockets};
 
 /// How a turn ended.
@@ -31,10 +31,10 @@ fn any_undrained(states: &[LinkState]) -> bool
 }
 
 impl Headless {
-    ghost use Rattle.std.specs.Prelude.{true, false, OnOk, OnErr};
-    ghost use Rattle.wc_turns.specs.Served.{NobodyLeaving};
+    ghost use Rattle.std.specs.Prelude.{true, false, IsTrue, OnOk, OnErr};
+    ghost use Rattle.wc_turns.specs.Parties.{IsCalm};
     ghost use Rattle.wc_turns.specs.Sources.{AllServed, AllSent, TakesWithin};
-    ghost use Rattle.wc_turns.specs.Turns.{AgreesWithSockets, LoopStep, IsCaused, ClosesExactly};
+    ghost use Rattle.wc_turns.specs.Turns.{AgreesWithSockets, LoopStep, HasCause, ClosesExactly};
     ghost use Rattle.wc_turns.specs.Turns.{waits_then, faults_then, TurnStep};
     ghost use Rattle.wc_turns.specs.Saves.{SavesTurn, WritesText, written_state};
     ghost use Rattle.wc_core.specs.Served.{KeepsSaved, unwritten_of};
@@ -60,7 +60,10 @@ impl Headless {
     }
 
     /// One turn: a wait, and what follows from it. Sources that are ready are read, each link up to
-    /// 1,048,576 bytes, at most 1,024 arrivals are taken, and then unsent bytes are written. The
+    /// 1,048,576 bytes, at most 1,024 arrivals are taken, and then unsent bytes are written. A
+    /// connection is asked whether it stands before it is read. The connections that the core wants
+    /// are asked for behind each event that may want one, and those that were refused before the
+    /// wait are lost first. The
     /// wait does not block where a source was left undrained, and else for 100 ms at most. Where
     /// `/quit` is run, nothing more is read, and what is unsent is written once. At its end the text
     /// that `/save` saved last, if it was run, takes the place of what the keeper holds.
@@ -69,19 +72,19 @@ impl Headless {
     /// before is written.
     pub fn turn<S: Sockets, K: Keeper>(&mut self, sockets: &mut S, keeper: &mut K) -> TurnEnd
         requires agrees { AgreesWithSockets self.old (S.seen sockets.old) }
-        requires calm { NobodyLeaving self.old.core.connections }
+        requires calm { IsCalm self.old.core }
         requires going { self.old.core.quits ≡ false }
         requires written { self.old.core.unwritten ≡ false }
         ensures continues { TurnStep result self.old self.new (S.seen sockets.old)
             (S.seen sockets.new) }
         ensures agrees { AgreesWithSockets self.new (S.seen sockets.new) }
-        ensures calm { NobodyLeaving self.new.core.connections }
-        ensures causes { All (IsCaused (S.seen sockets.old) (S.seen sockets.new))
-            self.new.links.closed.items }
-        ensures served { result ≡ TurnEnd.GoOn → AllServed self.new.core.connections
+        ensures calm { IsCalm self.new.core }
+        ensures causes { All (HasCause self.old self.new (S.seen sockets.old)
+            (S.seen sockets.new)) self.new.links.closed.items }
+        ensures served { result ≡ TurnEnd.GoOn → AllServed self.new.core
             (S.seen sockets.old) (S.seen sockets.new) }
         ensures sent { result ≡ TurnEnd.Quit →
-            AllSent self.new.core.connections (S.seen sockets.old) (S.seen sockets.new) }
+            AllSent self.new.core (S.seen sockets.old) (S.seen sockets.new) }
         ensures within { TakesWithin (S.seen sockets.old) (S.seen sockets.new) }
         ensures contained { LosesNone self.old self.new }
         ensures closes { ClosesExactly self.old self.new (S.seen sockets.old) (S.seen sockets.new) }
@@ -89,6 +92,8 @@ impl Headless {
         ensures goes_on { result ≡ TurnEnd.GoOn → self.new.core.quits ≡ false }
         ensures wait_fault { result ≡ TurnEnd.WaitFault → Rose (S.seen sockets.old).faults.waits
             (S.seen sockets.new).faults.waits }
+        ensures unasked { result ≡ TurnEnd.WaitFault → IsTrue (S.seen sockets.new).tells →
+            (S.seen sockets.new).asked ≡ (S.seen sockets.old).asked }
         ensures unwoken { result ≡ TurnEnd.WaitFault → self.new.core.quits ≡ false }
         ensures unsaved { result ≡ TurnEnd.WaitFault → self.new.core ≡ self.old.core }
         ensures listen_fault { result ≡ TurnEnd.ListenFault →
@@ -133,18 +138,18 @@ impl Headless {
     /// Waits, and serves what is ready.
     fn serve_turn<S: Sockets>(&mut self, sockets: &mut S) -> TurnEnd
         requires agrees { AgreesWithSockets self.old (S.seen sockets.old) }
-        requires calm { NobodyLeaving self.old.core.connections }
+        requires calm { IsCalm self.old.core }
         requires going { self.old.core.quits ≡ false }
         ensures continues { LoopStep false (waits_then result) (faults_then result) self.old
             self.new (S.seen sockets.old) (S.seen sockets.new) }
         ensures agrees { AgreesWithSockets self.new (S.seen sockets.new) }
-        ensures calm { NobodyLeaving self.new.core.connections }
-        ensures causes { All (IsCaused (S.seen sockets.old) (S.seen sockets.new))
-            self.new.links.closed.items }
-        ensures served { result ≡ TurnEnd.GoOn → AllServed self.new.core.connections
+        ensures calm { IsCalm self.new.core }
+        ensures causes { All (HasCause self.old self.new (S.seen sockets.old)
+            (S.seen sockets.new)) self.new.links.closed.items }
+        ensures served { result ≡ TurnEnd.GoOn → AllServed self.new.core
             (S.seen sockets.old) (S.seen sockets.new) }
         ensures sent { result ≡ TurnEnd.Quit →
-            AllSent self.new.core.connections (S.seen sockets.old) (S.seen sockets.new) }
+            AllSent self.new.core (S.seen sockets.old) (S.seen sockets.new) }
         ensures within { TakesWithin (S.seen sockets.old) (S.seen sockets.new) }
         ensures contained { LosesNone self.old self.new }
         ensures closes { ClosesExactly self.old self.new (S.seen sockets.old) (S.seen sockets.new) }
@@ -152,6 +157,8 @@ impl Headless {
         ensures goes_on { result ≡ TurnEnd.GoOn → self.new.core.quits ≡ false }
         ensures wait_fault { result ≡ TurnEnd.WaitFault → Rose (S.seen sockets.old).faults.waits
             (S.seen sockets.new).faults.waits }
+        ensures unasked { result ≡ TurnEnd.WaitFault → IsTrue (S.seen sockets.new).tells →
+            (S.seen sockets.new).asked ≡ (S.seen sockets.old).asked }
         ensures unwoken { result ≡ TurnEnd.WaitFault → self.new.core.quits ≡ false }
         ensures listen_fault { result ≡ TurnEnd.ListenFault →
             Rose (S.seen sockets.old).faults.listens (S.seen sockets.new).faults.listens }
@@ -171,7 +178,7 @@ impl Headless {
     /// Clients that found no memory for what is told then are parted with.
     fn wake<S: Sockets>(&mut self, sockets: &mut S, ready: &mut Ready) -> Result<(), Failed>
         requires agrees { AgreesWithSockets self.old (S.seen sockets.old) }
-        requires calm { NobodyLeaving self.old.core.connections }
+        requires calm { IsCalm self.old.core }
         requires going { self.old.core.quits ≡ false }
         ensures woken { OnOk result (WakesCore 1 self.old self.new (S.seen sockets.old)
             (S.seen sockets.new)) }
@@ -181,12 +188,14 @@ impl Headless {
             (Rose (S.seen sockets.old).faults.waits (S.seen sockets.new).faults.waits) }
         ensures going { OnErr result (self.new.core.quits ≡ false) }
         ensures unsaved { OnErr result (self.new.core ≡ self.old.core) }
+        ensures unasked { OnErr result (IsTrue (S.seen sockets.new).tells →
+            (S.seen sockets.new).asked ≡ (S.seen sockets.old).asked) }
     {
         match sockets.wait(self.timeout(), ready) {
             Ok(moment) => {
                 self.begin_turn(moment);
                 self.report(ready);
-                close_all_leaving(self, sockets, None);
+                settle(self, sockets, None);
                 Ok(())
             }
             Err(Failed) => {

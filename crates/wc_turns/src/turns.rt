@@ -1,15 +1,17 @@
-ghost use Rattle.std.specs.Prelude.{◌≡◌, ◌≢◌, ◌+◌, ◌<◌, ◌≤◌, ℕ, None, Some, Ok, IfSome};
+ghost use Rattle.std.specs.Prelude.{◌≡◌, ◌≢◌, ◌+◌, ◌<◌, ◌≤◌, ℕ, [], None, Some, Ok, IfSome};
 ghost use Rattle.std.specs.Prelude.{IsSome, OnOk, OnErr, IsTrue, true, false, length};
 ghost use Rattle.wc_outside.specs.Faults.{Rose};
-ghost use Rattle.wc_board.specs.Connections.{unsent_on, departure_of};
+ghost use Rattle.wc_core.specs.LinksSeen.{departure_in};
 ghost use Rattle.wc_turns.specs.Contained.{KeepsLinks};
+ghost use Rattle.wc_turns.specs.Links.{IsStanding};
 ghost use Rattle.wc_turns.specs.Parts.{FailureIgnored, SendsOn, ClosesLeaving, HasFailed, ReadsOn};
 ghost use Rattle.wc_turns.specs.Parts.{ReadBytes, came_of};
-ghost use Rattle.wc_turns.specs.Served.{NobodyLeaving, leaving_closes};
+ghost use Rattle.wc_turns.specs.Parties.{IsCalm, closes_asked, unsent_on, party_count};
 ghost use Rattle.wc_turns.specs.Sources.{NothingBecameReady, IsServed, IsHeard, IsWritten, IsSent};
 ghost use Rattle.wc_turns.specs.Sources.{TakesNothing, bytes_taken, arrivals};
 ghost use Rattle.wc_turns.specs.Turns.{LoopStep, AgreesWithSockets, IsSettled, faults_of};
 
+use crate::connect::settle;
 use crate::headless::Headless;
 use wc_core::Departure;
 use wc_outside::{Failed, Got, Put, Sockets};
@@ -24,6 +26,17 @@ const ACCEPT_LIMIT: usize = 1024;
 /// How many bytes one read takes at most.
 const PIECE: usize = 16_384;
 
+/// What a write came to.
+#[derive(Clone, Copy, PartialEq, Eq)]
+enum Wrote {
+    /// Some bytes were sent, and there may be more.
+    Some,
+    /// Nothing is left, or there is no room for it.
+    All,
+    /// The link failed.
+    Lost,
+}
+
 /// Sends unsent bytes of a client once, at which a failure changes nothing. Whether more may be
 /// sent.
 fn send_once<S: Sockets>(headless: &mut Headless, sockets: &mut S, link: LinkId) -> bool
@@ -32,10 +45,10 @@ fn send_once<S: Sockets>(headless: &mut Headless, sockets: &mut S, link: LinkId)
         (S.seen sockets.new) }
     ensures sends { SendsOn link.0 headless.old headless.new (S.seen sockets.old)
         (S.seen sockets.new) }
-    ensures done { result ≡ false → IsSent link.0 headless.new.core.connections (S.seen sockets.old)
-        (S.seen sockets.new) }
-    ensures less { result ≡ true → length (unsent_on link.0 headless.new.core.connections)
-        < length (unsent_on link.0 headless.old.core.connections) }
+    ensures done { result ≡ false → AgreesWithSockets headless.new (S.seen sockets.new) →
+        IsSent link.0 headless.new.core (S.seen sockets.old) (S.seen sockets.new) }
+    ensures less { result ≡ true → length (unsent_on link.0 headless.new.core)
+        < length (unsent_on link.0 headless.old.core) }
 {
     let Some(unsent) = headless.core.unsent(link) else {
         return false;
@@ -71,7 +84,7 @@ fn is_lost(lost: Option<LinkId>, link: LinkId) -> bool
     }
 }
 
-/// Sends what a client that is leaving is owed, until it is gone, there is no room, or its link
+/// Sends what who is leaving is owed, until it is gone, there is no room, or its link
 /// failed. Nothing is sent on the link that was lost, if one was, nor on one that is known to have
 /// no room.
 fn flush_leaving<S: Sockets>(
@@ -80,14 +93,14 @@ fn flush_leaving<S: Sockets>(
     departure: Departure,
     lost: Option<LinkId>,
 )
-    requires first { departure_of headless.old.core.connections ≡ Some departure }
+    requires first { departure_in headless.old.core ≡ Some departure }
     requires failed { HasFailed lost (S.seen sockets.old) }
     ensures continues { LoopStep true 0 0 headless.old headless.new (S.seen sockets.old)
         (S.seen sockets.new) }
     ensures sends { SendsOn departure.link.0 headless.old headless.new (S.seen sockets.old)
         (S.seen sockets.new) }
     ensures done { AgreesWithSockets headless.new (S.seen sockets.new) →
-        IsSettled departure.link.0 headless.new.core.connections (S.seen sockets.new) }
+        IsSettled departure.link.0 headless.new.core (S.seen sockets.new) }
 {
     if is_lost(lost, departure.link) {
         return;
@@ -98,20 +111,21 @@ fn flush_leaving<S: Sockets>(
     send_link(headless, sockets, departure.link);
 }
 
-/// Closes the link of a client that is leaving, after a last try to send what it is owed.
+/// Closes the link of who is leaving, after a last try to send what it is owed.
 fn close_leaving<S: Sockets>(
     headless: &mut Headless,
     sockets: &mut S,
     departure: Departure,
     lost: Option<LinkId>,
 )
-    requires first { departure_of headless.old.core.connections ≡ Some departure }
+    requires first { departure_in headless.old.core ≡ Some departure }
+    requires asked { headless.old.core.servers.wanted ≡ [] }
     requires failed { HasFailed lost (S.seen sockets.old) }
     ensures continues { LoopStep true 0 0 headless.old headless.new (S.seen sockets.old)
         (S.seen sockets.new) }
     ensures parts { ClosesLeaving headless.old headless.new (S.seen sockets.old)
         (S.seen sockets.new) }
-    ensures fewer { length headless.new.core.connections < length headless.old.core.connections }
+    ensures fewer { party_count headless.new.core < party_count headless.old.core }
 {
     flush_leaving(headless, sockets, departure, lost);
     sockets.close(departure.link);
@@ -119,14 +133,16 @@ fn close_leaving<S: Sockets>(
     headless.core.forget(departure.link);
 }
 
-/// Closes the links of all clients that are leaving.
+/// Closes the links of all clients and servers that are leaving, where each connection that was wanted
+/// is asked for.
 pub fn close_all_leaving<S: Sockets>(headless: &mut Headless, sockets: &mut S, lost: Option<LinkId>)
+    requires asked { headless.old.core.servers.wanted ≡ [] }
     requires failed { HasFailed lost (S.seen sockets.old) }
     ensures continues { LoopStep true 0 0 headless.old headless.new (S.seen sockets.old)
         (S.seen sockets.new) }
     ensures parts { ClosesLeaving headless.old headless.new (S.seen sockets.old)
         (S.seen sockets.new) }
-    ensures calm { NobodyLeaving headless.new.core.connections }
+    ensures parted { closes_asked headless.new.core ≡ [] }
 {
     while let Some(departure) = headless.core.departure() {
         close_leaving(headless, sockets, departure, lost);
@@ -141,12 +157,14 @@ fn read_once<S: Sockets>(
     link: LinkId,
     buffer: &mut [u8],
 ) -> Option<usize>
-    requires calm { NobodyLeaving headless.old.core.connections }
+    requires agrees { AgreesWithSockets headless.old (S.seen sockets.old) }
+    requires calm { IsCalm headless.old.core }
     requires going { headless.old.core.quits ≡ false }
+    requires stands { IsStanding link.0 headless.old.links.opened.items }
     requires room { 0 < length buffer.old }
     ensures continues { LoopStep true 0 0 headless.old headless.new (S.seen sockets.old)
         (S.seen sockets.new) }
-    ensures calm { NobodyLeaving headless.new.core.connections }
+    ensures calm { IsCalm headless.new.core }
     ensures going { IsSome result → headless.new.core.quits ≡ false }
     ensures reads { ReadsOn link.0 (S.seen sockets.old) (S.seen sockets.new) }
     ensures drained { result ≡ None → AgreesWithSockets headless.old (S.seen sockets.old) →
@@ -157,6 +175,7 @@ fn read_once<S: Sockets>(
         bytes_taken link.0 (S.seen sockets.new).taken ≤ bytes_taken link.0
         (S.seen sockets.old).taken + length buffer.old }
     ensures count { IfSome result (λ count. (1 ≤ count) × (count ≤ length buffer.old)) }
+    ensures stands { IsStanding link.0 headless.new.links.opened.items }
     ensures contained { KeepsLinks headless.old headless.new }
 {
     let Some(place) = headless.links.place(link) else {
@@ -169,35 +188,34 @@ fn read_once<S: Sockets>(
         }
         Ok(Got::Bytes(count)) => {
             headless.bytes_came(place, link, &buffer[..count]);
-            close_all_leaving(headless, sockets, None);
+            settle(headless, sockets, None);
             if headless.core.quits() {
-                return None;
-            }
-            if !headless.core.is_open(link) {
                 return None;
             }
             Some(count)
         }
         Ok(Got::End) => {
             headless.link_gone(link, Cause::Ended);
-            close_all_leaving(headless, sockets, None);
+            settle(headless, sockets, None);
             None
         }
         Err(Failed) => {
             headless.link_gone(link, Cause::Failed);
-            close_all_leaving(headless, sockets, Some(link));
+            settle(headless, sockets, Some(link));
             None
         }
     }
 }
 
-/// Reads a link until nothing is ready, up to the limit of a turn, or up to `/quit`.
+/// Reads a link that stands until nothing is ready, up to the limit of a turn, or up to `/quit`.
 pub fn read_link<S: Sockets>(headless: &mut Headless, sockets: &mut S, link: LinkId)
-    requires calm { NobodyLeaving headless.old.core.connections }
+    requires agrees { AgreesWithSockets headless.old (S.seen sockets.old) }
+    requires calm { IsCalm headless.old.core }
     requires going { headless.old.core.quits ≡ false }
+    requires stands { IsStanding link.0 headless.old.links.opened.items }
     ensures continues { LoopStep true 0 0 headless.old headless.new (S.seen sockets.old)
         (S.seen sockets.new) }
-    ensures calm { NobodyLeaving headless.new.core.connections }
+    ensures calm { IsCalm headless.new.core }
     ensures falls { NothingBecameReady (S.seen sockets.old) (S.seen sockets.new) }
     ensures served { AgreesWithSockets headless.old (S.seen sockets.old) → headless.new.core.quits
         ≡ false → IsServed link.0 (S.seen sockets.old) (S.seen sockets.new) }
@@ -224,11 +242,12 @@ pub fn read_link<S: Sockets>(headless: &mut Headless, sockets: &mut S, link: Lin
 
 /// Takes one arrival. Whether another may be taken, or that the listener failed.
 fn accept_once<S: Sockets>(headless: &mut Headless, sockets: &mut S) -> Result<bool, Failed>
-    requires calm { NobodyLeaving headless.old.core.connections }
+    requires agrees { AgreesWithSockets headless.old (S.seen sockets.old) }
+    requires calm { IsCalm headless.old.core }
     requires going { headless.old.core.quits ≡ false }
     ensures continues { LoopStep true 0 (faults_of result) headless.old headless.new
         (S.seen sockets.old) (S.seen sockets.new) }
-    ensures calm { NobodyLeaving headless.new.core.connections }
+    ensures calm { IsCalm headless.new.core }
     ensures going { headless.new.core.quits ≡ false }
     ensures falls { NothingBecameReady (S.seen sockets.old) (S.seen sockets.new) }
     ensures drained { result ≡ Ok false → (S.seen sockets.new).listening ≡ false }
@@ -261,11 +280,12 @@ fn accept_once<S: Sockets>(headless: &mut Headless, sockets: &mut S) -> Result<b
 
 /// Takes arrivals until none is ready, or up to the limit of a turn.
 pub fn accept_all<S: Sockets>(headless: &mut Headless, sockets: &mut S) -> Result<(), Failed>
-    requires calm { NobodyLeaving headless.old.core.connections }
+    requires agrees { AgreesWithSockets headless.old (S.seen sockets.old) }
+    requires calm { IsCalm headless.old.core }
     requires going { headless.old.core.quits ≡ false }
     ensures continues { LoopStep true 0 (faults_of result) headless.old headless.new
         (S.seen sockets.old) (S.seen sockets.new) }
-    ensures calm { NobodyLeaving headless.new.core.connections }
+    ensures calm { IsCalm headless.new.core }
     ensures going { headless.new.core.quits ≡ false }
     ensures falls { NothingBecameReady (S.seen sockets.old) (S.seen sockets.new) }
     ensures heard { OnOk result (IsHeard (S.seen sockets.old) (S.seen sockets.new)) }
@@ -288,68 +308,79 @@ pub fn accept_all<S: Sockets>(headless: &mut Headless, sockets: &mut S) -> Resul
     Ok(())
 }
 
-/// Writes unsent bytes of a client once. Whether more may be written.
-fn write_once<S: Sockets>(headless: &mut Headless, sockets: &mut S, link: LinkId) -> bool
-    requires calm { NobodyLeaving headless.old.core.connections }
+/// Writes unsent bytes of a client or a server once.
+fn write_once<S: Sockets>(headless: &mut Headless, sockets: &mut S, link: LinkId) -> Wrote
+    requires agrees { AgreesWithSockets headless.old (S.seen sockets.old) }
+    requires calm { IsCalm headless.old.core }
     requires going { headless.old.core.quits ≡ false }
     ensures continues { LoopStep true 0 0 headless.old headless.new (S.seen sockets.old)
         (S.seen sockets.new) }
-    ensures calm { NobodyLeaving headless.new.core.connections }
+    ensures calm { IsCalm headless.new.core }
     ensures going { headless.new.core.quits ≡ false }
     ensures falls { NothingBecameReady (S.seen sockets.old) (S.seen sockets.new) }
-    ensures done { result ≡ false → IsWritten link.0 headless.new.core.connections
-        (S.seen sockets.new) }
-    ensures others { (other : ℕ) → other ≢ link.0 → IsWritten other headless.old.core.connections
-        (S.seen sockets.old) → IsWritten other headless.new.core.connections (S.seen sockets.new) }
-    ensures less { result ≡ true → length (unsent_on link.0 headless.new.core.connections)
-        < length (unsent_on link.0 headless.old.core.connections) }
+    ensures done { result ≡ Wrote.All → IsWritten link.0 headless.new.core (S.seen sockets.new) }
+    ensures others { result ≢ Wrote.Lost → (other : ℕ) → other ≢ link.0 →
+        IsWritten other headless.old.core (S.seen sockets.old) →
+        IsWritten other headless.new.core (S.seen sockets.new) }
+    ensures less { result ≡ Wrote.Some → length (unsent_on link.0 headless.new.core)
+        < length (unsent_on link.0 headless.old.core) }
+    ensures parties { party_count headless.new.core ≤ party_count headless.old.core }
+    ensures lost { result ≡ Wrote.Lost →
+        party_count headless.new.core < party_count headless.old.core }
     ensures nothing { TakesNothing (S.seen sockets.old) (S.seen sockets.new) }
     ensures contained { KeepsLinks headless.old headless.new }
 {
     let Some(unsent) = headless.core.unsent(link) else {
-        return false;
+        return Wrote::All;
     };
     if unsent.is_empty() {
-        return false;
+        return Wrote::All;
     }
     match sockets.write(link, unsent) {
         Ok(Put::Took(count)) => {
             headless.links.mark_written(link, false);
             headless.core.gone(link, count);
-            true
+            Wrote::Some
         }
         Ok(Put::NotYet) => {
             headless.links.mark_written(link, true);
-            false
+            Wrote::All
         }
         Err(Failed) => {
             headless.links.mark_written(link, false);
             headless.link_gone(link, Cause::Failed);
-            close_all_leaving(headless, sockets, Some(link));
-            false
+            settle(headless, sockets, Some(link));
+            Wrote::Lost
         }
     }
 }
 
-/// Writes the unsent bytes of a client until they are gone or there is no room. A client whose link
-/// fails leaves.
-pub fn write_link<S: Sockets>(headless: &mut Headless, sockets: &mut S, link: LinkId)
-    requires calm { NobodyLeaving headless.old.core.connections }
+/// Writes the unsent bytes of a client or a server until they are gone or there is no room. Whether
+/// the link failed: who was there is gone then, and others may have unsent bytes of that.
+pub fn write_link<S: Sockets>(headless: &mut Headless, sockets: &mut S, link: LinkId) -> bool
+    requires agrees { AgreesWithSockets headless.old (S.seen sockets.old) }
+    requires calm { IsCalm headless.old.core }
     requires going { headless.old.core.quits ≡ false }
     ensures continues { LoopStep true 0 0 headless.old headless.new (S.seen sockets.old)
         (S.seen sockets.new) }
-    ensures calm { NobodyLeaving headless.new.core.connections }
+    ensures calm { IsCalm headless.new.core }
     ensures going { headless.new.core.quits ≡ false }
     ensures falls { NothingBecameReady (S.seen sockets.old) (S.seen sockets.new) }
-    ensures done { IsWritten link.0 headless.new.core.connections (S.seen sockets.new) }
-    ensures others { (other : ℕ) → other ≢ link.0 → IsWritten other headless.old.core.connections
-        (S.seen sockets.old) → IsWritten other headless.new.core.connections (S.seen sockets.new) }
+    ensures done { result ≡ false → IsWritten link.0 headless.new.core (S.seen sockets.new) }
+    ensures others { result ≡ false → (other : ℕ) → other ≢ link.0 →
+        IsWritten other headless.old.core (S.seen sockets.old) →
+        IsWritten other headless.new.core (S.seen sockets.new) }
+    ensures parties { party_count headless.new.core ≤ party_count headless.old.core }
+    ensures lost { result ≡ true →
+        party_count headless.new.core < party_count headless.old.core }
     ensures nothing { TakesNothing (S.seen sockets.old) (S.seen sockets.new) }
     ensures contained { KeepsLinks headless.old headless.new }
 {
     loop {
-        if !write_once(headless, sockets, link) {
-            return;
+        match write_once(headless, sockets, link) {
+            Wrote::Some => {}
+            Wrote::All => return false,
+            Wrote::Lost => return true,
         }
     }
 }
@@ -362,14 +393,14 @@ pub fn send_link<S: Sockets>(headless: &mut Headless, sockets: &mut S, link: Lin
         (S.seen sockets.new) }
     ensures sends { SendsOn link.0 headless.old headless.new (S.seen sockets.old)
         (S.seen sockets.new) }
-    ensures done { IsSent link.0 headless.new.core.connections (S.seen sockets.old)
-        (S.seen sockets.new) }
-    ensures leaving { leaving_closes headless.new.core.connections
-        ≡ leaving_closes headless.old.core.connections }
+    ensures done { AgreesWithSockets headless.new (S.seen sockets.new) →
+        IsSent link.0 headless.new.core (S.seen sockets.old) (S.seen sockets.new) }
+    ensures leaving { closes_asked headless.new.core
+        ≡ closes_asked headless.old.core }
     ensures quits { headless.new.core.quits ≡ headless.old.core.quits }
     ensures falls { NothingBecameReady (S.seen sockets.old) (S.seen sockets.new) }
-    ensures unsent { (other : ℕ) → other ≢ link.0 → unsent_on other headless.new.core.connections
-        ≡ unsent_on other headless.old.core.connections }
+    ensures unsent { (other : ℕ) → other ≢ link.0 → unsent_on other headless.new.core
+        ≡ unsent_on other headless.old.core }
     ensures others { (other : ℕ) → other ≢ link.0 → (S.seen sockets.new).blocked other
         ≡ (S.seen sockets.old).blocked other }
     ensures nothing { TakesNothing (S.seen sockets.old) (S.seen sockets.new) }

@@ -1,9 +1,8 @@
-use Rattle.std.proofs.Common.{◌≡◌, ◌++◌, [], ◌∷◌, refl, sym, ap, ◌∙◌, arith}
-use Rattle.wc_outside.specs.declared.happening.Asked.TheVariants.{Listen}
+use Rattle.std.proofs.Common.{◌≡◌, ◌++◌, [], ◌∷◌, map, IsTrue, refl, sym, ap, ◌∙◌, arith}
+use Rattle.wc_outside.specs.declared.happening.Asked.TheVariants.{Listen, Connect}
 use Rattle.wc_loop.specs.Endings.{kept_of}
 use Rattle.wc_turns.specs.Turns.{wake_count, listen_faults}
-use Rattle.wc_turns.proofs.CauseLemmas.{caused-following}
-use Rattle.wc_loop.proofs.EndingLemmas.{Runs-early, Runs-following, known-readable, known-port, kept-text, not-keeper, keeper-of, kept_of-none, held-earlier}
+use Rattle.wc_loop.proofs.EndingLemmas.{Runs-early, Runs-following, known-readable, known-port, kept-text, not-keeper, keeper-of, kept_of-none, held-earlier, none-asked}
 use Rattle.wc_loop.proofs.HeadlineLemmas.{Fresh-listening, HandsOut-run, Headline-known, IfSome-last}
 use Rattle.wc_loop.proofs.ProgramLemmas.{Rose-before, faults-told}
 use Rattle.wc_turns.proofs.ServeLemmas.{AllServed-following, AllSent-following}
@@ -18,7 +17,8 @@ returns-clause-runs g c =
     let ran = c.take_turns-then.ensures in
     let first = c.in-Ok.ensures.first in
     let fresh = Fresh-listening (seen c.args.sockets.now) (seen c.listen.new.self) new listened.told listened.taken listened.sent listened.used listened.there listened.undrained listened.listening listened.blocked in
-    rw c.last_state.ensures (Runs-following _ c.args.turns (g.K.Keeper.contents c.args.keeper.now) (g.K.Keeper.faults c.args.keeper.now) (g.K.Keeper.faults c.take_turns-then.new.keeper)
+    let heard : IsTrue (seen c.listen.new.self).tells → (seen c.listen.new.self).asked ≡ Listen c.in-Ok.made.port ∷ [] = λ t. listened.asked t ∙ ap (λ xs. xs ++ Listen c.in-Ok.made.port ∷ []) (new.asked (listened.told t)) in
+    rw c.last_state.ensures (Runs-following _ c.args.wish.turns (g.K.Keeper.contents c.args.keeper.now) (g.K.Keeper.faults c.args.keeper.now) (g.K.Keeper.faults c.take_turns-then.new.keeper)
     (seen c.args.sockets.now) (seen c.take_turns-then.new.sockets) c.take_turns-then.result c.ending_of.result c.take_turns-then.new.headless
     (record {
       above = c.requires.above;
@@ -37,15 +37,17 @@ returns-clause-runs g c =
       asked = λ t. record {
         port = c.in-Ok.made.port;
         set = known-port _ _ _ _ c.in-Ok.ensures.known;
-        is = ran.continues.step.asked t ∙ listened.asked (ran.continues.step.told t) ∙ ap (λ xs. xs ++ Listen c.in-Ok.made.port ∷ []) (new.asked (listened.told (ran.continues.step.told t)));
+        connects = ran.continues.step.connects;
+        unwoken = λ none. none-asked _ _ (sym (ran.continues.step.asked t) ∙ ran.unasked none t);
+        is = ran.continues.step.asked t ∙ ap (λ xs. xs ++ map Connect ran.continues.step.connects) (heard (ran.continues.step.told t));
       };
-      served = λ q. AllServed-following c.take_turns-then.new.headless.core.connections (seen c.args.sockets.now) (seen c.listen.new.self) (seen c.take_turns-then.new.sockets) (record { told = listened.told; more = []; taken = listened.taken }) (later-of _ _ ran.continues.step) (ran.served q c.requires.above);
-      sent = λ q. AllSent-following c.take_turns-then.new.headless.core.connections (seen c.args.sockets.now) (seen c.listen.new.self) (seen c.take_turns-then.new.sockets) (record { told = listened.told; more = []; taken = listened.taken }) (later-of _ _ ran.continues.step) listened.counts (ran.sent q);
+      served = λ q. AllServed-following c.take_turns-then.new.headless.core (seen c.args.sockets.now) (seen c.listen.new.self) (seen c.take_turns-then.new.sockets) (record { told = listened.told; more = []; taken = listened.taken }) (later-of _ _ ran.continues.step) (ran.served q c.requires.above);
+      sent = λ q. AllSent-following c.take_turns-then.new.headless.core (seen c.args.sockets.now) (seen c.listen.new.self) (seen c.take_turns-then.new.sockets) (record { told = listened.told; more = []; taken = listened.taken }) (later-of _ _ ran.continues.step) listened.counts (ran.sent q);
       left = λ above. record {
-        headline = Headline-known _ _ c.in-Ok.made.headless _ _ _ c.in-Ok.ensures.known (λ t fed rows were. HandsOut-run c.in-Ok.made.headless c.take_turns-then.new.headless (seen c.listen.new.self) (seen c.take_turns-then.new.sockets) ran.continues.step first fresh ran.calm t fed rows were);
+        headline = Headline-known _ _ c.in-Ok.made.headless _ _ _ c.in-Ok.ensures.known (λ t fed rows were. HandsOut-run c.in-Ok.made.headless c.take_turns-then.new.headless (seen c.listen.new.self) (seen c.take_turns-then.new.sockets) c.in-Ok.made.port ran.continues.step first fresh heard ran.calm t fed rows were);
         agrees = ran.agrees;
         calm = ran.calm;
-        causes = caused-following (seen c.args.sockets.now) (seen c.listen.new.self) (seen c.take_turns-then.new.sockets) _ [] ran.continues.step.told listened.taken listened.counts ran.causes;
+        causes = ran.causes above;
       };
     })
     c.ending_of.ensures)
@@ -54,7 +56,7 @@ pub returns-in-Err-clause-runs : goal.returns-in-Err-clause-runs
 returns-in-Err-clause-runs g c =
     let seen = g.S.Sockets.seen in
     let new = c.requires.new in
-    Runs-early _ c.args.turns (g.K.Keeper.contents c.args.keeper.now) (g.K.Keeper.faults c.args.keeper.now) (g.K.Keeper.faults c.configure.new.keeper) (seen c.args.sockets.now) c.in-Err.ending
+    Runs-early _ c.args.wish.turns (g.K.Keeper.contents c.args.keeper.now) (g.K.Keeper.faults c.args.keeper.now) (g.K.Keeper.faults c.configure.new.keeper) (seen c.args.sockets.now) c.in-Err.ending
     (record { above = c.requires.above; woke = λ t. ap wake_count (new.taken t) })
     new.asked
     c.in-Err.ensures.early
@@ -75,8 +77,9 @@ returns-clause-unsaved g c = λ three.
     let ran = c.take_turns-then.ensures in
     let first = c.in-Ok.ensures.first in
     let fresh = Fresh-listening (seen c.args.sockets.now) (seen c.listen.new.self) new listened.told listened.taken listened.sent listened.used listened.there listened.undrained listened.listening listened.blocked in
+    let heard : IsTrue (seen c.listen.new.self).tells → (seen c.listen.new.self).asked ≡ Listen c.in-Ok.made.port ∷ [] = λ t. listened.asked t ∙ ap (λ xs. xs ++ Listen c.in-Ok.made.port ∷ []) (new.asked (listened.told t)) in
     let fails = ran.unwritten (keeper-of c.take_turns-then.result c.ending_of.result c.ending_of.ensures three) in
-    let known = Headline-known _ _ c.in-Ok.made.headless _ fails.seen fails.earlier c.in-Ok.ensures.known (λ t fed rows were. HandsOut-run c.in-Ok.made.headless fails.earlier (seen c.listen.new.self) fails.seen fails.until first fresh fails.calm t fed rows were) in
+    let known = Headline-known _ _ c.in-Ok.made.headless _ fails.seen fails.earlier c.in-Ok.ensures.known (λ t fed rows were. HandsOut-run c.in-Ok.made.headless fails.earlier (seen c.listen.new.self) fails.seen c.in-Ok.made.port fails.until first fresh heard fails.calm t fed rows were) in
     rw c.last_state.ensures (IfSome-last (kept_of c.take_turns-then.new.headless) c.take_turns-then.new.headless _ refl (λ above. held-earlier _ (contents c.args.keeper.now) (contents c.configure.new.keeper) (contents c.take_turns-then.new.keeper) c.in-Ok.made.headless c.take_turns-then.new.headless (seen c.listen.new.self) (seen c.take_turns-then.new.sockets) first.saved c.configure.ensures.kept fails known))
 
 pub returns-clause-unwoken : goal.returns-clause-unwoken

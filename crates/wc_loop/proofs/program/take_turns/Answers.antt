@@ -1,13 +1,12 @@
 use Rattle.std.proofs.Common.{◌≡◌, ◌+◌, ap, refl, sym, ◌∙◌, subst, false, arith}
 use Rattle.wc_turns.specs.declared.turn.TurnEnd.TheVariants.{GoOn}
-use Rattle.wc_turns.specs.Served.{leaving_closes}
 use Rattle.wc_turns.specs.Saves.{SavesTurn}
 use Rattle.wc_turns.specs.Turns.{LoopStep, TurnStep, waits_then}
-use Rattle.wc_turns.proofs.CauseLemmas.{caused-following}
 use Rattle.wc_turns.proofs.CloseLemmas.{LoopStep-refl}
 use Rattle.wc_turns.proofs.TurnLemmas.{LoopStep-wider}
 use Rattle.wc_core.specs.CoreView.{CoreView}
 use Rattle.wc_outside.specs.Faults.{Rose}
+use Rattle.wc_loop.proofs.HeadlineLemmas.{calm-first}
 use Rattle.wc_loop.proofs.ProgramLemmas.{LoopStep-turn, Rose-before, waits-few, unwoken-by, woke-once, unwaited}
 use Rattle.wc_turns.proofs.ServeLemmas.{AllServed-following, AllSent-following}
 use Rattle.wc_turns.proofs.SourceLemmas.{later-of}
@@ -17,14 +16,15 @@ pub loop-init : goal.loop-init
 loop-init g c = record {
   continues = LoopStep-wider _ _ _ _ (LoopStep-refl _ _);
   agrees = c.requires.agrees;
-  calm = ap leaving_closes c.requires.first.connections;
+  calm = calm-first c.args.headless.now c.requires.first;
   going = c.requires.first.quits;
-  causes = rw c.requires.first.closed (λ k d below. absurd (omega arith));
+  causes = λ above. (let none = c.requires.first.turns in absurd (omega arith));
   served = λ one. absurd (omega arith);
   written = c.requires.first.unwritten;
   saves = λ first had. had;
   unsaved = λ none. c.requires.first.saved;
   unwoken = λ none. refl;
+  unasked = λ none t. refl;
   faults = refl;
   count = c.requires.first.turns;
 }
@@ -41,9 +41,9 @@ returns-in_default g c =
       continues = record { faults = e.continues.faults; fits = e.continues.fits; step = LoopStep-turn c.turn.result e.continues.faults c.loop.counter c.args.headless.now c.loop.headless c.turn.new.self (seen c.args.sockets.now) (seen c.loop.sockets) (seen c.turn.new.sockets) i.count (omega arith) i.continues e.continues.step };
       agrees = e.agrees;
       calm = e.calm;
-      causes = caused-following (seen c.args.sockets.now) (seen c.loop.sockets) (seen c.turn.new.sockets) _ i.continues.gained e.continues.step.told i.continues.taken i.continues.counts e.causes;
+      causes = λ above. record { earlier = c.loop.headless; seen = seen c.loop.sockets; end = c.turn.result; agrees = i.agrees; turn = e.continues; causes = e.causes };
       served = λ q. absurd (c.in_default.not-GoOn q);
-      sent = λ q. AllSent-following c.turn.new.self.core.connections (seen c.args.sockets.now) (seen c.loop.sockets) (seen c.turn.new.sockets) (later-of _ _ i.continues) (later-of _ _ e.continues.step) i.continues.counts (e.sent q);
+      sent = λ q. AllSent-following c.turn.new.self.core (seen c.args.sockets.now) (seen c.loop.sockets) (seen c.turn.new.sockets) (later-of _ _ i.continues) (later-of _ _ e.continues.step) i.continues.counts (e.sent q);
       quit = e.quit;
       going = λ quit listen keeper. unwoken-by c.turn.result _ c.in_default.not-GoOn quit listen keeper e.unwoken;
       all = λ q. absurd (c.in_default.not-GoOn q);
@@ -61,6 +61,10 @@ returns-in_default g c =
           let zero : c.loop.headless.turns ≡ 0 = omega arith in
           let unwoken : waits_then c.turn.result ≡ 0 = omega arith in
           e.unwritten (unwaited c.turn.result unwoken) ∙ i.unwoken zero;
+      unasked = λ none t.
+          let zero : c.loop.headless.turns ≡ 0 = omega arith in
+          let unwoken : waits_then c.turn.result ≡ 0 = omega arith in
+          e.unasked (unwaited c.turn.result unwoken) t ∙ i.unasked zero (e.continues.step.told t);
       unwritten = λ q. record {
         earlier = c.loop.headless;
         seen = seen c.loop.sockets;
@@ -87,12 +91,13 @@ loop-preserved g c =
       agrees = e.agrees;
       calm = e.calm;
       going = e.goes_on refl;
-      causes = caused-following (seen c.args.sockets.now) (seen c.loop.sockets) (seen c.turn.new.sockets) _ i.continues.gained e.continues.step.told i.continues.taken i.continues.counts e.causes;
-      served = λ one. AllServed-following c.turn.new.self.core.connections (seen c.args.sockets.now) (seen c.loop.sockets) (seen c.turn.new.sockets) (later-of _ _ i.continues) (later-of _ _ e.continues.step) (e.served refl);
+      causes = λ above. record { earlier = c.loop.headless; seen = seen c.loop.sockets; end = GoOn; agrees = i.agrees; turn = e.continues; causes = e.causes };
+      served = λ one. AllServed-following c.turn.new.self.core (seen c.args.sockets.now) (seen c.loop.sockets) (seen c.turn.new.sockets) (later-of _ _ i.continues) (later-of _ _ e.continues.step) (e.served refl);
       written = e.written (λ q. cc);
       saves = λ first had. e.saves (λ q. cc) first (i.saves first had);
       unsaved = λ none. absurd (omega arith);
       unwoken = λ none. absurd (omega arith);
+      unasked = λ none t. absurd (omega arith);
       faults = e.keeper_count (λ q. cc) ∙ i.faults;
       count = count;
     }

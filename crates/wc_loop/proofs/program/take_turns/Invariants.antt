@@ -1,22 +1,24 @@
-use Rattle.std.proofs.Common.{◌≡◌, false, None, All, ◌≤◌}
+use Rattle.std.proofs.Common.{◌≡◌, false, None, IsTrue, ◌≤◌}
 use Rattle.wc_turns.specs.Saves.{SavesTurn}
-use Rattle.wc_turns.specs.Served.{NobodyLeaving}
+use Rattle.wc_turns.specs.Parties.{IsCalm}
 use Rattle.wc_turns.specs.Sources.{AllServed}
-use Rattle.wc_turns.specs.Turns.{LoopStep, AgreesWithSockets, IsCaused}
+use Rattle.wc_turns.specs.Turns.{LoopStep, AgreesWithSockets}
+use Rattle.wc_loop.specs.Endings.{ClosesLast}
 use Rattle.wc_loop.proofs.program.take_turns.Given as goal
 
 abbrev pub invariant-loop : goal.invariant-loop
 invariant-loop g l = record {
   continues : LoopStep false l.counter 0 l.fn.headless l.headless (g.S.Sockets.seen l.fn.sockets) (g.S.Sockets.seen l.sockets);
   agrees : AgreesWithSockets l.headless (g.S.Sockets.seen l.sockets);
-  calm : NobodyLeaving l.headless.core.connections;
+  calm : IsCalm l.headless.core;
   going : l.headless.core.quits ≡ false;
-  causes : All (IsCaused (g.S.Sockets.seen l.fn.sockets) (g.S.Sockets.seen l.sockets)) l.headless.links.closed.items;
-  served : 1 ≤ l.counter → AllServed l.headless.core.connections (g.S.Sockets.seen l.fn.sockets) (g.S.Sockets.seen l.sockets);
+  causes : 1 ≤ l.headless.turns → ClosesLast l.headless (g.S.Sockets.seen l.sockets);
+  served : 1 ≤ l.counter → AllServed l.headless.core (g.S.Sockets.seen l.fn.sockets) (g.S.Sockets.seen l.sockets);
   written : l.headless.core.unwritten ≡ false;
   saves : SavesTurn l.fn.headless.core l.headless.core (g.K.Keeper.contents l.fn.keeper) (g.K.Keeper.contents l.keeper);
   unsaved : l.headless.turns ≡ 0 → l.headless.core.saved ≡ None;
   unwoken : l.headless.turns ≡ 0 → g.K.Keeper.contents l.keeper ≡ g.K.Keeper.contents l.fn.keeper;
+  unasked : l.headless.turns ≡ 0 → IsTrue (g.S.Sockets.seen l.sockets).tells → (g.S.Sockets.seen l.sockets).asked ≡ (g.S.Sockets.seen l.fn.sockets).asked;
   faults : g.K.Keeper.faults l.keeper ≡ g.K.Keeper.faults l.fn.keeper;
   count : l.headless.turns ≡ l.counter;
 }

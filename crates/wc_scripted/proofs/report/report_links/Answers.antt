@@ -1,6 +1,6 @@
-use Rattle.std.proofs.Common.{◌≡◌, ◌++◌, take, length, refl, ap, sym, subst, ◌∙◌, arith}
+use Rattle.std.proofs.Common.{◌≡◌, length, refl, ap, sym, ◌∙◌, arith}
 use Rattle.std.proofs.lemmas.List.{append-nil}
-use Rattle.wc_scripted.specs.Rows.{row_at, is_fresh_row, Reported}
+use Rattle.wc_scripted.specs.Rows.{row_at, is_fresh_row}
 use Rattle.wc_scripted.proofs.RowLemmas.{reported_full, reported_all, reported_step, Reported-trans}
 use Rattle.wc_scripted.proofs.report.report_links.Goals as goal
 

@@ -6,6 +6,7 @@ use Rattle.wc_turns.proofs.feed.feed.Given as goal
 abbrev pub invariant-loop-line : goal.invariant-loop-line
 invariant-loop-line l = record {
   going : l.core.quits ≡ false;
+  idle : l.ran ≡ 0 → (l.fn.ran ≡ 0) × (l.core ≡ l.fn.core);
   fed : Fed l.fn.core l.core l.link.0 l.fn.tail l.tail l.fn.ran l.ran l.bytes l.rest;
 }
 

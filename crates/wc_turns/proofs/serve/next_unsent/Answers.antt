@@ -1,29 +1,27 @@
-use Rattle.std.proofs.Common.{sym, ◌∙◌, arith}
-use Rattle.wc_board.specs.Connections.{connection_link}
-use Rattle.wc_turns.specs.Sources.{may_write}
-use Rattle.wc_turns.proofs.LeastLemmas.{least_between, passed_between, other_between, none_more}
+use Rattle.std.proofs.Common.{ap, ◌∙◌}
 use Rattle.wc_turns.proofs.serve.next_unsent.Goals as goal
-use Rattle.wc_turns.proofs.serve.next_unsent.Goals.{then-may_write, else-may_write}
+use Rattle.wc_turns.proofs.LeastLemmas.{least-above, next-between, next-none}
+use Rattle.wc_turns.specs.Sources.{has_flag, may_write, may_write_seat}
+use Rattle.wc_outside.specs.Keyed.{at_key}
+use Rattle.wc_board.specs.Connections.{connection_link}
+use Rattle.wc_servers.specs.Seats.{ServersView, seat_link}
 
-pub loop-connection-preserved : goal.loop-connection-preserved
-loop-connection-preserved c =
-    let i = c.loop-connection.invariant in
-    let at = c.loop-connection.connection-index in
-    let inside = c.loop-connection-test.true in
-    let here = sym c.connection-item.is in
-    elim c.if-may_write.branch [
-      | then-may_write w ↦ rw w.next-is (
-          let lesser = rw w.link.ensures at w.lesser-next.ensures in
-          record {
-            above = lesser.above i.above;
-            between = least_between connection_link (may_write c.args.links.now.opened.items) c.args.last at c.args.connections.now _ c.connection-item.result c.loop-connection.next w.lesser-next.result here inside (other_between connection_link (may_write c.args.links.now.opened.items) c.args.last c.connection-item.result w.lesser-next.result lesser.other) lesser.before i.between i.none;
-            none = λ e o low. (let known = lesser.none e in none_more connection_link (may_write c.args.links.now.opened.items) o at c.args.connections.now _ c.connection-item.result here inside (λ same. absurd (let q = known.1 in omega arith)) (i.none known.0 o low));
-          })
-      | else-may_write w ↦ rw w.next-is (
-          let quiet = sym c.may_write.ensures ∙ w.if-may_write.false in
-          record {
-            above = i.above;
-            between = passed_between connection_link (may_write c.args.links.now.opened.items) c.args.last at c.args.connections.now _ c.connection-item.result c.loop-connection.next here inside quiet i.between;
-            none = λ e o low. none_more connection_link (may_write c.args.links.now.opened.items) o at c.args.connections.now _ c.connection-item.result here inside (λ same. quiet) (i.none e o low);
-          })
-    ]
+pub returns-clause-above : goal.returns-clause-above
+returns-clause-above c = least-above c.lesser_of.result c.next_client-client.result c.next_seat-server.result c.args.last c.lesser_of.ensures.one c.next_client-client.ensures.above c.next_seat-server.ensures.above
+
+pub returns-clause-between : goal.returns-clause-between
+returns-clause-between c =
+    next-between c.lesser_of.result c.next_client-client.result c.next_seat-server.result c.args.last
+    (λ k. has_flag (may_write c.args.links.now.opened.items) (at_key connection_link k c.args.core.now.connections))
+    (λ k. has_flag (may_write_seat c.args.links.now.opened.items) (at_key seat_link k c.args.core.now.servers.seats))
+    c.lesser_of.ensures.first c.lesser_of.ensures.second
+    (rw c.connections.ensures at c.next_client-client.ensures.between) (λ e k low. rw c.connections.ensures at (c.next_client-client.ensures.none e k low))
+    (rw (c.seats.ensures.seats ∙ ap (λ (v : ServersView). v.seats) c.servers.ensures) at c.next_seat-server.ensures.between) (λ e k low. rw (c.seats.ensures.seats ∙ ap (λ (v : ServersView). v.seats) c.servers.ensures) at (c.next_seat-server.ensures.none e k low))
+
+pub returns-clause-none : goal.returns-clause-none
+returns-clause-none c = λ e k low.
+    let none = c.lesser_of.ensures.none e in
+    next-none
+    (has_flag (may_write c.args.links.now.opened.items) (at_key connection_link k c.args.core.now.connections))
+    (has_flag (may_write_seat c.args.links.now.opened.items) (at_key seat_link k c.args.core.now.servers.seats))
+    (rw c.connections.ensures at (c.next_client-client.ensures.none none.0 k low)) (rw (c.seats.ensures.seats ∙ ap (λ (v : ServersView). v.seats) c.servers.ensures) at (c.next_seat-server.ensures.none none.1 k low))

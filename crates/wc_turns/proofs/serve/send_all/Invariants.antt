@@ -1,6 +1,6 @@
 use Rattle.std.proofs.Common.{◌≡◌, ◌≤◌, ◌-◌, ◌^◌, ℕ, true}
 use Rattle.wc_turns.specs.Contained.{KeepsLinks}
-use Rattle.wc_turns.specs.Served.{NobodyLeaving}
+use Rattle.wc_turns.specs.Parties.{IsCalm}
 use Rattle.wc_turns.specs.Sources.{IsSent, TakesNothing}
 use Rattle.wc_turns.specs.Turns.{LoopStep, AgreesWithSockets}
 use Rattle.wc_turns.proofs.serve.send_all.Given as goal
@@ -8,10 +8,10 @@ use Rattle.wc_turns.proofs.serve.send_all.Given as goal
 abbrev pub invariant-loop-link : goal.invariant-loop-link
 invariant-loop-link g l = record {
   continues : LoopStep true 0 0 l.fn.headless l.headless (g.S.Sockets.seen l.fn.sockets) (g.S.Sockets.seen l.sockets);
-  calm : NobodyLeaving l.headless.core.connections;
+  calm : IsCalm l.headless.core;
   contained : KeepsLinks l.fn.headless l.headless;
   quits : l.headless.core.quits ≡ true;
-  sent : AgreesWithSockets l.fn.headless (g.S.Sockets.seen l.fn.sockets) → (link : ℕ) → 1 ≤ link → link ≤ l.last → IsSent link l.headless.core.connections (g.S.Sockets.seen l.fn.sockets) (g.S.Sockets.seen l.sockets);
+  sent : AgreesWithSockets l.fn.headless (g.S.Sockets.seen l.fn.sockets) → (link : ℕ) → 1 ≤ link → link ≤ l.last → IsSent link l.headless.core (g.S.Sockets.seen l.fn.sockets) (g.S.Sockets.seen l.sockets);
   nothing : TakesNothing (g.S.Sockets.seen l.fn.sockets) (g.S.Sockets.seen l.sockets);
 }
 

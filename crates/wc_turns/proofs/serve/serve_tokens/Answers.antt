@@ -29,12 +29,18 @@ loop-place-preserved g c =
       | in-Listener+else-not-is_listener_named w ↦ rw (w.headless-is, w.sockets-is, w.listened-is) (
           Named-listener-again front all _ c.args.headless.now c.loop-place.headless (seen c.args.sockets.now) (seen c.loop-place.sockets) (subst (IsMore front all) w.in-Listener.is more) (sym w.is_listener_named.ensures ∙ w.if-not-is_listener_named.false) i)
       | in-Link+then-not-is_named w ↦ rw (w.headless-is, w.sockets-is, w.listened-is) (
-          let e = w.read_link.ensures in
-          Named-link front all w.in-Link.link _ c.args.headless.now c.loop-place.headless w.read_link.new.headless (seen c.args.sockets.now) (seen c.loop-place.sockets) (seen w.read_link.new.sockets)
-          (subst (IsMore front all) w.in-Link.is more) (sym w.is_named.ensures ∙ w.if-not-is_named.true) on i e.continues e.calm e.falls e.contained e.served (record { within = e.within; others = e.others; clients = e.clients }))
+          let e = w.serve_link.ensures in
+          Named-link front all w.in-Link.link _ c.args.headless.now c.loop-place.headless w.serve_link.new.headless (seen c.args.sockets.now) (seen c.loop-place.sockets) (seen w.serve_link.new.sockets)
+          (subst (IsMore front all) w.in-Link.is more) (sym w.is_named.ensures ∙ w.if-not-is_named.true) on i e.continues e.calm e.falls e.contained (λ s. e.served) (record { within = e.within; others = e.others; clients = e.clients }))
       | in-Link+else-not-is_named w ↦ rw (w.headless-is, w.sockets-is, w.listened-is) (
           Named-link-again front all w.in-Link.link _ c.args.headless.now c.loop-place.headless (seen c.args.sockets.now) (seen c.loop-place.sockets) (subst (IsMore front all) w.in-Link.is more) (sym w.is_named.ensures ∙ w.if-not-is_named.false) i)
     ]
 
 pub returns : goal.returns
 returns g c = subst (λ ts. ServesNamed ts (faults_of c.loop-place.listened) c.args.headless.now c.loop-place.headless (g.S.Sockets.seen c.args.sockets.now) (g.S.Sockets.seen c.loop-place.sockets)) (take_all c.loop-place.place c.args.tokens.now (omega arith)) c.loop-place.invariant
+
+pub serve_link-requires : goal.serve_link-requires
+serve_link-requires g c = record { agrees = c.loop-place.invariant.continues.agrees c.requires.agrees; calm = c.loop-place.invariant.calm; going = sym c.quits.ensures ∙ c.if-quits.false }
+
+pub accept_all-listened-requires : goal.accept_all-listened-requires
+accept_all-listened-requires g c = record { agrees = c.loop-place.invariant.continues.agrees c.requires.agrees; calm = c.loop-place.invariant.calm; going = sym c.quits.ensures ∙ c.if-quits.false }

@@ -1,6 +1,6 @@
 use Rattle.std.proofs.Common.{refl, ap, sym, ◌∙◌, ◌&&◌, not, eqb}
 use Rattle.wc_outside.specs.declared.happening.Happening.TheVariants.{ListenFailed}
-use Rattle.wc_turns.proofs.CloseLemmas.{and-not-false}
+use Rattle.wc_turns.proofs.ForgetLemmas.{and-not-false}
 use Rattle.wc_turns.proofs.ComeLemmas.{LoopStep-came, LoopStep-refused, LoopStep-idle}
 use Rattle.wc_turns.proofs.KeyedLemmas.{or-false}
 use Rattle.wc_turns.proofs.PointLemmas.{or_left}
@@ -17,7 +17,7 @@ returns-in-Ok-None-clause-continues g c =
     let e = rw c.in-Ok-None.field-0-is at c.in-Ok-None.ensures in
     let seen = g.S.Sockets.seen in
     LoopStep-idle c.args.headless.now (seen c.args.sockets.now) (seen c.accept.new.self) (record { told = e.told; taken = e.taken; asked = e.asked; counts = e.counts })
-    e.sent e.choked e.used (λ k. e.there k ∙ or-false _) e.undrained e.blocked e.listening
+    e.sent e.choked e.asked e.used (λ k. e.there k ∙ or-false _) e.undrained e.blocked e.listening
 
 pub returns-then-link_came-clause-continues : goal.returns-then-link_came-clause-continues
 returns-then-link_came-clause-continues g c =
@@ -28,9 +28,9 @@ returns-then-link_came-clause-continues g c =
     let seen = g.S.Sockets.seen in
     LoopStep-refused c.args.headless.now c.link_came.new.self (seen c.args.sockets.now) (seen c.close.new.self) arrival.link arrival.nonce l.comes l.serves c.requires.going c.requires.calm
     (record { told = λ t. e.told (d.told t); taken = λ t. d.taken t ∙ e.taken (d.told t); asked = λ t. d.asked t ∙ e.asked (d.told t); counts = NeverFall-trans _ _ _ e.counts d.counts })
-    e.next (d.used ∙ e.used) (λ t k. d.sent t k ∙ e.sent (d.told t) k) (λ t k q. sym (e.choked (d.told t) k) ∙ or_left _ _ (sym (d.choked t k) ∙ q))
+    e.next (d.used ∙ e.used) (let u = d.used in let l = e.limit refl in omega arith) (λ t k. d.sent t k ∙ e.sent (d.told t) k) (λ t k q. sym (e.choked (d.told t) k) ∙ or_left _ _ (sym (d.choked t k) ∙ q)) (λ t. d.asked t ∙ e.asked (d.told t))
     (λ k. d.there k ∙ ap (λ b. b && not (eqb k arrival.link.0)) (e.there k)) (λ k. d.undrained k ∙ ap (λ b. b && not (eqb k arrival.link.0)) (e.undrained k)) (λ k. d.blocked k ∙ ap (λ b. b && not (eqb k arrival.link.0)) (e.blocked k))
-    (d.listening ∙ e.listening ∙ and-not-false _)
+    (d.listening ∙ e.listening ∙ and-not-false _) c.requires.agrees
 
 pub returns-then-link_came-clause-arrived : goal.returns-then-link_came-clause-arrived
 returns-then-link_came-clause-arrived g c = λ t.
@@ -45,7 +45,7 @@ returns-else-link_came-clause-continues g c =
     let arrival = c.in-Ok-Some.arrival in
     let seen = g.S.Sockets.seen in
     LoopStep-came c.args.headless.now c.link_came.new.self (seen c.args.sockets.now) (seen c.accept.new.self) arrival.link arrival.nonce l.comes l.serves c.requires.going c.requires.calm
-    (record { told = e.told; taken = e.taken; asked = e.asked; counts = e.counts }) e.next e.used e.sent e.choked e.there e.undrained e.blocked (e.listening ∙ and-not-false _)
+    (record { told = e.told; taken = e.taken; asked = e.asked; counts = e.counts }) e.next e.used (e.limit refl) e.sent e.choked e.asked e.there e.undrained e.blocked (e.listening ∙ and-not-false _)
 
 pub returns-else-link_came-clause-arrived : goal.returns-else-link_came-clause-arrived
 returns-else-link_came-clause-arrived g c = λ t.
@@ -57,8 +57,8 @@ returns-in-Err-clause-continues g c =
     let e = c.in-Err.ensures in
     let seen = g.S.Sockets.seen in
     rw c.link_missed.ensures (LoopStep-missed c.args.headless.now _ (seen c.args.sockets.now) (seen c.accept.new.self) ListenFailed refl refl (record { told = e.told; taken = e.taken; asked = e.asked; counts = e.counts })
-    e.sent e.choked (record { used = e.used; there = λ k. e.there k ∙ or-false _; undrained = e.undrained; blocked = e.blocked; listening = e.listening ∙ and-not-false _ })
-    (λ k. refl) timeless-listen (λ taken. refl) refl (λ s on taken told. refl))
+    e.sent e.choked e.asked (record { used = e.used; there = λ k. e.there k ∙ or-false _; undrained = e.undrained; blocked = e.blocked; listening = e.listening ∙ and-not-false _ })
+    (λ k. refl) timeless-listen (λ k. refl) (λ k. refl) (λ taken. refl) refl (λ s on taken told. refl))
 
 pub returns-in-Err-clause-arrived : goal.returns-in-Err-clause-arrived
 returns-in-Err-clause-arrived g c = λ t. arrived-none _ _ (c.in-Err.ensures.taken t)

@@ -8,7 +8,7 @@ use Rattle.wc_turns.proofs.ReadLemmas.{ReadsOn-refl, ReadsOn-trans}
 use Rattle.wc_turns.proofs.turns.read_link.Goals as goal
 
 pub loop-left-init : goal.loop-left-init
-loop-left-init g c = record { continues = LoopStep-refl _ _; calm = c.requires.calm; contained = KeepsLinks-refl _; going = c.requires.going; reads = ReadsOn-refl _ _; size = refl; most = omega arith; bytes = λ t. omega arith }
+loop-left-init g c = record { continues = LoopStep-refl _ _; calm = c.requires.calm; stands = c.requires.stands; contained = KeepsLinks-refl _; going = c.requires.going; reads = ReadsOn-refl _ _; size = refl; most = omega arith; bytes = λ t. omega arith }
 
 pub loop-left-preserved : goal.loop-left-preserved
 loop-left-preserved g c =
@@ -18,6 +18,7 @@ loop-left-preserved g c =
     record {
       continues = LoopStep-trans c.args.headless.now c.loop-left.headless c.read_once.new.headless (seen c.args.sockets.now) (seen c.loop-left.sockets) (seen c.read_once.new.sockets) i.continues e.continues;
       calm = e.calm;
+      stands = e.stands;
       contained = KeepsLinks-trans c.args.headless.now c.loop-left.headless c.read_once.new.headless i.contained e.contained;
       going = e.going refl;
       reads = ReadsOn-trans c.args.link.0 (seen c.args.sockets.now) (seen c.loop-left.sockets) (seen c.read_once.new.sockets) e.continues.told i.reads e.reads;
@@ -45,3 +46,6 @@ returns-in-None g c =
       others = λ t k n. e.reads.others t k n ∙ i.reads.others (e.continues.told t) k n;
       clients = λ t. e.reads.clients t ∙ i.reads.clients (e.continues.told t);
     }
+
+pub read_once-requires-clause-agrees : goal.read_once-requires-clause-agrees
+read_once-requires-clause-agrees g c = c.loop-left.invariant.continues.agrees c.requires.agrees

@@ -21,7 +21,7 @@ pub returns-then-not-send_once-clause-done : goal.returns-then-not-send_once-cla
 returns-then-not-send_once-clause-done g c =
     let i = c.loop-link.invariant in
     let e = c.send_once.ensures in
-    IsSent-following c.args.link.0 c.send_once.new.headless.core.connections (g.S.Sockets.seen c.args.sockets.now) (g.S.Sockets.seen c.loop-link.sockets) (g.S.Sockets.seen c.send_once.new.sockets) (later-of _ _ i.continues) i.continues.counts e.continues.told (c.if-not-send_once.ensures.done refl)
+    λ s. IsSent-following c.args.link.0 c.send_once.new.headless.core (g.S.Sockets.seen c.args.sockets.now) (g.S.Sockets.seen c.loop-link.sockets) (g.S.Sockets.seen c.send_once.new.sockets) (later-of _ _ i.continues) i.continues.counts e.continues.told (c.if-not-send_once.ensures.done refl s)
 
 pub returns-then-not-send_once-clause-nothing : goal.returns-then-not-send_once-clause-nothing
 returns-then-not-send_once-clause-nothing g c =

@@ -1,5 +1,5 @@
 use Rattle.std.proofs.Common.{true, length}
-use Rattle.wc_board.specs.Connections.{unsent_on}
+use Rattle.wc_turns.specs.Parties.{unsent_on}
 use Rattle.wc_turns.specs.Parts.{FailureIgnored, SendsOn}
 use Rattle.wc_turns.specs.Turns.{LoopStep}
 use Rattle.wc_turns.proofs.turns.send_link.Given as goal
@@ -12,4 +12,4 @@ invariant-loop-link g l = record {
 }
 
 abbrev pub decreases-loop-link : goal.decreases-loop-link
-decreases-loop-link g l = length (unsent_on l.link.0 l.headless.core.connections)
+decreases-loop-link g l = length (unsent_on l.link.0 l.headless.core)

@@ -1,40 +1,72 @@
+use Rattle.wc_turns.proofs.turns.write_link.Goals as goal
+use Rattle.wc_turns.specs.declared.turns.Wrote.TheVariants.{Some as WroteSome, All, Lost}
 use Rattle.wc_turns.proofs.TurnLemmas.{LoopStep-trans}
 use Rattle.wc_turns.proofs.CloseLemmas.{LoopStep-refl}
 use Rattle.wc_turns.proofs.ContainedLemmas.{KeepsLinks-refl, KeepsLinks-trans}
 use Rattle.wc_turns.proofs.SourceLemmas.{NothingBecameReady-refl, NothingBecameReady-trans, TakesNothing-refl, TakesNothing-trans}
-use Rattle.wc_turns.proofs.turns.write_link.Goals as goal
+use Rattle.std.proofs.Common.{◌≡◌, ◌∙◌, sym, arith}
+use Rattle.std.proofs.lemmas.Bool.{false≢true}
 
-pub loop-link-init : goal.loop-link-init
-loop-link-init g c = record { continues = LoopStep-refl _ _; calm = c.requires.calm; contained = KeepsLinks-refl _; going = c.requires.going; falls = NothingBecameReady-refl _; others = λ k n h. h; nothing = TakesNothing-refl _ }
+some-lost : WroteSome ≡ Lost → ⊥
+some-lost q = cc
 
-pub returns-then-not-write_once-clause-continues : goal.returns-then-not-write_once-clause-continues
-returns-then-not-write_once-clause-continues g c =
-    let seen = g.S.Sockets.seen in
-    LoopStep-trans c.args.headless.now c.loop-link.headless c.write_once.new.headless (seen c.args.sockets.now) (seen c.loop-link.sockets) (seen c.write_once.new.sockets) c.loop-link.invariant.continues c.write_once.ensures.continues
+all-lost : All ≡ Lost → ⊥
+all-lost q = cc
 
-pub returns-then-not-write_once-clause-falls : goal.returns-then-not-write_once-clause-falls
-returns-then-not-write_once-clause-falls g c = NothingBecameReady-trans _ (g.S.Sockets.seen c.loop-link.sockets) _ c.loop-link.invariant.falls c.write_once.ensures.falls
+pub loop-init : goal.loop-init
+loop-init g c = record { continues = LoopStep-refl _ _; calm = c.requires.calm; contained = KeepsLinks-refl _; going = c.requires.going; falls = NothingBecameReady-refl _; others = λ k n h. h; parties = omega arith; nothing = TakesNothing-refl _ }
 
-pub returns-then-not-write_once-clause-others : goal.returns-then-not-write_once-clause-others
-returns-then-not-write_once-clause-others g c = λ k n h. c.write_once.ensures.others k n (c.loop-link.invariant.others k n h)
+pub write_once-requires-clause-agrees : goal.write_once-requires-clause-agrees
+write_once-requires-clause-agrees g c = c.loop.invariant.continues.agrees c.requires.agrees
 
-pub returns-then-not-write_once-clause-nothing : goal.returns-then-not-write_once-clause-nothing
-returns-then-not-write_once-clause-nothing g c = TakesNothing-trans _ (g.S.Sockets.seen c.loop-link.sockets) _ c.write_once.ensures.continues.told c.loop-link.invariant.nothing c.write_once.ensures.nothing
-
-pub loop-link-preserved : goal.loop-link-preserved
-loop-link-preserved g c =
-    let i = c.loop-link.invariant in
+pub loop-preserved : goal.loop-preserved
+loop-preserved g c =
+    let i = c.loop.invariant in
     let e = c.write_once.ensures in
     let seen = g.S.Sockets.seen in
     record {
-      continues = LoopStep-trans c.args.headless.now c.loop-link.headless c.write_once.new.headless (seen c.args.sockets.now) (seen c.loop-link.sockets) (seen c.write_once.new.sockets) i.continues e.continues;
+      continues = LoopStep-trans c.args.headless.now c.loop.headless c.write_once.new.headless (seen c.args.sockets.now) (seen c.loop.sockets) (seen c.write_once.new.sockets) i.continues e.continues;
       calm = e.calm;
-      contained = KeepsLinks-trans c.args.headless.now c.loop-link.headless c.write_once.new.headless i.contained e.contained;
+      contained = KeepsLinks-trans c.args.headless.now c.loop.headless c.write_once.new.headless i.contained e.contained;
       going = e.going;
-      falls = NothingBecameReady-trans _ (seen c.loop-link.sockets) _ i.falls e.falls;
-      others = λ k n h. e.others k n (i.others k n h);
-      nothing = TakesNothing-trans _ (seen c.loop-link.sockets) _ e.continues.told i.nothing e.nothing;
+      falls = NothingBecameReady-trans _ (seen c.loop.sockets) _ i.falls e.falls;
+      others = λ k n h. e.others (λ q. some-lost (sym c.in-Some.is ∙ q)) k n (i.others k n h);
+      parties = (let p = i.parties in let q = e.parties in omega arith);
+      nothing = TakesNothing-trans _ (seen c.loop.sockets) _ e.continues.told i.nothing e.nothing;
     }
 
-pub returns-then-not-write_once-clause-contained : goal.returns-then-not-write_once-clause-contained
-returns-then-not-write_once-clause-contained g c = KeepsLinks-trans c.args.headless.now c.loop-link.headless c.write_once.new.headless c.loop-link.invariant.contained c.write_once.ensures.contained
+pub returns-in-All : goal.returns-in-All
+returns-in-All g c =
+    let i = c.loop.invariant in
+    let e = c.write_once.ensures in
+    let seen = g.S.Sockets.seen in
+    record {
+      continues = LoopStep-trans c.args.headless.now c.loop.headless c.write_once.new.headless (seen c.args.sockets.now) (seen c.loop.sockets) (seen c.write_once.new.sockets) i.continues e.continues;
+      calm = e.calm;
+      contained = KeepsLinks-trans c.args.headless.now c.loop.headless c.write_once.new.headless i.contained e.contained;
+      going = e.going;
+      falls = NothingBecameReady-trans _ (seen c.loop.sockets) _ i.falls e.falls;
+      done = λ q. e.done c.in-All.is;
+      others = λ q k n h. e.others (λ r. all-lost (sym c.in-All.is ∙ r)) k n (i.others k n h);
+      parties = (let p = i.parties in let q = e.parties in omega arith);
+      lost = λ q. absurd (false≢true q);
+      nothing = TakesNothing-trans _ (seen c.loop.sockets) _ e.continues.told i.nothing e.nothing;
+    }
+
+pub returns-in-Lost : goal.returns-in-Lost
+returns-in-Lost g c =
+    let i = c.loop.invariant in
+    let e = c.write_once.ensures in
+    let seen = g.S.Sockets.seen in
+    record {
+      continues = LoopStep-trans c.args.headless.now c.loop.headless c.write_once.new.headless (seen c.args.sockets.now) (seen c.loop.sockets) (seen c.write_once.new.sockets) i.continues e.continues;
+      calm = e.calm;
+      contained = KeepsLinks-trans c.args.headless.now c.loop.headless c.write_once.new.headless i.contained e.contained;
+      going = e.going;
+      falls = NothingBecameReady-trans _ (seen c.loop.sockets) _ i.falls e.falls;
+      done = λ q. absurd (false≢true (sym q));
+      others = λ q. absurd (false≢true (sym q));
+      parties = (let p = i.parties in let q = e.parties in omega arith);
+      lost = λ q. (let p = i.parties in let r = e.lost c.in-Lost.is in omega arith);
+      nothing = TakesNothing-trans _ (seen c.loop.sockets) _ e.continues.told i.nothing e.nothing;
+    }

@@ -1,19 +1,25 @@
-use Rattle.std.proofs.Common.{◌≤◌, true, false, refl, ap, ◌∙◌, inl, [], ◌∷◌, length, rules, arith}
+use Rattle.wc_turns.proofs.turns.write_once.Goals as goal
+use Rattle.wc_text.specs.declared.names.Cause.TheVariants.{Failed as CauseFailed}
+use Rattle.wc_turns.specs.declared.turns.Wrote.TheVariants.{All, Lost}
+use Rattle.std.proofs.Common.{◌≤◌, true, false, refl, ◌∙◌, [], ◌∷◌, length, rules, arith, ◌≡◌}
 use Rattle.wc_outside.specs.declared.happening.Happening.TheVariants.{Failed}
 use Rattle.wc_outside.specs.Keyed.{at_key}
-use Rattle.wc_board.specs.Connections.{connection_link, unsent_in}
-use Rattle.wc_turns.specs.Parts.{SparesOthers}
-use Rattle.wc_turns.specs.Served.{leaving_closes}
+use Rattle.wc_board.specs.Connections.{connection_link}
 use Rattle.wc_turns.proofs.TurnLemmas.{LoopStep-trans}
 use Rattle.std.proofs.lemmas.Bool.{false≢true}
-use Rattle.wc_turns.proofs.CloseLemmas.{LoopStep-refl, LoopStep-quiet, LoopStep-sent, LoopStep-written, OnlyLinks-with, seen_written, there-unless, fewer-sent, nothing_sent}
-use Rattle.wc_turns.proofs.ConnectionLemmas.{leaving-gone}
-use Rattle.wc_turns.proofs.SourceLemmas.{IsWritten-later, others-unsent, TakesNothing-call, TakesNothing-trans, blocked-other}
+use Rattle.wc_turns.proofs.CloseLemmas.{LoopStep-refl, LoopStep-quiet, LoopStep-sent, LoopStep-written, OnlyLinks-with, seen_written, there-unless, nothing_sent}
+use Rattle.wc_turns.proofs.SourceLemmas.{IsWritten-later, TakesNothing-call, TakesNothing-trans, blocked-other}
 use Rattle.wc_turns.proofs.ClosingLemmas.{failed-of}
 use Rattle.wc_turns.proofs.PartLemmas.{HasFailed-now, KeepsLinks-sends, SendsOn-written}
-use Rattle.wc_turns.proofs.ReadLemmas.{LoopStep-lost, spares-left, connections-left, unsent-closed}
+use Rattle.wc_turns.proofs.ReadLemmas.{LoopStep-lost, lost-leaves, lost-has, lost-count}
 use Rattle.wc_turns.proofs.ContainedLemmas.{KeepsLinks-refl, KeepsLinks-same, KeepsLinks-trans, KeepsLinks-takes}
-use Rattle.wc_turns.proofs.turns.write_once.Goals as goal
+use Rattle.wc_turns.proofs.GoneLemmas.{gone-calm, gone-quits, gone-other, same-unsent, gone-less, gone-starved}
+use Rattle.wc_turns.proofs.AskedLemmas.{gone-count, unsent-party}
+use Rattle.wc_turns.specs.Parties.{has_party}
+use Rattle.wc_core.specs.LinksSeen.{gone_in}
+
+lost-all : Lost ≡ All → ⊥
+lost-all q = cc
 
 pub returns-in_default-clause-continues : goal.returns-in_default-clause-continues
 returns-in_default-clause-continues g c = LoopStep-refl _ _
@@ -31,25 +37,25 @@ returns-in-Ok-Took-clause-continues g c =
     let b = g.S.Sockets.seen c.write.new.self in
     rw c.gone.ensures (LoopStep-trans x y _ a (seen_written c.args.link.0 false a) b
     (LoopStep-written x y a c.args.link.0 false (OnlyLinks-with x m.new.self m.ensures.closed) (λ q. absurd (false≢true q)) m.ensures.opened)
-    (LoopStep-sent y (seen_written c.args.link.0 false a) b c.args.link.0 c.in-Ok-Took.count (at_key connection_link c.args.link.0 x.core.connections) c.in-Some.unsent.now refl c.in-Some.ensures
-    (record { told = e.told; taken = e.taken; asked = e.asked; counts = e.counts }) e.sent e.choked (record { used = e.used; there = e.there; undrained = e.undrained; blocked = e.blocked; listening = e.listening })))
+    (LoopStep-sent y (seen_written c.args.link.0 false a) b c.args.link.0 c.in-Ok-Took.count c.in-Some.unsent.now c.in-Some.ensures
+    (record { told = e.told; taken = e.taken; asked = e.asked; counts = e.counts }) e.sent e.choked e.asked (record { used = e.used; there = e.there; undrained = e.undrained; blocked = e.blocked; listening = e.listening })))
 
 pub returns-in-Ok-Took-clause-calm : goal.returns-in-Ok-Took-clause-calm
 returns-in-Ok-Took-clause-calm g c =
-    let connections = c.args.headless.now.core.connections in
-    ap (λ s. leaving_closes s.connections) c.gone.ensures ∙ leaving-gone c.args.link.0 c.in-Ok-Took.count connections (at_key connection_link c.args.link.0 connections) refl ∙ c.requires.calm
+    let core = c.args.headless.now.core in
+    rw c.gone.ensures (gone-calm c.args.link.0 c.in-Ok-Took.count core (at_key connection_link c.args.link.0 core.connections) refl c.requires.calm)
 
 pub returns-in-Ok-Took-clause-others : goal.returns-in-Ok-Took-clause-others
-returns-in-Ok-Took-clause-others g c = λ k n.
-    let connections = c.args.headless.now.core.connections in
-    IsWritten-later k connections c.gone.new.self.connections (g.S.Sockets.seen c.args.sockets.now) (g.S.Sockets.seen c.write.new.self)
-    (rw c.gone.ensures (others-unsent c.args.link.0 k c.in-Ok-Took.count connections (at_key connection_link c.args.link.0 connections) refl n)) (c.write.ensures.blocked k ∙ blocked-other k c.args.link.0 _ _ n)
+returns-in-Ok-Took-clause-others g c = λ q k n.
+    let core = c.args.headless.now.core in
+    IsWritten-later k core c.gone.new.self (g.S.Sockets.seen c.args.sockets.now) (g.S.Sockets.seen c.write.new.self)
+    (rw c.gone.ensures (same-unsent k core _ (gone-other c.args.link.0 c.in-Ok-Took.count k core (at_key connection_link c.args.link.0 core.connections) refl n))) (c.write.ensures.blocked k ∙ blocked-other k c.args.link.0 _ _ n)
 
 pub returns-in-Ok-Took-clause-less : goal.returns-in-Ok-Took-clause-less
 returns-in-Ok-Took-clause-less g c = λ q.
     let e = rw c.in-Ok-Took.field-0-is at c.in-Ok-Took.ensures in
     let some : 1 ≤ length c.in-Some.unsent.now = (let empty = c.if-is_empty.ensures in let is = c.is_empty.ensures in search rules) in
-    rw c.gone.ensures (fewer-sent c.args.link.0 c.in-Ok-Took.count c.args.headless.now.core.connections (at_key connection_link c.args.link.0 c.args.headless.now.core.connections) c.in-Some.unsent.now refl c.in-Some.ensures (e.within.1 some) e.within.0)
+    rw c.gone.ensures (gone-less c.args.link.0 c.in-Ok-Took.count c.args.headless.now.core (at_key connection_link c.args.link.0 c.args.headless.now.core.connections) c.in-Some.unsent.now refl c.in-Some.ensures (e.within.1 some) e.within.0)
 
 pub returns-in-Ok-NotYet-clause-continues : goal.returns-in-Ok-NotYet-clause-continues
 returns-in-Ok-NotYet-clause-continues g c =
@@ -62,10 +68,7 @@ returns-in-Ok-NotYet-clause-continues g c =
     LoopStep-trans x y y a (seen_written c.args.link.0 true a) b
     (LoopStep-written x y a c.args.link.0 true (OnlyLinks-with x m.new.self m.ensures.closed) (λ q. there-unless _ (λ n. false≢true (e.known n))) m.ensures.opened)
     (LoopStep-quiet y (seen_written c.args.link.0 true a) b (record { told = e.told; taken = e.taken; asked = e.asked; counts = e.counts })
-    (λ t k. e.sent t k ∙ nothing_sent _ _) e.choked (record { used = e.used; there = e.there; undrained = e.undrained; blocked = e.blocked; listening = e.listening }))
-
-pub close_all_leaving-requires : goal.close_all_leaving-requires
-close_all_leaving-requires g c = record { failed = HasFailed-now c.args.link (g.S.Sockets.seen c.args.sockets.now) (g.S.Sockets.seen c.write.new.self) c.in-Err.ensures.taken }
+    (λ t k. e.sent t k ∙ nothing_sent _ _) e.choked e.asked (record { used = e.used; there = e.there; undrained = e.undrained; blocked = e.blocked; listening = e.listening }))
 
 pub returns-in-Err-clause-continues : goal.returns-in-Err-clause-continues
 returns-in-Err-clause-continues g c =
@@ -77,35 +80,24 @@ returns-in-Err-clause-continues g c =
     let a = g.S.Sockets.seen c.args.sockets.now in
     let b = g.S.Sockets.seen c.write.new.self in
     let mid = seen_written c.args.link.0 false a in
-    LoopStep-trans x y _ a mid _
+    let first = LoopStep-trans x y _ a mid _
     (LoopStep-written x y a c.args.link.0 false (OnlyLinks-with x m.new.self m.ensures.closed) (λ q. absurd (false≢true q)) m.ensures.opened)
-    (LoopStep-trans y c.link_gone.new.self _ mid b _
-    (LoopStep-lost y c.link_gone.new.self c.args.link (Failed c.args.link) _ mid b
-    (record { call = record { told = e.told; taken = e.taken; asked = e.asked; counts = e.counts }; sent = λ t k. e.sent t k ∙ nothing_sent _ _; choked = e.choked; same = record { used = e.used; there = e.there; undrained = e.undrained; blocked = e.blocked; listening = e.listening } })
-    refl refl c.requires.calm c.requires.going (l.failed refl) (λ taken. failed-of c.args.link.0) l.core (e.failed, λ t. record { front = []; rest = []; taken = e.taken t }))
-    c.close_all_leaving.ensures.continues)
+    (LoopStep-lost y c.link_gone.new.self c.args.link (Failed c.args.link) CauseFailed mid b
+    (record { call = record { told = e.told; taken = e.taken; asked = e.asked; counts = e.counts }; sent = λ t k. e.sent t k ∙ nothing_sent _ _; choked = e.choked; asked = e.asked; same = record { used = e.used; there = e.there; undrained = e.undrained; blocked = e.blocked; listening = e.listening } })
+    refl refl c.requires.calm c.requires.going (l.failed refl) (λ taken. failed-of c.args.link.0) l.core (e.failed, λ t. record { front = []; rest = []; taken = e.taken t })) in
+    LoopStep-trans x c.link_gone.new.self _ a b _ first c.settle.ensures.continues
 
 pub returns-in-Err-clause-done : goal.returns-in-Err-clause-done
-returns-in-Err-clause-done g c = λ q.
-    let l = c.link_gone.ensures in
-    let p = c.close_all_leaving.ensures in
-    inl (unsent-closed c.args.link _ c.args.headless.now.core.connections c.link_gone.new.self c.close_all_leaving.new.headless (g.S.Sockets.seen c.write.new.self) (g.S.Sockets.seen c.close_all_leaving.new.sockets) c.requires.calm (ap (λ s. s.connections) l.core) p.parts p.calm)
+returns-in-Err-clause-done g c = λ q. absurd (lost-all q)
 
 pub returns-in-Err-clause-others : goal.returns-in-Err-clause-others
-returns-in-Err-clause-others g c = λ k n.
-    let x = c.args.headless.now in
-    let l = c.link_gone.ensures in
-    let p = c.close_all_leaving.ensures.parts in
-    let spared : SparesOthers k (leaving_closes c.link_gone.new.self.core.connections) = rw (ap (λ s. s.connections) l.core) (spares-left c.args.link _ x.core.connections k c.requires.calm n) in
-    IsWritten-later k x.core.connections c.close_all_leaving.new.headless.core.connections (g.S.Sockets.seen c.args.sockets.now) (g.S.Sockets.seen c.close_all_leaving.new.sockets)
-    (ap unsent_in (p.connections k spared ∙ connections-left c.args.link.0 k _ x.core c.link_gone.new.self.core l.core n))
-    (p.blocked k spared ∙ c.write.ensures.blocked k ∙ blocked-other k c.args.link.0 _ _ n)
+returns-in-Err-clause-others g c = λ q k n. absurd (q refl)
 
 pub returns-in-Err-clause-nothing : goal.returns-in-Err-clause-nothing
 returns-in-Err-clause-nothing g c =
     let e = c.in-Err.ensures in
-    TakesNothing-trans _ (g.S.Sockets.seen c.write.new.self) _ c.close_all_leaving.ensures.continues.told
-    (TakesNothing-call (g.S.Sockets.seen c.args.sockets.now) (g.S.Sockets.seen c.write.new.self) (Failed c.args.link ∷ []) e.taken (λ k. refl) refl) c.close_all_leaving.ensures.parts.nothing
+    TakesNothing-trans _ (g.S.Sockets.seen c.write.new.self) _ c.settle.ensures.continues.told
+    (TakesNothing-call (g.S.Sockets.seen c.args.sockets.now) (g.S.Sockets.seen c.write.new.self) (Failed c.args.link ∷ []) e.taken (λ k. refl) refl) c.settle.ensures.settles.nothing
 
 pub returns-in_default-clause-contained : goal.returns-in_default-clause-contained
 returns-in_default-clause-contained g c = KeepsLinks-refl _
@@ -118,7 +110,9 @@ returns-in-Ok-Took-clause-contained g c =
     let x = c.args.headless.now in
     let m = c.mark_written in
     let y = record x { links = m.new.self } in
-    let low : x.core.starved ≤ x.core.starved = omega arith in
+    let o = at_key connection_link c.args.link.0 x.core.connections in
+    let e = gone-starved c.args.link.0 c.in-Ok-Took.count x.core o in
+    let low : x.core.starved ≤ (gone_in c.args.link.0 c.in-Ok-Took.count x.core o).starved = omega arith in
     rw c.gone.ensures (KeepsLinks-trans x y _ (KeepsLinks-sends c.args.link.0 x y _ _ (SendsOn-written c.args.link.0 false x y (g.S.Sockets.seen c.args.sockets.now) (OnlyLinks-with x m.new.self m.ensures.closed) m.ensures.opened)) (KeepsLinks-same y _ refl low (λ k. refl) refl))
 
 pub returns-in-Ok-NotYet-clause-contained : goal.returns-in-Ok-NotYet-clause-contained
@@ -131,9 +125,57 @@ returns-in-Ok-NotYet-clause-contained g c =
 pub returns-in-Err-clause-contained : goal.returns-in-Err-clause-contained
 returns-in-Err-clause-contained g c =
     let l = c.link_gone.ensures in
-    let same = ap (λ s. s.starved) l.core in
     let x = c.args.headless.now in
     let m = c.mark_written-in-Err in
     let y = record x { links = m.new.self } in
     KeepsLinks-trans x y _ (KeepsLinks-sends c.args.link.0 x y _ _ (SendsOn-written c.args.link.0 false x y (g.S.Sockets.seen c.args.sockets.now) (OnlyLinks-with x m.new.self m.ensures.closed) m.ensures.opened))
-    (KeepsLinks-trans y c.link_gone.new.self _ (KeepsLinks-takes y c.link_gone.new.self _ (l.failed refl) (omega arith)) c.close_all_leaving.ensures.parts.contained)
+    (KeepsLinks-trans y c.link_gone.new.self _ (KeepsLinks-takes y c.link_gone.new.self _ (l.failed refl) l.core.keeps.rises) c.settle.ensures.settles.contained)
+
+pub returns-in-Ok-Took-clause-going : goal.returns-in-Ok-Took-clause-going
+returns-in-Ok-Took-clause-going g c =
+    let core = c.args.headless.now.core in
+    rw c.gone.ensures (gone-quits c.args.link.0 c.in-Ok-Took.count core (at_key connection_link c.args.link.0 core.connections) ∙ c.requires.going)
+
+pub returns-in-Ok-Took-clause-parties : goal.returns-in-Ok-Took-clause-parties
+returns-in-Ok-Took-clause-parties g c =
+    let core = c.args.headless.now.core in
+    rw c.gone.ensures (let e = gone-count c.args.link.0 c.in-Ok-Took.count core (at_key connection_link c.args.link.0 core.connections) refl in omega arith)
+
+pub settle-requires : goal.settle-requires
+settle-requires g c =
+    let e = c.in-Err.ensures in
+    let l = c.link_gone.ensures in
+    let x = c.args.headless.now in
+    let m = c.mark_written-in-Err in
+    let y = record x { links = m.new.self } in
+    let a = g.S.Sockets.seen c.args.sockets.now in
+    let b = g.S.Sockets.seen c.write.new.self in
+    let mid = seen_written c.args.link.0 false a in
+    let first = LoopStep-trans x y _ a mid _
+    (LoopStep-written x y a c.args.link.0 false (OnlyLinks-with x m.new.self m.ensures.closed) (λ q. absurd (false≢true q)) m.ensures.opened)
+    (LoopStep-lost y c.link_gone.new.self c.args.link (Failed c.args.link) CauseFailed mid b
+    (record { call = record { told = e.told; taken = e.taken; asked = e.asked; counts = e.counts }; sent = λ t k. e.sent t k ∙ nothing_sent _ _; choked = e.choked; asked = e.asked; same = record { used = e.used; there = e.there; undrained = e.undrained; blocked = e.blocked; listening = e.listening } })
+    refl refl c.requires.calm c.requires.going (l.failed refl) (λ taken. failed-of c.args.link.0) l.core (e.failed, λ t. record { front = []; rest = []; taken = e.taken t })) in
+    record { agrees = first.agrees c.requires.agrees; failed = HasFailed-now c.args.link (g.S.Sockets.seen c.args.sockets.now) (g.S.Sockets.seen c.write.new.self) c.in-Err.ensures.taken }
+
+pub returns-in-Err-clause-going : goal.returns-in-Err-clause-going
+returns-in-Err-clause-going g c = c.settle.ensures.settles.quits ∙ c.link_gone.ensures.core.quits ∙ c.requires.going
+
+pub returns-in-Err-clause-parties : goal.returns-in-Err-clause-parties
+returns-in-Err-clause-parties g c =
+    let l = c.link_gone.ensures in
+    let count = lost-count c.args.link.0 CauseFailed c.args.headless.now.core c.link_gone.new.self.core l.core in
+    let fewer = c.settle.ensures.settles.fewer in
+    omega arith
+
+pub returns-in-Err-clause-lost : goal.returns-in-Err-clause-lost
+returns-in-Err-clause-lost g c = λ q.
+    let l = c.link_gone.ensures in
+    let x = c.args.headless.now.core in
+    let y = c.link_gone.new.self.core in
+    let s = c.settle.ensures.settles in
+    let there : has_party c.args.link.0 x ≡ true = unsent-party c.args.link.0 x c.in-Some.unsent.now c.in-Some.ensures in
+    let count = lost-count c.args.link.0 CauseFailed x y l.core in
+    let gone = s.parted c.args.link.0 (lost-leaves c.args.link.0 CauseFailed x y l.core there) in
+    let fewer = s.lost c.args.link.0 (lost-has c.args.link.0 CauseFailed x y l.core c.args.link.0 ∙ there) gone in
+    omega arith

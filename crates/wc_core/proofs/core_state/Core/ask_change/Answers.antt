@@ -1,6 +1,8 @@
 use Rattle.std.proofs.Common.{refl, sym, subst}
 use Rattle.std.specs.Str.{IsUtf8}
-use Rattle.wc_core.proofs.CoreLemmas.{asks-made, asks-told}
+use Rattle.wc_core.specs.Step.{ask_step}
+use Rattle.wc_core.proofs.PushLemmas.{Does-over}
+use Rattle.wc_core.proofs.CoreLemmas.{asks-made, asks-told, starved_only}
 use Rattle.wc_core.proofs.ResolvedTexts.{what_text, refusal-utf8}
 use Rattle.wc_core.proofs.core_state.Core.ask_change.Goals as goal
 
@@ -10,8 +12,13 @@ change-requires c = what_text c.args.change.what c.requires
 pub tell_refusal-requires : goal.tell_refusal-requires
 tell_refusal-requires c = subst IsUtf8 (sym c.in-Ok.ensures) (refusal-utf8 c.args.self.now.world c.args.change c.in-Some.reason c.requires c.in-Some.ensures.refused.refused)
 
-pub returns-in_default : goal.returns-in_default
-returns-in_default c = asks-made c.args.self.now c.change.new.self c.args.change (c.in_default.ensures.made refl)
+pub returns-in_default-clause-does : goal.returns-in_default-clause-does
+returns-in_default-clause-does c = asks-made c.args.self.now c.change.new.self c.args.change (c.in_default.ensures.made refl)
 
-pub returns-in-Ok : goal.returns-in-Ok
-returns-in-Ok c = asks-told c.args.self.now c.change.new.self c.tell_refusal.new.self c.args.change c.in-Some.reason c.in-Ok.text c.in-Some.ensures.refused c.in-Ok.ensures c.tell_refusal.ensures
+pub returns-in-Ok-clause-does : goal.returns-in-Ok-clause-does
+returns-in-Ok-clause-does c = asks-told c.args.self.now c.change.new.self c.tell_refusal.new.self c.args.change c.in-Some.reason c.in-Ok.text c.in-Some.ensures.refused c.in-Ok.ensures c.tell_refusal.ensures.does
+
+pub returns-clause-does : goal.returns-clause-does
+returns-clause-does c =
+    Does-over c.args.self.now c.change.new.self c.starve.new.self (λ state. ask_step state c.args.change) c.in-Some.ensures.refused.stays c.in-Some.ensures.refused.touches
+    (starved_only c.change.new.self c.starve.new.self (λ state. ask_step state c.args.change) c.starve.ensures.counts c.starve.ensures.rises)

@@ -14,8 +14,8 @@ tell_refusal-requires c =
     line-utf8 c.world-2.result.now c.self.inside.moment c.args.buffer (meaning c.read_typed-asked.result) c.args.line.now (Tells c.in-Ok-Tells.text)
     (subst AreBuffers (c.buffers.ensures ∙ ap (λ (w : World). w.groups) (c.world.ensures.world ∙ sym c.world-2.ensures.world)) c.groups-texts.ensures.held) c.requires c.read_typed-asked.ensures (rw c.in-Ok-Tells.field-0-is at c.in-Ok-Tells.ensures.resolved)
 
-pub ask_change-requires : goal.ask_change-requires
-ask_change-requires c =
+pub ask_after_part-requires : goal.ask_after_part-requires
+ask_after_part-requires c =
     line-utf8 c.world-2.result.now c.self.inside.moment c.args.buffer (meaning c.read_typed-asked.result) c.args.line.now (Asks c.in-Ok-Asks.change)
     (subst AreBuffers (c.buffers.ensures ∙ ap (λ (w : World). w.groups) (c.world.ensures.world ∙ sym c.world-2.ensures.world)) c.groups-texts.ensures.held) c.requires c.read_typed-asked.ensures (rw c.in-Ok-Asks.field-0-is at c.in-Ok-Asks.ensures.resolved)
 
@@ -69,3 +69,11 @@ returns-in-Ok-SavesOptions-clause-does c =
     (rw c.in-Ok-SavesOptions.field-0-is at c.in-Ok-SavesOptions.ensures.resolved ∙ ap (λ (w : World). effect_of w c.self.inside.moment c.args.buffer typed) c.world-2.ensures.world
     ∙ ap (effect_of c.self.inside.board.world c.self.inside.moment c.args.buffer) c.read_typed-asked.ensures)
     (rw (← c.self.view_is) at c.save.ensures))
+
+pub returns-in-Ok-Ends-clause-does : goal.returns-in-Ok-Ends-clause-does
+returns-in-Ok-Ends-clause-does c =
+    let typed = meaning c.read_typed-asked.result in
+    rw (← c.self.view_is) (does-resolved _ c.quit.new.self c.args.buffer (typed_line c.args.line.now) Ends
+    (rw c.in-Ok-Ends.field-0-is at c.in-Ok-Ends.ensures.resolved ∙ ap (λ (w : World). effect_of w c.self.inside.moment c.args.buffer typed) c.world-2.ensures.world
+    ∙ ap (effect_of c.self.inside.board.world c.self.inside.moment c.args.buffer) c.read_typed-asked.ensures)
+    (rw (← c.self.view_is) at c.quit.ensures))

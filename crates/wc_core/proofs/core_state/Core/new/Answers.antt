@@ -1,6 +1,8 @@
-use Rattle.std.proofs.Common.{false, None, ap, sym, subst, ◌∙◌}
+use Rattle.std.proofs.Common.{true, false, None, ap, sym, subst, ◌∙◌}
 use Rattle.std.specs.Prelude.{map, string_bytes}
 use Rattle.wc_board.specs.BoardView.{BoardView, first_board}
+use Rattle.wc_servers.specs.Seats.{ServersView, no_servers}
+use Rattle.wc_core.specs.CoreView.{CoreView}
 use Rattle.wc_core.specs.Limits.{most_lines}
 use Rattle.wc_core.specs.State.{first_state}
 use Rattle.wc_core.specs.Served.{Means}
@@ -11,5 +13,20 @@ pub returns-clause-means : goal.returns-clause-means
 returns-clause-means c =
     let limit = most_lines c.args.options in
     let commands = map string_bytes c.args.commands.items in
-    let P : BoardView → Type 0 = λ board. Means (record { options = c.args.options; world = board.world; pending = board.pending; connections = board.connections; moment = 0; commands = commands; saved = None; unwritten = false; starved = 0; quits = false }) (first_state c.args.options limit commands) in
-    subst P (sym (c.in_ok-board.ensures ∙ ap first_board c.most_lines.ensures.number)) (first-means c.args.options limit commands 0 false)
+    let of : BoardView → ServersView → CoreView = λ board servers. record {
+      options = c.args.options;
+      world = board.world;
+      pending = board.pending;
+      connections = board.connections;
+      moment = 0;
+      commands = commands;
+      saved = None;
+      unwritten = false;
+      servers = servers;
+      connects = true;
+      starved = 0;
+      quits = false;
+    } in
+    let P : BoardView → Type 0 = λ board. Means (of board no_servers) (first_state c.args.options limit commands) in
+    let Q : ServersView → Type 0 = λ servers. Means (of c.in_ok-board.board servers) (first_state c.args.options limit commands) in
+    subst Q (sym c.new-2.ensures) (subst P (sym (c.in_ok-board.ensures ∙ ap first_board c.most_lines.ensures.number)) (first-means c.args.options limit commands 0 false))

@@ -1,27 +1,13 @@
-use Rattle.std.proofs.Common.{◌≡◌, sym, subst, ap, ◌∙◌, Some, None, true}
-use Rattle.wc_outside.specs.Keyed.{at_key}
-use Rattle.wc_relaycmd.specs.Answers.{request_of}
-use Rattle.wc_board.specs.Connections.{connection_link, is_open_at, session_at}
-use Rattle.wc_core.specs.CoreView.{CoreView}
-use Rattle.wc_core.proofs.AnswerLemmas.{line-shut, line-served, line-passed}
+use Rattle.std.proofs.Common.{refl, sym, ◌∙◌}
+use Rattle.wc_core.specs.Step.{line_step, link_line_step}
+use Rattle.wc_core.proofs.LinkLemmas.{shut-chooses, open-chooses}
 use Rattle.wc_core.proofs.core_state.Core.relay_line.Goals as goal
 
-pub returns-then-not-is_open : goal.returns-then-not-is_open
-returns-then-not-is_open c = rw (← c.self.view_is) (line-shut _ c.args.link.0 c.args.line.now (sym c.is_open.ensures ∙ c.if-not-is_open.true))
+pub returns-then-is_open : goal.returns-then-is_open
+returns-then-is_open c =
+    rw (← c.self.view_is) (open-chooses _ c.client_line.new.self c.args.link.0 (λ state client. line_step state c.args.line.now client) (λ state client. link_line_step state c.args.link.0 c.args.line.now client) (λ state client. refl)
+    (sym c.is_open.ensures ∙ c.if-is_open.true) (rw (← c.self.view_is) at c.client_line.ensures))
 
-pub returns-in-Ok-Some : goal.returns-in-Ok-Some
-returns-in-Ok-Some c =
-    let P : CoreView → Type 0 = λ core. session_at (at_key connection_link c.args.link.0 core.connections) ≡ Some c.in-Some.session.now in
-    let Q : CoreView → Type 0 = λ core. is_open_at (at_key connection_link c.args.link.0 core.connections) ≡ true in
-    line-served c.args.self.now c.ask.new.self c.args.link.0 c.args.line.now c.in-Some.session.now (Some c.in-Ok-Some.request)
-    (subst P c.self.view_is (sym c.in-Some.ensures)) (subst Q c.self.view_is (sym c.is_open.ensures ∙ c.if-not-is_open.false))
-    ((rw c.in-Ok-Some.field-0-is at c.in-Ok-Some.ensures.computed) ∙ ap (λ escaped. request_of escaped c.args.line.now) c.escaped.ensures) c.ask.ensures
-
-pub returns-in-Ok-None : goal.returns-in-Ok-None
-returns-in-Ok-None c =
-    let P : CoreView → Type 0 = λ core. session_at (at_key connection_link c.args.link.0 core.connections) ≡ Some c.in-Some.session.now in
-    let Q : CoreView → Type 0 = λ core. is_open_at (at_key connection_link c.args.link.0 core.connections) ≡ true in
-    line-served c.args.self.now c.args.self.now c.args.link.0 c.args.line.now c.in-Some.session.now None
-    (subst P c.self.view_is (sym c.in-Some.ensures)) (subst Q c.self.view_is (sym c.is_open.ensures ∙ c.if-not-is_open.false))
-    ((rw c.in-Ok-None.field-0-is at c.in-Ok-None.ensures.computed) ∙ ap (λ escaped. request_of escaped c.args.line.now) c.escaped.ensures)
-    (line-passed c.args.self.now (at_key connection_link c.args.link.0 c.args.self.now.connections))
+pub returns : goal.returns
+returns c =
+    rw (← c.self.view_is) (shut-chooses _ c.server_line.new.self c.args.link.0 (λ state client. link_line_step state c.args.link.0 c.args.line.now client) (sym c.is_open.ensures ∙ c.if-is_open.false) (rw (← c.self.view_is) at c.server_line.ensures))

@@ -12,7 +12,7 @@ change-skipped-requires c =
     let P : Change → Type 0 = λ line. IsChangeText line.what in
     subst P (sym c.in-Ok.ensures) (told_text _ c.args.text c.requires)
 
-pub returns-in-Ok : goal.returns-in-Ok
-returns-in-Ok c =
+pub returns-in-Ok-clause-does : goal.returns-in-Ok-clause-does
+returns-in-Ok-clause-does c =
     let P : CoreView → Type 0 = λ core. c.in-Ok.line ≡ told_refusal core.moment c.args.text in
     tells-changed c.args.self.now c.change-skipped.new.self c.args.text c.in-Ok.line c.change-skipped.result (subst P c.self.view_is c.in-Ok.ensures) c.change-skipped.ensures.made c.change-skipped.ensures.refused

@@ -1,6 +1,6 @@
-use Rattle.std.proofs.Common.{◌≡◌, sym, ◌∙◌, suc, take, drop, length, min, arith, refl}
-use Rattle.wc_scripted.specs.declared.scripted.Scripted.TheVariants.{Gives, Ends}
-use Rattle.wc_scripted.proofs.CursorLemmas.{drop_read, give-found, give-given, give_within, give-end}
+use Rattle.std.proofs.Common.{◌≡◌, sym, ◌∙◌, take, drop, length, min}
+use Rattle.wc_scripted.specs.declared.scripted.Scripted.TheVariants.{Stands, Gives, Ends}
+use Rattle.wc_scripted.proofs.CursorLemmas.{drop_read, give-found, give-given, give_within, give-end, give-stands}
 use Rattle.wc_scripted.proofs.cursors.Cursor.give.Goals as goal
 
 pub returns-in-Some-Gives-clause-found : goal.returns-in-Some-Gives-clause-found
@@ -24,3 +24,9 @@ returns-in-Some-Ends-clause-found c =
     let x = c.in-Some-Ends.ensures.lookup in
     let e = drop_read c.args.steps.now c.args.self.now.step (Ends c.in-Some-Ends.field-0-0) x.3.0 (sym c.in-Some-Ends.field-0-is ∙ x.3.1 (Ends c.in-Some-Ends.field-0-0)) in
     give-end c.args.link.0 c.args.steps.now c.args.self.now c.in-Some-Ends.field-0-0 _ c.args.into.now c.requires.placed e c.requires.begins
+
+pub returns-in-Some-Stands-clause-found : goal.returns-in-Some-Stands-clause-found
+returns-in-Some-Stands-clause-found c =
+    let x = c.in-Some-Stands.ensures.lookup in
+    let e = drop_read c.args.steps.now c.args.self.now.step (Stands c.in-Some-Stands.field-0-0) x.3.0 (sym c.in-Some-Stands.field-0-is ∙ x.3.1 (Stands c.in-Some-Stands.field-0-0)) in
+    give-stands c.args.link.0 c.args.steps.now c.args.self.now c.in-Some-Stands.field-0-0 _ c.args.into.now c.requires.placed e c.requires.begins

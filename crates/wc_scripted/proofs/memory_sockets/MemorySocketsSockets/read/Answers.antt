@@ -1,33 +1,11 @@
-use Rattle.std.proofs.Common.{arith, rules, ap, refl, ◌∙◌}
-use Rattle.std.proofs.lemmas.Grind.{common_steps}
-use Rattle.std.proofs.lemmas.Bool.Decides.{nat_tests}
+use Rattle.std.proofs.Common.{rules, refl}
+use Rattle.wc_scripted.specs.declared.rows.Row.{Row}
+use Rattle.wc_scripted.proofs.RowLemmas.{set_rest}
+use Rattle.wc_scripted.proofs.SeesLemmas.{sees_with, plays_with, drained_sees}
 use Rattle.wc_scripted.proofs.memory_sockets.MemorySocketsSockets.read.Goals as goal
 
 pub returns-in-NotYet-clause-sees : goal.returns-in-NotYet-clause-sees
-returns-in-NotYet-clause-sees c = record {
-  told = search rules;
-  taken = search rules;
-  sent = λ t other. grind (arith, common_steps);
-  asked = search rules;
-  choked = λ t other. grind (arith, common_steps);
-  used = grind (arith, common_steps);
-  there = λ other. grind (arith, common_steps);
-  undrained = λ other. grind (arith, common_steps);
-  listening = search rules;
-  blocked = λ other. grind (arith, common_steps);
-  counts = search rules;
-}
+returns-in-NotYet-clause-sees c = sees_with c.drain.new.rows.items _ _ _ refl (search rules) (rw (c.drain.ensures.rows, c.in-NotYet.is) (drained_sees c.args.self.now.rows.items c.args.link.0))
 
 pub returns-in-NotYet-clause-play : goal.returns-in-NotYet-clause-play
-returns-in-NotYet-clause-play c = record {
-  released = search rules;
-  coming = search rules;
-  moment = search rules;
-  given = λ other. search rules;
-  news = λ other. grind (arith, common_steps);
-  arriving = search rules;
-  window = search rules;
-  took = λ other. grind (arith, common_steps);
-  calls = search rules;
-  failing = search rules;
-}
+returns-in-NotYet-clause-play c = plays_with c.drain.new.rows.items _ _ refl (search rules) (λ other. rw c.drain.ensures.rows (set_rest (λ (row : Row). row.news) c.args.self.now.rows.items c.args.link.0 other _ refl)) (λ other. rw c.drain.ensures.rows (set_rest (λ (row : Row). row.taken) c.args.self.now.rows.items c.args.link.0 other _ refl))

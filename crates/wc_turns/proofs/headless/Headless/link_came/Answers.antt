@@ -1,5 +1,4 @@
 use Rattle.std.proofs.Common.{◌≡◌, ◌++◌, ◌∷◌, [], Some, None, refl, ap, sym, ◌∙◌}
-use Rattle.wc_turns.specs.Served.{leaving_closes}
 use Rattle.wc_turns.proofs.ArriveLemmas.{refused-step, refused-opened, refused-closed, calm-push, admitted-of}
 use Rattle.wc_turns.proofs.headless.Headless.link_came.Goals as goal
 
@@ -29,6 +28,8 @@ returns-in-None-clause-comes c =
       listening = refl;
       turns = refl;
       ran = c.saturating_add-self.ensures;
-      quits = ap (λ s. s.quits) core;
-      calm = λ calm. ap (λ s. leaving_closes s.connections) core ∙ calm-push c.args.self.now.core.options c.args.self.now.core.connections c.args.arrival.link c.args.arrival.nonce calm;
+      refused = refl;
+      unlisted = refl;
+      quits = λ nobody. ap (λ s. s.quits) core;
+      calm = λ nobody calm. calm-push c.args.self.now.core c.accepted.new.self c.args.arrival.link c.args.arrival.nonce core calm;
     }

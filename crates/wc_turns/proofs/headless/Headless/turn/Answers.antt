@@ -3,7 +3,8 @@ use Rattle.std.proofs.lemmas.Bool.{false≢true}
 use Rattle.wc_core.specs.CoreView.{CoreView}
 use Rattle.wc_turns.specs.declared.turn.TurnEnd.TheVariants.{WaitFault}
 use Rattle.wc_core.specs.Served.{unwritten_of}
-use Rattle.wc_turns.specs.Saves.{WritesText}
+use Rattle.wc_turns.specs.Saves.{WritesText, written_state}
+use Rattle.wc_turns.proofs.CauseLemmas.{causes-as}
 use Rattle.wc_turns.specs.Turns.{LoopStep, faults_then}
 use Rattle.wc_turns.proofs.SaveLemmas.{agrees-written, step-written, closes-written, loses-written, fits-then, faults-most, woke-once, saves-turn}
 use Rattle.wc_turns.proofs.WaitLemmas.{OnOk-get, OnErr-get}
@@ -63,17 +64,20 @@ returns-clause-agrees g c =
 pub returns-clause-calm : goal.returns-clause-calm
 returns-clause-calm g c =
     let states = OnOk-get c.save.result _ (sym c.is_err.ensures.value ∙ c.if-is_err.false) c.save.ensures.states in
-    rw states c.serve_turn-end.ensures.calm
+    let calm = c.serve_turn-end.ensures.calm in
+    rw states (record { parted = calm.parted; asked = calm.asked })
 
 pub returns-clause-causes : goal.returns-clause-causes
 returns-clause-causes g c =
     let states = OnOk-get c.save.result _ (sym c.is_err.ensures.value ∙ c.if-is_err.false) c.save.ensures.states in
-    rw states c.serve_turn-end.ensures.causes
+    let y = c.serve_turn-end.new.self in
+    let seen = g.S.Sockets.seen in
+    rw states (causes-as c.args.self.now y (written_state y) (seen c.args.sockets.now) (seen c.serve_turn-end.new.sockets) refl y.links.closed.items c.serve_turn-end.ensures.causes)
 
 pub returns-clause-served : goal.returns-clause-served
 returns-clause-served g c =
     let states = OnOk-get c.save.result _ (sym c.is_err.ensures.value ∙ c.if-is_err.false) c.save.ensures.states in
-    rw states c.serve_turn-end.ensures.served
+    rw states (λ on. (let served = c.serve_turn-end.ensures.served on in record { links = served.links; listener = served.listener; written = served.written }))
 
 pub returns-clause-sent : goal.returns-clause-sent
 returns-clause-sent g c =

@@ -2,7 +2,7 @@ use Rattle.std.proofs.Common.{◌≡◌, ℕ, ◌<◌, false, None, IfSome, take
 use Rattle.wc_outside.specs.Keyed.{at_key}
 use Rattle.wc_board.specs.Connections.{connection_link}
 use Rattle.wc_turns.specs.Sources.{has_flag, may_write}
-use Rattle.wc_turns.proofs.serve.next_unsent.Given as goal
+use Rattle.wc_turns.proofs.serve.next_client.Given as goal
 
 abbrev pub invariant-loop-connection : goal.invariant-loop-connection
 invariant-loop-connection l = record {

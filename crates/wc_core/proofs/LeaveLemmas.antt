@@ -1,0 +1,282 @@
+-- For what the loss of a server is asked for by what it says, or by what is typed for it.
+use Rattle.std.proofs.Common.{◌≡◌, ◌⊎◌, inl, inr, ℕ, Bool, true, false, cond, ◌&&◌, List, [], ◌∷◌, ◌++◌, codes, Option, Some, None, refl, ◌∙◌}
+use Rattle.std.specs.Prelude.{map, flat_map, option_map, option_and_then}
+use Rattle.wc_text.specs.declared.names.Cause.{Cause}
+use Rattle.wc_text.specs.declared.names.Cause.TheVariants as cause
+use Rattle.wc_text.specs.declared.names.Handle.{Handle}
+use Rattle.wc_buffers.specs.Calls.{EntryGroups, buffer_of, vars_at}
+use Rattle.wc_buffers.specs.Groups.{rows}
+use Rattle.wc_buffers.specs.declared.row.BufferRow.{BufferRow}
+use Rattle.wc_ircmsg.specs.declared.case_map.CaseMap.{CaseMap}
+use Rattle.wc_ircmsg.specs.declared.message.Message.{Message}
+use Rattle.wc_ircmsg.specs.declared.prefixes.Prefixes.{Prefixes}
+use Rattle.wc_irc_texts.specs.Groups.{group_names}
+use Rattle.wc_irc_texts.specs.ModeBits.{highest}
+use Rattle.wc_irc_texts.specs.Modes.{ModeChange, mode_changes}
+use Rattle.wc_irc_texts.specs.Names.{is_channel, is_nick}
+use Rattle.wc_irc_texts.specs.Rows.{param, params_from}
+use Rattle.wc_irc_texts.specs.Texts.{in_one_line}
+use Rattle.wc_irc_texts.specs.declared.kind.MessageKind.{MessageKind}
+use Rattle.wc_irc_texts.specs.declared.kind.MessageKind.TheVariants as kind
+use Rattle.wc_irc_texts.specs.declared.seat.Seat.{Seat}
+use Rattle.wc_irc_words.specs.Typed.{ServerCommand, asked_of}
+use Rattle.wc_irc.specs.declared.act.Act.{Act}
+use Rattle.wc_irc.specs.declared.act.Act.TheVariants as act
+use Rattle.wc_irc.specs.Autojoin.{message, autojoin_lines}
+use Rattle.wc_irc.specs.ChannelActs.{comes, come, join_line, join_on, join_in, own_join, join_acts, gone, leave_as, part_line, part_on, part_acts, kick_line, kick_on, kick_acts, quit_on, quit_as, quit_of, quit_acts}
+use Rattle.wc_irc.specs.ChannelStates.{channel_at, may_have}
+use Rattle.wc_irc.specs.Channels.{Joined}
+use Rattle.wc_irc.specs.CloseActs.{disconnect_acts}
+use Rattle.wc_irc.specs.CommandActs.{Place, Errand, Refuses, Sends, Speaks, SendsLine, Opens, place_in, errand_of, told_in, refusal, if_linked, sent_message, speech, acts_of_errand, acts_of_line, linked_in, acts_of_typed, acts_of_unlinked}
+use Rattle.wc_irc.specs.LinkActs.{pass_acts, user_act, first_acts}
+use Rattle.wc_irc.specs.ModeActs.{modes_after, with_change, moved, change_acts, changes_acts, mode_moves, mode_line, mode_on, mode_acts, same_place}
+use Rattle.wc_irc.specs.NameActs.{seats_in, placed, placed_all, names_in, names_acts}
+use Rattle.wc_irc.specs.NewBuffers.{opened, name_or}
+use Rattle.wc_irc.specs.NickActs.{add_group, add_groups, remove_nick, emptied}
+use Rattle.wc_irc.specs.OwnSpeech.{own_line, own_talk, acts_of_own, own_speech}
+use Rattle.wc_irc.specs.RenameActs.{come_again, nick_line, rename_on, rename_as, rename_of, renamed_buffer, rename_private, own_var, own_vars, nick_acts}
+use Rattle.wc_irc.specs.ServerActs.{acts_of_kind, kind_to, acts_of_server}
+use Rattle.wc_irc.specs.Servers.{ServerState, is_own, own_nick_from, next_nick, may_try}
+use Rattle.wc_irc.specs.SpeechActs.{Talk, Says, Does, Requests, talk_of, talk_line, talk_tags, on_private, on_target, acts_of_talk}
+use Rattle.wc_irc.specs.TalkActs.{on_found, sent, differs, told_nick, tell_nick, welcome_line, raised, welcome_acts, notice_line, notice_acts, has_var}
+use Rattle.wc_irc.specs.Targets.{found, full_name}
+use Rattle.wc_core.specs.ServerSteps.{leave_in}
+use Rattle.wc_core.specs.ServerTyped.{acts_in}
+
+-- these acts ask for no loss
+abbrev Stays : List Act → Type 0
+Stays acts = leave_in acts ≡ None
+
+both : (a b : List Act) → Stays a → Stays b → Stays (a ++ b)
+both [] b p q = q
+both (act.Open spec ∷ a) b p q = both a b p q
+both (act.On name w ∷ a) b p q = both a b p q
+both (act.Send line ∷ a) b p q = both a b p q
+both (act.Raise signal payload ∷ a) b p q = both a b p q
+both (act.Leave why ∷ a) b p q = absurd (cc)
+
+either : (t : Bool) (a b : List Act) → Stays a → Stays b → Stays (cond t a b)
+either true a b p q = p
+either false a b p q = q
+
+where_found : (o : Option (List ℕ)) (f : List ℕ → List Act) → ((buffer : List ℕ) → Stays (f buffer)) → Stays (on_found o f)
+where_found None f p = refl
+where_found (Some buffer) f p = p buffer
+
+each : {X : Type 0} (f : X → List Act) (xs : List X) → ((x : X) → Stays (f x)) → Stays (flat_map f xs)
+each f [] p = refl
+each f (x ∷ xs) p = both (f x) (flat_map f xs) (p x) (each f xs p)
+
+alone : {X : Type 0} (f : X → Act) (xs : List X) → ((x : X) (acts : List Act) → leave_in (f x ∷ acts) ≡ leave_in acts) → Stays (map f xs)
+alone f [] p = refl
+alone f (x ∷ xs) p = p x (map f xs) ∙ alone f xs p
+
+opening : (there : Option (List ℕ)) (kind : List ℕ) (s : ServerState) (target : List ℕ) → Stays (opened there kind s target)
+opening None kind s target = refl
+opening (Some buffer) kind s target = refl
+
+-- ---- what a server says
+
+welcomed : (groups : EntryGroups) (s : ServerState) (m : Message) → Stays (welcome_acts groups s m)
+welcomed groups s m =
+    let nick = own_nick_from s (param 0 m) in
+    let more = welcome_line s m ∷ raised (codes "irc_server_connected") s ∷ map (λ line. act.Send line) (autojoin_lines s.autojoin) in
+    either s.is_registered (welcome_line s m ∷ []) (tell_nick groups s nick ++ more) refl
+    (both (tell_nick groups s nick) more (each (told_nick s nick) (rows groups) (λ buffer. either (differs s nick buffer) _ [] refl refl)) (alone (λ line. act.Send line) (autojoin_lines s.autojoin) (λ line acts. refl)))
+
+joined_on : (s : ServerState) (m : Message) (buffer : List ℕ) → Stays (join_on s m buffer)
+joined_on s m buffer = both (come s m buffer) (join_line m buffer ∷ []) (either (comes s m.nick (channel_at s (param 0 m))) _ [] refl refl) refl
+
+joined : (groups : EntryGroups) (s : ServerState) (m : Message) → Stays (join_acts groups s m)
+joined groups s m =
+    let there = found groups s (param 0 m) in
+    let name = name_or there (full_name s.name (param 0 m)) in
+    either (is_own s m.nick) (own_join s m there) (on_found there (join_on s m))
+    (both (opened there (codes "channel") s (param 0 m)) (join_in s m name) (opening there (codes "channel") s (param 0 m))
+    (both (add_groups s.features.prefixes name) (join_on s m name) (alone (add_group name) (group_names s.features.prefixes) (λ group acts. refl)) (joined_on s m name)))
+    (where_found there (join_on s m) (joined_on s m))
+
+left_as : (s : ServerState) (nick buffer : List ℕ) (o : Option Joined) → Stays (leave_as s nick buffer o)
+left_as s nick buffer None = refl
+left_as s nick buffer (Some channel) =
+    either (is_own s nick) (emptied buffer channel.seats) (gone buffer _) (alone (λ (seat : Seat). remove_nick buffer seat.nick) channel.seats (λ seat acts. refl)) (left _)
+  where
+    left : (o : Option Seat) → Stays (gone buffer o)
+    left None = refl
+    left (Some seat) = refl
+
+parted : (groups : EntryGroups) (s : ServerState) (m : Message) → Stays (part_acts groups s m)
+parted groups s m = where_found (found groups s (param 0 m)) (part_on s m) (λ buffer. both (leave_as s m.nick buffer (channel_at s (param 0 m))) (part_line m buffer ∷ []) (left_as s m.nick buffer (channel_at s (param 0 m))) refl)
+
+kicked : (groups : EntryGroups) (s : ServerState) (m : Message) → Stays (kick_acts groups s m)
+kicked groups s m = where_found (found groups s (param 0 m)) (kick_on s m) (λ buffer. both (leave_as s (param 1 m) buffer (channel_at s (param 0 m))) (kick_line m buffer ∷ []) (left_as s (param 1 m) buffer (channel_at s (param 0 m))) refl)
+
+quitted : (groups : EntryGroups) (s : ServerState) (m : Message) → Stays (quit_acts groups s m)
+quitted groups s m = each (quit_of groups s m) s.channels (λ channel. of channel _) where
+  of : (channel : Joined) (o : Option Seat) → Stays (quit_as groups s m channel o)
+  of channel None = refl
+  of channel (Some seat) = where_found (found groups s channel.name) (quit_on m seat) (λ buffer. refl)
+
+renamed : (groups : EntryGroups) (s : ServerState) (m : Message) → Stays (nick_acts groups s m)
+renamed groups s m =
+    let there = renamed_buffer groups s m in
+    let private = on_found there (rename_private (param 0 m) (full_name s.name (param 0 m))) in
+    both (flat_map (rename_of groups s m) s.channels) (private ++ own_vars groups s m) (each (rename_of groups s m) s.channels (λ channel. of channel _))
+    (both private (own_vars groups s m) (where_found there (rename_private (param 0 m) (full_name s.name (param 0 m))) (λ buffer. refl))
+    (either (is_own s m.nick && is_nick s.features.prefixes (param 0 m)) (flat_map (own_var there (full_name s.name (param 0 m)) s (param 0 m)) (rows groups)) []
+    (each (own_var there (full_name s.name (param 0 m)) s (param 0 m)) (rows groups) (λ buffer. either (has_var (codes "server") s.name buffer) _ [] refl refl)) refl))
+  where
+    of : (channel : Joined) (o : Option Seat) → Stays (rename_as groups s m channel o)
+    of channel None = refl
+    of channel (Some seat) = where_found (found groups s channel.name) (rename_on s m channel seat) (λ buffer. both (come_again s m channel seat buffer) (nick_line m buffer ∷ []) (either (may_have s.features.prefixes m.nick (param 0 m) channel) _ [] refl refl) refl)
+
+moves : (prefixes : Prefixes) (buffer : List ℕ) (seat : Seat) (place : Option ℕ) → Stays (moved prefixes buffer seat place)
+moves prefixes buffer seat place = either (same_place (highest seat.modes.0) place) [] _ refl refl
+
+changes : (prefixes : Prefixes) (buffer : List ℕ) (case_map : CaseMap) (list : List ModeChange) (seats : List Seat) → Stays (changes_acts prefixes buffer case_map list seats)
+changes prefixes buffer case_map [] seats = refl
+changes prefixes buffer case_map (change ∷ list) seats =
+    both (change_acts prefixes buffer change _) (changes_acts prefixes buffer case_map list (with_change prefixes case_map change seats)) (one _) (changes prefixes buffer case_map list (with_change prefixes case_map change seats))
+  where
+    one : (o : Option Seat) → Stays (change_acts prefixes buffer change o)
+    one None = refl
+    one (Some seat) = moves prefixes buffer seat (highest (modes_after prefixes change seat.modes).0)
+
+moded : (groups : EntryGroups) (s : ServerState) (m : Message) → Stays (mode_acts groups s m)
+moded groups s m = where_found (found groups s (param 0 m)) (mode_on s m) (λ buffer. both (mode_moves s m buffer (channel_at s (param 0 m))) (mode_line m buffer ∷ []) (of buffer (channel_at s (param 0 m))) refl) where
+  of : (buffer : List ℕ) (o : Option Joined) → Stays (mode_moves s m buffer o)
+  of buffer None = refl
+  of buffer (Some channel) = changes s.features.prefixes buffer channel.case_map (mode_changes s.features (params_from 1 m)) channel.seats
+
+places : (prefixes : Prefixes) (buffer : List ℕ) (case_map : CaseMap) (list seats : List Seat) → Stays (placed_all prefixes buffer case_map list seats)
+places prefixes buffer case_map [] seats = refl
+places prefixes buffer case_map (listed ∷ list) seats =
+    both (placed prefixes buffer listed _) (placed_all prefixes buffer case_map list _) (one _) (places prefixes buffer case_map list _)
+  where
+    one : (o : Option Seat) → Stays (placed prefixes buffer listed o)
+    one None = refl
+    one (Some seat) = moves prefixes buffer seat (highest listed.modes.0)
+
+named : (groups : EntryGroups) (s : ServerState) (m : Message) → Stays (names_acts groups s m)
+named groups s m = where_found (found groups s (param 2 m)) _ (λ buffer. of buffer (channel_at s (param 2 m))) where
+  of : (buffer : List ℕ) (o : Option Joined) → Stays (names_in s m buffer o)
+  of buffer None = refl
+  of buffer (Some channel) = places s.features.prefixes buffer channel.case_map (seats_in s m) channel.seats
+
+talked : (groups : EntryGroups) (s : ServerState) (target nick : List ℕ) (does : Bool) (text : List ℕ) (tags : List (List ℕ)) (said : List ℕ) → Stays (on_target groups s target nick (talk_line s said nick does text tags))
+talked groups s target nick does text tags said =
+    let line = talk_line s said nick does text tags in
+    let there = found groups s nick in
+    either (is_channel s.features.chan_types target) (on_found (found groups s target) (λ buffer. line buffer ∷ [])) (on_private s nick line there) (where_found (found groups s target) (λ buffer. line buffer ∷ []) (λ buffer. one does buffer))
+    (both (opened there (codes "private") s nick) (line (name_or there (full_name s.name nick)) ∷ []) (opening there (codes "private") s nick) (one does (name_or there (full_name s.name nick))))
+  where
+    one : (does : Bool) (buffer : List ℕ) → Stays (talk_line s said nick does text tags buffer ∷ [])
+    one true buffer = refl
+    one false buffer = refl
+
+spoken : (groups : EntryGroups) (s : ServerState) (m : Message) (talk : Talk) → Stays (acts_of_talk groups s m talk)
+spoken groups s m (Says text) = talked groups s (param 0 m) m.nick false text (talk_tags s m false) (param 0 m)
+spoken groups s m (Does deed) = talked groups s (param 0 m) m.nick true deed (talk_tags s m true) (param 0 m)
+spoken groups s m (Requests word) = refl
+
+noticed : (groups : EntryGroups) (s : ServerState) (m : Message) → Stays (notice_acts groups s m)
+noticed groups s m = either (is_channel s.features.chan_types (param 0 m)) (on_found (found groups s (param 0 m)) (λ buffer. notice_line m buffer ∷ [])) _ (where_found (found groups s (param 0 m)) (λ buffer. notice_line m buffer ∷ []) (λ buffer. refl)) refl
+
+-- what a server says asks for its loss where its nicks are taken, and else not
+abbrev pub MayLeave : Cause → Option Cause → Type 0
+MayLeave why o = (o ≡ None) ⊎ (o ≡ Some why)
+
+kind-leaves : (groups : EntryGroups) (s : ServerState) (m : Message) (k : MessageKind) → MayLeave cause.NickTaken (leave_in (acts_of_kind groups s m k))
+unfolding acts_of_kind
+kind-leaves groups s m kind.Welcome = inl (welcomed groups s m)
+kind-leaves groups s m kind.Tokens = inl refl
+kind-leaves groups s m kind.NickInUse = by (may_try s) where
+  by : (t : Bool) → MayLeave cause.NickTaken (leave_in (cond t (sent (codes "NICK") (next_nick s) ∷ []) (act.Leave cause.NickTaken ∷ [])))
+  by true = inl refl
+  by false = inr refl
+kind-leaves groups s m kind.Join = inl (joined groups s m)
+kind-leaves groups s m kind.Part = inl (parted groups s m)
+kind-leaves groups s m kind.Quit = inl (quitted groups s m)
+kind-leaves groups s m kind.Kick = inl (kicked groups s m)
+kind-leaves groups s m kind.Nick = inl (renamed groups s m)
+kind-leaves groups s m kind.Mode = inl (moded groups s m)
+kind-leaves groups s m kind.Topic = inl (where_found (found groups s (param 0 m)) _ (λ buffer. refl))
+kind-leaves groups s m kind.TopicReply = inl (where_found (found groups s (param 1 m)) _ (λ buffer. refl))
+kind-leaves groups s m kind.Names = inl (named groups s m)
+kind-leaves groups s m kind.NamesEnd = inl (where_found (found groups s (param 1 m)) _ (λ buffer. refl))
+kind-leaves groups s m kind.ModeReply = inl (where_found (found groups s (param 1 m)) _ (λ buffer. refl))
+kind-leaves groups s m kind.Privmsg = inl (spoken groups s m (talk_of (param 1 m)))
+kind-leaves groups s m kind.Notice = inl (noticed groups s m)
+kind-leaves groups s m kind.Ping = inl refl
+kind-leaves groups s m kind.Error = inl refl
+kind-leaves groups s m kind.Other = inl refl
+
+pub server-leaves : (groups : EntryGroups) (s : ServerState) (m : Message) → MayLeave cause.NickTaken (leave_in (acts_of_server groups s m))
+server-leaves groups s m = kind-leaves groups s m (kind_to s m)
+
+-- as its link stands it doesn't
+pub first-leaves : (s : ServerState) → leave_in (first_acts s) ≡ None
+first-leaves s = by s.password where
+  by : (password : List ℕ) → Stays (pass_acts password ++ sent (codes "NICK") s.nick ∷ user_act s ∷ [])
+  by [] = refl
+  by (b ∷ password) = refl
+
+-- ---- what is typed
+
+pub disconnect-leaves : (s : ServerState) → leave_in (disconnect_acts s) ≡ Some cause.Disconnected
+disconnect-leaves s = by s.is_connected where
+  by : (t : Bool) → leave_in (cond t (sent_message (message (codes "QUIT") []) ∷ []) [] ++ act.Leave cause.Disconnected ∷ []) ≡ Some cause.Disconnected
+  by true = refl
+  by false = refl
+
+refuses : (groups : EntryGroups) (text : List ℕ) → Stays (refusal groups text)
+refuses groups text = by (buffer_of (record { 0 = 1 }) groups) where
+  by : (o : Option BufferRow) → Stays (told_in o text)
+  by None = refl
+  by (Some row) = refl
+
+linked-stays : (groups : EntryGroups) (link : Option ServerState) (acts : ServerState → List Act) → ((s : ServerState) → Stays (acts s)) → Stays (if_linked groups link acts)
+linked-stays groups None acts p = refuses groups (codes "irc: not connected")
+linked-stays groups (Some s) acts p = p s
+
+own_stays : (groups : EntryGroups) (s : ServerState) (target : List ℕ) (does : Bool) (text : List ℕ) → Stays (own_talk groups s target does text)
+own_stays groups s target does text =
+    let line = own_line s target does text in
+    let there = found groups s target in
+    either (is_channel s.features.chan_types target) (on_found there (λ buffer. line buffer ∷ [])) (on_private s target line there) (where_found there (λ buffer. line buffer ∷ []) (λ buffer. one does buffer))
+    (both (opened there (codes "private") s target) (line (name_or there (full_name s.name target)) ∷ []) (opening there (codes "private") s target) (one does (name_or there (full_name s.name target))))
+  where
+    one : (does : Bool) (buffer : List ℕ) → Stays (own_line s target does text buffer ∷ [])
+    one true buffer = refl
+    one false buffer = refl
+
+owns : (groups : EntryGroups) (s : ServerState) (target : List ℕ) (talk : Talk) → Stays (acts_of_own groups s target talk)
+owns groups s target (Says text) = own_stays groups s target false text
+owns groups s target (Does deed) = own_stays groups s target true deed
+owns groups s target (Requests word) = refl
+
+errand-stays : (groups : EntryGroups) (link : Option ServerState) (errand : Errand) → Stays (acts_of_errand groups link errand)
+unfolding acts_of_errand
+errand-stays groups link (Refuses text) = refuses groups text
+errand-stays groups link (Sends m) = linked-stays groups link (λ s. sent_message m ∷ []) (λ s. refl)
+errand-stays groups link (Speaks target text) = linked-stays groups link (λ s. sent_message (speech target text) ∷ own_speech groups s target text) (λ s. owns groups s target (talk_of text))
+errand-stays groups link (SendsLine line) = linked-stays groups link (λ s. act.Send line ∷ []) (λ s. refl)
+errand-stays groups link (Opens nick) = linked-stays groups link (λ s. opened (found groups s nick) (codes "private") s nick) (λ s. opening (found groups s nick) (codes "private") s nick)
+
+line-stays : (groups : EntryGroups) (link : Option ServerState) (place : Place) (line : List ℕ) → Stays (acts_in (acts_of_line groups link place line))
+line-stays groups link place line = by (asked_of line) where
+  of : (o : Option Errand) → Stays (acts_in (option_map (acts_of_errand groups link) o))
+  of None = refl
+  of (Some errand) = errand-stays groups link errand
+
+  by : (o : Option ServerCommand) → Stays (acts_in (option_and_then (λ command. option_map (acts_of_errand groups link) (errand_of place command)) o))
+  by None = refl
+  by (Some command) = of (errand_of place command)
+
+pub typed-leaves : (groups : EntryGroups) (s : ServerState) (buffer : Handle) (text : List ℕ) → leave_in (acts_in (acts_of_typed groups s buffer text)) ≡ None
+unfolding acts_of_typed
+typed-leaves groups s buffer text = line-stays groups (linked_in s (vars_at buffer groups)) (place_in (vars_at buffer groups)) (in_one_line text)
+
+pub unlinked-leaves : (groups : EntryGroups) (buffer : Handle) (text : List ℕ) → leave_in (acts_in (acts_of_unlinked groups buffer text)) ≡ None
+unfolding acts_of_unlinked
+unlinked-leaves groups buffer text = line-stays groups None (place_in (vars_at buffer groups)) (in_one_line text)

@@ -1,0 +1,180 @@
+-- What is done to servers, as the steps have it.
+use Rattle.std.proofs.Common.{◌≡◌, ℕ, ◌+◌, ◌<◌, ◌≤◌, ◌-◌, ◌^◌, Bool, true, false, List, [], ◌∷◌, ◌++◌, inl, Option, Some, None, refl, ap, sym, subst, ◌∙◌, ◌||◌, min, arith, append-nil}
+use Rattle.std.specs.Prelude.{map, flat_map}
+use Rattle.wc_text.specs.declared.names.Cause.{Cause}
+use Rattle.wc_outside.specs.Keyed.{at_key, put_at, without}
+use Rattle.wc_outside.proofs.KeyedLemmas.{at_key-key, put_at-same}
+use Rattle.wc_irc.specs.Servers.{ServerState}
+use Rattle.wc_board.specs.Connections.{unsent_on, leaving_on}
+use Rattle.wc_board.specs.Told.{Told}
+use Rattle.wc_servers.specs.Outs.{Out, SendsLine, Connects, Parts, quit_outs, ServersFollow}
+use Rattle.wc_servers.specs.Seats.{SeatView, ServersView, ServerSeat, seat_link, server_link, is_open, seat_of, open_of, open_in, open_if, links_of, AreApart, AreSeats, told, told_if, told_at, known, left_for, begun, ended, quitting, MayQuit}
+use Rattle.wc_servers.proofs.OutLemmas.{told-follows, known-follows, left-follows, begun-follows, open-at, open-put, open-left, open-push}
+use Rattle.wc_servers.proofs.QuitLemmas.{may_quit_open, may_quit_all, quit-follows}
+use Rattle.wc_servers.proofs.SeatLemmas.{above_all}
+use Rattle.wc_core.specs.CoreView.{CoreView}
+use Rattle.wc_core.specs.State.{State, Act, Serves, Quits, Stepped, has_end}
+use Rattle.wc_core.specs.Changing.{no_step}
+use Rattle.wc_core.specs.ServerSteps.{send_step, with_server, leave_server, quit_step}
+use Rattle.wc_core.specs.ServerTyped.{seat_step}
+use Rattle.wc_core.specs.Served.{state_of, sent_to, close_of, outs_of, Does}
+use Rattle.wc_core.specs.ServersKept.{LeaveInOrder, ServersKeep, left_after}
+use Rattle.wc_core.proofs.ComeLemmas.{come-put, order-put, left_one, come-left, order-left, come-begun, order-begun, come-quit, order-quit}
+use Rattle.wc_core.proofs.DidLemmas.{or-false, or-true, leaves-none, KeepsClients-connections, saves-as, FollowsUnlessStarved-exact, Does-stays, Does-starved}
+use Rattle.wc_core.proofs.ServerCloses.{out-closes}
+use Rattle.wc_core.proofs.ChainLemmas.{Does-as}
+
+-- ---- what goes out for servers alone
+
+out_bytes : (j : ℕ) (outs : List Out) (acts : List Act) → sent_to j acts ≡ [] → sent_to j (map Serves outs ++ acts) ≡ []
+out_bytes j [] acts e = e
+out_bytes j (out ∷ outs) acts e = out_bytes j outs acts e
+
+out_end : (outs : List Out) (acts : List Act) → has_end (map Serves outs ++ acts) ≡ has_end acts
+out_end [] acts = refl
+out_end (out ∷ outs) acts = out_end outs acts
+
+out_outs : (outs : List Out) (acts : List Act) → outs_of acts ≡ [] → outs_of (map Serves outs ++ acts) ≡ outs
+out_outs [] acts e = e
+out_outs (out ∷ outs) acts e = ap (λ l. out ∷ l) (out_outs outs acts e)
+
+-- the state that servers are kept by
+abbrev pub serving : State → ServersView → State
+serving state servers = record state { servers = open_of servers.seats; used = servers.used }
+
+-- other servers, and what goes out for them before these acts
+pub serves-by : (old : CoreView) (servers : ServersView) (quits : Bool) (outs : List Out) (acts : List Act) (step : State → Stepped)
+    → ((told : Told) → step (state_of old told) ≡ record { state = serving (state_of old told) servers; acts = map Serves outs ++ acts })
+    → ((j : ℕ) → sent_to j acts ≡ []) → ((j : ℕ) → close_of j acts ≡ None) → outs_of acts ≡ [] → quits ≡ (old.quits || has_end acts)
+    → ServersKeep old.servers servers → ServersFollow old.servers servers outs → LeaveInOrder old.servers servers outs → Does old (record old { servers = servers; quits = quits }) step
+serves-by old servers quits outs acts step is bytes closes none quit comes follows order = Does-as old new whole step (λ told. sym (is told)) (λ told.
+    FollowsUnlessStarved-exact told old new (whole (state_of old told)) (KeepsClients-connections old new refl (omega arith) (inl (refl, refl)) comes)
+    (λ distinct. leaves-none old (whole (state_of old told)) closing)
+    (λ distinct were. record {
+      means = record { same = refl; told = were };
+      bytes = λ j. sym (ap (λ t. unsent_on j old.connections ++ t) (out_bytes j outs acts (bytes j)) ∙ append-nil _);
+      leaving = leaves-none old (whole (state_of old told)) closing;
+      quits = quit ∙ ap (λ t. old.quits || t) (sym (out_end outs acts));
+      servers = (let P : List Out → Type 0 = λ outs. ServersFollow old.servers servers outs in subst P (sym (out_outs outs acts none)) follows);
+      parts = (let P : List Out → Type 0 = λ outs. LeaveInOrder old.servers servers outs in subst P (sym (out_outs outs acts none)) order);
+    })) where
+      new : CoreView
+      new = record old { servers = servers; quits = quits }
+
+      whole : State → Stepped
+      whole state = record { state = serving state servers; acts = map Serves outs ++ acts }
+
+      closing : (j : ℕ) → close_of j (map Serves outs ++ acts) ≡ None
+      closing j = out-closes j outs acts (closes j)
+
+pub serves : (old : CoreView) (servers : ServersView) (outs : List Out) (step : State → Stepped) → ((told : Told) → step (state_of old told) ≡ record { state = serving (state_of old told) servers; acts = map Serves outs ++ [] })
+    → ServersKeep old.servers servers → ServersFollow old.servers servers outs → LeaveInOrder old.servers servers outs → Does old (record old { servers = servers }) step
+serves old servers outs step is comes follows order = serves-by old servers old.quits outs [] step is (λ j. refl) (λ j. refl) refl (sym (or-false old.quits)) comes follows order
+
+-- ---- the server of a link
+
+-- an open one, as the state has it
+open_seat : (k : ℕ) (s : SeatView) (seats : List SeatView) → AreApart (links_of seats) → at_key seat_link k seats ≡ Some s → is_open s ≡ true → at_key server_link k (open_of seats) ≡ Some (seat_of s)
+open_seat k s seats apart at sits = open-at k seats apart ∙ ap open_in at ∙ ap (λ b. open_if b s) sits
+
+open-same : (k : ℕ) (s y : SeatView) (seats : List SeatView) → AreApart (links_of seats) → at_key seat_link k seats ≡ Some s → is_open s ≡ true → is_open y ≡ true → seat_of y ≡ seat_of s → open_of (put_at seat_link k y seats) ≡ open_of seats
+open-same k s y seats apart at sits stays same =
+    open-put k s y seats at sits stays ∙ ap (λ seat. put_at server_link k seat (open_of seats)) same ∙ put_at-same server_link k (open_of seats) (seat_of s) (open_seat k s seats apart at sits)
+
+-- a line that is sent
+pub sends-line : (old : CoreView) (k : ℕ) (line : List ℕ) → AreSeats old.servers
+    → Does old (record old { servers = record old.servers { seats = told_at k line old.servers.seats (at_key seat_link k old.servers.seats) } }) (λ state. send_step state k line (at_key server_link k state.servers))
+sends-line old k line are = by (at_key seat_link k old.servers.seats) refl where
+  seats : List SeatView
+  seats = old.servers.seats
+
+  Step : State → Option ServerSeat → Stepped
+  Step state o = send_step state k line o
+
+  nothing : at_key server_link k (open_of seats) ≡ None → Does old old (λ state. send_step state k line (at_key server_link k state.servers))
+  nothing none = Does-as old old no_step (λ state. send_step state k line (at_key server_link k state.servers)) (λ told. ap (Step (state_of old told)) (sym none)) (Does-stays old)
+
+  open-by : (s : SeatView) → at_key seat_link k seats ≡ Some s → (t : Bool) → is_open s ≡ t
+      → Does old (record old { servers = record old.servers { seats = told_if t k line seats s } }) (λ state. send_step state k line (at_key server_link k state.servers))
+  open-by s at false shut = nothing (open-at k seats are.apart ∙ ap open_in at ∙ ap (λ b. open_if b s) shut)
+  open-by s at true sits =
+      let y : SeatView = told line s in
+      let new : ServersView = record old.servers { seats = put_at seat_link k y seats } in
+      let stays : open_of new.seats ≡ open_of seats = open-same k s y seats are.apart at sits sits refl in
+      let F : Told → List ServerSeat → Stepped = λ told servers. record { state = record (state_of old told) { servers = servers }; acts = Serves (SendsLine k (ended line)) ∷ [] } in
+      serves old new (SendsLine k (ended line) ∷ []) (λ state. send_step state k line (at_key server_link k state.servers)) (λ told. ap (Step (state_of old told)) (open_seat k s seats are.apart at sits) ∙ ap (F told) (sym stays))
+      (come-put old.servers k s y at sits sits (at_key-key seat_link k seats s at)) (told-follows old.servers k s line at sits) (order-put old.servers k s y (SendsLine k (ended line) ∷ []) at sits sits refl)
+
+  by : (o : Option SeatView) → at_key seat_link k seats ≡ o → Does old (record old { servers = record old.servers { seats = told_at k line seats o } }) (λ state. send_step state k line (at_key server_link k state.servers))
+  by None at = nothing (open-at k seats are.apart ∙ ap open_in at)
+  by (Some s) at = open-by s at (is_open s) refl
+
+pub sends-to : (old : CoreView) (servers : ServersView) (k : ℕ) (said line : List ℕ) → AreSeats old.servers → said ≡ line → servers ≡ record old.servers { seats = told_at k said old.servers.seats (at_key seat_link k old.servers.seats) }
+    → Does old (record old { servers = servers }) (λ state. send_step state k line (at_key server_link k state.servers))
+sends-to old servers k said line are same e =
+    let P : ServersView → Type 0 = λ servers. Does old (record old { servers = servers }) (λ state. send_step state k said (at_key server_link k state.servers)) in
+    let Q : List ℕ → Type 0 = λ line. Does old (record old { servers = servers }) (λ state. send_step state k line (at_key server_link k state.servers)) in
+    subst Q same (subst P (sym e) (sends-line old k said are))
+
+-- another state of a server
+pub becomes : (old : CoreView) (k : ℕ) (s : SeatView) (server : ServerState) → AreSeats old.servers → at_key seat_link k old.servers.seats ≡ Some s → is_open s ≡ true
+    → Does old (record old { servers = record old.servers { seats = put_at seat_link k (known server s) old.servers.seats } }) (λ state. no_step (with_server state k server))
+becomes old k s server are at sits =
+    let seats = old.servers.seats in
+    let y : SeatView = known server s in
+    let new : ServersView = record old.servers { seats = put_at seat_link k y seats } in
+    let key : seat_link s ≡ k = at_key-key seat_link k seats s at in
+    let G : ℕ → ServerSeat = λ n. record { link = n; server = server } in
+    let now : open_of new.seats ≡ put_at server_link k (G k) (open_of seats) = open-put k s y seats at sits sits ∙ ap (λ n. put_at server_link k (G n) (open_of seats)) key in
+    let F : Told → List ServerSeat → Stepped = λ told servers. no_step (record (state_of old told) { servers = servers }) in
+    serves old new [] (λ state. no_step (with_server state k server)) (λ told. ap (F told) (sym now)) (come-put old.servers k s y at sits sits key) (known-follows old.servers k s server at sits) (order-put old.servers k s y [] at sits sits refl)
+
+-- it begins to leave, whatever its state is then
+pub leaves : (old : CoreView) (k : ℕ) (s : SeatView) (server : ServerState) (why : Cause) → AreSeats old.servers → at_key seat_link k old.servers.seats ≡ Some s → is_open s ≡ true → Does old (record old { servers = left_one old.servers k why server s }) (leave_server k why)
+leaves old k s server why are at sits =
+    let seats = old.servers.seats in
+    let y : SeatView = left_for why old.servers.left (known server s) in
+    let new : ServersView = left_one old.servers k why server s in
+    let key : seat_link s ≡ k = at_key-key seat_link k seats s at in
+    let now : open_of new.seats ≡ without server_link k (open_of seats) = open-left k s y seats are.apart at sits refl key in
+    let F : Told → List ServerSeat → Stepped = λ told servers. record { state = record (state_of old told) { servers = servers }; acts = Serves (Parts k why) ∷ [] } in
+    serves old new (Parts k why ∷ []) (leave_server k why) (λ told. ap (F told) (sym now)) (come-left old.servers k s server why at sits) (left-follows old.servers k s server why old.servers.left (left_after old.servers) at sits) (order-left old.servers k s server why at sits)
+
+-- a connection is begun
+pub seats : (old : CoreView) (server : ServerState) → AreSeats old.servers → old.servers.used < 2 ^ 62 → Does old (record old { servers = begun server old.servers }) (λ state. seat_step state server)
+seats old server are few =
+    let k = old.servers.used + 1 in
+    let now = open-push old.servers.seats k server in
+    let F : Told → List ServerSeat → Stepped = λ told servers. record { state = record (state_of old told) { servers = servers; used = k }; acts = Serves (Connects k server.address server.name) ∷ [] } in
+    serves old (begun server old.servers) (Connects k server.address server.name ∷ []) (λ state. seat_step state server) (λ told. ap (F told) (sym now)) (come-begun old.servers server few)
+    (begun-follows old.servers server (above_all old.servers.used k (links_of old.servers.seats) (omega arith) are.used)) (order-begun old.servers server)
+
+pub seats-to : (old : CoreView) (servers : ServersView) (server : ServerState) → AreSeats old.servers → old.servers.used < 2 ^ 62 → servers ≡ begun server old.servers → Does old (record old { servers = servers }) (λ state. seat_step state server)
+seats-to old servers server are few e =
+    let P : ServersView → Type 0 = λ servers. Does old (record old { servers = servers }) (λ state. seat_step state server) in
+    subst P (sym e) (seats old server are few)
+
+-- servers are told that the run ends
+pub quits : (old : CoreView) (servers : ServersView) → AreSeats old.servers → servers ≡ record old.servers { seats = map quitting old.servers.seats } → Does old (record old { servers = servers; quits = true }) quit_step
+quits old servers are e =
+    let whole : ServersView = record old.servers { seats = map quitting old.servers.seats } in
+    let outs = flat_map quit_outs (open_of old.servers.seats) in
+    let now : open_of whole.seats ≡ open_of old.servers.seats = may_quit_open old.servers.seats whole.seats (may_quit_all old.servers.seats) in
+    let F : Told → List ServerSeat → Stepped = λ told servers. record { state = record (state_of old told) { servers = servers }; acts = map Serves outs ++ Quits ∷ [] } in
+    let P : ServersView → Type 0 = λ servers. Does old (record old { servers = servers; quits = true }) quit_step in
+    subst P (sym e)
+    (serves-by old whole true outs (Quits ∷ []) quit_step (λ told. ap (F told) (sym now)) (λ j. refl) (λ j. refl) refl (sym (or-true old.quits)) (come-quit old.servers whole.seats (may_quit_all old.servers.seats)) (quit-follows old.servers are.apart) (order-quit old.servers whole.seats (may_quit_all old.servers.seats)))
+
+-- not all of them are, since memory was refused
+pub quits-starved : (old new : CoreView) (servers : ServersView) → MayQuit old.servers.seats servers.seats → servers ≡ record old.servers { seats = servers.seats } → new ≡ record old { servers = servers; quits = true; starved = min (old.starved + 1) (2 ^ 64 - 1) } → old.starved ≤ new.starved
+    → Does old new quit_step
+quits-starved old new servers m e counts rises =
+    let all : ServersView = record old.servers { seats = servers.seats } in
+    let same : new.servers ≡ all = ap (λ (core : CoreView). core.servers) counts ∙ e in
+    let count : new.starved ≡ min (old.starved + 1) (2 ^ 64 - 1) = ap (λ (core : CoreView). core.starved) counts in
+    let P : ServersView → Type 0 = λ servers. ServersKeep old.servers servers in
+    Does-starved old new quit_step (record {
+      keeps = KeepsClients-connections old new (ap (λ (core : CoreView). core.connections) counts) rises (saves-as old new (record old { servers = servers; quits = true; starved = min (old.starved + 1) (2 ^ 64 - 1) }) counts refl refl) (subst P (sym same) (come-quit old.servers servers.seats m));
+      causes = λ distinct j. inl (ap (λ (core : CoreView). leaving_on j core.connections) counts);
+      counted = λ below. omega (arith, count, below);
+    })

@@ -1,0 +1,9 @@
+use Rattle.wc_core.proofs.ServerLemmas.{sends-to}
+use Rattle.wc_core.proofs.ServedLemmas.{sends-shut}
+use Rattle.wc_core.proofs.core_state.Core.send.Goals as goal
+
+pub returns-in-Ok-clause-does : goal.returns-in-Ok-clause-does
+returns-in-Ok-clause-does c = rw (← c.self.view_is) (sends-to _ c.tell.new.self c.args.link.0 c.as_slice.result.now c.args.line.now c.seats-seats.ensures.apart c.as_slice.ensures c.in-Ok.ensures.told)
+
+pub returns-in-Ok-clause-shut : goal.returns-in-Ok-clause-shut
+returns-in-Ok-clause-shut c = rw (← c.self.view_is) (λ shut. sends-shut _ c.tell.new.self c.args.link.0 c.as_slice.result.now c.in-Ok.ensures.told shut)

@@ -1,0 +1,132 @@
+-- What changes, pushes and options come to.
+use Rattle.std.specs.Prelude.{ℕ, List, [], ◌++◌, map, Option, Some, None}
+use Rattle.std.specs.List.{flat_map}
+use Rattle.wc_text.specs.declared.names.Handle.{Handle}
+use Rattle.wc_nickdiff.specs.declared.diff_item.Push.{Push}
+use Rattle.wc_nickdiff.specs.NickPush.{nick_push}
+use Rattle.wc_model.specs.declared.change.Change.{Change}
+use Rattle.wc_model.specs.declared.notice.Notice.{Notice}
+use Rattle.wc_model.specs.declared.refused.ChangeRefused.{ChangeRefused}
+use Rattle.wc_model.specs.World.{World, rows_at, root_at}
+use Rattle.wc_model.specs.Order.{order}
+use Rattle.wc_model.specs.Apply.{refusal, after}
+use Rattle.wc_model.specs.Notices.{notice}
+use Rattle.wc_model.specs.Touches.{told_after}
+use Rattle.wc_objects.specs.declared.object.WireMessage.{WireMessage}
+use Rattle.wc_options.specs.Config.{config_text}
+use Rattle.wc_options.specs.Options.{refusal_of, value_of, with_value, without_value}
+use Rattle.wc_options.specs.declared.refusal.SetRefused.{SetRefused}
+use Rattle.wc_options.specs.declared.refusal.SetRefused.TheVariants.{UnknownOption}
+use Rattle.wc_session.specs.declared.client.Client.{Client}
+use Rattle.wc_session.specs.Event.{notice_told, push_told}
+use Rattle.wc_session.specs.Sync.{after_event}
+use Rattle.wc_core.specs.Resolved.{refusal_text, option_text, told_refusal}
+use Rattle.wc_core.specs.State.{State, Act, Sends, Stepped, told_at}
+use Rattle.wc_board.specs.Told.{Told}
+
+abbrev pub client_link : Client → ℕ
+client_link client = client.link.0
+
+abbrev pub core_buffer : Handle
+core_buffer = record { 0 = 1 }
+
+abbrev pub no_step : State → Stepped
+no_step state = record { state = state; acts = [] }
+
+abbrev pub then_does : Stepped → (State → Stepped) → Stepped
+then_does first others = record {
+  state = (others first.state).state;
+  acts = first.acts
+      ++ (others first.state).acts;
+}
+
+-- messages for the client of a link
+abbrev pub sends : ℕ → List WireMessage → List Act
+sends link messages = map (Sends link) messages
+
+-- ---- changes
+
+abbrev pub told_to : World → Notice → Client → List Act
+told_to world notice client = sends (client_link client) (notice_told world notice client)
+
+-- the world after a change of which this is noticed, the rows that then were last pushed, and what
+-- each client is told
+abbrev pub tell_all_step : State → Told → World → Notice → Stepped
+tell_all_step state told world notice = record {
+  state = record state {
+    world = world;
+    told = told;
+    clients = map (after_event notice.kind notice.buffer.0) state.clients;
+  };
+  acts = flat_map (told_to world notice) state.clients;
+}
+
+-- an accepted change
+abbrev pub change_step : State → Change → Stepped
+change_step state change = tell_all_step state
+    (told_after state.world change.buffer change.what state.told) (after state.world change)
+    (notice state.world change)
+
+abbrev pub change_step_if : State → Change → Option ChangeRefused → Stepped
+change_step_if state change None = change_step state change
+change_step_if state change (Some reason) = no_step state
+
+-- a refusal is told by a line of the core buffer, where there are handles for it
+abbrev pub refusal_step : State → List ℕ → Stepped
+refusal_step state text = change_step_if state (told_refusal state.moment text)
+    (refusal state.world (told_refusal state.moment text))
+
+-- a change, or why it is refused
+abbrev pub ask_step_if : State → Change → Option ChangeRefused → Stepped
+ask_step_if state change None = change_step state change
+ask_step_if state change (Some reason) = refusal_step state (refusal_text reason)
+
+abbrev pub ask_step : State → Change → Stepped
+ask_step state change = ask_step_if state change (refusal state.world change)
+
+-- ---- pushes of nicklists
+
+abbrev pub pushed_to : Handle → Push → Client → List Act
+pushed_to buffer push client = sends (client_link client) (push_told buffer push client)
+
+-- what became of the nicklist of a buffer since it was last pushed
+abbrev pub push_at : State → ℕ → Push
+push_at state buffer = nick_push (root_at buffer) (told_at state buffer)
+    (rows_at state.world buffer)
+
+abbrev pub pushes_of : State → ℕ → List Act
+pushes_of state buffer = flat_map (pushed_to (record { 0 = buffer }) (push_at state buffer))
+    state.clients
+
+-- what became of each nicklist is pushed to each client that asked for it, in the order of buffers
+abbrev pub push_step : State → Stepped
+push_step state = record {
+  state = record state { told = state.world.nicks };
+  acts = flat_map (pushes_of state) (order state.world.groups);
+}
+
+-- ---- options
+
+-- an option gets a value, or why it does not is told
+abbrev pub set_step_if : State → List ℕ → List ℕ → Option SetRefused → Stepped
+set_step_if state name value None = no_step (record state {
+  options = with_value state.options name value;
+})
+set_step_if state name value (Some reason) = refusal_step state (option_text name reason)
+
+abbrev pub set_step : State → List ℕ → List ℕ → Stepped
+set_step state name value = set_step_if state name value (refusal_of state.options name value)
+
+-- an option gets its default, where there is such an option
+abbrev pub unset_step_if : State → List ℕ → Option (List ℕ) → Stepped
+unset_step_if state name None = refusal_step state (option_text name UnknownOption)
+unset_step_if state name (Some value) = no_step (record state {
+  options = without_value state.options name;
+})
+
+abbrev pub unset_step : State → List ℕ → Stepped
+unset_step state name = unset_step_if state name (value_of state.options name)
+
+-- the options are saved as the text of their file
+abbrev pub save_step : State → Stepped
+save_step state = no_step (record state { saved = Some (config_text state.options) })

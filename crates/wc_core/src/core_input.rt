@@ -1,0 +1,176 @@
+//! What is typed into buffers, line by line.
+
+ghost use Rattle.std.specs.Prelude.{◌≡◌, true, false, None, IfSome};
+ghost use Rattle.std.specs.Str.{IsUtf8};
+ghost use Rattle.wc_buffers.specs.Calls.{is_there};
+ghost use Rattle.wc_world.specs.Texts.{IsChangeText};
+ghost use Rattle.wc_core.specs.Typed.{typed_line, lines_of_text};
+ghost use Rattle.wc_core.specs.Step.{refusal_step, ask_step, typed_step, input_step, is_quit};
+ghost use Rattle.wc_core.specs.Step.{lines_step};
+ghost use Rattle.wc_core.specs.Texts.{WhatUtf8};
+ghost use Rattle.wc_core.specs.Served.{Does, ChangesBuffers};
+ghost use Rattle.wc_core.specs.Inputs.{MakesChange, RefusesChange, GoesOn, Stops};
+
+use crate::core_state::Core;
+use crate::refusals::refusal_text;
+use crate::resolve::{Resolution, resolve, told_refusal};
+use crate::typed::{other_in, read_typed};
+use wc_model::{Change, ChangeRefused};
+use wc_text::{Handle, NoMemory, Text, split_once};
+
+impl Core {
+    /// Runs a text that is typed into a buffer, line by line. After a `/quit` nothing is run, nor
+    /// once the buffer is closed, nor where memory was refused.
+    pub(crate) fn run_lines(&mut self, buffer: Handle, text: &[u8])
+        requires { IsUtf8 text.now }
+        ensures { Does self.old self.new
+            (λ state. lines_step state buffer (lines_of_text text.now)) }
+    {
+        let mut left = Some(text);
+        while let Some(rest) = left {
+            let (line, following) = split_once(rest, b'\n');
+            if !self.has_buffer(buffer) {
+                return;
+            }
+            if self.run_line(buffer, line) {
+                return;
+            }
+            left = following;
+        }
+    }
+
+    fn has_buffer(&self, buffer: Handle) -> bool
+        ensures { result ≡ is_there buffer self.now.world.groups }
+    {
+        match self.board.world().buffers().get(buffer) {
+            Some(_) => true,
+            None => false,
+        }
+    }
+
+    /// Runs a line that is typed into a buffer that is there. It answers whether what is after the
+    /// line is skipped.
+    fn run_line(&mut self, buffer: Handle, line: &[u8]) -> bool
+        requires { IsUtf8 line.now }
+        ensures goes_on { result ≡ false → GoesOn self.old self.new buffer line.now }
+        ensures stops { result ≡ true → Stops self.old self.new buffer line.now }
+    {
+        let starved = self.starved;
+        if self.input(buffer, line) {
+            return true;
+        }
+        self.starved != starved
+    }
+
+    /// Does what a line asks for that is typed into a buffer. It answers whether the run is to end.
+    fn input(&mut self, buffer: Handle, line: &[u8]) -> bool
+        requires { IsUtf8 line.now }
+        ensures does { Does self.old self.new (λ state. input_step state buffer line.now) }
+        ensures quits { result ≡ is_quit (typed_line line.now) }
+    {
+        match other_in(line) {
+            Some((front, name)) => {
+                self.serve_line(buffer, line, front, name);
+                false
+            }
+            None => self.do_line(buffer, line),
+        }
+    }
+
+    /// Does what a line asks for that is typed into a buffer, by what the core knows by itself. It
+    /// answers whether the run is to end.
+    fn do_line(&mut self, buffer: Handle, line: &[u8]) -> bool
+        requires { IsUtf8 line.now }
+        ensures does { Does self.old self.new
+            (λ state. typed_step state buffer (typed_line line.now)) }
+        ensures quits { result ≡ is_quit (typed_line line.now) }
+    {
+        let _texts = self.board.world().buffers().groups();
+        let asked = read_typed(line);
+        match resolve(self.alloc, self.board.world(), self.moment, buffer, asked) {
+            Ok(Resolution::Stays) => false,
+            Ok(Resolution::Ends) => {
+                self.quit();
+                true
+            }
+            Ok(Resolution::Tells(text)) => {
+                self.tell_refusal(text);
+                false
+            }
+            Ok(Resolution::Asks(change)) => {
+                self.ask_after_part(change);
+                false
+            }
+            Ok(Resolution::SetsOption(pair)) => {
+                self.set_option(&pair);
+                false
+            }
+            Ok(Resolution::UnsetsOption(name)) => {
+                self.unset_option(&name);
+                false
+            }
+            Ok(Resolution::SavesOptions) => {
+                self.save();
+                false
+            }
+            Err(NoMemory) => {
+                self.starve();
+                false
+            }
+        }
+    }
+
+    /// Makes a change, or tells why it is refused.
+    pub(crate) fn ask_change(&mut self, change: Change)
+        requires { WhatUtf8 change.what }
+        ensures does { Does self.old self.new (λ state. ask_step state change) }
+        ensures stays { ChangesBuffers self.old self.new }
+    {
+        let Some(reason) = self.change(change) else {
+            return;
+        };
+        match refusal_text(self.alloc, &reason) {
+            Ok(text) => self.tell_refusal(text),
+            Err(NoMemory) => self.starve(),
+        }
+    }
+
+    /// Tells a refusal by a line of the core buffer, where there are handles for it.
+    pub(crate) fn tell_refusal(&mut self, text: Text)
+        requires { IsUtf8 text }
+        ensures does { Does self.old self.new (λ state. refusal_step state text) }
+        ensures stays { ChangesBuffers self.old self.new }
+    {
+        match told_refusal(self.alloc, self.moment, text) {
+            Ok(line) => {
+                let _skipped = self.change(line);
+            }
+            Err(NoMemory) => self.starve(),
+        }
+    }
+
+    /// Makes a change, and tells it to each client that asked for its event. It answers why the
+    /// change is refused, and nothing where it is made or memory was refused.
+    pub(crate) fn change(&mut self, change: Change) -> Option<ChangeRefused>
+        requires { IsChangeText change.what }
+        ensures made { result ≡ None → MakesChange self.old change self.new }
+        ensures refused { IfSome result (λ reason. RefusesChange self.old change reason self.new) }
+        ensures stays { ChangesBuffers self.old self.new }
+    {
+        let _before = self.board.world();
+        match self.board.tell(change) {
+            Ok(told) => {
+                let _after = self.board.world().buffers().groups();
+                if !told.to_all {
+                    self.starve();
+                }
+                None
+            }
+            Err(ChangeRefused::NoMemory) => {
+                self.starve();
+                None
+            }
+            Err(reason) => Some(reason),
+        }
+    }
+}

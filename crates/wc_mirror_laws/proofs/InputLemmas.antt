@@ -1,0 +1,109 @@
+-- What is typed reaches the client that follows.
+use Rattle.std.proofs.Common.{ℕ, Bool, true, false, cond, not, List, [], ◌∷◌, Option, Some, None, refl, IsUtf8}
+use Rattle.std.specs.List.{AllByRecursion}
+use Rattle.wc_text.specs.declared.names.Handle.{Handle}
+use Rattle.wc_text.specs.Splits.{BeginsWithout}
+use Rattle.wc_buffers.specs.Calls.{is_there}
+use Rattle.wc_model.specs.declared.change.Change.{Change}
+use Rattle.wc_options.specs.Options.{OptionsValue, refusal_of, value_of, with_value, without_value}
+use Rattle.wc_options.specs.declared.refusal.SetRefused.{SetRefused}
+use Rattle.wc_options.specs.declared.refusal.SetRefused.TheVariants.{UnknownOption}
+use Rattle.wc_core.specs.Resolved.{Effect, Stays, Ends as ResolvedEnds, Tells as TellsRefusal, Asks, SetsOption, UnsetsOption, SavesOptions, effect_of, option_text}
+use Rattle.wc_core.specs.State.{State, Stepped, has_end}
+use Rattle.wc_core.specs.Step.{no_step, then_does, set_step_if, unset_step_if, ask_step, effect_step, other_of, input_by, input_step, is_quit, lines_step, core_buffer, commands_step, start_step}
+use Rattle.wc_core.specs.ServerSteps.{before_step}
+use Rattle.wc_core.specs.ServerTyped.{connect_all_step}
+use Rattle.wc_core.specs.Typed.{typed_line, lines_of_text}
+use Rattle.wc_mirror_laws.specs.Changes.{IsTold}
+use Rattle.wc_mirror_laws.specs.Held.{HeldPart}
+use Rattle.wc_mirror_laws.specs.Kept.{IsStateKept}
+use Rattle.wc_mirror_laws.proofs.ChangeLemmas.{Tells, Tells-stays, Tells-then, Tells-tells, Tells-asks}
+use Rattle.wc_mirror_laws.proofs.ServedLemmas.{Tells-all, Tells-serves}
+use Rattle.wc_mirror_laws.proofs.ServerLemmas.{Tells-before, Tells-quits}
+use Rattle.wc_mirror_laws.proofs.TypedLemmas.{OnAsks, parted_text, typed_text, resolved_told}
+
+-- the options have no part in what is held
+Tells-options : (which : HeldPart) (limit link : ℕ) (id : List ℕ) (state : State) (options : OptionsValue) → IsStateKept limit link state → Tells which limit link id state (no_step (record state { options = options }))
+Tells-options which limit link id state options kept = record { following = refl; kept = record { most = kept.most; world = kept.world; told = kept.told; texts = kept.texts; first = kept.first }; spelt = tt; right = λ follows part had. had }
+
+-- a change, before which the channel of a buffer that is closed is left
+Tells-changed : (which : HeldPart) (limit link : ℕ) (id : List ℕ) (state : State) (change : Change) → BeginsWithout 95 id → IsStateKept limit link state → IsTold change.what
+    → Tells which limit link id state (then_does (before_step state change) (λ next. ask_step next change))
+Tells-changed which limit link id state change free kept told =
+    let first = Tells-before which limit link id free state change kept in
+    Tells-then which limit link id state (before_step state change) (λ next. ask_step next change) first (Tells-asks which limit link id (before_step state change).state change free first.kept told)
+
+Tells-sets : (which : HeldPart) (limit link : ℕ) (id : List ℕ) (state : State) (name value : List ℕ) (o : Option SetRefused) → BeginsWithout 95 id → IsStateKept limit link state → Tells which limit link id state (set_step_if state name value o)
+Tells-sets which limit link id state name value None free kept = Tells-options which limit link id state (with_value state.options name value) kept
+Tells-sets which limit link id state name value (Some reason) free kept = Tells-tells which limit link id state (option_text name reason) free kept
+
+Tells-unsets : (which : HeldPart) (limit link : ℕ) (id : List ℕ) (state : State) (name : List ℕ) (o : Option (List ℕ)) → BeginsWithout 95 id → IsStateKept limit link state → Tells which limit link id state (unset_step_if state name o)
+Tells-unsets which limit link id state name None free kept = Tells-tells which limit link id state (option_text name UnknownOption) free kept
+Tells-unsets which limit link id state name (Some value) free kept = Tells-options which limit link id state (without_value state.options name) kept
+
+Tells-resolved : (which : HeldPart) (limit link : ℕ) (id : List ℕ) (state : State) (r : Effect) → BeginsWithout 95 id → IsStateKept limit link state → OnAsks r → Tells which limit link id state (effect_step state r)
+Tells-resolved which limit link id state Stays free kept told = Tells-stays which limit link id state kept
+Tells-resolved which limit link id state ResolvedEnds free kept told = Tells-quits which limit link id free state kept
+Tells-resolved which limit link id state (TellsRefusal text) free kept told = Tells-tells which limit link id state text free kept
+Tells-resolved which limit link id state (Asks change) free kept told = Tells-changed which limit link id state change free kept told
+Tells-resolved which limit link id state (SetsOption name value) free kept told = Tells-sets which limit link id state name value (refusal_of state.options name value) free kept
+Tells-resolved which limit link id state (UnsetsOption name) free kept told = Tells-unsets which limit link id state name (value_of state.options name) free kept
+Tells-resolved which limit link id state SavesOptions free kept told = record { following = refl; kept = record { most = kept.most; world = kept.world; told = kept.told; texts = kept.texts; first = kept.first }; spelt = tt; right = λ follows part had. had }
+
+Tells-does : (which : HeldPart) (limit link : ℕ) (id : List ℕ) (state : State) (buffer : Handle) (line : List ℕ) → BeginsWithout 95 id → IsStateKept limit link state → IsUtf8 line
+    → Tells which limit link id state (input_step state buffer line)
+Tells-does which limit link id state buffer line free kept utf8 = by (other_of (typed_line line)) where
+  by : (o : Option (List ℕ)) → Tells which limit link id state (input_by state buffer line o)
+  by None =
+      Tells-resolved which limit link id state (effect_of state.world state.moment buffer (typed_line line)) free kept
+      (resolved_told limit state.world state.moment buffer (typed_line line) kept.world (typed_text line utf8))
+  by (Some text) = Tells-serves which limit link id free state buffer line text kept
+
+pub Tells-runs : (which : HeldPart) (limit link : ℕ) (id : List ℕ) (state : State) (buffer : Handle) (lines : List (List ℕ)) → BeginsWithout 95 id → IsStateKept limit link state → AllByRecursion IsUtf8 lines
+    → Tells which limit link id state (lines_step state buffer lines)
+Tells-runs which limit link id state buffer [] free kept utf8 = Tells-stays which limit link id state kept
+Tells-runs which limit link id state buffer (line ∷ lines) free kept utf8 =
+    by (not (is_there buffer state.world.groups)) (is_quit (typed_line line)) (Tells-does which limit link id state buffer line free kept utf8.0)
+    (λ next k. Tells-runs which limit link id next buffer lines free k utf8.1)
+  where
+    one : Stepped
+    one = input_step state buffer line
+
+    by : (gone quits : Bool) → Tells which limit link id state one → ((next : State) → IsStateKept limit link next → Tells which limit link id next (lines_step next buffer lines))
+        → Tells which limit link id state (cond gone (no_step state) (cond quits one (then_does one (λ next. lines_step next buffer lines))))
+    by true quits first others = Tells-stays which limit link id state kept
+    by false true first others = first
+    by false false first others = Tells-then which limit link id state one (λ next. lines_step next buffer lines) first (others one.state first.kept)
+
+-- the commands of the start
+pub Tells-commands : (which : HeldPart) (limit link : ℕ) (id : List ℕ) (state : State) (commands : List (List ℕ)) → BeginsWithout 95 id → IsStateKept limit link state → AllByRecursion IsUtf8 commands
+    → Tells which limit link id state (commands_step state commands)
+Tells-commands which limit link id state [] free kept utf8 = Tells-stays which limit link id state kept
+Tells-commands which limit link id state (command ∷ commands) free kept utf8 =
+    by (has_end one.acts) (Tells-runs which limit link id state core_buffer (lines_of_text command) free kept (parted_text command utf8.0))
+    (λ next k. Tells-commands which limit link id next commands free k utf8.1)
+  where
+    one : Stepped
+    one = lines_step state core_buffer (lines_of_text command)
+
+    by : (quits : Bool) → Tells which limit link id state one → ((next : State) → IsStateKept limit link next → Tells which limit link id next (commands_step next commands))
+        → Tells which limit link id state (cond quits one (then_does one (λ next. commands_step next commands)))
+    by true first others = first
+    by false first others = Tells-then which limit link id state one (λ next. commands_step next commands) first (others one.state first.kept)
+
+-- the state in which the commands of the start are run
+abbrev pub opened_at : State → ℕ → State
+opened_at state moment = record state { moment = moment; commands = [] }
+
+-- and after them the servers that are connected by themselves
+pub Tells-start : (which : HeldPart) (limit link : ℕ) (id : List ℕ) (state : State) (moment : ℕ) → BeginsWithout 95 id → IsStateKept limit link state
+    → Tells which limit link id (opened_at state moment) (start_step (opened_at state moment) state.commands)
+Tells-start which limit link id state moment free kept =
+    by (has_end one.acts) (Tells-commands which limit link id (opened_at state moment) state.commands free (record { most = kept.most; world = kept.world; told = kept.told; texts = tt; first = kept.first }) kept.texts)
+  where
+    one : Stepped
+    one = commands_step (opened_at state moment) state.commands
+
+    by : (quits : Bool) → Tells which limit link id (opened_at state moment) one → Tells which limit link id (opened_at state moment) (cond quits one (then_does one connect_all_step))
+    by true first = first
+    by false first = Tells-then which limit link id (opened_at state moment) one connect_all_step first (Tells-all which limit link id free one.state first.kept)

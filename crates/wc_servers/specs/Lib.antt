@@ -1,0 +1,4 @@
+pub mod Lost
+pub mod Outs
+pub mod Seats
+pub mod Texts
