@@ -165,6 +165,7 @@ impl Core {
         ensures stays { ChangesBuffers self.old self.new }
     {
         if !is_change_text(&change.what) {
+            drop(change);
             return;
         }
         if tells {

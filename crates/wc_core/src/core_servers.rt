@@ -94,6 +94,7 @@ impl Core {
         let starved = self.starved;
         self.part_before(&change);
         if self.starved != starved {
+            drop(change);
             return;
         }
         self.ask_change(change);

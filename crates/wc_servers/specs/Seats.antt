@@ -105,7 +105,7 @@ abbrev pub before_or : SeatView → Option SeatView → Option SeatView
 before_or seat None = Some seat
 before_or seat (Some other) = if nat_lt other.rank seat.rank then Some other else Some seat
 
--- the one of two that began to leave first; the other one is behind it in the list
+-- the one of two that began to leave first; the other one comes after it in the list
 abbrev pub earlier_of : Option SeatView → SeatView → SeatView
 earlier_of None seat = seat
 earlier_of (Some first) seat = if nat_le first.rank seat.rank then first else seat

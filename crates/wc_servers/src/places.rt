@@ -155,7 +155,7 @@ pub(crate) fn first_leaving(seats: &[Seat]) -> Option<&Seat>
     first
 }
 
-/// The one that began to leave first, where the other one is behind it in the list.
+/// The one that began to leave first, where the other one comes after it in the list.
 fn earlier<'a>(first: Option<&'a Seat>, seat: &'a Seat) -> &'a Seat
     ensures { result.now ≡ earlier_of (option_copied first.entry) seat.now }
 {

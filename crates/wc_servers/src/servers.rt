@@ -112,12 +112,8 @@ impl Servers {
         }) }
         ensures unchanged { OnErr result (self.new ≡ self.old) }
     {
-        if self.seats.reserve(1).is_err() || self.wanted.reserve(1).is_err() {
-            return Err(NoMemory);
-        }
         let seat = Seat::new(self.alloc, link, server);
-        self.seats.push_reserved(seat);
-        self.wanted.push_reserved(wanted);
+        push_both(&mut self.seats, &mut self.wanted, seat, wanted)?;
         self.used = link.0;
         Ok(())
     }
@@ -153,6 +149,26 @@ impl Servers {
     {
         named(&self.seats, name)
     }
+}
+
+/// Puts a server and what is wanted for it after the others. Where memory is refused neither is put.
+fn push_both(
+    seats: &mut Vec<Seat>,
+    wanted: &mut Vec<Wanted>,
+    seat: Seat,
+    one: Wanted,
+) -> Result<(), NoMemory>
+    ensures seats { OnOk result (seats.new.items ≡ seats.old.items ++ seat ∷ []) }
+    ensures wanted { OnOk result (wanted.new.items ≡ wanted.old.items ++ one ∷ []) }
+    ensures unchanged { OnErr result (seats.new.items ≡ seats.old.items) }
+    ensures unwanted { OnErr result (wanted.new.items ≡ wanted.old.items) }
+{
+    if seats.reserve(1).is_err() || wanted.reserve(1).is_err() {
+        return Err(NoMemory);
+    }
+    seats.push_reserved(seat);
+    wanted.push_reserved(one);
+    Ok(())
 }
 
 /// The server of a name, where it is not leaving.

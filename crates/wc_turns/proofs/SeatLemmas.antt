@@ -92,7 +92,7 @@ absent-seat j (x ∷ xs) a = absent-by (eqb x.link j) refl (absent-seat j xs a.1
     absent-by true q none = absurd (a.0 (grind (arith, nat_tests)))
     absent-by false q none = none
 
--- the first server with a link is behind another one with another link
+-- the first server with a link comes after another one with another link
 seat-behind : (k : ℕ) (seat : SeatView) (seats : List SeatView) (cause : Cause) → NotAmong seat.link (links_of seats) → leaving_on k seats ≡ Some cause → leaving_on k (seat ∷ seats) ≡ Some cause
 seat-behind k seat seats cause absent e = behind-by (eqb seat.link k) refl
   where

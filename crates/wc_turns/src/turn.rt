@@ -62,11 +62,11 @@ impl Headless {
     /// One turn: a wait, and what follows from it. Sources that are ready are read, each link up to
     /// 1,048,576 bytes, at most 1,024 arrivals are taken, and then unsent bytes are written. A
     /// connection is asked whether it stands before it is read. The connections that the core wants
-    /// are asked for behind each event that may want one, and those that were refused before the
-    /// wait are lost first. The
-    /// wait does not block where a source was left undrained, and else for 100 ms at most. Where
-    /// `/quit` is run, nothing more is read, and what is unsent is written once. At its end the text
-    /// that `/save` saved last, if it was run, takes the place of what the keeper holds.
+    /// are asked for after each event that may want one, and those that were refused before the
+    /// wait are lost first. The wait does not block where a source was left undrained, and else for
+    /// 100 ms at most. Where `/quit` is run, nothing more is read, and what is unsent is written
+    /// once. At its end the text that `/save` saved last, if it was run, takes the place of what the
+    /// keeper holds.
     ///
     /// The sockets are those that this state was made with, `/quit` was not run, and what was saved
     /// before is written.
