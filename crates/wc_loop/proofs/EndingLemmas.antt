@@ -4,7 +4,7 @@ use Rattle.std.proofs.lemmas.Bool.{false≢true}
 use Rattle.std.proofs.lemmas.Bool.Decides.{nat_tests}
 use Rattle.std.proofs.lemmas.List.{length-append}
 use Rattle.wc_text.specs.declared.names.Address.{Address}
-use Rattle.wc_outside.specs.Faults.{Rose}
+use Rattle.wc_outside.specs.Faults.{Rose, NeverFall}
 use Rattle.wc_outside.specs.Seen.{Seen}
 use Rattle.wc_outside.specs.declared.happening.Asked.TheVariants.{Listen, Connect}
 use Rattle.wc_turns.specs.declared.headless.Headless.{Headless}
@@ -22,7 +22,8 @@ use Rattle.wc_turns.specs.Turns.{wake_count, listen_faults, faults_then}
 use Rattle.wc_loop.specs.Headline.{Headline, IsConfigured}
 use Rattle.wc_loop.specs.Words.{Opening}
 use Rattle.wc_turns.specs.Saves.{held_by, SavesTurn}
-use Rattle.wc_loop.specs.Endings.{KeepsText, HoldsEarlier, HoldsSaved, FailsToSave, saved_in, status_of, asked_in, IsPort, kept_of, LastOf, WaitsAtMost, HasQuit, EndsAt, IsEarly, IsLastState, Runs}
+use Rattle.wc_turns.proofs.TurnLemmas.{NeverFall-trans}
+use Rattle.wc_loop.specs.Endings.{KeepsText, HoldsEarlier, HoldsSaved, FailsToSave, ClosesLast, LastTurn, saved_in, status_of, asked_in, IsPort, kept_of, LastOf, WaitsAtMost, HasQuit, EndsAt, IsEarly, IsLastState, Runs}
 use Rattle.wc_loop.proofs.HeadlineLemmas.{IfSome-last}
 
 kept_of-some : (h : Headless) → 1 ≤ h.turns → kept_of h ≡ Some h
@@ -112,6 +113,19 @@ held-earlier opening contents mid kept x h before after none same f headline = r
   holds = f.saves contents (λ here. same ∙ ap (λ o. held_by o contents) (sym none));
 }
 
+-- why the last turn closed links
+pub closes-last : (opening : Opening) (contents : Option (List ℕ)) (x h : Headless) (start before after : Seen) → NeverFall start.faults before.faults → (f : LastTurn x h before after) → Headline opening contents f.seen f.earlier → ClosesLast opening contents start after h
+closes-last opening contents x h start before after counts f headline = record {
+  earlier = f.earlier;
+  seen = f.seen;
+  end = f.end;
+  headline = headline;
+  counts = NeverFall-trans start.faults before.faults f.seen.faults counts f.until.counts;
+  agrees = f.agrees;
+  turn = f.turn;
+  causes = f.causes;
+}
+
 -- however the run ended
 pub held-saved : (opening : Opening) (contents kept : Option (List ℕ)) (after : Seen) (status : ℕ) (last : Option Headless) → (status ≢ 3 → KeepsText contents kept last) → (status ≡ 3 → IfSome last (HoldsEarlier opening contents kept after)) → (last ≡ None → kept ≡ contents) → HoldsSaved opening contents kept after last
 held-saved opening contents kept after status None text earlier same = same refl
@@ -141,7 +155,7 @@ module _ (opening : Opening) where
     pub asked : IsTrue after.tells → Listened contents h.turns after.asked
     pub served : then ≡ GoOn → AllServed h.core before after
     pub sent : then ≡ Quit → AllSent h.core before after
-    pub left : 1 ≤ h.turns → IsLastState opening contents after h
+    pub left : 1 ≤ h.turns → IsLastState opening contents before after h
 
   at-most : (turns : ℕ) (after : Seen) (h : Headless) → h.turns ≤ turns → (IsTrue after.tells → wake_count after.taken ≡ h.turns) → WaitsAtMost turns after (kept_of h)
   at-most turns after h most woke = record { counted = IfSome-last (kept_of h) h _ refl (λ above. most); told = λ t. (let w = woke t in omega arith) }

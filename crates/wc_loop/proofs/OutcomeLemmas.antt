@@ -42,7 +42,7 @@ module _ (opening : Opening) where
     pub shown : shown_at ending ≡ shown_by wish
     pub saving : status_of ending ≡ 3 → is_unsaved ending ≡ is_some last
     pub counted : LastOf after last
-    pub left : IfSome last (IsLastState opening contents after)
+    pub left : IfSome last (IsLastState opening contents before after)
     pub served : status_of ending ≡ 8 → IfSome last (λ last. AllServed last.core before after)
     pub sent : status_of ending ≡ 0 → IfSome last (λ last. AllSent last.core before after)
     pub faults : HasCause before.faults after.faults k k' (status_of ending)
@@ -89,21 +89,21 @@ module _ (opening : Opening) where
   untouched (Err n) contents k k' before after ending last r e = r.seen
   untouched (Ok wish) contents k k' before after ending last r e = untouched_for wish.shows wish.turns contents k k' before after ending last e r
 
-  pub IfSome-headline : (last : Option Headless) (contents : Option (List ℕ)) (after : Seen) → IfSome last (IsLastState opening contents after) → IfSome last (Headline opening contents after)
-  IfSome-headline None contents after left = tt
-  IfSome-headline (Some last) contents after left = left.headline
+  pub IfSome-headline : (last : Option Headless) (contents : Option (List ℕ)) (before after : Seen) → IfSome last (IsLastState opening contents before after) → IfSome last (Headline opening contents after)
+  IfSome-headline None contents before after left = tt
+  IfSome-headline (Some last) contents before after left = left.headline
 
-  pub IfSome-agrees : (last : Option Headless) (contents : Option (List ℕ)) (after : Seen) → IfSome last (IsLastState opening contents after) → IfSome last (λ last. AgreesWithSockets last after)
-  IfSome-agrees None contents after left = tt
-  IfSome-agrees (Some last) contents after left = left.agrees
+  pub IfSome-agrees : (last : Option Headless) (contents : Option (List ℕ)) (before after : Seen) → IfSome last (IsLastState opening contents before after) → IfSome last (λ last. AgreesWithSockets last after)
+  IfSome-agrees None contents before after left = tt
+  IfSome-agrees (Some last) contents before after left = left.agrees
 
-  pub IfSome-calm : (last : Option Headless) (contents : Option (List ℕ)) (after : Seen) → IfSome last (IsLastState opening contents after) → IfSome last (λ last. IsCalm last.core)
-  IfSome-calm None contents after left = tt
-  IfSome-calm (Some last) contents after left = left.calm
+  pub IfSome-calm : (last : Option Headless) (contents : Option (List ℕ)) (before after : Seen) → IfSome last (IsLastState opening contents before after) → IfSome last (λ last. IsCalm last.core)
+  IfSome-calm None contents before after left = tt
+  IfSome-calm (Some last) contents before after left = left.calm
 
-  pub IfSome-causes : (last : Option Headless) (contents : Option (List ℕ)) (after : Seen) → IfSome last (IsLastState opening contents after) → IfSome last (λ last. ClosesLast last after)
-  IfSome-causes None contents after left = tt
-  IfSome-causes (Some last) contents after left = left.causes
+  pub IfSome-causes : (last : Option Headless) (contents : Option (List ℕ)) (before after : Seen) → IfSome last (IsLastState opening contents before after) → IfSome last (ClosesLast opening contents before after)
+  IfSome-causes None contents before after left = tt
+  IfSome-causes (Some last) contents before after left = left.causes
 
 -- the text goes by whether a wait returned for one status alone
 printed-as : (shown : Shows) (woken woken' : Bool) (status number : ℕ) → (status ≡ 3 → woken ≡ woken') → printed_text shown woken status number ≡ printed_text shown woken' status number

@@ -4,7 +4,7 @@ use Rattle.std.specs.Prelude.{◌∷◌, ◌++◌, map, All, ◌&&◌, nat_le, O
 use Rattle.std.specs.Prelude.{IfSome, IfOk, IsSome, is_some, IsTrue, IsSomeAnd, if◌then◌else◌, ◌==◌, codes, decimal}
 use Rattle.std.specs.Io.KnownBytes.{append_known}
 use Rattle.wc_text.specs.declared.names.Address.{Address}
-use Rattle.wc_outside.specs.Faults.{Faults, Rose}
+use Rattle.wc_outside.specs.Faults.{Faults, NeverFall, Rose}
 use Rattle.wc_outside.specs.Seen.{Seen}
 use Rattle.wc_outside.specs.declared.happening.Asked.{Asked}
 use Rattle.wc_outside.specs.declared.happening.Asked.TheVariants.{Listen, Connect}
@@ -279,23 +279,39 @@ IsEarly contents kept kept' NotSaved = ⊥
 IsEarly contents kept kept' TurnsTaken = ⊥
 IsEarly contents kept kept' Quit = ⊥
 
--- the links that the last turn closed have their causes in it, as far as they are not those of servers
-pub record ClosesLast (last : Headless) (after : Seen) : Type 0 where
+-- The links that the last turn closed have their causes in it, as far as they are not those of servers.
+-- The state before that turn is one that this run came to, and what was seen then came after the start.
+pub record ClosesLast (opening : Opening) (contents : Option (List ℕ)) (before after : Seen)
+    (last : Headless) : Type 0 where
   -- the state before the last turn, and what was seen then
   pub earlier : Headless
   pub seen : Seen
   pub end : TurnEnd
+  pub headline : Headline opening contents seen earlier
+  pub counts : NeverFall before.faults seen.faults
   pub agrees : AgreesWithSockets earlier seen
   pub turn : TurnStep end earlier last seen after
   pub causes : All (HasCloseCause earlier last seen after) last.links.closed.items
 
+-- the last of some turns, the first of which began so
+pub record LastTurn (first last : Headless) (before after : Seen) : Type 0 where
+  pub earlier : Headless
+  pub seen : Seen
+  pub end : TurnEnd
+  pub waits : ℕ
+  pub until : LoopStep false waits 0 first earlier before seen
+  pub agrees : AgreesWithSockets earlier seen
+  pub calm : IsCalm earlier.core
+  pub turn : TurnStep end earlier last seen after
+  pub causes : All (HasCloseCause earlier last seen after) last.links.closed.items
+
 -- the state after the last turn
-pub record IsLastState (opening : Opening) (contents : Option (List ℕ)) (after : Seen)
+pub record IsLastState (opening : Opening) (contents : Option (List ℕ)) (before after : Seen)
     (last : Headless) : Type 0 where
   pub headline : Headline opening contents after last
   pub agrees : AgreesWithSockets last after
   pub calm : IsCalm last.core
-  pub causes : ClosesLast last after
+  pub causes : ClosesLast opening contents before after last
 
 -- What was saved in the last turn could not be written. So a keeper that tells what it holds has what
 -- it had before that turn: the text that was saved last by then, or what it held at first.
@@ -340,7 +356,7 @@ pub record Runs (opening : Opening) (turns : ℕ) (contents : Option (List ℕ))
   pub saving : status_of ending ≡ 3 → is_unsaved ending ≡ is_some last
   pub counted : LastOf after last
   pub most : WaitsAtMost turns after last
-  pub left : IfSome last (IsLastState opening contents after)
+  pub left : IfSome last (IsLastState opening contents before after)
   -- after the last turn each source is served, and each link is written
   pub served : status_of ending ≡ 8 →
       IfSome last (λ last. AllServed last.core before after)

@@ -7,7 +7,7 @@ ghost use Rattle.wc_outside.specs.Seen.{IsNew};
 ghost use Rattle.wc_loop.specs.Endings.{LastOf, StatusOf, WaitsAtMost, Prints, IsEarly, HasCause};
 ghost use Rattle.wc_loop.specs.Endings.{Runs, RunsBy, asks_turns, IsAsked, EndsAt, kept_of};
 ghost use Rattle.wc_loop.specs.Endings.{status_of, ending_text, KeepsText, HoldsEarlier};
-ghost use Rattle.wc_loop.specs.Endings.{HoldsSaved, FailsToSave, ClosesLast};
+ghost use Rattle.wc_loop.specs.Endings.{HoldsSaved, FailsToSave, ClosesLast, LastTurn};
 ghost use Rattle.wc_turns.specs.Saves.{SavesTurn};
 ghost use Rattle.wc_options.specs.Config.{config_of};
 ghost use Rattle.wc_core.specs.Limits.{port_of};
@@ -146,7 +146,8 @@ fn take_turns<S: Sockets, K: Keeper>(
         (S.seen sockets.new) }
     ensures agrees { AgreesWithSockets headless.new (S.seen sockets.new) }
     ensures calm { IsCalm headless.new.core }
-    ensures causes { 1 ≤ headless.new.turns → ClosesLast headless.new (S.seen sockets.new) }
+    ensures causes { 1 ≤ headless.new.turns → LastTurn headless.old headless.new
+        (S.seen sockets.old) (S.seen sockets.new) }
     ensures served { result ≡ TurnEnd.GoOn → 1 ≤ turns → AllServed headless.new.core
         (S.seen sockets.old) (S.seen sockets.new) }
     ensures sent { result ≡ TurnEnd.Quit → AllSent headless.new.core
@@ -369,7 +370,9 @@ pub fn run_program<S: Sockets, K: Keeper, O: Sink>(
         (λ wish. WaitsAtMost wish.turns (S.seen sockets.new) result.last) }
     ensures agrees { IfSome result.last (λ last. AgreesWithSockets last (S.seen sockets.new)) }
     ensures calm { IfSome result.last (λ last. IsCalm last.core) }
-    ensures causes { IfSome result.last (λ last. ClosesLast last (S.seen sockets.new)) }
+    ensures causes { IfSome result.last (ClosesLast
+        (opening_of (map string_bytes words.now.items)) (K.contents keeper.old)
+        (S.seen sockets.old) (S.seen sockets.new)) }
     ensures served { result.status ≡ 8 →
         IfSome result.last (λ last. AllServed last.core (S.seen sockets.old)
         (S.seen sockets.new)) }

@@ -2,7 +2,7 @@ use Rattle.std.proofs.Common.{◌≡◌, ◌++◌, [], ◌∷◌, map, IsTrue, r
 use Rattle.wc_outside.specs.declared.happening.Asked.TheVariants.{Listen, Connect}
 use Rattle.wc_loop.specs.Endings.{kept_of}
 use Rattle.wc_turns.specs.Turns.{wake_count, listen_faults}
-use Rattle.wc_loop.proofs.EndingLemmas.{Runs-early, Runs-following, known-readable, known-port, kept-text, not-keeper, keeper-of, kept_of-none, held-earlier, none-asked}
+use Rattle.wc_loop.proofs.EndingLemmas.{Runs-early, Runs-following, known-readable, known-port, kept-text, not-keeper, keeper-of, kept_of-none, held-earlier, closes-last, none-asked}
 use Rattle.wc_loop.proofs.HeadlineLemmas.{Fresh-listening, HandsOut-run, Headline-known, IfSome-last}
 use Rattle.wc_loop.proofs.ProgramLemmas.{Rose-before, faults-told}
 use Rattle.wc_turns.proofs.ServeLemmas.{AllServed-following, AllSent-following}
@@ -47,7 +47,7 @@ returns-clause-runs g c =
         headline = Headline-known _ _ c.in-Ok.made.headless _ _ _ c.in-Ok.ensures.known (λ t fed rows were. HandsOut-run c.in-Ok.made.headless c.take_turns-then.new.headless (seen c.listen.new.self) (seen c.take_turns-then.new.sockets) c.in-Ok.made.port ran.continues.step first fresh heard ran.calm t fed rows were);
         agrees = ran.agrees;
         calm = ran.calm;
-        causes = ran.causes above;
+        causes = (let turn = ran.causes above in closes-last _ _ c.in-Ok.made.headless c.take_turns-then.new.headless (seen c.args.sockets.now) (seen c.listen.new.self) (seen c.take_turns-then.new.sockets) listened.counts turn (Headline-known _ _ c.in-Ok.made.headless _ turn.seen turn.earlier c.in-Ok.ensures.known (λ t fed rows were. HandsOut-run c.in-Ok.made.headless turn.earlier (seen c.listen.new.self) turn.seen c.in-Ok.made.port turn.until first fresh heard turn.calm t fed rows were)));
       };
     })
     c.ending_of.ensures)

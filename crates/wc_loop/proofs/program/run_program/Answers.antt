@@ -11,7 +11,7 @@ returns-clause-headline g c =
     let seen = g.S.Sockets.seen in
     let runs = rw c.as_slice.ensures.value at c.run_words-outcome.ensures.runs in
     let common = Common-runs _ _ _ _ _ (seen c.args.sockets.now) (seen c.run_words-outcome.new.sockets) _ _ c.requires runs in
-    rw c.end.ensures.last (IfSome-headline _ _ _ _ common.left)
+    rw c.end.ensures.last (IfSome-headline _ _ _ _ _ common.left)
 
 pub returns-clause-mirrored : goal.returns-clause-mirrored
 returns-clause-mirrored g c = ClientsHoldDumps-last _ (commands_texts c.args.words.now.items) _ _ _
@@ -25,8 +25,9 @@ returns-clause-waits g c =
 pub returns-clause-causes : goal.returns-clause-causes
 returns-clause-causes g c =
     let seen = g.S.Sockets.seen in
-    let common = Common-runs _ _ _ _ _ (seen c.args.sockets.now) (seen c.run_words-outcome.new.sockets) _ _ c.requires c.run_words-outcome.ensures.runs in
-    rw c.end.ensures.last (IfSome-causes _ _ _ _ common.left)
+    let runs = rw c.as_slice.ensures.value at c.run_words-outcome.ensures.runs in
+    let common = Common-runs _ _ _ _ _ (seen c.args.sockets.now) (seen c.run_words-outcome.new.sockets) _ _ c.requires runs in
+    rw c.end.ensures.last (IfSome-causes _ _ _ _ _ common.left)
 
 pub returns-clause-printed : goal.returns-clause-printed
 returns-clause-printed g c = λ seven.
@@ -60,13 +61,13 @@ pub returns-clause-agrees : goal.returns-clause-agrees
 returns-clause-agrees g c =
     let seen = g.S.Sockets.seen in
     let common = Common-runs _ _ _ _ _ (seen c.args.sockets.now) (seen c.run_words-outcome.new.sockets) _ _ c.requires c.run_words-outcome.ensures.runs in
-    rw c.end.ensures.last (IfSome-agrees _ _ _ _ common.left)
+    rw c.end.ensures.last (IfSome-agrees _ _ _ _ _ common.left)
 
 pub returns-clause-calm : goal.returns-clause-calm
 returns-clause-calm g c =
     let seen = g.S.Sockets.seen in
     let common = Common-runs _ _ _ _ _ (seen c.args.sockets.now) (seen c.run_words-outcome.new.sockets) _ _ c.requires c.run_words-outcome.ensures.runs in
-    rw c.end.ensures.last (IfSome-calm _ _ _ _ common.left)
+    rw c.end.ensures.last (IfSome-calm _ _ _ _ _ common.left)
 
 pub returns-clause-asked : goal.returns-clause-asked
 returns-clause-asked g c = λ seven.
