@@ -1,3 +1,4 @@
+pub mod Counted
 pub mod Cursors
 pub mod Plays
 pub mod Rises

@@ -1,6 +1,9 @@
--- What contracts see of sockets in memory.
+-- What contracts see of sockets, a keeper and a sink in memory.
 use Rattle.std.specs.Prelude.{length, take, drop}
+use Rattle.wc_scripted.specs.declared.memory_keeper.MemoryKeeper.{MemoryKeeper}
+use Rattle.wc_scripted.specs.declared.memory_sink.MemorySink.{MemorySink}
 use Rattle.wc_scripted.specs.declared.memory_sockets.MemorySockets.{MemorySockets}
+use Rattle.wc_scripted.specs.Counted.{Counted}
 use Rattle.wc_scripted.specs.Cursors.{cursor_at, given_at}
 use Rattle.wc_scripted.specs.Plays.{Plays}
 use Rattle.wc_scripted.specs.Rows.{row_at}
@@ -45,3 +48,10 @@ play_of s = record {
   failing = s.calls.failing;
   refused = s.told.refused;
 }
+
+-- what they know of their calls
+abbrev pub keeper_calls : MemoryKeeper → Counted
+keeper_calls s = record { calls = s.calls.made; failing = s.calls.failing; refused = s.refused }
+
+abbrev pub sink_calls : MemorySink → Counted
+sink_calls s = record { calls = s.calls.made; failing = s.calls.failing; refused = s.refused }

@@ -1,4 +1,6 @@
 ghost use Rattle.std.specs.Prelude.{◌≡◌, Some, IfOk};
+ghost use Rattle.wc_scripted.specs.Counted.{none_made, call_fails, CountsCall, ReadFailsWhere};
+ghost use Rattle.wc_scripted.specs.Plays.{FailsOrStarves};
 
 use crate::fault_counts::{Calls, count_fault};
 use std::alloc::Global;
@@ -19,11 +21,14 @@ pub struct MemoryKeeper {
 }
 
 impl MemoryKeeper {
+    ghost use Rattle.wc_scripted.specs.Views.{keeper_calls};
+
     /// A keeper of this text, which fails at the calls with these numbers, counted from 1.
     pub fn new(alloc: Global, contents: Text, failing: Items<u64>) -> Result<MemoryKeeper, NoMemory>
         ensures contents { IfOk result (λ keeper. ⟦<MemoryKeeper as Keeper>⟧.contents keeper
             ≡ Some contents) }
         ensures faults { IfOk result (λ keeper. ⟦<MemoryKeeper as Keeper>⟧.faults keeper ≡ 0) }
+        ensures calls { IfOk result (λ keeper. keeper_calls keeper ≡ none_made failing) }
     {
         Ok(MemoryKeeper {
             alloc,
@@ -42,19 +47,25 @@ impl MemoryKeeper {
     }
 
     /// How often memory was refused to it.
-    pub fn refused(&self) -> u64 {
+    pub fn refused(&self) -> u64
+        ensures { result ≡ (keeper_calls self.now).refused }
+    {
         self.refused
     }
 }
 
 impl Keeper for MemoryKeeper {
     ghost use Rattle.std.specs.Prelude.{Some};
+    ghost use Rattle.wc_scripted.specs.Views.{keeper_calls};
 
     ghost contents = { λ keeper. Some keeper.contents };
 
     ghost faults = { λ keeper. keeper.faults };
 
-    fn read_all(&mut self, alloc: Global) -> Result<Text, KeepFault> {
+    fn read_all(&mut self, alloc: Global) -> Result<Text, KeepFault>
+        ensures fails { ReadFailsWhere (call_fails (keeper_calls self.old)) result }
+        ensures calls { CountsCall (keeper_calls self.old) (keeper_calls self.new) }
+    {
         if self.calls.next_fails() {
             count_fault(&mut self.faults);
             return Err(KeepFault::Failed);
@@ -65,7 +76,11 @@ impl Keeper for MemoryKeeper {
         }
     }
 
-    fn replace(&mut self, bytes: &[u8]) -> Result<(), Failed> {
+    fn replace(&mut self, bytes: &[u8]) -> Result<(), Failed>
+        ensures fails { FailsOrStarves (call_fails (keeper_calls self.old))
+            (keeper_calls self.old).refused (keeper_calls self.new).refused result }
+        ensures calls { CountsCall (keeper_calls self.old) (keeper_calls self.new) }
+    {
         if self.calls.next_fails() {
             count_fault(&mut self.faults);
             return Err(Failed);

@@ -1,4 +1,6 @@
 ghost use Rattle.std.specs.Prelude.{◌≡◌, [], Some, IfOk};
+ghost use Rattle.wc_scripted.specs.Counted.{none_made, call_fails, CountsCall};
+ghost use Rattle.wc_scripted.specs.Plays.{FailsOrStarves};
 
 use crate::fault_counts::{Calls, count_fault};
 use std::alloc::Global;
@@ -18,10 +20,13 @@ pub struct MemorySink {
 }
 
 impl MemorySink {
+    ghost use Rattle.wc_scripted.specs.Views.{sink_calls};
+
     /// An empty sink, which fails at the calls with these numbers, counted from 1.
     pub fn new(alloc: Global, failing: Items<u64>) -> Result<MemorySink, NoMemory>
         ensures contents { IfOk result (λ sink. ⟦<MemorySink as Sink>⟧.contents sink ≡ Some []) }
         ensures faults { IfOk result (λ sink. ⟦<MemorySink as Sink>⟧.faults sink ≡ 0) }
+        ensures calls { IfOk result (λ sink. sink_calls sink ≡ none_made failing) }
     {
         Ok(MemorySink {
             contents: Text::new(alloc),
@@ -39,19 +44,26 @@ impl MemorySink {
     }
 
     /// How often memory was refused to it.
-    pub fn refused(&self) -> u64 {
+    pub fn refused(&self) -> u64
+        ensures { result ≡ (sink_calls self.now).refused }
+    {
         self.refused
     }
 }
 
 impl Sink for MemorySink {
     ghost use Rattle.std.specs.Prelude.{Some};
+    ghost use Rattle.wc_scripted.specs.Views.{sink_calls};
 
     ghost contents = { λ sink. Some sink.contents };
 
     ghost faults = { λ sink. sink.faults };
 
-    fn write(&mut self, piece: &[u8]) -> Result<(), Failed> {
+    fn write(&mut self, piece: &[u8]) -> Result<(), Failed>
+        ensures fails { FailsOrStarves (call_fails (sink_calls self.old))
+            (sink_calls self.old).refused (sink_calls self.new).refused result }
+        ensures calls { CountsCall (sink_calls self.old) (sink_calls self.new) }
+    {
         if self.calls.next_fails() {
             count_fault(&mut self.faults);
             return Err(Failed);
