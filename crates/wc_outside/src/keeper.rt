@@ -1,6 +1,6 @@
 ghost use Rattle.std.specs.Prelude.{◌≡◌, ◌≤◌, ℕ, List, Option, Some, IfOk, IfSome, IsSome, OnOk};
 ghost use Rattle.std.specs.Prelude.{OnErr, IsErrOf};
-ghost use Rattle.wc_outside.specs.Faults.{Rose};
+ghost use Rattle.wc_outside.specs.Faults.{Rose, UnlessFailed};
 
 use crate::happening::Failed;
 use std::alloc::Global;
@@ -27,6 +27,7 @@ pub trait Keeper {
     fn read_all(&mut self, alloc: Global) -> Result<Text, KeepFault>
         ensures contents { contents self.new ≡ contents self.old }
         ensures read { IfOk result (λ text. IfSome (contents self.old) (λ kept. text ≡ kept)) }
+        ensures count { UnlessFailed result (faults self.new ≡ faults self.old) }
         ensures counts { faults self.old ≤ faults self.new }
         ensures failed { IsErrOf result KeepFault.Failed →
             Rose (faults self.old) (faults self.new) };

@@ -1,5 +1,5 @@
 -- What contracts see of sockets, a keeper and a sink in memory.
-use Rattle.std.specs.Prelude.{length, take, drop}
+use Rattle.std.specs.Prelude.{ℕ, List, length, take, drop}
 use Rattle.wc_scripted.specs.declared.memory_keeper.MemoryKeeper.{MemoryKeeper}
 use Rattle.wc_scripted.specs.declared.memory_sink.MemorySink.{MemorySink}
 use Rattle.wc_scripted.specs.declared.memory_sockets.MemorySockets.{MemorySockets}
@@ -49,7 +49,19 @@ play_of s = record {
   refused = s.told.refused;
 }
 
--- what they know of their calls
+-- what a keeper and a sink hold, how often they failed, and what they know of their calls
+abbrev pub held_by : MemoryKeeper → List ℕ
+held_by s = s.contents
+
+abbrev pub faults_of : MemoryKeeper → ℕ
+faults_of s = s.faults
+
+abbrev pub printed_on : MemorySink → List ℕ
+printed_on s = s.contents
+
+abbrev pub sink_faults : MemorySink → ℕ
+sink_faults s = s.faults
+
 abbrev pub keeper_calls : MemoryKeeper → Counted
 keeper_calls s = record { calls = s.calls.made; failing = s.calls.failing; refused = s.refused }
 

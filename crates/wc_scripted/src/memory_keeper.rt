@@ -1,4 +1,5 @@
-ghost use Rattle.std.specs.Prelude.{◌≡◌, Some, IfOk};
+ghost use Rattle.std.specs.Prelude.{◌≡◌, ◌≤◌, Some, IfOk, OnOk, OnErr, IsErrOf};
+ghost use Rattle.wc_outside.specs.Faults.{Rose, UnlessFailed};
 ghost use Rattle.wc_scripted.specs.Counted.{none_made, call_fails, CountsCall, ReadFailsWhere};
 ghost use Rattle.wc_scripted.specs.Plays.{FailsOrStarves};
 
@@ -56,13 +57,19 @@ impl MemoryKeeper {
 
 impl Keeper for MemoryKeeper {
     ghost use Rattle.std.specs.Prelude.{Some};
-    ghost use Rattle.wc_scripted.specs.Views.{keeper_calls};
+    ghost use Rattle.wc_scripted.specs.Views.{held_by, faults_of, keeper_calls};
 
     ghost contents = { λ keeper. Some keeper.contents };
 
     ghost faults = { λ keeper. keeper.faults };
 
     fn read_all(&mut self, alloc: Global) -> Result<Text, KeepFault>
+        ensures contents { held_by self.new ≡ held_by self.old }
+        ensures read { IfOk result (λ text. text ≡ held_by self.old) }
+        ensures count { UnlessFailed result (faults_of self.new ≡ faults_of self.old) }
+        ensures counts { faults_of self.old ≤ faults_of self.new }
+        ensures failed { IsErrOf result KeepFault.Failed →
+            Rose (faults_of self.old) (faults_of self.new) }
         ensures fails { ReadFailsWhere (call_fails (keeper_calls self.old)) result }
         ensures calls { CountsCall (keeper_calls self.old) (keeper_calls self.new) }
     {
@@ -77,6 +84,11 @@ impl Keeper for MemoryKeeper {
     }
 
     fn replace(&mut self, bytes: &[u8]) -> Result<(), Failed>
+        ensures ok { OnOk result (held_by self.new ≡ bytes.now) }
+        ensures kept { OnErr result (held_by self.new ≡ held_by self.old) }
+        ensures count { OnOk result (faults_of self.new ≡ faults_of self.old) }
+        ensures counts { faults_of self.old ≤ faults_of self.new }
+        ensures failed { OnErr result (Rose (faults_of self.old) (faults_of self.new)) }
         ensures fails { FailsOrStarves (call_fails (keeper_calls self.old))
             (keeper_calls self.old).refused (keeper_calls self.new).refused result }
         ensures calls { CountsCall (keeper_calls self.old) (keeper_calls self.new) }

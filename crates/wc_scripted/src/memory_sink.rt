@@ -1,4 +1,5 @@
-ghost use Rattle.std.specs.Prelude.{◌≡◌, [], Some, IfOk};
+ghost use Rattle.std.specs.Prelude.{◌≡◌, ◌≤◌, ◌++◌, [], Some, IfOk, OnOk, OnErr};
+ghost use Rattle.wc_outside.specs.Faults.{Rose};
 ghost use Rattle.wc_scripted.specs.Counted.{none_made, call_fails, CountsCall};
 ghost use Rattle.wc_scripted.specs.Plays.{FailsOrStarves};
 
@@ -53,13 +54,17 @@ impl MemorySink {
 
 impl Sink for MemorySink {
     ghost use Rattle.std.specs.Prelude.{Some};
-    ghost use Rattle.wc_scripted.specs.Views.{sink_calls};
+    ghost use Rattle.wc_scripted.specs.Views.{printed_on, sink_faults, sink_calls};
 
     ghost contents = { λ sink. Some sink.contents };
 
     ghost faults = { λ sink. sink.faults };
 
     fn write(&mut self, piece: &[u8]) -> Result<(), Failed>
+        ensures ok { OnOk result (printed_on self.new ≡ printed_on self.old ++ piece.now) }
+        ensures count { OnOk result (sink_faults self.new ≡ sink_faults self.old) }
+        ensures counts { sink_faults self.old ≤ sink_faults self.new }
+        ensures failed { OnErr result (Rose (sink_faults self.old) (sink_faults self.new)) }
         ensures fails { FailsOrStarves (call_fails (sink_calls self.old))
             (sink_calls self.old).refused (sink_calls self.new).refused result }
         ensures calls { CountsCall (sink_calls self.old) (sink_calls self.new) }

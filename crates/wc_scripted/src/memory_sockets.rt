@@ -113,7 +113,8 @@ impl MemorySockets {
     pub fn taken(&self) -> Option<&[Happening]>
         ensures { MatchOption result
             ((⟦<MemorySockets as Sockets>⟧.seen self.now).tells ≡ false)
-            (λ taken. taken.now ≡ (⟦<MemorySockets as Sockets>⟧.seen self.now).taken) }
+            (λ taken. IsTrue (⟦<MemorySockets as Sockets>⟧.seen self.now).tells
+            × (taken.now ≡ (⟦<MemorySockets as Sockets>⟧.seen self.now).taken)) }
     {
         self.told.tells.then_some(self.told.taken.as_slice())
     }
@@ -122,7 +123,8 @@ impl MemorySockets {
     pub fn asked(&self) -> Option<&[Asked]>
         ensures { MatchOption result
             ((⟦<MemorySockets as Sockets>⟧.seen self.now).tells ≡ false)
-            (λ asked. asked.now ≡ (⟦<MemorySockets as Sockets>⟧.seen self.now).asked) }
+            (λ asked. IsTrue (⟦<MemorySockets as Sockets>⟧.seen self.now).tells
+            × (asked.now ≡ (⟦<MemorySockets as Sockets>⟧.seen self.now).asked)) }
     {
         self.told.tells.then_some(self.told.asked.as_slice())
     }
