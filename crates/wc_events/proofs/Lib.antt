@@ -1,6 +1,10 @@
 pub mod DumpLemmas
 pub mod EventsFormed
 pub mod Formed
+pub mod HdaMessages
+pub mod NickBytes
 pub mod NickLemmas
 pub mod NicksFormed
+pub mod NickWritten
 pub mod PushTexts
+pub mod ValueBytes

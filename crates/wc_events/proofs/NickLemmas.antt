@@ -1,5 +1,5 @@
 -- The nicklists of all buffers, by the handles of these.
-use Rattle.std.proofs.Common.{◌≡◌, ℕ, true, false, eqb, eqb-true, List, [], ◌∷◌, ◌++◌, append_assoc, map, find, Some, None, refl, sym, ap, ◌∙◌}
+use Rattle.std.proofs.Common.{◌≡◌, ℕ, true, false, eqb, eqb-true, List, [], ◌∷◌, ◌++◌, map, find, Some, None, refl, sym, ap, ◌∙◌}
 use Rattle.wc_text.specs.declared.names.Handle.{Handle}
 use Rattle.wc_nicklist.specs.declared.item.Row.{Row}
 use Rattle.wc_nicklist.proofs.OrderLaws.{by_bool}
@@ -32,10 +32,9 @@ same_items : (buffer : Handle) (list : List Row) → map (λ (r : Row). nick_ite
 same_items buffer [] = refl
 same_items buffer (r ∷ list) = ap (λ items. nick_item buffer r.item ∷ items) (same_items buffer list)
 
-pub rows_after : (items : List HdaItem) (buffer root : Handle) (list : List Row)
-    → (items ++ nick_item buffer (root_item root) ∷ []) ++ map (λ (r : Row). nick_item buffer r.item) list ≡ items ++ map (nick_item buffer) (full_list (root_item root) list)
-rows_after items buffer root list =
-    append_assoc items (nick_item buffer (root_item root) ∷ []) _ ∙ ap (λ more. items ++ nick_item buffer (root_item root) ∷ more) (same_items buffer list)
+pub root_then_rows : (buffer root : Handle) (list : List Row)
+    → map (nick_item buffer) (full_list (root_item root) list) ≡ (nick_item buffer (root_item root) ∷ []) ++ map (λ (r : Row). nick_item buffer r.item) list
+root_then_rows buffer root list = ap (λ more. nick_item buffer (root_item root) ∷ more) (sym (same_items buffer list))
 
 listed_found : (world : World) (buffer : Handle) (e : BufferEntry) → entry_of buffer world.groups ≡ Some e → root_and_rows world e ≡ listed_at world buffer
 listed_found world buffer e is =

@@ -1,5 +1,5 @@
 -- What is told of nicklists keeps the rules of messages.
-use Rattle.std.proofs.Common.{◌≡◌, true, ◌&&◌, List, [], ◌∷◌, ◌++◌, map, Some, None, refl, sym, ap, ◌∙◌}
+use Rattle.std.proofs.Common.{◌≡◌, ℕ, true, ◌&&◌, List, [], ◌∷◌, ◌++◌, map, Option, Some, None, refl, sym, ap, ◌∙◌}
 use Rattle.std.specs.List.{AllByRecursion}
 use Rattle.std.specs.Str.{IsUtf8, is_utf8, chars}
 use Rattle.std.proofs.lemmas.Str.{IsUtf8-from_is_utf8}
@@ -15,6 +15,9 @@ use Rattle.wc_nicklist.proofs.OrderLaws.{key_eq-true, key_eq-same, by_bool}
 use Rattle.wc_nickdiff.specs.declared.diff_item.DiffItem.{DiffItem}
 use Rattle.wc_nickdiff.specs.Apply.{AreUtf8}
 use Rattle.wc_nickdiff.specs.NickPush.{full_list, root_item}
+use Rattle.wc_buffers.specs.declared.row.BufferEntry.{BufferEntry}
+use Rattle.wc_buffers.specs.Calls.{entry_of}
+use Rattle.wc_model.specs.World.{World, rows_at, root_at}
 use Rattle.wc_objects.specs.declared.object.Object.TheVariants as o
 use Rattle.wc_objects.specs.declared.object.Object.TheViews.{out-roll-Object, out-roll-Hda}
 use Rattle.wc_objects.specs.declared.object.Hda.{roll-Hda}
@@ -22,8 +25,9 @@ use Rattle.wc_objects.specs.declared.object.HdaItem.{HdaItem}
 use Rattle.wc_objects.specs.Forms.{values_are, item_of, hda_is, object_is, well_formed}
 use Rattle.wc_keys.specs.declared.key.KeyList.TheVariants as l
 use Rattle.wc_keys.proofs.ListTexts.{list_is_text, list_names_kinds, nick_path_is_text}
-use Rattle.wc_events.specs.NickObjects.{nick_path, nick_keys, diff_keys, nick_values, nick_item, diff_item}
-use Rattle.wc_events.specs.NickForms.{on_nick_path, nick_kinds, diff_kinds, are_nicks, are_diffs}
+use Rattle.wc_events.specs.Dumps.{if_there}
+use Rattle.wc_events.specs.NickObjects.{nick_path, nick_keys, diff_keys, nick_values, nick_item, diff_item, root_and_rows}
+use Rattle.wc_events.specs.NickForms.{on_nick_path, all_nicks, nick_group, nick_kinds, diff_kinds, are_nicks, are_diffs}
 use Rattle.wc_events.proofs.Formed.{chr_formed, str_formed}
 use Rattle.wc_events.proofs.EventsFormed.{int_formed}
 
@@ -117,5 +121,24 @@ list_formed items buffer root rows held are =
     let formed : are_nicks more ≡ true = each_nick buffer (full_list (root_item root) rows) (texts_of_full root rows held) in
     list_all-append (λ item. item_of 2 (Some nick_kinds) item) items more ∙ (λ i. are i && formed i)
 
--- what `push_objects` needs
-pub ruleset push_objects_facts = (diff_formed, full_formed)
+both_nicks : (xs ys : List HdaItem) → are_nicks xs ≡ true → are_nicks ys ≡ true → are_nicks (xs ++ ys) ≡ true
+both_nicks xs ys p q = list_all-append (λ item. item_of 2 (Some nick_kinds) item) xs ys ∙ (λ i. p i && q i)
+
+-- the items of each buffer keep the rules
+module _ (world : World) (held : (b : ℕ) → IsRows (rows_at world b)) where
+  there_formed : (e : Option BufferEntry) → are_nicks (if_there (root_and_rows world) e) ≡ true
+  there_formed None = refl
+  there_formed (Some e) =
+      each_nick e.row.handle (full_list (root_item (root_at e.row.handle.0)) (rows_at world e.row.handle.0)) (texts_of_full (root_at e.row.handle.0) (rows_at world e.row.handle.0) (held e.row.handle.0))
+
+  group_formed : (group : List Handle) → are_nicks (nick_group world group) ≡ true
+  group_formed [] = refl
+  group_formed (h ∷ group) = both_nicks (if_there (root_and_rows world) (entry_of h world.groups)) (nick_group world group) (there_formed (entry_of h world.groups)) (group_formed group)
+
+  pub all_formed : (groups : List (List Handle)) → are_nicks (all_nicks world groups) ≡ true
+  all_formed [] = refl
+  all_formed (group ∷ groups) = both_nicks (nick_group world group) (all_nicks world groups) (group_formed group) (all_formed groups)
+
+-- the nicklist of one buffer
+pub one_formed : (buffer root : Handle) (rows : List Row) → IsRows rows → well_formed (on_nick_path nick_keys (map (nick_item buffer) (full_list (root_item root) rows))) ≡ true
+one_formed buffer root rows held = nicks_formed _ (each_nick buffer (full_list (root_item root) rows) (texts_of_full root rows held))

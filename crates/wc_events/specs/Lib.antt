@@ -1,6 +1,11 @@
 pub mod BufferObjects
 pub mod Dumps
+pub mod HdaBytes
 pub mod LentValues
 pub mod LineObjects
+pub mod NickBytes
 pub mod NickForms
 pub mod NickObjects
+pub mod NickRoom
+pub mod Nicks
+pub mod ValueBytes

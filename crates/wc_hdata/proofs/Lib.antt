@@ -29,7 +29,6 @@ pub mod SoundPlaces
 pub mod SoundWalks
 pub mod StepLemmas
 pub mod TextLemmas
-pub mod ValueBytes
 pub mod ValuesWithin
 pub mod WalkFormed
 pub mod WalkMessage

@@ -1,18 +1,15 @@
 -- The message that is written part by part is that of the answer.
-use Rattle.std.proofs.Common.{◌≡◌, ℕ, ◌+◌, List, [], ◌∷◌, ◌++◌, length, Option, Some, None, refl, ap, sym, ◌∙◌, append_assoc, append-nil, length-append, arith}
+use Rattle.std.proofs.Common.{◌≡◌, ℕ, ◌+◌, List, [], ◌∷◌, ◌++◌, length, Option, Some, None, refl, ap, sym, ◌∙◌, length-append, arith}
 use Rattle.std.specs.List.{flat_map, cons_option}
 use Rattle.std.proofs.lemmas.List.{length-map}
 use Rattle.wc_model.specs.World.{World}
-use Rattle.wc_objects.specs.declared.kind.Kind.TheVariants as kinds
-use Rattle.wc_objects.specs.Kinds.{letters}
 use Rattle.wc_objects.specs.declared.object.Object.{Object}
-use Rattle.wc_objects.specs.declared.object.Object.TheVariants as o
-use Rattle.wc_objects.specs.declared.object.Object.TheViews.{out-roll-Object, out-roll-HdaItem, out-roll-Hda}
-use Rattle.wc_objects.specs.declared.object.Hda.{roll-Hda}
-use Rattle.wc_objects.specs.declared.object.HdaItem.{HdaItem}
-use Rattle.wc_objects.specs.Spelling.{item_bytes, value_bytes, object_bytes, hda_bytes, message_bytes, body_bytes, pointer_bytes, text_bytes, with_count, be32}
+use Rattle.wc_objects.specs.declared.object.Object.TheViews.{out-roll-HdaItem}
+use Rattle.wc_objects.specs.Spelling.{item_bytes, value_bytes, message_bytes, body_bytes, pointer_bytes, be32}
 use Rattle.wc_objects.proofs.Rooms.{length-be32}
 use Rattle.wc_keys.specs.declared.key.Key.{Key}
+use Rattle.wc_events.specs.ValueBytes.{bytes_if}
+use Rattle.wc_events.proofs.HdaMessages.{hda_body_is}
 use Rattle.wc_hdata.specs.declared.path.Path.{Path}
 use Rattle.wc_hdata.specs.Hdata.{all_bytes, bytes_of, keys_asked, walk_object}
 use Rattle.wc_keys.specs.Keys.{keys_text}
@@ -21,7 +18,7 @@ use Rattle.wc_hdata.specs.Reached.{Place}
 use Rattle.wc_hdata.specs.Refusals.{reached}
 use Rattle.wc_hdata.specs.Values.{value_of, values_of, item_of, items_of}
 use Rattle.wc_hdata.specs.Walk.{Node}
-use Rattle.wc_hdata.specs.WalkBytes.{bytes_if, key_bytes, keys_bytes, node_pointers, node_values, node_bytes, pointers_of_all, values_of_all, nodes_bytes, front_for, walk_body, walk_bytes}
+use Rattle.wc_hdata.specs.WalkBytes.{key_bytes, keys_bytes, node_pointers, node_values, node_bytes, pointers_of_all, values_of_all, nodes_bytes, front_for, walk_body, walk_bytes}
 
 -- ---- items
 pub values_bytes : (world : World) (place : Place) (keys : List Key) → flat_map value_bytes (values_of world keys place) ≡ keys_bytes world place keys
@@ -46,17 +43,6 @@ items_are world keys [] = refl
 items_are world keys (node ∷ nodes) = λ i. item_is world keys node i ++ items_are world keys nodes i
 
 -- ---- the message
-hda_of : (path keys : List ℕ) (items : List HdaItem) → object_bytes (o.Hda (roll-Hda (record { path = Some path; keys = Some keys; items = items })))
-    ≡ letters kinds.Hda ++ (text_bytes (Some path) ++ (text_bytes (Some keys) ++ with_count item_bytes items))
-unfolding object_bytes hda_bytes
-hda_of path keys items =
-    rw (← o.rolls-Hda (roll-Hda (record { path = Some path; keys = Some keys; items = items })), out-roll-Object)
-    (let opened = out-roll-Hda (record { path = Some path; keys = Some keys; items = items }) in λ i. letters kinds.Hda ++ (text_bytes (opened i).path ++ (text_bytes (opened i).keys ++ with_count item_bytes (opened i).items)))
-
-arranged : (t h p q r : List ℕ) → t ++ ((h ++ (p ++ (q ++ r))) ++ []) ≡ (t ++ (h ++ (p ++ q))) ++ r
-arranged t h p q r =
-    ap (λ (x : List ℕ). t ++ x) (append-nil (h ++ (p ++ (q ++ r)))) ∙ ap (λ (x : List ℕ). t ++ (h ++ x)) (sym (append_assoc p q r)) ∙ ap (λ (x : List ℕ). t ++ x) (sym (append_assoc h (p ++ q) r)) ∙ sym (append_assoc t (h ++ (p ++ q)) r)
-
 -- what is before the items of an answer
 abbrev pub front_of : List ℕ → Path → List ℕ → List ℕ
 front_of id path keys = front_for id path (keys_asked path keys)
@@ -67,8 +53,7 @@ body id world path keys =
     let asked = keys_asked path keys in
     let nodes = reached world path in
     let items = items_of world asked nodes in
-    ap (λ (x : List ℕ). 0 ∷ (text_bytes (Some id) ++ (x ++ []))) (hda_of (h_path_of path) (keys_text asked) items)
-    ∙ ap (λ (x : List ℕ). 0 ∷ x) (arranged (text_bytes (Some id)) (letters kinds.Hda) (text_bytes (Some (h_path_of path))) (text_bytes (Some (keys_text asked))) (with_count item_bytes items))
+    hda_body_is id (h_path_of path) (keys_text asked) items
     ∙ (λ i. front_of id path keys ++ (be32 (length-map nodes (item_of world asked) i) ++ items_are world asked nodes i))
 
 pub walk_message : (id : List ℕ) (world : World) (path : Path) (keys : List ℕ) → walk_bytes world (front_of id path keys) (keys_asked path keys) (reached world path) ≡ message_bytes id (walk_object world path keys ∷ [])

@@ -1,12 +1,10 @@
 -- The answer to a data path as bytes, part by part.
-use Rattle.std.specs.Prelude.{ℕ, ◌+◌, List, [], ◌∷◌, ◌++◌, length, Option, Some, None}
+use Rattle.std.specs.Prelude.{ℕ, ◌+◌, List, ◌++◌, length}
 use Rattle.std.specs.List.{flat_map}
-use Rattle.wc_text.specs.declared.names.Pair.{Pair}
 use Rattle.wc_model.specs.World.{World}
-use Rattle.wc_objects.specs.declared.object.Object.{Object}
-use Rattle.wc_objects.specs.declared.kind.Kind.TheVariants as kinds
-use Rattle.wc_objects.specs.Kinds.{letters}
-use Rattle.wc_objects.specs.Spelling.{text_bytes, pointer_bytes, value_bytes, be32}
+use Rattle.wc_objects.specs.Spelling.{pointer_bytes, be32}
+use Rattle.wc_events.specs.HdaBytes.{front_bytes}
+use Rattle.wc_events.specs.ValueBytes.{bytes_if}
 use Rattle.wc_keys.specs.declared.key.Key.{Key}
 use Rattle.wc_hdata.specs.declared.path.Path.{Path}
 use Rattle.wc_keys.specs.Keys.{keys_text}
@@ -14,18 +12,6 @@ use Rattle.wc_hdata.specs.Paths.{h_path_of}
 use Rattle.wc_hdata.specs.Reached.{Place}
 use Rattle.wc_hdata.specs.Values.{value_of}
 use Rattle.wc_hdata.specs.Walk.{Node}
-
--- a tag, and the name and the value of a variable
-abbrev pub tag_bytes : List ℕ → List ℕ
-tag_bytes tag = text_bytes (Some tag)
-
-abbrev pub var_bytes : Pair → List ℕ
-var_bytes var = text_bytes (Some var.name) ++ text_bytes (Some var.value)
-
--- a value, and nothing where there is none
-abbrev pub bytes_if : Option Object → List ℕ
-bytes_if None = []
-bytes_if (Some value) = value_bytes value
 
 -- the value that a key names
 unfoldable pub key_bytes : World → Place → Key → List ℕ
@@ -60,12 +46,7 @@ values_of_all world keys nodes = flat_map (node_values world keys) nodes
 abbrev pub nodes_bytes : World → List Key → List Node → List ℕ
 nodes_bytes world keys nodes = flat_map (node_bytes world keys) nodes
 
--- what is before the count of the items, after the length of the message
-abbrev pub front_bytes : List ℕ → List ℕ → List ℕ → List ℕ
-front_bytes id path keys = 0 ∷ (text_bytes (Some id)
-    ++ (letters kinds.Hda ++ (text_bytes (Some path) ++ text_bytes (Some keys))))
-
--- the same of the answer with these keys
+-- what is before the count of the items of an answer with these keys
 abbrev pub front_for : List ℕ → Path → List Key → List ℕ
 front_for id path keys = front_bytes id (h_path_of path) (keys_text keys)
 

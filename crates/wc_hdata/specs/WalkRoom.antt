@@ -2,16 +2,11 @@
 use Rattle.std.specs.Prelude.{◌≡◌, ℕ, ◌+◌, ◌-◌, ◌^◌, ◌<◌, ◌≤◌, ◌⊎◌, List, length}
 use Rattle.wc_model.specs.World.{World}
 use Rattle.wc_keys.specs.declared.key.Key.{Key}
-use Rattle.wc_hdata.specs.declared.writer.Front.{Front}
 use Rattle.wc_hdata.specs.declared.writer.Left.{Left}
 use Rattle.wc_hdata.specs.declared.writer.Size.{Size}
 use Rattle.wc_hdata.specs.Hdata.{most_bytes}
 use Rattle.wc_hdata.specs.Walk.{Node}
-use Rattle.wc_hdata.specs.WalkBytes.{front_bytes, values_of_all, walk_bytes}
-
--- what is before the items
-abbrev pub front_part : Front → List ℕ
-front_part front = front_bytes front.id.now front.path.now front.keys.now
+use Rattle.wc_hdata.specs.WalkBytes.{values_of_all, walk_bytes}
 
 -- pointers or values that are longer than what is left for them
 abbrev pub IsOver : Left → List ℕ → List ℕ → Type 0

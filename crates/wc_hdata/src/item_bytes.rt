@@ -12,7 +12,6 @@ use crate::key::Key;
 use crate::lists::Lists;
 use crate::place::Place;
 use crate::place_values::value_of;
-use crate::value_bytes::{put, room_after};
 use bytes::BytesMut;
 use wc_objects::parts::put_pointer;
 
@@ -25,7 +24,7 @@ fn room_after_value(room: usize, lists: &Lists<'_>, place: Place<'_>, key: Key) 
     ensures { FitsIn result room (key_bytes lists.now.world (place_of place.entry) key) }
 {
     match value_of(lists, place, key) {
-        Some(value) => room_after(room, value),
+        Some(value) => value.room_after(room),
         None => Some(room),
     }
 }
@@ -38,7 +37,7 @@ fn put_value(out: &mut BytesMut, lists: &Lists<'_>, place: Place<'_>, key: Key)
     ensures { Puts out.old out.new (key_bytes lists.now.world (place_of place.entry) key) }
 {
     match value_of(lists, place, key) {
-        Some(value) => put(out, value),
+        Some(value) => value.put(out),
         None => {}
     }
 }

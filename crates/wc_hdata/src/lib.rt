@@ -24,7 +24,6 @@ mod reach;
 mod refused;
 mod shown;
 mod starts;
-mod value_bytes;
 mod variable;
 mod visits;
 mod walker;

@@ -5,6 +5,7 @@ ghost use Rattle.std.specs.Prelude.{◌++◌, ◌∷◌, []};
 ghost use Rattle.std.specs.Prelude.{true, length, MatchOption, OnOk, OnErr, IfErr, IfOk};
 ghost use Rattle.std.specs.Prelude.{IfSome, None, Some};
 ghost use Rattle.std.specs.Str.{IsUtf8};
+ghost use Rattle.wc_events.specs.HdaBytes.{front_part};
 ghost use Rattle.wc_hdata.specs.Hdata.{message_refusal, refusal, too_long, walk_object};
 ghost use Rattle.wc_hdata.specs.Kept.{IsFor, IsKept};
 ghost use Rattle.wc_hdata.specs.Reached.{place_of};
@@ -12,7 +13,7 @@ ghost use Rattle.wc_hdata.specs.Refusals.{reached, walk_refusal};
 ghost use Rattle.wc_hdata.specs.WalkBytes.{front_for, keys_bytes, nodes_bytes, pointers_bytes};
 ghost use Rattle.wc_hdata.specs.WalkBytes.{pointers_of_all, values_of_all, walk_body, walk_bytes};
 ghost use Rattle.wc_hdata.specs.WalkForms.{AreNodesKept};
-ghost use Rattle.wc_hdata.specs.WalkRoom.{IsAfter, IsOver, IsSize, IsTooLong, front_part};
+ghost use Rattle.wc_hdata.specs.WalkRoom.{IsAfter, IsOver, IsSize, IsTooLong};
 ghost use Rattle.wc_hdata.specs.declared.refused.WalkRefused.TheVariants as Refused;
 ghost use Rattle.wc_objects.specs.Forms.{well_formed};
 ghost use Rattle.wc_objects.specs.Spelling.{FitsIn, HasRoomFor, Puts, be32, message_bytes};
@@ -28,45 +29,13 @@ use crate::visits::check_visits;
 use crate::walker::Walker;
 use bytes::BytesMut;
 use std::alloc::Global;
-use wc_objects::Kind;
-use wc_objects::parts::{MAX_MESSAGE, put_bytes, put_count, put_kind, room_after_bytes};
+use wc_events::parts::{Front, put_front, room_after_front};
+use wc_objects::parts::{MAX_MESSAGE, put_count};
 use wc_text::NoMemory;
 use wc_world::World;
 
 /// How many bytes the values may take together.
 const MOST_VALUES: usize = 0x7fff_ffc0;
-
-// ---- what is before the items
-
-/// What a message has before its items.
-#[derive(Clone, Copy)]
-struct Front<'a> {
-    id: &'a [u8],
-    path: &'a [u8],
-    keys: &'a [u8],
-}
-
-/// What is left after what is before the count of the items.
-fn room_after_front(room: usize, front: Front<'_>) -> Option<usize>
-    ensures { FitsIn result room (front_part front.entry) }
-{
-    let room = room_after_bytes(room.checked_sub(1)?, front.id)?;
-    room_after_bytes(
-        room_after_bytes(room.checked_sub(3)?, front.path)?,
-        front.keys,
-    )
-}
-
-fn put_front(out: &mut BytesMut, front: Front<'_>)
-    requires { HasRoomFor out.old (front_part front) }
-    ensures { Puts out.old out.new (front_part front.entry) }
-{
-    out.extend_reserved(&[0]);
-    put_bytes(out, front.id);
-    put_kind(out, Kind::Hda);
-    put_bytes(out, front.path);
-    put_bytes(out, front.keys);
-}
 
 // ---- how long the items are
 

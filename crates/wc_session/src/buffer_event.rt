@@ -10,14 +10,13 @@ ghost use Rattle.wc_session.specs.Event.{IsEventOf, IsPushOf, IsPushKind, push_m
 ghost use Rattle.wc_session.specs.Sending.{Sends};
 ghost use Rattle.wc_events.specs.NickForms.{IsPushText};
 
-use crate::sending::send;
+use crate::sending::{send, send_nicks};
 use bytes::BytesMut;
 use std::alloc::Global;
 use std::marker::Model;
-use wc_events::{event_id, event_objects, push_kind, push_objects};
+use wc_events::{Nicks, event_id, event_objects, push_kind};
 use wc_model::{EventKind, Notice};
 use wc_nickdiff::{Pending, Push};
-use wc_objects::well_formed;
 use wc_text::{Handle, NoMemory};
 use wc_world::World;
 
@@ -127,18 +126,15 @@ fn push_event(alloc: Global, buffer: Handle, push: &Push) -> Result<BufferEvent,
     })
 }
 
-/// The bytes of a push. What has a text that is not UTF-8 has none, since no message may hold it.
+/// The bytes of a push.
 fn push_bytes(alloc: Global, buffer: Handle, push: &Push) -> Result<BytesMut, NoMemory>
     ensures { IfOk result (λ bytes. IsPushText push.now →
         Sends [] bytes.items (push_messages buffer push.now)) }
 {
     let mut bytes = BytesMut::new(alloc);
-    let Some(objects) = push_objects(alloc, buffer, push)? else {
+    let Some(nicks) = Nicks::of_push(buffer, push) else {
         return Ok(bytes);
     };
-    if !well_formed(&objects) {
-        return Ok(bytes);
-    }
-    let _fits = send(&mut bytes, event_id(push_kind(push)), objects.as_slice())?;
+    let _fits = send_nicks(&mut bytes, event_id(push_kind(push)), nicks)?;
     Ok(bytes)
 }

@@ -1,14 +1,16 @@
-ghost use Rattle.std.specs.Prelude.{◌≡◌, ◌∷◌, [], true, Some, codes, IfOk, IfSome};
+ghost use Rattle.std.specs.Prelude.{◌≡◌, ◌∷◌, [], true, Some, codes, IfOk, IfSome, option_map};
 ghost use Rattle.std.specs.Str.{IsUtf8};
 ghost use Rattle.wc_objects.specs.Forms.{well_formed};
+ghost use Rattle.wc_events.specs.Nicks.{nicks_objects};
 ghost use Rattle.wc_hdata.specs.Infos.{info_of};
 ghost use Rattle.wc_session.specs.Names.{buffer_named};
-ghost use Rattle.wc_session.specs.Reply.{list_of_named, test_texts, test_numbers, test_objects};
+ghost use Rattle.wc_session.specs.Reply.{list_of_named, nicklist_objects, or_null};
+ghost use Rattle.wc_session.specs.Reply.{test_texts, test_numbers, test_objects};
 ghost use Rattle.wc_session.specs.Reply.{info_objects, infolist_objects, pong_objects};
 
 use crate::names::buffer_named;
 use std::alloc::Global;
-use wc_events::nick_list;
+use wc_events::Nicks;
 use wc_hdata::{info, infolist};
 use wc_objects::{Kind, Object};
 use wc_text::{Items, NoMemory, Text};
@@ -92,18 +94,28 @@ pub fn test_objects(alloc: Global) -> Result<[Object; 15], NoMemory>
 }
 
 /// The nicklist of the buffer that a text names, where there is one.
-pub fn list_of_named(
-    alloc: Global,
-    world: &World,
-    name: &[u8],
-) -> Result<Option<Items<Object>>, NoMemory>
-    ensures objects { IfOk result
-        (λ told. told ≡ list_of_named world.now (buffer_named world.now.groups name.now)) }
-    ensures formed { IfOk result (λ told. IfSome told (λ objects. well_formed objects ≡ true)) }
+fn nicks_named<'a>(world: &'a World, name: &[u8]) -> Option<Nicks<'a>>
+    ensures objects { option_map nicks_objects result
+        ≡ list_of_named world.now (buffer_named world.now.groups name.now) }
+    ensures formed { IfSome result (λ nicks. well_formed (nicks_objects nicks) ≡ true) }
 {
     match buffer_named(world.buffers(), name) {
-        Some(buffer) => nick_list(alloc, world, buffer),
-        None => Ok(None),
+        Some(buffer) => Nicks::of_buffer(world, buffer),
+        None => None,
+    }
+}
+
+/// The nicklists of all buffers, or that of the buffer that is named. None where there is no such
+/// buffer.
+#[tactic(auto, unfolding(crate::specs::Reply::nicklist_objects))]
+pub fn nicks_asked<'a>(world: &'a World, buffer: &Option<Text>) -> Option<Nicks<'a>>
+    ensures objects { or_null (option_map nicks_objects result)
+        ≡ nicklist_objects world.now buffer.now }
+    ensures formed { IfSome result (λ nicks. well_formed (nicks_objects nicks) ≡ true) }
+{
+    match buffer {
+        Some(name) => nicks_named(world, name.as_slice()),
+        None => Some(Nicks::of_all(world)),
     }
 }
 

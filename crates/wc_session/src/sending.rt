@@ -1,11 +1,13 @@
 ghost use Rattle.std.specs.Prelude.{◌≡◌, true, IfOk, OnErr, is_some};
 ghost use Rattle.std.specs.Str.{IsUtf8};
+ghost use Rattle.wc_events.specs.Nicks.{nicks_objects};
 ghost use Rattle.wc_objects.specs.Forms.{well_formed};
 ghost use Rattle.wc_session.specs.Sending.{message, fits, fitting, reply, null_hdata, Sends};
 ghost use Rattle.wc_session.specs.Sending.{is_owed};
 
 use bytes::BytesMut;
 use std::alloc::Global;
+use wc_events::{Nicks, write_nicks};
 use wc_objects::{Hda, Object, WriteRefused, append_message};
 use wc_text::{Items, NoMemory};
 
@@ -19,6 +21,22 @@ pub fn send(out: &mut BytesMut, id: &[u8], objects: &[Object]) -> Result<bool, N
     ensures err { OnErr result (out.new.items ≡ out.old.items) }
 {
     match append_message(out, id, objects) {
+        Ok(()) => Ok(true),
+        Err(WriteRefused::TooLong) => Ok(false),
+        Err(WriteRefused::NoMemory) => Err(NoMemory),
+    }
+}
+
+/// Puts a message of groups and nicks after the unsent bytes, and answers whether it fits in a
+/// message.
+pub fn send_nicks(out: &mut BytesMut, id: &[u8], nicks: Nicks<'_>) -> Result<bool, NoMemory>
+    requires { IsUtf8 id.now }
+    ensures fits { IfOk result (λ sent. sent ≡ fits (message id.now (nicks_objects nicks.entry))) }
+    ensures ok { IfOk result (λ sent. well_formed (nicks_objects nicks.entry) ≡ true →
+        Sends out.old.items out.new.items (fitting (message id.now (nicks_objects nicks.entry)))) }
+    ensures err { OnErr result (out.new.items ≡ out.old.items) }
+{
+    match write_nicks(out, id, nicks) {
         Ok(()) => Ok(true),
         Err(WriteRefused::TooLong) => Ok(false),
         Err(WriteRefused::NoMemory) => Err(NoMemory),
@@ -54,6 +72,30 @@ pub fn reply(
     ensures err { OnErr result (out.new.items ≡ out.old.items) }
 {
     if send(out, id, objects)? {
+        return Ok(true);
+    }
+    let null = null_hdata(alloc);
+    let sent = send(out, id, null.as_slice())?;
+    Ok(sent)
+}
+
+/// The same of a reply of groups and nicks.
+#[tactic(auto, unfolding(crate::specs::Sending::reply))]
+pub fn reply_nicks(
+    alloc: Global,
+    out: &mut BytesMut,
+    id: &[u8],
+    nicks: Nicks<'_>,
+) -> Result<bool, NoMemory>
+    requires formed { well_formed (nicks_objects nicks) ≡ true }
+    requires text { IsUtf8 id.now }
+    ensures owed { IfOk result
+        (λ sent. sent ≡ is_owed (reply id.now (nicks_objects nicks.entry))) }
+    ensures ok { IfOk result (λ sent. Sends out.old.items out.new.items
+        (reply id.now (nicks_objects nicks.entry))) }
+    ensures err { OnErr result (out.new.items ≡ out.old.items) }
+{
+    if send_nicks(out, id, nicks)? {
         return Ok(true);
     }
     let null = null_hdata(alloc);

@@ -1,5 +1,6 @@
 ghost use Rattle.std.specs.Prelude.{◌≡◌, true, codes, IfOk, OnErr};
 ghost use Rattle.std.specs.Str.{IsUtf8};
+ghost use Rattle.wc_events.specs.Nicks.{nicks_objects};
 ghost use Rattle.wc_objects.specs.Forms.{well_formed};
 ghost use Rattle.wc_relaycmd.specs.Utf8.{RequestIsUtf8, CommandUtf8};
 ghost use Rattle.wc_session.specs.declared.client.Client.{Client};
@@ -16,15 +17,15 @@ use crate::handshake::shake;
 use crate::heeded::{masks_of, password_of};
 use crate::login::log_in;
 use crate::names::buffer_named;
-use crate::objects::{info_objects, infolist_objects, list_of_named, pong_objects, test_objects};
+use crate::objects::{info_objects, infolist_objects, nicks_asked, pong_objects, test_objects};
 use crate::outcome::Outcome;
 use crate::paths::reply_walk;
-use crate::sending::{null_hdata, reply};
+use crate::sending::{null_hdata, reply, reply_nicks};
 use crate::sync::{desynchronize, synchronize};
 use bytes::BytesMut;
 use std::alloc::Global;
 use wc_buffers::Buffers;
-use wc_events::nick_dump;
+use wc_events::Nicks;
 use wc_objects::Object;
 use wc_options::Options;
 use wc_relaycmd::{Command, Request};
@@ -73,30 +74,45 @@ fn give_hdata(
     Ok(Outcome::Replied)
 }
 
+/// Serves a request by groups and nicks as its reply.
+fn give_list(
+    alloc: Global,
+    out: &mut BytesMut,
+    id: &[u8],
+    nicks: Nicks<'_>,
+) -> Result<Outcome, NoMemory>
+    requires formed { well_formed (nicks_objects nicks) ≡ true }
+    requires text { IsUtf8 id.now }
+    ensures ok { IfOk result (λ outcome. (client : Client) →
+        GivesAnswer out.old.items out.new.items outcome client
+        (replies client (reply id.now (nicks_objects nicks.entry)))) }
+    ensures err { OnErr result (out.new.items ≡ out.old.items) }
+{
+    if !reply_nicks(alloc, out, id, nicks)? {
+        return Ok(Outcome::Silent);
+    }
+    Ok(Outcome::Replied)
+}
+
 /// Serves `nicklist`: the nicklists of all buffers, or that of the buffer that is named, and the
 /// null hdata where there is no such buffer.
-#[tactic(auto, unfolding(crate::specs::Reply::nicklist_objects))]
 fn give_nicks(
     alloc: Global,
     out: &mut BytesMut,
     world: &World,
     id: &[u8],
-    buffer: Option<Text>,
+    buffer: &Option<Text>,
 ) -> Result<Outcome, NoMemory>
     requires { IsUtf8 id.now }
     ensures ok { IfOk result (λ outcome. (client : Client) →
         GivesAnswer out.old.items out.new.items outcome client
-        (replies client (reply id.now (nicklist_objects world.now buffer)))) }
+        (replies client (reply id.now (nicklist_objects world.now buffer.now)))) }
     ensures err { OnErr result (out.new.items ≡ out.old.items) }
 {
-    let Some(name) = buffer else {
-        let objects = nick_dump(alloc, world)?;
-        return give(alloc, out, id, objects.as_slice());
-    };
-    if let Some(objects) = list_of_named(alloc, world, name.as_slice())? {
-        return give(alloc, out, id, objects.as_slice());
+    match nicks_asked(world, buffer) {
+        Some(nicks) => give_list(alloc, out, id, nicks),
+        None => give_null(alloc, out, id),
     }
-    give(alloc, out, id, null_hdata(alloc).as_slice())
 }
 
 fn input(buffers: &Buffers, buffer: &[u8], text: Text) -> Outcome
@@ -151,7 +167,7 @@ fn give_infolist(
     give(alloc, out, id, objects.as_slice())
 }
 
-/// Serves `completion`, of which there is none.
+/// Serves a request by the null hdata, as `completion`, of which there is none.
 fn give_null(alloc: Global, out: &mut BytesMut, id: &[u8]) -> Result<Outcome, NoMemory>
     requires { IsUtf8 id.now }
     ensures ok { IfOk result (λ outcome. (client : Client) →
@@ -244,7 +260,7 @@ fn serve_command(
         Command::Infolist { name, argument } => {
             give_infolist(alloc, out, world, id, &name, &argument)
         }
-        Command::Nicklist(buffer) => give_nicks(alloc, out, world, id, buffer),
+        Command::Nicklist(buffer) => give_nicks(alloc, out, world, id, &buffer),
         Command::Completion { .. } => give_null(alloc, out, id),
         Command::Input { buffer, text } => Ok(input(world.buffers(), buffer.as_slice(), text)),
         Command::Sync {

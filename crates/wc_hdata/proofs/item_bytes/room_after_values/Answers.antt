@@ -4,7 +4,7 @@ use Rattle.std.proofs.lemmas.List.Folds.{length-flat_map-take}
 use Rattle.wc_keys.specs.declared.key.Key.TheVariants.{Number}
 use Rattle.wc_hdata.specs.Reached.{place_of}
 use Rattle.wc_hdata.specs.WalkBytes.{key_bytes}
-use Rattle.wc_hdata.proofs.ValueBytes.{one_more}
+use Rattle.wc_events.proofs.ValueBytes.{one_more}
 use Rattle.wc_hdata.proofs.item_bytes.room_after_values.Goals as goal
 
 pub returns-in_err-left : goal.returns-in_err-left

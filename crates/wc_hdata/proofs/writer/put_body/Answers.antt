@@ -2,7 +2,7 @@ use Rattle.std.proofs.Common.{◌++◌, length}
 use Rattle.wc_objects.specs.Spelling.{be32}
 use Rattle.wc_objects.proofs.Rooms.{rest_has_room, count_has_room}
 use Rattle.wc_hdata.specs.WalkBytes.{nodes_bytes}
-use Rattle.wc_hdata.specs.WalkRoom.{front_part}
+use Rattle.wc_events.specs.HdaBytes.{front_part}
 use Rattle.wc_hdata.proofs.writer.put_body.Goals as goal
 
 pub put_count-requires : goal.put_count-requires

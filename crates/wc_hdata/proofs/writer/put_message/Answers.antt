@@ -1,4 +1,4 @@
-use Rattle.wc_hdata.specs.WalkRoom.{front_part}
+use Rattle.wc_events.specs.HdaBytes.{front_part}
 use Rattle.wc_hdata.proofs.WalkRooms.{body_has_room, message_is}
 use Rattle.wc_hdata.proofs.writer.put_message.Goals as goal
 

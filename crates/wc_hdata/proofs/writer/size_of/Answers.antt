@@ -1,6 +1,7 @@
 use Rattle.std.proofs.Common.{rules, refl, arith}
 use Rattle.std.proofs.Math.Nat.{lt_of_not-le}
-use Rattle.wc_hdata.specs.WalkRoom.{IsTooLong, front_part}
+use Rattle.wc_hdata.specs.WalkRoom.{IsTooLong}
+use Rattle.wc_events.specs.HdaBytes.{front_part}
 use Rattle.wc_hdata.proofs.WalkRooms.{front_over, items_over, message_over, is_size}
 use Rattle.wc_hdata.proofs.writer.size_of.Goals as goal
 
