@@ -1,19 +1,13 @@
 //! What is typed for a server, and what it says before something is closed.
 
-use crate::acts::put_acts;
+use crate::acts::{put_answer, put_result};
+use crate::sheet::Sheet;
 use crate::stage::{Stage, named, utf8};
 use std::alloc::Global;
 use wc_buffers::Buffers;
-use wc_irc::{Act, Server, on_command_unlinked};
-use wc_notation::{Wrong, cut_word, put_quoted};
-use wc_text::{Handle, Items};
-
-fn put_answer(out: &mut String, acts: Option<Items<Act>>) -> Result<(), Wrong> {
-    match acts {
-        Some(acts) => Ok(put_acts(out, acts.as_slice())?),
-        None => Ok(out.push_str("another command\n")?),
-    }
-}
+use wc_irc::{Server, on_command_unlinked};
+use wc_notation::{Wrong, cut_word};
+use wc_text::Handle;
 
 /// Types a text into the buffer that a word names.
 fn type_text(
@@ -21,15 +15,16 @@ fn type_text(
     server: &Server,
     buffers: &Buffers,
     rest: &str,
-    out: &mut String,
+    out: &mut Sheet,
 ) -> Result<(), Wrong> {
     let (buffer, text) = cut_word(rest);
     let buffer = named(alloc, buffers, buffer)?;
     let text = utf8(alloc, text)?;
     put_answer(
         out,
-        server.on_command(alloc, buffers, buffer, text.as_slice())?,
-    )
+        server.on_command(alloc, buffers, buffer, text.as_slice()),
+    );
+    Ok(())
 }
 
 /// The same where the buffer's server has no link.
@@ -37,15 +32,16 @@ fn type_unlinked(
     alloc: Global,
     buffers: &Buffers,
     rest: &str,
-    out: &mut String,
+    out: &mut Sheet,
 ) -> Result<(), Wrong> {
     let (buffer, text) = cut_word(rest);
     let buffer = named(alloc, buffers, buffer)?;
     let text = utf8(alloc, text)?;
     put_answer(
         out,
-        on_command_unlinked(alloc, buffers, buffer, text.as_slice())?,
-    )
+        on_command_unlinked(alloc, buffers, buffer, text.as_slice()),
+    );
+    Ok(())
 }
 
 /// Types a text into the buffer of a handle, where it is there.
@@ -55,18 +51,19 @@ fn type_at(
     buffers: &Buffers,
     handle: Handle,
     text: &str,
-    out: &mut String,
+    out: &mut Sheet,
 ) -> Result<(), Wrong> {
     let Some(row) = buffers.get(handle) else {
         return Ok(());
     };
-    put_quoted(out, row.full_name.as_slice())?;
-    out.push('\n')?;
+    out.put_quoted(row.full_name.as_slice());
+    out.put("\n");
     let text = utf8(alloc, text)?;
     put_answer(
         out,
-        server.on_command(alloc, buffers, handle, text.as_slice())?,
-    )
+        server.on_command(alloc, buffers, handle, text.as_slice()),
+    );
+    Ok(())
 }
 
 /// Types a text into each of the first five buffers.
@@ -75,7 +72,7 @@ fn type_everywhere(
     server: &Server,
     buffers: &Buffers,
     text: &str,
-    out: &mut String,
+    out: &mut Sheet,
 ) -> Result<(), Wrong> {
     for number in 1..=5 {
         type_at(alloc, server, buffers, Handle(number), text, out)?;
@@ -88,36 +85,29 @@ fn close(
     server: &Server,
     buffers: &Buffers,
     rest: &str,
-    out: &mut String,
+    out: &mut Sheet,
 ) -> Result<(), Wrong> {
     let buffer = named(alloc, buffers, rest)?;
-    let acts = server.before_close(alloc, buffers, buffer)?;
-    Ok(put_acts(out, acts.as_slice())?)
+    put_result(out, server.before_close(alloc, buffers, buffer));
+    Ok(())
 }
 
-fn link(alloc: Global, server: &mut Server, out: &mut String) -> Result<(), Wrong> {
-    let acts = server.registered_lines(alloc)?;
-    Ok(put_acts(out, acts.as_slice())?)
-}
-
-fn lose(
+/// Writes the answer of a call on a server about a buffer.
+fn buffers_answer(
     alloc: Global,
-    server: &mut Server,
+    server: &Server,
     buffers: &Buffers,
-    out: &mut String,
+    call: &str,
+    rest: &str,
+    out: &mut Sheet,
 ) -> Result<(), Wrong> {
-    let acts = server.on_lost(alloc, buffers)?;
-    Ok(put_acts(out, acts.as_slice())?)
-}
-
-fn quit(alloc: Global, server: &Server, out: &mut String) -> Result<(), Wrong> {
-    let acts = server.before_quit(alloc)?;
-    Ok(put_acts(out, acts.as_slice())?)
-}
-
-fn disconnect(alloc: Global, server: &Server, out: &mut String) -> Result<(), Wrong> {
-    let acts = server.on_disconnect(alloc)?;
-    Ok(put_acts(out, acts.as_slice())?)
+    match call {
+        "type" => type_text(alloc, server, buffers, rest, out),
+        "everywhere" => type_everywhere(alloc, server, buffers, rest, out),
+        "unlinked" => type_unlinked(alloc, buffers, rest, out),
+        "close" => close(alloc, server, buffers, rest, out),
+        _ => Err(Wrong::Word),
+    }
 }
 
 /// Writes the answer of a call on a server.
@@ -127,18 +117,15 @@ pub fn commands_answer(
     stage: &Stage,
     call: &str,
     rest: &str,
-    out: &mut String,
+    out: &mut Sheet,
 ) -> Result<(), Wrong> {
     let buffers = &stage.buffers;
     match call {
-        "link" => link(alloc, server, out),
-        "lose" => lose(alloc, server, buffers, out),
-        "type" => type_text(alloc, server, buffers, rest, out),
-        "everywhere" => type_everywhere(alloc, server, buffers, rest, out),
-        "unlinked" => type_unlinked(alloc, buffers, rest, out),
-        "close" => close(alloc, server, buffers, rest, out),
-        "quit" => quit(alloc, server, out),
-        "disconnect" => disconnect(alloc, server, out),
-        _ => Err(Wrong::Word),
+        "link" => put_result(out, server.registered_lines(alloc)),
+        "lose" => put_result(out, server.on_lost(alloc, buffers)),
+        "quit" => put_result(out, server.before_quit(alloc)),
+        "disconnect" => put_result(out, server.on_disconnect(alloc)),
+        _ => return buffers_answer(alloc, server, buffers, call, rest, out),
     }
+    Ok(())
 }

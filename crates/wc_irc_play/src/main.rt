@@ -14,27 +14,30 @@ mod options;
 mod player;
 mod rows;
 mod server;
+mod sheet;
 mod stage;
 mod texts;
 mod typed;
 
 use player::Player;
+use sheet::Sheet;
 use std::alloc::Global;
 use std::{env, fs, io};
-use wc_notation::Wrong;
+use wc_text::NoMemory;
 
-/// What a table comes to.
-fn played(alloc: Global, text: &str) -> Result<String, Wrong> {
-    let mut player = Player::new(alloc)?;
-    player.play(alloc, text)
+/// Plays the lines of a table, and writes each with its answer.
+fn play(alloc: Global, text: &str, out: &mut Sheet) {
+    match Player::new(alloc) {
+        Ok(mut player) => player.play(alloc, text, out),
+        Err(NoMemory) => out.lack(),
+    }
 }
 
 fn print_table(rt: &HostRuntime, name: &str) -> io::Result<()> {
     let text = fs::read_to_string(rt, name)?;
-    match played(rt.alloc(), text.as_str()) {
-        Ok(answers) => print!(rt; "== {name}\n{answers}"),
-        Err(wrong) => print!(rt; "== {name}\n! {}\n", wrong.as_str()),
-    }
+    let mut out = Sheet::new(rt.alloc());
+    play(rt.alloc(), text.as_str(), &mut out);
+    print!(rt; "== {name}\n{}", out.read())
 }
 
 fn main(rt: HostRuntime) -> io::Result<()> {

@@ -1,9 +1,10 @@
 //! The nicks of a channel.
 
-use std::alloc::{AllocError, Global};
+use crate::sheet::Sheet;
+use std::alloc::Global;
 use wc_irc_nicks::{Members, NewNick};
 use wc_irc_texts::{ModeSet, Seat};
-use wc_notation::{Wrong, put_quoted, two_texts, unescape};
+use wc_notation::{Wrong, two_texts, unescape};
 use wc_text::Text;
 
 /// The most bytes of a nick.
@@ -21,37 +22,36 @@ fn modes_of(digits: &Text) -> Result<ModeSet, Wrong> {
     Ok(modes)
 }
 
-fn put_modes(out: &mut String, modes: ModeSet) -> Result<(), AllocError> {
+fn put_modes(out: &mut Sheet, modes: ModeSet) {
     for place in 0..10 {
         if modes.has(place) {
-            write!(out, "{place}")?;
+            out.put_number(place as u64);
         }
     }
-    match modes.highest() {
-        Some(place) => write!(out, " highest {place}"),
-        None => Ok(()),
+    if let Some(place) = modes.highest() {
+        out.put(" highest ");
+        out.put_number(place as u64);
     }
 }
 
-fn put_seat(out: &mut String, seat: &Seat) -> Result<(), AllocError> {
-    put_quoted(out, seat.nick.as_slice())?;
-    put_modes(out, seat.modes)
+fn put_seat(out: &mut Sheet, seat: &Seat) {
+    out.put_quoted(seat.nick.as_slice());
+    put_modes(out, seat.modes);
 }
 
 /// Writes how many nicks there are, and each with its modes.
-pub fn put_all(out: &mut String, members: &Members) -> Result<(), AllocError> {
-    write!(out, "{}", members.count())?;
+pub fn put_all(out: &mut Sheet, members: &Members) {
+    out.put_number(members.count() as u64);
     for seat in members.iter() {
-        out.push(' ')?;
-        put_seat(out, seat)?;
+        out.put(" ");
+        put_seat(out, seat);
     }
-    Ok(())
 }
 
-fn put_found(out: &mut String, members: &Members, nick: &Text) -> Result<(), AllocError> {
+fn put_found(out: &mut Sheet, members: &Members, nick: &Text) {
     match members.find(nick.as_slice()) {
         Some(seat) => put_seat(out, seat),
-        None => out.push_str("not there"),
+        None => out.put("not there"),
     }
 }
 
@@ -99,9 +99,15 @@ fn come_or_go(alloc: Global, members: &mut Members, comes: bool, rest: &str) -> 
     Ok(())
 }
 
-fn find(alloc: Global, members: &Members, rest: &str, out: &mut String) -> Result<(), Wrong> {
+fn find(alloc: Global, members: &Members, rest: &str, out: &mut Sheet) -> Result<(), Wrong> {
     let nick = unescape(alloc, rest)?;
-    Ok(put_found(out, members, &nick)?)
+    put_found(out, members, &nick);
+    Ok(())
+}
+
+fn put_nicks(out: &mut Sheet, members: &Members) -> Result<(), Wrong> {
+    put_all(out, members);
+    Ok(())
 }
 
 /// Writes the answer of a call on the nicks of a channel.
@@ -110,7 +116,7 @@ pub fn nicks_answer(
     members: &mut Members,
     call: &str,
     rest: &str,
-    out: &mut String,
+    out: &mut Sheet,
 ) -> Result<(), Wrong> {
     match call {
         "come" => come_or_go(alloc, members, true, rest),
@@ -118,7 +124,7 @@ pub fn nicks_answer(
         "name" => name(alloc, members, rest),
         "give" => give(alloc, members, rest),
         "find" => find(alloc, members, rest, out),
-        "nicks" => Ok(put_all(out, members)?),
+        "nicks" => put_nicks(out, members),
         _ => Err(Wrong::Word),
     }
 }

@@ -2,12 +2,13 @@ use crate::marks::{lengthened, put_mark};
 use crate::nicks::nicks_answer;
 use crate::rows::rows_answer;
 use crate::server::Scene;
+use crate::sheet::Sheet;
 use crate::texts::texts_answer;
 use crate::typed::typed;
-use std::alloc::{AllocError, Global};
+use std::alloc::Global;
 use wc_irc_nicks::Members;
 use wc_ircmsg::CaseMap;
-use wc_notation::{Wrong, cut_word, end_answer, is_passed_over};
+use wc_notation::{Wrong, cut_word, is_passed_over};
 use wc_text::NoMemory;
 
 /// The nicks of a channel and the server, which the lines of a table change.
@@ -15,6 +16,73 @@ use wc_text::NoMemory;
 pub struct Player {
     members: Members,
     scene: Scene,
+}
+
+/// What a call is of.
+#[derive(Clone, Copy)]
+enum Part {
+    Typed,
+    Rows,
+    Nicks,
+    Scene,
+    Commands,
+    Options,
+    Texts,
+}
+
+const ROWS: &[&str] = &[
+    "kind",
+    "registered",
+    "tokens",
+    "modes",
+    "groups",
+    "listed",
+    "nick",
+    "channel",
+];
+
+const NICKS: &[&str] = &["come", "go", "name", "give", "find", "nicks"];
+
+const SCENE: &[&str] = &[
+    "set", "buffer", "var", "rename", "gone", "begin", "hear", "mark", "told", "lists",
+];
+
+const COMMANDS: &[&str] = &[
+    "link",
+    "lose",
+    "type",
+    "everywhere",
+    "unlinked",
+    "close",
+    "quit",
+    "disconnect",
+];
+
+const OPTIONS: &[&str] = &[
+    "settings",
+    "delete",
+    "delete-linked",
+    "connect",
+    "connect-linked",
+];
+
+/// The parts whose calls have these words. All other calls are of texts.
+const PARTS: &[(Part, &[&str])] = &[
+    (Part::Typed, &["typed"]),
+    (Part::Rows, ROWS),
+    (Part::Nicks, NICKS),
+    (Part::Scene, SCENE),
+    (Part::Commands, COMMANDS),
+    (Part::Options, OPTIONS),
+];
+
+fn part_of(call: &str) -> Part {
+    for (part, words) in PARTS {
+        if words.iter().any(|word| *word == call) {
+            return *part;
+        }
+    }
+    Part::Texts
 }
 
 impl Player {
@@ -32,49 +100,41 @@ impl Player {
         alloc: Global,
         call: &str,
         rest: &str,
-        out: &mut String,
+        out: &mut Sheet,
     ) -> Result<(), Wrong> {
-        match call {
-            "typed" => typed(alloc, rest, out),
-            "kind" | "registered" | "tokens" | "modes" | "groups" | "listed" => {
-                rows_answer(alloc, call, rest, out)
-            }
-            "come" | "go" | "name" | "give" | "find" | "nicks" => {
-                nicks_answer(alloc, &mut self.members, call, rest, out)
-            }
-            "set"
-            | "buffer"
-            | "var"
-            | "rename"
-            | "gone"
-            | "begin"
-            | "hear"
-            | "mark"
-            | "told"
-            | "lists" => self.scene.answer(alloc, call, rest, out),
-            "link"
-            | "lose"
-            | "type"
-            | "everywhere"
-            | "unlinked"
-            | "close"
-            | "quit"
-            | "disconnect" => self.scene.command(alloc, call, rest, out),
-            "settings" | "delete" | "delete-linked" | "connect" | "connect-linked" => {
-                self.scene.options(alloc, call, rest, out)
-            }
-            _ => texts_answer(alloc, call, rest, out),
+        match part_of(call) {
+            Part::Typed => typed(alloc, rest, out),
+            Part::Rows => rows_answer(alloc, call, rest, out),
+            Part::Nicks => nicks_answer(alloc, &mut self.members, call, rest, out),
+            Part::Scene => self.scene.answer(alloc, call, rest, out),
+            Part::Commands => self.scene.command(alloc, call, rest, out),
+            Part::Options => self.scene.options(alloc, call, rest, out),
+            Part::Texts => texts_answer(alloc, call, rest, out),
         }
     }
 
     /// Writes the mark of a call's answer, whose text goes on with so many letters.
-    fn long(&mut self, alloc: Global, words: &str, out: &mut String) -> Result<(), Wrong> {
+    fn long(&mut self, alloc: Global, words: &str, out: &mut Sheet) -> Result<(), Wrong> {
         let (count, rest) = cut_word(words);
         let (call, rest) = cut_word(rest);
+        let Ok(count) = count.parse::<u32>() else {
+            return Err(Wrong::Number);
+        };
         let text = lengthened(alloc, rest, count)?;
-        let mut whole = String::new(alloc);
-        self.answer(alloc, call, text.as_str(), &mut whole)?;
-        put_mark(out, whole.as_str())
+        self.answer_by_mark(alloc, call, text.as_str(), out)
+    }
+
+    fn answer_by_mark(
+        &mut self,
+        alloc: Global,
+        call: &str,
+        rest: &str,
+        out: &mut Sheet,
+    ) -> Result<(), Wrong> {
+        let mut whole = Sheet::new(alloc);
+        self.answer(alloc, call, rest, &mut whole)?;
+        put_mark(out, whole.read());
+        Ok(())
     }
 
     fn answer_or_mark(
@@ -82,7 +142,7 @@ impl Player {
         alloc: Global,
         call: &str,
         rest: &str,
-        out: &mut String,
+        out: &mut Sheet,
     ) -> Result<(), Wrong> {
         if call == "long" {
             return self.long(alloc, rest, out);
@@ -91,22 +151,25 @@ impl Player {
     }
 
     /// Writes a line and its answer.
-    fn turn(&mut self, alloc: Global, line: &str, out: &mut String) -> Result<(), AllocError> {
+    fn turn(&mut self, alloc: Global, line: &str, out: &mut Sheet) {
         if is_passed_over(line) {
-            return Ok(());
+            return;
         }
-        write!(out, "> {line}\n")?;
+        out.put("> ");
+        out.put(line);
+        out.put("\n");
         let (call, rest) = cut_word(line);
-        let answered = self.answer_or_mark(alloc, call, rest, out);
-        end_answer(out, answered)
+        if let Err(wrong) = self.answer_or_mark(alloc, call, rest, out) {
+            out.put("! ");
+            out.put(wrong.as_str());
+        }
+        out.put("\n");
     }
 
-    /// The lines of a table, each with its answer.
-    pub fn play(&mut self, alloc: Global, text: &str) -> Result<String, Wrong> {
-        let mut out = String::new(alloc);
+    /// Writes the lines of a table, each with its answer.
+    pub fn play(&mut self, alloc: Global, text: &str, out: &mut Sheet) {
         for line in text.lines() {
-            self.turn(alloc, line, &mut out)?;
+            self.turn(alloc, line, out);
         }
-        Ok(out)
     }
 }

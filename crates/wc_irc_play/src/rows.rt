@@ -1,19 +1,23 @@
-//! Messages of a server: their kinds, what 005 tells, and what MODE sets.
+//! Messages of a server: their kinds, what 005 tells, and what MODE sets. Names of nicks and of
+//! channels.
 
-use crate::texts::{own_words, put_texts};
-use std::alloc::{AllocError, Global};
+use crate::sheet::Sheet;
+use crate::texts::{own_words, put_list};
+use std::alloc::Global;
 use wc_irc_texts::{
-    Features, ModeChange, group_at, group_names, kind_of, listed_name, mode_changes, sign_at,
-    source_text,
+    Features, ModeChange, group_at, group_names, is_channel, is_nick, kind_of, listed_name,
+    mode_changes, sign_at, source_text,
 };
 use wc_ircmsg::{CaseMap, Message, read_line};
-use wc_notation::{Wrong, put_named, put_quoted, unescape};
-use wc_text::Text;
+use wc_notation::{Wrong, unescape};
+use wc_text::{NoMemory, Text};
 
 /// Whom a message is from.
-fn put_source(alloc: Global, message: &Message, out: &mut String) -> Result<(), Wrong> {
-    let source = source_text(alloc, message)?;
-    Ok(put_named(out, " from", source.as_slice())?)
+fn put_source(alloc: Global, message: &Message, out: &mut Sheet) {
+    match source_text(alloc, message) {
+        Ok(source) => out.put_named(" from", source.as_slice()),
+        Err(NoMemory) => out.lack(),
+    }
 }
 
 /// Writes the kind of a message to a server that tells this, and whom it is from.
@@ -22,11 +26,12 @@ fn put_kind(
     features: &Features,
     is_registered: bool,
     message: &Message,
-    out: &mut String,
-) -> Result<(), Wrong> {
+    out: &mut Sheet,
+) {
     let kind = kind_of(features.chan_types.as_slice(), is_registered, message);
-    write!(out, "{kind:?}")?;
-    put_source(alloc, message, out)
+    let written = write!(out.text, "{kind:?}");
+    out.note(written);
+    put_source(alloc, message, out);
 }
 
 fn put_line(
@@ -34,17 +39,13 @@ fn put_line(
     features: &Features,
     is_registered: bool,
     line: &Text,
-    out: &mut String,
+    out: &mut Sheet,
 ) -> Result<(), Wrong> {
     match read_line(alloc, line.as_slice()) {
         Ok(message) => put_kind(alloc, features, is_registered, &message, out),
-        Err(_) => Err(Wrong::NoText),
+        Err(_) => return Err(Wrong::NoText),
     }
-}
-
-fn kind(alloc: Global, is_registered: bool, line: &Text, out: &mut String) -> Result<(), Wrong> {
-    let features = Features::new(alloc)?;
-    put_line(alloc, &features, is_registered, line, out)
+    Ok(())
 }
 
 fn case_map_name(case_map: CaseMap) -> &'static str {
@@ -56,103 +57,120 @@ fn case_map_name(case_map: CaseMap) -> &'static str {
 }
 
 /// Writes what a server told of itself.
-pub fn put_features(out: &mut String, features: &Features) -> Result<(), AllocError> {
-    put_named(out, "modes", features.prefixes.modes.as_slice())?;
-    put_named(out, " signs", features.prefixes.chars.as_slice())?;
-    put_named(out, " types", features.chan_types.as_slice())?;
-    put_named(out, " lists", features.chan_modes.as_slice())?;
-    write!(out, " names {}", case_map_name(features.case_map))
+pub fn put_features(out: &mut Sheet, features: &Features) {
+    out.put_named("modes", features.prefixes.modes.as_slice());
+    out.put_named(" signs", features.prefixes.chars.as_slice());
+    out.put_named(" types", features.chan_types.as_slice());
+    out.put_named(" lists", features.chan_modes.as_slice());
+    out.put(" names ");
+    out.put(case_map_name(features.case_map));
 }
 
-fn after(alloc: Global, params: &[Text]) -> Result<Features, Wrong> {
-    let features = Features::new(alloc)?;
-    Ok(features.after_tokens(alloc, params)?)
-}
-
-/// What a 005 with these parameters tells.
-fn told(alloc: Global, text: &Text) -> Result<Features, Wrong> {
-    let params = own_words(alloc, text.as_slice())?;
-    after(alloc, params.as_slice())
+/// What is told after a 005 with these parameters.
+fn told(alloc: Global, features: &Features, text: &Text) -> Result<Features, NoMemory> {
+    match own_words(alloc, text.as_slice()) {
+        Ok(params) => features.after_tokens(alloc, params.as_slice()),
+        Err(NoMemory) => Err(NoMemory),
+    }
 }
 
 /// Writes what a 005 with these parameters tells.
-fn tokens(alloc: Global, text: &Text, out: &mut String) -> Result<(), Wrong> {
-    let told = told(alloc, text)?;
-    Ok(put_features(out, &told)?)
+fn tokens(alloc: Global, features: &Features, text: &Text, out: &mut Sheet) {
+    match told(alloc, features, text) {
+        Ok(told) => put_features(out, &told),
+        Err(NoMemory) => out.lack(),
+    }
 }
 
-fn put_change(out: &mut String, change: ModeChange<'_>) -> Result<(), AllocError> {
+/// Writes the groups of a server that told this by 005.
+fn groups(alloc: Global, features: &Features, text: &Text, out: &mut Sheet) {
+    match told(alloc, features, text) {
+        Ok(told) => put_list(out, group_names(alloc, &told.prefixes)),
+        Err(NoMemory) => out.lack(),
+    }
+}
+
+fn put_change(out: &mut Sheet, change: ModeChange<'_>) {
     let sign = if change.adds { '+' } else { '-' };
     let letter = change.letter as char;
-    write!(out, " {sign}{letter}")?;
-    put_quoted(out, change.nick)
+    let written = write!(out.text, " {sign}{letter}");
+    out.note(written);
+    out.put_quoted(change.nick);
 }
 
-fn put_changes(out: &mut String, changes: &[ModeChange<'_>]) -> Result<(), AllocError> {
-    write!(out, "{}", changes.len())?;
+fn put_changes(out: &mut Sheet, changes: &[ModeChange<'_>]) {
+    out.put_number(changes.len() as u64);
     for change in changes {
-        put_change(out, *change)?;
+        put_change(out, *change);
+    }
+}
+
+fn put_modes(alloc: Global, features: &Features, params: &[Text], out: &mut Sheet) {
+    match mode_changes(alloc, features, params) {
+        Ok(changes) => put_changes(out, changes.as_slice()),
+        Err(NoMemory) => out.lack(),
+    }
+}
+
+/// Writes what a MODE with these parameters sets.
+fn modes(alloc: Global, features: &Features, text: &Text, out: &mut Sheet) {
+    match own_words(alloc, text.as_slice()) {
+        Ok(params) => put_modes(alloc, features, params.as_slice(), out),
+        Err(NoMemory) => out.lack(),
+    }
+}
+
+fn put_group(alloc: Global, features: &Features, place: Option<usize>, out: &mut Sheet) {
+    match group_at(alloc, &features.prefixes, place) {
+        Ok(group) => out.put_named(" group", group.as_slice()),
+        Err(NoMemory) => out.lack(),
+    }
+    out.put_named(" sign", sign_at(&features.prefixes, place));
+}
+
+/// Writes the nick of a name with signs, its group and its sign.
+fn listed(alloc: Global, features: &Features, name: &Text, out: &mut Sheet) {
+    let listed = listed_name(&features.prefixes, name.as_slice());
+    out.put_named("nick", listed.nick);
+    put_group(alloc, features, listed.modes.highest(), out);
+}
+
+fn put_nick(features: &Features, text: &Text, out: &mut Sheet) {
+    let is = is_nick(&features.prefixes, text.as_slice());
+    out.put(if is { "a nick" } else { "no nick" });
+}
+
+fn put_channel(features: &Features, text: &Text, out: &mut Sheet) {
+    let is = is_channel(features.chan_types.as_slice(), text.as_slice());
+    out.put(if is { "a channel" } else { "no channel" });
+}
+
+fn put_answer(
+    alloc: Global,
+    features: &Features,
+    call: &str,
+    text: &Text,
+    out: &mut Sheet,
+) -> Result<(), Wrong> {
+    match call {
+        "kind" => return put_line(alloc, features, false, text, out),
+        "registered" => return put_line(alloc, features, true, text, out),
+        "tokens" => tokens(alloc, features, text, out),
+        "modes" => modes(alloc, features, text, out),
+        "groups" => groups(alloc, features, text, out),
+        "listed" => listed(alloc, features, text, out),
+        "nick" => put_nick(features, text, out),
+        "channel" => put_channel(features, text, out),
+        _ => return Err(Wrong::Word),
     }
     Ok(())
 }
 
-fn put_modes(
-    alloc: Global,
-    features: &Features,
-    params: &[Text],
-    out: &mut String,
-) -> Result<(), Wrong> {
-    let changes = mode_changes(alloc, features, params)?;
-    Ok(put_changes(out, changes.as_slice())?)
-}
-
-/// Writes what a MODE with these parameters sets.
-fn modes(alloc: Global, text: &Text, out: &mut String) -> Result<(), Wrong> {
-    let features = Features::new(alloc)?;
-    let params = own_words(alloc, text.as_slice())?;
-    put_modes(alloc, &features, params.as_slice(), out)
-}
-
-fn put_groups(alloc: Global, features: &Features, out: &mut String) -> Result<(), Wrong> {
-    let names = group_names(alloc, &features.prefixes)?;
-    Ok(put_texts(out, names.as_slice())?)
-}
-
-/// Writes the groups of a server that told this by 005.
-fn groups(alloc: Global, text: &Text, out: &mut String) -> Result<(), Wrong> {
-    let told = told(alloc, text)?;
-    put_groups(alloc, &told, out)
-}
-
-fn put_group(
-    alloc: Global,
-    features: &Features,
-    place: Option<usize>,
-    out: &mut String,
-) -> Result<(), Wrong> {
-    let group = group_at(alloc, &features.prefixes, place)?;
-    put_named(out, " group", group.as_slice())?;
-    Ok(put_named(out, " sign", sign_at(&features.prefixes, place))?)
-}
-
-/// Writes the nick of a name with signs, its group and its sign.
-fn listed(alloc: Global, name: &Text, out: &mut String) -> Result<(), Wrong> {
-    let features = Features::new(alloc)?;
-    let listed = listed_name(&features.prefixes, name.as_slice());
-    put_named(out, "nick", listed.nick)?;
-    put_group(alloc, &features, listed.modes.highest(), out)
-}
-
-/// Writes the answer of a call on a message.
-pub fn rows_answer(alloc: Global, call: &str, rest: &str, out: &mut String) -> Result<(), Wrong> {
+/// Writes the answer of a call where the server told nothing yet.
+pub fn rows_answer(alloc: Global, call: &str, rest: &str, out: &mut Sheet) -> Result<(), Wrong> {
     let text = unescape(alloc, rest)?;
-    match call {
-        "kind" => kind(alloc, false, &text, out),
-        "registered" => kind(alloc, true, &text, out),
-        "tokens" => tokens(alloc, &text, out),
-        "modes" => modes(alloc, &text, out),
-        "groups" => groups(alloc, &text, out),
-        "listed" => listed(alloc, &text, out),
-        _ => Err(Wrong::Word),
+    match Features::new(alloc) {
+        Ok(features) => put_answer(alloc, &features, call, &text, out),
+        Err(NoMemory) => Err(Wrong::NoMemory),
     }
 }

@@ -1,55 +1,39 @@
-//! Texts, names, and the channels that are joined by themselves.
+//! Texts, and the channels that are joined by themselves.
 
-use std::alloc::{AllocError, Global};
+use crate::sheet::Sheet;
+use std::alloc::Global;
 use wc_irc::autojoin_lines;
-use wc_irc_texts::{Features, in_one_line, is_channel, is_nick, plain, reason_text, spaced};
-use wc_notation::{Wrong, put_either, put_quoted, unescape};
-use wc_text::{Items, Text, words};
+use wc_irc_texts::{in_one_line, plain, reason_text, spaced};
+use wc_notation::{Wrong, unescape};
+use wc_text::{Items, NoMemory, Text, words};
 
 /// Writes how many texts there are, and each of them.
-pub fn put_texts(out: &mut String, texts: &[Text]) -> Result<(), AllocError> {
-    write!(out, "{}", texts.len())?;
+pub fn put_texts(out: &mut Sheet, texts: &[Text]) {
+    out.put_number(texts.len() as u64);
     for text in texts {
-        out.push(' ')?;
-        put_quoted(out, text.as_slice())?;
+        out.put(" ");
+        out.put_quoted(text.as_slice());
     }
-    Ok(())
 }
 
-fn autojoin(alloc: Global, value: &Text, out: &mut String) -> Result<(), Wrong> {
-    let lines = autojoin_lines(alloc, value.as_slice())?;
-    Ok(put_texts(out, lines.as_slice())?)
+/// Writes texts that were made.
+pub fn put_list(out: &mut Sheet, texts: Result<Items<Text>, NoMemory>) {
+    match texts {
+        Ok(texts) => put_texts(out, texts.as_slice()),
+        Err(NoMemory) => out.lack(),
+    }
 }
 
-fn put_nick(alloc: Global, text: &Text, out: &mut String) -> Result<(), Wrong> {
-    let features = Features::new(alloc)?;
-    let is = is_nick(&features.prefixes, text.as_slice());
-    Ok(put_either(out, is, "a nick", "no nick")?)
-}
-
-fn put_channel(alloc: Global, text: &Text, out: &mut String) -> Result<(), Wrong> {
-    let features = Features::new(alloc)?;
-    let is = is_channel(features.chan_types.as_slice(), text.as_slice());
-    Ok(put_either(out, is, "a channel", "no channel")?)
-}
-
-fn put_plain(alloc: Global, text: &Text, out: &mut String) -> Result<(), Wrong> {
-    let bare = plain(alloc, text.as_slice())?;
-    Ok(put_quoted(out, bare.as_slice())?)
-}
-
-fn put_line(alloc: Global, text: &Text, out: &mut String) -> Result<(), Wrong> {
-    let line = in_one_line(alloc, text.as_slice())?;
-    Ok(put_quoted(out, line.as_slice())?)
-}
-
-fn put_reason(alloc: Global, text: &Text, out: &mut String) -> Result<(), Wrong> {
-    let shown = reason_text(alloc, text.as_slice())?;
-    Ok(put_quoted(out, shown.as_slice())?)
+/// Writes a text that was made.
+fn put_made(out: &mut Sheet, text: Result<Text, NoMemory>) {
+    match text {
+        Ok(text) => out.put_quoted(text.as_slice()),
+        Err(NoMemory) => out.lack(),
+    }
 }
 
 /// The words of a text, each in memory of its own.
-pub fn own_words(alloc: Global, text: &[u8]) -> Result<Items<Text>, Wrong> {
+pub fn own_words(alloc: Global, text: &[u8]) -> Result<Items<Text>, NoMemory> {
     let mut own = Items::new(alloc);
     for word in words(text) {
         own.push(Text::from_slice(alloc, word)?)?;
@@ -57,23 +41,27 @@ pub fn own_words(alloc: Global, text: &[u8]) -> Result<Items<Text>, Wrong> {
     Ok(own)
 }
 
-fn put_spaced(alloc: Global, text: &Text, out: &mut String) -> Result<(), Wrong> {
-    let own = own_words(alloc, text.as_slice())?;
-    let shown = spaced(alloc, own.as_slice())?;
-    Ok(put_quoted(out, shown.as_slice())?)
+fn put_spaced(alloc: Global, text: &[u8], out: &mut Sheet) {
+    match own_words(alloc, text) {
+        Ok(own) => put_made(out, spaced(alloc, own.as_slice())),
+        Err(NoMemory) => out.lack(),
+    }
+}
+
+fn put_answer(alloc: Global, call: &str, text: &[u8], out: &mut Sheet) -> Result<(), Wrong> {
+    match call {
+        "autojoin" => put_list(out, autojoin_lines(alloc, text)),
+        "plain" => put_made(out, plain(alloc, text)),
+        "line" => put_made(out, in_one_line(alloc, text)),
+        "reason" => put_made(out, reason_text(alloc, text)),
+        "spaced" => put_spaced(alloc, text, out),
+        _ => return Err(Wrong::Word),
+    }
+    Ok(())
 }
 
 /// Writes the answer of a call on one text.
-pub fn texts_answer(alloc: Global, call: &str, rest: &str, out: &mut String) -> Result<(), Wrong> {
+pub fn texts_answer(alloc: Global, call: &str, rest: &str, out: &mut Sheet) -> Result<(), Wrong> {
     let text = unescape(alloc, rest)?;
-    match call {
-        "autojoin" => autojoin(alloc, &text, out),
-        "nick" => put_nick(alloc, &text, out),
-        "channel" => put_channel(alloc, &text, out),
-        "plain" => put_plain(alloc, &text, out),
-        "line" => put_line(alloc, &text, out),
-        "reason" => put_reason(alloc, &text, out),
-        "spaced" => put_spaced(alloc, &text, out),
-        _ => Err(Wrong::Word),
-    }
+    put_answer(alloc, call, text.as_slice(), out)
 }

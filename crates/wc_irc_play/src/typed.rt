@@ -1,63 +1,72 @@
 //! What is typed for a server.
 
-use crate::acts::put_two;
-use std::alloc::{AllocError, Global};
+use crate::sheet::Sheet;
+use std::alloc::Global;
 use wc_irc_words::{ServerCommand, read_server_command};
-use wc_notation::{Wrong, put_named, unescape};
+use wc_notation::{Wrong, unescape};
 
-fn put_tls(out: &mut String, tls: Option<bool>) -> Result<(), AllocError> {
+fn put_tls(out: &mut Sheet, tls: Option<bool>) {
     match tls {
-        Some(true) => out.push_str(" with TLS"),
-        Some(false) => out.push_str(" without TLS"),
-        None => Ok(()),
+        Some(true) => out.put(" with TLS"),
+        Some(false) => out.put(" without TLS"),
+        None => {}
     }
 }
 
-fn put_server(
-    out: &mut String,
-    name: &[u8],
-    address: &[u8],
-    tls: Option<bool>,
-) -> Result<(), AllocError> {
-    put_two(out, "adds", name, address)?;
-    put_tls(out, tls)
+fn put_server(out: &mut Sheet, name: &[u8], address: &[u8], tls: Option<bool>) {
+    out.put_two("adds", name, address);
+    put_tls(out, tls);
 }
 
-fn put_end(out: &mut String, name: Option<&[u8]>) -> Result<(), AllocError> {
+fn put_end(out: &mut Sheet, name: Option<&[u8]>) {
     match name {
-        Some(name) => put_named(out, "disconnects", name),
-        None => out.push_str("disconnects"),
+        Some(name) => out.put_named("disconnects", name),
+        None => out.put("disconnects"),
     }
 }
 
-fn put_command(out: &mut String, command: ServerCommand<'_>) -> Result<(), AllocError> {
+/// A command about a server, or one that says something.
+fn put_command(out: &mut Sheet, command: &ServerCommand<'_>) {
     match command {
-        ServerCommand::AddServer { name, address, tls } => put_server(out, name, address, tls),
-        ServerCommand::DeleteServer(name) => put_named(out, "deletes", name),
-        ServerCommand::Connect(name) => put_named(out, "connects", name),
-        ServerCommand::Disconnect(name) => put_end(out, name),
-        ServerCommand::Join(channel) => put_named(out, "joins", channel),
-        ServerCommand::Part(reason) => put_named(out, "parts", reason),
-        ServerCommand::Say { target, text } => put_two(out, "says", target, text),
-        ServerCommand::Notice { target, text } => put_two(out, "notices", target, text),
-        ServerCommand::Query(nick) => put_named(out, "queries", nick),
-        ServerCommand::Act(deed) => put_named(out, "does", deed),
-        ServerCommand::Nick(nick) => put_named(out, "renames", nick),
-        ServerCommand::Topic(topic) => put_named(out, "topic", topic),
-        ServerCommand::Kick { nick, reason } => put_two(out, "kicks", nick, reason),
-        ServerCommand::Mode(words) => put_named(out, "modes", words),
-        ServerCommand::Names => out.push_str("names"),
-        ServerCommand::Quote(line) => put_named(out, "quotes", line),
-        ServerCommand::Talk(text) => put_named(out, "talks", text),
-        ServerCommand::Wrong(name) => put_named(out, "wrong arguments", name),
+        ServerCommand::AddServer { name, address, tls } => put_server(out, name, address, *tls),
+        ServerCommand::DeleteServer(name) => out.put_named("deletes", name),
+        ServerCommand::Connect(name) => out.put_named("connects", name),
+        ServerCommand::Disconnect(name) => put_end(out, *name),
+        ServerCommand::Say { target, text } => out.put_two("says", target, text),
+        ServerCommand::Notice { target, text } => out.put_two("notices", target, text),
+        ServerCommand::Kick { nick, reason } => out.put_two("kicks", nick, reason),
+        ServerCommand::Names => out.put("names"),
+        _ => put_of_one(out, command),
+    }
+}
+
+/// A command with one text.
+fn put_of_one(out: &mut Sheet, command: &ServerCommand<'_>) {
+    match command {
+        ServerCommand::Join(channel) => out.put_named("joins", channel),
+        ServerCommand::Part(reason) => out.put_named("parts", reason),
+        ServerCommand::Query(nick) => out.put_named("queries", nick),
+        ServerCommand::Act(deed) => out.put_named("does", deed),
+        ServerCommand::Nick(nick) => out.put_named("renames", nick),
+        ServerCommand::Topic(topic) => out.put_named("topic", topic),
+        ServerCommand::Mode(words) => out.put_named("modes", words),
+        ServerCommand::Quote(line) => out.put_named("quotes", line),
+        ServerCommand::Talk(text) => out.put_named("talks", text),
+        ServerCommand::Wrong(name) => out.put_named("wrong arguments", name),
+        _ => out.put("another"),
+    }
+}
+
+fn put_typed(out: &mut Sheet, text: &[u8]) {
+    match &read_server_command(text) {
+        Some(command) => put_command(out, command),
+        None => out.put("another command"),
     }
 }
 
 /// Writes what a text asks of servers.
-pub fn typed(alloc: Global, rest: &str, out: &mut String) -> Result<(), Wrong> {
+pub fn typed(alloc: Global, rest: &str, out: &mut Sheet) -> Result<(), Wrong> {
     let text = unescape(alloc, rest)?;
-    match read_server_command(text.as_slice()) {
-        Some(command) => Ok(put_command(out, command)?),
-        None => Ok(out.push_str("another command")?),
-    }
+    put_typed(out, text.as_slice());
+    Ok(())
 }

@@ -1,5 +1,4 @@
-use crate::escapes::show_text;
-use std::alloc::AllocError;
+use crate::sheet::Sheet;
 use wc_model::{EventKind, Notice};
 use wc_text::Handle;
 
@@ -26,32 +25,32 @@ fn kind_word(kind: EventKind) -> &'static str {
     }
 }
 
-fn show_handles(out: &mut String, name: &str, handles: &[Handle]) -> Result<(), AllocError> {
+fn show_handles(out: &mut Sheet, name: &str, handles: &[Handle]) {
     if handles.is_empty() {
-        return Ok(());
+        return;
     }
-    write!(out, ", {name}")?;
+    out.put(name);
     for handle in handles {
-        write!(out, " {}", handle.0)?;
+        out.put_number(" ", handle.0);
     }
-    Ok(())
 }
 
-fn show_place(out: &mut String, notice: &Notice) -> Result<(), AllocError> {
+fn show_place(out: &mut Sheet, notice: &Notice) {
     if notice.buffer.0 == 0 {
-        return Ok(());
+        return;
     }
-    write!(out, " {} ", notice.buffer.0)?;
-    show_text(out, notice.full_name.as_slice())?;
-    write!(out, ", number {}", notice.number)?;
-    write!(out, ", prev {}, next {}", notice.prev.0, notice.next.0)
+    out.put_number(" ", notice.buffer.0);
+    out.put_text(" ", notice.full_name.as_slice());
+    out.put_number(", number ", u64::from(notice.number));
+    out.put_number(", prev ", notice.prev.0);
+    out.put_number(", next ", notice.next.0);
 }
 
 /// What is noticed of a change. Where it is of no buffer, its place says nothing and is not shown.
-pub fn show_notice(out: &mut String, notice: &Notice) -> Result<(), AllocError> {
-    out.push_str(kind_word(notice.kind))?;
-    show_place(out, notice)?;
-    show_handles(out, "lines", notice.lines.as_slice())?;
-    show_handles(out, "flips", notice.flips.as_slice())?;
-    out.push('\n')
+pub fn show_notice(out: &mut Sheet, notice: &Notice) {
+    out.put(kind_word(notice.kind));
+    show_place(out, notice);
+    show_handles(out, ", lines", notice.lines.as_slice());
+    show_handles(out, ", flips", notice.flips.as_slice());
+    out.put("\n");
 }

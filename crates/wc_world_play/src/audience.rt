@@ -1,12 +1,16 @@
 //! The clients, and what they are told of the world's changes.
 
+ghost use Rattle.std.specs.Prelude.{◌≡◌, true};
 ghost use Rattle.std.specs.Str.{IsUtf8};
 ghost use Rattle.wc_events.specs.NickForms.{IsPushText};
+ghost use Rattle.wc_objects.specs.Forms.{well_formed};
 
-use crate::clients::Client;
+use crate::clients::{Client, place_of};
 use crate::diffs::show_push;
+use crate::sheet::Sheet;
 use bytes::BytesMut;
 use std::alloc::Global;
+use wc_change_words::{Wrong, number};
 use wc_events::{event_id, flag_objects};
 use wc_lines::Lines;
 use wc_model::{EventKind, Notice};
@@ -20,7 +24,7 @@ use wc_world::World;
 #[derive(Drop)]
 pub struct Audience {
     alloc: Global,
-    pub clients: Vec<Client>,
+    clients: Vec<Client>,
     pub told: BytesMut,
 }
 
@@ -36,184 +40,184 @@ impl Audience {
 
     /// A client of this number comes.
     pub fn come(&mut self, number: u64, limit: u32) -> Result<(), NoMemory> {
-        let client = Client::new(self.alloc, number, limit)?;
+        match Client::new(self.alloc, number, limit) {
+            Ok(client) => self.add(client),
+            Err(NoMemory) => Err(NoMemory),
+        }
+    }
+
+    fn add(&mut self, client: Client) -> Result<(), NoMemory> {
         match self.clients.push(client) {
             Ok(()) => Ok(()),
             Err(_) => Err(NoMemory),
         }
     }
 
-    fn tell(&mut self, event: &BufferEvent) -> Result<(), NoMemory> {
-        let alloc = self.alloc;
-        self.told.extend_from_slice(event.as_slice())?;
-        for client in self.clients.iter_mut() {
-            client.tell(alloc, event)?;
+    /// The client whose number a word writes.
+    pub fn client(&mut self, word: &str) -> Result<&mut Client, Wrong> {
+        let place = place_of(self.clients.as_slice(), number(word)?)?;
+        match self.clients.get_mut(place) {
+            Some(client) => Ok(client),
+            None => Err(Wrong::NoClient),
         }
-        Ok(())
+    }
+
+    fn tell(&mut self, out: &mut Sheet, event: &BufferEvent) {
+        let alloc = self.alloc;
+        out.note(self.told.extend_from_slice(event.as_slice()));
+        for client in self.clients.iter_mut() {
+            client.tell(alloc, out, event);
+        }
     }
 
     /// Tells what was noticed of a change, in the world after it.
-    pub fn tell_notice(&mut self, world: &World, notice: &Notice) -> Result<(), NoMemory> {
+    pub fn tell_notice(&mut self, out: &mut Sheet, world: &World, notice: &Notice) {
         self.told.clear();
         if std::str::from_utf8(notice.full_name.as_slice()).is_err() {
-            return Ok(());
+            return;
         }
-        self.tell_change(world, notice)?;
-        if notice.flips.as_slice().is_empty() {
-            return Ok(());
+        self.tell_change(out, world, notice);
+        if !notice.flips.as_slice().is_empty() {
+            self.tell_flips(out, world, &notice.flips);
         }
-        self.tell_flips(world, &notice.flips)
     }
 
     /// Tells the one event of a change.
-    fn tell_change(&mut self, world: &World, notice: &Notice) -> Result<(), NoMemory>
+    fn tell_change(&mut self, out: &mut Sheet, world: &World, notice: &Notice)
         requires { IsUtf8 notice.now.full_name }
     {
-        let event = BufferEvent::of(self.alloc, world, notice)?;
-        self.tell(&event)
+        match BufferEvent::of(self.alloc, world, notice) {
+            Ok(event) => self.tell(out, &event),
+            Err(NoMemory) => out.lack(),
+        }
     }
 
     /// Tells the flags of lines that differ, buffer by buffer.
-    fn tell_flips(&mut self, world: &World, flips: &Items<Handle>) -> Result<(), NoMemory> {
+    fn tell_flips(&mut self, out: &mut Sheet, world: &World, flips: &Items<Handle>) {
         for group in world.buffers().groups() {
-            self.tell_flips_in(world, flips, group)?;
+            self.tell_flips_in(out, world, flips, group);
         }
-        Ok(())
     }
 
     fn tell_flips_in(
         &mut self,
+        out: &mut Sheet,
         world: &World,
         flips: &Items<Handle>,
         group: &[Handle],
-    ) -> Result<(), NoMemory> {
+    ) {
         for buffer in group {
             if let Some(lines) = world.lines(*buffer) {
-                self.tell_flips_of(*buffer, flips, lines)?;
+                self.tell_flips_of(out, *buffer, flips, lines);
             }
         }
-        Ok(())
     }
 
     fn tell_flips_of(
         &mut self,
+        out: &mut Sheet,
         buffer: Handle,
         flips: &Items<Handle>,
         lines: &Lines,
-    ) -> Result<(), NoMemory> {
-        let bytes = flip_event(self.alloc, buffer, flips, lines)?;
-        self.tell_bytes(EventKind::LineDataChanged, buffer, bytes.as_slice())
+    ) {
+        match flag_objects(self.alloc, buffer, flips, lines) {
+            Ok(objects) => self.tell_flags(out, buffer, objects.as_slice()),
+            Err(NoMemory) => out.lack(),
+        }
     }
 
-    /// Tells the bytes of an event that sessions do not spell.
-    fn tell_bytes(
-        &mut self,
-        kind: EventKind,
-        buffer: Handle,
-        bytes: &[u8],
-    ) -> Result<(), NoMemory> {
+    /// Tells the event of flags, if there are some. Sessions do not spell it.
+    fn tell_flags(&mut self, out: &mut Sheet, buffer: Handle, objects: &[Object])
+        requires { well_formed objects.now ≡ true }
+    {
+        if !has_items(objects) {
+            return;
+        }
+        let mut bytes = BytesMut::new(self.alloc);
+        let id = event_id(EventKind::LineDataChanged);
+        match append_message(&mut bytes, id, objects) {
+            Ok(()) => self.tell_bytes(out, buffer, bytes.as_slice()),
+            Err(_) => out.lack(),
+        }
+    }
+
+    fn tell_bytes(&mut self, out: &mut Sheet, buffer: Handle, bytes: &[u8]) {
         let alloc = self.alloc;
-        self.told.extend_from_slice(bytes)?;
+        out.note(self.told.extend_from_slice(bytes));
         for client in self.clients.iter_mut() {
-            if client.session.follows(kind, buffer) {
-                client.take(alloc, bytes)?;
+            if client.session.follows(EventKind::LineDataChanged, buffer) {
+                client.screen.take(alloc, out, bytes);
             }
         }
-        Ok(())
     }
 
     /// Tells what became of the nicklist of each buffer since it was told, and shows it.
-    pub fn push_all(
-        &mut self,
-        out: &mut String,
-        world: &World,
-        pending: &mut Pending,
-    ) -> Result<(), NoMemory> {
+    pub fn push_all(&mut self, out: &mut Sheet, world: &World, pending: &mut Pending) {
         self.told.clear();
         for group in world.buffers().groups() {
-            self.push_group(out, world, pending, group)?;
+            self.push_group(out, world, pending, group);
         }
-        Ok(())
     }
 
     fn push_group(
         &mut self,
-        out: &mut String,
+        out: &mut Sheet,
         world: &World,
         pending: &mut Pending,
         group: &[Handle],
-    ) -> Result<(), NoMemory> {
+    ) {
         for buffer in group {
             if pending.held(*buffer) > 0 {
-                self.push_buffer(out, world, pending, *buffer)?;
+                show_push_of(self.alloc, out, world, pending, *buffer);
+                self.tell_nicks(out, world, pending, *buffer);
                 pending.forget(*buffer);
             }
         }
-        Ok(())
     }
 
-    fn push_buffer(
-        &mut self,
-        out: &mut String,
-        world: &World,
-        pending: &Pending,
-        buffer: Handle,
-    ) -> Result<(), NoMemory> {
-        let Some(list) = world.nicks(buffer) else {
-            return Ok(());
-        };
-        let push = pending.message_of(self.alloc, buffer, list)?;
-        write!(out, "{}: ", buffer.0)?;
-        show_push(out, &push)?;
-        let _is_there = self.tell_nicks(world, pending, buffer)?;
-        Ok(())
-    }
-
-    /// Tells what became of the nicklist of a buffer. False where the buffer is not there.
+    /// Tells what became of the nicklist of a buffer, if the buffer is there.
     pub fn tell_nicks(
         &mut self,
+        out: &mut Sheet,
         world: &World,
         pending: &Pending,
         buffer: Handle,
-    ) -> Result<bool, NoMemory> {
-        match BufferEvent::of_nicks(self.alloc, world, pending, buffer)? {
-            Some(event) => {
-                self.tell(&event)?;
-                Ok(true)
-            }
-            None => Ok(false),
+    ) {
+        match BufferEvent::of_nicks(self.alloc, world, pending, buffer) {
+            Ok(Some(event)) => self.tell(out, &event),
+            Ok(None) => {}
+            Err(NoMemory) => out.lack(),
         }
     }
 
     /// Tells a push of a buffer's nicklist.
-    pub fn push_one(&mut self, buffer: Handle, push: &Push) -> Result<(), NoMemory>
+    pub fn push_one(&mut self, out: &mut Sheet, buffer: Handle, push: &Push)
         requires { IsPushText push.now }
     {
         self.told.clear();
-        let event = BufferEvent::of_push(self.alloc, buffer, push)?;
-        self.tell(&event)
+        match BufferEvent::of_push(self.alloc, buffer, push) {
+            Ok(event) => self.tell(out, &event),
+            Err(NoMemory) => out.lack(),
+        }
     }
 }
 
-fn has_items(objects: &[Object; 1]) -> bool {
+/// What became of the nicklist of a buffer since it was told.
+fn show_push_of(alloc: Global, out: &mut Sheet, world: &World, pending: &Pending, buffer: Handle) {
+    let Some(list) = world.nicks(buffer) else {
+        return;
+    };
+    out.put_number("", buffer.0);
+    out.put(": ");
+    match pending.message_of(alloc, buffer, list) {
+        Ok(push) => show_push(out, &push),
+        Err(NoMemory) => out.lack(),
+    }
+}
+
+fn has_items(objects: &[Object]) -> bool {
     match objects {
         [Object::Hda(hda)] => !hda.items.as_slice().is_empty(),
         _ => false,
     }
-}
-
-/// The event of those lines of a buffer whose flag differs. Empty where there are none.
-fn flip_event(
-    alloc: Global,
-    buffer: Handle,
-    flips: &Items<Handle>,
-    lines: &Lines,
-) -> Result<BytesMut, NoMemory> {
-    let mut out = BytesMut::new(alloc);
-    let objects = flag_objects(alloc, buffer, flips, lines)?;
-    let id = event_id(EventKind::LineDataChanged);
-    if has_items(&objects) && append_message(&mut out, id, objects.as_slice()).is_err() {
-        return Err(NoMemory);
-    }
-    Ok(out)
 }

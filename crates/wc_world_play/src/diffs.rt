@@ -5,50 +5,50 @@ ghost use Rattle.wc_nickdiff.specs.Apply.{AreUtf8};
 ghost use Rattle.wc_nicklist.specs.Rows.{TextsAreUtf8};
 ghost use Rattle.wc_events.specs.NickForms.{IsPushText};
 
-use crate::escapes::show_text;
+use crate::sheet::Sheet;
 use crate::show_nicks::show_nicks;
-use std::alloc::{AllocError, Global};
+use std::alloc::Global;
 use wc_change_words::{Wrong, text};
 use wc_nickdiff::{DiffItem, DiffRefused, Mark, Push, apply, item_applied};
 use wc_nicklist::{Item, Nicklist};
 use wc_text::{Handle, Items, Text};
 
-fn sign(mark: Mark) -> char {
+fn sign(mark: Mark) -> &'static str {
     match mark {
-        Mark::Parent => '^',
-        Mark::Added => '+',
-        Mark::Removed => '-',
-        Mark::Changed => '*',
+        Mark::Parent => " ^",
+        Mark::Added => " +",
+        Mark::Removed => " -",
+        Mark::Changed => " *",
     }
 }
 
-fn show_item(out: &mut String, sign: char, item: &Item) -> Result<(), AllocError> {
-    out.push(' ')?;
-    out.push(sign)?;
-    show_text(out, item.name.as_slice())?;
-    write!(out, "={}", item.handle.0)
+fn show_item(out: &mut Sheet, sign: &str, item: &Item) {
+    out.put_text(sign, item.name.as_slice());
+    out.put_number("=", item.handle.0);
 }
 
-fn show_diff(out: &mut String, items: &[DiffItem]) -> Result<(), AllocError> {
-    write!(out, "a diff of {}:", items.len())?;
+fn show_diff(out: &mut Sheet, items: &[DiffItem]) {
+    out.put_number("a diff of ", items.len() as u64);
+    out.put(":");
     for item in items {
-        show_item(out, sign(item.mark), &item.item)?;
+        show_item(out, sign(item.mark), &item.item);
     }
-    out.push('\n')
+    out.put("\n");
 }
 
-fn show_full(out: &mut String, items: &[Item]) -> Result<(), AllocError> {
-    write!(out, "the full list of {}:", items.len())?;
+fn show_full(out: &mut Sheet, items: &[Item]) {
+    out.put_number("the full list of ", items.len() as u64);
+    out.put(":");
     for item in items {
-        show_item(out, '.', item)?;
+        show_item(out, " .", item);
     }
-    out.push('\n')
+    out.put("\n");
 }
 
 /// The items of a push: each of a diff after its sign, and those of a full list after a dot.
-pub fn show_push(out: &mut String, push: &Push) -> Result<(), AllocError> {
+pub fn show_push(out: &mut Sheet, push: &Push) {
     match push {
-        Push::Nothing => out.push_str("nothing\n"),
+        Push::Nothing => out.put("nothing\n"),
         Push::Diff(items) => show_diff(out, items.as_slice()),
         Push::Full(items) => show_full(out, items.as_slice()),
     }
@@ -101,41 +101,43 @@ fn diff_items(alloc: Global, words: &[&str]) -> Result<Items<DiffItem>, Wrong>
     Ok(items)
 }
 
-/// A copy of a nicklist.
-fn copy_of(alloc: Global, list: &Nicklist) -> Result<Nicklist, Wrong> {
-    let none = diff_items(alloc, &[])?;
-    match item_applied(alloc, list, &none) {
-        Ok(copy) => Ok(copy),
-        Err(_) => Err(Wrong::NoMemory),
+/// Says which item of a diff is refused, where one is.
+fn show_refused(out: &mut Sheet, applied: Result<(), DiffRefused>) {
+    match applied {
+        Ok(()) => {}
+        Err(DiffRefused::BadItem { place }) => {
+            out.put_number("the item ", place);
+            out.put(" is refused\n");
+        }
+        Err(DiffRefused::NoMemory) => out.lack(),
     }
 }
 
-/// Applies items of a diff, each written as its sign and its name, and shows which is refused.
+/// Applies items of a diff, each written as its sign and its name, and shows the list after them.
 fn apply_words(
     alloc: Global,
-    out: &mut String,
+    out: &mut Sheet,
     list: &mut Nicklist,
     words: &[&str],
 ) -> Result<(), Wrong> {
     let items = diff_items(alloc, words)?;
-    match apply(alloc, list, &items) {
-        Ok(()) => Ok(()),
-        Err(DiffRefused::BadItem { place }) => Ok(write!(out, "the item {place} is refused\n")?),
-        Err(DiffRefused::NoMemory) => Err(Wrong::NoMemory),
-    }
+    show_refused(out, apply(alloc, list, &items));
+    show_nicks(out, list);
+    Ok(())
 }
 
 /// What the items of a diff make of a copy of a nicklist.
 pub fn show_applied(
     alloc: Global,
-    out: &mut String,
+    out: &mut Sheet,
     list: &Nicklist,
     words: &[&str],
 ) -> Result<(), Wrong> {
-    let mut copy = copy_of(alloc, list)?;
-    apply_words(alloc, out, &mut copy, words)?;
-    show_nicks(out, &copy)?;
-    Ok(())
+    let none = Items::new(alloc);
+    match item_applied(alloc, list, &none) {
+        Ok(mut copy) => apply_words(alloc, out, &mut copy, words),
+        Err(_) => Err(Wrong::NoMemory),
+    }
 }
 
 /// A push by which a nick of no group comes in.

@@ -1,105 +1,98 @@
 //! The dumps of a world as the bytes of their messages.
 
-ghost use Rattle.std.specs.Prelude.{◌≡◌, true};
-ghost use Rattle.wc_objects.specs.Forms.{well_formed};
-
-use crate::escapes::escape;
+use crate::sheet::Sheet;
 use bytes::BytesMut;
-use std::alloc::{AllocError, Global};
+use std::alloc::Global;
 use wc_change_words::{Wrong, handle};
-use wc_events::{nick_dump, nick_list};
-use wc_hdata::{read_path, write_walk};
-use wc_objects::{Object, append_message};
-use wc_text::Handle;
+use wc_events::{Nicks, write_nicks};
+use wc_hdata::{Path, read_path, write_walk};
+use wc_text::{Handle, NoMemory};
 use wc_world::World;
 
 /// Shows bytes after their number.
-pub fn show_bytes(out: &mut String, bytes: &[u8]) -> Result<(), AllocError> {
-    write!(out, "{} bytes", bytes.len())?;
-    if !bytes.is_empty() {
-        out.push(' ')?;
-        escape(out, bytes)?;
-    }
-    out.push('\n')
+pub fn show_bytes(out: &mut Sheet, bytes: &[u8]) {
+    out.put_number("", bytes.len() as u64);
+    out.put(if bytes.is_empty() {
+        " bytes"
+    } else {
+        " bytes "
+    });
+    out.put_bytes(bytes);
+    out.put("\n");
 }
 
-/// Shows a message of these objects.
-fn show_message(alloc: Global, out: &mut String, id: &str, objects: &[Object]) -> Result<(), Wrong>
-    requires { well_formed objects.now ≡ true }
-{
+/// Shows bytes that were written, unless there was no memory for them.
+fn show_written(out: &mut Sheet, bytes: &BytesMut, is_written: bool) {
+    if is_written {
+        show_bytes(out, bytes.as_slice());
+    } else {
+        out.lack();
+    }
+}
+
+/// Shows the message of groups and nicks.
+fn show_nicks(alloc: Global, out: &mut Sheet, nicks: Nicks<'_>) {
     let mut bytes = BytesMut::new(alloc);
-    if append_message(&mut bytes, id.as_bytes(), objects).is_err() {
-        return Err(Wrong::NoMemory);
-    }
-    show_bytes(out, bytes.as_slice())?;
-    Ok(())
+    let is_written = write_nicks(&mut bytes, b"_nicklist", nicks).is_ok();
+    show_written(out, &bytes, is_written);
 }
 
-/// Shows what a path leads to, under an id.
-fn show_path(
-    alloc: Global,
-    out: &mut String,
-    world: &World,
-    id: &str,
-    path: &str,
-    keys: &str,
-) -> Result<(), Wrong> {
+/// What is asked of a path: under an id, the values of these keys.
+#[derive(Clone, Copy)]
+struct Query<'a> {
+    id: &'a str,
+    path: &'a str,
+    keys: &'a str,
+}
+
+const BUFFERS: Query<'static> = Query {
+    id: "b",
+    path: "buffer:gui_buffers(*)",
+    keys: "number,full_name,short_name,hidden,title,local_variables",
+};
+
+const LINES: Query<'static> = Query {
+    id: "l",
+    path: "buffer:gui_buffers(*)/own_lines/first_line(*)/data",
+    keys: "buffer,date,date_printed,displayed,notify_level,highlight,tags_array,prefix,message",
+};
+
+fn show_walked(alloc: Global, out: &mut Sheet, world: &World, query: Query<'_>, path: &Path) {
     let mut bytes = BytesMut::new(alloc);
-    let Some(path) = read_path(alloc, path.as_bytes())? else {
-        return Err(Wrong::NoWord);
-    };
-    if write_walk(
-        alloc,
-        &mut bytes,
-        id.as_bytes(),
-        world,
-        &path,
-        keys.as_bytes(),
-    )
-    .is_err()
-    {
-        return Err(Wrong::NoMemory);
+    let keys = query.keys.as_bytes();
+    let is_written = write_walk(alloc, &mut bytes, query.id.as_bytes(), world, path, keys).is_ok();
+    show_written(out, &bytes, is_written);
+}
+
+/// Shows what a path leads to.
+fn show_path(alloc: Global, out: &mut Sheet, world: &World, query: Query<'_>) {
+    match &read_path(alloc, query.path.as_bytes()) {
+        Ok(Some(path)) => show_walked(alloc, out, world, query, path),
+        Ok(None) => out.put("no path\n"),
+        Err(NoMemory) => out.lack(),
     }
-    show_bytes(out, bytes.as_slice())?;
-    Ok(())
 }
 
-fn show_buffers(alloc: Global, out: &mut String, world: &World) -> Result<(), Wrong> {
-    let keys = "number,full_name,short_name,hidden,title,local_variables";
-    show_path(alloc, out, world, "b", "buffer:gui_buffers(*)", keys)
-}
-
-fn show_lines(alloc: Global, out: &mut String, world: &World) -> Result<(), Wrong> {
-    let path = "buffer:gui_buffers(*)/own_lines/first_line(*)/data";
-    let keys =
-        "buffer,date,date_printed,displayed,notify_level,highlight,tags_array,prefix,message";
-    show_path(alloc, out, world, "l", path, keys)
-}
-
-fn show_nicks(alloc: Global, out: &mut String, world: &World) -> Result<(), Wrong> {
-    let objects = nick_dump(alloc, world)?;
-    show_message(alloc, out, "_nicklist", objects.as_slice())
-}
-
-fn show_list(alloc: Global, out: &mut String, world: &World, buffer: Handle) -> Result<(), Wrong> {
-    match nick_list(alloc, world, buffer)? {
-        Some(objects) => show_message(alloc, out, "_nicklist", objects.as_slice()),
-        None => Ok(out.push_str("no buffer\n")?),
+fn show_list(alloc: Global, out: &mut Sheet, world: &World, buffer: Handle) {
+    match Nicks::of_buffer(world, buffer) {
+        Some(nicks) => show_nicks(alloc, out, nicks),
+        None => out.put("no buffer\n"),
     }
 }
 
 /// Shows the dump that a word names, or the nicklist of one buffer.
 pub fn show_dump(
     alloc: Global,
-    out: &mut String,
+    out: &mut Sheet,
     world: &World,
     words: &[&str],
 ) -> Result<(), Wrong> {
     match words {
-        ["buffers"] => show_buffers(alloc, out, world),
-        ["lines"] => show_lines(alloc, out, world),
-        ["nicklists"] => show_nicks(alloc, out, world),
+        ["buffers"] => show_path(alloc, out, world, BUFFERS),
+        ["lines"] => show_path(alloc, out, world, LINES),
+        ["nicklists"] => show_nicks(alloc, out, Nicks::of_all(world)),
         ["nicklist", buffer] => show_list(alloc, out, world, handle(buffer)?),
-        _ => Err(Wrong::NoWord),
+        _ => return Err(Wrong::NoWord),
     }
+    Ok(())
 }

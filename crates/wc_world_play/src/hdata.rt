@@ -1,137 +1,127 @@
 //! What paths lead to in a world.
 
-use crate::escapes::{escape, show_text};
-use std::alloc::{AllocError, Global};
+use crate::sheet::Sheet;
+use std::alloc::Global;
 use wc_hdata::{Path, WalkRefused, info, infolist, read_path, walk};
 use wc_objects::{Hda, HdaItem, InlVar, Object};
 use wc_text::{NoMemory, Text};
 use wc_world::World;
 
-fn show_some(out: &mut String, text: &Option<Text>) -> Result<(), AllocError> {
+fn show_some(out: &mut Sheet, text: &Option<Text>) {
     match text {
-        Some(text) => show_text(out, text.as_slice()),
-        None => out.push_str("null"),
+        Some(text) => out.put_text("", text.as_slice()),
+        None => out.put("null"),
     }
 }
 
-fn show_value(out: &mut String, value: &Object) -> Result<(), AllocError> {
+fn show_value(out: &mut Sheet, value: &Object) {
     match value {
-        Object::Chr(n) => write!(out, "{n}"),
-        Object::Int(n) => write!(out, "{n}"),
-        Object::Tim(n) => write!(out, "{n}"),
-        Object::Ptr(p) => write!(out, "{p:#x}"),
+        Object::Chr(n) => out.put_signed("", i64::from(*n)),
+        Object::Int(n) => out.put_signed("", i64::from(*n)),
+        Object::Tim(n) => out.put_signed("", *n),
+        Object::Ptr(p) => out.put_hex("0x", *p),
         Object::Str(text) => show_some(out, text),
-        Object::Htb { pairs, .. } => write!(out, "{} pairs", pairs.as_slice().len()),
-        Object::Arr { values, .. } => write!(out, "{} values", values.as_slice().len()),
-        _ => out.push('?'),
+        Object::Htb { pairs, .. } => show_count(out, pairs.as_slice().len(), " pairs"),
+        Object::Arr { values, .. } => show_count(out, values.as_slice().len(), " values"),
+        _ => out.put("?"),
     }
 }
 
-fn show_pointers(out: &mut String, pointers: &[u64]) -> Result<(), AllocError> {
-    out.push(' ')?;
-    for pointer in pointers {
-        write!(out, "/{pointer:x}")?;
-    }
-    Ok(())
+fn show_count(out: &mut Sheet, count: usize, what: &str) {
+    out.put_number("", count as u64);
+    out.put(what);
 }
 
-fn show_item(out: &mut String, item: &HdaItem) -> Result<(), AllocError> {
-    show_pointers(out, item.pointers.as_slice())?;
-    for value in item.values.as_slice() {
-        out.push(',')?;
-        show_value(out, value)?;
+fn show_item(out: &mut Sheet, item: &HdaItem) {
+    out.put(" ");
+    for pointer in item.pointers.as_slice() {
+        out.put_hex("/", *pointer);
     }
-    Ok(())
+    show_values(out, item.values.as_slice());
 }
 
-fn show_hda(out: &mut String, hda: &Hda) -> Result<(), AllocError> {
-    show_some(out, &hda.path)?;
-    out.push(' ')?;
+fn show_values(out: &mut Sheet, values: &[Object]) {
+    for value in values {
+        out.put(",");
+        show_value(out, value);
+    }
+}
+
+fn show_hda(out: &mut Sheet, hda: &Hda) {
+    show_some(out, &hda.path);
+    out.put(" ");
     if let Some(keys) = &hda.keys {
-        escape(out, keys.as_slice())?;
+        out.put_bytes(keys.as_slice());
     }
-    out.push_str("\n ")?;
+    out.put("\n ");
     for item in hda.items.as_slice() {
-        show_item(out, item)?;
+        show_item(out, item);
     }
-    out.push('\n')
+    out.put("\n");
 }
 
-fn show_answer(out: &mut String, answer: &Result<Object, WalkRefused>) -> Result<(), AllocError> {
+fn show_refused(out: &mut Sheet, refused: WalkRefused) {
+    let written = write!(out.text, "{refused}\n");
+    out.note(written);
+}
+
+fn show_answer(out: &mut Sheet, answer: &Result<Object, WalkRefused>) {
     match answer {
         Ok(Object::Hda(hda)) => show_hda(out, hda),
-        Ok(_) => out.push_str("another object\n"),
-        Err(refused) => write!(out, "{refused}\n"),
+        Ok(_) => out.put("another object\n"),
+        Err(refused) => show_refused(out, *refused),
     }
 }
 
-fn show_walked(
-    alloc: Global,
-    out: &mut String,
-    world: &World,
-    path: &Path,
-    keys: &str,
-) -> Result<(), AllocError> {
+fn show_walked(alloc: Global, out: &mut Sheet, world: &World, path: &Path, keys: &str) {
     let answer = walk(alloc, world, path, keys.as_bytes());
-    show_answer(out, &answer)
+    show_answer(out, &answer);
 }
 
 /// What a path leads to, or why it is refused.
-pub fn show_walk(
-    alloc: Global,
-    out: &mut String,
-    world: &World,
-    path: &str,
-    keys: &str,
-) -> Result<(), NoMemory> {
-    match &read_path(alloc, path.as_bytes())? {
-        Some(path) => show_walked(alloc, out, world, path, keys)?,
-        None => out.push_str("no path\n")?,
+pub fn show_walk(alloc: Global, out: &mut Sheet, world: &World, path: &str, keys: &str) {
+    match &read_path(alloc, path.as_bytes()) {
+        Ok(Some(path)) => show_walked(alloc, out, world, path, keys),
+        Ok(None) => out.put("no path\n"),
+        Err(NoMemory) => out.lack(),
     }
-    Ok(())
 }
 
 /// An information of a name.
-pub fn show_info(out: &mut String, name: &str) -> Result<(), AllocError> {
+pub fn show_info(out: &mut Sheet, name: &str) {
     match info(name.as_bytes()) {
-        Some(value) => show_text(out, value)?,
-        None => out.push_str("none")?,
+        Some(value) => out.put_text("", value),
+        None => out.put("none"),
     }
-    out.push('\n')
+    out.put("\n");
 }
 
-fn show_listed(out: &mut String, vars: &[InlVar]) -> Result<(), AllocError> {
-    out.push(' ')?;
+fn show_listed(out: &mut Sheet, vars: &[InlVar]) {
+    out.put(" ");
     for var in vars {
-        out.push(' ')?;
-        show_text(out, var.name.as_slice())?;
-        out.push('=')?;
-        show_value(out, &var.value)?;
+        out.put_text(" ", var.name.as_slice());
+        out.put("=");
+        show_value(out, &var.value);
     }
-    out.push('\n')
+    out.put("\n");
 }
 
-fn show_list(out: &mut String, list: &Object) -> Result<(), AllocError> {
+fn show_list(out: &mut Sheet, list: &Object) {
     let Object::Inl { name, items } = list else {
-        return out.push_str("another object\n");
+        return out.put("another object\n");
     };
-    show_text(out, name.as_slice())?;
-    write!(out, " has {}\n", items.as_slice().len())?;
+    out.put_text("", name.as_slice());
+    out.put_number(" has ", items.as_slice().len() as u64);
+    out.put("\n");
     for vars in items.as_slice() {
-        show_listed(out, vars.as_slice())?;
+        show_listed(out, vars.as_slice());
     }
-    Ok(())
 }
 
 /// A list of informations of a name and an argument.
-pub fn show_infolist(
-    alloc: Global,
-    out: &mut String,
-    world: &World,
-    name: &str,
-    argument: &str,
-) -> Result<(), NoMemory> {
-    let list = infolist(alloc, world, name.as_bytes(), argument.as_bytes())?;
-    show_list(out, &list)?;
-    Ok(())
+pub fn show_infolist(alloc: Global, out: &mut Sheet, world: &World, name: &str, argument: &str) {
+    match infolist(alloc, world, name.as_bytes(), argument.as_bytes()) {
+        Ok(list) => show_list(out, &list),
+        Err(NoMemory) => out.lack(),
+    }
 }

@@ -10,46 +10,40 @@ mod clients;
 mod commands;
 mod diffs;
 mod dumps;
-mod escapes;
 mod hdata;
+mod mirrors;
 mod parts;
+mod sheet;
 mod show_buffers;
 mod show_lines;
 mod show_nicks;
 mod stage;
 
-use stage::Stage;
-use std::alloc::{AllocError, Global};
+use sheet::Sheet;
+use stage::{LIMIT, Stage};
+use std::alloc::Global;
 use std::{env, fs, io};
 use wc_text::NoMemory;
 
-fn play_lines(stage: &mut Stage, out: &mut String, text: &str) -> Result<(), AllocError> {
+fn play_lines(stage: &mut Stage, out: &mut Sheet, text: &str) {
     for line in text.lines() {
-        stage.play(out, line)?;
+        stage.play(out, line);
     }
-    Ok(())
 }
 
 /// Plays the lines of a file in a world of their own.
-fn play(alloc: Global, out: &mut String, text: &str) -> Result<(), NoMemory> {
-    let mut stage = Stage::new(alloc)?;
-    play_lines(&mut stage, out, text)?;
-    Ok(())
-}
-
-/// What a file comes to.
-fn play_text(alloc: Global, text: &str) -> Result<String, NoMemory> {
-    let mut out = String::new(alloc);
-    play(alloc, &mut out, text)?;
-    Ok(out)
+fn play(alloc: Global, out: &mut Sheet, text: &str) {
+    match &mut Stage::new(alloc, LIMIT) {
+        Ok(stage) => play_lines(stage, out, text),
+        Err(NoMemory) => out.lack(),
+    }
 }
 
 fn print_file(rt: &HostRuntime, name: &str) -> io::Result<()> {
     let text = fs::read_to_string(rt, name)?;
-    match play_text(rt.alloc(), text.as_str()) {
-        Ok(out) => print!(rt; "== {name}\n{out}"),
-        Err(NoMemory) => print!(rt; "== {name}\nno memory\n"),
-    }
+    let mut out = Sheet::new(rt.alloc());
+    play(rt.alloc(), &mut out, text.as_str());
+    print!(rt; "== {name}\n{}", out.read())
 }
 
 fn main(rt: HostRuntime) -> io::Result<()> {

@@ -1,7 +1,6 @@
 //! Buffers in their groups, as a world and as a mirror hold them.
 
-use crate::escapes::show_text;
-use std::alloc::{AllocError, Global};
+use crate::sheet::Sheet;
 use wc_buffers::{Buffers, Vars};
 use wc_text::{Handle, Items, Pair};
 use wc_view::{Mirror, MirrorBuffer, SharedBuffer};
@@ -10,7 +9,7 @@ use wc_world::World;
 /// What is shown of a buffer beside its variables.
 #[derive(Clone, Copy)]
 struct BufferView<'a> {
-    number: usize,
+    number: u64,
     handle: Handle,
     full_name: &'a [u8],
     short_name: &'a [u8],
@@ -18,87 +17,75 @@ struct BufferView<'a> {
     hidden: bool,
 }
 
-fn show_buffer(out: &mut String, buffer: &BufferView<'_>) -> Result<(), AllocError> {
-    write!(out, "  {}: {} ", buffer.number, buffer.handle.0)?;
-    show_text(out, buffer.full_name)?;
-    out.push_str(" short ")?;
-    show_text(out, buffer.short_name)?;
-    out.push_str(" title ")?;
-    show_text(out, buffer.title)?;
-    if buffer.hidden {
-        out.push_str(" hidden")?;
-    }
-    out.push_str(" vars")
+fn show_buffer(out: &mut Sheet, buffer: &BufferView<'_>) {
+    out.put_number("  ", buffer.number);
+    out.put_number(": ", buffer.handle.0);
+    out.put_text(" ", buffer.full_name);
+    out.put_text(" short ", buffer.short_name);
+    out.put_text(" title ", buffer.title);
+    out.put(if buffer.hidden {
+        " hidden vars"
+    } else {
+        " vars"
+    });
 }
 
-fn show_var(out: &mut String, name: &[u8], value: &[u8]) -> Result<(), AllocError> {
-    out.push(' ')?;
-    show_text(out, name)?;
-    out.push('=')?;
-    show_text(out, value)
+fn show_var(out: &mut Sheet, name: &[u8], value: &[u8]) {
+    out.put_text(" ", name);
+    out.put_text("=", value);
 }
 
 /// The groups as the handles of their buffers, each group ended by a bar.
-pub fn show_groups(out: &mut String, buffers: &Buffers) -> Result<(), AllocError> {
-    out.push(' ')?;
+pub fn show_groups(out: &mut Sheet, buffers: &Buffers) {
+    out.put(" ");
     for group in buffers.groups() {
-        show_group(out, group)?;
+        show_group(out, group);
     }
-    out.push('\n')
+    out.put("\n");
 }
 
-fn show_group(out: &mut String, group: &[Handle]) -> Result<(), AllocError> {
+fn show_group(out: &mut Sheet, group: &[Handle]) {
     for buffer in group {
-        write!(out, " {}", buffer.0)?;
+        out.put_number(" ", buffer.0);
     }
-    out.push_str(" |")
+    out.put(" |");
 }
 
-fn show_vars(out: &mut String, vars: &Vars) -> Result<(), AllocError> {
+fn show_vars(out: &mut Sheet, vars: &Vars) {
     for (name, value) in vars.iter() {
-        show_var(out, name.as_slice(), value.as_slice())?;
+        show_var(out, name.as_slice(), value.as_slice());
     }
-    Ok(())
+    out.put("\n");
 }
 
 /// How many variables a buffer has, and all of them.
-pub fn show_vars_of(out: &mut String, buffers: &Buffers, buffer: Handle) -> Result<(), AllocError> {
+pub fn show_vars_of(out: &mut Sheet, buffers: &Buffers, buffer: Handle) {
     let Some(vars) = buffers.vars(buffer) else {
-        return out.push_str("  no buffer\n");
+        return out.put("  no buffer\n");
     };
-    write!(out, "  {}:", vars.len())?;
-    show_vars(out, vars)?;
-    out.push('\n')
+    out.put_number("  ", vars.len() as u64);
+    out.put(":");
+    show_vars(out, vars);
 }
 
 /// The value of a variable of a buffer.
-pub fn show_value(
-    out: &mut String,
-    buffers: &Buffers,
-    buffer: Handle,
-    name: &str,
-) -> Result<(), AllocError> {
+pub fn show_value(out: &mut Sheet, buffers: &Buffers, buffer: Handle, name: &str) {
     let Some(vars) = buffers.vars(buffer) else {
-        return out.push_str("no buffer\n");
+        return out.put("no buffer\n");
     };
     match vars.get(name.as_bytes()) {
-        Some(value) => show_text(out, value.as_slice())?,
-        None => out.push_str("none")?,
+        Some(value) => out.put_text("", value.as_slice()),
+        None => out.put("none"),
     }
-    out.push('\n')
+    out.put("\n");
 }
 
-fn show_of_world(
-    out: &mut String,
-    buffers: &Buffers,
-    number: usize,
-    buffer: Handle,
-) -> Result<(), AllocError> {
+fn show_of_world(out: &mut Sheet, buffers: &Buffers, number: u64, buffer: Handle) {
     let Some(row) = buffers.get(buffer) else {
-        return Ok(());
+        return;
     };
     let Some(vars) = buffers.vars(buffer) else {
-        return Ok(());
+        return;
     };
     let view = BufferView {
         number,
@@ -108,47 +95,34 @@ fn show_of_world(
         title: row.title.as_slice(),
         hidden: row.hidden,
     };
-    show_buffer(out, &view)?;
-    show_vars(out, vars)?;
-    out.push('\n')
+    show_buffer(out, &view);
+    show_vars(out, vars);
 }
 
-fn show_group_of_world(
-    out: &mut String,
-    buffers: &Buffers,
-    number: usize,
-    group: &[Handle],
-) -> Result<(), AllocError> {
+fn show_group_of_world(out: &mut Sheet, buffers: &Buffers, number: u64, group: &[Handle]) {
     for buffer in group {
-        show_of_world(out, buffers, number, *buffer)?;
+        show_of_world(out, buffers, number, *buffer);
     }
-    Ok(())
 }
 
 /// The buffers of a world, each after its number and its handle.
-pub fn world_buffers(alloc: Global, world: &World) -> Result<String, AllocError> {
-    let mut out = String::new(alloc);
+pub fn world_buffers(out: &mut Sheet, world: &World) {
     let buffers = world.buffers();
-    let mut number = 0usize;
+    let mut number = 0u64;
     for group in buffers.groups() {
         number = number.saturating_add(1);
-        show_group_of_world(&mut out, buffers, number, group)?;
+        show_group_of_world(out, buffers, number, group);
     }
-    Ok(out)
 }
 
-fn show_pairs(out: &mut String, vars: &[Pair]) -> Result<(), AllocError> {
+fn show_pairs(out: &mut Sheet, vars: &[Pair]) {
     for pair in vars {
-        show_var(out, pair.name.as_slice(), pair.value.as_slice())?;
+        show_var(out, pair.name.as_slice(), pair.value.as_slice());
     }
-    Ok(())
+    out.put("\n");
 }
 
-fn show_of_mirror(
-    out: &mut String,
-    number: usize,
-    buffer: &MirrorBuffer,
-) -> Result<(), AllocError> {
+fn show_of_mirror(out: &mut Sheet, number: u64, buffer: &MirrorBuffer) {
     let view = BufferView {
         number,
         handle: buffer.handle,
@@ -157,32 +131,24 @@ fn show_of_mirror(
         title: buffer.title.as_slice(),
         hidden: buffer.hidden,
     };
-    show_buffer(out, &view)?;
-    show_pairs(out, buffer.vars.as_slice())?;
-    out.push('\n')
+    show_buffer(out, &view);
+    show_pairs(out, buffer.vars.as_slice());
 }
 
-fn show_group_of_mirror(
-    out: &mut String,
-    number: usize,
-    group: &Items<SharedBuffer>,
-) -> Result<(), AllocError> {
+fn show_group_of_mirror(out: &mut Sheet, number: u64, group: &Items<SharedBuffer>) {
     for buffer in group.as_slice() {
-        show_of_mirror(out, number, buffer.get())?;
+        show_of_mirror(out, number, buffer.get());
     }
-    Ok(())
 }
 
-/// The buffers of a mirror. Empty where it took no dump of them.
-pub fn mirror_buffers(alloc: Global, mirror: &Mirror) -> Result<String, AllocError> {
-    let mut out = String::new(alloc);
+/// The buffers of a mirror. Nothing where it took no dump of them.
+pub fn mirror_buffers(out: &mut Sheet, mirror: &Mirror) {
     let Some(groups) = mirror.buffers() else {
-        return Ok(out);
+        return;
     };
-    let mut number = 0usize;
+    let mut number = 0u64;
     for group in groups.as_slice() {
         number = number.saturating_add(1);
-        show_group_of_mirror(&mut out, number, group)?;
+        show_group_of_mirror(out, number, group);
     }
-    Ok(out)
 }

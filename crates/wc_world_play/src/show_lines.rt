@@ -1,7 +1,6 @@
 //! Lines of buffers, as a world and as a mirror hold them.
 
-use crate::escapes::show_text;
-use std::alloc::{AllocError, Global};
+use crate::sheet::Sheet;
 use wc_lines::{Lines, PackedLine, TagIter};
 use wc_text::Handle;
 use wc_view::{Mirror, MirrorLineIter, PackedMirrorLine};
@@ -23,27 +22,32 @@ struct LineView<'a> {
     message: &'a [u8],
 }
 
-fn show_line(out: &mut String, buffer: Handle, line: &LineView<'_>) -> Result<(), AllocError> {
-    write!(out, "  {}: {} ", buffer.0, line.content.0)?;
-    show_text(out, line.prefix)?;
-    out.push(' ')?;
-    show_text(out, line.message)?;
-    write!(out, " at {}, printed {}, ", line.date, line.date_printed)?;
-    out.push_str(if line.displayed { "shown" } else { "hidden" })?;
-    write!(out, ", notify {}", line.notify)?;
-    out.push_str(if line.highlight { ", highlight" } else { "" })
+fn show_line(out: &mut Sheet, buffer: Handle, line: &LineView<'_>) {
+    out.put_number("  ", buffer.0);
+    out.put_number(": ", line.content.0);
+    out.put_text(" ", line.prefix);
+    out.put_text(" ", line.message);
+    out.put_number(" at ", line.date);
+    out.put_number(", printed ", line.date_printed);
+    out.put(if line.displayed {
+        ", shown"
+    } else {
+        ", hidden"
+    });
+    out.put_signed(", notify ", i64::from(line.notify));
+    out.put(if line.highlight { ", highlight" } else { "" });
 }
 
-fn show_tags(out: &mut String, count: usize, tags: TagIter<'_>) -> Result<(), AllocError> {
-    write!(out, ", {count} tags")?;
+fn show_tags(out: &mut Sheet, count: usize, tags: TagIter<'_>) {
+    out.put_number(", ", count as u64);
+    out.put(" tags");
     for tag in tags {
-        out.push(' ')?;
-        show_text(out, tag)?;
+        out.put_text(" ", tag);
     }
-    out.push('\n')
+    out.put("\n");
 }
 
-fn show_of_world(out: &mut String, buffer: Handle, line: &PackedLine) -> Result<(), AllocError> {
+fn show_of_world(out: &mut Sheet, buffer: Handle, line: &PackedLine) {
     let view = LineView {
         content: line.content(),
         date: line.date(),
@@ -54,42 +58,37 @@ fn show_of_world(out: &mut String, buffer: Handle, line: &PackedLine) -> Result<
         prefix: line.prefix(),
         message: line.message(),
     };
-    show_line(out, buffer, &view)?;
-    show_tags(out, line.tags_len(), line.tags())
+    show_line(out, buffer, &view);
+    show_tags(out, line.tags_len(), line.tags());
 }
 
-fn show_lines_of_world(out: &mut String, buffer: Handle, lines: &Lines) -> Result<(), AllocError> {
+fn show_lines_of_world(out: &mut Sheet, buffer: Handle, lines: &Lines) {
     for line in lines.iter() {
-        show_of_world(out, buffer, line)?;
+        show_of_world(out, buffer, line);
     }
-    Ok(())
 }
 
 /// How many lines a buffer holds, and all of them.
-pub fn show_lines_of(out: &mut String, world: &World, buffer: Handle) -> Result<(), AllocError> {
+pub fn show_lines_of(out: &mut Sheet, world: &World, buffer: Handle) {
     let Some(lines) = world.lines(buffer) else {
-        return out.push_str("  no buffer\n");
+        return out.put("  no buffer\n");
     };
-    write!(out, "  {} of {} lines\n", lines.len(), world.limit())?;
-    show_lines_of_world(out, buffer, lines)
+    out.put_number("  ", u64::from(lines.len()));
+    out.put_number(" of ", u64::from(world.limit()));
+    out.put(" lines\n");
+    show_lines_of_world(out, buffer, lines);
 }
 
 /// The lines of all buffers of a world.
-pub fn world_lines(alloc: Global, world: &World) -> Result<String, AllocError> {
-    let mut out = String::new(alloc);
+pub fn world_lines(out: &mut Sheet, world: &World) {
     for number in 1..HANDLES {
         if let Some(lines) = world.lines(Handle(number)) {
-            show_lines_of_world(&mut out, Handle(number), lines)?;
+            show_lines_of_world(out, Handle(number), lines);
         }
     }
-    Ok(out)
 }
 
-fn show_of_mirror(
-    out: &mut String,
-    buffer: Handle,
-    line: &PackedMirrorLine,
-) -> Result<(), AllocError> {
+fn show_of_mirror(out: &mut Sheet, buffer: Handle, line: &PackedMirrorLine) {
     let view = LineView {
         content: line.content(),
         date: line.date(),
@@ -100,28 +99,21 @@ fn show_of_mirror(
         prefix: line.prefix(),
         message: line.message(),
     };
-    show_line(out, buffer, &view)?;
-    show_tags(out, line.tags_len(), line.tags())
+    show_line(out, buffer, &view);
+    show_tags(out, line.tags_len(), line.tags());
 }
 
-fn show_lines_of_mirror(
-    out: &mut String,
-    buffer: Handle,
-    lines: MirrorLineIter<'_>,
-) -> Result<(), AllocError> {
+fn show_lines_of_mirror(out: &mut Sheet, buffer: Handle, lines: MirrorLineIter<'_>) {
     for line in lines {
-        show_of_mirror(out, buffer, line)?;
+        show_of_mirror(out, buffer, line);
     }
-    Ok(())
 }
 
 /// The lines of all buffers of a mirror.
-pub fn mirror_lines(alloc: Global, mirror: &Mirror) -> Result<String, AllocError> {
-    let mut out = String::new(alloc);
+pub fn mirror_lines(out: &mut Sheet, mirror: &Mirror) {
     for number in 1..HANDLES {
         if let Some(lines) = mirror.lines(Handle(number)) {
-            show_lines_of_mirror(&mut out, Handle(number), lines)?;
+            show_lines_of_mirror(out, Handle(number), lines);
         }
     }
-    Ok(out)
 }

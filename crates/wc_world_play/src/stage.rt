@@ -6,6 +6,7 @@ ghost use Rattle.wc_world.specs.Texts.{IsChangeText};
 use crate::answers::show_notice;
 use crate::audience::Audience;
 use crate::parts::{Part, show_part};
+use crate::sheet::Sheet;
 use std::alloc::{AllocError, Global};
 use wc_change_words::{Wrong, handle, number, read_change, small_number};
 use wc_model::{Change, ChangeRefused, Notice, What};
@@ -15,7 +16,7 @@ use wc_text::{Handle, NoMemory};
 use wc_world::World;
 
 /// How many lines a buffer holds, where a script says nothing.
-const LIMIT: u32 = 3;
+pub const LIMIT: u32 = 3;
 
 /// Has no memory for what is touched.
 #[derive(Drop)]
@@ -40,10 +41,6 @@ pub struct Stage {
     pub watched: Part,
 }
 
-fn new_world(alloc: Global, limit: u32) -> Result<World, NoMemory> {
-    World::new(alloc, limit.clamp(1, 4096))
-}
-
 /// The change that words ask for: a buffer, a word, and what follows it.
 fn change_of(alloc: Global, words: &[&str]) -> Result<Change, Wrong>
     ensures { IfOk result (λ change. IsChangeText change.what) }
@@ -52,49 +49,52 @@ fn change_of(alloc: Global, words: &[&str]) -> Result<Change, Wrong>
         return Err(Wrong::NoWord);
     };
     let buffer = handle(buffer)?;
-    let what = read_change(alloc, word, rest)?;
-    Ok(Change { buffer, what })
+    match read_change(alloc, word, rest) {
+        Ok(what) => Ok(Change { buffer, what }),
+        Err(wrong) => Err(wrong),
+    }
 }
 
 /// A line in which the number of a turn takes the place of each `#`.
 fn with_turn(alloc: Global, line: &str, turn: u64) -> Result<String, AllocError> {
-    let mut out = String::new(alloc);
-    for (place, piece) in line.split('#').enumerate() {
-        if place > 0 {
-            write!(out, "{turn}")?;
-        }
-        out.push_str(piece)?;
-    }
-    Ok(out)
+    let turn = format!(in alloc; "{turn}")?;
+    line.replace(alloc, '#', turn.as_str())
 }
 
 impl Stage {
-    pub fn new(alloc: Global) -> Result<Stage, NoMemory> {
-        Stage::with_limit(alloc, LIMIT)
+    /// A new world, whose buffers hold so many lines, and no clients.
+    pub fn new(alloc: Global, limit: u32) -> Result<Stage, NoMemory> {
+        match World::new(alloc, limit.clamp(1, 4096)) {
+            Ok(world) => Stage::of(alloc, world),
+            Err(NoMemory) => Err(NoMemory),
+        }
     }
 
-    fn with_limit(alloc: Global, limit: u32) -> Result<Stage, NoMemory> {
-        let world = new_world(alloc, limit)?;
-        let pending = Pending::new(alloc)?;
-        Ok(Stage {
-            alloc,
-            world,
-            pending,
-            audience: Audience::new(alloc),
-            watched: Part::Nothing,
-        })
+    fn of(alloc: Global, world: World) -> Result<Stage, NoMemory> {
+        match Pending::new(alloc) {
+            Ok(pending) => Ok(Stage {
+                alloc,
+                world,
+                pending,
+                audience: Audience::new(alloc),
+                watched: Part::Nothing,
+            }),
+            Err(NoMemory) => Err(NoMemory),
+        }
     }
 
     /// Begins again with a new world, whose buffers hold so many lines, and without clients.
     pub fn restart(&mut self, limit: &str) -> Result<(), Wrong> {
         let limit = small_number(limit)?;
-        let stage = Stage::with_limit(self.alloc, limit)?;
-        *self = stage;
+        match Stage::new(self.alloc, limit) {
+            Ok(stage) => *self = stage,
+            Err(NoMemory) => return Err(Wrong::NoMemory),
+        }
         Ok(())
     }
 
     /// Makes a change, and answers whether it was accepted.
-    fn make(&mut self, out: &mut String, change: Change) -> Result<bool, Wrong>
+    fn make(&mut self, out: &mut Sheet, change: Change) -> bool
         requires { IsChangeText change.what }
     {
         let buffer = change.buffer;
@@ -103,63 +103,90 @@ impl Stage {
         if closes && answer.is_ok() {
             self.pending.forget(buffer);
         }
-        self.answer(out, &answer)
-    }
-
-    /// Shows the answer to a change, and tells what was noticed of it.
-    fn answer(
-        &mut self,
-        out: &mut String,
-        answer: &Result<Notice, ChangeRefused>,
-    ) -> Result<bool, Wrong> {
-        match answer {
-            Ok(notice) => {
-                show_notice(out, notice)?;
-                self.audience.tell_notice(&self.world, notice)?;
-            }
-            Err(refused) => write!(out, "{refused}\n")?,
-        }
-        Ok(answer.is_ok())
-    }
-
-    /// Makes the change that a line asks for, and answers whether it was accepted.
-    fn change(&mut self, out: &mut String, line: &str) -> Result<bool, Wrong> {
-        let words: Vec<&str> = line.split_whitespace().collect(self.alloc)?;
-        let change = change_of(self.alloc, words.as_slice())?;
-        self.make(out, change)
-    }
-
-    /// Makes a change, and shows what is watched.
-    pub fn change_and_show(&mut self, out: &mut String, line: &str) -> Result<(), Wrong> {
-        let _accepted = self.change(out, line)?;
-        show_part(self.alloc, out, &self.world, &self.pending, self.watched)
+        self.answer(out, &answer);
+        answer.is_ok()
     }
 
     /// Makes a change that finds no memory for what it touches.
-    pub fn change_without_touch(&mut self, out: &mut String, words: &[&str]) -> Result<(), Wrong> {
-        let change = change_of(self.alloc, words)?;
+    fn make_without_touch(&mut self, out: &mut Sheet, change: Change)
+        requires { IsChangeText change.what }
+    {
         let answer = self.world.change(self.alloc, change, &mut Full);
-        let _accepted = self.answer(out, &answer)?;
-        show_part(self.alloc, out, &self.world, &self.pending, self.watched)
+        self.answer(out, &answer);
+    }
+
+    /// Shows the answer to a change, and tells what was noticed of it.
+    fn answer(&mut self, out: &mut Sheet, answer: &Result<Notice, ChangeRefused>) {
+        match answer {
+            Ok(notice) => {
+                show_notice(out, notice);
+                self.audience.tell_notice(out, &self.world, notice);
+            }
+            Err(refused) => show_refused(out, refused),
+        }
+    }
+
+    /// Makes the change that words ask for, and answers whether it was accepted.
+    fn change(&mut self, out: &mut Sheet, words: &[&str]) -> Result<bool, Wrong> {
+        match change_of(self.alloc, words) {
+            Ok(change) => Ok(self.make(out, change)),
+            Err(wrong) => Err(wrong),
+        }
+    }
+
+    fn show_watched(&self, out: &mut Sheet) {
+        show_part(self.alloc, out, &self.world, &self.pending, self.watched);
+    }
+
+    /// Makes a change, and shows what is watched.
+    pub fn change_and_show(&mut self, out: &mut Sheet, words: &[&str]) -> Result<(), Wrong> {
+        let _accepted = self.change(out, words)?;
+        self.show_watched(out);
+        Ok(())
+    }
+
+    /// The same where the change finds no memory for what it touches.
+    pub fn change_without_touch(&mut self, out: &mut Sheet, words: &[&str]) -> Result<(), Wrong> {
+        match change_of(self.alloc, words) {
+            Ok(change) => self.make_without_touch(out, change),
+            Err(wrong) => return Err(wrong),
+        }
+        self.show_watched(out);
+        Ok(())
     }
 
     /// Makes the change of a line in one turn of many. The answer takes the place of the last one.
-    fn turn(&mut self, last: &mut String, line: &str, turn: u64) -> Result<bool, Wrong> {
+    fn turn(&mut self, last: &mut Sheet, line: &str, turn: u64) -> Result<bool, Wrong> {
         let line = with_turn(self.alloc, line, turn)?;
+        let words: Vec<&str> = line.split_whitespace().collect(self.alloc)?;
         last.clear();
-        self.change(last, line.as_str())
+        self.change(last, words.as_slice())
     }
 
-    /// Makes many changes, and shows how many were accepted and the last answer.
-    pub fn repeat(&mut self, out: &mut String, count: &str, line: &str) -> Result<(), Wrong> {
-        let mut last = String::new(self.alloc);
+    /// Makes many changes, and answers how many were accepted.
+    fn turns(&mut self, last: &mut Sheet, line: &str, count: u64) -> Result<u64, Wrong> {
         let mut accepted = 0u64;
-        for turn in 0..number(count)? {
-            if self.turn(&mut last, line, turn)? {
+        for turn in 0..count {
+            if self.turn(last, line, turn)? {
                 accepted = accepted.saturating_add(1);
             }
         }
-        write!(out, "{accepted} accepted, the last: {}", last.as_str())?;
-        show_part(self.alloc, out, &self.world, &self.pending, self.watched)
+        Ok(accepted)
     }
+
+    /// Makes many changes, and shows how many were accepted and the last answer.
+    pub fn repeat(&mut self, out: &mut Sheet, count: &str, line: &str) -> Result<(), Wrong> {
+        let mut last = Sheet::new(self.alloc);
+        let accepted = self.turns(&mut last, line, number(count)?)?;
+        out.put_number("", accepted);
+        out.put(" accepted, the last: ");
+        out.put(last.read());
+        self.show_watched(out);
+        Ok(())
+    }
+}
+
+fn show_refused(out: &mut Sheet, refused: &ChangeRefused) {
+    let written = write!(out.text, "{refused}\n");
+    out.note(written);
 }
