@@ -9,7 +9,7 @@ use Rattle.wc_outside.specs.Seen.{Seen}
 use Rattle.wc_outside.specs.declared.happening.Asked.TheVariants.{Listen, Connect}
 use Rattle.wc_turns.specs.declared.headless.Headless.{Headless}
 use Rattle.wc_loop.specs.declared.ending.Ending.{Ending}
-use Rattle.wc_loop.specs.declared.ending.Ending.TheVariants.{Version, Help, BadWord, WaitFailed, NoConfiguration, BadLine, NoMemory, ListenFailed, NotSaved, TurnsTaken, Quit as EndsQuit}
+use Rattle.wc_loop.specs.declared.ending.Ending.TheVariants.{Version, Help, BadWord, WaitFailed, NoConfiguration, BadLine, NoMemory, ListenFailed, NotSaved, TurnsTaken, Quit as EndsQuit, Demo}
 use Rattle.wc_turns.specs.declared.turn.TurnEnd.{TurnEnd}
 use Rattle.wc_turns.specs.declared.turn.TurnEnd.TheVariants.{GoOn, Quit, WaitFault, ListenFault, KeeperFault}
 use Rattle.wc_outside.specs.declared.happening.Asked.{Asked}
@@ -424,6 +424,7 @@ module _ (opening : Opening) where
   Runs-early turns contents k k' seen NotSaved u asked early = absurd early
   Runs-early turns contents k k' seen TurnsTaken u asked early = absurd early
   Runs-early turns contents k k' seen EndsQuit u asked early = absurd early
+  Runs-early turns contents k k' seen (Demo lines counts) u asked early = absurd early
 
   -- the listener was asked for in vain
   pub Runs-unheard : (turns : ℕ) (contents : Option (List ℕ)) (k k' : ℕ) (before after : Seen) (first : Headless) (port : ℕ) → Unawaited turns after → IfSome contents (IsConfigured opening first port)

@@ -1,5 +1,5 @@
 -- What a whole run hands to its clients and its servers.
-use Rattle.std.proofs.Common.{◌≡◌, ℕ, ◌≤◌, List, [], ◌∷◌, ◌++◌, map, IsTrue, Bool, true, false, cond, eqb, nat_le, not, ◌&&◌, ◌||◌, inl, refl, sym, ap, ◌∙◌, subst, arith, Option, Some, None, IfSome, is_some, is_none, option_map}
+use Rattle.std.proofs.Common.{◌≡◌, ℕ, ◌≤◌, List, [], ◌∷◌, ◌++◌, IsTrue, Bool, true, false, cond, eqb, nat_le, not, ◌&&◌, ◌||◌, inl, refl, sym, ap, ◌∙◌, subst, arith, Option, Some, None, IfSome, is_some, is_none, option_map}
 use Rattle.std.proofs.lemmas.Bool.{false≢true}
 use Rattle.std.proofs.lemmas.Bool.Decides.{nat_tests}
 use Rattle.std.proofs.lemmas.List.{append-nil}
@@ -22,17 +22,17 @@ use Rattle.wc_board.specs.Told.{Told}
 use Rattle.wc_board.specs.Connections.{connection_link, unsent_on as client_unsent_on, unsent_in as client_unsent_in}
 use Rattle.wc_servers.specs.declared.wanted.Wanted.{Wanted}
 use Rattle.wc_servers.specs.Outs.{lines_by, lines_to}
-use Rattle.wc_servers.specs.Seats.{SeatView, ServerSeat, ServersView, server_link, seat_link, is_open, seat_of, open_of, open_if, open_in, leaving_in, leaving_on, unsent_in, unsent_on as server_unsent_on, links_of, AreApart}
+use Rattle.wc_servers.specs.Seats.{SeatView, ServersView, server_link, seat_link, seat_of, open_of, open_if, open_in, leaving_in, unsent_in, unsent_on as server_unsent_on, links_of, AreApart}
 use Rattle.wc_servers.proofs.OutLemmas.{open-at}
 use Rattle.wc_core.specs.ServersKept.{is_wanted}
-use Rattle.wc_core.specs.Served.{clients_of, state_of, Means, WereTold, sent_by, sent_to, outs_by, outs_of}
+use Rattle.wc_core.specs.Served.{clients_of, state_of, Means, WereTold, sent_by, sent_to, outs_of}
 use Rattle.wc_turns.specs.declared.headless.Headless.{Headless}
 use Rattle.wc_turns.specs.declared.links.Closed.{Closed}
 use Rattle.wc_loop.specs.Endings.{kept_of}
 use Rattle.wc_turns.specs.Events.{events_from}
 use Rattle.wc_turns.specs.Hands.{IsFrontOf}
 use Rattle.wc_turns.specs.Links.{link_number}
-use Rattle.wc_turns.specs.Parties.{has_party, unsent_on, owed_by, owed_to, asks_of, asks_in, seat_closes, closes_asked, IsCalm}
+use Rattle.wc_turns.specs.Parties.{has_party, unsent_on, owed_to, asks_of, asks_in, seat_closes, IsCalm}
 use Rattle.wc_loop.specs.Headline.{state_before, held_if, HandsOut, Headline, IsConfigured, IsFirst, NothingTaken, has_party_in}
 use Rattle.wc_loop.specs.Words.{Opening}
 use Rattle.wc_turns.specs.Served.{ReachesEvents, NobodyLeaving, closed_by, leaving_closes}

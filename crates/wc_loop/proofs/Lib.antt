@@ -1,4 +1,5 @@
 pub mod CutLemmas
+pub mod DemoLemmas
 pub mod OptionsLemmas
 pub mod EndingLemmas
 pub mod HeadlineLemmas

@@ -6,7 +6,7 @@ use Rattle.std.specs.Str.{IsUtf8}
 use Rattle.std.proofs.lemmas.Str.{IsUtf8-string_bytes}
 use Rattle.wc_text.proofs.Utf8Lemmas.{utf8_cons}
 use Rattle.wc_loop.specs.declared.words.Wish.{Wish}
-use Rattle.wc_loop.specs.Words.{is_folder, is_turns, is_command, asked_by, takes_text, turns_of, wish_from, folder_from, with_slash, commands_from, commands_of}
+use Rattle.wc_loop.specs.Words.{is_folder, is_command, asked_by, asked_with, takes_number, takes_value, wish_from, folder_from, with_slash, commands_from, commands_of}
 
 pub flag_step : (place : ℕ) (wish asked : Wish) (word : List ℕ) (words : List (List ℕ)) → asked_by wish word ≡ Some asked
     → wish_from place wish (word ∷ words) ≡ wish_from (place + 1) asked words
@@ -16,22 +16,26 @@ flag_step place wish asked word (v ∷ vs) e = rw e refl
 pub lone_step : (place : ℕ) (wish : Wish) (word : List ℕ) → asked_by wish word ≡ None → wish_from place wish (word ∷ []) ≡ Err (place + 1)
 lone_step place wish word e = rw e refl
 
-pub text_step : (place : ℕ) (wish : Wish) (word value : List ℕ) (words ws vs : List (List ℕ)) → words ≡ word ∷ vs → vs ≡ value ∷ ws → asked_by wish word ≡ None → takes_text word ≡ true
-    → wish_from place wish words ≡ wish_from (place + 2) wish ws
-text_step place wish word value words ws vs e f none text = rw (e, f, none, text) refl
+pub value_step : (place : ℕ) (wish asked : Wish) (word value : List ℕ) (words ws vs : List (List ℕ)) → words ≡ word ∷ vs → vs ≡ value ∷ ws → asked_by wish word ≡ None → takes_value word ≡ true → asked_with wish word value ≡ Some asked
+    → wish_from place wish words ≡ wish_from (place + 2) asked ws
+value_step place wish asked word value words ws vs e f none takes asks = rw (e, f, none, takes, asks) refl
 
-pub turns_step : (place n : ℕ) (wish : Wish) (word value : List ℕ) (words ws vs : List (List ℕ)) → words ≡ word ∷ vs → vs ≡ value ∷ ws → asked_by wish word ≡ None → takes_text word ≡ false → is_turns word ≡ true → turns_of value ≡ Some n
-    → wish_from place wish words ≡ wish_from (place + 2) (record wish { turns = n }) ws
-turns_step place n wish word value words ws vs e f none text turns number = rw (e, f, none, text, turns, number) refl
+pub unknown_step : (place : ℕ) (wish : Wish) (word value : List ℕ) (words ws vs : List (List ℕ)) → words ≡ word ∷ vs → vs ≡ value ∷ ws → asked_by wish word ≡ None → takes_value word ≡ false
+    → wish_from place wish words ≡ Err (place + 1)
+unknown_step place wish word value words ws vs e f none takes = rw (e, f, none, takes) refl
+
+pub unreadable_step : (place : ℕ) (wish : Wish) (word value : List ℕ) (words ws vs : List (List ℕ)) → words ≡ word ∷ vs → vs ≡ value ∷ ws → asked_by wish word ≡ None → takes_value word ≡ true → asked_with wish word value ≡ None
+    → wish_from place wish words ≡ Err (place + 2)
+unreadable_step place wish word value words ws vs e f none takes asks = rw (e, f, none, takes, asks) refl
 
 -- how the folder is named, word by word
 pub names_folder : (folder : Option (List ℕ)) (word value : List ℕ) (rest others following : List (List ℕ)) → rest ≡ word ∷ others → others ≡ value ∷ following → is_folder word ≡ true → folder_from folder rest ≡ folder_from (Some value) following
 names_folder folder word value rest others following e q t = rw (e, q, t) refl
 
-pub names_turns : (folder : Option (List ℕ)) (word value : List ℕ) (rest others following : List (List ℕ)) → rest ≡ word ∷ others → others ≡ value ∷ following → is_folder word ≡ false → (is_turns word || is_command word) ≡ true → folder_from folder rest ≡ folder_from folder following
+pub names_turns : (folder : Option (List ℕ)) (word value : List ℕ) (rest others following : List (List ℕ)) → rest ≡ word ∷ others → others ≡ value ∷ following → is_folder word ≡ false → (takes_number word || is_command word) ≡ true → folder_from folder rest ≡ folder_from folder following
 names_turns folder word value rest others following e q f t = rw (e, q, f, t) refl
 
-pub names_none : (folder : Option (List ℕ)) (word value : List ℕ) (rest others following : List (List ℕ)) → rest ≡ word ∷ others → others ≡ value ∷ following → is_folder word ≡ false → (is_turns word || is_command word) ≡ false → folder_from folder rest ≡ folder_from folder others
+pub names_none : (folder : Option (List ℕ)) (word value : List ℕ) (rest others following : List (List ℕ)) → rest ≡ word ∷ others → others ≡ value ∷ following → is_folder word ≡ false → (takes_number word || is_command word) ≡ false → folder_from folder rest ≡ folder_from folder others
 names_none folder word value rest others following e q f t = rw (e, q, f, t) refl
 
 pub names_last : (folder : Option (List ℕ)) (word : List ℕ) (rest others : List (List ℕ)) → rest ≡ word ∷ others → others ≡ [] → folder_from folder rest ≡ folder
@@ -41,10 +45,10 @@ names_last folder word rest others e q = rw (e, q) refl
 pub names_command : (commands : List (List ℕ)) (word value : List ℕ) (rest others following : List (List ℕ)) → rest ≡ word ∷ others → others ≡ value ∷ following → is_command word ≡ true → commands_from commands rest ≡ commands_from (commands ++ with_slash value ∷ []) following
 names_command commands word value rest others following e q t = rw (e, q, t) refl
 
-pub names_other : (commands : List (List ℕ)) (word value : List ℕ) (rest others following : List (List ℕ)) → rest ≡ word ∷ others → others ≡ value ∷ following → is_command word ≡ false → (is_turns word || is_folder word) ≡ true → commands_from commands rest ≡ commands_from commands following
+pub names_other : (commands : List (List ℕ)) (word value : List ℕ) (rest others following : List (List ℕ)) → rest ≡ word ∷ others → others ≡ value ∷ following → is_command word ≡ false → (takes_number word || is_folder word) ≡ true → commands_from commands rest ≡ commands_from commands following
 names_other commands word value rest others following e q f t = rw (e, q, f, t) refl
 
-pub names_nothing : (commands : List (List ℕ)) (word value : List ℕ) (rest others following : List (List ℕ)) → rest ≡ word ∷ others → others ≡ value ∷ following → is_command word ≡ false → (is_turns word || is_folder word) ≡ false → commands_from commands rest ≡ commands_from commands others
+pub names_nothing : (commands : List (List ℕ)) (word value : List ℕ) (rest others following : List (List ℕ)) → rest ≡ word ∷ others → others ≡ value ∷ following → is_command word ≡ false → (takes_number word || is_folder word) ≡ false → commands_from commands rest ≡ commands_from commands others
 names_nothing commands word value rest others following e q f t = rw (e, q, f, t) refl
 
 pub commands_last : (commands : List (List ℕ)) (word : List ℕ) (rest others : List (List ℕ)) → rest ≡ word ∷ others → others ≡ [] → commands_from commands rest ≡ commands
@@ -75,7 +79,7 @@ from_texts : (commands words : List (List ℕ)) → AllByRecursion IsUtf8 comman
 from_texts commands [] all utf8 = all
 from_texts commands (word ∷ []) all utf8 = all
 from_texts commands (word ∷ value ∷ words) all utf8 =
-    by (is_command word) (is_turns word || is_folder word) (from_texts (commands ++ with_slash value ∷ []) words (all_more commands (with_slash value) all (slash_text value utf8.1.0)) utf8.1.1) (from_texts commands words all utf8.1.1) (from_texts commands (value ∷ words) all utf8.1)
+    by (is_command word) (takes_number word || is_folder word) (from_texts (commands ++ with_slash value ∷ []) words (all_more commands (with_slash value) all (slash_text value utf8.1.0)) utf8.1.1) (from_texts commands words all utf8.1.1) (from_texts commands (value ∷ words) all utf8.1)
   where
     by : (s t : Bool) → AllByRecursion IsUtf8 (commands_from (commands ++ with_slash value ∷ []) words) → AllByRecursion IsUtf8 (commands_from commands words) → AllByRecursion IsUtf8 (commands_from commands (value ∷ words))
         → AllByRecursion IsUtf8 (cond s (commands_from (commands ++ with_slash value ∷ []) words) (cond t (commands_from commands words) (commands_from commands (value ∷ words))))

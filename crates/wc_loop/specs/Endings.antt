@@ -12,7 +12,7 @@ use Rattle.wc_loop.specs.declared.ending.Ending.{Ending}
 use Rattle.wc_loop.specs.declared.ending.Ending.TheVariants.{Version, Help, BadWord, WaitFailed}
 use Rattle.wc_loop.specs.declared.ending.Ending.TheVariants.{NoConfiguration, BadLine, NoMemory}
 use Rattle.wc_loop.specs.declared.ending.Ending.TheVariants.{ListenFailed, NotSaved, TurnsTaken}
-use Rattle.wc_loop.specs.declared.ending.Ending.TheVariants.{Quit}
+use Rattle.wc_loop.specs.declared.ending.Ending.TheVariants.{Quit, Demo}
 use Rattle.wc_turns.specs.declared.headless.Headless.{Headless}
 use Rattle.wc_turns.specs.declared.turn.TurnEnd.{TurnEnd}
 use Rattle.wc_turns.specs.declared.turn.TurnEnd.TheVariants.{GoOn, Quit as ThenQuit, WaitFault}
@@ -24,6 +24,9 @@ use Rattle.wc_loop.specs.declared.words.Wish.{Wish}
 use Rattle.wc_options.specs.Config.{config_of}
 use Rattle.wc_options.specs.Options.{OptionsValue}
 use Rattle.wc_core.specs.Limits.{port_of}
+use Rattle.wc_demo.specs.declared.counts.Counts.{Counts}
+use Rattle.wc_demo.specs.Counts.{none_counted}
+use Rattle.wc_loop.specs.Demo.{line_of, demo_text, IsDemoEnd}
 use Rattle.wc_loop.specs.Headline.{Headline}
 use Rattle.wc_turns.specs.Parties.{IsCalm}
 use Rattle.wc_loop.specs.Words.{Opening}
@@ -89,6 +92,8 @@ pub record Ends (turns : ℕ) (contents : Option (List ℕ)) (seen : Seen) (stat
 abbrev pub StatusFor : Shows → ℕ → Option (List ℕ) → Seen → ℕ → Option Headless → Type 0
 StatusFor shows.Version turns contents seen status last = (status ≡ 0) × (last ≡ None)
 StatusFor shows.Help turns contents seen status last = (status ≡ 0) × (last ≡ None)
+StatusFor (shows.Demo lines) turns contents seen status last = ((status ≡ 0) ⊎ (status ≡ 5))
+    × (last ≡ None)
 StatusFor shows.Nothing turns contents seen status last = Ends turns contents seen status last
 
 -- the status of a run
@@ -96,10 +101,6 @@ abbrev pub StatusOf : Result Wish ℕ → Option (List ℕ) → Seen → ℕ →
 StatusOf (Err n) contents seen status last = (status ≡ 1) × (last ≡ None)
 StatusOf (Ok wish) contents seen status last = StatusFor wish.shows wish.turns contents seen
     status last
-
--- a text and an LF
-abbrev pub line_of : List ℕ → List ℕ
-line_of text = text ++ 10 ∷ []
 
 -- what words ask to be shown, and whether they ask for turns
 abbrev pub shown_by : Result Wish ℕ → Shows
@@ -110,6 +111,7 @@ abbrev pub runs_for : Shows → Bool
 runs_for shows.Nothing = true
 runs_for shows.Version = false
 runs_for shows.Help = false
+runs_for (shows.Demo lines) = false
 
 abbrev pub asks_turns : Result Wish ℕ → Bool
 asks_turns (Err n) = false
@@ -123,16 +125,17 @@ help_text = codes "wc-headless: a chat core without a screen, read through relay
     ++ codes "  -r COMMAND  runs a command at the start; may be repeated\n"
     ++ codes "  -a          connects no server at the start\n"
     ++ codes "  --turns N   ends after N waits\n"
+    ++ codes "  --demo N    counts what there is after N lines of a server that is made up\n"
     ++ codes "  -v          prints the version\n"
     ++ codes "  -h, --help  prints this\n"
     ++ codes "\n"
     ++ codes "Status:\n"
-    ++ codes "  0  /quit was run, or the version or this was printed\n"
+    ++ codes "  0  /quit was run, or the version, this or a demo was printed\n"
     ++ codes "  1  a word is unknown, or lacks its value\n"
     ++ codes "  2  waiting failed\n"
     ++ codes "  3  the configuration cannot be read or written\n"
     ++ codes "  4  a line of the configuration is unreadable\n"
-    ++ codes "  5  there was no memory before the first wait\n"
+    ++ codes "  5  there was no memory before the first wait, or for a demo\n"
     ++ codes "  6  listening failed\n"
     ++ codes "  7  printing failed\n"
     ++ codes "  8  N waits returned\n"
@@ -152,11 +155,13 @@ status_text woken status number =
     if status == 5 then line_of (codes "out of memory") else (
     if status == 6 then line_of (codes "listen failed") else [])))))
 
--- what is printed, where words ask for this
-abbrev pub printed_text : Shows → Bool → ℕ → ℕ → List ℕ
-printed_text shows.Version woken status number = line_of (codes "wc-headless 1")
-printed_text shows.Help woken status number = help_text
-printed_text shows.Nothing woken status number = status_text woken status number
+-- what is printed, where words ask for this; of a demo, where there was memory for it, its counts
+abbrev pub printed_text : Shows → Bool → ℕ → ℕ → Counts → List ℕ
+printed_text shows.Version woken status number counts = line_of (codes "wc-headless 1")
+printed_text shows.Help woken status number counts = help_text
+printed_text shows.Nothing woken status number counts = status_text woken status number
+printed_text (shows.Demo lines) woken status number counts = if status == 0
+    then demo_text lines counts else status_text woken status number
 
 -- the number that is printed is that of the word with a fault, or of the unreadable line
 pub record IsNumber (wish : Result Wish ℕ) (contents : Option (List ℕ)) (status number : ℕ) :
@@ -168,9 +173,10 @@ pub record IsNumber (wish : Result Wish ℕ) (contents : Option (List ℕ)) (sta
 pub record Prints (wish : Result Wish ℕ) (contents : Option (List ℕ)) (status : ℕ)
     (last : Option Headless) (before after : Option (List ℕ)) : Type 0 where
   pub number : ℕ
+  pub counts : Counts
   pub is : IsNumber wish contents status number
   pub holds : after
-      ≡ append_known before (printed_text (shown_by wish) (is_some last) status number)
+      ≡ append_known before (printed_text (shown_by wish) (is_some last) status number counts)
 
 -- what the sockets are asked for first where words ask for turns: the listener at a port, unless the
 -- run ended before
@@ -212,6 +218,7 @@ status_of ListenFailed = 6
 status_of NotSaved = 3
 status_of TurnsTaken = 8
 status_of Quit = 0
+status_of (Demo lines counts) = 0
 
 abbrev pub number_of : Ending → ℕ
 number_of Version = 0
@@ -225,6 +232,12 @@ number_of ListenFailed = 0
 number_of NotSaved = 0
 number_of TurnsTaken = 0
 number_of Quit = 0
+number_of (Demo lines counts) = 0
+
+-- the counts in its text
+abbrev pub counts_in : Ending → Counts
+counts_in (Demo lines counts) = counts
+counts_in _ = none_counted
 
 -- what it shows in the place of a run
 abbrev pub shown_at : Ending → Shows
@@ -239,6 +252,7 @@ shown_at ListenFailed = shows.Nothing
 shown_at NotSaved = shows.Nothing
 shown_at TurnsTaken = shows.Nothing
 shown_at Quit = shows.Nothing
+shown_at (Demo lines counts) = shows.Demo lines
 
 -- whether the configuration could not be written
 abbrev pub is_unsaved : Ending → Bool
@@ -248,7 +262,7 @@ is_unsaved _ = false
 -- what an end prints
 abbrev pub ending_text : Ending → List ℕ
 ending_text ending = printed_text (shown_at ending) (is_unsaved ending) (status_of ending)
-    (number_of ending)
+    (number_of ending) (counts_in ending)
 
 -- so many turns were taken, the last of which ended so
 pub record RunStep (end : TurnEnd) (old new : Headless) (before after : Seen) : Type 0 where
@@ -278,6 +292,7 @@ IsEarly contents kept kept' ListenFailed = ⊥
 IsEarly contents kept kept' NotSaved = ⊥
 IsEarly contents kept kept' TurnsTaken = ⊥
 IsEarly contents kept kept' Quit = ⊥
+IsEarly contents kept kept' (Demo lines counts) = ⊥
 
 -- The links that the last turn closed have their causes in it, as far as they are not those of servers.
 -- The state before that turn is one that this run came to, and what was seen then came after the start.
@@ -374,12 +389,20 @@ pub record AsksNothing (kept kept' : ℕ) (before after : Seen) (wanted ending :
   pub seen : after ≡ before
   pub faults : kept' ≡ kept
 
+-- a demo ends, which asks nothing of it either
+pub record EndsDemo (lines kept kept' : ℕ) (before after : Seen) (ending : Ending)
+    (last : Option Headless) : Type 0 where
+  pub ends : IsDemoEnd lines ending
+  pub nothing : AsksNothing kept kept' before after ending ending last
+
 abbrev pub RunsFor : Shows → Opening → ℕ → Option (List ℕ) → ℕ → ℕ → Seen → Seen → Ending →
     Option Headless → Type 0
 RunsFor shows.Version opening turns contents kept kept' before after ending last =
     AsksNothing kept kept' before after Version ending last
 RunsFor shows.Help opening turns contents kept kept' before after ending last =
     AsksNothing kept kept' before after Help ending last
+RunsFor (shows.Demo lines) opening turns contents kept kept' before after ending last =
+    EndsDemo lines kept kept' before after ending last
 RunsFor shows.Nothing opening turns contents kept kept' before after ending last =
     Runs opening turns contents kept kept' before after ending last
 

@@ -1,4 +1,5 @@
 pub mod Cuts
+pub mod Demo
 pub mod Endings
 pub mod Headline
 pub mod Words

@@ -1,8 +1,9 @@
 ghost use Rattle.std.specs.Prelude.{◌≡◌, ◌≢◌};
 ghost use Rattle.wc_loop.specs.Endings.{status_of, ending_text};
 
-use crate::print::{line, put_number};
+use crate::print::{demo_line, line, put_number};
 use arrayvec::ArrayVec;
+use wc_demo::Counts;
 
 /// Why a run ends.
 #[derive(Clone, Copy)]
@@ -25,6 +26,8 @@ pub enum Ending {
     TurnsTaken,
     /// `/quit` was run.
     Quit,
+    /// The demo of so many lines was run, after which there is this.
+    Demo(u32, Counts),
 }
 
 impl Ending {
@@ -33,7 +36,7 @@ impl Ending {
         ensures { result ≡ status_of self }
     {
         match self {
-            Ending::Version | Ending::Help | Ending::Quit => 0,
+            Ending::Version | Ending::Help | Ending::Quit | Ending::Demo(_, _) => 0,
             Ending::BadWord(_) => 1,
             Ending::WaitFailed => 2,
             Ending::NoConfiguration | Ending::NotSaved => 3,
@@ -45,7 +48,7 @@ impl Ending {
     }
 
     /// What is printed, but for the help, which is longer.
-    pub fn text(self) -> ArrayVec<u8, 64>
+    pub fn text(self) -> ArrayVec<u8, 192>
         ensures { self ≢ Ending.Help → result.items ≡ ending_text self }
     {
         match self {
@@ -57,6 +60,7 @@ impl Ending {
             Ending::NoMemory => line(b"out of memory"),
             Ending::ListenFailed => line(b"listen failed"),
             Ending::NotSaved => line(b"cannot write configuration"),
+            Ending::Demo(lines, counts) => demo_line(lines, counts),
             Ending::Help | Ending::TurnsTaken | Ending::Quit => ArrayVec::new(),
         }
     }

@@ -1,258 +1,39 @@
-ghost use Rattle.std.specs.Prelude.{◌≡◌, ◌≢◌, ◌≤◌, ◌⊎◌, ◌∷◌, [], Bool, true, false};
-ghost use Rattle.std.specs.Prelude.{None, Some, Ok, IfOk, IfErr, IfSome, IsSome, IsTrue, All, map};
-ghost use Rattle.std.specs.Prelude.{string_bytes};
+ghost use Rattle.std.specs.Prelude.{◌≡◌, ◌≢◌, false, None, IfOk, IfSome, IsTrue, OnOk, OnErr};
+ghost use Rattle.std.specs.Prelude.{is_some, map, string_bytes};
 ghost use Rattle.std.specs.Io.KnownBytes.{append_known};
 ghost use Rattle.wc_outside.specs.Faults.{Rose};
 ghost use Rattle.wc_outside.specs.Seen.{IsNew};
-ghost use Rattle.wc_loop.specs.Endings.{LastOf, StatusOf, WaitsAtMost, Prints, IsEarly, HasCause};
-ghost use Rattle.wc_loop.specs.Endings.{Runs, RunsBy, asks_turns, IsAsked, EndsAt, kept_of};
-ghost use Rattle.wc_loop.specs.Endings.{status_of, ending_text, KeepsText, HoldsEarlier};
-ghost use Rattle.wc_loop.specs.Endings.{HoldsSaved, FailsToSave, ClosesLast, LastTurn};
-ghost use Rattle.wc_turns.specs.Saves.{SavesTurn};
-ghost use Rattle.wc_options.specs.Config.{config_of};
-ghost use Rattle.wc_core.specs.Limits.{port_of};
-ghost use Rattle.wc_core.specs.Served.{Means};
-ghost use Rattle.wc_loop.specs.Headline.{state_before, held_if, Headline, ClientsHoldDumps, IsFirst, IsConfigured};
+ghost use Rattle.wc_loop.specs.Demo.{PrintsDemo, IsDemoEnd, IfDemo};
+ghost use Rattle.wc_loop.specs.Endings.{LastOf, StatusOf, WaitsAtMost, Prints, HasCause, RunsBy};
+ghost use Rattle.wc_loop.specs.Endings.{asks_turns, IsAsked, status_of, ending_text, KeepsText};
+ghost use Rattle.wc_loop.specs.Endings.{HoldsEarlier, HoldsSaved, ClosesLast};
+ghost use Rattle.wc_loop.specs.Headline.{Headline, ClientsHoldDumps};
 ghost use Rattle.wc_turns.specs.Parties.{IsCalm};
 ghost use Rattle.wc_turns.specs.Sources.{AllServed, AllSent};
-ghost use Rattle.wc_loop.specs.Words.{commands_of, opening_of, wish_of};
-ghost use Rattle.wc_loop.specs.Endings.{RunStep};
-ghost use Rattle.std.specs.Prelude.{OnOk, OnErr, is_some};
+ghost use Rattle.wc_loop.specs.Words.{opening_of, wish_of};
 ghost use Rattle.wc_turns.specs.Turns.{AgreesWithSockets};
 
+use crate::demo::run_demo;
 use crate::ending::Ending;
 use crate::help::help;
 use crate::print::print;
-use crate::words::{Shows, Wish, read_words, start_commands};
+use crate::run::{Outcome, run};
+use crate::words::{Shows, read_words};
 use std::alloc::Global;
-use wc_core::port_of;
-use wc_options::{ConfigRefused, Options, read_config};
-use wc_outside::{Failed, KeepFault, Keeper, Sink, Sockets};
-use wc_text::NoMemory;
-use wc_turns::{Headless, TurnEnd};
+use wc_outside::{Failed, Keeper, Sink, Sockets};
+use wc_turns::Headless;
 
 /// How a run ended.
 #[derive(Drop)]
 pub struct Ended {
-    /// 0 where words asked for the version or the help, or `/quit` was run; 1 for a bad word; 2 where
-    /// a wait failed; 3 where the configuration could not be read, or not be written; 4 where a line of it is unreadable; 5
-    /// for want of memory before the first wait; 6 where the listener failed; 7 where printing
-    /// failed; and 8 where as many waits returned as were asked for.
+    /// 0 where words asked for the version, the help or a demo, or `/quit` was run; 1 for a bad word;
+    /// 2 where a wait failed; 3 where the configuration could not be read, or not be written; 4 where
+    /// a line of it is unreadable; 5 for want of memory before the first wait, or in a demo; 6 where
+    /// the listener failed; 7 where printing failed; and 8 where as many waits returned as were asked
+    /// for.
     pub status: u8,
     /// The state after the last turn, where a wait returned.
     pub last: Option<Headless>,
-}
-
-/// The options that the configuration holds.
-#[tactic(auto, using(crate::proofs::OptionsLemmas::line_is))]
-fn read_options<K: Keeper>(alloc: Global, keeper: &mut K) -> Result<Options, Ending>
-    ensures known { IfOk result (λ options. IfSome (K.contents keeper.old)
-        (λ configuration. config_of configuration ≡ Ok options)) }
-    ensures early { IfErr result (IsEarly (K.contents keeper.old) (K.faults keeper.old)
-        (K.faults keeper.new)) }
-    ensures kept { K.contents keeper.new ≡ K.contents keeper.old }
-    ensures counts { K.faults keeper.old ≤ K.faults keeper.new }
-{
-    let text = match keeper.read_all(alloc) {
-        Ok(text) => text,
-        Err(KeepFault::Failed) => return Err(Ending::NoConfiguration),
-        Err(KeepFault::NoMemory) => return Err(Ending::NoMemory),
-    };
-    match read_config(alloc, text.as_slice()) {
-        Ok(options) => Ok(options),
-        Err(ConfigRefused::BadLine { line }) => Err(Ending::BadLine(line)),
-        Err(ConfigRefused::NoMemory) => Err(Ending::NoMemory),
-    }
-}
-
-/// What the options make of a run: its state, and where clients are listened for.
-#[derive(Drop)]
-struct Configured {
-    headless: Headless,
-    port: u16,
-}
-
-/// Makes the state of a run by the options, which runs the commands after its first wait, and then
-/// connects servers by itself, unless that is held back.
-fn state_by(
-    alloc: Global,
-    options: Options,
-    commands: Vec<String>,
-    holds: bool,
-) -> Result<Configured, NoMemory>
-    ensures first { IfOk result (λ made. IsFirst made.headless) }
-    ensures means { IfOk result (λ made. Means made.headless.core
-        (state_before options
-        (record { commands = map string_bytes commands.items; holds = holds }))) }
-    ensures port { IfOk result (λ made. made.port ≡ port_of options) }
-    ensures calm { IfOk result (λ made. IsCalm made.headless.core) }
-{
-    let port = port_of(&options);
-    let mut headless = Headless::new(alloc, options, commands)?;
-    hold_if(holds, &mut headless);
-    Ok(Configured { headless, port })
-}
-
-/// Has no server connect by itself at the start, where that is held back.
-fn hold_if(holds: bool, headless: &mut Headless)
-    ensures { headless.new ≡ held_if holds headless.old }
-{
-    if holds {
-        headless.hold_servers();
-    }
-}
-
-/// Makes the state of a run, by the configuration and the words.
-fn configure<K: Keeper>(
-    alloc: Global,
-    words: &[String],
-    holds: bool,
-    keeper: &mut K,
-) -> Result<Configured, Ending>
-    ensures first { IfOk result (λ made. IsFirst made.headless) }
-    ensures known { IfOk result (λ made. IfSome (K.contents keeper.old)
-        (IsConfigured (record {
-          commands = commands_of (map string_bytes words.now);
-          holds = holds;
-        }) made.headless made.port)) }
-    ensures calm { IfOk result (λ made. IsCalm made.headless.core) }
-    ensures early { IfErr result (IsEarly (K.contents keeper.old) (K.faults keeper.old)
-        (K.faults keeper.new)) }
-    ensures kept { K.contents keeper.new ≡ K.contents keeper.old }
-    ensures counts { K.faults keeper.old ≤ K.faults keeper.new }
-{
-    let options = read_options(alloc, keeper)?;
-    let commands = match start_commands(alloc, words) {
-        Ok(commands) => commands,
-        Err(NoMemory) => return Err(Ending::NoMemory),
-    };
-    match state_by(alloc, options, commands, holds) {
-        Ok(made) => Ok(made),
-        Err(_) => Err(Ending::NoMemory),
-    }
-}
-
-/// Takes so many turns, unless a wait or the listener fails or `/quit` is run before. `headless` is
-/// a state that took no turn yet, and the sockets are those that it was made with.
-fn take_turns<S: Sockets, K: Keeper>(
-    headless: &mut Headless,
-    sockets: &mut S,
-    keeper: &mut K,
-    turns: u64,
-) -> TurnEnd
-    requires first { IsFirst headless.old }
-    requires agrees { AgreesWithSockets headless.old (S.seen sockets.old) }
-    ensures continues { RunStep result headless.old headless.new (S.seen sockets.old)
-        (S.seen sockets.new) }
-    ensures agrees { AgreesWithSockets headless.new (S.seen sockets.new) }
-    ensures calm { IsCalm headless.new.core }
-    ensures causes { 1 ≤ headless.new.turns → LastTurn headless.old headless.new
-        (S.seen sockets.old) (S.seen sockets.new) }
-    ensures served { result ≡ TurnEnd.GoOn → 1 ≤ turns → AllServed headless.new.core
-        (S.seen sockets.old) (S.seen sockets.new) }
-    ensures sent { result ≡ TurnEnd.Quit → AllSent headless.new.core
-        (S.seen sockets.old) (S.seen sockets.new) }
-    ensures quit { result ≡ TurnEnd.Quit → headless.new.core.quits ≡ true }
-    ensures going { result ≢ TurnEnd.Quit → result ≢ TurnEnd.ListenFault →
-        result ≢ TurnEnd.KeeperFault → headless.new.core.quits ≡ false }
-    ensures all { result ≡ TurnEnd.GoOn → headless.new.turns ≡ turns }
-    ensures fewer { result ≡ TurnEnd.WaitFault → headless.new.turns ≢ turns }
-    ensures some { (result ≡ TurnEnd.ListenFault) ⊎ ((result ≡ TurnEnd.Quit)
-        ⊎ (result ≡ TurnEnd.KeeperFault)) → 1 ≤ headless.new.turns }
-    ensures most { headless.new.turns ≤ turns }
-    ensures wait_fault { result ≡ TurnEnd.WaitFault → Rose (S.seen sockets.old).faults.waits
-        (S.seen sockets.new).faults.waits }
-    ensures listen_fault { result ≡ TurnEnd.ListenFault → Rose (S.seen sockets.old).faults.listens
-        (S.seen sockets.new).faults.listens }
-    ensures saves { result ≢ TurnEnd.KeeperFault → SavesTurn headless.old.core headless.new.core
-        (K.contents keeper.old) (K.contents keeper.new) }
-    ensures unsaved { headless.new.turns ≡ 0 → headless.new.core.saved ≡ None }
-    ensures unwoken { headless.new.turns ≡ 0 → K.contents keeper.new ≡ K.contents keeper.old }
-    ensures unasked { headless.new.turns ≡ 0 → IsTrue (S.seen sockets.new).tells →
-        (S.seen sockets.new).asked ≡ (S.seen sockets.old).asked }
-    ensures unwritten { result ≡ TurnEnd.KeeperFault → FailsToSave headless.old headless.new
-        (S.seen sockets.old) (S.seen sockets.new) (K.contents keeper.old) (K.contents keeper.new) }
-    ensures keeper_fault { result ≡ TurnEnd.KeeperFault →
-        Rose (K.faults keeper.old) (K.faults keeper.new) }
-{
-    for _ in 0..turns {
-        match headless.turn(sockets, keeper) {
-            TurnEnd::GoOn => {}
-            then => return then,
-        }
-    }
-    TurnEnd::GoOn
-}
-
-/// Why the run ends after its last turn.
-fn ending_of(then: TurnEnd) -> Ending
-    ensures { EndsAt then result }
-{
-    match then {
-        TurnEnd::GoOn => Ending::TurnsTaken,
-        TurnEnd::Quit => Ending::Quit,
-        TurnEnd::WaitFault => Ending::WaitFailed,
-        TurnEnd::ListenFault => Ending::ListenFailed,
-        TurnEnd::KeeperFault => Ending::NotSaved,
-    }
-}
-
-/// The state at the end, where a wait returned.
-fn last_state(headless: Headless) -> Option<Headless>
-    ensures { result ≡ kept_of headless }
-{
-    if headless.turns() == 0 {
-        return None;
-    }
-    Some(headless)
-}
-
-/// How a run ended, before its text is printed.
-#[derive(Drop)]
-struct Outcome {
-    ending: Ending,
-    last: Option<Headless>,
-}
-
-/// Runs the program where words ask for turns.
-fn run<S: Sockets, K: Keeper>(
-    alloc: Global,
-    words: &[String],
-    wish: Wish,
-    sockets: &mut S,
-    keeper: &mut K,
-) -> Outcome
-    requires above { 1 ≤ wish.turns }
-    requires new { IsNew (S.seen sockets.old) }
-    ensures runs { Runs (record {
-      commands = commands_of (map string_bytes words.now);
-      holds = wish.holds;
-    }) wish.turns (K.contents keeper.old) (K.faults keeper.old)
-        (K.faults keeper.new) (S.seen sockets.old) (S.seen sockets.new) result.ending
-        result.last }
-    ensures kept { status_of result.ending ≢ 3 → KeepsText (K.contents keeper.old)
-        (K.contents keeper.new) result.last }
-    ensures unsaved { status_of result.ending ≡ 3 → IfSome result.last (HoldsEarlier (record {
-      commands = commands_of (map string_bytes words.now);
-      holds = wish.holds;
-    }) (K.contents keeper.old) (K.contents keeper.new) (S.seen sockets.new)) }
-    ensures unwoken { result.last ≡ None → K.contents keeper.new ≡ K.contents keeper.old }
-{
-    let Configured { mut headless, port } = match configure(alloc, words, wish.holds, keeper) {
-        Ok(made) => made,
-        Err(ending) => return Outcome { ending, last: None },
-    };
-    let Ok(()) = sockets.listen(port) else {
-        return Outcome {
-            ending: Ending::ListenFailed,
-            last: None,
-        };
-    };
-    let then = take_turns(&mut headless, sockets, keeper, wish.turns);
-    Outcome {
-        ending: ending_of(then),
-        last: last_state(headless),
-    }
 }
 
 /// Runs the program, and prints nothing.
@@ -293,6 +74,20 @@ fn run_words<S: Sockets, K: Keeper>(
             ending: Ending::Help,
             last: None,
         },
+        Shows::Demo(lines) => Outcome {
+            ending: demo_ending(alloc, lines),
+            last: None,
+        },
+    }
+}
+
+/// How a demo ends in which a server says so many lines.
+fn demo_ending(alloc: Global, lines: u32) -> Ending
+    ensures { IsDemoEnd lines result }
+{
+    match run_demo(alloc, lines) {
+        Ok(counts) => Ending::Demo(lines, counts),
+        Err(_) => Ending::NoMemory,
     }
 }
 
@@ -328,8 +123,8 @@ fn end<O: Sink>(out: &mut O, outcome: Outcome) -> Ended
     }
 }
 
-/// Whether words ask for a run, which needs sockets. A bad word, and words that ask for a text alone,
-/// need none.
+/// Whether words ask for a run, which needs sockets. A bad word, and words that ask for a text alone
+/// or for a demo, need none.
 pub fn needs_sockets(words: &Vec<String>) -> bool
     ensures { result ≡ asks_turns (wish_of (map string_bytes words.now.items)) }
 {
@@ -344,6 +139,10 @@ pub fn needs_sockets(words: &Vec<String>) -> bool
 /// serves clients of the relay protocol `weechat` until as many waits returned as `--turns` asks for,
 /// or `/quit` is run. What `/save` saves takes the place of the configuration. The sockets are new.
 /// At its end it prints what is to be told.
+///
+/// For `--demo` nothing of this is touched but what is printed to. A run in memory of its own has a
+/// server say lines that are made up, and a client that takes the three dumps and follows. Printed is
+/// how many buffers, lines and nicks the client has in the end.
 ///
 /// A sink that fails gives the status 7 in place of the one that was to come.
 pub fn run_program<S: Sockets, K: Keeper, O: Sink>(
@@ -365,6 +164,8 @@ pub fn run_program<S: Sockets, K: Keeper, O: Sink>(
     ensures printed { result.status ≢ 7 → Prints (wish_of (map string_bytes words.now.items))
         (K.contents keeper.old) result.status result.last (O.contents out.old)
         (O.contents out.new) }
+    ensures demo { result.status ≡ 0 → IfDemo (wish_of (map string_bytes words.now.items))
+        (λ lines. PrintsDemo lines (O.contents out.old) (O.contents out.new)) }
     ensures last { LastOf (S.seen sockets.new) result.last }
     ensures waits { IfOk (wish_of (map string_bytes words.now.items))
         (λ wish. WaitsAtMost wish.turns (S.seen sockets.new) result.last) }

@@ -1,9 +1,10 @@
 ghost use Rattle.std.specs.Prelude.{◌≡◌, ◌||◌, ◌^◌, ◌≤◌, ◌+◌, Option, Some, None, IfOk, IfSome, []};
 ghost use Rattle.std.specs.Prelude.{◌∷◌, length, map, string_bytes};
 ghost use Rattle.std.specs.Option.{option_copied};
-ghost use Rattle.wc_loop.specs.Words.{turns_of, is_version, is_help, is_folder, is_turns, is_command};
-ghost use Rattle.wc_loop.specs.Words.{is_unconnected, asked_by, takes_text, with_slash};
-ghost use Rattle.wc_loop.specs.Words.{wish_of, folder_of, commands_of};
+ghost use Rattle.wc_loop.specs.Words.{turns_of, demo_of, is_version, is_help, is_folder, is_turns};
+ghost use Rattle.wc_loop.specs.Words.{is_demo, is_command, is_unconnected, asked_by, asked_with};
+ghost use Rattle.wc_loop.specs.Words.{takes_text, takes_number, takes_value, with_turns, with_demo};
+ghost use Rattle.wc_loop.specs.Words.{shown_after, with_slash, wish_of, folder_of, commands_of};
 
 use std::alloc::Global;
 use wc_text::{NoMemory, read_i64};
@@ -16,6 +17,8 @@ pub enum Shows {
     Version,
     /// The words, and what each status means.
     Help,
+    /// What there is after a run in memory in which a server says so many lines.
+    Demo(u32),
 }
 
 /// What the words ask.
@@ -40,6 +43,18 @@ fn turns_of(text: &[u8]) -> Option<u64>
         return None;
     }
     Some(turns as u64)
+}
+
+/// The number of lines of a demo that a word asks for, from 1 to 100,000.
+#[tactic(auto, unfolding(crate::specs::Words::demo_of))]
+fn demo_of(text: &[u8]) -> Option<u32>
+    ensures { result ≡ demo_of text.now }
+{
+    let lines = read_i64(text)?;
+    if lines < 1 || lines > 100_000 {
+        return None;
+    }
+    Some(lines as u32)
 }
 
 #[tactic(auto, unfolding(crate::specs::Words::is_version))]
@@ -68,6 +83,13 @@ fn is_turns(word: &str) -> bool
     ensures { result ≡ is_turns word.now }
 {
     word == "--turns"
+}
+
+#[tactic(auto, unfolding(crate::specs::Words::is_demo))]
+fn is_demo(word: &str) -> bool
+    ensures { result ≡ is_demo word.now }
+{
+    word == "--demo"
 }
 
 #[tactic(auto, unfolding(crate::specs::Words::is_command))]
@@ -118,18 +140,81 @@ fn takes_text(word: &str) -> bool
     is_folder(word) || is_command(word)
 }
 
+/// Whether a word takes a value that is a number.
+fn takes_number(word: &str) -> bool
+    ensures { result ≡ takes_number word.now }
+{
+    is_turns(word) || is_demo(word)
+}
+
+/// Whether a word takes a value.
+fn takes_value(word: &str) -> bool
+    ensures { result ≡ takes_value word.now }
+{
+    takes_text(word) || takes_number(word)
+}
+
 /// Whether a word takes a value that is no folder.
 fn passes_folder(word: &str) -> bool
-    ensures { result ≡ (is_turns word.now || is_command word.now) }
+    ensures { result ≡ (takes_number word.now || is_command word.now) }
 {
-    is_turns(word) || is_command(word)
+    takes_number(word) || is_command(word)
 }
 
 /// Whether a word takes a value that is no command.
 fn passes_command(word: &str) -> bool
-    ensures { result ≡ (is_turns word.now || is_folder word.now) }
+    ensures { result ≡ (takes_number word.now || is_folder word.now) }
 {
-    is_turns(word) || is_folder(word)
+    takes_number(word) || is_folder(word)
+}
+
+/// What is asked after a number of turns. None where it is unreadable.
+fn with_turns(wish: Wish, turns: Option<u64>) -> Option<Wish>
+    requires { IfSome turns (λ n. 1 ≤ n) }
+    ensures asked { result ≡ with_turns wish turns }
+    ensures above { IfSome result (λ asked. 1 ≤ asked.turns) }
+{
+    let turns = turns?;
+    Some(Wish { turns, ..wish })
+}
+
+/// What is shown where a demo of so many lines is asked for: `-v` and `-h` overrule it.
+fn shown_after(shows: Shows, lines: u32) -> Shows
+    ensures { result ≡ shown_after shows lines }
+{
+    match shows {
+        Shows::Version => Shows::Version,
+        Shows::Help => Shows::Help,
+        Shows::Nothing | Shows::Demo(_) => Shows::Demo(lines),
+    }
+}
+
+/// What is asked after a number of lines of a demo. None where it is unreadable.
+fn with_demo(wish: Wish, lines: Option<u32>) -> Option<Wish>
+    ensures asked { result ≡ with_demo wish lines }
+    ensures turns { IfSome result (λ asked. asked.turns ≡ wish.turns) }
+{
+    let lines = lines?;
+    Some(Wish {
+        shows: shown_after(wish.shows, lines),
+        ..wish
+    })
+}
+
+/// What is asked after a word that takes a value, and its value. None where that is unreadable.
+#[tactic(auto, unfolding(crate::specs::Words::asked_with))]
+fn asked_with(wish: Wish, word: &str, value: &[u8]) -> Option<Wish>
+    requires above { 1 ≤ wish.turns }
+    ensures asked { result ≡ asked_with wish word.now value.now }
+    ensures above { IfSome result (λ asked. 1 ≤ asked.turns) }
+{
+    if is_turns(word) {
+        return with_turns(wish, turns_of(value));
+    }
+    if is_demo(word) {
+        return with_demo(wish, demo_of(value));
+    }
+    Some(wish)
 }
 
 /// The first word, and the words after it.
@@ -145,10 +230,10 @@ fn first(words: &[String]) -> Option<(&str, &[String])>
     }
 }
 
-/// Reads the words: `-v`, `-h` or `--help`, `-a`, `--turns` and a number, `-d` and a folder, `-r`
-/// and a command. Of `-v` and `-h`, and of a repeated number, the last counts. The number is that of
-/// the first fault, counted from 1: the unknown word, the word whose value is missing, or the
-/// unreadable value.
+/// Reads the words: `-v`, `-h` or `--help`, `-a`, `--turns` or `--demo` and a number, `-d` and a
+/// folder, `-r` and a command. Of `-v` and `-h`, and of a repeated number, the last counts; both
+/// overrule `--demo`. The number is that of the first fault, counted from 1: the unknown word, the
+/// word whose value is missing, or the unreadable value.
 #[tactic(auto, using(crate::proofs::WordsLemmas::read_words_facts))]
 pub fn read_words(words: &[String]) -> Result<Wish, u64>
     ensures wish { result ≡ wish_of (map string_bytes words.now) }
@@ -171,18 +256,13 @@ pub fn read_words(words: &[String]) -> Result<Wish, u64>
         let Some((value, following)) = first(others) else {
             return Err(place + 1);
         };
-        if takes_text(word) {
-            place += 2;
-            rest = following;
-            continue;
-        }
-        if !is_turns(word) {
+        if !takes_value(word) {
             return Err(place + 1);
         }
-        let Some(turns) = turns_of(value.as_bytes()) else {
+        let Some(asked) = asked_with(wish, word, value.as_bytes()) else {
             return Err(place + 2);
         };
-        wish.turns = turns;
+        wish = asked;
         place += 2;
         rest = following;
     }

@@ -1,6 +1,7 @@
-use Rattle.std.proofs.Common.{is_some, sym, ◌∙◌, arith}
-use Rattle.wc_loop.specs.Endings.{number_of, status_of, is_unsaved}
-use Rattle.wc_loop.proofs.OutcomeLemmas.{IsNumber-runs, StatusOf-runs, Common-runs, Waits-runs, IfSome-headline, IfSome-agrees, IfSome-calm, IfSome-causes, printed-by}
+use Rattle.std.proofs.Common.{sym, ap, ◌∙◌, arith}
+use Rattle.std.specs.Io.KnownBytes.{append_known}
+use Rattle.wc_loop.specs.Endings.{number_of, counts_in, status_of}
+use Rattle.wc_loop.proofs.OutcomeLemmas.{IsNumber-runs, StatusOf-runs, Common-runs, Waits-runs, Demo-runs, IfSome-headline, IfSome-agrees, IfSome-calm, IfSome-causes}
 use Rattle.wc_loop.proofs.EndingLemmas.{held-saved}
 use Rattle.wc_loop.proofs.MirrorLemmas.{ClientsHoldDumps-last}
 use Rattle.wc_loop.proofs.WordsLemmas.{commands_texts}
@@ -35,7 +36,14 @@ returns-clause-printed g c = λ seven.
     let runs = rw c.as_slice.ensures.value at c.run_words-outcome.ensures.runs in
     let common = Common-runs _ _ _ _ _ (seen c.args.sockets.now) (seen c.run_words-outcome.new.sockets) _ _ c.requires runs in
     let is = IsNumber-runs _ _ _ _ _ _ _ _ _ runs in
-    rw (c.end.ensures.status seven, c.end.ensures.last) (record { number = number_of c.run_words-outcome.result.ending; is = is; holds = printed-by _ _ (is_unsaved c.run_words-outcome.result.ending) (is_some c.run_words-outcome.result.last) (status_of c.run_words-outcome.result.ending) (number_of c.run_words-outcome.result.ending) (g.O.Sink.contents c.args.out.now) (g.O.Sink.contents c.end.new.out) common.shown common.saving (c.end.ensures.printed seven) })
+    rw (c.end.ensures.status seven, c.end.ensures.last) (record { number = number_of c.run_words-outcome.result.ending; counts = counts_in c.run_words-outcome.result.ending; is = is; holds = c.end.ensures.printed seven ∙ ap (append_known (g.O.Sink.contents c.args.out.now)) common.text })
+
+pub returns-clause-demo : goal.returns-clause-demo
+returns-clause-demo g c = λ none.
+    let seen = g.S.Sockets.seen in
+    let runs = rw c.as_slice.ensures.value at c.run_words-outcome.ensures.runs in
+    let status = c.end.ensures.status (λ seven. omega arith) in
+    Demo-runs _ _ _ _ _ (seen c.args.sockets.now) (seen c.run_words-outcome.new.sockets) _ _ (g.O.Sink.contents c.args.out.now) (g.O.Sink.contents c.end.new.out) runs (sym status ∙ none) (c.end.ensures.printed (λ seven. omega arith))
 
 pub returns-clause-served : goal.returns-clause-served
 returns-clause-served g c = λ eight.

@@ -10,7 +10,7 @@ use Rattle.wc_loop.proofs.HeadlineLemmas.{calm-first}
 use Rattle.wc_loop.proofs.ProgramLemmas.{LoopStep-turn, Rose-before, waits-few, unwoken-by, woke-once, unwaited}
 use Rattle.wc_turns.proofs.ServeLemmas.{AllServed-following, AllSent-following}
 use Rattle.wc_turns.proofs.SourceLemmas.{later-of}
-use Rattle.wc_loop.proofs.program.take_turns.Goals as goal
+use Rattle.wc_loop.proofs.run.take_turns.Goals as goal
 
 pub loop-init : goal.loop-init
 loop-init g c = record {

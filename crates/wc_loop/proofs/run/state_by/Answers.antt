@@ -3,7 +3,7 @@ use Rattle.wc_core.specs.Served.{Means}
 use Rattle.wc_turns.specs.declared.headless.Headless.{Headless}
 use Rattle.wc_loop.specs.Headline.{state_before}
 use Rattle.wc_loop.proofs.HeadlineLemmas.{means-held}
-use Rattle.wc_loop.proofs.program.state_by.Goals as goal
+use Rattle.wc_loop.proofs.run.state_by.Goals as goal
 
 pub returns-clause-means : goal.returns-clause-means
 returns-clause-means c =

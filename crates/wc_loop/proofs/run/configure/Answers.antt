@@ -2,7 +2,7 @@ use Rattle.std.proofs.Common.{ℕ, List, subst}
 use Rattle.wc_loop.specs.Headline.{state_before}
 use Rattle.wc_core.specs.Served.{Means}
 use Rattle.wc_loop.proofs.OptionsLemmas.{configured_by}
-use Rattle.wc_loop.proofs.program.configure.Goals as goal
+use Rattle.wc_loop.proofs.run.configure.Goals as goal
 
 pub returns-in-Ok-state_by-clause-known : goal.returns-in-Ok-state_by-clause-known
 returns-in-Ok-state_by-clause-known g c =

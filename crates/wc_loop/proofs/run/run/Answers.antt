@@ -7,7 +7,7 @@ use Rattle.wc_loop.proofs.HeadlineLemmas.{Fresh-listening, HandsOut-run, Headlin
 use Rattle.wc_loop.proofs.ProgramLemmas.{Rose-before, faults-told}
 use Rattle.wc_turns.proofs.ServeLemmas.{AllServed-following, AllSent-following}
 use Rattle.wc_turns.proofs.SourceLemmas.{later-of}
-use Rattle.wc_loop.proofs.program.run.Goals as goal
+use Rattle.wc_loop.proofs.run.run.Goals as goal
 
 pub returns-clause-runs : goal.returns-clause-runs
 returns-clause-runs g c =

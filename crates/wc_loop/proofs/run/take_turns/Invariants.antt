@@ -4,7 +4,7 @@ use Rattle.wc_turns.specs.Parties.{IsCalm}
 use Rattle.wc_turns.specs.Sources.{AllServed}
 use Rattle.wc_turns.specs.Turns.{LoopStep, AgreesWithSockets}
 use Rattle.wc_loop.specs.Endings.{LastTurn}
-use Rattle.wc_loop.proofs.program.take_turns.Given as goal
+use Rattle.wc_loop.proofs.run.take_turns.Given as goal
 
 abbrev pub invariant-loop : goal.invariant-loop
 invariant-loop g l = record {
