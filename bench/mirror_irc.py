@@ -4,10 +4,11 @@
 It is the server: the program is told by a client to connect to it. The server's lines are drawn from a seed: joins, leaves,
 kicks, renames, modes, lists of names, talk, and now and then the own nick is kicked and joins again. A client follows from
 the start, another one from the middle on, and a third one asks for all events and never reads. After each round, which ends
-with a tick, the copies of the first two are compared with the dumps that a fresh client gets. It ends with 1 where they
-differ. The program has to have no other clients. Python 3, standard library only. Example:
+with a tick, the copies of the first two are compared with the dumps that a fresh client gets, and its nicklists with the server's. It
+ends with 1 where they differ. The program has to have no other clients. Python 3, standard library only. Examples:
 
     bench/mirror_irc.py --password secret --rounds 60 --lines 50
+    bench/mirror_irc.py --password secret --rounds 120 --crowd 10000
 """
 import argparse
 import random
@@ -53,12 +54,20 @@ class Follower(Client):
             elif sign == "-":
                 del rows[item]
             else:
-                rows[item] = (group if item not in rows else rows[item][0], shown(values))
+                if sign == "*":
+                    # A nick that left and came again within a tick is told as changed, under its new handle.
+                    del rows[next(old for old, row in rows.items() if key_of(row[1]) == key_of(shown(values)))]
+                rows[item] = (group, shown(values))
 
 
 def shown(values):
     """A row without its level, which a diff may leave out."""
     return tuple(sorted((key, value) for key, value in values.items() if key != "level"))
+
+
+def key_of(row):
+    """What no two rows of a nicklist share."""
+    return dict(row)["group"], dict(row)["name"]
 
 
 def rows_of(rows):
@@ -73,10 +82,11 @@ def rows_of(rows):
 class Server:
     """One IRC server, and who is on its channels."""
 
-    def __init__(self):
+    def __init__(self, crowd):
         self.listener = socket.create_server(("127.0.0.1", 0))
         self.port = self.listener.getsockname()[1]
         self.on = {channel: set() for channel in CHANNELS}
+        self.on[CHANNELS[0]] = {"u%d" % n for n in range(crowd)}
         self.said = 0
 
     def accept(self):
@@ -111,12 +121,17 @@ class Server:
         self.names(channel)
 
     def names(self, channel):
-        names = " ".join(["@" + self.nick] + sorted(self.on[channel]))
-        self.say(":srv 353 %s = %s :%s" % (self.nick, channel, names))
+        names = ["@" + self.nick] + sorted(self.on[channel])
+        for place in range(0, len(names), 40):
+            self.say(":srv 353 %s = %s :%s" % (self.nick, channel, " ".join(names[place : place + 40])))
         self.say(":srv 366 %s %s :end" % (self.nick, channel))
 
+    def names_told(self, channel):
+        return sorted(self.on[channel] | {self.nick})
+
     def rename(self, nick, dice):
-        new = dice.choice([n for n in NICKS if all(n not in on for on in self.on.values())] or [nick.upper()])
+        free = [n for n in NICKS if all(n not in on for on in self.on.values())]
+        new = dice.choice(free or [nick])
         self.say(":%s!u@h NICK %s" % (nick, new))
         for on in self.on.values():
             if nick in on:
@@ -173,8 +188,18 @@ def silent(words):
     return link
 
 
-def compare(words, clients, round):
+def names_on(client, channel):
+    """The nicks of a channel's buffer, as a client has them."""
+    buffer = next(b["handle"] for group in client.groups for b in group if b["full_name"] == "irc.random." + channel)
+    rows = [dict(row) for _, row in client.nicks[buffer].values()]
+    return sorted(row["name"] for row in rows if not row["group"])
+
+
+def compare(words, clients, server, round):
     fresh = Follower(words.port, words.password, words.limit)
+    for channel in CHANNELS:
+        if names_on(fresh, channel) != server.names_told(channel):
+            sys.exit("round %d: the nicks of %s are not the server's" % (round, channel))
     for client in clients:
         client.settle()
         if client.copy() != fresh.copy():
@@ -192,9 +217,10 @@ def main():
     words.add_argument("--limit", type=int, default=4096, help="lines that a buffer holds, as the program has it")
     words.add_argument("--rounds", type=int, default=60)
     words.add_argument("--lines", type=int, default=50, help="lines of the server in a round")
+    words.add_argument("--crowd", type=int, default=0, help="nicks beside that are on the first channel")
     words.add_argument("--seed", type=int, default=1)
     words = words.parse_args()
-    dice, server = random.Random(words.seed), Server()
+    dice, server = random.Random(words.seed), Server(words.crowd)
     clients = [connected(words, server)]
     deaf = silent(words)
     for round in range(words.rounds):
@@ -203,7 +229,7 @@ def main():
         for _ in range(words.lines):
             server.draw(dice)
         server.settle()
-        fresh = compare(words, clients, round)
+        fresh = compare(words, clients, server, round)
     deaf.close()
     rows = {buffer: len(rows) for buffer, rows in fresh.nicks.items() if rows}
     print("%d lines of the server in %d rounds: each copy equals fresh dumps after each; rows of nicks %s" % (server.said, words.rounds, sorted(rows.values())))
